@@ -1,0 +1,4 @@
+pub mod Heads
+pub mod Heaviest
+mod MakespanLaws
+mod Sent

@@ -1,0 +1,6 @@
+use Rattle.std.proofs.Common.{◌≡◌, ◌*◌, ◌≤◌, sum, take, drop}
+use Rattle.pfs_base.specs.declared.limits.TheConstants.{LONGEST_TIME}
+use Rattle.pfs_base.proofs.metered.MeteredShop.total.Given as goal
+
+abbrev pub invariant-loop-time : goal.invariant-loop-time
+invariant-loop-time l = ?

@@ -1,0 +1,5 @@
+pub mod Device
+pub mod FlowShop
+pub mod Limits
+pub mod Paths
+pub mod Problem

@@ -1,0 +1,149 @@
+//! Readers and writers that may fail.
+ghost use Rattle.std.specs.Prelude.{◌≡◌, ℕ, ◌+◌, ◌-◌, ◌<◌, ◌≤◌, ◌^◌, List, Option, length, take, Bool, true, false, IfOk, IfErr, OnOk, OnErr};
+ghost use Rattle.std.specs.Io.KnownBytes.{Appends};
+ghost use Rattle.pfs_base.specs.Device.{Reads, Writes, fails_after};
+
+use std::io::{Read, Write};
+
+/// A reader.
+pub trait Source {
+    /// The bytes that are left, where they are told.
+    ghost left: { Self → Option (List ℕ) };
+
+    /// Whether a read has failed.
+    ghost has_failed: { Self → Bool };
+
+    /// Reads some bytes. `None` is a failure.
+    fn read(&mut self, buf: &mut [u8]) -> Option<usize>
+        ensures bytes { Reads (left self.old) (left self.new) result buf.new }
+        ensures failed { has_failed self.new ≡ fails_after (has_failed self.old) result };
+
+    fn failed(&self) -> bool
+        ensures { result ≡ has_failed self.now };
+}
+
+/// A writer.
+pub trait Sink {
+    /// The bytes that were written, where they are told.
+    ghost written: { Self → Option (List ℕ) };
+
+    /// Whether a write has failed.
+    ghost has_failed: { Self → Bool };
+
+    /// Writes some bytes. `None` is a failure.
+    fn write(&mut self, bytes: &[u8]) -> Option<usize>
+        ensures bytes { Writes (written self.old) (written self.new) result bytes.now }
+        ensures failed { has_failed self.new ≡ fails_after (has_failed self.old) result };
+
+    fn failed(&self) -> bool
+        ensures { result ≡ has_failed self.now };
+}
+
+/// A reader of std as a source.
+#[derive(Drop)]
+pub struct FromRead<R> {
+    reader: R,
+    failed: bool,
+}
+
+impl<R: Read> FromRead<R> {
+    pub fn new(reader: R) -> FromRead<R>
+        ensures left { ⟦<FromRead<R> as Source>⟧.left result ≡ R.remaining reader }
+        ensures failed { ⟦<FromRead<R> as Source>⟧.has_failed result ≡ false }
+    {
+        FromRead {
+            reader,
+            failed: false,
+        }
+    }
+}
+
+impl<R: Read> Source for FromRead<R> {
+    ghost left = { λ s. R.remaining s.reader };
+
+    ghost has_failed = { λ s. s.failed };
+
+    fn read(&mut self, buf: &mut [u8]) -> Option<usize> {
+        match self.reader.read(buf) {
+            Ok(n) => Some(n),
+            Err(_) => {
+                self.failed = true;
+                None
+            }
+        }
+    }
+
+    fn failed(&self) -> bool {
+        self.failed
+    }
+}
+
+/// A writer of std as a sink.
+#[derive(Drop)]
+pub struct ToWrite<W> {
+    writer: W,
+    failed: bool,
+}
+
+impl<W: Write> ToWrite<W> {
+    pub fn new(writer: W) -> ToWrite<W>
+        ensures written { ⟦<ToWrite<W> as Sink>⟧.written result ≡ W.contents writer }
+        ensures failed { ⟦<ToWrite<W> as Sink>⟧.has_failed result ≡ false }
+    {
+        ToWrite {
+            writer,
+            failed: false,
+        }
+    }
+}
+
+impl<W: Write> Sink for ToWrite<W> {
+    ghost written = { λ s. W.contents s.writer };
+
+    ghost has_failed = { λ s. s.failed };
+
+    fn write(&mut self, bytes: &[u8]) -> Option<usize> {
+        match self.writer.write(bytes) {
+            Ok(n) if n > 0 => Some(n),
+            _ => {
+                self.failed = true;
+                None
+            }
+        }
+    }
+
+    fn failed(&self) -> bool {
+        self.failed
+    }
+}
+
+/// A write failed after so many bytes.
+#[derive(Debug, Drop)]
+pub struct WriteFault {
+    pub written: u64,
+}
+
+/// Writes all bytes, and answers how many were sent with those before.
+pub fn put<W: Sink>(writer: &mut W, bytes: &[u8], sent: u64) -> Result<u64, WriteFault>
+    requires working { W.has_failed writer.old ≡ false }
+    requires fits { sent + length bytes.now < 2 ^ 64 }
+    ensures sent { IfOk result (λ total. total ≡ sent + length bytes.now) }
+    ensures all { OnOk result (Appends (W.written writer.old) (W.written writer.new) bytes.now) }
+    ensures working { OnOk result (W.has_failed writer.new ≡ false) }
+    ensures failed { OnErr result (W.has_failed writer.new ≡ true) }
+    ensures counted { IfErr result (λ fault. (sent ≤ fault.written) × (fault.written ≤ sent + length bytes.now)) }
+    ensures front { IfErr result (λ fault. Appends (W.written writer.old) (W.written writer.new) (take (fault.written - sent) bytes.now)) }
+{
+    let mut done = 0;
+    while done < bytes.len() {
+        match writer.write(&bytes[done..]) {
+            Some(n) => done += n,
+            None => {
+                return Err(WriteFault {
+                    written: sent + done as u64,
+                });
+            }
+        }
+    }
+    Ok(sent + done as u64)
+}

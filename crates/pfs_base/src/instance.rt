@@ -1,0 +1,132 @@
+//! An instance: how many jobs and machines, the time of each job on each machine, and three notes.
+ghost use Rattle.std.specs.Prelude.{◌≡◌, ℕ, ◌*◌, ◌<◌, ◌≤◌, List, length, IfOk, OnOk, replicate};
+ghost use Rattle.pfs_base.specs.Limits.{limits};
+ghost use Rattle.pfs_base.specs.FlowShop.{time_of, with_time, AreSizes, IsWithin};
+
+use crate::bench::Bench;
+use crate::limits::{LONGEST_TIME, MOST_JOBS, MOST_MACHINES};
+use crate::metered::Metered;
+use crate::notes::Notes;
+use std::alloc::{AllocError, Global};
+use std::marker::Model;
+use thiserror::Error;
+
+/// Why an instance could not be made.
+#[derive(Clone, Copy, Debug, PartialEq, Eq, Error)]
+pub enum BaseFault {
+    /// The number of jobs or of machines is out of its limit.
+    #[error("Size")]
+    Size,
+    /// The memory for the times was refused.
+    #[error("Memory")]
+    Memory,
+}
+
+/// A permutation flow shop instance. Jobs and machines count from 0.
+#[derive(Drop)]
+pub struct Instance {
+    jobs: usize,
+    machines: usize,
+    times: Vec<u32>,
+    notes: Notes,
+}
+
+impl Model for Instance {
+    ghost use Rattle.pfs_base.specs.Limits.{limits};
+    ghost use Rattle.pfs_base.specs.FlowShop.{IsWithin};
+    ghost use Rattle.pfs_base.specs.Problem.{Problem};
+
+    ghost Value = { Problem };
+
+    ghost view = { λ a. record { shop = record { jobs = a.jobs; machines = a.machines; times = a.times.items }; notes = a.notes } };
+
+    ghost invariant = { λ a. IsWithin limits (record { jobs = a.jobs; machines = a.machines; times = a.times.items }) };
+}
+
+impl Instance {
+    /// An instance of these sizes whose times are all 0. The sizes are judged before any memory is
+    /// asked for.
+    pub fn new(
+        alloc: Global,
+        jobs: usize,
+        machines: usize,
+        notes: Notes,
+    ) -> Result<Instance, BaseFault>
+        ensures made { IfOk result (λ made. made ≡ record {
+            shop = record { jobs = jobs; machines = machines; times = replicate (jobs * machines) 0 };
+            notes = notes;
+        }) }
+        ensures accepted { OnOk result (AreSizes limits jobs machines) }
+        ensures size { result ≡ Err BaseFault.Size → ¬ AreSizes limits jobs machines }
+        ensures memory { result ≡ Err BaseFault.Memory → AreSizes limits jobs machines }
+    {
+        if jobs < 1 || jobs > MOST_JOBS || machines < 1 || machines > MOST_MACHINES {
+            return Err(BaseFault::Size);
+        }
+        let mut times = match Vec::with_capacity(alloc, jobs * machines) {
+            Ok(times) => times,
+            Err(AllocError) => return Err(BaseFault::Memory),
+        };
+        match times.resize(jobs * machines, 0) {
+            Ok(()) => {}
+            Err(AllocError) => return Err(BaseFault::Memory),
+        }
+        Ok(Instance {
+            jobs,
+            machines,
+            times,
+            notes,
+        })
+    }
+
+    /// How many jobs there are.
+    pub fn jobs(&self) -> usize
+        ensures value { result ≡ self.now.shop.jobs }
+        ensures within { IsWithin limits self.now.shop }
+    {
+        self.jobs
+    }
+
+    /// How many machines there are.
+    pub fn machines(&self) -> usize
+        ensures value { result ≡ self.now.shop.machines }
+        ensures within { IsWithin limits self.now.shop }
+    {
+        self.machines
+    }
+
+    /// The notes that were handed in.
+    pub fn notes(&self) -> Notes
+        ensures { result ≡ self.now.notes }
+    {
+        self.notes
+    }
+
+    /// The time of a job on a machine.
+    pub fn time(&self, job: usize, machine: usize) -> u32
+        requires job { job < self.now.shop.jobs }
+        requires machine { machine < self.now.shop.machines }
+        ensures value { result ≡ time_of self.now.shop job machine }
+        ensures short { result ≤ LONGEST_TIME }
+    {
+        self.times[job * self.machines + machine]
+    }
+
+    /// Changes the time of a job on a machine, and nothing else.
+    pub fn set(&mut self, job: usize, machine: usize, time: u32)
+        requires job { job < self.old.shop.jobs }
+        requires machine { machine < self.old.shop.machines }
+        requires short { time ≤ LONGEST_TIME }
+        ensures { self.new ≡ record self.old { shop = with_time self.old.shop job machine time } }
+    {
+        self.times[job * self.machines + machine] = time;
+    }
+
+    /// A bench over this instance that has counted no cell.
+    pub fn metered(&self) -> Metered<'_>
+        ensures shop { ⟦<Metered<'static> as Bench>⟧.shop result ≡ self.now.shop }
+        ensures counted { ⟦<Metered<'static> as Bench>⟧.counted result ≡ 0 }
+    {
+        Metered::new(self.jobs, self.machines, &self.times)
+    }
+}

@@ -1,0 +1,21 @@
+//! Flow shop instances, and what every other crate stands on: the limits, a bench that counts what it
+//! computes with lengths of time, and readers and writers that may fail.
+#![tactic(auto)]
+
+pub mod bench;
+pub mod device;
+pub mod instance;
+pub mod laws;
+pub mod limits;
+pub mod metered;
+pub mod notes;
+
+pub use bench::{Bench, Length, SPAN_MAX, Shop};
+pub use device::{FromRead, Sink, Source, ToWrite, WriteFault, put};
+pub use instance::{BaseFault, Instance};
+pub use limits::{
+    GREATEST_NOTE, LONGEST_INPUT, LONGEST_ORDER_FILE, LONGEST_TIME, MOST_BLOCKS, MOST_JOBS,
+    MOST_MACHINES,
+};
+pub use metered::{Metered, Span};
+pub use notes::Notes;
