@@ -68,4 +68,4 @@ pub time_of-le : (shop : FlowShop) → IsWithin limits shop → (job machine : �
 time_of-le shop within job machine =
     let place = job * shop.machines + machine in
     ⊎_elim (λ (inside : place < length shop.times). within.short_times place 0 inside)
-        (λ (past : length shop.times ≤ place). let none = get_or_past shop.times place 0 past in omega arith) (cases_lt place (length shop.times))
+    (λ (past : length shop.times ≤ place). let none = get_or_past shop.times place 0 past in omega arith) (cases_lt place (length shop.times))

@@ -29,8 +29,11 @@ module _ (weigh : ℕ → ℕ → ℕ) where
   greatest_after row machine path (other ∷ others) =
       let a = sum_by-cons (λ (c : Cell). weigh c.0 c.1) (row, machine) path in
       let rest = greatest_after row machine other others in
-      omega (arith, greatest-cons (weight weigh ((row, machine) ∷ path)) (map (weight weigh) (map (λ p. (row, machine) ∷ p) (other ∷ others))),
-          greatest-cons (weight weigh path) (map (weight weigh) (other ∷ others)))
+      omega (
+        arith,
+        greatest-cons (weight weigh ((row, machine) ∷ path)) (map (weight weigh) (map (λ p. (row, machine) ∷ p) (other ∷ others))),
+        greatest-cons (weight weigh path) (map (weight weigh) (other ∷ others)),
+      )
 
 -- some list of paths
 abbrev IsSome : List (List Cell) → Type 0
@@ -165,7 +168,7 @@ module _ (weigh : ℕ → ℕ → ℕ) where
       has_down row machine r m _ _ (most_is_some downs zero (suc row) machine r m (omega arith) q) (most_down downs row machine)
   most_is_some (suc downs) (suc ons) row machine r m p q =
       has_larger row machine r m _ _ _ (most_is_some downs (suc ons) (suc row) machine r m (omega arith) q)
-          (most_is_some (suc downs) ons row (suc machine) r m p (omega arith)) (most_first downs ons row machine)
+      (most_is_some (suc downs) ons row (suc machine) r m p (omega arith)) (most_first downs ons row machine)
 
   -- a path goes down and on
   pub path_goes : {row machine r m : ℕ} {path : List Cell} → Path row machine r m path → (row ≤ r) × (machine ≤ m)
@@ -328,8 +331,8 @@ module _ (weigh : ℕ → ℕ → ℕ) (rest below last : ℕ) where
       let c = onward_is (suc ons) row machine total (omega arith) (omega arith) q in
       let beside = most_by_exit zero ons row (suc machine) total t p (omega arith) in
       let later = greatest_to_same (λ x. by_exit zero row machine (suc x)) (λ x. weigh row machine + by_exit zero row (suc machine) x) ons
-              (λ x _. let e = most_on weigh x row machine in let f : onward (machine + suc x) ≡ onward (suc machine + x) = ap onward (omega arith) in omega arith)
-          ∙ greatest_to_add (weigh row machine) (by_exit zero row (suc machine)) ons in
+      (λ x _. let e = most_on weigh x row machine in let f : onward (machine + suc x) ≡ onward (suc machine + x) = ap onward (omega arith) in omega arith)
+      ∙ greatest_to_add (weigh row machine) (by_exit zero row (suc machine)) ons in
       omega arith
   most_by_exit (suc downs) ons row machine zero t p q = absurd (omega arith)
   most_by_exit (suc downs) zero row machine (suc total) t p q =
@@ -345,6 +348,6 @@ module _ (weigh : ℕ → ℕ → ℕ) (rest below last : ℕ) where
       let g = λ (x : ℕ). by_exit downs (suc row) machine (suc x) in
       let h = by_exit (suc downs) row (suc machine) in
       let later = greatest_to_same (λ x. by_exit (suc downs) row machine (suc x)) (λ x. weigh row machine + max (g x) (h x)) ons
-              (λ x _. let e = most_first weigh downs x row machine in let f : onward (machine + suc x) ≡ onward (suc machine + x) = ap onward (omega arith) in omega arith)
-          ∙ greatest_to_add (weigh row machine) (λ x. max (g x) (h x)) ons ∙ ap (λ n. weigh row machine + n) (greatest_to_max g h ons) in
+      (λ x _. let e = most_first weigh downs x row machine in let f : onward (machine + suc x) ≡ onward (suc machine + x) = ap onward (omega arith) in omega arith)
+      ∙ greatest_to_add (weigh row machine) (λ x. max (g x) (h x)) ons ∙ ap (λ n. weigh row machine + n) (greatest_to_max g h ons) in
       omega arith

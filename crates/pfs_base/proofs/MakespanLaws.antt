@@ -36,7 +36,7 @@ module _ (shop : FlowShop) (jobs : List ℕ) (ends : ℕ → ℕ → ℕ) (are :
       let above = ends_are_heads row (suc machine) (omega arith) m in
       let before = ends_are_heads (suc row) machine r (omega arith) in
       let step : ends (suc row) (suc (suc machine)) ≡ max (ends row (suc (suc machine))) (ends (suc row) (suc machine)) + operation shop jobs row (suc machine)
-          = rw (add-one, add-one) at (are.step row (suc machine) (omega arith) m) in
+      = rw (add-one, add-one) at (are.step row (suc machine) (omega arith) m) in
       let is = head_step (operation shop jobs) row (suc machine) in
       omega arith
 

@@ -53,8 +53,8 @@ impl Instance {
         notes: Notes,
     ) -> Result<Instance, BaseFault>
         ensures made { IfOk result (λ made. made ≡ record {
-            shop = record { jobs = jobs; machines = machines; times = replicate (jobs * machines) 0 };
-            notes = notes;
+          shop = record { jobs = jobs; machines = machines; times = replicate (jobs * machines) 0 };
+          notes = notes;
         }) }
         ensures accepted { OnOk result (AreSizes limits jobs machines) }
         ensures size { result ≡ Err BaseFault.Size → ¬ AreSizes limits jobs machines }

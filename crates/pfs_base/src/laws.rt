@@ -4,18 +4,15 @@ ghost use Rattle.pfs_base.specs.Paths.{MakespanLaw, OneMakespan, RecurrenceLaw};
 /// The makespan is the weight of a path from the first operation to the last, and no path weighs more.
 pub fn makespan()
     ensures { MakespanLaw }
-{
-}
+{}
 
 /// Only one number is the weight of a path that no path exceeds.
 pub fn one_makespan()
     ensures { OneMakespan }
-{
-}
+{}
 
 /// The usual recurrence gives the makespan: each operation ends its time after the later of the ends of
 /// the same job's operation on the machine before and of the job before on the same machine.
 pub fn recurrence()
     ensures { RecurrenceLaw }
-{
-}
+{}
