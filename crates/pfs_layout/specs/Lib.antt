@@ -1,0 +1,7 @@
+pub mod Block
+pub mod Bytes
+pub mod File
+pub mod Lines
+pub mod Refuse
+pub mod Size
+pub mod Stand
