@@ -1,0 +1,3 @@
+pub mod OrderText
+pub mod Sequence
+pub mod Text
