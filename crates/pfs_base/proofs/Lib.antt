@@ -2,4 +2,4 @@ pub mod Heads
 pub mod Heaviest
 pub mod Lists
 mod MakespanLaws
-mod Sent
+pub mod Sent

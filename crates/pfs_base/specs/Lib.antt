@@ -4,3 +4,4 @@ pub mod Limits
 pub mod Lists
 pub mod Paths
 pub mod Problem
+pub mod Text
