@@ -1,0 +1,5 @@
+mod BoundLemmas
+mod Orders
+pub mod Ranges
+mod RowSteps
+pub mod Schedules

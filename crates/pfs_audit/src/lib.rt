@@ -1,0 +1,12 @@
+//! Audits of orders: the makespan, a bound below every makespan, the time table, and the verdict on an order
+//! file.
+#![tactic(auto)]
+
+pub mod bounds;
+pub mod fault;
+pub mod laws;
+pub mod recurrence;
+
+pub use bounds::bound;
+pub use fault::AuditFault;
+pub use recurrence::makespan;
