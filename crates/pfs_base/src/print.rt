@@ -2,7 +2,7 @@
 //! with its own part, as `put` does.
 ghost use Rattle.std.specs.Prelude.{◌≡◌, ◌+◌, ◌<◌, ◌≤◌, ◌^◌, false, length, decimal, IfOk};
 ghost use Rattle.pfs_base.specs.Sends.{Sends};
-ghost use Rattle.pfs_base.specs.Text.{with_line_end, named_number};
+ghost use Rattle.pfs_base.specs.Text.{with_line_end, named_number, number_between};
 
 use crate::device::{Sink, WriteFault, put};
 use itoa::Buffer;
@@ -45,4 +45,22 @@ pub fn put_named<W: Sink>(
     let sent = put(writer, b" ", sent)?;
     let sent = put_number(writer, number, sent)?;
     put(writer, b"\n", sent)
+}
+
+/// Writes a line of a text, a number and a text.
+pub fn put_between<W: Sink>(
+    writer: &mut W,
+    before: &[u8],
+    number: u64,
+    after: &[u8],
+    sent: u64,
+) -> Result<u64, WriteFault>
+    requires working { W.has_failed writer.old ≡ false }
+    requires fits { sent + length before.now + length after.now + 41 < 2 ^ 64 }
+    ensures text { Sends (W.written writer.old) (W.written writer.new) (W.has_failed writer.new) sent (number_between before.now number after.now) result }
+    ensures short { IfOk result (λ total. total ≤ sent + length before.now + length after.now + 41) }
+{
+    let sent = put(writer, before, sent)?;
+    let sent = put_number(writer, number, sent)?;
+    put_line(writer, after, sent)
 }
