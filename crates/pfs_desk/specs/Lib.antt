@@ -1,0 +1,4 @@
+pub mod Engine
+pub mod FaultText
+pub mod OutputText
+pub mod Reading

@@ -1,0 +1,3 @@
+//! What each command does: it reads, computes all that it prints, and only then writes.
+
+pub mod value;
