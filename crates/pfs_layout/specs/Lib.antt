@@ -1,6 +1,7 @@
 pub mod Block
 pub mod Bytes
 pub mod File
+pub mod Laws
 pub mod Lines
 pub mod Refuse
 pub mod Size
