@@ -1,4 +1,5 @@
 pub mod BlockLemmas
+mod Computing
 pub mod DueLemmas
 pub mod LineLemmas
 pub mod PlaceLemmas

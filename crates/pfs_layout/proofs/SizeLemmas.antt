@@ -1,7 +1,9 @@
 -- The test of a size line's numbers is that they are within the limits.
-use Rattle.std.proofs.Common.{◌≡◌, ℕ, ◌≤◌, Bool, true, ◌&&◌, nat_le, ap, ◌∙◌}
+use Rattle.std.proofs.Common.{◌≡◌, ℕ, ◌≤◌, Bool, true, List, [], ◌∷◌, ◌&&◌, nat_le, ap, ◌∙◌}
+use Rattle.std.specs.List.{All, list_all}
+use Rattle.std.proofs.lemmas.List.Elements.{All-nil, All-cons}
 use Rattle.std.proofs.lemmas.Bool.{and_parts, le-leb, leb-true}
-use Rattle.pfs_base.specs.declared.limits.TheConstants.{MOST_JOBS, MOST_MACHINES, GREATEST_NOTE}
+use Rattle.pfs_base.specs.declared.limits.TheConstants.{MOST_JOBS, MOST_MACHINES, GREATEST_NOTE, LONGEST_TIME}
 use Rattle.pfs_base.specs.FlowShop.{AreSizes}
 use Rattle.pfs_base.specs.Limits.{limits}
 use Rattle.pfs_base.specs.Problem.{Problem}
@@ -46,3 +48,10 @@ size_within size e =
       upper = leb-true size.notes.upper GREATEST_NOTE upper.1;
       lower = leb-true size.notes.lower GREATEST_NOTE lower.1;
     }
+
+-- times that pass the test are short
+pub all_short : (times : List ℕ) → list_all (λ time. nat_le time LONGEST_TIME) times ≡ true → All (λ time. time ≤ LONGEST_TIME) times
+all_short [] e = All-nil (λ time. time ≤ LONGEST_TIME)
+all_short (time ∷ times) e =
+    let parts = and_parts (nat_le time LONGEST_TIME) (list_all (λ time. nat_le time LONGEST_TIME) times) e in
+    All-cons (λ time. time ≤ LONGEST_TIME) time times (leb-true time LONGEST_TIME parts.0) (all_short times parts.1)
