@@ -1,0 +1,7 @@
+pub mod BlockLemmas
+mod Computing
+pub mod DueLemmas
+pub mod LineLemmas
+pub mod PlaceLemmas
+pub mod SizeLemmas
+pub mod SoundLemmas
