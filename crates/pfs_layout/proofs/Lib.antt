@@ -3,5 +3,6 @@ mod Computing
 pub mod DueLemmas
 pub mod LineLemmas
 pub mod PlaceLemmas
+pub mod RoundLemmas
 pub mod SizeLemmas
 pub mod SoundLemmas
