@@ -9,7 +9,7 @@ use Rattle.pfs_base.proofs.Lists.{all_and_last, all_but_last-push, last_of-push}
 use Rattle.pfs_layout.specs.Lines.{ended_parts, open_part, is_no_digit, values, numbers, ended_numbers, last_digits}
 
 -- a list of parts that isn't empty
-record IsSome (parts : List (List ℕ)) : Type 0 where
+pub record IsSome (parts : List (List ℕ)) : Type 0 where
   pub first : List ℕ
   pub more : List (List ℕ)
   pub is : parts ≡ first ∷ more
@@ -22,7 +22,7 @@ some_by : (b : Bool) (x : ℕ) (parts : List (List ℕ)) → IsSome (if b then [
 some_by true x parts = record { first = []; more = parts; is = refl }
 some_by false x parts = onto_first-some x parts
 
-split_some : (p : ℕ → Bool) (xs : List ℕ) → IsSome (slice_split p xs)
+pub split_some : (p : ℕ → Bool) (xs : List ℕ) → IsSome (slice_split p xs)
 split_some p [] = record { first = []; more = []; is = refl }
 split_some p (x ∷ xs) = some_by (p x) x (slice_split p xs)
 

@@ -64,7 +64,7 @@ last_digits-none : last_digits [] ≡ []
 unfolding open_part
 last_digits-none = refl
 
-open_line-none : open_line [] ≡ []
+pub open_line-none : open_line [] ≡ []
 unfolding open_part
 open_line-none = refl
 
@@ -272,7 +272,7 @@ good_byte layout k (inside block) text b good right =
     body_push layout block text b good rights.0 rights.1
 good_byte layout k lost text b good right = good
 
-stand-push : (layout : Layout) (lines : List (List ℕ)) (line : List ℕ) → stand layout (lines ++ line ∷ []) ≡ stand_after layout (stand layout lines) line
+pub stand-push : (layout : Layout) (lines : List (List ℕ)) (line : List ℕ) → stand layout (lines ++ line ∷ []) ≡ stand_after layout (stand layout lines) line
 unfolding stand
 stand-push layout lines line = fold-append (stand_after layout) _ lines (line ∷ [])
 
