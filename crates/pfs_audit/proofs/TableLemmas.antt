@@ -1,9 +1,9 @@
 -- A table whose entries are those of the least schedule.
-use Rattle.std.proofs.Common.{◌≡◌, ℕ, ◌+◌, ◌-◌, ◌*◌, ◌<◌, ◌≤◌, List, length, get_or, suc, refl, sym, ap, ◌∙◌, add-one, arith}
+use Rattle.std.proofs.Common.{◌≡◌, ℕ, ◌+◌, ◌-◌, ◌*◌, ◌<◌, ◌≤◌, List, length, get_or, suc, sym, ap, ◌∙◌, arith}
 use Rattle.pfs_base.specs.FlowShop.{FlowShop}
 use Rattle.pfs_base.specs.Paths.{makespan, operation}
 use Rattle.pfs_base.proofs.Heads.{head, makespan_is}
-use Rattle.pfs_audit.specs.Schedule.{Starts, end_of, EndsBy, IsFeasible, IsLeastSchedule, least_end, least_start, AreRows}
+use Rattle.pfs_audit.specs.Schedule.{Starts, end_of, EndsBy, IsLeastSchedule, least_end, least_start, AreRows}
 use Rattle.pfs_audit.proofs.Schedules.{end_of_least, ends_by_makespan, is_least_schedule, least_end-is}
 
 module _ (shop : FlowShop) (order : List ℕ) (starts : Starts) (same : (row machine : ℕ) → row < length order → machine < shop.machines → starts row machine ≡ least_start shop order row machine) where

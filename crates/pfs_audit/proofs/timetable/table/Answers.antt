@@ -1,6 +1,6 @@
-use Rattle.std.proofs.Common.{◌≡◌, ℕ, ◌+◌, ◌-◌, ◌*◌, ◌<◌, ◌≤◌, length, get_or, ap, sym, ◌∙◌, subst, arith}
+use Rattle.std.proofs.Common.{◌≡◌, ℕ, ◌+◌, ◌-◌, ◌*◌, ◌<◌, length, get_or, ap, ◌∙◌, arith}
 use Rattle.pfs_base.specs.Paths.{makespan}
-use Rattle.pfs_audit.specs.Schedule.{Starts, EndsBy, end_of, least_end, least_start}
+use Rattle.pfs_audit.specs.Schedule.{least_end, least_start}
 use Rattle.pfs_audit.proofs.Schedules.{none_ends_earlier}
 use Rattle.pfs_audit.proofs.TableLemmas.{entry_at, last_is_makespan, table_ends, table_ends_by, table_is_least}
 use Rattle.pfs_audit.proofs.timetable.table.Goals as goal
