@@ -2,4 +2,6 @@ mod BoundLemmas
 mod Orders
 pub mod Ranges
 mod RowSteps
+mod Rows
 pub mod Schedules
+mod TableLemmas

@@ -1,5 +1,5 @@
 -- Schedules of an order: when each operation starts. Rows and machines count from 0.
-use Rattle.std.specs.Prelude.{◌≡◌, ℕ, ◌+◌, ◌-◌, ◌*◌, ◌<◌, ◌≤◌, List, length, slice_index, take}
+use Rattle.std.specs.Prelude.{◌≡◌, ℕ, ◌+◌, ◌-◌, ◌*◌, ◌<◌, ◌≤◌, List, length, slice_index}
 use Rattle.pfs_base.specs.FlowShop.{FlowShop}
 use Rattle.pfs_base.specs.Paths.{heaviest, operation, makespan}
 
@@ -47,29 +47,33 @@ abbrev pub NoneEndsEarlier : Type 0
 NoneEndsEarlier = (shop : FlowShop) (order : List ℕ) (starts : Starts) (time : ℕ) → 1 ≤ shop.machines
     → IsFeasible shop order starts → EndsBy shop order starts time → makespan shop order ≤ time
 
--- a time table: the jobs in their order, and the start and the end of each operation, row by row
+-- a time table: the jobs in their order, and when each operation starts and ends, row by row
 pub record Timing : Type 0 where
   pub jobs : List ℕ
   pub machines : ℕ
   pub starts : List ℕ
   pub ends : List ℕ
 
--- the start of an operation in a time table
+-- when the operation at a row and a machine starts by a time table
 abbrev pub start_in : Timing → Starts
 start_in timing row machine = slice_index timing.starts (row * timing.machines + machine)
 
--- the end of an operation in a time table
+-- and when it ends
 abbrev pub end_in : Timing → ℕ → ℕ → ℕ
 end_in timing row machine = slice_index timing.ends (row * timing.machines + machine)
 
--- there is an operation, and each has a start and an end
+-- the end of the last job on the last machine
+abbrev pub last_end : Timing → ℕ
+last_end timing = end_in timing (length timing.jobs - 1) (timing.machines - 1)
+
+-- a time table has an operation, and a start and an end of each
 pub record IsWhole (timing : Timing) : Type 0 where
   pub some_row : 1 ≤ length timing.jobs
   pub some_machine : 1 ≤ timing.machines
   pub every_start : length timing.starts ≡ length timing.jobs * timing.machines
   pub every_end : length timing.ends ≡ length timing.jobs * timing.machines
 
--- the first rows have been entered, at their least starts
-pub record AreEntered (shop : FlowShop) (order : List ℕ) (rows : ℕ) (timing : Timing) : Type 0 where
-  pub jobs : timing.jobs ≡ take rows order
-  pub machines : timing.machines ≡ shop.machines
+-- a list of so many rows of values, one for each machine, row by row
+pub record AreRows (value : ℕ → ℕ → ℕ) (machines rows : ℕ) (items : List ℕ) : Type 0 where
+  pub size : length items ≡ rows * machines
+  pub entries : (row machine : ℕ) → row < rows → machine < machines → slice_index items (row * machines + machine) ≡ value row machine

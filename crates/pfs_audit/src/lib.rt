@@ -6,7 +6,11 @@ pub mod bounds;
 pub mod fault;
 pub mod laws;
 pub mod recurrence;
+pub mod timetable;
+pub mod verdicts;
 
 pub use bounds::bound;
 pub use fault::AuditFault;
 pub use recurrence::makespan;
+pub use timetable::{TimeTable, table};
+pub use verdicts::{Verdict, check};
