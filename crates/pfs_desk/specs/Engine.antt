@@ -1,16 +1,21 @@
 -- What an engine answers and writes. Bytes are those that a reader has left, where they are told.
-use Rattle.std.specs.Prelude.{◌≡◌, ℕ, Bool, false, List, Option, Result, Ok, Err, IfSome}
+use Rattle.std.specs.Prelude.{⊤, ◌≡◌, ℕ, Bool, false, List, Option, Result, Ok, Err, IfSome}
 use Rattle.std.specs.Io.KnownBytes.{Appends}
 use Rattle.pfs_base.specs.Limits.{limits}
 use Rattle.pfs_base.specs.Problem.{Problem}
 use Rattle.pfs_base.specs.Sends.{SendsFront}
 use Rattle.pfs_layout.specs.declared.layout.Layout.{Layout}
 use Rattle.pfs_layout.specs.File.{File}
+use Rattle.pfs_order.specs.Sequence.{StatedOrder}
+use Rattle.pfs_order.specs.OrderFile.{IsOrderFile, RefusesOrder}
+use Rattle.pfs_order.specs.declared.fault.OrderFault.{OrderFault}
+use Rattle.pfs_order.specs.declared.fault.OrderFault.TheVariants as order
+use Rattle.pfs_audit.specs.Verdicts.{verdict_on}
 use Rattle.pfs_desk.specs.declared.fault.Outcome.{Outcome}
 use Rattle.pfs_desk.specs.declared.fault.Outcome.TheVariants.{Done}
 use Rattle.pfs_desk.specs.declared.fault.DeskFault.{DeskFault}
-use Rattle.pfs_desk.specs.declared.fault.DeskFault.TheVariants.{Write}
-use Rattle.pfs_desk.specs.OutputText.{value_text}
+use Rattle.pfs_desk.specs.declared.fault.DeskFault.TheVariants.{Order, Write}
+use Rattle.pfs_desk.specs.OutputText.{value_text, verdict_text, outcome_of}
 
 -- a block of an instance file holds this problem
 abbrev pub Holds : Layout → Option (List ℕ) → ℕ → Problem → Type 0
@@ -19,6 +24,27 @@ Holds layout file block problem = IfSome file (λ bytes. File limits layout byte
 -- a block of an instance file holds no problem
 abbrev pub HoldsNone : Layout → Option (List ℕ) → ℕ → Type 0
 HoldsNone layout file block = IfSome file (λ bytes. (problem : Problem) → ¬ File limits layout bytes block problem)
+
+-- an order file states this order and this makespan
+abbrev pub States : Option (List ℕ) → StatedOrder → Type 0
+States file stated = IfSome file (λ bytes. IsOrderFile bytes stated)
+
+-- an order file is refused for this fault; a failed read and want of memory say nothing of it
+abbrev pub IsOrderFault : Option (List ℕ) → OrderFault → Type 0
+IsOrderFault file order.Read = ⊤
+IsOrderFault file order.Memory = ⊤
+IsOrderFault file fault = IfSome file (λ bytes. RefusesOrder bytes fault)
+
+-- a block of the instance file holds a problem, and the order file is refused for this fault
+pub record RefusesSecond (layout : Layout) (file : Option (List ℕ)) (block : ℕ) (order_file : Option (List ℕ)) (fault : OrderFault) : Type 0 where
+  pub problem : Problem
+  pub holds : Holds layout file block problem
+  pub refused : IsOrderFault order_file fault
+
+-- the order file is judged behind the instance file
+abbrev pub JudgesSecond : Layout → Option (List ℕ) → ℕ → Option (List ℕ) → DeskFault → Type 0
+JudgesSecond layout file block order_file (Order fault) = RefusesSecond layout file block order_file fault
+JudgesSecond layout file block order_file others = ⊤
 
 -- all of an output went out
 pub record WritesAll (output : Outcome → List ℕ → Type 0) (old new : Option (List ℕ)) (failed : Bool) (outcome : Outcome) : Type 0 where
@@ -51,3 +77,12 @@ pub record ValueOutput (layout : Layout) (file : Option (List ℕ)) (block : ℕ
   pub holds : Holds layout file block problem
   pub done : outcome ≡ Done
   pub spelled : text ≡ value_text problem.shop
+
+-- the verdict on the order that an order file states for an instance
+pub record CheckOutput (layout : Layout) (file : Option (List ℕ)) (block : ℕ) (order_file : Option (List ℕ)) (outcome : Outcome) (text : List ℕ) : Type 0 where
+  pub problem : Problem
+  pub stated : StatedOrder
+  pub holds : Holds layout file block problem
+  pub states : States order_file stated
+  pub judged : outcome ≡ outcome_of (verdict_on problem.shop stated)
+  pub spelled : text ≡ verdict_text (verdict_on problem.shop stated)

@@ -1,3 +1,4 @@
 //! What each command does: it reads, computes all that it prints, and only then writes.
 
+pub mod check;
 pub mod value;

@@ -1,11 +1,12 @@
 //! How a command ends: its outcome, or the fault that it tells, in one line and by its exit status.
 ghost use Rattle.std.specs.Prelude.{◌≡◌, false};
 ghost use Rattle.pfs_base.specs.Sends.{Sends, Prints};
-ghost use Rattle.pfs_desk.specs.declared.fault.DeskFault.TheVariants.{Write, Order};
+ghost use Rattle.pfs_desk.specs.declared.fault.DeskFault.TheVariants.{Order, Write, Memory};
 ghost use Rattle.pfs_desk.specs.Reading.{fault_of};
 ghost use Rattle.pfs_desk.specs.FaultText.{fault_text, order_fault_text, status_of, order_status_of};
 
 use crate::reading::ReadFault;
+use pfs_audit::AuditFault;
 use pfs_base::print::{put_between, put_line, put_named};
 use pfs_base::{Sink, WriteFault};
 use pfs_order::OrderFault;
@@ -53,6 +54,14 @@ impl From<OrderFault> for DeskFault {
 
     fn from(fault: OrderFault) -> DeskFault {
         DeskFault::Order(fault)
+    }
+}
+
+impl From<AuditFault> for DeskFault {
+    ghost from_gives = { λ fault made. made ≡ Memory };
+
+    fn from(_fault: AuditFault) -> DeskFault {
+        DeskFault::Memory
     }
 }
 

@@ -3,7 +3,9 @@
 
 pub mod engines;
 pub mod fault;
+mod order_reading;
 mod reading;
 
+pub use engines::check::run_check;
 pub use engines::value::run_value;
 pub use fault::{DeskFault, Outcome, status, write_fault};

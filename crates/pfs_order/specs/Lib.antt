@@ -1,2 +1,3 @@
+pub mod OrderFile
 pub mod OrderText
 pub mod Sequence
