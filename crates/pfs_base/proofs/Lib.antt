@@ -4,3 +4,4 @@ pub mod Lists
 mod MakespanLaws
 pub mod SendsLemmas
 pub mod Sent
+pub mod SpacedLemmas

@@ -1,6 +1,6 @@
 //! Printing of texts part by part, without memory. Each call answers how many bytes of the text went out
 //! with its own part, as `put` does.
-ghost use Rattle.std.specs.Prelude.{◌≡◌, ◌+◌, ◌<◌, ◌≤◌, ◌^◌, false, length, decimal, IfOk};
+ghost use Rattle.std.specs.Prelude.{◌≡◌, ◌+◌, ◌<◌, ◌≤◌, ◌^◌, ◌∷◌, false, length, decimal, IfOk};
 ghost use Rattle.pfs_base.specs.Sends.{Sends};
 ghost use Rattle.pfs_base.specs.Text.{with_line_end, named_number, number_between};
 
@@ -63,4 +63,15 @@ pub fn put_between<W: Sink>(
     let sent = put(writer, before, sent)?;
     let sent = put_number(writer, number, sent)?;
     put_line(writer, after, sent)
+}
+
+/// Writes a space and a number.
+pub fn put_next<W: Sink>(writer: &mut W, number: u64, sent: u64) -> Result<u64, WriteFault>
+    requires working { W.has_failed writer.old ≡ false }
+    requires fits { sent + 41 < 2 ^ 64 }
+    ensures text { Sends (W.written writer.old) (W.written writer.new) (W.has_failed writer.new) sent (32 ∷ decimal number) result }
+    ensures short { IfOk result (λ total. total ≤ sent + 41) }
+{
+    let sent = put(writer, b" ", sent)?;
+    put_number(writer, number, sent)
 }

@@ -15,7 +15,7 @@ use Rattle.pfs_desk.specs.declared.fault.Outcome.{Outcome}
 use Rattle.pfs_desk.specs.declared.fault.Outcome.TheVariants.{Done}
 use Rattle.pfs_desk.specs.declared.fault.DeskFault.{DeskFault}
 use Rattle.pfs_desk.specs.declared.fault.DeskFault.TheVariants.{Order, Write}
-use Rattle.pfs_desk.specs.OutputText.{value_text, verdict_text, outcome_of}
+use Rattle.pfs_desk.specs.OutputText.{value_text, verdict_text, outcome_of, TablePrints}
 
 -- a block of an instance file holds this problem
 abbrev pub Holds : Layout → Option (List ℕ) → ℕ → Problem → Type 0
@@ -86,3 +86,11 @@ pub record CheckOutput (layout : Layout) (file : Option (List ℕ)) (block : ℕ
   pub states : States order_file stated
   pub judged : outcome ≡ outcome_of (verdict_on problem.shop stated)
   pub spelled : text ≡ verdict_text (verdict_on problem.shop stated)
+
+-- the time table of the order that an order file states for an instance; the stated makespan isn't compared
+pub record TableOutput (layout : Layout) (file : Option (List ℕ)) (block : ℕ) (order_file : Option (List ℕ)) (outcome : Outcome) (text : List ℕ) : Type 0 where
+  pub problem : Problem
+  pub stated : StatedOrder
+  pub holds : Holds layout file block problem
+  pub states : States order_file stated
+  pub prints : TablePrints problem.shop stated.order outcome text

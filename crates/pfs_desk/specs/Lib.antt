@@ -1,4 +1,5 @@
 pub mod Engine
 pub mod FaultText
 pub mod OutputText
+pub mod Printable
 pub mod Reading

@@ -7,5 +7,6 @@ mod order_reading;
 mod reading;
 
 pub use engines::check::run_check;
+pub use engines::table::run_table;
 pub use engines::value::run_value;
 pub use fault::{DeskFault, Outcome, status, write_fault};

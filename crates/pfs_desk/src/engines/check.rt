@@ -2,7 +2,7 @@
 ghost use Rattle.std.specs.Prelude.{◌≡◌, ◌+◌, ◌<◌, ◌≤◌, ◌^◌, ◌↔◌, true, false, length, IfOk, IfErr};
 ghost use Rattle.pfs_base.specs.Sends.{Sends};
 ghost use Rattle.pfs_desk.specs.Engine.{Writes, CheckOutput, HoldsNone, JudgesSecond};
-ghost use Rattle.pfs_desk.specs.OutputText.{finding, valid_text, verdict_text, outcome_of};
+ghost use Rattle.pfs_desk.specs.OutputText.{finding, valid_text, wrong_size_text, verdict_text, outcome_of};
 
 use crate::fault::{DeskFault, Outcome};
 use crate::order_reading::read_order;
@@ -58,16 +58,7 @@ fn put_verdict<W: Sink>(writer: &mut W, verdict: Verdict) -> Result<u64, WriteFa
 {
     match verdict {
         Verdict::Valid { makespan, bound } => put_valid(writer, makespan, bound),
-        Verdict::WrongSize { order, jobs } => {
-            put_finding(
-                writer,
-                b"wrong size",
-                b"order",
-                order as u64,
-                b"jobs",
-                jobs as u64,
-            )
-        }
+        Verdict::WrongSize { order, jobs } => put_wrong_size(writer, order, jobs),
         Verdict::WrongMakespan { stated, computed } => {
             put_finding(
                 writer,
@@ -79,6 +70,18 @@ fn put_verdict<W: Sink>(writer: &mut W, verdict: Verdict) -> Result<u64, WriteFa
             )
         }
     }
+}
+
+/// Writes that an order has another number of jobs than the instance.
+pub(super) fn put_wrong_size<W: Sink>(
+    writer: &mut W,
+    order: usize,
+    jobs: usize,
+) -> Result<u64, WriteFault>
+    requires { W.has_failed writer.old ≡ false }
+    ensures { Sends (W.written writer.old) (W.written writer.new) (W.has_failed writer.new) 0 (wrong_size_text order jobs) result }
+{
+    put_finding(writer, b"wrong size", b"order", order as u64, b"jobs", jobs as u64)
 }
 
 fn put_valid<W: Sink>(writer: &mut W, makespan: u64, bound: u64) -> Result<u64, WriteFault>
