@@ -81,7 +81,14 @@ pub(super) fn put_wrong_size<W: Sink>(
     requires { W.has_failed writer.old ≡ false }
     ensures { Sends (W.written writer.old) (W.written writer.new) (W.has_failed writer.new) 0 (wrong_size_text order jobs) result }
 {
-    put_finding(writer, b"wrong size", b"order", order as u64, b"jobs", jobs as u64)
+    put_finding(
+        writer,
+        b"wrong size",
+        b"order",
+        order as u64,
+        b"jobs",
+        jobs as u64,
+    )
 }
 
 fn put_valid<W: Sink>(writer: &mut W, makespan: u64, bound: u64) -> Result<u64, WriteFault>

@@ -57,7 +57,12 @@ fn put_table<W: Sink>(writer: &mut W, table: &TimeTable) -> Result<u64, WriteFau
     requires printable { IsPrintable table.now }
     ensures { Sends (W.written writer.old) (W.written writer.new) (W.has_failed writer.new) 0 (table_text table.now) result }
 {
-    let mut sent = put_sizes(writer, b"table", table.rows() as u64, table.machines() as u64)?;
+    let mut sent = put_sizes(
+        writer,
+        b"table",
+        table.rows() as u64,
+        table.machines() as u64,
+    )?;
     for row in 0..table.rows() {
         sent = put_row(writer, table, row, sent)?;
     }
