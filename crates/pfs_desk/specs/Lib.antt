@@ -2,4 +2,4 @@ pub mod Engine
 pub mod FaultText
 pub mod OutputText
 pub mod Printable
-pub mod Reading
+pub mod ReadFaults

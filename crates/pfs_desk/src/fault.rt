@@ -2,7 +2,7 @@
 ghost use Rattle.std.specs.Prelude.{◌≡◌, false};
 ghost use Rattle.pfs_base.specs.Sends.{Sends, Prints};
 ghost use Rattle.pfs_desk.specs.declared.fault.DeskFault.TheVariants.{Order, Write, Memory};
-ghost use Rattle.pfs_desk.specs.Reading.{fault_of};
+ghost use Rattle.pfs_desk.specs.ReadFaults.{fault_of};
 ghost use Rattle.pfs_desk.specs.FaultText.{fault_text, order_fault_text, status_of, order_status_of};
 
 use crate::reading::ReadFault;
