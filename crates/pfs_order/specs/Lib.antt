@@ -1,3 +1,4 @@
 pub mod OrderText
 pub mod Sequence
 pub mod Text
+pub mod Writing
