@@ -1,7 +1,7 @@
 //! Writing an order file.
 ghost use Rattle.std.specs.Prelude.{◌≡◌, ◌+◌, ◌<◌, ◌≤◌, ◌^◌, false, true, length, map, take, decimal, IfOk, IfErr, OnOk, OnErr};
 ghost use Rattle.std.specs.Io.KnownBytes.{Appends};
-ghost use Rattle.pfs_order.specs.OrderText.{order_text};
+ghost use Rattle.pfs_order.specs.OrderText.{file_text};
 ghost use Rattle.pfs_order.specs.Text.{with_line_end, spaced, named_number};
 ghost use Rattle.pfs_order.specs.Writing.{Sends};
 
@@ -10,19 +10,18 @@ use itoa::Buffer;
 use pfs_base::{Sink, WriteFault, put};
 
 /// Writes the order file of an order and a makespan, and answers how many bytes it has.
-pub fn write_order<W: Sink>(
-    writer: &mut W,
-    order: &Order,
-    makespan: u64,
-) -> Result<u64, WriteFault>
+pub fn write_order<W: Sink>(writer: &mut W, order: &Order, makespan: u64) -> Result<u64, WriteFault>
     requires working { W.has_failed writer.old ≡ false }
     requires stated { makespan < 10 ^ 18 }
-    ensures length { IfOk result (λ sent. sent ≡ length (order_text (map (λ job. job + 1) order.now) makespan)) }
-    ensures text { OnOk result (Appends (W.written writer.old) (W.written writer.new) (order_text (map (λ job. job + 1) order.now) makespan)) }
+    ensures length { IfOk result (λ sent. sent ≡ length (file_text order.now makespan)) }
+    ensures text { OnOk result
+        (Appends (W.written writer.old) (W.written writer.new) (file_text order.now makespan)) }
     ensures working { OnOk result (W.has_failed writer.new ≡ false) }
     ensures failed { OnErr result (W.has_failed writer.new ≡ true) }
-    ensures within { IfErr result (λ fault. fault.written ≤ length (order_text (map (λ job. job + 1) order.now) makespan)) }
-    ensures front { IfErr result (λ fault. Appends (W.written writer.old) (W.written writer.new) (take fault.written (order_text (map (λ job. job + 1) order.now) makespan))) }
+    ensures within { IfErr result (λ fault. fault.written ≤ length (file_text order.now makespan)) }
+    ensures front { IfErr result (λ fault.
+        Appends (W.written writer.old) (W.written writer.new)
+        (take fault.written (file_text order.now makespan))) }
 {
     let sent = put_named(writer, b"order", order.len() as u64, 0)?;
     let sent = put_jobs(writer, order, sent)?;
@@ -33,7 +32,8 @@ pub fn write_order<W: Sink>(
 fn put_number<W: Sink>(writer: &mut W, number: u64, sent: u64) -> Result<u64, WriteFault>
     requires working { W.has_failed writer.old ≡ false }
     requires room { sent + 40 < 2 ^ 64 }
-    ensures { Sends (W.written writer.old) (W.written writer.new) (W.has_failed writer.new) sent (decimal number) result }
+    ensures { Sends (W.written writer.old) (W.written writer.new) (W.has_failed writer.new)
+        sent (decimal number) result }
 {
     let mut buffer = Buffer::new();
     put(writer, buffer.format(number).as_bytes(), sent)
@@ -48,7 +48,8 @@ fn put_named<W: Sink>(
 ) -> Result<u64, WriteFault>
     requires working { W.has_failed writer.old ≡ false }
     requires room { sent + length name.now + 42 < 2 ^ 64 }
-    ensures { Sends (W.written writer.old) (W.written writer.new) (W.has_failed writer.new) sent (named_number name.now number) result }
+    ensures { Sends (W.written writer.old) (W.written writer.new) (W.has_failed writer.new)
+        sent (named_number name.now number) result }
 {
     let sent = put(writer, name, sent)?;
     let sent = put(writer, b" ", sent)?;
@@ -60,7 +61,8 @@ fn put_named<W: Sink>(
 fn put_jobs<W: Sink>(writer: &mut W, order: &Order, start: u64) -> Result<u64, WriteFault>
     requires working { W.has_failed writer.old ≡ false }
     requires room { start < 2 ^ 32 }
-    ensures { Sends (W.written writer.old) (W.written writer.new) (W.has_failed writer.new) start (with_line_end (spaced (map (λ job. job + 1) order.now))) result }
+    ensures { Sends (W.written writer.old) (W.written writer.new) (W.has_failed writer.new)
+        start (with_line_end (spaced (map (λ job. job + 1) order.now))) result }
 {
     let count = order.len();
     let mut sent = put_number(writer, order.at(0) as u64 + 1, start)?;

@@ -2,8 +2,8 @@ use Rattle.std.proofs.Common.{rules, ◌≡◌, ◌+◌, ◌<◌, ◌≤◌, ◌
 use Rattle.std.specs.Io.KnownBytes.{Appends}
 use Rattle.std.proofs.KnownBytes.{Appends-trans}
 use Rattle.std.proofs.lemmas.Fmt.{length-decimal-le}
-use Rattle.pfs_order.specs.Text.{with_line_end, spaced}
-use Rattle.pfs_order.specs.Writing.{Sends, SendsFront}
+use Rattle.pfs_order.specs.Text.{spaced}
+use Rattle.pfs_order.specs.Writing.{SendsFront}
 use Rattle.pfs_order.proofs.SendsLemmas.{front_behind}
 use Rattle.pfs_order.proofs.SpacedLemmas.{numbers, behind, spaced_first, spaced_more, line_from}
 use Rattle.pfs_order.proofs.writing.put_jobs.Goals as goal
@@ -33,9 +33,9 @@ returns-in_err-sent-2 g c =
     let so_far = c.loop-place.invariant in
     let failed = c.in_err-sent-2.ensures in
     let front : SendsFront _ _ _ c.loop-place.sent (32 ∷ []) c.in_err-sent-2.field-0.0.written =
-        record { stopped = failed.failed; from = failed.counted.0; within = failed.counted.1; bytes = failed.front } in
+    record { stopped = failed.failed; from = failed.counted.0; within = failed.counted.1; bytes = failed.front } in
     let h = front_behind _ _ _ _ c.args.start c.loop-place.sent _ (spaced (numbers (take place jobs))) (32 ∷ []) _ _
-        (line_from jobs place c.loop-place.auto.place (omega (arith, c.loop-place-test.true, c.len-count.ensures.value))) so_far.bytes so_far.counted front in
+    (line_from jobs place c.loop-place.auto.place (omega (arith, c.loop-place-test.true, c.len-count.ensures.value))) so_far.bytes so_far.counted front in
     search rules
 
 pub returns-in_err-sent-3 : goal.returns-in_err-sent-3
@@ -48,7 +48,7 @@ returns-in_err-sent-3 g c =
     let next = get_or jobs place 0 in
     let rest : List ℕ = behind (numbers (drop (place + 1) jobs)) ++ 10 ∷ [] in
     let parts = line_from jobs place c.loop-place.auto.place (omega (arith, c.loop-place-test.true, c.len-count.ensures.value))
-        ∙ sym (append_assoc line (32 ∷ []) (decimal (next + 1) ++ rest)) in
+    ∙ sym (append_assoc line (32 ∷ []) (decimal (next + 1) ++ rest)) in
     let both = Appends-trans _ _ _ line (32 ∷ []) so_far.bytes space.all in
     let old = g.W.Sink.written c.put.new.writer in
     let new = g.W.Sink.written c.put_number-in-loop-place.new.writer in
@@ -56,7 +56,7 @@ returns-in_err-sent-3 g c =
     let Front : ℕ → Type 0 = λ job. SendsFront old new failed c.in_ok-sent-2.sent (decimal (job + 1)) c.in_err-sent-3.field-0.0.written in
     let front : Front next = subst Front c.at-in-loop-place.ensures.value c.in_err-sent-3.ensures in
     let h = front_behind _ _ _ _ c.args.start c.in_ok-sent-2.sent _ (line ++ 32 ∷ []) (decimal (next + 1)) rest _ parts both
-        (omega (arith, length-append line (32 ∷ []), so_far.counted, space.sent)) front in
+    (omega (arith, length-append line (32 ∷ []), so_far.counted, space.sent)) front in
     search rules
 
 pub loop-place-preserved : goal.loop-place-preserved
@@ -69,8 +69,8 @@ loop-place-preserved g c =
     let line : List ℕ = spaced (numbers (take place jobs)) in
     let number : List ℕ = decimal (c.at-in-loop-place.result + 1) in
     let more : spaced (numbers (take (place + 1) jobs)) ≡ (line ++ 32 ∷ []) ++ number =
-        spaced_more jobs place c.loop-place.auto.place (omega (arith, c.loop-place-test.true, c.len-count.ensures.value))
-            ∙ ap (λ job. (line ++ 32 ∷ []) ++ decimal (job + 1)) (sym c.at-in-loop-place.ensures.value) in
+    spaced_more jobs place c.loop-place.auto.place (omega (arith, c.loop-place-test.true, c.len-count.ensures.value))
+    ∙ ap (λ job. (line ++ 32 ∷ []) ++ decimal (job + 1)) (sym c.at-in-loop-place.ensures.value) in
     let both = Appends-trans _ _ _ line (32 ∷ []) so_far.bytes space.all in
     let short = short_job c.at-in-loop-place.result _ _ c.at-in-loop-place.ensures.in_range c.len-count.ensures.accepted.few (omega arith) in
     record {
