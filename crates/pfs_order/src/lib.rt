@@ -5,6 +5,8 @@ pub mod fault;
 pub mod file;
 pub mod order;
 pub mod seq;
+#[cfg(test)]
+mod tests;
 pub mod writing;
 
 pub use fault::OrderFault;
