@@ -109,7 +109,10 @@ fn writes_order_files(rt: HostRuntime) -> Result<(), Fail> {
     let order = Order::identity(rt.alloc(), 3)?;
     let mut writer = narrow_writer(rt.alloc(), 100, 100)?;
     assert_eq!(rt; write_order(&mut writer, &order, 0)?, 25);
-    assert_eq!(rt; writer.bytes.as_slice(), b"order 3\n1 2 3\nmakespan 0\n".as_slice());
+    assert_eq!(rt;
+        writer.bytes.as_slice(),
+        b"order 3\n1 2 3\nmakespan 0\n".as_slice()
+    );
     Ok(())
 }
 
@@ -125,7 +128,13 @@ fn writes_a_front_where_the_writer_fails(rt: HostRuntime) -> Result<(), Fail> {
         for room in 0..text.len() {
             let mut writer = narrow_writer(rt.alloc(), at_once, room)?;
             let answer = write_order(&mut writer, &order, 10);
-            assert_eq!(rt; answer, Err(WriteFault { written: room as u64 }), "{at_once} at once");
+            assert_eq!(rt;
+                answer,
+                Err(WriteFault {
+                    written: room as u64
+                }),
+                "{at_once} at once"
+            );
             assert_eq!(rt; writer.bytes.as_slice(), &text[..room], "{at_once} at once");
         }
         let mut writer = narrow_writer(rt.alloc(), at_once, text.len())?;
