@@ -1,4 +1,2 @@
 pub mod OrderText
 pub mod Sequence
-pub mod Text
-pub mod Writing
