@@ -1,3 +1,5 @@
+pub mod OrderFile
 pub mod OrderText
+pub mod Pieces
 pub mod Sequence
 pub mod Text

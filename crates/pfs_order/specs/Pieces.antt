@@ -1,0 +1,32 @@
+-- The pieces that an order file is made of, and how far a text is made of them.
+use Rattle.std.specs.Prelude.{◌≡◌, ℕ, ◌+◌, ◌≤◌, List, [], ◌∷◌, ◌++◌, drop, decimal, Option, Some, None}
+use Rattle.pfs_order.specs.declared.fault.OrderFault.{OrderFault}
+use Rattle.pfs_order.specs.declared.fault.OrderFault.TheVariants.{Syntax}
+use Rattle.pfs_order.specs.OrderFile.{IsFaultOf, IsSyntaxFault}
+
+-- a text begins with one of some pieces
+abbrev pub Begins : (List ℕ → Type 0) → List ℕ → Type 0
+Begins piece text = (front : List ℕ) × ((rest : List ℕ) × (piece front × (text ≡ front ++ rest)))
+
+-- the one piece is a word
+abbrev pub IsWord : List ℕ → List ℕ → Type 0
+IsWord word piece = piece ≡ word
+
+-- the pieces are the numerals of the numbers from least to most, with a byte that ends them
+abbrev pub IsNumeral : ℕ → ℕ → ℕ → List ℕ → Type 0
+IsNumeral least most end piece = (n : ℕ) × ((least ≤ n) × (n ≤ most) × (piece ≡ decimal n ++ end ∷ []))
+
+-- the fault says how far a text can be completed where a piece is wanted at an offset
+abbrev pub IsPieceFault : (List ℕ → Type 0) → List ℕ → ℕ → OrderFault → Type 0
+IsPieceFault piece text at (Syntax offset) = (i : ℕ) × ((offset ≡ at + i) × IsFaultOf (Begins piece) (drop at text) i)
+IsPieceFault piece text at _ = ⊥
+
+-- the fault says how far the text can be completed
+abbrev pub SaysSyntax : List ℕ → OrderFault → Type 0
+SaysSyntax text (Syntax offset) = IsSyntaxFault text offset
+SaysSyntax text _ = ⊥
+
+-- the digits of a number, if there is one
+abbrev pub numeral_of : Option ℕ → List ℕ
+numeral_of None = []
+numeral_of (Some n) = decimal n
