@@ -1,0 +1,170 @@
+-- What each stage of reading a text knows: what may follow there, and that it can be completed.
+use Rattle.std.proofs.Common.{◌≡◌, ℕ, ◌+◌, ◌-◌, ◌<◌, ◌≤◌, ◌^◌, List, [], ◌∷◌, ◌++◌, suc, length, take, drop, replicate, refl, sym, ◌∙◌, ap, subst, arith, codes, lit≤, lit<}
+use Rattle.std.specs.Fmt.{decimal}
+use Rattle.std.specs.List.{All}
+use Rattle.std.proofs.lemmas.List.{append_assoc, append_cancel_left, append-nil, length-append, length-replicate}
+use Rattle.std.proofs.lemmas.List.Elements.{All-head, All-tail, All-nil, All-cons, All-append, All-replicate}
+use Rattle.pfs_base.specs.declared.limits.TheConstants.{MOST_JOBS}
+use Rattle.pfs_order.specs.declared.fault.OrderFault.{OrderFault}
+use Rattle.pfs_order.specs.Text.{spaced}
+use Rattle.pfs_order.specs.OrderText.{order_text}
+use Rattle.pfs_order.specs.OrderFile.{HasText, IsText, CanBeCompleted, IsFaultOf, IsSyntaxFault}
+use Rattle.pfs_order.specs.Pieces.{Begins, IsWord, IsNumeral, IsPieceFault, SaysSyntax}
+use Rattle.pfs_order.proofs.Faults.{syntax_behind, fault_here}
+use Rattle.pfs_order.proofs.OrderTexts.{IsShort, last_line, counted, before, text_shape, more_jobs, same_jobs, same_count, before-spaced, before-append}
+
+-- a text from its pieces
+text_of : (jobs : List ℕ) (makespan : ℕ) (text : List ℕ) → 1 ≤ length jobs → length jobs ≤ MOST_JOBS → All IsShort jobs → makespan < 10 ^ 18
+    → text ≡ counted (length jobs) (spaced jobs ++ 10 ∷ last_line makespan) → HasText text jobs makespan
+text_of jobs makespan text some few short small e =
+    record { some_job = some; few_jobs = few; short_jobs = short; short_makespan = small; spelled = e ∙ sym (text_shape jobs makespan) }
+
+shape_of : (text jobs : List ℕ) (makespan : ℕ) → HasText text jobs makespan → text ≡ counted (length jobs) (spaced jobs ++ 10 ∷ last_line makespan)
+shape_of text jobs makespan h = h.spelled ∙ text_shape jobs makespan
+
+few_small : (n : ℕ) → n ≤ MOST_JOBS → n < 10 ^ 18
+few_small n h = omega arith
+
+-- At the start stands the first word.
+
+start_wants : (t : List ℕ) → IsText ([] ++ t) → Begins (IsWord (codes "order ")) t
+start_wants t (jobs, (makespan, h)) = (codes "order ", (decimal (length jobs) ++ 10 ∷ (spaced jobs ++ 10 ∷ last_line makespan), (refl, shape_of t jobs makespan h)))
+
+start_goes_on : (p : List ℕ) → IsWord (codes "order ") p → CanBeCompleted IsText ([] ++ p)
+start_goes_on p is =
+    let rest : List ℕ = decimal 1 ++ 10 ∷ (spaced (0 ∷ []) ++ 10 ∷ last_line 0) in
+    (rest, (0 ∷ [], (0, text_of (0 ∷ []) 0 (p ++ rest) (lit≤ tt) (lit≤ tt) (All-cons IsShort 0 [] (lit< tt) (All-nil IsShort)) (lit< tt) (ap (λ xs. xs ++ rest) is))))
+
+pub start_fault : (text : List ℕ) (fault : OrderFault) → IsPieceFault (IsWord (codes "order ")) text 0 fault → SaysSyntax text fault
+start_fault text fault f = syntax_behind (IsWord (codes "order ")) text [] 0 fault (omega arith) refl start_wants start_goes_on f
+
+-- Behind the first word stands the count.
+
+count_wants : (t : List ℕ) → IsText (codes "order " ++ t) → Begins (IsNumeral 1 MOST_JOBS 10) t
+count_wants t (jobs, (makespan, h)) =
+    let rest : List ℕ = spaced jobs ++ 10 ∷ last_line makespan in
+    let e : t ≡ decimal (length jobs) ++ 10 ∷ rest = append_cancel_left (codes "order ") t (decimal (length jobs) ++ 10 ∷ rest) (shape_of (codes "order " ++ t) jobs makespan h) in
+    (decimal (length jobs) ++ 10 ∷ [], (rest, ((length jobs, (h.some_job, h.few_jobs, refl)), e ∙ sym (append_assoc (decimal (length jobs)) (10 ∷ []) rest))))
+
+count_goes_on : (p : List ℕ) → IsNumeral 1 MOST_JOBS 10 p → CanBeCompleted IsText (codes "order " ++ p)
+count_goes_on p (n, (low, high, is)) =
+    let jobs : List ℕ = replicate n 0 in
+    let size : length jobs ≡ n = length-replicate n 0 in
+    let rest : List ℕ = spaced jobs ++ 10 ∷ last_line 0 in (
+      rest,
+      (
+        jobs,
+        (
+          0,
+          text_of jobs 0 ((codes "order " ++ p) ++ rest) (omega arith) (omega arith) (All-replicate IsShort n 0 (lit< tt)) (lit< tt)
+              (ap (λ xs. (codes "order " ++ xs) ++ rest) is ∙ ap (λ xs. codes "order " ++ xs) (append_assoc (decimal n) (10 ∷ []) rest) ∙ ap (λ k. counted k rest) (sym size)),
+        ),
+      ),
+    )
+
+pub count_fault : (text : List ℕ) (at : ℕ) (fault : OrderFault) → at ≤ length text → text ≡ codes "order " ++ drop at text
+    → IsPieceFault (IsNumeral 1 MOST_JOBS 10) text at fault → SaysSyntax text fault
+count_fault text at fault h e f = syntax_behind (IsNumeral 1 MOST_JOBS 10) text (codes "order ") at fault h e count_wants count_goes_on f
+
+-- Behind the count and some jobs, but not all, stands a job.
+
+counted-append : (n : ℕ) (rest more : List ℕ) → counted n rest ++ more ≡ counted n (rest ++ more)
+counted-append n rest more = ap (λ xs. codes "order " ++ xs) (append_assoc (decimal n) (10 ∷ rest) more)
+
+-- what is read where some of the jobs were
+pub record IsAmongJobs (count : ℕ) (done : List ℕ) : Type 0 where
+  pub some : 1 ≤ count
+  pub few : count ≤ MOST_JOBS
+  pub short : All IsShort done
+  pub fewer : length done < count
+
+next_job : (count : ℕ) (done t : List ℕ) → IsAmongJobs count done → IsText (counted count (before done []) ++ t)
+    → (job : ℕ) × ((more : List ℕ) × ((line : List ℕ) × ((t ≡ spaced (job ∷ more) ++ 10 ∷ line) × (length done + suc (length more) ≡ count) × IsShort job)))
+next_job count done t h (jobs, (makespan, has)) =
+    let rest : List ℕ = spaced jobs ++ 10 ∷ last_line makespan in
+    let e : counted count (before done t) ≡ counted (length jobs) rest =
+    ap (counted count) (sym (before-append done [] t)) ∙ sym (counted-append count (before done []) t) ∙ shape_of (counted count (before done []) ++ t) jobs makespan has in
+    let r = same_count count (before done t) rest (length jobs) (few_small count h.few) (few_small (length jobs) has.few_jobs) e in
+    let size : count ≡ length jobs = r.0 in
+    let fewer : length done < length jobs = let k = h.fewer in omega arith in
+    let (job, (more, (is, long, one))) = more_jobs done jobs t (last_line makespan) h.short has.short_jobs fewer r.1 in
+    (job, (more, (last_line makespan, (is, omega arith, one))))
+
+space_wants : (count : ℕ) (done t : List ℕ) → IsAmongJobs count done → length done + 1 < count → IsText (counted count (before done []) ++ t) → Begins (IsNumeral 0 (10 ^ 9 - 1) 32) t
+space_wants count done t h more text = let (job, (others, (line, (is, size, short)))) = next_job count done t h text in at_space job others line is size short
+  where
+    at_space : (job : ℕ) (others line : List ℕ) → t ≡ spaced (job ∷ others) ++ 10 ∷ line → length done + suc (length others) ≡ count → IsShort job → Begins (IsNumeral 0 (10 ^ 9 - 1) 32) t
+    at_space job [] line is size short = absurd (omega arith)
+    at_space job (k ∷ others) line is size short = (
+      decimal job ++ 32 ∷ [],
+      (
+        spaced (k ∷ others) ++ 10 ∷ line,
+        (
+          (job, (omega arith, omega arith, refl)),
+          is ∙ append_assoc (decimal job) (32 ∷ spaced (k ∷ others)) (10 ∷ line) ∙ sym (append_assoc (decimal job) (32 ∷ []) (spaced (k ∷ others) ++ 10 ∷ line)),
+        ),
+      ),
+    )
+
+end_wants : (count : ℕ) (done t : List ℕ) → IsAmongJobs count done → length done + 1 ≡ count → IsText (counted count (before done []) ++ t) → Begins (IsNumeral 0 (10 ^ 9 - 1) 10) t
+end_wants count done t h last text = let (job, (others, (line, (is, size, short)))) = next_job count done t h text in at_end job others line is size short
+  where
+    at_end : (job : ℕ) (others line : List ℕ) → t ≡ spaced (job ∷ others) ++ 10 ∷ line → length done + suc (length others) ≡ count → IsShort job → Begins (IsNumeral 0 (10 ^ 9 - 1) 10) t
+    at_end job [] line is size short = (decimal job ++ 10 ∷ [], (line, ((job, (omega arith, omega arith, refl)), is ∙ sym (append_assoc (decimal job) (10 ∷ []) line))))
+    at_end job (k ∷ others) line is size short = absurd (omega arith)
+
+-- the jobs that were read, and others up to the count
+jobs_text : (count : ℕ) (done : List ℕ) (job : ℕ) (others text : List ℕ) → IsAmongJobs count done → IsShort job → All IsShort others → length done + suc (length others) ≡ count
+    → text ≡ counted count (before done (spaced (job ∷ others) ++ 10 ∷ last_line 0)) → IsText text
+jobs_text count done job others text h one short size e =
+    let jobs : List ℕ = done ++ job ∷ others in
+    let long : length jobs ≡ count = length-append done (job ∷ others) ∙ size in
+    let some = h.some in
+    let few = h.few in (
+      jobs,
+      (
+        0,
+        text_of jobs 0 text (omega arith) (omega arith) (All-append IsShort done (job ∷ others) h.short (All-cons IsShort job others one short)) (lit< tt)
+            (e ∙ ap (counted count) (before-spaced done job others (10 ∷ last_line 0)) ∙ ap (λ n. counted n (spaced jobs ++ 10 ∷ last_line 0)) (sym long)),
+      ),
+    )
+
+-- what stands behind the jobs that were read
+behind_done : (count : ℕ) (done p rest : List ℕ) → (counted count (before done []) ++ p) ++ rest ≡ counted count (before done (p ++ rest))
+behind_done count done p rest =
+    append_assoc (counted count (before done [])) p rest ∙ counted-append count (before done []) (p ++ rest) ∙ ap (counted count) (before-append done [] (p ++ rest))
+
+space_goes_on : (count : ℕ) (done p : List ℕ) → IsAmongJobs count done → length done + 1 < count → IsNumeral 0 (10 ^ 9 - 1) 32 p → CanBeCompleted IsText (counted count (before done []) ++ p)
+space_goes_on count done p h more (job, (low, high, is)) =
+    let rest : ℕ = count - length done - 2 in
+    let others : List ℕ = replicate rest 0 in
+    let size : length others ≡ rest = length-replicate rest 0 in
+    let line : List ℕ = spaced (0 ∷ others) ++ 10 ∷ last_line 0 in (
+      line,
+      jobs_text count done job (0 ∷ others) ((counted count (before done []) ++ p) ++ line) h (omega arith) (All-cons IsShort 0 others (lit< tt) (All-replicate IsShort rest 0 (lit< tt))) (omega arith)
+          (behind_done count done p line ∙ ap (λ xs. counted count (before done xs))
+          (ap (λ xs. xs ++ line) is ∙ append_assoc (decimal job) (32 ∷ []) line ∙ sym (append_assoc (decimal job) (32 ∷ spaced (0 ∷ others)) (10 ∷ last_line 0)))),
+    )
+
+end_goes_on : (count : ℕ) (done p : List ℕ) → IsAmongJobs count done → length done + 1 ≡ count → IsNumeral 0 (10 ^ 9 - 1) 10 p → CanBeCompleted IsText (counted count (before done []) ++ p)
+end_goes_on count done p h last (job, (low, high, is)) = (
+  last_line 0,
+  jobs_text count done job [] ((counted count (before done []) ++ p) ++ last_line 0) h (omega arith) (All-nil IsShort) (omega arith)
+      (behind_done count done p (last_line 0) ∙ ap (λ xs. counted count (before done xs)) (ap (λ xs. xs ++ last_line 0) is ∙ append_assoc (decimal job) (10 ∷ []) (last_line 0))),
+)
+
+-- the text up to an offset, and from it on
+done_front : (count : ℕ) (done text : List ℕ) (at : ℕ) → text ≡ counted count (before done (drop at text)) → text ≡ counted count (before done []) ++ drop at text
+done_front count done text at e = e ∙ ap (counted count) (sym (before-append done [] (drop at text))) ∙ sym (counted-append count (before done []) (drop at text))
+
+pub space_fault : (count : ℕ) (done text : List ℕ) (at : ℕ) (fault : OrderFault) → IsAmongJobs count done → length done + 1 < count → at ≤ length text
+    → text ≡ counted count (before done (drop at text)) → IsPieceFault (IsNumeral 0 (10 ^ 9 - 1) 32) text at fault → SaysSyntax text fault
+space_fault count done text at fault h more within e f =
+    syntax_behind (IsNumeral 0 (10 ^ 9 - 1) 32) text (counted count (before done [])) at fault within (done_front count done text at e)
+    (λ t. space_wants count done t h more) (λ p. space_goes_on count done p h more) f
+
+pub end_fault : (count : ℕ) (done text : List ℕ) (at : ℕ) (fault : OrderFault) → IsAmongJobs count done → length done + 1 ≡ count → at ≤ length text
+    → text ≡ counted count (before done (drop at text)) → IsPieceFault (IsNumeral 0 (10 ^ 9 - 1) 10) text at fault → SaysSyntax text fault
+end_fault count done text at fault h last within e f =
+    syntax_behind (IsNumeral 0 (10 ^ 9 - 1) 10) text (counted count (before done [])) at fault within (done_front count done text at e)
+    (λ t. end_wants count done t h last) (λ p. end_goes_on count done p h last) f
