@@ -1,4 +1,4 @@
 pub mod Heads
 pub mod Heaviest
 mod MakespanLaws
-mod Sent
+pub mod Sent

@@ -3,3 +3,4 @@ pub mod OrderText
 pub mod Pieces
 pub mod Sequence
 pub mod Text
+pub mod Writing

@@ -6,8 +6,10 @@ pub mod file;
 pub mod order;
 pub mod scan;
 pub mod seq;
+pub mod writing;
 
 pub use fault::OrderFault;
 pub use file::OrderFile;
 pub use order::Order;
 pub use seq::Seq;
+pub use writing::write_order;
