@@ -9,19 +9,12 @@ use Rattle.pfs_base.specs.declared.limits.TheConstants.{MOST_JOBS}
 use Rattle.pfs_order.specs.Text.{with_line_end, spaced, named_number}
 use Rattle.pfs_order.specs.OrderText.{order_text}
 use Rattle.pfs_order.specs.OrderFile.{HasText, IsText}
+use Rattle.pfs_order.specs.Pieces.{counted, last_line}
 use Rattle.pfs_order.proofs.Numerals.{LacksByte, cut_at, decimal_lacks, decimal_one}
 
 -- a job numeral of at most nine digits
 abbrev pub IsShort : ℕ → Type 0
 IsShort job = job < 10 ^ 9
-
--- the last line
-abbrev pub last_line : ℕ → List ℕ
-last_line makespan = codes "makespan " ++ (decimal makespan ++ 10 ∷ [])
-
--- all from the count on
-abbrev pub counted : ℕ → List ℕ → List ℕ
-counted count rest = codes "order " ++ (decimal count ++ 10 ∷ rest)
 
 -- jobs, each with a space behind it, and what follows
 abbrev pub before : List ℕ → List ℕ → List ℕ
@@ -37,7 +30,7 @@ text_shape jobs makespan =
     ∙ ap (λ xs. (codes "order " ++ (first ++ 10 ∷ [])) ++ xs) (append_assoc (spaced jobs) (10 ∷ []) last)
     ∙ ap (λ xs. codes "order " ++ xs) (append_assoc first (10 ∷ []) (spaced jobs ++ 10 ∷ last))
 
-ten_10 : 10 ≤ digit_value 10
+pub ten_10 : 10 ≤ digit_value 10
 ten_10 = lit≤ tt
 
 ten_32 : 10 ≤ digit_value 32

@@ -2,16 +2,17 @@
 use Rattle.std.proofs.Common.{◌≡◌, ℕ, ◌+◌, ◌-◌, ◌<◌, ◌≤◌, ◌^◌, List, [], ◌∷◌, ◌++◌, suc, length, take, drop, replicate, refl, sym, ◌∙◌, ap, subst, arith, codes, lit≤, lit<}
 use Rattle.std.specs.Fmt.{decimal}
 use Rattle.std.specs.List.{All}
-use Rattle.std.proofs.lemmas.List.{append_assoc, append_cancel_left, append-nil, length-append, length-replicate}
+use Rattle.std.proofs.lemmas.List.{append_assoc, append_cancel_left, append-nil, length-append, length-drop, length-replicate}
 use Rattle.std.proofs.lemmas.List.Elements.{All-head, All-tail, All-nil, All-cons, All-append, All-replicate}
 use Rattle.pfs_base.specs.declared.limits.TheConstants.{MOST_JOBS}
 use Rattle.pfs_order.specs.declared.fault.OrderFault.{OrderFault}
 use Rattle.pfs_order.specs.Text.{spaced}
 use Rattle.pfs_order.specs.OrderText.{order_text}
 use Rattle.pfs_order.specs.OrderFile.{HasText, IsText, CanBeCompleted, IsFaultOf, IsSyntaxFault}
-use Rattle.pfs_order.specs.Pieces.{Begins, IsWord, IsNumeral, IsPieceFault, SaysSyntax}
+use Rattle.pfs_order.specs.Pieces.{Begins, IsWord, IsNumeral, IsPieceFault, SaysSyntax, counted, last_line, AreJobs, HasJobs}
 use Rattle.pfs_order.proofs.Faults.{syntax_behind, fault_here}
-use Rattle.pfs_order.proofs.OrderTexts.{IsShort, last_line, counted, before, text_shape, more_jobs, same_jobs, same_count, before-spaced, before-append}
+use Rattle.pfs_order.proofs.Numerals.{cut_at, decimal_lacks}
+use Rattle.pfs_order.proofs.OrderTexts.{ten_10, IsShort, before, text_shape, more_jobs, same_jobs, same_count, before-spaced, before-append}
 
 -- a text from its pieces
 text_of : (jobs : List ℕ) (makespan : ℕ) (text : List ℕ) → 1 ≤ length jobs → length jobs ≤ MOST_JOBS → All IsShort jobs → makespan < 10 ^ 18
@@ -168,3 +169,101 @@ pub end_fault : (count : ℕ) (done text : List ℕ) (at : ℕ) (fault : OrderFa
 end_fault count done text at fault h last within e f =
     syntax_behind (IsNumeral 0 (10 ^ 9 - 1) 10) text (counted count (before done [])) at fault within (done_front count done text at e)
     (λ t. end_wants count done t h last) (λ p. end_goes_on count done p h last) f
+
+-- Behind the line of the jobs stands the last line.
+
+line-append : (count : ℕ) (jobs rest more : List ℕ) → counted count (spaced jobs ++ 10 ∷ rest) ++ more ≡ counted count (spaced jobs ++ 10 ∷ (rest ++ more))
+line-append count jobs rest more = counted-append count (spaced jobs ++ 10 ∷ rest) more ∙ ap (counted count) (append_assoc (spaced jobs) (10 ∷ rest) more)
+
+-- what stands behind the jobs in a text
+behind_jobs : (count : ℕ) (jobs rest : List ℕ) → AreJobs count jobs → IsText (counted count (spaced jobs ++ 10 ∷ rest)) → (makespan : ℕ) × ((makespan < 10 ^ 18) × (rest ≡ last_line makespan))
+behind_jobs count jobs rest h (others, (makespan, has)) =
+    let r = same_count count (spaced jobs ++ 10 ∷ rest) (spaced others ++ 10 ∷ last_line makespan) (length others) (few_small count h.few) (few_small (length others) has.few_jobs)
+    (shape_of (counted count (spaced jobs ++ 10 ∷ rest)) others makespan has) in
+    let t = same_jobs jobs others rest (last_line makespan) h.short has.short_jobs (h.every ∙ r.0) r.1 in
+    (makespan, (has.short_makespan, t.1))
+
+-- jobs and a makespan as a text
+pub whole_text : (count : ℕ) (jobs : List ℕ) (makespan : ℕ) (text : List ℕ) → AreJobs count jobs → makespan < 10 ^ 18 → text ≡ counted count (spaced jobs ++ 10 ∷ last_line makespan) → HasText text jobs makespan
+whole_text count jobs makespan text h small e =
+    let some = h.some in
+    let few = h.few in
+    let every = h.every in
+    text_of jobs makespan text (omega arith) (omega arith) h.short small (e ∙ ap (λ n. counted n (spaced jobs ++ 10 ∷ last_line makespan)) (sym every))
+
+name_wants : (count : ℕ) (jobs t : List ℕ) → AreJobs count jobs → IsText (counted count (spaced jobs ++ 10 ∷ []) ++ t) → Begins (IsWord (codes "makespan ")) t
+name_wants count jobs t h text =
+    let (makespan, (small, is)) = behind_jobs count jobs t h (subst IsText (line-append count jobs [] t) text) in
+    (codes "makespan ", (decimal makespan ++ 10 ∷ [], (refl, is)))
+
+name_goes_on : (count : ℕ) (jobs p : List ℕ) → AreJobs count jobs → IsWord (codes "makespan ") p → CanBeCompleted IsText (counted count (spaced jobs ++ 10 ∷ []) ++ p)
+name_goes_on count jobs p h is =
+    let rest : List ℕ = decimal 0 ++ 10 ∷ [] in
+    let front : List ℕ = counted count (spaced jobs ++ 10 ∷ []) in
+    (rest, (jobs, (0, whole_text count jobs 0 ((front ++ p) ++ rest) h (lit< tt) (append_assoc front p rest ∙ line-append count jobs [] (p ++ rest) ∙ ap (λ xs. counted count (spaced jobs ++ 10 ∷ (xs ++ rest))) is))))
+
+pub name_fault : (count : ℕ) (text : List ℕ) (at : ℕ) (fault : OrderFault) → HasJobs count text at → at ≤ length text → IsPieceFault (IsWord (codes "makespan ")) text at fault → SaysSyntax text fault
+name_fault count text at fault (jobs, (h, e)) within f =
+    syntax_behind (IsWord (codes "makespan ")) text (counted count (spaced jobs ++ 10 ∷ [])) at fault within (e ∙ sym (line-append count jobs [] (drop at text)))
+    (λ t. name_wants count jobs t h) (λ p. name_goes_on count jobs p h) f
+
+span_wants : (count : ℕ) (jobs t : List ℕ) → AreJobs count jobs → IsText (counted count (spaced jobs ++ 10 ∷ codes "makespan ") ++ t) → Begins (IsNumeral 0 (10 ^ 18 - 1) 10) t
+span_wants count jobs t h text =
+    let (makespan, (small, is)) = behind_jobs count jobs (codes "makespan " ++ t) h (subst IsText (line-append count jobs (codes "makespan ") t) text) in (
+      decimal makespan ++ 10 ∷ [],
+      (
+        [],
+        (
+          (makespan, (omega arith, omega arith, refl)),
+          append_cancel_left (codes "makespan ") t (decimal makespan ++ 10 ∷ []) is ∙ sym (append-nil (decimal makespan ++ 10 ∷ [])),
+        ),
+      ),
+    )
+
+span_goes_on : (count : ℕ) (jobs p : List ℕ) → AreJobs count jobs → IsNumeral 0 (10 ^ 18 - 1) 10 p → CanBeCompleted IsText (counted count (spaced jobs ++ 10 ∷ codes "makespan ") ++ p)
+span_goes_on count jobs p h (makespan, (low, high, is)) =
+    let text : List ℕ = counted count (spaced jobs ++ 10 ∷ codes "makespan ") ++ p in (
+      [],
+      (
+        jobs,
+        (
+          makespan,
+          whole_text count jobs makespan (text ++ []) h (omega arith)
+              (append-nil text ∙ line-append count jobs (codes "makespan ") p ∙ ap (λ xs. counted count (spaced jobs ++ 10 ∷ (codes "makespan " ++ xs))) is),
+        ),
+      ),
+    )
+
+pub span_fault : (count : ℕ) (text : List ℕ) (at next : ℕ) (fault : OrderFault) → HasJobs count text at → drop at text ≡ codes "makespan " ++ drop next text → next ≤ length text
+    → IsPieceFault (IsNumeral 0 (10 ^ 18 - 1) 10) text next fault → SaysSyntax text fault
+span_fault count text at next fault (jobs, (h, e)) name within f =
+    syntax_behind (IsNumeral 0 (10 ^ 18 - 1) 10) text (counted count (spaced jobs ++ 10 ∷ codes "makespan ")) next fault within
+    (e ∙ ap (λ xs. counted count (spaced jobs ++ 10 ∷ xs)) name ∙ sym (line-append count jobs (codes "makespan ") (drop next text)))
+    (λ t. span_wants count jobs t h) (λ p. span_goes_on count jobs p h) f
+
+-- Behind the last line stands nothing.
+
+pub more_fault : (text more : List ℕ) (b : ℕ) → IsText text → IsSyntaxFault (text ++ b ∷ more) (length text)
+more_fault text more b (jobs, (makespan, h)) = fault_here IsText text (b ∷ more) ([], (jobs, (makespan, subst (λ xs. HasText xs jobs makespan) (sym (append-nil text)) h))) (λ e. absurd (let f : [] ≡ b ∷ more = sym e in cc)) stuck
+  where
+    are : AreJobs (length jobs) jobs
+    are = record { some = h.some_job; few = h.few_jobs; short = h.short_jobs; every = refl }
+
+    stuck : (c : ℕ) (others rest : List ℕ) → b ∷ more ≡ c ∷ others → ¬ IsText (text ++ c ∷ rest)
+    stuck c others rest is longer =
+        let shape : text ++ c ∷ rest ≡ counted (length jobs) (spaced jobs ++ 10 ∷ (last_line makespan ++ c ∷ rest)) =
+        ap (λ xs. xs ++ c ∷ rest) (shape_of text jobs makespan h) ∙ line-append (length jobs) jobs (last_line makespan) (c ∷ rest) in
+        let (v, (small, last)) = behind_jobs (length jobs) jobs (last_line makespan ++ c ∷ rest) are (subst IsText shape longer) in
+        let numeral : (decimal makespan ++ 10 ∷ []) ++ c ∷ rest ≡ decimal v ++ 10 ∷ [] = append_cancel_left (codes "makespan ") ((decimal makespan ++ 10 ∷ []) ++ c ∷ rest) (decimal v ++ 10 ∷ []) last in
+        let r = cut_at 10 (decimal makespan) (decimal v) (c ∷ rest) [] (decimal_lacks 10 makespan ten_10 h.short_makespan) (decimal_lacks 10 v ten_10 small) (sym (append_assoc (decimal makespan) (10 ∷ []) (c ∷ rest)) ∙ numeral) in
+        let no_more : c ∷ rest ≡ [] = r.1 in
+        absurd (cc)
+
+pub end_text : (count : ℕ) (text : List ℕ) (at next end makespan : ℕ) → HasJobs count text at → drop at text ≡ codes "makespan " ++ drop next text → makespan < 10 ^ 18
+    → drop next text ≡ decimal makespan ++ 10 ∷ drop end text → end ≤ length text
+    → (front : List ℕ) × ((text ≡ front ++ drop end text) × ((jobs : List ℕ) × (HasText front jobs makespan × (length jobs ≡ count) × (length front ≡ end))))
+end_text count text at next end makespan (jobs, (h, e)) name small numeral within =
+    let front : List ℕ = counted count (spaced jobs ++ 10 ∷ last_line makespan) in
+    let whole : text ≡ front ++ drop end text =
+    e ∙ ap (λ xs. counted count (spaced jobs ++ 10 ∷ xs)) (name ∙ ap (λ xs. codes "makespan " ++ xs) (numeral ∙ sym (append_assoc (decimal makespan) (10 ∷ []) (drop end text)))) ∙ sym (line-append count jobs (last_line makespan) (drop end text)) in
+    (front, (whole, (jobs, (whole_text count jobs makespan front h small refl, h.every, omega (arith, ap length whole, length-append front (drop end text), length-drop end text)))))

@@ -1,5 +1,8 @@
 -- The pieces that an order file is made of, and how far a text is made of them.
-use Rattle.std.specs.Prelude.{◌≡◌, ℕ, ◌+◌, ◌≤◌, List, [], ◌∷◌, ◌++◌, drop, decimal, Option, Some, None}
+use Rattle.std.specs.Prelude.{◌≡◌, ℕ, ◌+◌, ◌<◌, ◌≤◌, ◌^◌, List, [], ◌∷◌, ◌++◌, length, drop, decimal, codes, Option, Some, None}
+use Rattle.std.specs.List.{All}
+use Rattle.pfs_base.specs.declared.limits.TheConstants.{MOST_JOBS}
+use Rattle.pfs_order.specs.Text.{spaced}
 use Rattle.pfs_order.specs.declared.fault.OrderFault.{OrderFault}
 use Rattle.pfs_order.specs.declared.fault.OrderFault.TheVariants.{Syntax}
 use Rattle.pfs_order.specs.OrderFile.{IsFaultOf, IsSyntaxFault}
@@ -30,3 +33,22 @@ SaysSyntax text _ = ⊥
 abbrev pub numeral_of : Option ℕ → List ℕ
 numeral_of None = []
 numeral_of (Some n) = decimal n
+
+-- the first line, with this count of jobs, and what follows it
+abbrev pub counted : ℕ → List ℕ → List ℕ
+counted count rest = codes "order " ++ (decimal count ++ 10 ∷ rest)
+
+-- the last line
+abbrev pub last_line : ℕ → List ℕ
+last_line makespan = codes "makespan " ++ (decimal makespan ++ 10 ∷ [])
+
+-- so many job numerals
+pub record AreJobs (count : ℕ) (jobs : List ℕ) : Type 0 where
+  pub some : 1 ≤ count
+  pub few : count ≤ MOST_JOBS
+  pub short : All (λ job. job < 10 ^ 9) jobs
+  pub every : length jobs ≡ count
+
+-- the text has the first line, the line of so many jobs, and then what stands at an offset
+abbrev pub HasJobs : ℕ → List ℕ → ℕ → Type 0
+HasJobs count text at = (jobs : List ℕ) × (AreJobs count jobs × (text ≡ counted count (spaced jobs ++ 10 ∷ drop at text)))

@@ -4,6 +4,7 @@
 pub mod fault;
 pub mod file;
 pub mod order;
+pub mod reading;
 pub mod scan;
 pub mod seq;
 pub mod writing;
