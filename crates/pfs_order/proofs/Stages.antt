@@ -12,7 +12,7 @@ use Rattle.pfs_order.specs.OrderFile.{HasText, IsText, CanBeCompleted, IsFaultOf
 use Rattle.pfs_order.specs.Pieces.{Begins, IsWord, IsNumeral, IsPieceFault, SaysSyntax, counted, last_line, AreJobs, HasJobs}
 use Rattle.pfs_order.proofs.Faults.{syntax_behind, fault_here}
 use Rattle.pfs_order.proofs.Numerals.{cut_at, decimal_lacks}
-use Rattle.pfs_order.proofs.OrderTexts.{ten_10, IsShort, before, text_shape, more_jobs, same_jobs, same_count, before-spaced, before-append}
+use Rattle.pfs_order.proofs.OrderTexts.{ten_10, IsShort, before, text_shape, more_jobs, same_jobs, same_count, before-spaced, before-append, before-push}
 
 -- a text from its pieces
 text_of : (jobs : List ℕ) (makespan : ℕ) (text : List ℕ) → 1 ≤ length jobs → length jobs ≤ MOST_JOBS → All IsShort jobs → makespan < 10 ^ 18
@@ -267,3 +267,14 @@ end_text count text at next end makespan (jobs, (h, e)) name small numeral withi
     let whole : text ≡ front ++ drop end text =
     e ∙ ap (λ xs. counted count (spaced jobs ++ 10 ∷ xs)) (name ∙ ap (λ xs. codes "makespan " ++ xs) (numeral ∙ sym (append_assoc (decimal makespan) (10 ∷ []) (drop end text)))) ∙ sym (line-append count jobs (last_line makespan) (drop end text)) in
     (front, (whole, (jobs, (whole_text count jobs makespan front h small refl, h.every, omega (arith, ap length whole, length-append front (drop end text), length-drop end text)))))
+
+-- one job more, and the last one
+pub next_read : (count job : ℕ) (done text : List ℕ) (at next : ℕ) → text ≡ counted count (before done (drop at text)) → drop at text ≡ decimal job ++ 32 ∷ drop next text
+    → text ≡ counted count (before (done ++ job ∷ []) (drop next text))
+next_read count job done text at next e numeral =
+    e ∙ ap (λ xs. counted count (before done xs)) numeral ∙ ap (counted count) (before-push done job (drop next text))
+
+pub last_read : (count job : ℕ) (done text : List ℕ) (at next : ℕ) → text ≡ counted count (before done (drop at text)) → drop at text ≡ decimal job ++ 10 ∷ drop next text
+    → text ≡ counted count (spaced (done ++ job ∷ []) ++ 10 ∷ drop next text)
+last_read count job done text at next e numeral =
+    e ∙ ap (λ xs. counted count (before done xs)) numeral ∙ ap (counted count) (before-spaced done job [] (10 ∷ drop next text))

@@ -4,8 +4,8 @@ use Rattle.pfs_order.specs.Pieces.{counted}
 use Rattle.pfs_order.proofs.OrderTexts.{IsShort, before}
 use Rattle.pfs_order.proofs.reading.jobs_line.Given as goal
 
-abbrev pub invariant-loop-_place : goal.invariant-loop-_place
-invariant-loop-_place l = record {
+abbrev pub invariant-loop-place : goal.invariant-loop-place
+invariant-loop-place l = record {
   within : l.at ≤ length l.text;
   read : (done : List ℕ) × ((All IsShort done) × (length done + 1 ≡ l._place) × (l.text ≡ counted l.count (before done (drop l.at l.text))));
 }
