@@ -33,7 +33,7 @@ text_shape jobs makespan =
 pub ten_10 : 10 ≤ digit_value 10
 ten_10 = lit≤ tt
 
-ten_32 : 10 ≤ digit_value 32
+pub ten_32 : 10 ≤ digit_value 32
 ten_32 = lit≤ tt
 
 -- jobs and the line end behind them, against jobs of which more follow

@@ -1,11 +1,12 @@
 -- The pieces that an order file is made of, and how far a text is made of them.
-use Rattle.std.specs.Prelude.{◌≡◌, ℕ, ◌+◌, ◌<◌, ◌≤◌, ◌^◌, List, [], ◌∷◌, ◌++◌, length, drop, decimal, codes, Option, Some, None}
-use Rattle.std.specs.List.{All}
+use Rattle.std.specs.Prelude.{◌≡◌, ⊤, ℕ, ◌+◌, ◌-◌, ◌<◌, ◌≤◌, ◌^◌, List, [], ◌∷◌, ◌++◌, length, drop, decimal, codes, Option, Some, None}
+use Rattle.std.specs.List.{All, Contains}
 use Rattle.pfs_base.specs.declared.limits.TheConstants.{MOST_JOBS}
 use Rattle.pfs_order.specs.Text.{spaced}
 use Rattle.pfs_order.specs.declared.fault.OrderFault.{OrderFault}
-use Rattle.pfs_order.specs.declared.fault.OrderFault.TheVariants.{Syntax}
-use Rattle.pfs_order.specs.OrderFile.{IsFaultOf, IsSyntaxFault}
+use Rattle.pfs_order.specs.declared.fault.OrderFault.TheVariants.{Syntax, JobRange, Repeated, TooLong, Read, Memory}
+use Rattle.pfs_order.specs.Sequence.{Sequence}
+use Rattle.pfs_order.specs.OrderFile.{IsFaultOf, IsSyntaxFault, HasJobFault}
 
 -- a text begins with one of some pieces
 abbrev pub Begins : (List ℕ → Type 0) → List ℕ → Type 0
@@ -52,3 +53,14 @@ pub record AreJobs (count : ℕ) (jobs : List ℕ) : Type 0 where
 -- the text has the first line, the line of so many jobs, and then what stands at an offset
 abbrev pub HasJobs : ℕ → List ℕ → ℕ → Type 0
 HasJobs count text at = (jobs : List ℕ) × (AreJobs count jobs × (text ≡ counted count (spaced jobs ++ 10 ∷ drop at text)))
+
+-- why a job number, which counts from 1, can't follow those of a sequence
+abbrev pub RefusesJob : Sequence → ℕ → OrderFault → Type 0
+RefusesJob seq number (JobRange place) = (place ≡ length seq.jobs + 1) × ¬ ((1 ≤ number) × (number ≤ seq.size))
+RefusesJob seq number (Repeated place) = (place ≡ length seq.jobs + 1) × (1 ≤ number) × (number ≤ seq.size) × Contains seq.jobs (number - 1)
+RefusesJob seq number _ = ⊥
+
+-- what a refusal says of a text of the grammar; want of memory says nothing of it
+abbrev pub RefusesJobs : List ℕ → OrderFault → Type 0
+RefusesJobs text Memory = ⊤
+RefusesJobs text fault = HasJobFault text fault

@@ -1,11 +1,16 @@
 //! Reading an order file.
-ghost use Rattle.std.specs.Prelude.{◌≡◌, ◌≢◌, ℕ, ◌+◌, ◌<◌, ◌≤◌, ◌^◌, List, length, map, drop, IfOk, IfErr, OnOk};
-ghost use Rattle.pfs_order.specs.OrderFile.{HasText};
-ghost use Rattle.pfs_order.specs.Pieces.{SaysSyntax, HasJobs, counted};
+ghost use Rattle.std.specs.Prelude.{◌≡◌, ℕ, ◌+◌, ◌-◌, ◌≤◌, List, [], ◌∷◌, ◌++◌, length, map, drop, Contains, IfOk, IfErr, OnOk};
+ghost use Rattle.pfs_order.specs.OrderFile.{HasText, IsText};
+ghost use Rattle.pfs_order.specs.Pieces.{SaysSyntax, HasJobs, RefusesJob, RefusesJobs, counted};
+ghost use Rattle.pfs_order.specs.Sequence.{IsSequence};
 
 use crate::fault::OrderFault;
+use crate::file::OrderFile;
+use crate::order::Order;
 use crate::scan::{numeral, word};
+use crate::seq::Seq;
 use pfs_base::MOST_JOBS;
+use std::alloc::Global;
 
 /// The greatest number that a job numeral of nine digits writes.
 const GREATEST_JOB: u64 = 999_999_999;
@@ -58,4 +63,49 @@ fn makespan_line(text: &[u8], start: usize, count: usize) -> Result<u64, OrderFa
         return Err(OrderFault::Syntax { offset: end });
     }
     Ok(makespan)
+}
+
+// The order of the jobs in the second line of a text of the grammar.
+fn order_line(alloc: Global, text: &[u8], start: usize, count: usize) -> Result<Order, OrderFault>
+    requires text { IsText text.now }
+    requires counted { text.now ≡ counted count (drop start text.now) }
+    requires some { 1 ≤ count }
+    requires few { count ≤ MOST_JOBS }
+    requires start { start ≤ length text.now }
+    ensures sequence { IfOk result (λ order. IsSequence (length order) order) }
+    ensures jobs { IfOk result (λ order. (jobs : List ℕ) (makespan : ℕ) →
+        HasText text.now jobs makespan → jobs ≡ map (λ job. job + 1) order) }
+    ensures fault { IfErr result (λ fault. RefusesJobs text.now fault) }
+{
+    let mut seq = Seq::new(alloc, count)?;
+    let mut at = start;
+    for place in 0..count {
+        let end = if place + 1 < count { b' ' } else { b'\n' };
+        let (number, next) = numeral(text, at, 0, GREATEST_JOB, end)?;
+        add_job(&mut seq, number)?;
+        at = next;
+    }
+    match Order::from_seq(seq) {
+        Ok(order) => Ok(order),
+        Err(_) => unreachable!(),
+    }
+}
+
+// Puts a job, whose number counts from 1, behind those that stand in a sequence.
+fn add_job(seq: &mut Seq, number: u64) -> Result<(), OrderFault>
+    ensures in_range { OnOk result ((1 ≤ number) × (number ≤ seq.old.size)) }
+    ensures absent { OnOk result (Contains seq.old.jobs (number - 1) → ⊥) }
+    ensures added { OnOk result (seq.new ≡ record seq.old { jobs = seq.old.jobs ++ (number - 1) ∷ [] }) }
+    ensures refused { IfErr result (λ fault. RefusesJob seq.old number fault) }
+{
+    let place = seq.len();
+    if number < 1 || number > seq.size() as u64 {
+        return Err(OrderFault::JobRange { place: place + 1 });
+    }
+    let job = number as usize - 1;
+    if seq.has(job) {
+        return Err(OrderFault::Repeated { place: place + 1 });
+    }
+    seq.insert_at(place, job);
+    Ok(())
 }
