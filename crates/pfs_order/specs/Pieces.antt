@@ -6,7 +6,7 @@ use Rattle.pfs_order.specs.Text.{spaced}
 use Rattle.pfs_order.specs.declared.fault.OrderFault.{OrderFault}
 use Rattle.pfs_order.specs.declared.fault.OrderFault.TheVariants.{Syntax, JobRange, Repeated, TooLong, Read, Memory}
 use Rattle.pfs_order.specs.Sequence.{Sequence}
-use Rattle.pfs_order.specs.OrderFile.{IsFaultOf, IsSyntaxFault, HasJobFault}
+use Rattle.pfs_order.specs.OrderFile.{IsText, IsFaultOf, IsSyntaxFault, HasJobFault, RefusesOrder}
 
 -- a text begins with one of some pieces
 abbrev pub Begins : (List ℕ → Type 0) → List ℕ → Type 0
@@ -64,3 +64,8 @@ RefusesJob seq number _ = ⊥
 abbrev pub RefusesJobs : List ℕ → OrderFault → Type 0
 RefusesJobs text Memory = ⊤
 RefusesJobs text fault = HasJobFault text fault
+
+-- the judgement of a whole text; the memory for its jobs is asked for only of a text of the grammar
+abbrev pub JudgesText : List ℕ → OrderFault → Type 0
+JudgesText text Memory = IsText text
+JudgesText text fault = RefusesOrder text fault

@@ -1,7 +1,8 @@
 //! Reading an order file.
-ghost use Rattle.std.specs.Prelude.{◌≡◌, ℕ, ◌+◌, ◌-◌, ◌≤◌, List, [], ◌∷◌, ◌++◌, length, map, drop, Contains, IfOk, IfErr, OnOk};
-ghost use Rattle.pfs_order.specs.OrderFile.{HasText, IsText};
-ghost use Rattle.pfs_order.specs.Pieces.{SaysSyntax, HasJobs, RefusesJob, RefusesJobs, counted};
+ghost use Rattle.std.specs.Prelude.{◌≡◌, ℕ, ◌+◌, ◌-◌, ◌<◌, ◌≤◌, true, false, List, [], ◌∷◌, ◌++◌, length, map, take, drop, Contains, IfOk, IfErr, IfSome, OnOk, OnErr, vec_len};
+ghost use Rattle.std.specs.Io.KnownBytes.{Consumes, IsAtEnd};
+ghost use Rattle.pfs_order.specs.OrderFile.{HasText, IsText, IsOrderFile, RefusesUnlessFailed};
+ghost use Rattle.pfs_order.specs.Pieces.{SaysSyntax, HasJobs, RefusesJob, RefusesJobs, JudgesText, counted};
 ghost use Rattle.pfs_order.specs.Sequence.{IsSequence};
 
 use crate::fault::OrderFault;
@@ -9,14 +10,83 @@ use crate::file::OrderFile;
 use crate::order::Order;
 use crate::scan::{numeral, word};
 use crate::seq::Seq;
-use pfs_base::MOST_JOBS;
-use std::alloc::Global;
+use pfs_base::{LONGEST_ORDER_FILE, MOST_JOBS, Source};
+use std::alloc::{AllocError, Global};
 
 /// The greatest number that a job numeral of nine digits writes.
 const GREATEST_JOB: u64 = 999_999_999;
 
 /// The greatest number that a makespan numeral of eighteen digits writes.
 const GREATEST_MAKESPAN: u64 = 999_999_999_999_999_999;
+
+/// Reads an order file to the end of the input, of which nothing else may be left. While it reads, want
+/// of memory, a failed read and byte `LONGEST_ORDER_FILE` + 1 are told as they come; then the syntax of
+/// the whole, and then the jobs from the left, at each place out of range before repeated.
+pub fn read_order<R: Source>(alloc: Global, reader: &mut R) -> Result<OrderFile, OrderFault>
+    requires { R.has_failed reader.old ≡ false }
+    ensures accepted { IfOk result (λ file.
+        IfSome (R.left reader.old) (λ input. IsOrderFile input file)) }
+    ensures refused { IfErr result (λ fault.
+        IfSome (R.left reader.old) (λ input. RefusesUnlessFailed input fault)) }
+    ensures failed { result ≡ Err OrderFault.Read → R.has_failed reader.new ≡ true }
+    ensures working { R.has_failed reader.new ≡ true → result ≡ Err OrderFault.Read }
+{
+    let mut buffer = room(alloc)?;
+    let filled = fill(reader, &mut buffer)?;
+    if filled > LONGEST_ORDER_FILE {
+        return Err(OrderFault::TooLong);
+    }
+    parse(alloc, &buffer[..filled])
+}
+
+// Room for the longest order file and one byte more.
+fn room(alloc: Global) -> Result<Vec<u8>, OrderFault>
+    ensures len { IfOk result (λ buffer. vec_len buffer ≡ LONGEST_ORDER_FILE + 1) }
+    ensures memory { IfErr result (λ fault. fault ≡ OrderFault.Memory) }
+{
+    match vec![in alloc; 0; LONGEST_ORDER_FILE + 1] {
+        Ok(buffer) => Ok(buffer),
+        Err(AllocError) => Err(OrderFault::Memory),
+    }
+}
+
+// Reads to the end of the input or of the buffer, and answers how many bytes were read.
+fn fill<R: Source>(reader: &mut R, buffer: &mut [u8]) -> Result<usize, OrderFault>
+    requires { R.has_failed reader.old ≡ false }
+    ensures within { IfOk result (λ filled. filled ≤ length buffer.new) }
+    ensures bytes { IfOk result (λ filled.
+        Consumes (R.left reader.old) (R.left reader.new) (take filled buffer.new)) }
+    ensures end { IfOk result (λ filled. filled < length buffer.new → IsAtEnd (R.left reader.new)) }
+    ensures working { OnOk result (R.has_failed reader.new ≡ false) }
+    ensures failed { OnErr result (R.has_failed reader.new ≡ true) }
+    ensures fault { IfErr result (λ fault. fault ≡ OrderFault.Read) }
+{
+    let mut filled = 0;
+    while filled < buffer.len() {
+        let n = match reader.read(&mut buffer[filled..]) {
+            Some(n) => n,
+            None => return Err(OrderFault::Read),
+        };
+        if n == 0 {
+            return Ok(filled);
+        }
+        filled += n;
+    }
+    Ok(filled)
+}
+
+// The order and the makespan that a whole text states.
+fn parse(alloc: Global, text: &[u8]) -> Result<OrderFile, OrderFault>
+    requires { length text.now ≤ LONGEST_ORDER_FILE }
+    ensures accepted { IfOk result (λ file. IsOrderFile text.now file) }
+    ensures refused { IfErr result (λ fault. JudgesText text.now fault) }
+{
+    let (count, second) = count_line(text)?;
+    let last = jobs_line(text, second, count)?;
+    let makespan = makespan_line(text, last, count)?;
+    let order = order_line(alloc, text, second, count)?;
+    Ok(OrderFile::new(order, makespan))
+}
 
 // The count of jobs in the first line, and where the next line begins.
 fn count_line(text: &[u8]) -> Result<(usize, usize), OrderFault>
