@@ -3,7 +3,7 @@ use Rattle.std.proofs.Common.{◌≡◌, ℕ, ◌+◌, ◌-◌, ◌<◌, ◌≤�
 use Rattle.std.specs.Prelude.{IfSome, IfOk, IfErr, Result, Ok, Err}
 use Rattle.std.specs.Io.KnownBytes.{Consumes, IsAtEnd}
 use Rattle.std.proofs.KnownBytes.{Consumes-trans, Consumes-whole}
-use Rattle.std.proofs.lemmas.List.{append-nil, length-append, length-take-le, take-append-le}
+use Rattle.std.proofs.lemmas.List.{append-nil, length-append, length-take-le, take-append-le, take-take}
 use Rattle.std.proofs.Math.Seq.{take-append-add}
 use borrow.Rule.Slice.PartMut.{put_mid, post_of}
 use Rattle.pfs_base.specs.declared.limits.TheConstants.{LONGEST_ORDER_FILE}
@@ -60,3 +60,7 @@ reads_failed (Some input) fault e = subst (RefusesUnlessFailed input) (sym e) tt
 pub reads_unmade : (old : Option (List ℕ)) (fault : OrderFault) → fault ≡ Memory → IfSome old (λ input. RefusesUnlessFailed input fault)
 reads_unmade None fault e = tt
 reads_unmade (Some input) fault e = subst (RefusesUnlessFailed input) (sym e) tt
+
+-- a front of what stands in a buffer
+pub front_of : (n size : ℕ) (new rest buffer : List ℕ) → buffer ≡ take size (new ++ rest) → n ≤ size → n ≤ length new → take n buffer ≡ take n new
+front_of n size new rest buffer e h l = ap (take n) e ∙ take-take n size (new ++ rest) h ∙ take-append-le n new rest l

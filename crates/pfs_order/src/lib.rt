@@ -12,5 +12,6 @@ pub mod writing;
 pub use fault::OrderFault;
 pub use file::OrderFile;
 pub use order::Order;
+pub use reading::read_order;
 pub use seq::Seq;
 pub use writing::write_order;
