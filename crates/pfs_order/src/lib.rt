@@ -7,6 +7,8 @@ pub mod order;
 pub mod reading;
 pub mod scan;
 pub mod seq;
+#[cfg(test)]
+mod tests;
 pub mod writing;
 
 pub use fault::OrderFault;
