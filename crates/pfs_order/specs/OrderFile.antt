@@ -1,6 +1,6 @@
 -- Which inputs are order files, and how the others are refused. Job numbers count from 1 in a file, and so
 -- do places.
-use Rattle.std.specs.Prelude.{◌≡◌, ℕ, ◌+◌, ◌<◌, ◌≤◌, ◌^◌, List, ◌++◌, length, map, take, slice_index}
+use Rattle.std.specs.Prelude.{◌≡◌, ⊤, ℕ, ◌+◌, ◌<◌, ◌≤◌, ◌^◌, List, ◌++◌, length, map, take, slice_index}
 use Rattle.std.specs.List.{All, Contains}
 use Rattle.pfs_base.specs.declared.limits.TheConstants.{MOST_JOBS, LONGEST_ORDER_FILE}
 use Rattle.pfs_order.specs.declared.fault.OrderFault.{OrderFault}
@@ -72,3 +72,9 @@ RefusesOrder input Memory = ⊥
 pub record IsOrderFile (input : List ℕ) (file : StatedOrder) : Type 0 where
   pub is_order : IsSequence (length file.order) file.order
   pub has_text : HasText input (map (λ job. job + 1) file.order) file.makespan
+
+-- the refusal of an input, unless a failed read or want of memory is told, which say nothing of it
+abbrev pub RefusesUnlessFailed : List ℕ → OrderFault → Type 0
+RefusesUnlessFailed input Read = ⊤
+RefusesUnlessFailed input Memory = ⊤
+RefusesUnlessFailed input fault = RefusesOrder input fault
