@@ -7,9 +7,8 @@ use Rattle.pfs_base.specs.Sends.{SendsFront}
 use Rattle.pfs_layout.specs.declared.layout.Layout.{Layout}
 use Rattle.pfs_layout.specs.File.{File}
 use Rattle.pfs_order.specs.Sequence.{StatedOrder}
-use Rattle.pfs_order.specs.OrderFile.{IsOrderFile, RefusesOrder}
+use Rattle.pfs_order.specs.OrderFile.{IsOrderFile, RefusesUnlessFailed}
 use Rattle.pfs_order.specs.declared.fault.OrderFault.{OrderFault}
-use Rattle.pfs_order.specs.declared.fault.OrderFault.TheVariants as order
 use Rattle.pfs_audit.specs.Verdicts.{verdict_on}
 use Rattle.pfs_desk.specs.declared.fault.Outcome.{Outcome}
 use Rattle.pfs_desk.specs.declared.fault.Outcome.TheVariants.{Done}
@@ -29,17 +28,12 @@ HoldsNone layout file block = IfSome file (λ bytes. (problem : Problem) → ¬ 
 abbrev pub States : Option (List ℕ) → StatedOrder → Type 0
 States file stated = IfSome file (λ bytes. IsOrderFile bytes stated)
 
--- an order file is refused for this fault; a failed read and want of memory say nothing of it
-abbrev pub IsOrderFault : Option (List ℕ) → OrderFault → Type 0
-IsOrderFault file order.Read = ⊤
-IsOrderFault file order.Memory = ⊤
-IsOrderFault file fault = IfSome file (λ bytes. RefusesOrder bytes fault)
-
--- a block of the instance file holds a problem, and the order file is refused for this fault
+-- a block of the instance file holds a problem, and the order file is refused for this fault, or its
+-- reading failed or wanted memory
 pub record RefusesSecond (layout : Layout) (file : Option (List ℕ)) (block : ℕ) (order_file : Option (List ℕ)) (fault : OrderFault) : Type 0 where
   pub problem : Problem
   pub holds : Holds layout file block problem
-  pub refused : IsOrderFault order_file fault
+  pub refused : IfSome order_file (λ bytes. RefusesUnlessFailed bytes fault)
 
 -- the order file is judged behind the instance file
 abbrev pub JudgesSecond : Layout → Option (List ℕ) → ℕ → Option (List ℕ) → DeskFault → Type 0

@@ -3,8 +3,9 @@
 
 pub mod engines;
 pub mod fault;
-mod order_reading;
 mod reading;
+#[cfg(test)]
+mod tests;
 
 pub use engines::check::run_check;
 pub use engines::table::run_table;

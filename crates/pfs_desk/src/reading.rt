@@ -1,5 +1,5 @@
 //! Reading an instance.
-ghost use Rattle.std.specs.Prelude.{◌≡◌, ◌≤◌, ◌↔◌, true, false, IfOk, IfSome};
+ghost use Rattle.std.specs.Prelude.{◌≡◌, ◌≤◌, true, false, IfOk, IfSome};
 ghost use Rattle.pfs_base.specs.Limits.{limits};
 ghost use Rattle.pfs_base.specs.Problem.{Problem};
 ghost use Rattle.pfs_layout.specs.File.{File};
@@ -20,18 +20,20 @@ pub(crate) enum ReadFault {
 }
 
 pub(crate) fn read_instance<R: Source>(
-    _alloc: Global,
+    alloc: Global,
     reader: &mut R,
-    _layout: Layout,
+    layout: Layout,
     block: usize,
 ) -> Result<Instance, ReadFault>
     requires working { R.has_failed reader.old ≡ false }
-    requires some { 1 ≤ block }
-    requires few { block ≤ MOST_BLOCKS }
-    ensures file { IfOk result (λ instance. IfSome (R.left reader.old) (λ bytes. File limits _layout bytes block instance)) }
-    ensures refused { result ≡ Err ReadFault.Refused → IfSome (R.left reader.old) (λ bytes. (problem : Problem) → ¬ File limits _layout bytes block problem) }
-    ensures read { result ≡ Err ReadFault.Read ↔ (R.has_failed reader.new ≡ true) }
+    requires some_block { 1 ≤ block }
+    requires few_blocks { block ≤ MOST_BLOCKS }
+    ensures accepted { IfOk result (λ instance. IfSome (R.left reader.old) (λ bytes. File limits layout bytes block instance)) }
+    ensures refused { result ≡ Err ReadFault.Refused → IfSome (R.left reader.old) (λ bytes. (problem : Problem) → File limits layout bytes block problem → ⊥) }
+    ensures failed { result ≡ Err ReadFault.Read → R.has_failed reader.new ≡ true }
+    ensures working { R.has_failed reader.new ≡ true → result ≡ Err ReadFault.Read }
 {
     let _failed = reader.failed();
+    let _unused = (alloc, layout);
     Err(ReadFault::Memory)
 }

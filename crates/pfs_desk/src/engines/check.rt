@@ -5,13 +5,12 @@ ghost use Rattle.pfs_desk.specs.Engine.{Writes, CheckOutput, HoldsNone, JudgesSe
 ghost use Rattle.pfs_desk.specs.OutputText.{finding, valid_text, wrong_size_text, verdict_text, outcome_of};
 
 use crate::fault::{DeskFault, Outcome};
-use crate::order_reading::read_order;
 use crate::reading::read_instance;
 use pfs_audit::{Verdict, check};
 use pfs_base::print::{put_line, put_named};
 use pfs_base::{MOST_BLOCKS, Sink, Source, WriteFault};
 use pfs_layout::Layout;
-use pfs_order::OrderFault;
+use pfs_order::{OrderFault, read_order};
 use std::alloc::Global;
 
 /// Reads a block of an instance file and then an order file, and prints the verdict on the order. Blocks

@@ -8,13 +8,12 @@ ghost use Rattle.pfs_desk.specs.Printable.{IsPrintable};
 
 use crate::engines::check::put_wrong_size;
 use crate::fault::{DeskFault, Outcome};
-use crate::order_reading::read_order;
 use crate::reading::read_instance;
 use pfs_audit::{TimeTable, table};
 use pfs_base::print::{put_named, put_next, put_number};
 use pfs_base::{MOST_BLOCKS, MOST_MACHINES, Sink, Source, WriteFault, put};
 use pfs_layout::Layout;
-use pfs_order::OrderFault;
+use pfs_order::{OrderFault, read_order};
 use std::alloc::Global;
 
 /// Reads a block of an instance file and then an order file, and prints when each operation of the order

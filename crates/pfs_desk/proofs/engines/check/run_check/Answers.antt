@@ -18,8 +18,8 @@ returns-in_err-put_verdict-clause-written g c =
       is_output = record {
         problem = c.in_ok-instance.instance;
         stated = c.in_ok-file.file;
-        holds = c.in_ok-instance.ensures.file;
-        states = c.in_ok-file.ensures.file;
+        holds = c.in_ok-instance.ensures.accepted;
+        states = c.in_ok-file.ensures.accepted;
         judged = ap outcome_of c.in_ok-verdict.ensures.verdict;
         spelled = ap verdict_text c.in_ok-verdict.ensures.verdict;
       };

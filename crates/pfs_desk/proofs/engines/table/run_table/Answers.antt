@@ -21,8 +21,8 @@ returns-in_err-put_wrong_size-clause-written g c =
       is_output = record {
         problem = c.in_ok-instance.instance;
         stated = c.in_ok-file.file;
-        holds = c.in_ok-instance.ensures.file;
-        states = c.in_ok-file.ensures.file;
+        holds = c.in_ok-instance.ensures.accepted;
+        states = c.in_ok-file.ensures.accepted;
         prints = wrong_size_prints c.in_ok-instance.instance.shop c.in_ok-file.file.order size jobs
             (c.len-then-len-jobs.ensures.value ∙ ap length c.order-order.ensures.value) c.jobs-jobs.ensures.value
             (λ same. c.if-len-jobs.true (c.len.ensures.value ∙ sym c.len-then-len-jobs.ensures.value ∙ same));
@@ -44,8 +44,8 @@ returns-clause-written g c =
       is_output = record {
         problem = c.in_ok-instance.instance;
         stated = c.in_ok-file.file;
-        holds = c.in_ok-instance.ensures.file;
-        states = c.in_ok-file.ensures.file;
+        holds = c.in_ok-instance.ensures.accepted;
+        states = c.in_ok-file.ensures.accepted;
         prints = subst Prints c.order-order.ensures.value (right_size_prints shop order timing size (record {
           jobs = c.in_ok-table.ensures.jobs;
           machines = c.in_ok-table.ensures.machines;
