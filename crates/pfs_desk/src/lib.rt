@@ -1,0 +1,4 @@
+//! Command lines, the engines behind them, and the program's texts.
+#![tactic(auto)]
+
+mod reading;
