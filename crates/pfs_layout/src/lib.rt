@@ -1,6 +1,7 @@
 //! What the files of flow shop instances are: their lines, blocks and faults, and laws about them.
 #![tactic(auto)]
 
+pub mod examples;
 pub mod fault;
 pub mod laws;
 pub mod layout;
