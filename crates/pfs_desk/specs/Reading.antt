@@ -21,6 +21,7 @@ pub record IsNextNumber (line : List ℕ) (from value end : ℕ) : Type 0 where
   pub is_kept : value ≡ kept number
   pub first : numbers (drop from line) ≡ number ∷ numbers (drop end line)
   pub within : end ≤ length line
+  pub further : from < end
 
 abbrev pub size_of : BlockSize → Size
 size_of size = record { jobs = size.jobs; machines = size.machines; notes = size.notes }

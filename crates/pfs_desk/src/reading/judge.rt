@@ -1,6 +1,6 @@
 //! Whether a text is an instance file, and the instance of its wanted block.
 ghost use Rattle.std.specs.Prelude.{◌≡◌, ℕ, ◌≤◌, ◌<◌, IfOk, IfSome, IfNone};
-ghost use Rattle.std.specs.List.{position_or_len};
+ghost use Rattle.std.specs.List.{position};
 ghost use Rattle.pfs_base.specs.Limits.{limits};
 ghost use Rattle.pfs_base.specs.Problem.{Problem};
 ghost use Rattle.pfs_layout.specs.File.{File};
@@ -30,7 +30,7 @@ pub(super) fn block_in(
     let mut from = 0;
     while from < text.len() {
         let rest = &text[from..];
-        let length = line_length(rest);
+        let length = next_line_end(rest).unwrap_or(rest.len());
         from += if length < rest.len() { length + 1 } else { length };
         if from > LONGEST_INPUT {
             return Ok(None);
@@ -51,11 +51,9 @@ pub(super) fn block_in(
     Ok(None)
 }
 
-// How many bytes stand before the next line end, or before the end of the text.
-fn line_length(rest: &[u8]) -> usize
-    ensures { result ≡ position_or_len is_line_end rest.now }
+// The place of the first line end.
+fn next_line_end(bytes: &[u8]) -> Option<usize>
+    ensures { result ≡ position is_line_end bytes.now }
 {
-    rest.iter()
-        .position(|byte| *byte == b'\n')
-        .unwrap_or(rest.len())
+    bytes.iter().position(|byte| *byte == b'\n')
 }

@@ -1,6 +1,6 @@
 //! The numbers on a line.
 ghost use Rattle.std.specs.Prelude.{◌≡◌, ℕ, ◌+◌, ◌<◌, ◌≤◌, min, List, length, drop, IfSome, IfNone, []};
-ghost use Rattle.std.specs.List.{position_or_len, AllPass};
+ghost use Rattle.std.specs.List.{position, AllPass};
 ghost use Rattle.std.specs.Str.Parse.{digits_value};
 ghost use Rattle.pfs_layout.specs.Bytes.{is_digit as digit_test};
 ghost use Rattle.pfs_layout.specs.Lines.{is_no_digit, numbers};
@@ -27,34 +27,27 @@ pub(super) fn number_at(line: &[u8], from: usize) -> Option<Number>
     ensures some { IfSome result (λ number. IsNextNumber line.now from number.value number.end) }
 {
     let rest = &line[from..];
-    let skipped = skipped_length(rest);
-    if skipped == rest.len() {
-        return None;
-    }
+    let skipped = next_digit(rest)?;
     let digits = &rest[skipped..];
-    let length = digits_length(digits);
+    let length = next_other(digits).unwrap_or(digits.len());
     Some(Number {
         value: value_of(&digits[..length]),
         end: from + skipped + length,
     })
 }
 
-// How many bytes stand before the first digit.
-fn skipped_length(rest: &[u8]) -> usize
-    ensures { result ≡ position_or_len digit_test rest.now }
+// The place of the first digit.
+fn next_digit(bytes: &[u8]) -> Option<usize>
+    ensures { result ≡ position digit_test bytes.now }
 {
-    rest.iter()
-        .position(|byte| is_digit(*byte))
-        .unwrap_or(rest.len())
+    bytes.iter().position(|byte| is_digit(*byte))
 }
 
-// How many digits stand at the front.
-fn digits_length(rest: &[u8]) -> usize
-    ensures { result ≡ position_or_len is_no_digit rest.now }
+// The place of the first byte that isn't a digit.
+fn next_other(bytes: &[u8]) -> Option<usize>
+    ensures { result ≡ position is_no_digit bytes.now }
 {
-    rest.iter()
-        .position(|byte| !is_digit(*byte))
-        .unwrap_or(rest.len())
+    bytes.iter().position(|byte| !is_digit(*byte))
 }
 
 // The value of digits, or the ceiling.
