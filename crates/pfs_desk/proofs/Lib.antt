@@ -1,2 +1,3 @@
+mod Dues
 mod Numbers
 mod Sizes

@@ -68,7 +68,7 @@ orlib_stated ns n1 n2 a b e1 e2 end = let same : ns ≡ a ∷ b ∷ [] = cc in a
 pub kept_small : (n : ℕ) → n ≤ GREATEST_NOTE → kept n ≡ n
 kept_small n h = omega arith
 
-le_kept : (n most : ℕ) → most ≤ GREATEST_NOTE → nat_le (kept n) most ≡ nat_le n most
+pub le_kept : (n most : ℕ) → most ≤ GREATEST_NOTE → nat_le (kept n) most ≡ nat_le n most
 le_kept n most h = grind (arith, nat_tests)
 
 ge_kept : (n : ℕ) → nat_le 1 (kept n) ≡ nat_le 1 n
