@@ -1,3 +1,4 @@
+mod Begun
 mod Dues
 mod Numbers
 mod Sizes
