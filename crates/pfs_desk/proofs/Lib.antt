@@ -1,4 +1,6 @@
 mod Begun
 mod Dues
+mod Ends
 mod Numbers
+mod Reaches
 mod Sizes

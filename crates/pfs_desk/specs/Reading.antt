@@ -1,8 +1,9 @@
 -- What the plain reading of an instance file keeps of its lines.
-use Rattle.std.specs.Prelude.{◌≡◌, ℕ, ◌+◌, ◌<◌, ◌≤◌, min, true, List, ◌∷◌, ◌++◌, [], length, drop, Option, Some, None}
-use Rattle.std.specs.List.{All}
+use Rattle.std.specs.Prelude.{◌≡◌, ℕ, ◌+◌, ◌-◌, ◌<◌, ◌≤◌, ◌⊎◌, min, true, false, List, ◌∷◌, ◌++◌, [], length, take, drop, Option, Some, None}
+use Rattle.std.specs.List.{All, list_any}
 use Rattle.pfs_base.specs.declared.limits.TheConstants.{LONGEST_TIME, GREATEST_NOTE}
 use Rattle.pfs_layout.specs.declared.layout.Layout.{Layout}
+use Rattle.pfs_layout.specs.Bytes.{is_line_end}
 use Rattle.pfs_layout.specs.Size.{Size, is_within_limits}
 use Rattle.pfs_layout.specs.Lines.{numbers}
 use Rattle.pfs_layout.specs.Block.{stated_size, are_due, due_count}
@@ -68,3 +69,9 @@ IsStep layout now line numbers Lost = LeadsTo layout now line lost
 IsStep layout now line numbers Seeking = LeadsTo layout now line seeking
 IsStep layout now line numbers (Inside size) = LeadsTo layout now line (inside (block_of size numbers)) × AreGood layout (size_of size) numbers
 IsStep layout now line numbers (Complete size) = Completes layout now line (block_of size numbers)
+
+-- what stands from a place on: the line, and then byte 10 and the rest of the text, or nothing
+pub record IsLineAt (text : List ℕ) (from end next : ℕ) : Type 0 where
+  pub line : list_any is_line_end (take (end - from) (drop from text)) ≡ false
+  pub bounds : (from ≤ end) × (end ≤ length text) × (from < next) × (next ≤ length text)
+  pub parts : ((next ≡ end + 1) × (drop from text ≡ take (end - from) (drop from text) ++ 10 ∷ drop next text)) ⊎ ((next ≡ end) × (drop from text ≡ take (end - from) (drop from text)) × (drop next text ≡ []))

@@ -1,10 +1,11 @@
 //! Whether a text is an instance file, and the instance of its wanted block.
-ghost use Rattle.std.specs.Prelude.{◌≡◌, ℕ, ◌≤◌, ◌<◌, IfOk, IfSome, IfNone};
+ghost use Rattle.std.specs.Prelude.{◌≡◌, ℕ, ◌≤◌, ◌<◌, length, IfOk, IfSome, IfNone};
 ghost use Rattle.std.specs.List.{position};
 ghost use Rattle.pfs_base.specs.Limits.{limits};
 ghost use Rattle.pfs_base.specs.Problem.{Problem};
 ghost use Rattle.pfs_layout.specs.File.{File};
 ghost use Rattle.pfs_layout.specs.Bytes.{is_line_end};
+ghost use Rattle.pfs_desk.specs.Reading.{IsLineAt};
 
 use crate::reading::filled::filled;
 use crate::reading::size::BlockSize;
@@ -29,13 +30,11 @@ pub(super) fn block_in(
     let mut numbers = Vec::new(alloc);
     let mut from = 0;
     while from < text.len() {
-        let rest = &text[from..];
-        let length = next_line_end(rest).unwrap_or(rest.len());
-        from += if length < rest.len() { length + 1 } else { length };
-        if from > LONGEST_INPUT {
+        let line = line_at(text, from);
+        if line.next > LONGEST_INPUT {
             return Ok(None);
         }
-        begun = match after_line(layout, begun, &mut numbers, &rest[..length])? {
+        begun = match after_line(layout, begun, &mut numbers, &text[from..line.end])? {
             Step::Lost => return Ok(None),
             Step::Seeking => None,
             Step::Inside(size) => Some(size),
@@ -47,8 +46,33 @@ pub(super) fn block_in(
                 None
             }
         };
+        from = line.next;
     }
     Ok(None)
+}
+
+/// Where a line ends, and where the next one begins.
+#[derive(Clone, Copy)]
+struct Line {
+    end: usize,
+    next: usize,
+}
+
+// The line that begins at a place.
+fn line_at(text: &[u8], from: usize) -> Line
+    requires { from < length text.now }
+    ensures { IsLineAt text.now from result.end result.next }
+{
+    match next_line_end(&text[from..]) {
+        Some(length) => Line {
+            end: from + length,
+            next: from + length + 1,
+        },
+        None => Line {
+            end: text.len(),
+            next: text.len(),
+        },
+    }
 }
 
 // The place of the first line end.
