@@ -1,13 +1,15 @@
 -- What the plain reading of an instance file keeps of its lines.
-use Rattle.std.specs.Prelude.{◌≡◌, ℕ, ◌+◌, ◌-◌, ◌<◌, ◌≤◌, ◌⊎◌, min, true, false, List, ◌∷◌, ◌++◌, [], length, take, drop, Option, Some, None}
+use Rattle.std.specs.Prelude.{◌≡◌, ℕ, ◌+◌, ◌-◌, ◌*◌, map, slice_index, ◌<◌, ◌≤◌, ◌⊎◌, min, true, false, List, ◌∷◌, ◌++◌, [], length, take, drop, Option, Some, None}
 use Rattle.std.specs.List.{All, list_any}
 use Rattle.pfs_base.specs.declared.limits.TheConstants.{LONGEST_TIME, GREATEST_NOTE}
+use Rattle.pfs_base.specs.Lists.{below}
+use Rattle.pfs_base.specs.Problem.{Problem}
 use Rattle.pfs_layout.specs.declared.layout.Layout.{Layout}
 use Rattle.pfs_layout.specs.Bytes.{is_line_end}
-use Rattle.pfs_layout.specs.Size.{Size, is_within_limits}
+use Rattle.pfs_layout.specs.Size.{Size, is_within_limits, size_of as problem_size}
 use Rattle.pfs_layout.specs.Lines.{numbers}
 use Rattle.pfs_layout.specs.Block.{stated_size, are_due, due_count}
-use Rattle.pfs_layout.specs.Stand.{Block, Now, seeking, inside, lost, Stand, after_line}
+use Rattle.pfs_layout.specs.Stand.{Block, Now, seeking, inside, lost, Stand, after_line, place_of_time}
 use Rattle.pfs_desk.specs.declared.reading.size.BlockSize.{BlockSize}
 use Rattle.pfs_desk.specs.declared.reading.step.Step.{Step}
 use Rattle.pfs_desk.specs.declared.reading.step.Step.TheVariants.{Lost, Seeking, Inside, Complete}
@@ -75,3 +77,12 @@ pub record IsLineAt (text : List ℕ) (from end next : ℕ) : Type 0 where
   pub line : list_any is_line_end (take (end - from) (drop from text)) ≡ false
   pub bounds : (from ≤ end) × (end ≤ length text) × (from < next) × (next ≤ length text)
   pub parts : ((next ≡ end + 1) × (drop from text ≡ take (end - from) (drop from text) ++ 10 ∷ drop next text)) ⊎ ((next ≡ end) × (drop from text ≡ take (end - from) (drop from text)) × (drop next text ≡ []))
+
+-- an instance of this size, whatever its times
+pub record IsOfSize (size : Size) (problem : Problem) : Type 0 where
+  pub same : problem_size problem ≡ size
+  pub every_time : length problem.shop.times ≡ size.jobs * size.machines
+
+-- the times of a job on the first machines, as they stand in a block
+abbrev pub times_of_job : Layout → Block → ℕ → ℕ → List ℕ
+times_of_job layout block job machines = map (λ machine. slice_index block.numbers (place_of_time layout block.size job machine)) (below machines)

@@ -1,10 +1,9 @@
 //! The instance of a complete block.
-ghost use Rattle.std.specs.Prelude.{◌≡◌, ℕ, ◌≤◌, ◌<◌, ◌+◌, ◌*◌, ◌++◌, length, take, map, slice_index, IfOk, true};
-ghost use Rattle.pfs_base.specs.Lists.{below};
+ghost use Rattle.std.specs.Prelude.{◌≡◌, ℕ, ◌≤◌, ◌<◌, ◌+◌, ◌*◌, ◌++◌, length, take, IfOk, true};
 ghost use Rattle.pfs_layout.specs.Size.{is_within_limits};
 ghost use Rattle.pfs_layout.specs.Block.{due_count};
 ghost use Rattle.pfs_layout.specs.Stand.{instance_of, place_of_time};
-ghost use Rattle.pfs_desk.specs.Reading.{size_of, block_of, AreGood};
+ghost use Rattle.pfs_desk.specs.Reading.{size_of, block_of, times_of_job, AreGood, IsOfSize};
 
 use crate::reading::size::BlockSize;
 use pfs_base::{BaseFault, Instance};
@@ -37,14 +36,10 @@ pub(super) fn filled(
 fn fill_job(instance: &mut Instance, layout: Layout, size: BlockSize, numbers: &[u32], job: usize)
     requires good { AreGood layout (size_of size) numbers.now }
     requires whole { length numbers.now ≡ due_count layout (size_of size) }
-    requires jobs { instance.old.shop.jobs ≡ size.jobs }
-    requires machines { instance.old.shop.machines ≡ size.machines }
+    requires sized { IsOfSize (size_of size) instance.old }
     requires job { job < size.jobs }
-    ensures jobs { instance.new.shop.jobs ≡ instance.old.shop.jobs }
-    ensures machines { instance.new.shop.machines ≡ instance.old.shop.machines }
-    ensures notes { instance.new.notes ≡ instance.old.notes }
-    ensures times { take ((job + 1) * size.machines) instance.new.shop.times
-      ≡ take (job * size.machines) instance.old.shop.times ++ map (λ machine. slice_index numbers.now (place_of_time layout (size_of size) job machine)) (below size.machines) }
+    ensures sized { IsOfSize (size_of size) instance.new }
+    ensures times { take ((job + 1) * size.machines) instance.new.shop.times ≡ take (job * size.machines) instance.old.shop.times ++ times_of_job layout (block_of size numbers.now) job size.machines }
 {
     for machine in 0..size.machines {
         instance.set(job, machine, numbers[place_of(layout, size, job, machine)]);
