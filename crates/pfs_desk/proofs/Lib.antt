@@ -2,6 +2,7 @@ mod Begun
 mod Dues
 mod Ends
 mod Filled
+mod Gathered
 mod Judged
 mod Numbers
 mod Reaches
