@@ -1,5 +1,5 @@
 -- The bytes that were gathered from a reader.
-use Rattle.std.proofs.Common.{◌≡◌, ℕ, ◌+◌, ◌≤◌, List, [], ◌∷◌, ◌++◌, length, take, drop, ◌-◌, refl, sym, ◌∙◌, ap, arith, Option, Some, None, ◌⊎◌, inl, inr}
+use Rattle.std.proofs.Common.{◌≡◌, ℕ, ◌+◌, ◌≤◌, List, [], ◌∷◌, ◌++◌, length, take, drop, ◌-◌, refl, sym, ◌∙◌, ap, subst, arith, Option, Some, None, ◌⊎◌, inl, inr}
 use Rattle.std.specs.Prelude.{IfSome}
 use Rattle.std.specs.Io.KnownBytes.{Consumes, IsAtEnd}
 use Rattle.std.proofs.lemmas.List.{append-nil, append_assoc, length-append, take_all, take-append-drop, length-drop, length-take}
@@ -49,3 +49,14 @@ file_uncut layout k bytes problem f =
     by_ends : (open_line f.text ≡ []) ⊎ (f.rest ≡ []) → (open_line f.text ≡ []) ⊎ (take (LONGEST_INPUT + 1 - length f.text) f.rest ≡ [])
     by_ends (inl e) = inl e
     by_ends (inr e) = inr (ap (take (LONGEST_INPUT + 1 - length f.text)) e ∙ take-nil (LONGEST_INPUT + 1 - length f.text))
+
+-- what was judged is so of all bytes
+pub accepted_all : (left : Option (List ℕ)) (text judged : List ℕ) (layout : Layout) (k : ℕ) (problem : Problem) → IfSome left (λ bytes. text ≡ take (LONGEST_INPUT + 1) bytes) → judged ≡ text → File limits layout judged k problem
+    → IfSome left (λ bytes. File limits layout bytes k problem)
+accepted_all None text judged layout k problem cut same file = tt
+accepted_all (Some bytes) text judged layout k problem cut same file = file_cut layout k bytes problem (subst (λ l. File limits layout l k problem) (same ∙ cut) file)
+
+pub refused_all : (left : Option (List ℕ)) (text judged : List ℕ) (layout : Layout) (k : ℕ) → IfSome left (λ bytes. text ≡ take (LONGEST_INPUT + 1) bytes) → judged ≡ text → ((problem : Problem) → File limits layout judged k problem → ⊥)
+    → IfSome left (λ bytes. (problem : Problem) → File limits layout bytes k problem → ⊥)
+refused_all None text judged layout k cut same none = tt
+refused_all (Some bytes) text judged layout k cut same none = λ problem file. none problem (subst (λ l. File limits layout l k problem) (sym (same ∙ cut)) (file_uncut layout k bytes problem file))
