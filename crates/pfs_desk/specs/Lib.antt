@@ -3,3 +3,4 @@ pub mod FaultText
 pub mod OutputText
 pub mod Printable
 pub mod ReadFaults
+pub mod Reading
