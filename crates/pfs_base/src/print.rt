@@ -72,6 +72,6 @@ pub fn put_next<W: Sink>(writer: &mut W, number: u64, sent: u64) -> Result<u64, 
     ensures text { Sends (W.written writer.old) (W.written writer.new) (W.has_failed writer.new) sent (32 ∷ decimal number) result }
     ensures short { IfOk result (λ total. total ≤ sent + 41) }
 {
-    let sent = put(writer, b" ", sent)?;
-    put_number(writer, number, sent)
+    let spaced = put(writer, b" ", sent)?;
+    put_number(writer, number, spaced)
 }
