@@ -11,7 +11,8 @@ use itoa::Buffer;
 pub fn put_number<W: Sink>(writer: &mut W, number: u64, sent: u64) -> Result<u64, WriteFault>
     requires working { W.has_failed writer.old ≡ false }
     requires fits { sent + 40 < 2 ^ 64 }
-    ensures text { Sends (W.written writer.old) (W.written writer.new) (W.has_failed writer.new) sent (decimal number) result }
+    ensures text { Sends (W.written writer.old) (W.written writer.new) (W.has_failed writer.new)
+        sent (decimal number) result }
     ensures short { IfOk result (λ total. total ≤ sent + 40) }
 {
     let mut buffer = Buffer::new();
@@ -22,7 +23,8 @@ pub fn put_number<W: Sink>(writer: &mut W, number: u64, sent: u64) -> Result<u64
 pub fn put_line<W: Sink>(writer: &mut W, line: &[u8], sent: u64) -> Result<u64, WriteFault>
     requires working { W.has_failed writer.old ≡ false }
     requires fits { sent + length line.now + 1 < 2 ^ 64 }
-    ensures text { Sends (W.written writer.old) (W.written writer.new) (W.has_failed writer.new) sent (with_line_end line.now) result }
+    ensures text { Sends (W.written writer.old) (W.written writer.new) (W.has_failed writer.new)
+        sent (with_line_end line.now) result }
     ensures short { IfOk result (λ total. total ≤ sent + length line.now + 1) }
 {
     let sent = put(writer, line, sent)?;
@@ -38,7 +40,8 @@ pub fn put_named<W: Sink>(
 ) -> Result<u64, WriteFault>
     requires working { W.has_failed writer.old ≡ false }
     requires fits { sent + length name.now + 42 < 2 ^ 64 }
-    ensures text { Sends (W.written writer.old) (W.written writer.new) (W.has_failed writer.new) sent (named_number name.now number) result }
+    ensures text { Sends (W.written writer.old) (W.written writer.new) (W.has_failed writer.new)
+        sent (named_number name.now number) result }
     ensures short { IfOk result (λ total. total ≤ sent + length name.now + 42) }
 {
     let sent = put(writer, name, sent)?;
@@ -57,7 +60,8 @@ pub fn put_between<W: Sink>(
 ) -> Result<u64, WriteFault>
     requires working { W.has_failed writer.old ≡ false }
     requires fits { sent + length before.now + length after.now + 41 < 2 ^ 64 }
-    ensures text { Sends (W.written writer.old) (W.written writer.new) (W.has_failed writer.new) sent (number_between before.now number after.now) result }
+    ensures text { Sends (W.written writer.old) (W.written writer.new) (W.has_failed writer.new)
+        sent (number_between before.now number after.now) result }
     ensures short { IfOk result (λ total. total ≤ sent + length before.now + length after.now + 41) }
 {
     let sent = put(writer, before, sent)?;
@@ -69,7 +73,8 @@ pub fn put_between<W: Sink>(
 pub fn put_next<W: Sink>(writer: &mut W, number: u64, sent: u64) -> Result<u64, WriteFault>
     requires working { W.has_failed writer.old ≡ false }
     requires fits { sent + 41 < 2 ^ 64 }
-    ensures text { Sends (W.written writer.old) (W.written writer.new) (W.has_failed writer.new) sent (32 ∷ decimal number) result }
+    ensures text { Sends (W.written writer.old) (W.written writer.new) (W.has_failed writer.new)
+        sent (32 ∷ decimal number) result }
     ensures short { IfOk result (λ total. total ≤ sent + 41) }
 {
     let spaced = put(writer, b" ", sent)?;

@@ -104,7 +104,8 @@ fn order_status(fault: &OrderFault) -> u8
 /// Writes the line that tells a fault. It takes no memory.
 pub fn write_fault<W: Sink>(writer: &mut W, fault: &DeskFault) -> Result<(), WriteFault>
     requires { W.has_failed writer.old ≡ false }
-    ensures { Prints (W.written writer.old) (W.written writer.new) (W.has_failed writer.new) (fault_text fault.now) result }
+    ensures { Prints (W.written writer.old) (W.written writer.new) (W.has_failed writer.new)
+        (fault_text fault.now) result }
 {
     match fault {
         DeskFault::Refused => put_line(writer, b"pfs: input refused", 0)?,
@@ -126,7 +127,8 @@ pub fn write_fault<W: Sink>(writer: &mut W, fault: &DeskFault) -> Result<(), Wri
 
 fn put_order_fault<W: Sink>(writer: &mut W, fault: &OrderFault) -> Result<u64, WriteFault>
     requires { W.has_failed writer.old ≡ false }
-    ensures { Sends (W.written writer.old) (W.written writer.new) (W.has_failed writer.new) 0 (order_fault_text fault.now) result }
+    ensures { Sends (W.written writer.old) (W.written writer.new) (W.has_failed writer.new)
+        0 (order_fault_text fault.now) result }
 {
     match fault {
         OrderFault::Syntax { offset } => {

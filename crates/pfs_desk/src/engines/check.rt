@@ -28,7 +28,8 @@ pub fn run_check<R: Source, O: Source, W: Sink>(
     requires writing { W.has_failed writer.old ≡ false }
     requires some { 1 ≤ block }
     requires few { block ≤ MOST_BLOCKS }
-    ensures written { Writes (CheckOutput layout (R.left reader.old) block (O.left order_reader.old)) (W.written writer.old) (W.written writer.new) (W.has_failed writer.new) result }
+    ensures written { Writes (CheckOutput layout (R.left reader.old) block (O.left order_reader.old))
+        (W.written writer.old) (W.written writer.new) (W.has_failed writer.new) result }
     ensures refused { result ≡ Err DeskFault.Refused → HoldsNone layout (R.left reader.old) block }
     ensures read { result ≡ Err DeskFault.Read ↔ (R.has_failed reader.new ≡ true) }
     ensures order_refused { IfErr result (JudgesSecond layout (R.left reader.old) block (O.left order_reader.old)) }
@@ -53,7 +54,8 @@ fn outcome_on(verdict: Verdict) -> Outcome
 
 fn put_verdict<W: Sink>(writer: &mut W, verdict: Verdict) -> Result<u64, WriteFault>
     requires { W.has_failed writer.old ≡ false }
-    ensures { Sends (W.written writer.old) (W.written writer.new) (W.has_failed writer.new) 0 (verdict_text verdict) result }
+    ensures { Sends (W.written writer.old) (W.written writer.new) (W.has_failed writer.new)
+        0 (verdict_text verdict) result }
 {
     match verdict {
         Verdict::Valid { makespan, bound } => put_valid(writer, makespan, bound),
@@ -78,7 +80,8 @@ pub(super) fn put_wrong_size<W: Sink>(
     jobs: usize,
 ) -> Result<u64, WriteFault>
     requires { W.has_failed writer.old ≡ false }
-    ensures { Sends (W.written writer.old) (W.written writer.new) (W.has_failed writer.new) 0 (wrong_size_text order jobs) result }
+    ensures { Sends (W.written writer.old) (W.written writer.new) (W.has_failed writer.new)
+        0 (wrong_size_text order jobs) result }
 {
     put_finding(
         writer,
@@ -92,7 +95,8 @@ pub(super) fn put_wrong_size<W: Sink>(
 
 fn put_valid<W: Sink>(writer: &mut W, makespan: u64, bound: u64) -> Result<u64, WriteFault>
     requires { W.has_failed writer.old ≡ false }
-    ensures { Sends (W.written writer.old) (W.written writer.new) (W.has_failed writer.new) 0 (valid_text makespan bound) result }
+    ensures { Sends (W.written writer.old) (W.written writer.new) (W.has_failed writer.new)
+        0 (valid_text makespan bound) result }
 {
     let sent = put_finding(writer, b"valid", b"makespan", makespan, b"bound", bound)?;
     if makespan == bound {
@@ -113,7 +117,8 @@ fn put_finding<W: Sink>(
 ) -> Result<u64, WriteFault>
     requires working { W.has_failed writer.old ≡ false }
     requires short { length title.now + length name.now + length other_name.now < 100 }
-    ensures text { Sends (W.written writer.old) (W.written writer.new) (W.has_failed writer.new) 0 (finding title.now name.now number other_name.now other_number) result }
+    ensures text { Sends (W.written writer.old) (W.written writer.new) (W.has_failed writer.new)
+        0 (finding title.now name.now number other_name.now other_number) result }
     ensures short { IfOk result (λ sent. sent < 200) }
 {
     let sent = put_line(writer, title, 0)?;

@@ -32,7 +32,8 @@ pub fn run_table<R: Source, O: Source, W: Sink>(
     requires writing { W.has_failed writer.old ≡ false }
     requires some { 1 ≤ block }
     requires few { block ≤ MOST_BLOCKS }
-    ensures written { Writes (TableOutput layout (R.left reader.old) block (O.left order_reader.old)) (W.written writer.old) (W.written writer.new) (W.has_failed writer.new) result }
+    ensures written { Writes (TableOutput layout (R.left reader.old) block (O.left order_reader.old))
+        (W.written writer.old) (W.written writer.new) (W.has_failed writer.new) result }
     ensures refused { result ≡ Err DeskFault.Refused → HoldsNone layout (R.left reader.old) block }
     ensures read { result ≡ Err DeskFault.Read ↔ (R.has_failed reader.new ≡ true) }
     ensures order_refused { IfErr result (JudgesSecond layout (R.left reader.old) block (O.left order_reader.old)) }
@@ -54,7 +55,8 @@ pub fn run_table<R: Source, O: Source, W: Sink>(
 fn put_table<W: Sink>(writer: &mut W, table: &TimeTable) -> Result<u64, WriteFault>
     requires working { W.has_failed writer.old ≡ false }
     requires printable { IsPrintable table.now }
-    ensures { Sends (W.written writer.old) (W.written writer.new) (W.has_failed writer.new) 0 (table_text table.now) result }
+    ensures { Sends (W.written writer.old) (W.written writer.new) (W.has_failed writer.new)
+        0 (table_text table.now) result }
 {
     let mut sent = put_sizes(
         writer,
@@ -77,7 +79,8 @@ fn put_sizes<W: Sink>(
 ) -> Result<u64, WriteFault>
     requires working { W.has_failed writer.old ≡ false }
     requires short { length name.now < 100 }
-    ensures text { Sends (W.written writer.old) (W.written writer.new) (W.has_failed writer.new) 0 (with_line_end (name.now ++ 32 ∷ spaced (rows ∷ machines ∷ []))) result }
+    ensures text { Sends (W.written writer.old) (W.written writer.new) (W.has_failed writer.new)
+        0 (with_line_end (name.now ++ 32 ∷ spaced (rows ∷ machines ∷ []))) result }
     ensures short { IfOk result (λ sent. sent < 200) }
 {
     let sent = put(writer, name, 0)?;
@@ -97,7 +100,8 @@ fn put_row<W: Sink>(
     requires printable { IsPrintable table.now }
     requires row { row < length table.now.jobs }
     requires room { start < 2 ^ 63 }
-    ensures text { Sends (W.written writer.old) (W.written writer.new) (W.has_failed writer.new) start (row_text table.now row) result }
+    ensures text { Sends (W.written writer.old) (W.written writer.new) (W.has_failed writer.new)
+        start (row_text table.now row) result }
     ensures short { IfOk result (λ sent. sent ≤ start + 82 * MOST_MACHINES + 41) }
 {
     let mut sent = put_number(writer, table.job(row) as u64 + 1, start)?;

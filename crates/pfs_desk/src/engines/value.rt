@@ -26,7 +26,8 @@ pub fn run_value<R: Source, W: Sink>(
     requires writing { W.has_failed writer.old ≡ false }
     requires some { 1 ≤ block }
     requires few { block ≤ MOST_BLOCKS }
-    ensures written { Writes (ValueOutput layout (R.left reader.old) block) (W.written writer.old) (W.written writer.new) (W.has_failed writer.new) result }
+    ensures written { Writes (ValueOutput layout (R.left reader.old) block)
+        (W.written writer.old) (W.written writer.new) (W.has_failed writer.new) result }
     ensures refused { result ≡ Err DeskFault.Refused → HoldsNone layout (R.left reader.old) block }
     ensures read { result ≡ Err DeskFault.Read ↔ (R.has_failed reader.new ≡ true) }
 {
@@ -38,7 +39,8 @@ pub fn run_value<R: Source, W: Sink>(
 
 // The makespan of the jobs in the order of their numbers.
 fn value_of(alloc: Global, instance: &Instance) -> Result<u64, DeskFault>
-    ensures value { IfOk result (λ value. value ≡ makespan instance.now.shop (all_jobs instance.now.shop.jobs)) }
+    ensures value { IfOk result (λ value.
+        value ≡ makespan instance.now.shop (all_jobs instance.now.shop.jobs)) }
     ensures memory { IfErr result (λ fault. fault ≡ DeskFault.Memory) }
 {
     let Ok(order) = Order::identity(alloc, instance.jobs()) else {
