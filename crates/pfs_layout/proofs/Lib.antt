@@ -3,6 +3,7 @@ mod Computing
 pub mod CutLemmas
 pub mod DueLemmas
 pub mod FileLemmas
+pub mod GrowLemmas
 pub mod LineLemmas
 pub mod PlaceLemmas
 pub mod RoundLemmas
