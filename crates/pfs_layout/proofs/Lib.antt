@@ -5,6 +5,7 @@ pub mod DueLemmas
 pub mod FileLemmas
 pub mod GrowLemmas
 pub mod LineLemmas
+pub mod LoseLemmas
 pub mod PlaceLemmas
 pub mod RoundLemmas
 pub mod SizeLemmas
