@@ -56,7 +56,7 @@ open_part-open p part none = ap (last_of []) (slice_split-open p part none)
 abbrev pub last_line : List ℕ → List (List ℕ)
 last_line line = if is_empty line then [] else line ∷ []
 
-lines_are : (text : List ℕ) → lines text ≡ ended_lines text ++ last_line (open_line text)
+pub lines_are : (text : List ℕ) → lines text ≡ ended_lines text ++ last_line (open_line text)
 unfolding lines
 lines_are text = refl
 

@@ -97,7 +97,7 @@ fewer_before layout text = by_push Fewer start step
 
 -- ---- a text from one of its places on
 
-no_end : (text : List ℕ) → list_any is_line_end (open_line text) ≡ false
+pub no_end : (text : List ℕ) → list_any is_line_end (open_line text) ≡ false
 no_end = by_push (λ text. list_any is_line_end (open_line text) ≡ false) (ap (list_any is_line_end) open_line-none) more
   where
     or_false : (a b : Bool) → a ≡ false → b ≡ false → (a || (b || false)) ≡ false

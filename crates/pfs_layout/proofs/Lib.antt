@@ -11,3 +11,4 @@ pub mod RoundLemmas
 pub mod SizeLemmas
 pub mod SoundLemmas
 pub mod StandLemmas
+pub mod VerdictLemmas
