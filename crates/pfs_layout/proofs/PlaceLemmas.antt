@@ -144,7 +144,7 @@ pub no_byte_fault : (layout : Layout) (k : ℕ) (text : List ℕ) → ((place : 
 unfolding byte_fault
 no_byte_fault layout k text none = none_first (fault_at layout k text) 0 (length text) (λ q low high. none q (omega arith))
 
-slice_get-at : (xs : List ℕ) (y : ℕ) (ys : List ℕ) → slice_get (xs ++ y ∷ ys) (length xs) ≡ Some y
+pub slice_get-at : {A : Type 0} (xs : List A) (y : A) (ys : List A) → slice_get (xs ++ y ∷ ys) (length xs) ≡ Some y
 slice_get-at [] y ys = refl
 slice_get-at (x ∷ xs) y ys = slice_get-at xs y ys
 

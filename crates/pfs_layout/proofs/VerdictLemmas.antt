@@ -1,8 +1,10 @@
 -- An input holds a file exactly where none of its places has a fault.
-use Rattle.std.proofs.Common.{◌≡◌, ◌↔◌, ℕ, zero, suc, ◌+◌, ◌-◌, ◌<◌, ◌≤◌, Bool, true, false, not, ◌&&◌, List, [], ◌∷◌, ◌++◌, length, take, drop, fold, refl, sym, ◌∙◌, ap, subst, arith, lit<, Option, Some, None, is_none, is_some, ◌⊎◌, inl, inr, if◌then◌else◌, ◌==◌, nat_lt}
+use Rattle.std.proofs.Common.{◌≡◌, ◌↔◌, ℕ, zero, suc, ◌+◌, ◌-◌, ◌<◌, ◌≤◌, Bool, true, false, not, ◌&&◌, List, [], ◌∷◌, ◌++◌, length, take, drop, fold, refl, sym, ◌∙◌, ap, subst, arith, lit<, Option, Some, None, is_none, option_map, ◌⊎◌, inl, inr, if◌then◌else◌, ◌==◌, nat_lt}
 use Rattle.std.specs.List.{list_any, slice_get}
 use Rattle.std.specs.Bool.{then_some}
-use Rattle.std.proofs.lemmas.Bool.{cases_lt, cases_eq, eq-eqb, ne_eqb, lt-ltb, ltb-true, ltb-false, eqb-true}
+use Rattle.std.proofs.lemmas.Bool.{cases_lt, cases_eq, eq-eqb, ne_eqb, lt-ltb, le-ltb, ltb-true, ltb-false, eqb-true}
+use Rattle.std.proofs.lemmas.Option.{same_Some}
+use Rattle.std.proofs.Math.Seq.{take-append-add}
 use Rattle.std.proofs.lemmas.List.{append_assoc, append-nil, length-append}
 use Rattle.pfs_base.specs.declared.limits.TheConstants.{LONGEST_INPUT}
 use Rattle.pfs_base.specs.Limits.{limits}
@@ -18,10 +20,10 @@ use Rattle.pfs_layout.specs.Stand.{Block, Now, seeking, inside, lost, Stand, aft
 use Rattle.pfs_layout.specs.Refuse.{too_long, mixed_line, wrong_number, wrong_size, missing, ends_early, faults, fault_behind, fault_at, refusal, accepted, byte_fault}
 use Rattle.pfs_layout.specs.Laws.{Completes}
 use Rattle.pfs_layout.proofs.LineLemmas.{ended_parts-push, open_part-push}
-use Rattle.pfs_layout.proofs.PlaceLemmas.{fault_at-append, fault_at-byte, fault_at-end, no_byte_fault}
+use Rattle.pfs_layout.proofs.PlaceLemmas.{fault_at-append, fault_at-byte, fault_at-end, no_byte_fault, no_fault, not_refused, slice_get-at}
 use Rattle.pfs_layout.proofs.SoundLemmas.{then_some_none, first_none, GoodNow, good_end, same_last, stand-push, stand_of, stand_of-push, sound}
 use Rattle.pfs_layout.proofs.CutLemmas.{last_line, lines_are, lines-line}
-use Rattle.pfs_layout.proofs.GrowLemmas.{OneLine, one_line, fewer_before, no_end, LineOn, line_on, stand_from, stays_lost}
+use Rattle.pfs_layout.proofs.GrowLemmas.{OneLine, one_line, Extends, grows, fewer_before, no_end, LineOn, line_on, stand_from, stays_lost}
 use Rattle.pfs_layout.proofs.LoseLemmas.{LineAt, ends_here, goes_on, loses}
 
 -- the lines of a text that ends with a line end, and of one that doesn't
@@ -34,6 +36,25 @@ lines_unended text e = lines_are text ∙ ap (λ v. ended_lines text ++ (if v th
 no_complete : (layout : Layout) → length (stand_of layout []).complete ≡ 0
 unfolding stand ended_parts
 no_complete layout = refl
+
+-- a place of a text, and what stands on both sides of its byte
+record IsPlace (text : List ℕ) (place : ℕ) : Type 0 where
+  pub before : List ℕ
+  pub byte : ℕ
+  pub after : List ℕ
+  pub whole : text ≡ before ++ byte ∷ after
+  pub at : length before ≡ place
+
+place_of : (text : List ℕ) (place : ℕ) → place < length text → IsPlace text place
+place_of [] place h = absurd (omega arith)
+place_of (x ∷ text) zero h = record { before = []; byte = x; after = text; whole = refl; at = refl }
+place_of (x ∷ text) (suc place) h =
+    let p = place_of text place (omega arith) in
+    record { before = x ∷ p.before; byte = p.byte; after = p.after; whole = ap (λ xs. x ∷ xs) p.whole; at = omega (arith, p.at) }
+
+and_false : (v : Bool) → (v && false) ≡ false
+and_false true = refl
+and_false false = refl
 
 module _ (layout : Layout) (k : ℕ) where
   -- no byte of a text has a fault
@@ -157,19 +178,21 @@ module _ (layout : Layout) (k : ℕ) where
           let open_is : open_line text ≡ [] = open_part-push is_line_end e.before e.byte ∙ ap (λ v. if v then [] else open_line e.before ++ e.byte ∷ []) ends in
           let whole : input ≡ text ++ e.after = e.whole ∙ sym (append_assoc e.before (e.byte ∷ []) e.after) in
           let right_text : Faultless text = faultless_front text e.after (subst Faultless whole right) in
-          let right_before : Faultless e.before = faultless_front e.before (e.byte ∷ []) right_text in
-          (instance_of layout one.0, record {
-            text = text;
-            rest = e.after;
-            whole = whole;
-            ended = inl open_is;
-            short = short_more e.before e.byte right_text e.few (short_few e.before right_before e.few);
-            earlier = before.complete;
-            own = one.0;
-            count = one.1;
-            stands = ap (stand layout) (lines_ended text (ap is_empty open_is)) ∙ stood ∙ one.2;
-            is = refl;
-          })
+          let right_before : Faultless e.before = faultless_front e.before (e.byte ∷ []) right_text in (
+            instance_of layout one.0,
+            record {
+              text = text;
+              rest = e.after;
+              whole = whole;
+              ended = inl open_is;
+              short = short_more e.before e.byte right_text e.few (short_few e.before right_before e.few);
+              earlier = before.complete;
+              own = one.0;
+              count = one.1;
+              stands = ap (stand layout) (lines_ended text (ap is_empty open_is)) ∙ stood ∙ one.2;
+              is = refl;
+            },
+          )
 
   early_end : (now : Now) (complete : ℕ) → GoodNow layout now [] → missing layout k complete now ≡ None → k ≤ complete
   early_end seeking complete good e = ltb-false complete k (then_some_none (nat_lt complete k) (NoBlock complete) e)
@@ -207,19 +230,21 @@ module _ (layout : Layout) (k : ℕ) where
           let good_after = good_end layout k before.complete before.now input None (ap not filled) (λ there. ap not (ap is_empty (same_last input) ∙ there)) good none in
           let good_there : GoodNow layout (stand layout (lines input)).now [] = subst (λ (s : Stand). GoodNow layout s.now []) (sym stood) good_after in
           let size = ap (λ (s : Stand). length s.complete) stood in
-          let one = one_block before.complete after (one_line layout before.complete before.now (open_line input)) few (omega (arith, enough good_there, size)) in
-          (instance_of layout one.0, record {
-            text = input;
-            rest = [];
-            whole = sym (append-nil input);
-            ended = inr refl;
-            short = short_few input right few;
-            earlier = before.complete;
-            own = one.0;
-            count = one.1;
-            stands = stood ∙ one.2;
-            is = refl;
-          })
+          let one = one_block before.complete after (one_line layout before.complete before.now (open_line input)) few (omega (arith, enough good_there, size)) in (
+            instance_of layout one.0,
+            record {
+              text = input;
+              rest = [];
+              whole = sym (append-nil input);
+              ended = inr refl;
+              short = short_few input right few;
+              earlier = before.complete;
+              own = one.0;
+              count = one.1;
+              stands = stood ∙ one.2;
+              is = refl;
+            },
+          )
 
   pub faultless_holds : 1 ≤ k → (input : List ℕ) → ((place : ℕ) → place ≤ length input → fault_at layout k input place ≡ None) → Holds input
   faultless_holds some input right = by_few (cases_lt (length (stand_of layout input).complete) k)
@@ -230,3 +255,137 @@ module _ (layout : Layout) (k : ℕ) where
       by_few : (length (stand_of layout input).complete < k) ⊎ (k ≤ length (stand_of layout input).complete) → Holds input
       by_few (inl few) = from_end input bytes few (sym (fault_at-end layout k input) ∙ right (length input) (omega arith))
       by_few (inr enough) = from_enough input bytes (first_enough some input enough)
+
+  -- ---- a file has no fault
+
+  has_fault : (text : List ℕ) (next : Option ℕ) (fault : LayoutFault) → fault_behind layout k text next ≡ Some fault → Few text × (first_some (faults layout k (stand_of layout text).now text next) ≡ Some fault)
+  unfolding fault_behind
+  has_fault text next fault e = by_few (nat_lt (length (stand_of layout text).complete) k) refl e
+    where
+      here : Option LayoutFault
+      here = first_some (faults layout k (stand_of layout text).now text next)
+
+      by_few : (v : Bool) → nat_lt (length (stand_of layout text).complete) k ≡ v → (if v then here else None) ≡ Some fault → Few text × (here ≡ Some fault)
+      by_few true few e = (ltb-true (length (stand_of layout text).complete) k few, e)
+      by_few false few e = cc
+
+  -- behind a fault at a byte all is lost
+  byte_loses : (before : List ℕ) (b : ℕ) (after : List ℕ) (fault : LayoutFault) → length before < LONGEST_INPUT → fault_behind layout k before (Some b) ≡ Some fault
+      → (stand layout (lines (before ++ b ∷ after))).now ≡ lost
+  unfolding stand_after ends_early
+  byte_loses before b after fault short e = by_end (is_line_end b) refl
+    where
+      stood : Stand
+      stood = stand_of layout before
+
+      long : too_long before (Some b) ≡ None
+      long = ap (λ v. then_some (v && true) TooLong) (ne_eqb (length before) LONGEST_INPUT (λ same. omega (arith, same, short)))
+
+      behind : (line : List ℕ) (others : List (List ℕ)) → LineAt before (Some b) line → lines (open_line before ++ b ∷ after) ≡ line ∷ others → (stand layout (lines (before ++ b ∷ after))).now ≡ lost
+      behind line others at are =
+          ap (λ (s : Stand). s.now) (stand_from layout before (b ∷ after) ∙ ap (fold (stand_after layout) stood) are)
+          ∙ stays_lost layout (stand_after layout stood line) others (loses layout k stood.complete stood.now before (Some b) fault line (has_fault before (Some b) fault e).1 long refl at)
+
+      by_end : (v : Bool) → is_line_end b ≡ v → (stand layout (lines (before ++ b ∷ after))).now ≡ lost
+      by_end true ends = behind (open_line before) (lines after) (ends_here ends refl) (lines-line (open_line before) b after (no_end before) ends)
+      by_end false ends =
+          let on = line_on (open_line before) b after (no_end before) ends in
+          behind ((open_line before ++ b ∷ []) ++ on.tail) on.others (goes_on b on.tail refl ends (append_assoc (open_line before) (b ∷ []) on.tail)) (ap lines (sym (append_assoc (open_line before) (b ∷ []) after)) ∙ on.are)
+
+  end_is_right : (input : List ℕ) (blocks : List Block) (fault : LayoutFault) → stand layout (lines input) ≡ record { complete = blocks; now = seeking } → length blocks ≡ k → fault_behind layout k input None ≡ Some fault → ⊥
+  unfolding stand_after ends_early
+  end_is_right input blocks fault stands count e = by_empty (is_empty (open_line input)) refl
+    where
+      stood : Stand
+      stood = stand_of layout input
+
+      has : Few input × (first_some (faults layout k stood.now input None) ≡ Some fault)
+      has = has_fault input None fault e
+
+      long : too_long input None ≡ None
+      long = ap (λ v. then_some v TooLong) (and_false (length input == LONGEST_INPUT))
+
+      early : ends_early layout k input None ≡ None
+      early = ap (λ (s : Stand). missing layout k (length s.complete) s.now) stands ∙ ap (λ v. then_some v (NoBlock (length blocks))) (le-ltb (length blocks) k (omega (arith, count)))
+
+      by_empty : (v : Bool) → is_empty (open_line input) ≡ v → ⊥
+      by_empty true empty = omega (arith, has.0, count, ap (λ (s : Stand). length s.complete) (sym (ap (stand layout) (lines_ended input empty)) ∙ stands))
+      by_empty false filled =
+          let away = loses layout k stood.complete stood.now input None fault (open_line input) has.1 long early (ends_here (ap not filled) refl) in
+          let same : stand layout (lines input) ≡ after_line layout stood.complete stood.now (open_line input) = ap (stand layout) (lines_unended input filled) ∙ stand-push layout (ended_lines input) (open_line input) in
+          let bad : seeking ≡ lost = sym (ap (λ (s : Stand). s.now) stands) ∙ ap (λ (s : Stand). s.now) same ∙ away in
+          cc
+
+  pub holds_faultless : (input : List ℕ) (problem : Problem) → Completes layout input k problem → (place : ℕ) → place ≤ length input → fault_at layout k input place ≡ None
+  holds_faultless input problem c place within = by_fault (fault_at layout k input place) refl
+    where
+      all : length (c.earlier ++ c.own ∷ []) ≡ k
+      all = omega (arith, c.count, length-append c.earlier (c.own ∷ []))
+
+      at_byte : (fault : LayoutFault) → fault_at layout k input place ≡ Some fault → IsPlace c.text place → place < length c.text → ⊥
+      at_byte fault e p h =
+          let whole : input ≡ p.before ++ p.byte ∷ (p.after ++ c.rest) = c.whole ∙ ap (λ xs. xs ++ c.rest) p.whole ∙ append_assoc p.before (p.byte ∷ p.after) c.rest in
+          let there : fault_behind layout k p.before (Some p.byte) ≡ Some fault =
+          sym (ap (λ i. fault_at layout k input i) (sym p.at) ∙ ap (λ xs. fault_at layout k xs (length p.before)) whole ∙ fault_at-byte layout k p.before p.byte (p.after ++ c.rest)) ∙ e in
+          let away = byte_loses p.before p.byte p.after fault (omega (arith, p.at, h, c.short)) there in
+          let bad : seeking ≡ lost = sym (ap (λ (s : Stand). s.now) c.stands) ∙ ap (λ xs. (stand layout (lines xs)).now) p.whole ∙ away in
+          cc
+
+      beyond : (fault : LayoutFault) → fault_at layout k input place ≡ Some fault → length c.text ≤ place → (open_line c.text ≡ []) ⊎ (c.rest ≡ []) → ⊥
+      beyond fault e h (inl ended) =
+          let apart : place ≡ length c.text + (place - length c.text) = omega arith in
+          let front : take place input ≡ c.text ++ take (place - length c.text) c.rest = ap (take place) c.whole ∙ ap (λ i. take i (c.text ++ c.rest)) apart ∙ take-append-add c.text c.rest (place - length c.text) in
+          let few = few_front c.text (take (place - length c.text) c.rest) (subst Few front (has_fault (take place input) (slice_get input place) fault e).0) in
+          let stood : stand_of layout c.text ≡ record { complete = c.earlier ++ c.own ∷ []; now = seeking } = sym (ap (stand layout) (lines_ended c.text (ap is_empty ended))) ∙ c.stands in
+          omega (arith, few, all, ap (λ (s : Stand). length s.complete) stood)
+      beyond fault e h (inr none) =
+          let same : input ≡ c.text = c.whole ∙ ap (λ xs. c.text ++ xs) none ∙ append-nil c.text in
+          let last : place ≡ length input = omega (arith, ap length same) in
+          end_is_right input (c.earlier ++ c.own ∷ []) fault (ap (λ xs. stand layout (lines xs)) same ∙ c.stands) all (sym (ap (λ i. fault_at layout k input i) last ∙ fault_at-end layout k input) ∙ e)
+
+      by_place : (fault : LayoutFault) → fault_at layout k input place ≡ Some fault → (place < length c.text) ⊎ (length c.text ≤ place) → ⊥
+      by_place fault e (inl h) = at_byte fault e (place_of c.text place h) h
+      by_place fault e (inr h) = beyond fault e h c.ended
+
+      by_fault : (o : Option LayoutFault) → fault_at layout k input place ≡ o → fault_at layout k input place ≡ None
+      by_fault None e = e
+      by_fault (Some fault) e = absurd (by_place fault e (cases_lt place (length c.text)))
+
+  -- ---- the problem of a file is that of the k-th block
+
+  found : (complete : List Block) (earlier : List Block) (own : Block) → length earlier + 1 ≡ k → Extends (earlier ++ own ∷ []) complete → slice_get complete (k - 1) ≡ Some own
+  found complete earlier own count longer =
+      let at : k - 1 ≡ length earlier = omega (arith, count) in
+      ap (λ i. slice_get complete i) at ∙ ap (λ bs. slice_get bs (length earlier)) (longer.1 ∙ append_assoc earlier (own ∷ []) longer.0) ∙ slice_get-at earlier own longer.0
+
+  kth_block : (input : List ℕ) (problem : Problem) (c : Completes layout input k problem) → slice_get (stand layout (lines input)).complete (k - 1) ≡ Some c.own
+  kth_block input problem c = by_ended c.ended
+    where
+      by_ended : (open_line c.text ≡ []) ⊎ (c.rest ≡ []) → slice_get (stand layout (lines input)).complete (k - 1) ≡ Some c.own
+      by_ended (inl ended) =
+          let stood : stand_of layout c.text ≡ record { complete = c.earlier ++ c.own ∷ []; now = seeking } = sym (ap (stand layout) (lines_ended c.text (ap is_empty ended))) ∙ c.stands in
+          let more = grows layout (stand_of layout c.text) (lines (open_line c.text ++ c.rest)) in
+          let whole = ap (λ xs. stand layout (lines xs)) c.whole ∙ stand_from layout c.text c.rest in
+          found (stand layout (lines input)).complete c.earlier c.own c.count (more.0, ap (λ (s : Stand). s.complete) whole ∙ more.1 ∙ ap (λ (s : Stand). s.complete ++ more.0) stood)
+      by_ended (inr none) =
+          let same : input ≡ c.text = c.whole ∙ ap (λ xs. c.text ++ xs) none ∙ append-nil c.text in
+          found (stand layout (lines input)).complete c.earlier c.own c.count ([], ap (λ (s : Stand). s.complete) (ap (λ xs. stand layout (lines xs)) same ∙ c.stands) ∙ sym (append-nil (c.earlier ++ c.own ∷ [])))
+
+  pub holds_accepted : (input : List ℕ) (problem : Problem) → Completes layout input k problem → accepted layout input k ≡ Some problem
+  unfolding accepted
+  holds_accepted input problem c =
+      ap (λ r. if is_none r then option_map (instance_of layout) (slice_get (stand layout (lines input)).complete (k - 1)) else None) (not_refused layout k input (holds_faultless input problem c))
+      ∙ ap (option_map (instance_of layout)) (kth_block input problem c) ∙ ap Some (sym c.is)
+
+  pub accepted_holds : 1 ≤ k → (input : List ℕ) (problem : Problem) → accepted layout input k ≡ Some problem → Completes layout input k problem
+  unfolding accepted
+  accepted_holds some input problem e = by_refusal (refusal layout input k) refl
+    where
+      by_refusal : (o : Option LayoutFault) → refusal layout input k ≡ o → Completes layout input k problem
+      by_refusal (Some fault) r =
+          let none : accepted layout input k ≡ None = ap (λ o. if is_none o then option_map (instance_of layout) (slice_get (stand layout (lines input)).complete (k - 1)) else None) r in
+          absurd (cc)
+      by_refusal None r =
+          let holds = faultless_holds some input (no_fault layout k input r) in
+          let same : Some holds.0 ≡ Some problem = sym (holds_accepted input holds.0 holds.1) ∙ e in
+          subst (Completes layout input k) (same_Some holds.0 problem same) holds.1
