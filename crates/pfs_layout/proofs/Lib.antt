@@ -4,6 +4,7 @@ pub mod CutLemmas
 pub mod DueLemmas
 pub mod FileLemmas
 pub mod GrowLemmas
+pub mod LawLemmas
 pub mod LineLemmas
 pub mod LoseLemmas
 pub mod PlaceLemmas

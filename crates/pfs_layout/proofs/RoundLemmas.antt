@@ -157,21 +157,10 @@ time_wanted OrLib size job machine j m =
     orlib_at size (2 * x + 1) (time_place OrLib size job machine j m)
     ∙ ap (λ i. if i == 0 then machine_number ((2 * x + 1) / 2 % size.machines) else any_time) odd
 
-pub instance_within : (layout : Layout) (block : Block) → is_within_limits block.size ≡ true → are_due layout block.size block.numbers ≡ true → length block.numbers ≡ due_count layout block.size
-    → IsInstance limits (instance_of layout block)
+pub times_short : (layout : Layout) (block : Block) → are_due layout block.size block.numbers ≡ true → length block.numbers ≡ due_count layout block.size
+    → All (λ time. time ≤ LONGEST_TIME) (instance_of layout block).shop.times
 unfolding instance_of
-instance_within layout block size all whole =
-    let fits = size_within block.size size in
-    record {
-      within = record {
-        sizes = fits.sizes;
-        every_time = length-times layout block;
-        short_times = All-from_get_or (λ time. time ≤ LONGEST_TIME) (instance_of layout block).shop.times 0 short;
-      };
-      seed = fits.seed;
-      upper = fits.upper;
-      lower = fits.lower;
-    }
+times_short layout block all whole = All-from_get_or (λ time. time ≤ LONGEST_TIME) (instance_of layout block).shop.times 0 short
   where
     short : (k : ℕ) → k < length (instance_of layout block).shop.times → get_or (instance_of layout block).shop.times k 0 ≤ LONGEST_TIME
     short k h =
@@ -184,3 +173,19 @@ instance_within layout block size all whole =
         let right = due_number layout block.size block.numbers place all (omega (arith, whole, time_place layout block.size at.row at.column at.row_in at.column_in)) in
         let fits : is_due any_time (get_or block.numbers place 0) ≡ true = sym (ap (λ d. is_due d (get_or block.numbers place 0)) (time_wanted layout block.size at.row at.column at.row_in at.column_in)) ∙ right in
         omega (arith, number, leb-true (get_or block.numbers place 0) LONGEST_TIME fits)
+
+pub instance_within : (layout : Layout) (block : Block) → is_within_limits block.size ≡ true → are_due layout block.size block.numbers ≡ true → length block.numbers ≡ due_count layout block.size
+    → IsInstance limits (instance_of layout block)
+unfolding instance_of
+instance_within layout block size all whole =
+    let fits = size_within block.size size in
+    record {
+      within = record {
+        sizes = fits.sizes;
+        every_time = length-times layout block;
+        short_times = times_short layout block all whole;
+      };
+      seed = fits.seed;
+      upper = fits.upper;
+      lower = fits.lower;
+    }

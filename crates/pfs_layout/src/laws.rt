@@ -1,10 +1,20 @@
 //! Laws about the definitions alone.
-ghost use Rattle.pfs_layout.specs.Laws.{FileStands, OneFault, RefusalLaw};
+ghost use Rattle.pfs_layout.specs.Laws.{FileStands, SomeFile, OneVerdict, OneFault, RefusalLaw, AcceptedLaw, DueAndBack};
 
-/// An input holds a file exactly where the lines of a front of it lead to the wanted number of complete
-/// blocks.
+/// An input holds a problem's file exactly where the lines of a front of it lead to the wanted number of
+/// complete blocks, the last of which is the problem's.
 pub fn file_stands()
     ensures { FileStands }
+{}
+
+/// An input holds a file exactly where a front of it stands seeking behind the wanted number of blocks.
+pub fn some_file()
+    ensures { SomeFile }
+{}
+
+/// Every input holds the file of exactly one problem or has exactly one fault, and not both.
+pub fn one_verdict()
+    ensures { OneVerdict }
 {}
 
 /// An input has at most one fault.
@@ -15,4 +25,14 @@ pub fn one_fault()
 /// Which fault an input has can be computed.
 pub fn refusal()
     ensures { RefusalLaw }
+{}
+
+/// Which problem's file an input holds can be computed.
+pub fn accepted()
+    ensures { AcceptedLaw }
+{}
+
+/// The numbers that are due for a problem give it back.
+pub fn due_and_back()
+    ensures { DueAndBack }
 {}

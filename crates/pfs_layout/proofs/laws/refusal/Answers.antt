@@ -1,5 +1,4 @@
 use Rattle.pfs_layout.proofs.PlaceLemmas.{refusal_is}
-use Rattle.pfs_layout.proofs.VerdictLemmas.{faultless_holds, accepted_holds}
 use Rattle.pfs_layout.proofs.laws.refusal.Goals as goal
 
 pub returns : goal.returns
