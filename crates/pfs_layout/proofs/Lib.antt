@@ -3,6 +3,7 @@ mod Computing
 pub mod CutLemmas
 pub mod DueLemmas
 pub mod FileLemmas
+pub mod FrontLemmas
 pub mod GrowLemmas
 pub mod LawLemmas
 pub mod LineLemmas

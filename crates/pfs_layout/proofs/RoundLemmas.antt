@@ -127,7 +127,7 @@ orlib_due block k h right =
         ∙ ap (λ i. get_or block.numbers i 0) place
     by_column (suc (suc column)) l is wanted = absurd (omega arith)
 
-length-due_instance : (layout : Layout) (block : Block) → length (due layout (instance_of layout block).shop) ≡ due_count layout block.size
+pub length-due_instance : (layout : Layout) (block : Block) → length (due layout (instance_of layout block).shop) ≡ due_count layout block.size
 unfolding instance_of
 length-due_instance layout block = length-due layout (instance_of layout block)
 

@@ -1,5 +1,5 @@
 //! Laws about the definitions alone.
-ghost use Rattle.pfs_layout.specs.Laws.{FileStands, SomeFile, OneVerdict, OneFault, RefusalLaw, AcceptedLaw, DueAndBack};
+ghost use Rattle.pfs_layout.specs.Laws.{FileStands, SomeFile, OneVerdict, OneFault, RefusalLaw, AcceptedLaw, DueAndBack, DueFronts};
 
 /// An input holds a problem's file exactly where the lines of a front of it lead to the wanted number of
 /// complete blocks, the last of which is the problem's.
@@ -35,4 +35,8 @@ pub fn accepted()
 /// The numbers that are due for a problem give it back.
 pub fn due_and_back()
     ensures { DueAndBack }
+{}
+/// Numbers pass, place by place, exactly where they begin what is due for some problem of the size.
+pub fn due_fronts()
+    ensures { DueFronts }
 {}
