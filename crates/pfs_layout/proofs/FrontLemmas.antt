@@ -1,5 +1,5 @@
 -- Numbers that pass begin what is due for some problem.
-use Rattle.std.proofs.Common.{◌≡◌, ◌↔◌, ℕ, ◌+◌, ◌-◌, ◌*◌, ◌/◌, ◌%◌, ◌<◌, ◌≤◌, Bool, true, false, List, [], ◌∷◌, ◌++◌, length, drop, get_or, refl, sym, ◌∙◌, ap, arith, ◌⊎◌, inl, inr, if◌then◌else◌, ◌==◌}
+use Rattle.std.proofs.Common.{◌≡◌, ℕ, ◌+◌, ◌-◌, ◌*◌, ◌/◌, ◌%◌, ◌<◌, ◌≤◌, Bool, true, false, List, [], ◌++◌, length, drop, get_or, refl, sym, ◌∙◌, ap, arith, ◌⊎◌, inl, inr, if◌then◌else◌, ◌==◌}
 use Rattle.std.specs.List.{All, enumerate_from}
 use Rattle.std.proofs.lemmas.Bool.{cases_lt, le-ltb}
 use Rattle.std.proofs.lemmas.List.{get_or_append_left, get_or-append_right, get_or-drop, get_or_default, length-append, length-drop}
@@ -7,12 +7,11 @@ use Rattle.std.proofs.lemmas.List.Elements.{All-from_get_or}
 use Rattle.std.proofs.lemmas.List.FromFn.{get_or-enumerate_from, length-enumerate_from}
 use Rattle.std.proofs.lemmas.List.Sums.{list_all-from_AllPass}
 use Rattle.pfs_base.specs.declared.limits.TheConstants.{LONGEST_TIME}
-use Rattle.pfs_base.specs.Problem.{Problem}
 use Rattle.pfs_layout.specs.declared.layout.Layout.{Layout}
 use Rattle.pfs_layout.specs.declared.layout.Layout.TheVariants.{Taillard, OrLib}
-use Rattle.pfs_layout.specs.Size.{Size, size_of}
+use Rattle.pfs_layout.specs.Size.{Size}
 use Rattle.pfs_layout.specs.Block.{any_time, machine_number, nothing, is_due, due_at, are_due, due, due_count}
-use Rattle.pfs_layout.specs.Stand.{Block, place_of_time, instance_of}
+use Rattle.pfs_layout.specs.Stand.{Block, instance_of}
 use Rattle.pfs_layout.specs.Laws.{BeginDue, DueFronts}
 use Rattle.pfs_layout.proofs.BlockLemmas.{are_due_front}
 use Rattle.pfs_layout.proofs.DueLemmas.{at_row, some_factor, due_passes}

@@ -1,17 +1,16 @@
 -- What later lines can't undo, and where a text's lines lead from one of its places.
-use Rattle.std.proofs.Common.{◌≡◌, ℕ, zero, suc, ◌+◌, ◌<◌, ◌≤◌, Bool, true, false, ◌||◌, List, [], ◌∷◌, ◌++◌, length, fold, refl, sym, ◌∙◌, ap, arith, ◌⊎◌, inl, inr, if◌then◌else◌, ◌==◌}
+use Rattle.std.proofs.Common.{◌≡◌, ℕ, ◌≤◌, Bool, true, false, ◌||◌, List, [], ◌∷◌, ◌++◌, length, fold, refl, sym, ◌∙◌, ap, arith, ◌⊎◌, inl, inr, if◌then◌else◌, ◌==◌}
 use Rattle.std.specs.List.{list_any}
 use Rattle.std.proofs.lemmas.Bool.{or_from, ne_eqb}
 use Rattle.std.proofs.lemmas.List.{append_assoc, append-nil, length-append}
 use Rattle.std.proofs.lemmas.List.Folds.{list_any-append}
 use Rattle.std.proofs.lemmas.List.Sums.{fold-append}
-use Rattle.pfs_base.specs.Lists.{is_empty}
 use Rattle.pfs_base.proofs.Lists.{by_push}
 use Rattle.pfs_layout.specs.declared.layout.Layout.{Layout}
 use Rattle.pfs_layout.specs.Bytes.{is_line_end}
-use Rattle.pfs_layout.specs.Lines.{lines, ended_lines, open_line, ended_parts, open_part, is_mixed, is_number_line, numbers}
-use Rattle.pfs_layout.specs.Block.{stated_size, due_count, are_due}
-use Rattle.pfs_layout.specs.Stand.{Block, Now, seeking, inside, lost, Stand, after_size, after_numbers, after_line, stand_after, stand}
+use Rattle.pfs_layout.specs.Lines.{lines, ended_lines, open_line, ended_parts, is_mixed, numbers}
+use Rattle.pfs_layout.specs.Block.{due_count, are_due}
+use Rattle.pfs_layout.specs.Stand.{Block, Now, seeking, inside, lost, Stand, after_numbers, after_line, stand_after, stand}
 use Rattle.pfs_layout.proofs.LineLemmas.{ended_parts-push, open_part-push}
 use Rattle.pfs_layout.proofs.CutLemmas.{FirstLine, unended, ended, first_line, lines-line, lines-open}
 use Rattle.pfs_layout.proofs.SoundLemmas.{stand_of, stand_of-push, open_line-none}

@@ -1,8 +1,8 @@
 -- One verdict, and what it is computed by.
-use Rattle.std.proofs.Common.{◌≡◌, ◌↔◌, ℕ, ◌+◌, ◌≤◌, Bool, true, false, List, [], ◌∷◌, ◌++◌, length, refl, sym, ◌∙◌, ap, arith, Option, Some, None, ◌⊎◌, inl, inr, if◌then◌else◌}
+use Rattle.std.proofs.Common.{◌≡◌, ℕ, ◌≤◌, Bool, true, false, List, [], ◌∷◌, ◌++◌, length, refl, sym, ◌∙◌, ap, arith, Option, Some, None, ◌⊎◌, inl, inr, if◌then◌else◌}
 use Rattle.std.proofs.lemmas.Bool.{eqb-true}
 use Rattle.std.proofs.lemmas.Option.{same_Some}
-use Rattle.std.proofs.lemmas.List.{append-nil, length-append}
+use Rattle.std.proofs.lemmas.List.{length-append}
 use Rattle.pfs_base.specs.Limits.{limits}
 use Rattle.pfs_base.specs.Lists.{all_but_last, last_of}
 use Rattle.pfs_base.specs.Problem.{Problem}
@@ -12,7 +12,7 @@ use Rattle.pfs_layout.specs.declared.fault.LayoutFault.{LayoutFault}
 use Rattle.pfs_layout.specs.Bytes.{is_line_end}
 use Rattle.pfs_layout.specs.Lines.{lines, open_line, ended_parts, open_part}
 use Rattle.pfs_layout.specs.File.{File}
-use Rattle.pfs_layout.specs.Stand.{Block, seeking, Stand, stand, instance_of}
+use Rattle.pfs_layout.specs.Stand.{Block, Stand, stand, instance_of}
 use Rattle.pfs_layout.specs.Refuse.{Refuse, refusal}
 use Rattle.pfs_layout.specs.Laws.{Completes, Seeks, SomeFile, ExactlyOne, OneVerdict, AcceptedLaw}
 use Rattle.pfs_layout.proofs.LineLemmas.{open_part-push}

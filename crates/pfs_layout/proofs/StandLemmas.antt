@@ -1,20 +1,19 @@
 -- Which lines lead to complete blocks.
-use Rattle.std.proofs.Common.{◌≡◌, ℕ, zero, suc, ◌+◌, ◌*◌, ◌<◌, ◌≤◌, Bool, true, false, not, ◌&&◌, ◌||◌, List, [], ◌∷◌, ◌++◌, length, flat_map, refl, sym, ◌∙◌, ap, subst, arith, Option, Some, None, if◌then◌else◌, ◌==◌}
-use Rattle.std.specs.List.{AllByRecursion, list_any, list_all}
+use Rattle.std.proofs.Common.{◌≡◌, ℕ, zero, suc, ◌*◌, ◌≤◌, Bool, true, false, not, ◌&&◌, ◌||◌, List, [], ◌∷◌, ◌++◌, length, flat_map, refl, sym, ◌∙◌, ap, subst, arith, Option, Some, None, if◌then◌else◌, ◌==◌}
+use Rattle.std.specs.List.{list_any, list_all}
 use Rattle.std.proofs.lemmas.Bool.{eqb-true, eq-eqb, or_parts}
-use Rattle.std.proofs.lemmas.List.{append_assoc, append-nil, length-append}
+use Rattle.std.proofs.lemmas.List.{append_assoc, append-nil}
 use Rattle.std.proofs.lemmas.List.Folds.{list_any-append, list_all-append}
 use Rattle.std.proofs.lemmas.Grind.{flat_map-append}
 use Rattle.pfs_base.specs.Limits.{limits}
-use Rattle.pfs_base.specs.Problem.{Problem}
 use Rattle.pfs_base.proofs.Lists.{by_push}
 use Rattle.pfs_layout.specs.declared.layout.Layout.{Layout}
 use Rattle.pfs_layout.specs.declared.layout.Layout.TheVariants.{Taillard, OrLib}
 use Rattle.pfs_layout.specs.Bytes.{is_digit, is_word_byte}
 use Rattle.pfs_layout.specs.Size.{Size, is_within_limits}
 use Rattle.pfs_layout.specs.Lines.{is_mixed, is_number_line, is_no_digit, values, numbers, ended_numbers, last_digits}
-use Rattle.pfs_layout.specs.Block.{stated_size, due_count, are_due, due}
-use Rattle.pfs_layout.specs.File.{IsBlock, IsSomeBlock, AreBlocks}
+use Rattle.pfs_layout.specs.Block.{stated_size, due_count, are_due}
+use Rattle.pfs_layout.specs.File.{IsBlock}
 use Rattle.pfs_layout.specs.Stand.{Block, Now, seeking, inside, lost, Stand, after_size, after_numbers, after_line, stand_after, stand, instance_of}
 use Rattle.pfs_layout.proofs.LineLemmas.{numbers_is, ended_numbers-push, open_part-push}
 use Rattle.pfs_layout.proofs.SizeLemmas.{size_within}

@@ -1,13 +1,12 @@
 -- An input holds a file exactly where none of its places has a fault.
-use Rattle.std.proofs.Common.{◌≡◌, ◌↔◌, ℕ, zero, suc, ◌+◌, ◌-◌, ◌<◌, ◌≤◌, Bool, true, false, not, ◌&&◌, List, [], ◌∷◌, ◌++◌, length, take, drop, fold, refl, sym, ◌∙◌, ap, subst, arith, lit<, Option, Some, None, is_none, option_map, ◌⊎◌, inl, inr, if◌then◌else◌, ◌==◌, nat_lt}
-use Rattle.std.specs.List.{list_any, slice_get}
+use Rattle.std.proofs.Common.{◌≡◌, ℕ, zero, suc, ◌+◌, ◌-◌, ◌<◌, ◌≤◌, Bool, true, false, not, ◌&&◌, List, [], ◌∷◌, ◌++◌, length, take, fold, refl, sym, ◌∙◌, ap, subst, arith, Option, Some, None, is_none, option_map, ◌⊎◌, inl, inr, if◌then◌else◌, ◌==◌, nat_lt}
+use Rattle.std.specs.List.{slice_get}
 use Rattle.std.specs.Bool.{then_some}
 use Rattle.std.proofs.lemmas.Bool.{cases_lt, cases_eq, eq-eqb, ne_eqb, lt-ltb, le-ltb, ltb-true, ltb-false, eqb-true}
 use Rattle.std.proofs.lemmas.Option.{same_Some}
 use Rattle.std.proofs.Math.Seq.{take-append-add}
 use Rattle.std.proofs.lemmas.List.{append_assoc, append-nil, length-append}
 use Rattle.pfs_base.specs.declared.limits.TheConstants.{LONGEST_INPUT}
-use Rattle.pfs_base.specs.Limits.{limits}
 use Rattle.pfs_base.specs.Lists.{is_empty, first_some}
 use Rattle.pfs_base.specs.Problem.{Problem}
 use Rattle.pfs_base.proofs.Lists.{by_push}
@@ -15,15 +14,15 @@ use Rattle.pfs_layout.specs.declared.layout.Layout.{Layout}
 use Rattle.pfs_layout.specs.declared.fault.LayoutFault.{LayoutFault}
 use Rattle.pfs_layout.specs.declared.fault.LayoutFault.TheVariants.{TooLong, NoBlock}
 use Rattle.pfs_layout.specs.Bytes.{is_line_end}
-use Rattle.pfs_layout.specs.Lines.{lines, ended_lines, open_line, ended_parts, last_digits}
+use Rattle.pfs_layout.specs.Lines.{lines, ended_lines, open_line, ended_parts}
 use Rattle.pfs_layout.specs.Stand.{Block, Now, seeking, inside, lost, Stand, after_line, stand_after, stand, instance_of}
-use Rattle.pfs_layout.specs.Refuse.{too_long, mixed_line, wrong_number, wrong_size, missing, ends_early, faults, fault_behind, fault_at, refusal, accepted, byte_fault}
+use Rattle.pfs_layout.specs.Refuse.{too_long, mixed_line, wrong_number, wrong_size, missing, ends_early, faults, fault_behind, fault_at, refusal, accepted}
 use Rattle.pfs_layout.specs.Laws.{Completes}
-use Rattle.pfs_layout.proofs.LineLemmas.{ended_parts-push, open_part-push}
+use Rattle.pfs_layout.proofs.LineLemmas.{open_part-push}
 use Rattle.pfs_layout.proofs.PlaceLemmas.{fault_at-append, fault_at-byte, fault_at-end, no_byte_fault, no_fault, not_refused, slice_get-at}
 use Rattle.pfs_layout.proofs.SoundLemmas.{then_some_none, first_none, GoodNow, good_end, same_last, stand-push, stand_of, stand_of-push, sound}
-use Rattle.pfs_layout.proofs.CutLemmas.{last_line, lines_are, lines-line}
-use Rattle.pfs_layout.proofs.GrowLemmas.{OneLine, one_line, Extends, grows, fewer_before, no_end, LineOn, line_on, stand_from, stays_lost}
+use Rattle.pfs_layout.proofs.CutLemmas.{lines_are, lines-line}
+use Rattle.pfs_layout.proofs.GrowLemmas.{OneLine, one_line, Extends, grows, fewer_before, no_end, line_on, stand_from, stays_lost}
 use Rattle.pfs_layout.proofs.LoseLemmas.{LineAt, ends_here, goes_on, loses}
 
 -- the lines of a text that ends with a line end, and of one that doesn't
