@@ -6,6 +6,7 @@ use Rattle.std.proofs.lemmas.List.{append_assoc, append-nil}
 use Rattle.pfs_base.specs.Lists.{is_empty, last_of, all_but_last}
 use Rattle.pfs_layout.specs.Bytes.{is_line_end}
 use Rattle.pfs_layout.specs.Lines.{lines, ended_parts, open_part, ended_lines, open_line}
+use Rattle.pfs_layout.proofs.SoundLemmas.{open_line-none}
 use Rattle.pfs_layout.proofs.LineLemmas.{split_some}
 
 cons_same : {A : Type 0} (x y : A) (xs ys : List A) → x ∷ xs ≡ y ∷ ys → (x ≡ y) × (xs ≡ ys)
@@ -95,10 +96,6 @@ pub record Front (text : List ℕ) (some : List (List ℕ)) : Type 0 where
 lines-none : lines [] ≡ []
 unfolding lines ended_parts open_part
 lines-none = refl
-
-open_line-none : open_line [] ≡ []
-unfolding open_part
-open_line-none = refl
 
 pub front_of_lines : (text : List ℕ) (some more : List (List ℕ)) → lines text ≡ some ++ more → Front text some
 front_of_lines text [] more e = record { front = []; rest = text; whole = refl; are = lines-none; ended = inl open_line-none }

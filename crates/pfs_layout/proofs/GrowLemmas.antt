@@ -99,14 +99,9 @@ fewer_before layout text = by_push Fewer start step
 pub no_end : (text : List ℕ) → list_any is_line_end (open_line text) ≡ false
 no_end = by_push (λ text. list_any is_line_end (open_line text) ≡ false) (ap (list_any is_line_end) open_line-none) more
   where
-    or_false : (a b : Bool) → a ≡ false → b ≡ false → (a || (b || false)) ≡ false
-    or_false true b e f = cc
-    or_false false true e f = cc
-    or_false false false e f = refl
-
     step : (v : Bool) (text : List ℕ) (b : ℕ) → is_line_end b ≡ v → list_any is_line_end (open_line text) ≡ false → list_any is_line_end (if v then [] else open_line text ++ b ∷ []) ≡ false
     step true text b e h = refl
-    step false text b e h = list_any-append is_line_end (open_line text) (b ∷ []) ∙ or_false _ _ h e
+    step false text b e h = list_any-append is_line_end (open_line text) (b ∷ []) ∙ or_from _ _ h (or_from _ false e refl)
 
     more : (text : List ℕ) (b : ℕ) → list_any is_line_end (open_line text) ≡ false → list_any is_line_end (open_line (text ++ b ∷ [])) ≡ false
     more text b h = ap (list_any is_line_end) (open_part-push is_line_end text b) ∙ step (is_line_end b) text b refl h
@@ -154,13 +149,8 @@ line_on line b more none e = by_first (first_line more)
     own : List ℕ
     own = line ++ b ∷ []
 
-    or_false : (a b : Bool) → a ≡ false → b ≡ false → (a || (b || false)) ≡ false
-    or_false true b e f = cc
-    or_false false true e f = cc
-    or_false false false e f = refl
-
     without : (tail : List ℕ) → list_any is_line_end tail ≡ false → list_any is_line_end (own ++ tail) ≡ false
-    without tail h = list_any-append is_line_end own tail ∙ or_from (list_any is_line_end own) (list_any is_line_end tail) (list_any-append is_line_end line (b ∷ []) ∙ or_false _ _ none e) h
+    without tail h = list_any-append is_line_end own tail ∙ or_from (list_any is_line_end own) (list_any is_line_end tail) (list_any-append is_line_end line (b ∷ []) ∙ or_from _ _ none (or_from _ false e refl)) h
 
     by_first : FirstLine more → LineOn own more
     by_first (unended h) = record {

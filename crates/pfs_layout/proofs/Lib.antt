@@ -2,6 +2,7 @@ pub mod BlockLemmas
 mod Computing
 pub mod CutLemmas
 pub mod DueLemmas
+pub mod EndLemmas
 pub mod FileLemmas
 pub mod FrontLemmas
 pub mod GrowLemmas

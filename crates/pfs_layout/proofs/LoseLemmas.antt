@@ -3,7 +3,7 @@ use Rattle.std.proofs.Common.{◌≡◌, ℕ, ◌+◌, ◌-◌, Bool, true, fals
 use Rattle.std.specs.List.{list_any, slice_split, onto_first}
 use Rattle.std.specs.Bool.{then_some}
 use Rattle.std.specs.Str.Parse.{digits_value}
-use Rattle.std.proofs.lemmas.Bool.{and_parts, eqb-true, not-true, or_cases, or_left, ltb-true, lt-leb}
+use Rattle.std.proofs.lemmas.Bool.{and_from, and_parts, eqb-true, not-true, or_cases, or_left, ltb-true, lt-leb}
 use Rattle.std.proofs.lemmas.List.{append_assoc, append-nil, length-append, get_or_push}
 use Rattle.std.proofs.lemmas.List.Folds.{list_any-append}
 use Rattle.pfs_base.specs.declared.limits.TheConstants.{LONGEST_TIME}
@@ -93,13 +93,10 @@ mixed_at_end line b e = subst (λ c. is_mixed (line ++ c ∷ []) ≡ is_mixed li
         ap (λ v. v && list_any is_word_byte (line ++ 10 ∷ [])) (list_any-append is_digit line (10 ∷ []) ∙ or_none (list_any is_digit line))
         ∙ ap (λ v. list_any is_digit line && v) (list_any-append is_word_byte line (10 ∷ []) ∙ or_none (list_any is_word_byte line))
 
-both_true : (a b : Bool) → a ≡ true → b ≡ true → (a && b) ≡ true
-both_true a b p q = ap (λ v. v && b) p ∙ q
-
 mixed_longer : (line more : List ℕ) → is_mixed line ≡ true → is_mixed (line ++ more) ≡ true
 mixed_longer line more e =
     let parts = and_parts (list_any is_digit line) (list_any is_word_byte line) e in
-    both_true (list_any is_digit (line ++ more)) (list_any is_word_byte (line ++ more))
+    and_from (list_any is_digit (line ++ more)) (list_any is_word_byte (line ++ more))
     (list_any-append is_digit line more ∙ or_left (list_any is_digit line) (list_any is_digit more) parts.0)
     (list_any-append is_word_byte line more ∙ or_left (list_any is_word_byte line) (list_any is_word_byte more) parts.1)
 

@@ -40,7 +40,7 @@ byte_fault-push layout k text b =
 -- ---- the first place that has a fault
 
 -- p is the first number from a on at which f gives x
-record IsFirst {A : Type 0} (f : ℕ → Option A) (a p : ℕ) (x : A) : Type 0 where
+pub record IsFirst {A : Type 0} (f : ℕ → Option A) (a p : ℕ) (x : A) : Type 0 where
   pub low : a ≤ p
   pub here : f p ≡ Some x
   pub before : (q : ℕ) → a ≤ q → q < p → f q ≡ None
@@ -63,7 +63,7 @@ step_found f a n x o h (inl more) (inl none) = (
     by_start q low high (inl s) = rw s (h ∙ none)
     by_start q low high (inr d) = more.2.before q (omega arith) high
 
-first_found : {A : Type 0} (f : ℕ → Option A) (a n : ℕ) (x : A) → first_some (map f (range_with_len a n)) ≡ Some x → (p : ℕ) × (p < a + n) × IsFirst f a p x
+pub first_found : {A : Type 0} (f : ℕ → Option A) (a n : ℕ) (x : A) → first_some (map f (range_with_len a n)) ≡ Some x → (p : ℕ) × (p < a + n) × IsFirst f a p x
 first_found f a zero x e = cc
 first_found {A} f a (suc n) x e = by_here (f a) refl e (λ h. first_found f (a + 1) n x h)
   where
@@ -72,7 +72,7 @@ first_found {A} f a (suc n) x e = by_here (f a) refl e (λ h. first_found f (a +
     by_here (Some y) h e more = step_found f a n x (Some y) h (inr e) (inr e)
     by_here None h e more = step_found f a n x None h (inl (more e)) (inl refl)
 
-first_not_found : {A : Type 0} (f : ℕ → Option A) (a n : ℕ) → first_some (map f (range_with_len a n)) ≡ None → (q : ℕ) → a ≤ q → q < a + n → f q ≡ None
+pub first_not_found : {A : Type 0} (f : ℕ → Option A) (a n : ℕ) → first_some (map f (range_with_len a n)) ≡ None → (q : ℕ) → a ≤ q → q < a + n → f q ≡ None
 first_not_found f a zero e q low high = absurd (omega arith)
 first_not_found {A} f a (suc n) e q low high = by_here (f a) refl e (cases_eq q a) (λ h l. first_not_found f (a + 1) n h q l (omega arith))
   where

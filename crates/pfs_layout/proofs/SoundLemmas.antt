@@ -4,7 +4,7 @@ use Rattle.std.specs.List.{list_any, list_all, enumerate_from}
 use Rattle.std.specs.Bool.{then_some}
 use Rattle.std.specs.Option.{option_or}
 use Rattle.std.specs.Str.Parse.{digits_value}
-use Rattle.std.proofs.lemmas.Bool.{ltb-false, lt-ltb, le-leb, not-false, not-true, eqb-true, or_right}
+use Rattle.std.proofs.lemmas.Bool.{and_from, ltb-false, lt-ltb, le-leb, not-false, not-true, eqb-true, or_right}
 use Rattle.std.proofs.lemmas.List.{append-nil, append_assoc, length-append}
 use Rattle.std.proofs.lemmas.List.Folds.{list_any-append, list_all-append}
 use Rattle.std.proofs.lemmas.List.Sums.{fold-append}
@@ -37,19 +37,16 @@ or_none (Some x) p e = cc
 
 -- ---- numbers that are due
 
-and_true : (a b : Bool) → a ≡ true → b ≡ true → (a && b) ≡ true
-and_true a b p q = ap (λ v. v && b) p ∙ q
-
 -- one more number that is due
 pub are_due-push : (layout : Layout) (size : Size) (ns : List ℕ) (n : ℕ) → are_due layout size ns ≡ true → is_due (due_at layout size (length ns)) n ≡ true → are_due layout size (ns ++ n ∷ []) ≡ true
 unfolding are_due due_at
 are_due-push layout size ns n all one =
     let test : ℕ × ℕ → Bool = λ p. is_due (due_at layout size p.0) p.1 in
     let e : 0 + length ns ≡ length ns = omega arith in
-    let last : list_all test ((0 + length ns, n) ∷ []) ≡ true = rw e (and_true (is_due (due_at layout size (length ns)) n) true one refl) in
-    ap (list_all test) (enumerate_from-append 0 ns (n ∷ [])) ∙ list_all-append test (enumerate_from 0 ns) ((0 + length ns, n) ∷ []) ∙ and_true _ _ all last
+    let last : list_all test ((0 + length ns, n) ∷ []) ≡ true = rw e (and_from (is_due (due_at layout size (length ns)) n) true one refl) in
+    ap (list_all test) (enumerate_from-append 0 ns (n ∷ [])) ∙ list_all-append test (enumerate_from 0 ns) ((0 + length ns, n) ∷ []) ∙ and_from _ _ all last
 
-misfit_none : (due : Due) (n offset : ℕ) → misfit due n offset ≡ None → is_due due n ≡ true
+pub misfit_none : (due : Due) (n offset : ℕ) → misfit due n offset ≡ None → is_due due n ≡ true
 misfit_none any_time n offset e = le-leb n LONGEST_TIME (ltb-false LONGEST_TIME n (then_some_none _ _ e))
 misfit_none (machine_number i) n offset e = not-false _ (then_some_none _ _ e)
 misfit_none nothing n offset e = cc
@@ -95,7 +92,7 @@ GoodNow layout (inside block) line = GoodBody layout block line
 GoodNow layout lost line = ⊥
 
 -- a digit at the end of a line is a digit on it
-digit_there : (line : List ℕ) → is_empty (last_digits line) ≡ false → list_any is_digit line ≡ true
+pub digit_there : (line : List ℕ) → is_empty (last_digits line) ≡ false → list_any is_digit line ≡ true
 digit_there = by_push (λ line. is_empty (last_digits line) ≡ false → list_any is_digit line ≡ true) none more
   where
     none : is_empty (last_digits []) ≡ false → list_any is_digit [] ≡ true
@@ -139,7 +136,7 @@ all_due false layout block text next empty due ends right =
 
 -- digits at the end of a text are ended by a blank and by a line end
 digits_ended : (text : List ℕ) (b : ℕ) → is_empty (last_digits (open_line text)) ≡ false → (is_blank b || is_line_end b) ≡ true → ends_number text (Some b) ≡ true
-digits_ended text b there ends = and_true (not (is_empty (last_digits text))) (is_blank b || is_line_end b) (ap not (ap is_empty (same_last text) ∙ there)) ends
+digits_ended text b there ends = and_from (not (is_empty (last_digits text))) (is_blank b || is_line_end b) (ap not (ap is_empty (same_last text) ∙ there)) ends
 
 or_last : (a b : Bool) → b ≡ true → (a || (b || false)) ≡ true
 or_last true b e = refl
@@ -159,7 +156,7 @@ ends_by false line b e no_digit unmixed there =
     let digits : list_any is_digit (line ++ b ∷ []) ≡ true = list_any-append is_digit line (b ∷ []) ∙ ap (λ v. v || (is_digit b || false)) (digit_there line there) in
     let word : is_word_byte b ≡ true = is_word_by (is_digit b) (is_blank b) (is_line_end b) (not-true (is_digit b) no_digit) e in
     let words : list_any is_word_byte (line ++ b ∷ []) ≡ true = list_any-append is_word_byte line (b ∷ []) ∙ or_last (list_any is_word_byte line) (is_word_byte b) word in
-    absurd (let mixed : is_mixed (line ++ b ∷ []) ≡ true = and_true (list_any is_digit (line ++ b ∷ [])) (list_any is_word_byte (line ++ b ∷ [])) digits words in cc)
+    absurd (let mixed : is_mixed (line ++ b ∷ []) ≡ true = and_from (list_any is_digit (line ++ b ∷ [])) (list_any is_word_byte (line ++ b ∷ [])) digits words in cc)
 
 -- a body's line with one more byte that isn't its end
 body_push : (layout : Layout) (block : Block) (text : List ℕ) (b : ℕ) → GoodBody layout block (open_line text)
@@ -220,7 +217,7 @@ good_sought : (v : Bool) (layout : Layout) (text : List ℕ) (next : Option ℕ)
 unfolding wrong_size
 good_sought true layout text next ends e right =
     let stated : Option Size = stated_size layout (numbers (open_line text)) in
-    good_size layout (1 + count_by is_line_end text) stated (sym (ap (λ v. if v then size_fault stated (1 + count_by is_line_end text) else None) (and_true (ends_line text next) (is_number_line (open_line text)) ends e)) ∙ right)
+    good_size layout (1 + count_by is_line_end text) stated (sym (ap (λ v. if v then size_fault stated (1 + count_by is_line_end text) else None) (and_from (ends_line text next) (is_number_line (open_line text)) ends e)) ∙ right)
 good_sought false layout text next ends e right = tt
 
 -- after numbers that are due

@@ -57,11 +57,11 @@ and_false false = refl
 
 module _ (layout : Layout) (k : ℕ) where
   -- no byte of a text has a fault
-  abbrev Faultless : List ℕ → Type 0
+  abbrev pub Faultless : List ℕ → Type 0
   Faultless text = (place : ℕ) → place < length text → fault_at layout k text place ≡ None
 
   -- the lines that are ended leave fewer than k blocks
-  abbrev Few : List ℕ → Type 0
+  abbrev pub Few : List ℕ → Type 0
   Few text = length (stand_of layout text).complete < k
 
   faultless_front : (before after : List ℕ) → Faultless (before ++ after) → Faultless before
@@ -123,7 +123,7 @@ module _ (layout : Layout) (k : ℕ) where
       (λ text b h right few. short_more text b right (few_front text (b ∷ []) few) (h (faultless_front text (b ∷ []) right) (few_front text (b ∷ []) few)))
 
   -- the first byte behind which k blocks are complete
-  record FirstEnough (input : List ℕ) : Type 0 where
+  pub record FirstEnough (input : List ℕ) : Type 0 where
     pub before : List ℕ
     pub byte : ℕ
     pub after : List ℕ
@@ -131,7 +131,7 @@ module _ (layout : Layout) (k : ℕ) where
     pub few : Few before
     pub enough : k ≤ length (stand_of layout (before ++ byte ∷ [])).complete
 
-  first_enough : 1 ≤ k → (input : List ℕ) → k ≤ length (stand_of layout input).complete → FirstEnough input
+  pub first_enough : 1 ≤ k → (input : List ℕ) → k ≤ length (stand_of layout input).complete → FirstEnough input
   first_enough some = by_push (λ input. k ≤ length (stand_of layout input).complete → FirstEnough input) (λ enough. absurd (omega (arith, no_complete layout))) more
     where
       by_few : (input : List ℕ) (b : ℕ) → (k ≤ length (stand_of layout input).complete → FirstEnough input) → k ≤ length (stand_of layout (input ++ b ∷ [])).complete
@@ -156,7 +156,11 @@ module _ (layout : Layout) (k : ℕ) where
       let size = ap (λ (s : Stand). length s.complete) one.1 in
       (one.0, omega (arith, size, length-append complete (one.0 ∷ [])), one.1)
 
-  from_enough : (input : List ℕ) → Faultless input → FirstEnough input → Holds input
+  -- and the front that does ends with a line end
+  abbrev pub EndedHolds : List ℕ → Type 0
+  EndedHolds input = (problem : Problem) × (c : Completes layout input k problem) × (open_line c.text ≡ [])
+
+  pub from_enough : (input : List ℕ) → Faultless input → FirstEnough input → EndedHolds input
   unfolding stand_after
   from_enough input right e = by_end (is_line_end e.byte) refl
     where
@@ -166,7 +170,7 @@ module _ (layout : Layout) (k : ℕ) where
       before : Stand
       before = stand_of layout e.before
 
-      by_end : (v : Bool) → is_line_end e.byte ≡ v → Holds input
+      by_end : (v : Bool) → is_line_end e.byte ≡ v → EndedHolds input
       by_end false ends =
           let same = ap (λ (s : Stand). length s.complete) (stand_of-push layout e.before e.byte ∙ ap (λ v. if v then stand_after layout before (open_line e.before) else before) ends) in
           absurd (omega (arith, e.few, e.enough, same))
@@ -191,6 +195,7 @@ module _ (layout : Layout) (k : ℕ) where
               stands = ap (stand layout) (lines_ended text (ap is_empty open_is)) ∙ stood ∙ one.2;
               is = refl;
             },
+            open_is,
           )
 
   early_end : (now : Now) (complete : ℕ) → GoodNow layout now [] → missing layout k complete now ≡ None → k ≤ complete
@@ -253,7 +258,7 @@ module _ (layout : Layout) (k : ℕ) where
 
       by_few : (length (stand_of layout input).complete < k) ⊎ (k ≤ length (stand_of layout input).complete) → Holds input
       by_few (inl few) = from_end input bytes few (sym (fault_at-end layout k input) ∙ right (length input) (omega arith))
-      by_few (inr enough) = from_enough input bytes (first_enough some input enough)
+      by_few (inr enough) = let held = from_enough input bytes (first_enough some input enough) in (held.0, held.1)
 
   -- ---- a file has no fault
 
@@ -357,7 +362,7 @@ module _ (layout : Layout) (k : ℕ) where
       let at : k - 1 ≡ length earlier = omega (arith, count) in
       ap (λ i. slice_get complete i) at ∙ ap (λ bs. slice_get bs (length earlier)) (longer.1 ∙ append_assoc earlier (own ∷ []) longer.0) ∙ slice_get-at earlier own longer.0
 
-  kth_block : (input : List ℕ) (problem : Problem) (c : Completes layout input k problem) → slice_get (stand layout (lines input)).complete (k - 1) ≡ Some c.own
+  pub kth_block : (input : List ℕ) (problem : Problem) (c : Completes layout input k problem) → slice_get (stand layout (lines input)).complete (k - 1) ≡ Some c.own
   kth_block input problem c = by_ended c.ended
     where
       by_ended : (open_line c.text ≡ []) ⊎ (c.rest ≡ []) → slice_get (stand layout (lines input)).complete (k - 1) ≡ Some c.own

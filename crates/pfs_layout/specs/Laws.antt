@@ -1,17 +1,17 @@
 -- Laws about instance files.
-use Rattle.std.specs.Prelude.{◌≡◌, ◌↔◌, ℕ, ◌+◌, ◌*◌, ◌≤◌, List, [], ◌∷◌, ◌++◌, length, Some, ◌⊎◌, IsTrue}
+use Rattle.std.specs.Prelude.{◌≡◌, ◌↔◌, ℕ, ◌+◌, ◌*◌, ◌<◌, ◌≤◌, List, [], ◌∷◌, ◌++◌, length, Some, None, ◌⊎◌, IsTrue}
 use Rattle.std.specs.List.{All}
 use Rattle.pfs_base.specs.declared.limits.TheConstants.{LONGEST_TIME, LONGEST_INPUT}
 use Rattle.pfs_base.specs.Limits.{limits}
 use Rattle.pfs_base.specs.Problem.{Problem}
 use Rattle.pfs_layout.specs.declared.layout.Layout.{Layout}
 use Rattle.pfs_layout.specs.declared.fault.LayoutFault.{LayoutFault}
-use Rattle.pfs_layout.specs.Lines.{lines, open_line}
+use Rattle.pfs_layout.specs.Lines.{lines, ended_lines, open_line}
 use Rattle.pfs_layout.specs.Size.{Size, size_of}
 use Rattle.pfs_layout.specs.Block.{due, are_due}
 use Rattle.pfs_layout.specs.File.{File}
 use Rattle.pfs_layout.specs.Stand.{Block, seeking, stand, instance_of}
-use Rattle.pfs_layout.specs.Refuse.{Refuse, refusal, accepted}
+use Rattle.pfs_layout.specs.Refuse.{Refuse, refusal, accepted, byte_fault}
 
 -- a front of the input, whose last line ends with byte 10 or with the input, leads to k complete blocks,
 -- the last of which is the problem's
@@ -68,6 +68,19 @@ OneFault = (layout : Layout) (input : List ℕ) (k : ℕ) (one other : LayoutFau
 -- which fault it has can be computed
 abbrev pub RefusalLaw : Type 0
 RefusalLaw = (layout : Layout) (input : List ℕ) (k : ℕ) (fault : LayoutFault) → refusal layout input k ≡ Some fault ↔ Refuse layout input k fault
+
+-- a fault at a byte stays, whatever follows
+abbrev pub FaultStays : Type 0
+FaultStays = (layout : Layout) (text more : List ℕ) (k : ℕ) (fault : LayoutFault) → byte_fault layout k text ≡ Some fault → Refuse layout (text ++ more) k fault
+
+-- the first fault at a byte is the fault, where its place is a byte
+abbrev pub ByteFaultLaw : Type 0
+ByteFaultLaw = (layout : Layout) (text : List ℕ) (k : ℕ) (fault : LayoutFault) → byte_fault layout k text ≡ Some fault ↔ ((refused : Refuse layout text k fault) × (refused.place < length text))
+
+-- where the ended lines of a text without a fault at a byte complete k blocks, what follows is free
+abbrev pub FreeBehind : Type 0
+FreeBehind = (layout : Layout) (text more : List ℕ) (k : ℕ) (problem : Problem) → 1 ≤ k → byte_fault layout k text ≡ None → k ≤ length (stand layout (ended_lines text)).complete
+    → File limits layout text k problem ↔ File limits layout (text ++ more) k problem
 
 -- the numbers that are due give a problem back
 abbrev pub DueAndBack : Type 0

@@ -1,5 +1,5 @@
 //! Laws about the definitions alone.
-ghost use Rattle.pfs_layout.specs.Laws.{FileStands, SomeFile, OneVerdict, OneFault, RefusalLaw, AcceptedLaw, DueAndBack, DueFronts};
+ghost use Rattle.pfs_layout.specs.Laws.{FileStands, SomeFile, OneVerdict, OneFault, RefusalLaw, AcceptedLaw, FaultStays, ByteFaultLaw, FreeBehind, DueAndBack, DueFronts};
 
 /// An input holds a problem's file exactly where the lines of a front of it lead to the wanted number of
 /// complete blocks, the last of which is the problem's.
@@ -30,6 +30,21 @@ pub fn refusal()
 /// Which problem's file an input holds can be computed.
 pub fn accepted()
     ensures { AcceptedLaw }
+{}
+
+/// A fault at a byte stays, whatever follows.
+pub fn fault_stays()
+    ensures { FaultStays }
+{}
+
+/// The first fault at a byte is the input's fault, where that has its place at a byte.
+pub fn byte_fault()
+    ensures { ByteFaultLaw }
+{}
+
+/// What follows the wanted block is free.
+pub fn free_behind()
+    ensures { FreeBehind }
 {}
 
 /// The numbers that are due for a problem give it back.
