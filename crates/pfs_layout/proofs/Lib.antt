@@ -15,3 +15,4 @@ pub mod SizeLemmas
 pub mod SoundLemmas
 pub mod StandLemmas
 pub mod VerdictLemmas
+mod WideLemmas

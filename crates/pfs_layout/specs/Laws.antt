@@ -2,7 +2,7 @@
 use Rattle.std.specs.Prelude.{◌≡◌, ◌↔◌, ℕ, ◌+◌, ◌*◌, ◌<◌, ◌≤◌, List, [], ◌∷◌, ◌++◌, length, Some, None, ◌⊎◌, IsTrue}
 use Rattle.std.specs.List.{All}
 use Rattle.pfs_base.specs.declared.limits.TheConstants.{LONGEST_TIME, LONGEST_INPUT}
-use Rattle.pfs_base.specs.Limits.{limits}
+use Rattle.pfs_base.specs.Limits.{Limits, limits}
 use Rattle.pfs_base.specs.Problem.{Problem}
 use Rattle.pfs_layout.specs.declared.layout.Layout.{Layout}
 use Rattle.pfs_layout.specs.declared.fault.LayoutFault.{LayoutFault}
@@ -81,6 +81,18 @@ ByteFaultLaw = (layout : Layout) (text : List ℕ) (k : ℕ) (fault : LayoutFaul
 abbrev pub FreeBehind : Type 0
 FreeBehind = (layout : Layout) (text more : List ℕ) (k : ℕ) (problem : Problem) → 1 ≤ k → byte_fault layout k text ≡ None → k ≤ length (stand layout (ended_lines text)).complete
     → File limits layout text k problem ↔ File limits layout (text ++ more) k problem
+
+-- no limit is lower
+pub record IsWider (narrow wide : Limits) : Type 0 where
+  pub jobs : narrow.jobs ≤ wide.jobs
+  pub machines : narrow.machines ≤ wide.machines
+  pub time : narrow.time ≤ wide.time
+  pub note : narrow.note ≤ wide.note
+  pub input : narrow.input ≤ wide.input
+
+-- wider limits keep every file
+abbrev pub WiderLimits : Type 0
+WiderLimits = (narrow wide : Limits) (layout : Layout) (input : List ℕ) (k : ℕ) (problem : Problem) → IsWider narrow wide → File narrow layout input k problem → File wide layout input k problem
 
 -- the numbers that are due give a problem back
 abbrev pub DueAndBack : Type 0

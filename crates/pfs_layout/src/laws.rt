@@ -1,5 +1,5 @@
 //! Laws about the definitions alone.
-ghost use Rattle.pfs_layout.specs.Laws.{FileStands, SomeFile, OneVerdict, OneFault, RefusalLaw, AcceptedLaw, FaultStays, ByteFaultLaw, FreeBehind, DueAndBack, DueFronts};
+ghost use Rattle.pfs_layout.specs.Laws.{FileStands, SomeFile, OneVerdict, OneFault, RefusalLaw, AcceptedLaw, FaultStays, ByteFaultLaw, FreeBehind, WiderLimits, DueAndBack, DueFronts};
 
 /// An input holds a problem's file exactly where the lines of a front of it lead to the wanted number of
 /// complete blocks, the last of which is the problem's.
@@ -45,6 +45,11 @@ pub fn byte_fault()
 /// What follows the wanted block is free.
 pub fn free_behind()
     ensures { FreeBehind }
+{}
+
+/// Wider limits keep every file.
+pub fn wider_limits()
+    ensures { WiderLimits }
 {}
 
 /// The numbers that are due for a problem give it back.
