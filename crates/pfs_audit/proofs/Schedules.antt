@@ -81,8 +81,8 @@ pub least_schedule_law : LeastScheduleLaw
 least_schedule_law shop order = (is_least_schedule shop order, ends_by_makespan shop order)
 
 pub none_ends_earlier : NoneEndsEarlier
-none_ends_earlier shop [] starts time some feasible by = omega arith
-none_ends_earlier shop (job ∷ jobs) starts time some feasible by =
+none_ends_earlier shop [] some starts time feasible by = omega arith
+none_ends_earlier shop (job ∷ jobs) some starts time feasible by =
     let order = job ∷ jobs in
     let row = length jobs in
     let machine = shop.machines - 1 in
