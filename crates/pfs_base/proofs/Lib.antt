@@ -1,4 +1,6 @@
 pub mod Heads
 pub mod Heaviest
+pub mod Lists
 mod MakespanLaws
-mod Sent
+pub mod SendsLemmas
+pub mod Sent

@@ -1,3 +1,2 @@
 pub mod OrderText
 pub mod Sequence
-pub mod Text

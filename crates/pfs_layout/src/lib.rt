@@ -1,0 +1,10 @@
+//! What the files of flow shop instances are: their lines, blocks and faults, and laws about them.
+#![tactic(auto)]
+
+pub mod examples;
+pub mod fault;
+pub mod laws;
+pub mod layout;
+
+pub use fault::LayoutFault;
+pub use layout::Layout;
