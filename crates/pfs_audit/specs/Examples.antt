@@ -1,5 +1,5 @@
 -- Small shops.
-use Rattle.std.specs.Prelude.{ℕ, List, [], ◌∷◌, map}
+use Rattle.std.specs.Prelude.{ℕ, List, [], ◌∷◌}
 use Rattle.pfs_base.specs.FlowShop.{FlowShop}
 
 -- three jobs on two machines: 3 and 2, 2 and 5, 4 and 1
