@@ -3,6 +3,7 @@
 
 pub mod fault;
 pub mod file;
+pub mod laws;
 pub mod order;
 pub mod reading;
 pub mod scan;
