@@ -2,10 +2,17 @@ pub mod BlockLemmas
 mod Computing
 pub mod CutLemmas
 pub mod DueLemmas
+pub mod EndLemmas
 pub mod FileLemmas
+pub mod FrontLemmas
+pub mod GrowLemmas
+pub mod LawLemmas
 pub mod LineLemmas
+pub mod LoseLemmas
 pub mod PlaceLemmas
 pub mod RoundLemmas
 pub mod SizeLemmas
 pub mod SoundLemmas
 pub mod StandLemmas
+pub mod VerdictLemmas
+mod WideLemmas
