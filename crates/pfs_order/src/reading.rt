@@ -33,6 +33,7 @@ pub fn read_order<R: Source>(alloc: Global, reader: &mut R) -> Result<OrderFile,
         IsOrderFile input file → IsUnlessFailed result (Ok file)) }
     ensures refuses { IfSome (R.left reader.old) (λ input. (fault : OrderFault) →
         RefusesOrder input fault → IsUnlessFailed result (Err fault)) }
+    ensures ended { OnOk result (IsAtEnd (R.left reader.new)) }
     ensures failed { result ≡ Err OrderFault.Read → R.has_failed reader.new ≡ true }
     ensures working { R.has_failed reader.new ≡ true → result ≡ Err OrderFault.Read }
 {
