@@ -19,11 +19,11 @@ use Rattle.pfs_layout.specs.Block.{any_time, machine_number, nothing, is_due, du
 use Rattle.pfs_layout.specs.Stand.{place_of_time}
 
 module _ (f : ℕ → List ℕ) (w : ℕ) (each : (i : ℕ) → length (f i) ≡ w) where
-  length-rows : (a n : ℕ) → length (flat_map f (range_with_len a n)) ≡ n * w
+  pub length-rows : (a n : ℕ) → length (flat_map f (range_with_len a n)) ≡ n * w
   length-rows a zero = omega arith
   length-rows a (suc n) = length-append (f a) (flat_map f (range_with_len (a + 1) n)) ∙ grind (arith, each a, length-rows (a + 1) n)
 
-  get_or-rows : (a n r c d : ℕ) → r < n → c < w → get_or (flat_map f (range_with_len a n)) (r * w + c) d ≡ get_or (f (a + r)) c d
+  pub get_or-rows : (a n r c d : ℕ) → r < n → c < w → get_or (flat_map f (range_with_len a n)) (r * w + c) d ≡ get_or (f (a + r)) c d
   get_or-rows a zero r c d h l = absurd (omega arith)
   get_or-rows a (suc n) zero c d h l =
       let e : 0 * w + c ≡ c = omega arith in
@@ -89,7 +89,7 @@ pub record IsAt (k rows width : ℕ) : Type 0 where
   pub column_in : column < width
   pub is : k ≡ row * width + column
 
-at_row : (k rows width : ℕ) → 0 < width → k < rows * width → IsAt k rows width
+pub at_row : (k rows width : ℕ) → 0 < width → k < rows * width → IsAt k rows width
 at_row k rows width w h = record {
   row = k / width;
   column = k % width;

@@ -1,6 +1,7 @@
 pub mod BlockLemmas
 mod Computing
 pub mod DueLemmas
+pub mod GeneratorLemmas
 pub mod LineLemmas
 pub mod PlaceLemmas
 pub mod SizeLemmas

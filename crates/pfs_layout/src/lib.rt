@@ -3,8 +3,10 @@
 
 pub mod examples;
 pub mod fault;
+pub mod generator;
 pub mod laws;
 pub mod layout;
 
 pub use fault::LayoutFault;
+pub use generator::generate;
 pub use layout::Layout;
