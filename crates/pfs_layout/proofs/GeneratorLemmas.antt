@@ -1,12 +1,17 @@
 -- Seeds of the generator, and times that are set one by one.
-use Rattle.std.proofs.Common.{◌≡◌, ◌≢◌, ℕ, zero, suc, ◌+◌, ◌*◌, ◌/◌, ◌%◌, ◌<◌, ◌≤◌, ◌⊎◌, inl, inr, List, length, get_or, add-one, refl, sym, ◌∙◌, ap, arith}
+use Rattle.std.proofs.Common.{◌≡◌, ◌≢◌, ℕ, zero, suc, ◌+◌, ◌*◌, ◌/◌, ◌%◌, ◌<◌, ◌≤◌, ◌⊎◌, inl, inr, List, length, map, flat_map, get_or, add-one, refl, sym, ◌∙◌, ap, arith}
 use Rattle.std.proofs.lemmas.Bool.{cases_order}
 use Rattle.std.proofs.Math.Nat.{mul_comm}
 use Rattle.std.proofs.lemmas.Nat.{div-mul-add, mod-mul-add, mul-add-lt}
+use Rattle.std.proofs.lemmas.Grind.{same_number_lists}
+use Rattle.std.proofs.lemmas.List.FromFn.{get_or-map-range_with_len, length-map-range_with_len}
 use Rattle.std.proofs.lemmas.List.{get_or-set_same, get_or-set_other, length-set}
 use Rattle.pfs_base.specs.FlowShop.{FlowShop, time_of, with_time}
 use Rattle.pfs_base.specs.Problem.{Problem}
-use Rattle.pfs_layout.specs.Generator.{prime, seed_after, drawn_time}
+use Rattle.pfs_base.specs.declared.notes.Notes.{Notes}
+use Rattle.pfs_layout.specs.Generator.{prime, seed_after, drawn_time, generated}
+use Rattle.pfs_layout.proofs.DueLemmas.{length-rows, get_or-rows, IsAt, at_row}
+use Rattle.pfs_base.specs.Lists.{below}
 
 pub seed_after-below : (draws seed : ℕ) → seed < prime → seed_after draws seed < prime
 unfolding seed_after
@@ -75,3 +80,76 @@ drawn_more first before machine jobs seed now h j m =
     by_order job k (inr (inl less)) last row column =
         with_time-other now.shop jobs machine (drawn_time (16807 * seed % prime)) job machine column column (λ same. absurd (omega arith)) ∙ h.drawn job less
     by_order job k (inr (inr more)) last row column = absurd (omega arith)
+
+-- the times on so many machines are drawn, the last by this seed
+pub record DrawnMachines (jobs machines first done seed : ℕ) (now : Problem) : Type 0 where
+  pub last : seed ≡ seed_after (done * jobs) first
+  pub below : seed < prime
+  pub same_jobs : now.shop.jobs ≡ jobs
+  pub same_machines : now.shop.machines ≡ machines
+  pub every_time : length now.shop.times ≡ jobs * machines
+  pub same_notes : now.notes ≡ record { seed = first; upper = 0; lower = 0 }
+  pub drawn : (job machine : ℕ) → job < jobs → machine < done → time_of now.shop job machine ≡ drawn_time (seed_after (machine * jobs + job + 1) first)
+
+pub machine_more : (jobs machines first done seed next : ℕ) (now then : Problem) → DrawnMachines jobs machines first done seed now → done < machines → DrawnSoFar seed now done jobs next then
+    → DrawnMachines jobs machines first (done + 1) next then
+machine_more jobs machines first done seed next now then h less more =
+    record {
+      last = more.last ∙ drawn_behind jobs ∙ (let e : jobs + done * jobs ≡ (done + 1) * jobs = grind arith in ap (λ n. seed_after n first) e);
+      below = more.below;
+      same_jobs = more.same_jobs ∙ h.same_jobs;
+      same_machines = more.same_machines ∙ h.same_machines;
+      every_time = rw (more.same_jobs, more.same_machines, h.same_jobs, h.same_machines) at more.every_time;
+      same_notes = more.same_notes ∙ h.same_notes;
+      drawn = λ job machine j m. by_order job machine j m (cases_order machine done);
+    }
+  where
+    drawn_behind : (more : ℕ) → seed_after more seed ≡ seed_after (more + done * jobs) first
+    drawn_behind more = ap (seed_after more) h.last ∙ sym (seed_after-add more (done * jobs) first)
+
+    by_order : (job machine : ℕ) → job < jobs → machine < done + 1 → (machine ≡ done) ⊎ ((machine < done) ⊎ (done < machine))
+        → time_of then.shop job machine ≡ drawn_time (seed_after (machine * jobs + job + 1) first)
+    by_order job machine j m (inl e) =
+        let place : (job + 1) + done * jobs ≡ done * jobs + job + 1 = omega arith in
+        rw e (more.drawn job j ∙ ap drawn_time (drawn_behind (job + 1) ∙ ap (λ n. seed_after n first) place))
+    by_order job machine j m (inr (inl before)) =
+        more.others job machine (omega (arith, h.same_machines)) (λ e. omega arith) ∙ h.drawn job machine j before
+    by_order job machine j m (inr (inr behind)) = absurd (omega arith)
+
+-- the times on all machines are drawn
+pub drawn_all : (jobs machines first seed : ℕ) (now : Problem) → 0 < machines → DrawnMachines jobs machines first machines seed now → now ≡ generated jobs machines first
+unfolding generated
+drawn_all jobs machines first seed now some h =
+    let times = same_number_lists now.shop.times drawn_times (h.every_time ∙ sym (length-rows row machines length-row 0 jobs)) each in
+    ap (λ j. made j now.shop.machines now.shop.times now.notes) h.same_jobs
+        ∙ ap (λ m. made jobs m now.shop.times now.notes) h.same_machines
+        ∙ ap (λ t. made jobs machines t now.notes) times
+        ∙ ap (λ n. made jobs machines drawn_times n) h.same_notes
+  where
+    made : ℕ → ℕ → List ℕ → Notes → Problem
+    made jobs machines times notes = record { shop = record { jobs = jobs; machines = machines; times = times }; notes = notes }
+
+    time : ℕ → ℕ → ℕ
+    time job machine = drawn_time (seed_after (machine * jobs + job + 1) first)
+
+    row : ℕ → List ℕ
+    row job = map (λ machine. time job machine) (below machines)
+
+    drawn_times : List ℕ
+    drawn_times = flat_map row (below jobs)
+
+    length-row : (job : ℕ) → length (row job) ≡ machines
+    length-row job = length-map-range_with_len (λ machine. time job machine) 0 machines
+
+    each : (k : ℕ) → k < length now.shop.times → get_or now.shop.times k 0 ≡ get_or drawn_times k 0
+    each k less =
+        let at = at_row k jobs machines some (omega (arith, h.every_time)) in
+        let job_is : 0 + at.row ≡ at.row = omega arith in
+        let drawn : get_or drawn_times (at.row * machines + at.column) 0 ≡ time at.row at.column =
+            get_or-rows row machines length-row 0 jobs at.row at.column 0 at.row_in at.column_in
+            ∙ get_or-map-range_with_len (λ machine. time (0 + at.row) machine) 0 machines at.column at.column 0 at.column_in (omega arith)
+            ∙ ap (λ job. time job at.column) job_is in
+        ap (λ i. get_or now.shop.times i 0) at.is
+            ∙ ap (λ w. get_or now.shop.times (at.row * w + at.column) 0) (sym h.same_machines)
+            ∙ h.drawn at.row at.column at.row_in at.column_in
+            ∙ sym (ap (λ i. get_or drawn_times i 0) at.is ∙ drawn)

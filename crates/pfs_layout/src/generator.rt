@@ -1,5 +1,5 @@
 //! Instances that are drawn.
-ghost use Rattle.std.specs.Prelude.{◌≡◌, ◌≢◌, ◌↔◌, ℕ, ◌+◌, ◌*◌, ◌%◌, ◌<◌, ◌≤◌, ◌⊎◌, IfOk, IfErr};
+ghost use Rattle.std.specs.Prelude.{◌≡◌, ◌≢◌, ◌↔◌, ℕ, ◌+◌, ◌*◌, ◌%◌, ◌<◌, ◌≤◌, ◌⊎◌, length, IfOk, IfErr};
 ghost use Rattle.pfs_base.specs.FlowShop.{time_of};
 ghost use Rattle.pfs_base.specs.declared.limits.TheConstants.{MOST_JOBS, MOST_MACHINES};
 ghost use Rattle.pfs_layout.specs.Generator.{prime, IsSeed, seed_after, drawn_time, generated};
@@ -58,9 +58,10 @@ fn draw_times(instance: &mut Instance, machine: usize, seed: u64) -> u64
     ensures below { result < prime }
     ensures jobs { instance.new.shop.jobs ≡ instance.old.shop.jobs }
     ensures machines { instance.new.shop.machines ≡ instance.old.shop.machines }
+    ensures times { length instance.new.shop.times ≡ length instance.old.shop.times }
     ensures notes { instance.new.notes ≡ instance.old.notes }
     ensures drawn { (job : ℕ) → job < instance.old.shop.jobs → time_of instance.new.shop job machine ≡ drawn_time (seed_after (job + 1) seed) }
-    ensures others { (job other : ℕ) → job < instance.old.shop.jobs → other < instance.old.shop.machines → other ≢ machine → time_of instance.new.shop job other ≡ time_of instance.old.shop job other }
+    ensures others { (job other : ℕ) → other < instance.old.shop.machines → other ≢ machine → time_of instance.new.shop job other ≡ time_of instance.old.shop job other }
 {
     let mut drawn = seed;
     for job in 0..instance.jobs() {
