@@ -5,3 +5,4 @@ pub mod Lists
 pub mod Paths
 pub mod Problem
 pub mod Text
+pub mod Writing

@@ -9,6 +9,7 @@ pub mod laws;
 pub mod limits;
 pub mod metered;
 pub mod notes;
+pub mod print;
 
 pub use bench::{Bench, Length, SPAN_MAX, Shop};
 pub use device::{FromRead, Sink, Source, ToWrite, WriteFault, put};
@@ -19,3 +20,4 @@ pub use limits::{
 };
 pub use metered::{Metered, Span};
 pub use notes::Notes;
+pub use print::{put_entry, put_line, put_named, put_number};
