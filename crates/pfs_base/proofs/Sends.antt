@@ -1,5 +1,5 @@
 -- Texts that are written part by part.
-use Rattle.std.proofs.Common.{◌≡◌, ℕ, ◌+◌, ◌-◌, ◌<◌, ◌≤◌, ◌^◌, Bool, false, List, [], ◌∷◌, ◌++◌, Option, Ok, Err, Result, length, take, refl, sym, ◌∙◌, ap, subst, arith, length-append}
+use Rattle.std.proofs.Common.{◌≡◌, ℕ, ◌+◌, ◌-◌, ◌<◌, ◌≤◌, ◌^◌, Bool, false, List, [], ◌∷◌, ◌++◌, Option, Ok, Err, Result, IfOk, IfErr, OnOk, OnErr, true, length, take, refl, sym, ◌∙◌, ap, subst, arith, length-append}
 use Rattle.std.proofs.lemmas.List.{take-append-le}
 use Rattle.std.proofs.Math.Seq.{take-append-add}
 use Rattle.std.proofs.KnownBytes.{Appends-nil, Appends-trans}
@@ -68,3 +68,20 @@ pub goes_on-stopped : (a b c : Option (List ℕ)) (worked failed : Bool) (sent m
 goes_on-stopped a b c worked failed sent middle reached text done part next on p q =
     let front = sends_stopped a b c worked failed sent middle reached done part p q in
     rw (on.whole, on.adds) (sends_front a c failed sent reached (done ++ part) on.rest front)
+
+-- what `put` ensures
+pub put_sends : (a b : Option (List ℕ)) (failed : Bool) (sent : ℕ) (bytes : List ℕ) (result : Result ℕ WriteFault)
+    → IfOk result (λ total. total ≡ sent + length bytes) → OnOk result (Appends a b bytes) → OnOk result (failed ≡ false) → OnErr result (failed ≡ true)
+    → IfErr result (λ fault. (sent ≤ fault.written) × (fault.written ≤ sent + length bytes)) → IfErr result (λ fault. Appends a b (take (fault.written - sent) bytes))
+    → Sends a b failed sent bytes result
+put_sends a b failed sent bytes (Ok total) counted all working stopped within front = record { working = working; counted = counted; bytes = all }
+put_sends a b failed sent bytes (Err fault) counted all working stopped within front = record { stopped = stopped; from = within.0; within = within.1; bytes = front }
+
+-- the last part of a text
+pub sends_last : (a b c : Option (List ℕ)) (worked failed : Bool) (sent middle : ℕ) (text done part : List ℕ) (result : Result ℕ WriteFault) → text ≡ done ++ part
+    → SendsAll a b worked sent done middle → Sends b c failed middle part result → Sends a c failed sent text result
+sends_last a b c worked failed sent middle text done part result whole p q = rw whole (sends_then a b c worked failed sent middle done part result p q)
+
+pub last_fits : (a b : Option (List ℕ)) (worked : Bool) (sent middle : ℕ) (text done part : List ℕ) → text ≡ done ++ part → SendsAll a b worked sent done middle
+    → sent + length text < 2 ^ 64 → middle + length part < 2 ^ 64
+last_fits a b worked sent middle text done part whole p fits = omega (arith, p.counted, ap length whole, length-append done part)

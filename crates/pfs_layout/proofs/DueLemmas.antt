@@ -35,14 +35,14 @@ module _ (f : ℕ → List ℕ) (w : ℕ) (each : (i : ℕ) → length (f i) ≡
       rw e (get_or-append-add (f a) (flat_map f (range_with_len (a + 1) n)) (r * w + c) d ∙ get_or-rows (a + 1) n r c d (omega arith) l ∙ ap (λ i. get_or (f i) c d) g)
 
 -- a machine and its time
-abbrev pairs_of : FlowShop → ℕ → ℕ → List ℕ
+abbrev pub pairs_of : FlowShop → ℕ → ℕ → List ℕ
 pairs_of shop job machine = machine ∷ time_of shop job machine ∷ []
 
-abbrev row_width : Layout → FlowShop → ℕ
+abbrev pub row_width : Layout → FlowShop → ℕ
 row_width Taillard shop = shop.jobs
 row_width OrLib shop = shop.machines * 2
 
-length-due_row : (layout : Layout) (shop : FlowShop) (r : ℕ) → length (due_row layout shop r) ≡ row_width layout shop
+pub length-due_row : (layout : Layout) (shop : FlowShop) (r : ℕ) → length (due_row layout shop r) ≡ row_width layout shop
 unfolding due_row
 length-due_row Taillard shop r = length-map-range_with_len (λ job. time_of shop job r) 0 shop.jobs
 length-due_row OrLib shop r = length-rows (pairs_of shop r) 2 (λ i. refl) 0 shop.machines

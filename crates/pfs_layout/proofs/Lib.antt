@@ -6,3 +6,4 @@ pub mod LineLemmas
 pub mod PlaceLemmas
 pub mod SizeLemmas
 pub mod SoundLemmas
+pub mod WritingLemmas

@@ -7,6 +7,7 @@ use Rattle.pfs_base.specs.Problem.{Problem}
 use Rattle.pfs_base.specs.Text.{with_line_end, spaced}
 use Rattle.pfs_layout.specs.declared.layout.Layout.{Layout}
 use Rattle.pfs_layout.specs.declared.layout.Layout.TheVariants.{Taillard, OrLib}
+use Rattle.pfs_layout.specs.Size.{Size, size_of}
 use Rattle.pfs_layout.specs.Block.{due_row, row_count}
 use Rattle.pfs_layout.specs.File.{IsInstance, File}
 
@@ -14,16 +15,18 @@ use Rattle.pfs_layout.specs.File.{IsInstance, File}
 abbrev pub row_lines : Layout → FlowShop → List ℕ
 row_lines layout shop = flat_map (λ row. with_line_end (spaced (due_row layout shop row))) (below (row_count layout shop))
 
-unfoldable pub canonical_text : Layout → Problem → List ℕ
-canonical_text Taillard problem =
+-- the lines before the body
+abbrev pub head_lines : Layout → Size → List ℕ
+head_lines Taillard size =
     with_line_end (codes "number of jobs, number of machines, initial seed, upper bound and lower bound :")
-    ++ with_line_end (spaced (problem.shop.jobs ∷ problem.shop.machines ∷ problem.notes.seed ∷ problem.notes.upper ∷ problem.notes.lower ∷ []))
+    ++ with_line_end (spaced (size.jobs ∷ size.machines ∷ size.notes.seed ∷ size.notes.upper ∷ size.notes.lower ∷ []))
     ++ with_line_end (codes "processing times :")
-    ++ row_lines Taillard problem.shop
-canonical_text OrLib problem =
+head_lines OrLib size =
     with_line_end (codes "flow shop instance")
-    ++ with_line_end (spaced (problem.shop.jobs ∷ problem.shop.machines ∷ []))
-    ++ row_lines OrLib problem.shop
+    ++ with_line_end (spaced (size.jobs ∷ size.machines ∷ []))
+
+unfoldable pub canonical_text : Layout → Problem → List ℕ
+canonical_text layout problem = head_lines layout (size_of problem) ++ row_lines layout problem.shop
 
 -- what the text holds of a problem: the layout of the OR-Library has no notes
 abbrev pub as_written : Layout → Problem → Problem
