@@ -1,4 +1,5 @@
 pub mod BlockLemmas
+pub mod CanonicalLemmas
 mod Computing
 pub mod DueLemmas
 pub mod GeneratorLemmas
