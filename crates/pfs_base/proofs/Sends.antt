@@ -85,3 +85,9 @@ sends_last a b c worked failed sent middle text done part result whole p q = rw 
 pub last_fits : (a b : Option (List ℕ)) (worked : Bool) (sent middle : ℕ) (text done part : List ℕ) → text ≡ done ++ part → SendsAll a b worked sent done middle
     → sent + length text < 2 ^ 64 → middle + length part < 2 ^ 64
 last_fits a b worked sent middle text done part whole p fits = omega (arith, p.counted, ap length whole, length-append done part)
+
+-- a front of a text of which nothing went out before
+pub front_of_whole : (a b : Option (List ℕ)) (failed : Bool) (reached : ℕ) (text : List ℕ) → SendsFront a b failed 0 text reached → (reached ≤ length text) × Appends a b (take reached text)
+front_of_whole a b failed reached text front =
+    let same : reached - 0 ≡ reached = omega arith in
+    (omega (arith, front.within), subst (λ n. Appends a b (take n text)) same front.bytes)
