@@ -70,7 +70,7 @@ time_due OrLib problem job machine j m =
 -- ---- what is due passes
 
 -- the times are within the limit
-short_at : (times : List ℕ) → All (λ time. time ≤ LONGEST_TIME) times → (k : ℕ) → get_or times k 0 ≤ LONGEST_TIME
+pub short_at : (times : List ℕ) → All (λ time. time ≤ LONGEST_TIME) times → (k : ℕ) → get_or times k 0 ≤ LONGEST_TIME
 short_at times short k = by_order (cases_order k (length times))
   where
     past : length times ≤ k → get_or times k 0 ≤ LONGEST_TIME

@@ -23,11 +23,11 @@ row_line layout shop row = with_line_end (spaced (due_row layout shop row))
 abbrev pub row_begun : Layout → FlowShop → ℕ → ℕ → List ℕ
 row_begun layout shop row count = spaced (take count (due_row layout shop row))
 
-time_in_row : (shop : FlowShop) (machine job : ℕ) → job < shop.jobs → get_or (due_row Taillard shop machine) job 0 ≡ time_of shop job machine
+pub time_in_row : (shop : FlowShop) (machine job : ℕ) → job < shop.jobs → get_or (due_row Taillard shop machine) job 0 ≡ time_of shop job machine
 unfolding due_row
 time_in_row shop machine job less = get_or-map-range_with_len (λ i. time_of shop i machine) 0 shop.jobs job job 0 less (omega arith)
 
-pair_in_row : (shop : FlowShop) (job machine column : ℕ) → machine < shop.machines → column < 2 → get_or (due_row OrLib shop job) (2 * machine + column) 0 ≡ get_or (pairs_of shop job machine) column 0
+pub pair_in_row : (shop : FlowShop) (job machine column : ℕ) → machine < shop.machines → column < 2 → get_or (due_row OrLib shop job) (2 * machine + column) 0 ≡ get_or (pairs_of shop job machine) column 0
 unfolding due_row
 pair_in_row shop job machine column less within =
     let place : 2 * machine + column ≡ machine * 2 + column = omega arith in

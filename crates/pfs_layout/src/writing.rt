@@ -26,7 +26,8 @@ pub fn write_block<W: Sink>(
 {
     let jobs = instance.jobs();
     let machines = instance.machines();
-    let sent = put_head(writer, layout, jobs as u64, machines as u64, instance.notes())?;
+    let notes = instance.notes();
+    let sent = put_head(writer, layout, jobs as u64, machines as u64, notes)?;
     put_rows(writer, instance, layout, sent)?;
     Ok(())
 }
