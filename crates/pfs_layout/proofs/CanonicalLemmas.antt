@@ -71,7 +71,7 @@ row_fits OrLib shop job within k less =
     let pair = at_row k shop.machines 2 (lit< tt) (omega (arith, length-due_row OrLib shop job)) in
     let place : k ≡ 2 * pair.row + pair.column = omega (arith, pair.is) in
     let number : get_or (due_row OrLib shop job) k 0 ≡ get_or (pairs_of shop job pair.row) pair.column 0 =
-        ap (λ i. get_or (due_row OrLib shop job) i 0) place ∙ pair_in_row shop job pair.row pair.column pair.row_in pair.column_in in
+    ap (λ i. get_or (due_row OrLib shop job) i 0) place ∙ pair_in_row shop job pair.row pair.column pair.row_in pair.column_in in
     rw number (by_column pair.row pair.column pair.row_in pair.column_in)
   where
     by_column : (machine column : ℕ) → machine < shop.machines → column < 2 → get_or (pairs_of shop job machine) column 0 < 2 ^ 64

@@ -122,9 +122,9 @@ unfolding generated
 drawn_all jobs machines first seed now some h =
     let times = same_number_lists now.shop.times drawn_times (h.every_time ∙ sym (length-rows row machines length-row 0 jobs)) each in
     ap (λ j. made j now.shop.machines now.shop.times now.notes) h.same_jobs
-        ∙ ap (λ m. made jobs m now.shop.times now.notes) h.same_machines
-        ∙ ap (λ t. made jobs machines t now.notes) times
-        ∙ ap (λ n. made jobs machines drawn_times n) h.same_notes
+    ∙ ap (λ m. made jobs m now.shop.times now.notes) h.same_machines
+    ∙ ap (λ t. made jobs machines t now.notes) times
+    ∙ ap (λ n. made jobs machines drawn_times n) h.same_notes
   where
     made : ℕ → ℕ → List ℕ → Notes → Problem
     made jobs machines times notes = record { shop = record { jobs = jobs; machines = machines; times = times }; notes = notes }
@@ -146,10 +146,10 @@ drawn_all jobs machines first seed now some h =
         let at = at_row k jobs machines some (omega (arith, h.every_time)) in
         let job_is : 0 + at.row ≡ at.row = omega arith in
         let drawn : get_or drawn_times (at.row * machines + at.column) 0 ≡ time at.row at.column =
-            get_or-rows row machines length-row 0 jobs at.row at.column 0 at.row_in at.column_in
-            ∙ get_or-map-range_with_len (λ machine. time (0 + at.row) machine) 0 machines at.column at.column 0 at.column_in (omega arith)
-            ∙ ap (λ job. time job at.column) job_is in
+        get_or-rows row machines length-row 0 jobs at.row at.column 0 at.row_in at.column_in
+        ∙ get_or-map-range_with_len (λ machine. time (0 + at.row) machine) 0 machines at.column at.column 0 at.column_in (omega arith)
+        ∙ ap (λ job. time job at.column) job_is in
         ap (λ i. get_or now.shop.times i 0) at.is
-            ∙ ap (λ w. get_or now.shop.times (at.row * w + at.column) 0) (sym h.same_machines)
-            ∙ h.drawn at.row at.column at.row_in at.column_in
-            ∙ sym (ap (λ i. get_or drawn_times i 0) at.is ∙ drawn)
+        ∙ ap (λ w. get_or now.shop.times (at.row * w + at.column) 0) (sym h.same_machines)
+        ∙ h.drawn at.row at.column at.row_in at.column_in
+        ∙ sym (ap (λ i. get_or drawn_times i 0) at.is ∙ drawn)

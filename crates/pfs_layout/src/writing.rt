@@ -147,7 +147,12 @@ fn put_job<W: Sink>(
     for machine in 0..instance.machines() {
         let place = 2 * machine;
         reached = put_entry(writer, place, machine as u64, reached)?;
-        reached = put_entry(writer, place + 1, instance.time(job, machine) as u64, reached)?;
+        reached = put_entry(
+            writer,
+            place + 1,
+            instance.time(job, machine) as u64,
+            reached,
+        )?;
     }
     put(writer, b"\n", reached)
 }

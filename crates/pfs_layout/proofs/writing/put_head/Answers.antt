@@ -44,7 +44,7 @@ returns-in_ok-sent-in-Taillard-2 g c =
     let sizes : List ℕ = with_line_end (spaced (c.args.jobs ∷ c.args.machines ∷ c.args.notes.seed ∷ c.args.notes.upper ∷ c.args.notes.lower ∷ [])) in
     let end = c.put-in-Taillard.ensures in
     let both = sends_then _ _ _ _ _ c.in_ok-sent-in-Taillard.sent c.in_ok-sent-in-Taillard-2.sent sizes times_heading _ c.in_ok-sent-in-Taillard-2.ensures
-        (put_sends _ _ _ c.in_ok-sent-in-Taillard-2.sent times_heading _ end.sent end.all end.working end.failed end.counted end.front) in
+    (put_sends _ _ _ c.in_ok-sent-in-Taillard-2.sent times_heading _ end.sent end.all end.working end.failed end.counted end.front) in
     rw c.in-Taillard.is (sends_then _ _ _ _ _ 0 c.in_ok-sent-in-Taillard.sent heading (sizes ++ times_heading) _ title both)
 
 pub returns-in_ok-sent-in-OrLib : goal.returns-in_ok-sent-in-OrLib
