@@ -24,7 +24,7 @@ use Rattle.pfs_layout.proofs.WritingLemmas.{row_line, time_in_row, pair_in_row}
 abbrev pub AllFit : List ℕ → Type 0
 AllFit ns = (k : ℕ) → k < length ns → get_or ns k 0 < 2 ^ 64
 
-fit_more : (n : ℕ) (ns : List ℕ) → AllFit (n ∷ ns) → AllFit ns
+pub fit_more : (n : ℕ) (ns : List ℕ) → AllFit (n ∷ ns) → AllFit ns
 fit_more n ns fit k less = fit (suc k) (omega arith)
 
 short_numeral : (n : ℕ) → n < 2 ^ 64 → length (decimal n) ≤ 20
@@ -64,7 +64,7 @@ times_title = codes "processing times :"
 head_within : (title line more : List ℕ) → length line ≤ 106 → length title + length more ≤ 800 → length (title ++ (line ++ more)) ≤ 1000
 head_within title line more short rest = omega (arith, length-append title (line ++ more), length-append line more)
 
-row_fits : (layout : Layout) (shop : FlowShop) (row : ℕ) → IsWithin limits shop → AllFit (due_row layout shop row)
+pub row_fits : (layout : Layout) (shop : FlowShop) (row : ℕ) → IsWithin limits shop → AllFit (due_row layout shop row)
 row_fits Taillard shop machine within k less =
     omega (arith, time_in_row shop machine k (omega (arith, length-due_row Taillard shop machine)), short_at shop.times within.short_times (k * shop.machines + machine))
 row_fits OrLib shop job within k less =

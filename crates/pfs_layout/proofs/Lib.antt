@@ -1,4 +1,5 @@
 pub mod BlockLemmas
+pub mod CanonicalFile
 pub mod CanonicalLemmas
 mod Computing
 pub mod DueLemmas

@@ -143,7 +143,7 @@ fn draws_the_published_times(rt: HostRuntime) -> Result<(), Fail> {
     let instance = generate(rt.alloc(), 20, 5, 873_654_221)?;
     let mut sum = 0u64;
     for job in 0..instance.jobs() {
-        sum += instance.time(job, 0) as u64;
+        sum = sum.saturating_add(instance.time(job, 0) as u64);
     }
     assert_eq!(rt; sum, 1121);
     Ok(())
