@@ -3,5 +3,6 @@ pub mod Heaviest
 pub mod Lists
 mod MakespanLaws
 pub mod Printing
-pub mod Sends
+pub mod SendsLemmas
+pub mod SendsOn
 pub mod Sent

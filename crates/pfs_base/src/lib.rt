@@ -20,4 +20,3 @@ pub use limits::{
 };
 pub use metered::{Metered, Span};
 pub use notes::Notes;
-pub use print::{put_entry, put_line, put_named, put_number};

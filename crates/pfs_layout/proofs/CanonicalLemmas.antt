@@ -10,8 +10,8 @@ use Rattle.pfs_base.specs.FlowShop.{FlowShop, time_of, IsWithin}
 use Rattle.pfs_base.specs.Limits.{limits}
 use Rattle.pfs_base.specs.declared.limits.TheConstants.{MOST_JOBS, MOST_MACHINES, LONGEST_TIME, LONGEST_INPUT}
 use Rattle.pfs_base.specs.Problem.{Problem}
-use Rattle.pfs_base.specs.Writing.{SendsAll, SendsFront}
-use Rattle.pfs_base.proofs.Sends.{sends_front, sends_more, sends_stopped}
+use Rattle.pfs_base.specs.Sends.{SendsAll, SendsFront}
+use Rattle.pfs_base.proofs.SendsLemmas.{then_all, then_front, front_of}
 use Rattle.pfs_layout.specs.declared.layout.Layout.{Layout}
 use Rattle.pfs_layout.specs.declared.layout.Layout.TheVariants.{Taillard, OrLib}
 use Rattle.pfs_layout.specs.Size.{Size, size_of}
@@ -123,14 +123,14 @@ sizes_fit OrLib size jobs machines seed upper lower (suc (suc k)) less = absurd 
 module _ (layout : Layout) (problem : Problem) (size : Size) (same : size ≡ size_of problem) where
   pub head_front : (a b : Option (List ℕ)) (failed : Bool) (reached : ℕ) → SendsFront a b failed 0 (head_lines layout size) reached → SendsFront a b failed 0 (canonical_text layout problem) reached
   unfolding canonical_text
-  head_front a b failed reached front = sends_front a b failed 0 reached (head_lines layout (size_of problem)) (row_lines layout problem.shop) (rw same at front)
+  head_front a b failed reached front = front_of (row_lines layout problem.shop) (rw same at front)
 
   pub rows_front : (a b c : Option (List ℕ)) (worked failed : Bool) (sent reached : ℕ) → SendsAll a b worked 0 (head_lines layout size) sent → SendsFront b c failed sent (row_lines layout problem.shop) reached
       → SendsFront a c failed 0 (canonical_text layout problem) reached
   unfolding canonical_text
-  rows_front a b c worked failed sent reached head front = sends_stopped a b c worked failed 0 sent reached (head_lines layout (size_of problem)) (row_lines layout problem.shop) (rw same at head) front
+  rows_front a b c worked failed sent reached head front = then_front (rw same at head) front
 
   pub rows_all : (a b c : Option (List ℕ)) (worked failed : Bool) (sent total : ℕ) → SendsAll a b worked 0 (head_lines layout size) sent → SendsAll b c failed sent (row_lines layout problem.shop) total
       → SendsAll a c failed 0 (canonical_text layout problem) total
   unfolding canonical_text
-  rows_all a b c worked failed sent total head rows = sends_more a b c worked failed 0 sent total (head_lines layout (size_of problem)) (row_lines layout problem.shop) (rw same at head) rows
+  rows_all a b c worked failed sent total head rows = then_all (rw same at head) rows

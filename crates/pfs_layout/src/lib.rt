@@ -6,8 +6,6 @@ pub mod fault;
 pub mod generator;
 pub mod laws;
 pub mod layout;
-#[cfg(test)]
-mod writer_tests;
 pub mod writing;
 
 pub use fault::LayoutFault;

@@ -2,12 +2,13 @@
 ghost use Rattle.std.specs.Prelude.{◌≡◌, ◌+◌, ◌<◌, ◌≤◌, ◌^◌, false, true, length, take, IfErr, OnOk, OnErr};
 ghost use Rattle.std.specs.Io.KnownBytes.{Appends};
 ghost use Rattle.pfs_base.specs.Text.{with_line_end, spaced};
-ghost use Rattle.pfs_base.specs.Writing.{Sends};
+ghost use Rattle.pfs_base.specs.Sends.{Sends};
 ghost use Rattle.pfs_layout.specs.Block.{due_row, row_count};
 ghost use Rattle.pfs_layout.specs.CanonicalText.{head_lines, row_lines, canonical_text};
 
 use crate::layout::Layout;
-use pfs_base::{Instance, Notes, Sink, WriteFault, put, put_entry, put_line};
+use pfs_base::print::{put_entry, put_numbers};
+use pfs_base::{Instance, Notes, Sink, WriteFault, put};
 
 /// Writes an instance as a file of one block: with single spaces between numbers, no leading zeros, each
 /// row of the body on one line, and each line ended. A file in the OR-Library's layout leaves the notes
@@ -54,12 +55,12 @@ fn put_head<W: Sink>(
             let seed = notes.seed as u64;
             let upper = notes.upper as u64;
             let lower = notes.lower as u64;
-            let sent = put_line(writer, &[jobs, machines, seed, upper, lower], sent)?;
+            let sent = put_numbers(writer, &[jobs, machines, seed, upper, lower], sent)?;
             put(writer, b"processing times :\n", sent)
         }
         Layout::OrLib => {
             let sent = put(writer, b"flow shop instance\n", 0)?;
-            put_line(writer, &[jobs, machines], sent)
+            put_numbers(writer, &[jobs, machines], sent)
         }
     }
 }

@@ -1,2 +1,4 @@
+pub mod OrderFile
 pub mod OrderText
+pub mod Pieces
 pub mod Sequence

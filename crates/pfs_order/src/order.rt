@@ -60,7 +60,7 @@ impl Order {
         ensures accepted { IsSize limits (length self.now) }
         ensures sequence { IsSequence (length self.now) self.now }
     {
-        let _ = self.seq.size();
+        let _ = self.seq.len();
         &self.seq
     }
 

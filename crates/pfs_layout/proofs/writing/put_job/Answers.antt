@@ -1,6 +1,6 @@
 use Rattle.std.proofs.Common.{rules, [], ◌∷◌, arith, ◌<◌, ◌*◌, ◌+◌}
-use Rattle.pfs_base.specs.Writing.{SendsAll}
-use Rattle.pfs_base.proofs.Sends.{goes_on-fits, goes_on-more, goes_on-stopped, put_sends, sends_last, last_fits}
+use Rattle.pfs_base.specs.Sends.{SendsAll}
+use Rattle.pfs_base.proofs.SendsOn.{goes_on-fits, goes_on-more, goes_on-stopped, last_sends, last_fits}
 use Rattle.pfs_layout.specs.declared.layout.Layout.TheVariants.{OrLib}
 use Rattle.pfs_layout.proofs.WritingLemmas.{row_begun, machine_on, machine_time_on, row_ends}
 use Rattle.pfs_layout.proofs.writing.put_job.Goals as goal
@@ -54,5 +54,4 @@ pub returns : goal.returns
 returns g c =
     let shop = c.args.instance.now.shop in
     let ends = row_ends OrLib shop c.args.job (2 * c.loop-machine.machine) (omega (arith, c.loop-machine-test.false, c.loop-machine.auto.machine-end, c.machines-machine-end.ensures.value)) in
-    let end = c.put.ensures in
-    sends_last _ _ _ _ _ c.args.sent c.loop-machine.reached _ _ (10 ∷ []) _ ends c.loop-machine.invariant (put_sends _ _ _ c.loop-machine.reached (10 ∷ []) _ end.sent end.all end.working end.failed end.counted end.front)
+    last_sends _ _ _ _ _ c.args.sent c.loop-machine.reached _ _ (10 ∷ []) _ ends c.loop-machine.invariant c.put.ensures

@@ -1,5 +1,5 @@
 use Rattle.std.proofs.Common.{◌*◌}
-use Rattle.pfs_base.specs.Writing.{SendsAll}
+use Rattle.pfs_base.specs.Sends.{SendsAll}
 use Rattle.pfs_layout.specs.declared.layout.Layout.TheVariants.{OrLib}
 use Rattle.pfs_layout.proofs.WritingLemmas.{row_begun}
 use Rattle.pfs_layout.proofs.writing.put_job.Given as goal

@@ -1,5 +1,5 @@
 use Rattle.std.proofs.Common.{rules, [], ◌∷◌, arith, ◌<◌}
-use Rattle.pfs_base.proofs.Sends.{goes_on-fits, goes_on-more, goes_on-stopped, put_sends, sends_last, last_fits}
+use Rattle.pfs_base.proofs.SendsOn.{goes_on-fits, goes_on-more, goes_on-stopped, last_sends, last_fits}
 use Rattle.pfs_layout.specs.declared.layout.Layout.TheVariants.{Taillard}
 use Rattle.pfs_layout.proofs.WritingLemmas.{time_on, row_ends}
 use Rattle.pfs_layout.proofs.writing.put_machine.Goals as goal
@@ -33,5 +33,4 @@ pub returns : goal.returns
 returns g c =
     let shop = c.args.instance.now.shop in
     let ends = row_ends Taillard shop c.args.machine c.loop-job.job (omega (arith, c.loop-job-test.false, c.loop-job.auto.job-end, c.jobs-job-end.ensures.value)) in
-    let end = c.put.ensures in
-    sends_last _ _ _ _ _ c.args.sent c.loop-job.reached _ _ (10 ∷ []) _ ends c.loop-job.invariant (put_sends _ _ _ c.loop-job.reached (10 ∷ []) _ end.sent end.all end.working end.failed end.counted end.front)
+    last_sends _ _ _ _ _ c.args.sent c.loop-job.reached _ _ (10 ∷ []) _ ends c.loop-job.invariant c.put.ensures

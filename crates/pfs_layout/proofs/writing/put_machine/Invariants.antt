@@ -1,4 +1,4 @@
-use Rattle.pfs_base.specs.Writing.{SendsAll}
+use Rattle.pfs_base.specs.Sends.{SendsAll}
 use Rattle.pfs_layout.specs.declared.layout.Layout.TheVariants.{Taillard}
 use Rattle.pfs_layout.proofs.WritingLemmas.{row_begun}
 use Rattle.pfs_layout.proofs.writing.put_machine.Given as goal

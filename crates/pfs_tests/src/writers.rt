@@ -1,10 +1,8 @@
 //! Texts that are written and instances that are drawn.
-ghost use Rattle.std.specs.Prelude.{◌≡◌, ◌≤◌, Some, false, IfOk};
-ghost use Rattle.pfs_base.specs.declared.limits.TheConstants.{MOST_JOBS, MOST_MACHINES};
-
-use crate::{Layout, LayoutFault, generate, write_block};
-use pfs_base::{BaseFault, Instance, LONGEST_TIME, Notes, Sink, WriteFault};
-use std::alloc::{AllocError, Global};
+use crate::fakes::Taken;
+use pfs_base::{BaseFault, Instance, LONGEST_TIME, Notes, WriteFault};
+use pfs_layout::{Layout, LayoutFault, generate, write_block};
+use std::alloc::Global;
 use std::process::Abort;
 use std::test::Fail;
 
@@ -14,46 +12,6 @@ const BY_MACHINE: &[u8] =
 
 /// The same three jobs in the OR-Library's layout.
 const BY_JOB: &[u8] = b"flow shop instance\n3 2\n0 3 1 2\n0 2 1 5\n0 4 1 1\n";
-
-// A writer that takes at most so many bytes at once, and so many in all. Then it fails.
-#[derive(Drop)]
-struct Narrow {
-    bytes: Vec<u8>,
-    at_once: usize,
-    room: usize,
-    failed: bool,
-}
-
-impl Sink for Narrow {
-    ghost written = { λ s. Some s.bytes.items };
-
-    ghost has_failed = { λ s. s.failed };
-
-    fn write(&mut self, bytes: &[u8]) -> Option<usize> {
-        let count = bytes.len().min(self.at_once).min(self.room);
-        if count == 0 || self.bytes.extend_from_slice(&bytes[..count]).is_err() {
-            self.failed = true;
-            return None;
-        }
-        self.room -= count;
-        Some(count)
-    }
-
-    fn failed(&self) -> bool {
-        self.failed
-    }
-}
-
-fn narrow_writer(alloc: Global, at_once: usize, room: usize) -> Result<Narrow, AllocError>
-    ensures { IfOk result (λ writer. writer.failed ≡ false) }
-{
-    Ok(Narrow {
-        bytes: Vec::with_capacity(alloc, 200)?,
-        at_once,
-        room,
-        failed: false,
-    })
-}
 
 // Three jobs on two machines.
 fn three_jobs(rt: &impl Abort, alloc: Global) -> Result<Instance, BaseFault> {
@@ -84,9 +42,9 @@ fn writes_whole_texts(rt: HostRuntime) -> Result<(), Fail> {
     assert_eq!(rt; BY_MACHINE.len(), 121);
     let instance = three_jobs(&rt, rt.alloc())?;
     for (layout, text) in [(Layout::Taillard, BY_MACHINE), (Layout::OrLib, BY_JOB)] {
-        let mut writer = narrow_writer(rt.alloc(), 1000, 1000)?;
+        let mut writer = Taken::new(256, 256);
         write_block(&mut writer, &instance, layout)?;
-        assert_eq!(rt; writer.bytes.as_slice(), text);
+        assert_eq!(rt; writer.bytes(), text);
     }
     Ok(())
 }
@@ -95,15 +53,15 @@ fn writes_whole_texts(rt: HostRuntime) -> Result<(), Fail> {
 fn writes_a_front_where_the_writer_fails(rt: HostRuntime) -> Result<(), Fail> {
     let instance = three_jobs(&rt, rt.alloc())?;
     for (layout, text) in [(Layout::Taillard, BY_MACHINE), (Layout::OrLib, BY_JOB)] {
-        for at_once in [1, 1000] {
+        for at_once in [1, 256] {
             for room in 0..text.len() {
-                let mut writer = narrow_writer(rt.alloc(), at_once, room)?;
+                let mut writer = Taken::new(room, at_once);
                 let answer = write_block(&mut writer, &instance, layout);
                 let fault = WriteFault {
                     written: room as u64,
                 };
                 assert_eq!(rt; answer, Err(fault), "{at_once} at once");
-                assert_eq!(rt; writer.bytes.as_slice(), &text[..room], "{at_once} at once");
+                assert_eq!(rt; writer.bytes(), &text[..room], "{at_once} at once");
             }
         }
     }

@@ -1,9 +1,7 @@
-use Rattle.std.proofs.Common.{List, take, rules, get_or}
-use Rattle.pfs_base.specs.Text.{with_line_end, spaced, entry}
-use Rattle.pfs_base.specs.Writing.{SendsAll}
-use Rattle.pfs_base.proofs.Sends.{goes_on-fits, goes_on-more, goes_on-stopped}
+use Rattle.std.proofs.Common.{rules}
+use Rattle.pfs_base.proofs.SendsOn.{goes_on-fits, goes_on-more, goes_on-stopped}
 use Rattle.pfs_base.proofs.Printing.{line_on}
-use Rattle.pfs_base.proofs.print.put_line.Goals as goal
+use Rattle.pfs_base.proofs.print.put_numbers.Goals as goal
 
 pub put_entry-requires-clause-fits : goal.put_entry-requires-clause-fits
 put_entry-requires-clause-fits g c =

@@ -3,18 +3,18 @@ use Rattle.std.specs.Prelude.{◌≡◌, ℕ, ◌+◌, ◌-◌, ◌≤◌, Bool,
 use Rattle.std.specs.Io.KnownBytes.{Appends}
 use Rattle.pfs_base.specs.declared.device.WriteFault.{WriteFault}
 
+-- the writer has not failed, and the text went out, with which `total` bytes were sent
+pub record SendsAll (old new : Option (List ℕ)) (failed : Bool) (sent : ℕ) (text : List ℕ) (total : ℕ) : Type 0 where
+  pub working : failed ≡ false
+  pub counted : total ≡ sent + length text
+  pub bytes : Appends old new text
+
 -- the writer has failed, and a front of the text went out, with which `reached` bytes were sent
 pub record SendsFront (old new : Option (List ℕ)) (failed : Bool) (sent : ℕ) (text : List ℕ) (reached : ℕ) : Type 0 where
   pub stopped : failed ≡ true
   pub from : sent ≤ reached
   pub within : reached ≤ sent + length text
   pub bytes : Appends old new (take (reached - sent) text)
-
--- the writer has not failed, and the text went out, with which `total` bytes were sent
-pub record SendsAll (old new : Option (List ℕ)) (failed : Bool) (sent : ℕ) (text : List ℕ) (total : ℕ) : Type 0 where
-  pub working : failed ≡ false
-  pub counted : total ≡ sent + length text
-  pub bytes : Appends old new text
 
 -- all of the text went out, or the writer has failed and a front of it went out
 abbrev pub Sends : Option (List ℕ) → Option (List ℕ) → Bool → ℕ → List ℕ → Result ℕ WriteFault → Type 0

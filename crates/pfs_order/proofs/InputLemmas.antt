@@ -1,0 +1,66 @@
+-- What was read of an input, and what its judgement says of the whole.
+use Rattle.std.proofs.Common.{◌≡◌, ℕ, ◌+◌, ◌-◌, ◌<◌, ◌≤◌, List, [], ◌++◌, length, take, Option, Some, None, refl, sym, ◌∙◌, ap, subst, arith}
+use Rattle.std.specs.Prelude.{IfSome, IfOk, IfErr, Result, Ok, Err}
+use Rattle.std.specs.Io.KnownBytes.{Consumes, IsAtEnd}
+use Rattle.std.proofs.KnownBytes.{Consumes-trans, Consumes-whole}
+use Rattle.std.proofs.lemmas.List.{append-nil, length-append, length-take-le, take-append-le, take-take}
+use Rattle.std.proofs.Math.Seq.{take-append-add}
+use borrow.Rule.Slice.PartMut.{put_mid, post_of}
+use Rattle.pfs_base.specs.declared.limits.TheConstants.{LONGEST_ORDER_FILE}
+use Rattle.pfs_order.specs.declared.fault.OrderFault.{OrderFault}
+use Rattle.pfs_order.specs.declared.fault.OrderFault.TheVariants.{Syntax, JobRange, Repeated, TooLong, Read, Memory}
+use Rattle.pfs_order.specs.Sequence.{StatedOrder}
+use Rattle.pfs_order.specs.OrderFile.{IsOrderFile, RefusesUnlessFailed}
+use Rattle.pfs_order.specs.Pieces.{JudgesText}
+
+-- the bytes before those that were written into a part, and some of these
+take_put : (a k n : ℕ) (xs ys : List ℕ) → a ≤ length xs → n ≤ length ys → take (a + n) (put_mid a k xs ys) ≡ take a xs ++ take n ys
+take_put a k n xs ys h l =
+    let size : length (take a xs) ≡ a = length-take-le a xs h in
+    ap (λ m. take (m + n) (take a xs ++ (ys ++ post_of a k xs))) (sym size) ∙ take-append-add (take a xs) (ys ++ post_of a k xs) n ∙ ap (λ zs. take a xs ++ zs) (take-append-le n ys (post_of a k xs) l)
+
+-- some bytes were read behind others
+pub read_more : (old mid new : Option (List ℕ)) (a k n : ℕ) (xs ys : List ℕ) → a ≤ length xs → n ≤ length ys → Consumes old mid (take a xs) → Consumes mid new (take n ys) → Consumes old new (take (a + n) (put_mid a k xs ys))
+read_more old mid new a k n xs ys h l p q = subst (Consumes old new) (sym (take_put a k n xs ys h l)) (Consumes-trans old mid new (take a xs) (take n ys) p q)
+
+-- there is room for them
+pub read_within : (a k n : ℕ) (xs ys : List ℕ) → a ≤ length xs → n ≤ length ys → a + n ≤ length (put_mid a k xs ys)
+read_within a k n xs ys h l = omega (arith, length-take-le a xs h, length-append (take a xs) (ys ++ post_of a k xs), length-append ys (post_of a k xs))
+
+pub reads_accepted : (old new : Option (List ℕ)) (bytes : List ℕ) (answer : Result StatedOrder OrderFault) → Consumes old new bytes → IsAtEnd new
+    → IfOk answer (λ file. IsOrderFile bytes file) → IfOk answer (λ file. IfSome old (λ input. IsOrderFile input file))
+reads_accepted old new bytes (Ok file) c end h = Consumes-whole old new bytes (λ input. IsOrderFile input file) c end h
+reads_accepted old new bytes (Err fault) c end h = tt
+
+-- a judgement of a text is that of an input
+refuses : (text : List ℕ) (fault : OrderFault) → JudgesText text fault → RefusesUnlessFailed text fault
+refuses text (Syntax offset) h = h
+refuses text (JobRange place) h = h
+refuses text (Repeated place) h = h
+refuses text TooLong h = h
+refuses text Read h = tt
+refuses text Memory h = tt
+
+pub reads_refused : (old new : Option (List ℕ)) (bytes : List ℕ) (answer : Result StatedOrder OrderFault) → Consumes old new bytes → IsAtEnd new
+    → IfErr answer (λ fault. JudgesText bytes fault) → IfErr answer (λ fault. IfSome old (λ input. RefusesUnlessFailed input fault))
+reads_refused old new bytes (Ok file) c end h = tt
+reads_refused old new bytes (Err fault) c end h = Consumes-whole old new bytes (λ input. RefusesUnlessFailed input fault) c end (refuses bytes fault h)
+
+-- an input with more bytes than the limit
+pub reads_too_long : (old new : Option (List ℕ)) (bytes : List ℕ) → Consumes old new bytes → LONGEST_ORDER_FILE < length bytes → IfSome old (λ input. RefusesUnlessFailed input TooLong)
+reads_too_long None new bytes c h = tt
+reads_too_long (Some input) None bytes c h = absurd c
+reads_too_long (Some input) (Some rest) bytes c h = omega (arith, ap length c, length-append bytes rest)
+
+-- a failed read and want of memory say nothing of an input
+pub reads_failed : (old : Option (List ℕ)) (fault : OrderFault) → fault ≡ Read → IfSome old (λ input. RefusesUnlessFailed input fault)
+reads_failed None fault e = tt
+reads_failed (Some input) fault e = subst (RefusesUnlessFailed input) (sym e) tt
+
+pub reads_unmade : (old : Option (List ℕ)) (fault : OrderFault) → fault ≡ Memory → IfSome old (λ input. RefusesUnlessFailed input fault)
+reads_unmade None fault e = tt
+reads_unmade (Some input) fault e = subst (RefusesUnlessFailed input) (sym e) tt
+
+-- a front of what stands in a buffer
+pub front_of : (n size : ℕ) (new rest buffer : List ℕ) → buffer ≡ take size (new ++ rest) → n ≤ size → n ≤ length new → take n buffer ≡ take n new
+front_of n size new rest buffer e h l = ap (take n) e ∙ take-take n size (new ++ rest) h ∙ take-append-le n new rest l

@@ -1,0 +1,101 @@
+-- The texts of the grammar of order files, piece by piece.
+use Rattle.std.proofs.Common.{◌≡◌, ℕ, ◌+◌, ◌-◌, ◌<◌, ◌≤◌, ◌^◌, List, [], ◌∷◌, ◌++◌, suc, length, take, drop, refl, sym, ◌∙◌, ap, subst, arith, codes, lit≤}
+use Rattle.std.specs.Fmt.{decimal}
+use Rattle.std.specs.Char.{digit_value}
+use Rattle.std.specs.List.{All}
+use Rattle.std.proofs.lemmas.List.{append_assoc, append_cancel_left, append-nil}
+use Rattle.std.proofs.lemmas.List.Elements.{All-head, All-tail}
+use Rattle.pfs_base.specs.declared.limits.TheConstants.{MOST_JOBS}
+use Rattle.pfs_base.specs.Text.{with_line_end, spaced, named_number}
+use Rattle.pfs_order.specs.OrderText.{order_text}
+use Rattle.pfs_order.specs.OrderFile.{HasText, IsText}
+use Rattle.pfs_order.specs.Pieces.{counted, last_line}
+use Rattle.pfs_order.proofs.Numerals.{LacksByte, cut_at, decimal_lacks, decimal_one}
+
+-- a job numeral of at most nine digits
+abbrev pub IsShort : ℕ → Type 0
+IsShort job = job < 10 ^ 9
+
+-- jobs, each with a space behind it, and what follows
+abbrev pub before : List ℕ → List ℕ → List ℕ
+before [] rest = rest
+before (job ∷ jobs) rest = decimal job ++ 32 ∷ before jobs rest
+
+pub text_shape : (jobs : List ℕ) (makespan : ℕ) → order_text jobs makespan ≡ counted (length jobs) (spaced jobs ++ 10 ∷ last_line makespan)
+unfolding order_text
+text_shape jobs makespan =
+    let first : List ℕ = decimal (length jobs) in
+    let last : List ℕ = last_line makespan in
+    append_assoc (codes "order " ++ (first ++ 10 ∷ [])) (spaced jobs ++ 10 ∷ []) last
+    ∙ ap (λ xs. (codes "order " ++ (first ++ 10 ∷ [])) ++ xs) (append_assoc (spaced jobs) (10 ∷ []) last)
+    ∙ ap (λ xs. codes "order " ++ xs) (append_assoc first (10 ∷ []) (spaced jobs ++ 10 ∷ last))
+
+pub ten_10 : 10 ≤ digit_value 10
+ten_10 = lit≤ tt
+
+pub ten_32 : 10 ≤ digit_value 32
+ten_32 = lit≤ tt
+
+-- jobs and the line end behind them, against jobs of which more follow
+pub more_jobs : (done jobs rest line : List ℕ) → All IsShort done → All IsShort jobs → length done < length jobs
+    → before done rest ≡ spaced jobs ++ 10 ∷ line
+    → (job : ℕ) × ((more : List ℕ) × ((rest ≡ spaced (job ∷ more) ++ 10 ∷ line) × (length done + suc (length more) ≡ length jobs) × IsShort job))
+more_jobs [] [] rest line p q h e = absurd (omega arith)
+more_jobs [] (job ∷ more) rest line p q h e = (job, (more, (e, omega arith, All-head IsShort job more q)))
+more_jobs (d ∷ done) [] rest line p q h e = absurd (omega arith)
+more_jobs (d ∷ done) (j ∷ []) rest line p q h e = absurd (omega arith)
+more_jobs (d ∷ done) (j ∷ k ∷ jobs) rest line p q h e =
+    let f : decimal d ++ 32 ∷ before done rest ≡ decimal j ++ 32 ∷ (spaced (k ∷ jobs) ++ 10 ∷ line) = e ∙ append_assoc (decimal j) (32 ∷ spaced (k ∷ jobs)) (10 ∷ line) in
+    let small = All-head IsShort d done p in
+    let short = All-head IsShort j (k ∷ jobs) q in
+    let r = cut_at 32 (decimal d) (decimal j) (before done rest) (spaced (k ∷ jobs) ++ 10 ∷ line) (decimal_lacks 32 d ten_32 (omega arith)) (decimal_lacks 32 j ten_32 (omega arith)) f in
+    let (job, (more, (is, size, one))) = more_jobs done (k ∷ jobs) rest line (All-tail IsShort d done p) (All-tail IsShort j (k ∷ jobs) q) (omega arith) r.1 in
+    (job, (more, (is, omega arith, one)))
+
+-- jobs and a line end, twice
+pub same_jobs : (jobs others line more : List ℕ) → All IsShort jobs → All IsShort others → length jobs ≡ length others
+    → spaced jobs ++ 10 ∷ line ≡ spaced others ++ 10 ∷ more → (jobs ≡ others) × (line ≡ more)
+same_jobs [] [] line more p q h e = (refl, cc)
+same_jobs [] (k ∷ others) line more p q h e = absurd (omega arith)
+same_jobs (j ∷ jobs) [] line more p q h e = absurd (omega arith)
+same_jobs (j ∷ []) (k ∷ []) line more p q h e =
+    let small = All-head IsShort j [] p in
+    let short = All-head IsShort k [] q in
+    let r = cut_at 10 (decimal j) (decimal k) line more (decimal_lacks 10 j ten_10 (omega arith)) (decimal_lacks 10 k ten_10 (omega arith)) e in
+    let s : j ≡ k = decimal_one j k (omega arith) (omega arith) r.0 in
+    (cc, r.1)
+same_jobs (j ∷ []) (k ∷ l ∷ others) line more p q h e = absurd (omega arith)
+same_jobs (j ∷ i ∷ jobs) (k ∷ []) line more p q h e = absurd (omega arith)
+same_jobs (j ∷ i ∷ jobs) (k ∷ l ∷ others) line more p q h e =
+    let f : decimal j ++ 32 ∷ (spaced (i ∷ jobs) ++ 10 ∷ line) ≡ decimal k ++ 32 ∷ (spaced (l ∷ others) ++ 10 ∷ more) =
+    sym (append_assoc (decimal j) (32 ∷ spaced (i ∷ jobs)) (10 ∷ line)) ∙ e ∙ append_assoc (decimal k) (32 ∷ spaced (l ∷ others)) (10 ∷ more) in
+    let small = All-head IsShort j (i ∷ jobs) p in
+    let short = All-head IsShort k (l ∷ others) q in
+    let r = cut_at 32 (decimal j) (decimal k) (spaced (i ∷ jobs) ++ 10 ∷ line) (spaced (l ∷ others) ++ 10 ∷ more) (decimal_lacks 32 j ten_32 (omega arith)) (decimal_lacks 32 k ten_32 (omega arith)) f in
+    let s : j ≡ k = decimal_one j k (omega arith) (omega arith) r.0 in
+    let t = same_jobs (i ∷ jobs) (l ∷ others) line more (All-tail IsShort j (i ∷ jobs) p) (All-tail IsShort k (l ∷ others) q) (omega arith) r.1 in
+    let u : i ∷ jobs ≡ l ∷ others = t.0 in
+    (cc, t.1)
+
+-- the count that a text begins with
+pub same_count : (count : ℕ) (rest other : List ℕ) (n : ℕ) → count < 10 ^ 18 → n < 10 ^ 18 → counted count rest ≡ counted n other → (count ≡ n) × (rest ≡ other)
+same_count count rest other n h k e =
+    let f : decimal count ++ 10 ∷ rest ≡ decimal n ++ 10 ∷ other = append_cancel_left (codes "order ") (decimal count ++ 10 ∷ rest) (decimal n ++ 10 ∷ other) e in
+    let r = cut_at 10 (decimal count) (decimal n) rest other (decimal_lacks 10 count ten_10 h) (decimal_lacks 10 n ten_10 k) f in
+    (decimal_one count n h k r.0, r.1)
+
+-- jobs, of which more follow, joined
+pub before-spaced : (done : List ℕ) (job : ℕ) (jobs rest : List ℕ) → before done (spaced (job ∷ jobs) ++ rest) ≡ spaced (done ++ job ∷ jobs) ++ rest
+before-spaced [] job jobs rest = refl
+before-spaced (d ∷ []) job jobs rest = sym (append_assoc (decimal d) (32 ∷ spaced (job ∷ jobs)) rest)
+before-spaced (d ∷ k ∷ done) job jobs rest =
+    ap (λ xs. decimal d ++ 32 ∷ xs) (before-spaced (k ∷ done) job jobs rest) ∙ sym (append_assoc (decimal d) (32 ∷ spaced (k ∷ (done ++ job ∷ jobs))) rest)
+
+pub before-append : (done rest more : List ℕ) → before done rest ++ more ≡ before done (rest ++ more)
+before-append [] rest more = refl
+before-append (d ∷ done) rest more = append_assoc (decimal d) (32 ∷ before done rest) more ∙ ap (λ xs. decimal d ++ 32 ∷ xs) (before-append done rest more)
+
+-- one job more
+pub before-push : (done : List ℕ) (job : ℕ) (rest : List ℕ) → before done (decimal job ++ 32 ∷ rest) ≡ before (done ++ job ∷ []) rest
+before-push [] job rest = refl
+before-push (d ∷ done) job rest = ap (λ xs. decimal d ++ 32 ∷ xs) (before-push done job rest)

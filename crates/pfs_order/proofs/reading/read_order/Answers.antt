@@ -1,0 +1,41 @@
+use Rattle.std.proofs.Common.{◌≡◌, ◌≤◌, ◌<◌, ◌+◌, ◌-◌, ◌∙◌, ℕ, List, length, take, drop, subst, arith}
+use Rattle.std.specs.Prelude.{IfOk, IfErr}
+use Rattle.std.proofs.lemmas.List.{length-take-le}
+use Rattle.pfs_order.specs.OrderFile.{IsOrderFile}
+use Rattle.pfs_order.specs.Pieces.{JudgesText}
+use Rattle.std.proofs.lemmas.Result.{err_from_is_err_and}
+use Rattle.pfs_order.proofs.InputLemmas.{reads_accepted, reads_refused, reads_too_long, reads_failed, reads_unmade, front_of}
+use Rattle.pfs_order.proofs.reading.read_order.Goals as goal
+
+pub returns-in_err-buffer-clause-refused : goal.returns-in_err-buffer-clause-refused
+returns-in_err-buffer-clause-refused g c =
+    let p = err_from_is_err_and c.from_residual.result c.from_residual.ensures.1 in
+    rw (p.1, p.2) (reads_unmade (g.R.Source.left c.args.reader.now) c.in_err-buffer.field-0.0 c.in_err-buffer.ensures.memory)
+
+pub returns-in_err-filled-clause-refused : goal.returns-in_err-filled-clause-refused
+returns-in_err-filled-clause-refused g c =
+    let p = err_from_is_err_and c.from_residual-in_err-filled.result c.from_residual-in_err-filled.ensures.1 in
+    rw (p.1, p.2) (reads_failed (g.R.Source.left c.args.reader.now) c.in_err-filled.field-0.0 c.in_err-filled.ensures.fault)
+
+pub returns-then-filled-gt-LONGEST_ORDER_FILE-clause-refused : goal.returns-then-filled-gt-LONGEST_ORDER_FILE-clause-refused
+returns-then-filled-gt-LONGEST_ORDER_FILE-clause-refused g c =
+    reads_too_long (g.R.Source.left c.args.reader.now) (g.R.Source.left c.fill.new.reader) (take c.in_ok-filled.filled c.fill.new.buffer) c.in_ok-filled.ensures.bytes
+    (let size = length-take-le c.in_ok-filled.filled c.fill.new.buffer c.in_ok-filled.ensures.within in omega (arith, size, c.if-filled-gt-LONGEST_ORDER_FILE.true))
+
+pub returns-clause-accepted : goal.returns-clause-accepted
+returns-clause-accepted g c =
+    let filled : ℕ = c.in_ok-filled.filled in
+    let bytes : List ℕ = take filled c.fill.new.buffer in
+    let same : take filled c.deref.result.now ≡ bytes =
+    front_of filled c.in_ok-buffer.buffer.len c.fill.new.buffer (drop (length c.fill.new.buffer) c.in_ok-buffer.buffer.items) c.deref.result.now c.deref.ensures.value (omega (arith, c.in_ok-buffer.ensures.len)) c.in_ok-filled.ensures.within in
+    reads_accepted (g.R.Source.left c.args.reader.now) (g.R.Source.left c.fill.new.reader) bytes c.parse.result c.in_ok-filled.ensures.bytes (c.in_ok-filled.ensures.end (omega (arith, c.in_ok-buffer.ensures.len, c.deref_mut.ensures.len, c.fill.auto.buffer)))
+    (subst (λ xs. IfOk c.parse.result (λ file. IsOrderFile xs file)) same c.parse.ensures.accepted)
+
+pub returns-clause-refused : goal.returns-clause-refused
+returns-clause-refused g c =
+    let filled : ℕ = c.in_ok-filled.filled in
+    let bytes : List ℕ = take filled c.fill.new.buffer in
+    let same : take filled c.deref.result.now ≡ bytes =
+    front_of filled c.in_ok-buffer.buffer.len c.fill.new.buffer (drop (length c.fill.new.buffer) c.in_ok-buffer.buffer.items) c.deref.result.now c.deref.ensures.value (omega (arith, c.in_ok-buffer.ensures.len)) c.in_ok-filled.ensures.within in
+    reads_refused (g.R.Source.left c.args.reader.now) (g.R.Source.left c.fill.new.reader) bytes c.parse.result c.in_ok-filled.ensures.bytes (c.in_ok-filled.ensures.end (omega (arith, c.in_ok-buffer.ensures.len, c.deref_mut.ensures.len, c.fill.auto.buffer)))
+    (subst (λ xs. IfErr c.parse.result (λ fault. JudgesText xs fault)) same c.parse.ensures.refused)

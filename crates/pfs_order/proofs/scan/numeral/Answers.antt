@@ -1,0 +1,36 @@
+use Rattle.std.proofs.Common.{◌≡◌, ◌≢◌, ℕ, ◌≤◌, ◌<◌, ◌+◌, subst, List, [], ◌++◌, ◌∷◌, length, drop, get_or, suc, ap, sym, arith, ◌∙◌, refl, Option, Some, None}
+use Rattle.std.proofs.lemmas.List.{append-nil, drop_all, drop_more}
+use Rattle.std.specs.Option.{ForSome}
+use Rattle.pfs_order.specs.Pieces.{numeral_of}
+use Rattle.pfs_order.proofs.Numerals.{IsWithin, Stops, numeral_fault_at}
+use Rattle.pfs_order.proofs.scan.numeral.Goals as goal
+use Rattle.pfs_order.proofs.scan.numeral.Goals.{in-Some+else-byte-end, in_default}
+
+pub returns-in-None-clause-fault : goal.returns-in-None-clause-fault
+returns-in-None-clause-fault c =
+    let text : List ℕ = c.args.text.now in
+    let next : ℕ = c.loop-next.next in
+    let byte : ℕ = get_or text next 0 in
+    let same : c.match-number.number ≡ c.loop-next.number = elim c.match-number.branch [
+      | in-Some+else-byte-end w ↦ w.number-is ∙ sym w.in-Some.is
+      | in_default w ↦ w.number-is
+    ] in
+    let no_end : ForSome c.loop-next.number (λ _. byte ≢ c.args.end) = elim c.match-number.branch [
+      | in-Some+else-byte-end w ↦ (λ n e. w.if-byte-end.false)
+      | in_default w ↦ (λ n e. let f : None ≡ Some n = sym w.in_default.is ∙ e in absurd (cc))
+    ] in
+    let stops : Stops c.args.least c.args.most c.args.end c.loop-next.number byte = record {
+      no_end = no_end;
+      no_digit = λ n rest low high e. c.in-None.ensures.ends n rest low high (e ∙ ap (λ number. numeral_of number ++ byte ∷ rest) (sym same));
+    } in
+    let here : next < length text = omega arith in
+    numeral_fault_at c.args.least c.args.most c.args.end c.loop-next.number text c.args.at next c.loop-next.invariant.number c.requires.end c.requires.at (omega arith)
+    c.loop-next.invariant.read (λ b more e. let f : byte ∷ drop (next + 1) text ≡ b ∷ more = sym (drop_more text next 0 here) ∙ e in let k : byte ≡ b = cc in subst (Stops c.args.least c.args.most c.args.end c.loop-next.number) k stops)
+
+pub returns-clause-fault : goal.returns-clause-fault
+returns-clause-fault c =
+    let text : List ℕ = c.args.text.now in
+    let end : drop (length text) text ≡ [] = drop_all (length text) text (omega arith) in
+    let there : c.loop-next.next ≡ length text = omega arith in
+    numeral_fault_at c.args.least c.args.most c.args.end c.loop-next.number text c.args.at (length text) c.loop-next.invariant.number c.requires.end c.requires.at (omega arith)
+    (c.loop-next.invariant.read ∙ ap (λ k. numeral_of c.loop-next.number ++ drop k text) there) (λ b more e. let f : [] ≡ b ∷ more = sym end ∙ e in cc)

@@ -1,0 +1,80 @@
+-- Which inputs are order files, and how the others are refused. Job numbers count from 1 in a file, and so
+-- do places.
+use Rattle.std.specs.Prelude.{◌≡◌, ⊤, ℕ, ◌+◌, ◌<◌, ◌≤◌, ◌^◌, List, ◌++◌, length, map, take, slice_index}
+use Rattle.std.specs.List.{All, Contains}
+use Rattle.pfs_base.specs.declared.limits.TheConstants.{MOST_JOBS, LONGEST_ORDER_FILE}
+use Rattle.pfs_order.specs.declared.fault.OrderFault.{OrderFault}
+use Rattle.pfs_order.specs.declared.fault.OrderFault.TheVariants.{Syntax, JobRange, Repeated, TooLong, Read, Memory}
+use Rattle.pfs_order.specs.OrderText.{order_text}
+use Rattle.pfs_order.specs.Sequence.{IsSequence, StatedOrder}
+
+-- the text is that of these job numerals, of at most nine digits each, and of this makespan; the values of
+-- the jobs may be wrong
+pub record HasText (text jobs : List ℕ) (makespan : ℕ) : Type 0 where
+  pub some_job : 1 ≤ length jobs
+  pub few_jobs : length jobs ≤ MOST_JOBS
+  pub short_jobs : All (λ job. job < 10 ^ 9) jobs
+  pub short_makespan : makespan < 10 ^ 18
+  pub spelled : text ≡ order_text jobs makespan
+
+-- a text of the grammar
+abbrev pub IsText : List ℕ → Type 0
+IsText text = (jobs : List ℕ) × ((makespan : ℕ) × HasText text jobs makespan)
+
+-- some text of a grammar begins so
+abbrev pub CanBeCompleted : (List ℕ → Type 0) → List ℕ → Type 0
+CanBeCompleted grammar front = (rest : List ℕ) × grammar (front ++ rest)
+
+-- the input is no text of a grammar, and its longest front that can be completed has this length
+pub record IsFaultOf (grammar : List ℕ → Type 0) (input : List ℕ) (offset : ℕ) : Type 0 where
+  pub no_text : ¬ grammar input
+  pub within : offset ≤ length input
+  pub completed : CanBeCompleted grammar (take offset input)
+  pub longest : (n : ℕ) → n ≤ length input → CanBeCompleted grammar (take n input) → n ≤ offset
+
+abbrev pub IsSyntaxFault : List ℕ → ℕ → Type 0
+IsSyntaxFault input offset = IsFaultOf IsText input offset
+
+-- the job at an index is one of as many as there are
+abbrev pub IsJob : List ℕ → ℕ → Type 0
+IsJob jobs i = (1 ≤ slice_index jobs i) × (slice_index jobs i ≤ length jobs)
+
+-- the job at an index stands before it too
+abbrev pub IsRepeated : List ℕ → ℕ → Type 0
+IsRepeated jobs i = Contains (take i jobs) (slice_index jobs i)
+
+-- no job before the index is wrong
+pub record AreRightBefore (jobs : List ℕ) (i : ℕ) : Type 0 where
+  pub within : i < length jobs
+  pub in_range : (k : ℕ) → k < i → IsJob jobs k
+  pub distinct : (k : ℕ) → k < i → ¬ IsRepeated jobs k
+
+-- the fault of the first wrong job; out of range is told before repeated
+abbrev pub IsJobFault : List ℕ → OrderFault → Type 0
+IsJobFault jobs (JobRange place) = (i : ℕ) × ((place ≡ i + 1) × AreRightBefore jobs i × ¬ IsJob jobs i)
+IsJobFault jobs (Repeated place) = (i : ℕ) × ((place ≡ i + 1) × AreRightBefore jobs i × IsJob jobs i × IsRepeated jobs i)
+IsJobFault jobs _ = ⊥
+
+-- the input is a text of the grammar whose jobs have this fault
+abbrev pub HasJobFault : List ℕ → OrderFault → Type 0
+HasJobFault input fault = (jobs : List ℕ) × ((makespan : ℕ) × (HasText input jobs makespan × IsJobFault jobs fault))
+
+-- the whole input is refused so; a failed read and want of memory say nothing of it
+abbrev pub RefusesOrder : List ℕ → OrderFault → Type 0
+RefusesOrder input TooLong = LONGEST_ORDER_FILE < length input
+RefusesOrder input (Syntax offset) = (length input ≤ LONGEST_ORDER_FILE) × IsSyntaxFault input offset
+RefusesOrder input (JobRange place) = HasJobFault input (JobRange place)
+RefusesOrder input (Repeated place) = HasJobFault input (Repeated place)
+RefusesOrder input Read = ⊥
+RefusesOrder input Memory = ⊥
+
+-- the whole input is the text of an order of all jobs, which count from 0 in it, and a makespan
+pub record IsOrderFile (input : List ℕ) (file : StatedOrder) : Type 0 where
+  pub is_order : IsSequence (length file.order) file.order
+  pub has_text : HasText input (map (λ job. job + 1) file.order) file.makespan
+
+-- the refusal of an input, unless a failed read or want of memory is told, which say nothing of it
+abbrev pub RefusesUnlessFailed : List ℕ → OrderFault → Type 0
+RefusesUnlessFailed input Read = ⊤
+RefusesUnlessFailed input Memory = ⊤
+RefusesUnlessFailed input fault = RefusesOrder input fault

@@ -1,0 +1,71 @@
+-- The pieces that an order file is made of, and how far a text is made of them.
+use Rattle.std.specs.Prelude.{◌≡◌, ⊤, ℕ, ◌+◌, ◌-◌, ◌<◌, ◌≤◌, ◌^◌, List, [], ◌∷◌, ◌++◌, length, drop, decimal, codes, Option, Some, None}
+use Rattle.std.specs.List.{All, Contains}
+use Rattle.pfs_base.specs.declared.limits.TheConstants.{MOST_JOBS}
+use Rattle.pfs_base.specs.Text.{spaced}
+use Rattle.pfs_order.specs.declared.fault.OrderFault.{OrderFault}
+use Rattle.pfs_order.specs.declared.fault.OrderFault.TheVariants.{Syntax, JobRange, Repeated, TooLong, Read, Memory}
+use Rattle.pfs_order.specs.Sequence.{Sequence}
+use Rattle.pfs_order.specs.OrderFile.{IsText, IsFaultOf, IsSyntaxFault, HasJobFault, RefusesOrder}
+
+-- a text begins with one of some pieces
+abbrev pub Begins : (List ℕ → Type 0) → List ℕ → Type 0
+Begins piece text = (front : List ℕ) × ((rest : List ℕ) × (piece front × (text ≡ front ++ rest)))
+
+-- the one piece is a word
+abbrev pub IsWord : List ℕ → List ℕ → Type 0
+IsWord word piece = piece ≡ word
+
+-- the pieces are the numerals of the numbers from least to most, with a byte that ends them
+abbrev pub IsNumeral : ℕ → ℕ → ℕ → List ℕ → Type 0
+IsNumeral least most end piece = (n : ℕ) × ((least ≤ n) × (n ≤ most) × (piece ≡ decimal n ++ end ∷ []))
+
+-- the fault says how far a text can be completed where a piece is wanted at an offset
+abbrev pub IsPieceFault : (List ℕ → Type 0) → List ℕ → ℕ → OrderFault → Type 0
+IsPieceFault piece text at (Syntax offset) = (i : ℕ) × ((offset ≡ at + i) × IsFaultOf (Begins piece) (drop at text) i)
+IsPieceFault piece text at _ = ⊥
+
+-- the fault says how far the text can be completed
+abbrev pub SaysSyntax : List ℕ → OrderFault → Type 0
+SaysSyntax text (Syntax offset) = IsSyntaxFault text offset
+SaysSyntax text _ = ⊥
+
+-- the digits of a number, if there is one
+abbrev pub numeral_of : Option ℕ → List ℕ
+numeral_of None = []
+numeral_of (Some n) = decimal n
+
+-- the first line, with this count of jobs, and what follows it
+abbrev pub counted : ℕ → List ℕ → List ℕ
+counted count rest = codes "order " ++ (decimal count ++ 10 ∷ rest)
+
+-- the last line
+abbrev pub last_line : ℕ → List ℕ
+last_line makespan = codes "makespan " ++ (decimal makespan ++ 10 ∷ [])
+
+-- so many job numerals
+pub record AreJobs (count : ℕ) (jobs : List ℕ) : Type 0 where
+  pub some : 1 ≤ count
+  pub few : count ≤ MOST_JOBS
+  pub short : All (λ job. job < 10 ^ 9) jobs
+  pub every : length jobs ≡ count
+
+-- the text has the first line, the line of so many jobs, and then what stands at an offset
+abbrev pub HasJobs : ℕ → List ℕ → ℕ → Type 0
+HasJobs count text at = (jobs : List ℕ) × (AreJobs count jobs × (text ≡ counted count (spaced jobs ++ 10 ∷ drop at text)))
+
+-- why a job number, which counts from 1, can't follow those of a sequence
+abbrev pub RefusesJob : Sequence → ℕ → OrderFault → Type 0
+RefusesJob seq number (JobRange place) = (place ≡ length seq.jobs + 1) × ¬ ((1 ≤ number) × (number ≤ seq.size))
+RefusesJob seq number (Repeated place) = (place ≡ length seq.jobs + 1) × (1 ≤ number) × (number ≤ seq.size) × Contains seq.jobs (number - 1)
+RefusesJob seq number _ = ⊥
+
+-- what a refusal says of a text of the grammar; want of memory says nothing of it
+abbrev pub RefusesJobs : List ℕ → OrderFault → Type 0
+RefusesJobs text Memory = ⊤
+RefusesJobs text fault = HasJobFault text fault
+
+-- the judgement of a whole text; the memory for its jobs is asked for only of a text of the grammar
+abbrev pub JudgesText : List ℕ → OrderFault → Type 0
+JudgesText text Memory = IsText text
+JudgesText text fault = RefusesOrder text fault

@@ -1,0 +1,181 @@
+//! Reading an order file.
+ghost use Rattle.std.specs.Prelude.{◌≡◌, ℕ, ◌+◌, ◌-◌, ◌<◌, ◌≤◌, true, false, List, [], ◌∷◌, ◌++◌, length, map, take, drop, Contains, IfOk, IfErr, IfSome, OnOk, OnErr, vec_len};
+ghost use Rattle.std.specs.Io.KnownBytes.{Consumes, IsAtEnd};
+ghost use Rattle.pfs_order.specs.OrderFile.{HasText, IsText, IsOrderFile, RefusesUnlessFailed};
+ghost use Rattle.pfs_order.specs.Pieces.{SaysSyntax, HasJobs, RefusesJob, RefusesJobs, JudgesText, counted};
+ghost use Rattle.pfs_order.specs.Sequence.{IsSequence};
+
+use crate::fault::OrderFault;
+use crate::file::OrderFile;
+use crate::order::Order;
+use crate::scan::{numeral, word};
+use crate::seq::Seq;
+use pfs_base::{LONGEST_ORDER_FILE, MOST_JOBS, Source};
+use std::alloc::{AllocError, Global};
+
+/// The greatest number that a job numeral of nine digits writes.
+const GREATEST_JOB: u64 = 999_999_999;
+
+/// The greatest number that a makespan numeral of eighteen digits writes.
+const GREATEST_MAKESPAN: u64 = 999_999_999_999_999_999;
+
+/// Reads an order file to the end of the input, of which nothing else may be left. While it reads, want
+/// of memory, a failed read and byte `LONGEST_ORDER_FILE` + 1 are told as they come; then the syntax of
+/// the whole, and then the jobs from the left, at each place out of range before repeated.
+pub fn read_order<R: Source>(alloc: Global, reader: &mut R) -> Result<OrderFile, OrderFault>
+    requires { R.has_failed reader.old ≡ false }
+    ensures accepted { IfOk result (λ file.
+        IfSome (R.left reader.old) (λ input. IsOrderFile input file)) }
+    ensures refused { IfErr result (λ fault.
+        IfSome (R.left reader.old) (λ input. RefusesUnlessFailed input fault)) }
+    ensures failed { result ≡ Err OrderFault.Read → R.has_failed reader.new ≡ true }
+    ensures working { R.has_failed reader.new ≡ true → result ≡ Err OrderFault.Read }
+{
+    let mut buffer = room(alloc)?;
+    let filled = fill(reader, &mut buffer)?;
+    if filled > LONGEST_ORDER_FILE {
+        return Err(OrderFault::TooLong);
+    }
+    parse(alloc, &buffer[..filled])
+}
+
+// Room for the longest order file and one byte more.
+fn room(alloc: Global) -> Result<Vec<u8>, OrderFault>
+    ensures len { IfOk result (λ buffer. vec_len buffer ≡ LONGEST_ORDER_FILE + 1) }
+    ensures memory { IfErr result (λ fault. fault ≡ OrderFault.Memory) }
+{
+    match vec![in alloc; 0; LONGEST_ORDER_FILE + 1] {
+        Ok(buffer) => Ok(buffer),
+        Err(AllocError) => Err(OrderFault::Memory),
+    }
+}
+
+// Reads to the end of the input or of the buffer, and answers how many bytes were read.
+fn fill<R: Source>(reader: &mut R, buffer: &mut [u8]) -> Result<usize, OrderFault>
+    requires { R.has_failed reader.old ≡ false }
+    ensures within { IfOk result (λ filled. filled ≤ length buffer.new) }
+    ensures bytes { IfOk result (λ filled.
+        Consumes (R.left reader.old) (R.left reader.new) (take filled buffer.new)) }
+    ensures end { IfOk result (λ filled. filled < length buffer.new → IsAtEnd (R.left reader.new)) }
+    ensures working { OnOk result (R.has_failed reader.new ≡ false) }
+    ensures failed { OnErr result (R.has_failed reader.new ≡ true) }
+    ensures fault { IfErr result (λ fault. fault ≡ OrderFault.Read) }
+{
+    let mut filled = 0;
+    while filled < buffer.len() {
+        let n = match reader.read(&mut buffer[filled..]) {
+            Some(n) => n,
+            None => return Err(OrderFault::Read),
+        };
+        if n == 0 {
+            return Ok(filled);
+        }
+        filled += n;
+    }
+    Ok(filled)
+}
+
+// The order and the makespan that a whole text states.
+fn parse(alloc: Global, text: &[u8]) -> Result<OrderFile, OrderFault>
+    requires { length text.now ≤ LONGEST_ORDER_FILE }
+    ensures accepted { IfOk result (λ file. IsOrderFile text.now file) }
+    ensures refused { IfErr result (λ fault. JudgesText text.now fault) }
+{
+    let (count, second) = count_line(text)?;
+    let last = jobs_line(text, second, count)?;
+    let makespan = makespan_line(text, last, count)?;
+    let order = order_line(alloc, text, second, count)?;
+    Ok(OrderFile::new(order, makespan))
+}
+
+// The count of jobs in the first line, and where the next line begins.
+fn count_line(text: &[u8]) -> Result<(usize, usize), OrderFault>
+    ensures read { IfOk result (λ r. text.now ≡ counted r.0 (drop r.1 text.now)) }
+    ensures in_range { IfOk result (λ r. (1 ≤ r.0) × (r.0 ≤ MOST_JOBS)) }
+    ensures within { IfOk result (λ r. r.1 ≤ length text.now) }
+    ensures fault { IfErr result (λ fault. SaysSyntax text.now fault) }
+{
+    let at = word(text, 0, b"order ")?;
+    let (count, next) = numeral(text, at, 1, MOST_JOBS as u64, b'\n')?;
+    Ok((count as usize, next))
+}
+
+// Where the line behind that of so many jobs begins.
+fn jobs_line(text: &[u8], start: usize, count: usize) -> Result<usize, OrderFault>
+    requires counted { text.now ≡ counted count (drop start text.now) }
+    requires some { 1 ≤ count }
+    requires few { count ≤ MOST_JOBS }
+    requires start { start ≤ length text.now }
+    ensures read { IfOk result (λ next. HasJobs count text.now next) }
+    ensures within { IfOk result (λ next. next ≤ length text.now) }
+    ensures fault { IfErr result (λ fault. SaysSyntax text.now fault) }
+{
+    let mut at = start;
+    for _place in 1..count {
+        let (_, next) = numeral(text, at, 0, GREATEST_JOB, b' ')?;
+        at = next;
+    }
+    let (_, next) = numeral(text, at, 0, GREATEST_JOB, b'\n')?;
+    Ok(next)
+}
+
+// The makespan in the last line, behind which the text ends.
+fn makespan_line(text: &[u8], start: usize, count: usize) -> Result<u64, OrderFault>
+    requires jobs { HasJobs count text.now start }
+    requires start { start ≤ length text.now }
+    ensures read { IfOk result (λ makespan.
+        (jobs : List ℕ) × (HasText text.now jobs makespan × (length jobs ≡ count))) }
+    ensures fault { IfErr result (λ fault. SaysSyntax text.now fault) }
+{
+    let at = word(text, start, b"makespan ")?;
+    let (makespan, end) = numeral(text, at, 0, GREATEST_MAKESPAN, b'\n')?;
+    if end < text.len() {
+        return Err(OrderFault::Syntax { offset: end });
+    }
+    Ok(makespan)
+}
+
+// The order of the jobs in the second line of a text of the grammar.
+fn order_line(alloc: Global, text: &[u8], start: usize, count: usize) -> Result<Order, OrderFault>
+    requires text { IsText text.now }
+    requires counted { text.now ≡ counted count (drop start text.now) }
+    requires some { 1 ≤ count }
+    requires few { count ≤ MOST_JOBS }
+    requires start { start ≤ length text.now }
+    ensures sequence { IfOk result (λ order. IsSequence (length order) order) }
+    ensures jobs { IfOk result (λ order. (jobs : List ℕ) (makespan : ℕ) →
+        HasText text.now jobs makespan → jobs ≡ map (λ job. job + 1) order) }
+    ensures fault { IfErr result (λ fault. RefusesJobs text.now fault) }
+{
+    let mut seq = Seq::new(alloc, count)?;
+    let mut at = start;
+    for place in 0..count {
+        let end = if place + 1 < count { b' ' } else { b'\n' };
+        let (number, next) = numeral(text, at, 0, GREATEST_JOB, end)?;
+        add_job(&mut seq, number)?;
+        at = next;
+    }
+    match Order::from_seq(seq) {
+        Ok(order) => Ok(order),
+        Err(_) => unreachable!(),
+    }
+}
+
+// Puts a job, whose number counts from 1, behind those that stand in a sequence.
+fn add_job(seq: &mut Seq, number: u64) -> Result<(), OrderFault>
+    ensures in_range { OnOk result ((1 ≤ number) × (number ≤ seq.old.size)) }
+    ensures absent { OnOk result (Contains seq.old.jobs (number - 1) → ⊥) }
+    ensures added { OnOk result (seq.new ≡ record seq.old { jobs = seq.old.jobs ++ (number - 1) ∷ [] }) }
+    ensures refused { IfErr result (λ fault. RefusesJob seq.old number fault) }
+{
+    let place = seq.len();
+    if number < 1 || number > seq.size() as u64 {
+        return Err(OrderFault::JobRange { place: place + 1 });
+    }
+    let job = number as usize - 1;
+    if seq.has(job) {
+        return Err(OrderFault::Repeated { place: place + 1 });
+    }
+    seq.insert_at(place, job);
+    Ok(())
+}
