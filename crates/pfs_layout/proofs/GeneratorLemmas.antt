@@ -1,5 +1,7 @@
 -- Seeds of the generator, and times that are set one by one.
 use Rattle.std.proofs.Common.{◌≡◌, ◌≢◌, ℕ, zero, suc, ◌+◌, ◌*◌, ◌/◌, ◌%◌, ◌<◌, ◌≤◌, ◌⊎◌, inl, inr, List, length, map, flat_map, get_or, add-one, refl, sym, ◌∙◌, ap, arith}
+use Rattle.std.specs.List.{range_with_len, All}
+use Rattle.std.proofs.lemmas.List.Elements.{All-nil, All-append, All-map}
 use Rattle.std.proofs.lemmas.Bool.{cases_order}
 use Rattle.std.proofs.Math.Nat.{mul_comm}
 use Rattle.std.proofs.lemmas.Nat.{div-mul-add, mod-mul-add, mul-add-lt}
@@ -8,8 +10,9 @@ use Rattle.std.proofs.lemmas.List.FromFn.{get_or-map-range_with_len, length-map-
 use Rattle.std.proofs.lemmas.List.{get_or-set_same, get_or-set_other, length-set}
 use Rattle.pfs_base.specs.FlowShop.{FlowShop, time_of, with_time}
 use Rattle.pfs_base.specs.Problem.{Problem}
+use Rattle.pfs_base.specs.declared.limits.TheConstants.{LONGEST_TIME}
 use Rattle.pfs_base.specs.declared.notes.Notes.{Notes}
-use Rattle.pfs_layout.specs.Generator.{prime, seed_after, drawn_time, generated}
+use Rattle.pfs_layout.specs.Generator.{prime, IsSeed, seed_after, drawn_time, generated, SeedsStay, GeneratedWithin}
 use Rattle.pfs_layout.proofs.DueLemmas.{length-rows, get_or-rows, IsAt, at_row}
 use Rattle.pfs_base.specs.Lists.{below}
 
@@ -153,3 +156,43 @@ drawn_all jobs machines first seed now some h =
         ∙ ap (λ w. get_or now.shop.times (at.row * w + at.column) 0) (sym h.same_machines)
         ∙ h.drawn at.row at.column at.row_in at.column_in
         ∙ sym (ap (λ i. get_or drawn_times i 0) at.is ∙ drawn)
+
+-- ---- laws
+
+next_is_seed : (seed : ℕ) → IsSeed seed → IsSeed (16807 * seed % prime)
+next_is_seed seed is = let some = is.0 in let less = is.1 in (omega arith, omega arith)
+
+pub seeds_stay : SeedsStay
+unfolding seed_after
+seeds_stay zero seed is = is
+seeds_stay (suc draws) seed is = next_is_seed (seed_after draws seed) (seeds_stay draws seed is)
+
+-- what holds of every row's elements holds of all
+all_rows : (P : ℕ → Type 0) (f : ℕ → List ℕ) → ((row : ℕ) → All P (f row)) → (a n : ℕ) → All P (flat_map f (range_with_len a n))
+all_rows P f each a zero = All-nil P
+all_rows P f each a (suc n) = All-append P (f a) (flat_map f (range_with_len (a + 1) n)) (each a) (all_rows P f each (a + 1) n)
+
+pub generated_within : GeneratedWithin
+unfolding generated
+generated_within jobs machines seed sizes is =
+    let some = is.0 in
+    let less = is.1 in
+    record {
+      within = record {
+        sizes = sizes;
+        every_time = length-rows row machines (λ job. length-map-range_with_len (λ machine. time job machine) 0 machines) 0 jobs;
+        short_times = all_rows (λ drawn. drawn ≤ LONGEST_TIME) row (λ job. All-map (λ drawn. drawn ≤ LONGEST_TIME) (λ machine. time job machine) (below machines) (λ k d less. short job (get_or (below machines) k d))) 0 jobs;
+      };
+      seed = omega arith;
+      upper = omega arith;
+      lower = omega arith;
+    }
+  where
+    time : ℕ → ℕ → ℕ
+    time job machine = drawn_time (seed_after (machine * jobs + job + 1) seed)
+
+    row : ℕ → List ℕ
+    row job = map (λ machine. time job machine) (below machines)
+
+    short : (job machine : ℕ) → time job machine ≤ LONGEST_TIME
+    short job machine = let below = seed_after-below (machine * jobs + job + 1) seed is.1 in omega arith

@@ -8,9 +8,15 @@ use crate::fault::LayoutFault;
 use pfs_base::{Instance, Notes};
 use std::alloc::Global;
 
+// Each seed is the one before times the multiplier, modulo the modulus, which is a prime.
 const MODULUS: u64 = 2_147_483_647;
 
 const MULTIPLIER: u64 = 16_807;
+
+// The modulus divided by the multiplier.
+const QUOTIENT: u64 = 127_773;
+
+const REMAINDER: u64 = 2_836;
 
 /// Draws an instance from a seed, whose notes are that seed and two zeros. The seed is judged before any
 /// memory is asked for.
@@ -71,14 +77,14 @@ fn draw_times(instance: &mut Instance, machine: usize, seed: u64) -> u64
     drawn
 }
 
-// The seed times the multiplier, modulo the modulus, by Schrage's split, which computes with small numbers.
+// The next seed, by Schrage's split: no number on the way is greater than the modulus.
 fn next_seed(seed: u64) -> u64
     requires { seed < prime }
     ensures product { result ≡ 16807 * seed % prime }
     ensures below { result < prime }
 {
-    let ahead = MULTIPLIER * (seed % 127_773);
-    let behind = 2836 * (seed / 127_773);
+    let ahead = MULTIPLIER * (seed % QUOTIENT);
+    let behind = REMAINDER * (seed / QUOTIENT);
     if ahead < behind {
         ahead + MODULUS - behind
     } else {
