@@ -36,6 +36,9 @@ greatest_machine_bound shop = greatest (map (machine_bound shop) (range_with_len
 abbrev pub bound_of : FlowShop → ℕ
 bound_of shop = max (greatest_total shop) (greatest_machine_bound shop)
 
--- no order of all jobs has a makespan below it
+-- no order of all jobs has a makespan below this number
+abbrev pub IsLowerBound : FlowShop → ℕ → Type 0
+IsLowerBound shop number = (order : List ℕ) → IsSequence shop.jobs order → length order ≡ shop.jobs → number ≤ makespan shop order
+
 abbrev pub BoundLaw : Type 0
-BoundLaw = (shop : FlowShop) (order : List ℕ) → IsSequence shop.jobs order → length order ≡ shop.jobs → bound_of shop ≤ makespan shop order
+BoundLaw = (shop : FlowShop) → IsLowerBound shop (bound_of shop)

@@ -25,6 +25,10 @@ pub record IsLeastSchedule (shop : FlowShop) (order : List ℕ) (starts : Starts
 abbrev pub EndsBy : FlowShop → List ℕ → Starts → ℕ → Type 0
 EndsBy shop order starts time = (row machine : ℕ) → row < length order → machine < shop.machines → end_of shop order starts row machine ≤ time
 
+-- no feasible schedule has ended before this time
+abbrev pub NoneEndsBefore : FlowShop → List ℕ → ℕ → Type 0
+NoneEndsBefore shop order time = (starts : Starts) (by : ℕ) → IsFeasible shop order starts → EndsBy shop order starts by → time ≤ by
+
 -- the heaviest path to an operation
 abbrev pub least_end : FlowShop → List ℕ → ℕ → ℕ → ℕ
 least_end shop order row machine = heaviest (operation shop order) 0 0 row machine
@@ -44,8 +48,7 @@ OneLeastSchedule = (shop : FlowShop) (order : List ℕ) (one other : Starts) →
 
 -- no feasible schedule ends before the makespan
 abbrev pub NoneEndsEarlier : Type 0
-NoneEndsEarlier = (shop : FlowShop) (order : List ℕ) (starts : Starts) (time : ℕ) → 1 ≤ shop.machines
-    → IsFeasible shop order starts → EndsBy shop order starts time → makespan shop order ≤ time
+NoneEndsEarlier = (shop : FlowShop) (order : List ℕ) → 1 ≤ shop.machines → NoneEndsBefore shop order (makespan shop order)
 
 -- a time table: the jobs in their order, and when each operation starts and ends, row by row
 pub record Timing : Type 0 where
@@ -61,6 +64,10 @@ start_in timing row machine = slice_index timing.starts (row * timing.machines +
 -- and when it ends
 abbrev pub end_in : Timing → ℕ → ℕ → ℕ
 end_in timing row machine = slice_index timing.ends (row * timing.machines + machine)
+
+-- each operation ends its time after its start
+abbrev pub EndsInTime : FlowShop → List ℕ → Timing → Type 0
+EndsInTime shop order timing = (row machine : ℕ) → row < length order → machine < shop.machines → end_in timing row machine ≡ end_of shop order (start_in timing) row machine
 
 -- the end of the last job on the last machine
 abbrev pub last_end : Timing → ℕ

@@ -1,8 +1,6 @@
 //! A bound below the makespan of every order.
-ghost use Rattle.std.specs.Prelude.{◌≡◌, ℕ, ◌+◌, ◌-◌, ◌*◌, ◌<◌, ◌≤◌, List, length};
-ghost use Rattle.pfs_base.specs.Paths.{makespan};
-ghost use Rattle.pfs_order.specs.Sequence.{IsSequence};
-ghost use Rattle.pfs_audit.specs.Bound.{time_on, load_of, least_on, machine_bound, greatest_total, greatest_machine_bound, bound_of};
+ghost use Rattle.std.specs.Prelude.{◌≡◌, ◌-◌, ◌*◌, ◌<◌, ◌≤◌};
+ghost use Rattle.pfs_audit.specs.Bound.{time_on, load_of, least_on, machine_bound, greatest_total, greatest_machine_bound, bound_of, IsLowerBound};
 
 use pfs_base::{Instance, LONGEST_TIME, MOST_JOBS, MOST_MACHINES};
 
@@ -11,7 +9,7 @@ use pfs_base::{Instance, LONGEST_TIME, MOST_JOBS, MOST_MACHINES};
 /// machine, the times of all jobs on it and the least time of a job after it.
 pub fn bound(instance: &Instance) -> u64
     ensures value { result ≡ bound_of instance.now.shop }
-    ensures low { (order : List ℕ) → IsSequence instance.now.shop.jobs order → length order ≡ instance.now.shop.jobs → result ≤ makespan instance.now.shop order }
+    ensures low { IsLowerBound instance.now.shop result }
 {
     longest_job(instance).max(longest_machine(instance))
 }

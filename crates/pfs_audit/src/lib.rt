@@ -3,9 +3,12 @@
 #![tactic(auto)]
 
 pub mod bounds;
+pub mod examples;
 pub mod fault;
 pub mod laws;
 pub mod recurrence;
+#[cfg(test)]
+mod tests;
 pub mod timetable;
 pub mod verdicts;
 

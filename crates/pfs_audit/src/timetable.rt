@@ -1,7 +1,7 @@
 //! Time tables of orders.
-ghost use Rattle.std.specs.Prelude.{◌≡◌, ℕ, ◌+◌, ◌<◌, ◌≤◌, [], ◌∷◌, ◌++◌, length, slice_index, IfOk, OnOk};
+ghost use Rattle.std.specs.Prelude.{◌≡◌, ◌+◌, ◌<◌, ◌≤◌, [], ◌∷◌, ◌++◌, length, slice_index, IfOk, OnOk};
 ghost use Rattle.pfs_base.specs.Paths.{makespan};
-ghost use Rattle.pfs_audit.specs.Schedule.{Starts, end_of, EndsBy, IsFeasible, IsLeastSchedule, least_end, least_start, start_in, end_in, last_end, IsWhole, AreRows};
+ghost use Rattle.pfs_audit.specs.Schedule.{EndsBy, IsLeastSchedule, NoneEndsBefore, least_end, least_start, start_in, end_in, EndsInTime, last_end, IsWhole, AreRows};
 
 use crate::fault::AuditFault;
 use pfs_base::Instance;
@@ -86,10 +86,10 @@ pub fn table(alloc: Global, instance: &Instance, order: &Order) -> Result<TimeTa
     ensures jobs { IfOk result (λ table. table.jobs ≡ order.now) }
     ensures machines { IfOk result (λ table. table.machines ≡ instance.now.shop.machines) }
     ensures starts { IfOk result (λ table. IsLeastSchedule instance.now.shop order.now (start_in table)) }
-    ensures ends { IfOk result (λ table. (row machine : ℕ) → row < length order.now → machine < instance.now.shop.machines → end_in table row machine ≡ end_of instance.now.shop order.now (start_in table) row machine) }
+    ensures ends { IfOk result (λ table. EndsInTime instance.now.shop order.now table) }
     ensures makespan { IfOk result (λ table. last_end table ≡ makespan instance.now.shop order.now) }
     ensures ends_by { IfOk result (λ table. EndsBy instance.now.shop order.now (start_in table) (last_end table)) }
-    ensures earliest { IfOk result (λ table. (starts : Starts) (time : ℕ) → IsFeasible instance.now.shop order.now starts → EndsBy instance.now.shop order.now starts time → last_end table ≤ time) }
+    ensures earliest { IfOk result (λ table. NoneEndsBefore instance.now.shop order.now (last_end table)) }
 {
     let machines = instance.machines();
     let rows = order.len();

@@ -1,7 +1,7 @@
 //! The verdict on an order file.
-ghost use Rattle.std.specs.Prelude.{◌≡◌, ℕ, ◌≤◌, List, length, IfOk};
+ghost use Rattle.std.specs.Prelude.{◌≡◌, ℕ, length, IfOk};
 ghost use Rattle.pfs_base.specs.Paths.{makespan};
-ghost use Rattle.pfs_order.specs.Sequence.{IsSequence};
+ghost use Rattle.pfs_audit.specs.Bound.{IsLowerBound};
 ghost use Rattle.pfs_audit.specs.Verdicts.{verdict_on};
 
 use crate::bounds::bound;
@@ -26,7 +26,7 @@ pub enum Verdict {
 /// memory of `makespan`, and for none where the size is wrong.
 pub fn check(alloc: Global, instance: &Instance, file: &OrderFile) -> Result<Verdict, AuditFault>
     ensures verdict { IfOk result (λ verdict. verdict ≡ verdict_on instance.now.shop file.now) }
-    ensures shortest { IfOk result (λ verdict. (most : ℕ) → verdict ≡ Verdict.Valid most most → (order : List ℕ) → IsSequence instance.now.shop.jobs order → length order ≡ instance.now.shop.jobs → makespan instance.now.shop file.now.order ≤ makespan instance.now.shop order) }
+    ensures shortest { IfOk result (λ verdict. (most : ℕ) → verdict ≡ Verdict.Valid most most → IsLowerBound instance.now.shop (makespan instance.now.shop file.now.order)) }
     ensures size_first { result ≡ Err AuditFault.Memory → length file.now.order ≡ instance.now.shop.jobs }
 {
     let order = file.order();

@@ -1,14 +1,13 @@
 -- Where lines begin and end in a text.
-use Rattle.std.proofs.Common.{◌≡◌, ℕ, zero, suc, ◌+◌, ◌≤◌, Bool, true, false, ◌||◌, List, [], ◌∷◌, ◌++◌, length, refl, sym, ◌∙◌, ap, arith, ◌⊎◌, inl, inr, if◌then◌else◌, ◌==◌}
+use Rattle.std.proofs.Common.{◌≡◌, ℕ, Bool, true, false, ◌||◌, List, [], ◌∷◌, ◌++◌, refl, sym, ◌∙◌, ap, ◌⊎◌, inl, inr, if◌then◌else◌}
 use Rattle.std.specs.List.{list_any, slice_split, onto_first}
 use Rattle.std.proofs.lemmas.Bool.{or_parts}
-use Rattle.std.proofs.lemmas.List.{append_assoc, append-nil, length-append}
-use Rattle.std.proofs.lemmas.List.Folds.{list_any-append}
+use Rattle.std.proofs.lemmas.List.{append_assoc, append-nil}
 use Rattle.pfs_base.specs.Lists.{is_empty, last_of, all_but_last}
-use Rattle.pfs_base.proofs.Lists.{by_push}
 use Rattle.pfs_layout.specs.Bytes.{is_line_end}
 use Rattle.pfs_layout.specs.Lines.{lines, ended_parts, open_part, ended_lines, open_line}
-use Rattle.pfs_layout.proofs.LineLemmas.{IsSome, split_some, ended_parts-push, open_part-push}
+use Rattle.pfs_layout.proofs.SoundLemmas.{open_line-none}
+use Rattle.pfs_layout.proofs.LineLemmas.{split_some}
 
 cons_same : {A : Type 0} (x y : A) (xs ys : List A) → x ∷ xs ≡ y ∷ ys → (x ≡ y) × (xs ≡ ys)
 cons_same x y xs ys e = (cc, cc)
@@ -56,7 +55,7 @@ open_part-open p part none = ap (last_of []) (slice_split-open p part none)
 abbrev pub last_line : List ℕ → List (List ℕ)
 last_line line = if is_empty line then [] else line ∷ []
 
-lines_are : (text : List ℕ) → lines text ≡ ended_lines text ++ last_line (open_line text)
+pub lines_are : (text : List ℕ) → lines text ≡ ended_lines text ++ last_line (open_line text)
 unfolding lines
 lines_are text = refl
 
@@ -97,10 +96,6 @@ pub record Front (text : List ℕ) (some : List (List ℕ)) : Type 0 where
 lines-none : lines [] ≡ []
 unfolding lines ended_parts open_part
 lines-none = refl
-
-open_line-none : open_line [] ≡ []
-unfolding open_part
-open_line-none = refl
 
 pub front_of_lines : (text : List ℕ) (some more : List (List ℕ)) → lines text ≡ some ++ more → Front text some
 front_of_lines text [] more e = record { front = []; rest = text; whole = refl; are = lines-none; ended = inl open_line-none }

@@ -1,5 +1,5 @@
 -- Files, by where their lines lead.
-use Rattle.std.proofs.Common.{◌≡◌, ◌↔◌, ℕ, ◌+◌, ◌≤◌, List, [], ◌∷◌, ◌++◌, length, flat_map, refl, sym, ◌∙◌, ap, subst, arith, ◌⊎◌, inl, inr}
+use Rattle.std.proofs.Common.{◌≡◌, ℕ, ◌+◌, List, [], ◌∷◌, ◌++◌, length, flat_map, refl, sym, ◌∙◌, ap, subst, arith, ◌⊎◌, inl, inr}
 use Rattle.std.specs.List.{AllByRecursion}
 use Rattle.std.proofs.lemmas.List.{append_assoc, append-nil, length-append}
 use Rattle.std.proofs.lemmas.Grind.{flat_map-append}
@@ -7,7 +7,7 @@ use Rattle.pfs_base.specs.Limits.{limits}
 use Rattle.pfs_base.specs.Problem.{Problem}
 use Rattle.pfs_layout.specs.declared.layout.Layout.{Layout}
 use Rattle.pfs_layout.specs.Lines.{lines, open_line}
-use Rattle.pfs_layout.specs.File.{IsBlock, IsSomeBlock, AreBlocks, File}
+use Rattle.pfs_layout.specs.File.{IsBlock, IsSomeBlock, File}
 use Rattle.pfs_layout.specs.Stand.{Block, seeking, stand, instance_of}
 use Rattle.pfs_layout.specs.Laws.{Completes, FileStands}
 use Rattle.pfs_layout.proofs.BlockLemmas.{file_leads}

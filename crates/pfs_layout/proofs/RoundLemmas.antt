@@ -1,5 +1,5 @@
 -- A problem's due numbers give it back, and the numbers of a complete block are those that are due.
-use Rattle.std.proofs.Common.{◌≡◌, ℕ, zero, suc, ◌+◌, ◌*◌, ◌/◌, ◌%◌, ◌<◌, ◌≤◌, Bool, true, List, [], ◌∷◌, length, get_or, map, refl, sym, ◌∙◌, ap, arith, lit<, ◌==◌, if◌then◌else◌}
+use Rattle.std.proofs.Common.{◌≡◌, ℕ, zero, suc, ◌+◌, ◌*◌, ◌/◌, ◌%◌, ◌<◌, ◌≤◌, Bool, true, List, length, get_or, map, sym, ◌∙◌, ap, arith, lit<, ◌==◌, if◌then◌else◌}
 use Rattle.std.specs.List.{All, enumerate_from}
 use Rattle.std.proofs.lemmas.Grind.{same_number_lists}
 use Rattle.std.proofs.lemmas.Nat.{mod-mul-add, mul-add-lt}
@@ -9,7 +9,7 @@ use Rattle.std.proofs.lemmas.List.Elements.{All-from_get_or}
 use Rattle.std.proofs.lemmas.List.Sums.{AllPass-from_list_all}
 use Rattle.std.proofs.lemmas.List.FromFn.{get_or-enumerate_from, length-enumerate_from, get_or-map-range_with_len, length-map-range_with_len}
 use Rattle.pfs_base.specs.declared.limits.TheConstants.{LONGEST_TIME}
-use Rattle.pfs_base.specs.FlowShop.{FlowShop, time_of}
+use Rattle.pfs_base.specs.FlowShop.{time_of}
 use Rattle.pfs_base.specs.Limits.{limits}
 use Rattle.pfs_base.specs.Lists.{below}
 use Rattle.pfs_base.specs.Problem.{Problem}
@@ -127,7 +127,7 @@ orlib_due block k h right =
         ∙ ap (λ i. get_or block.numbers i 0) place
     by_column (suc (suc column)) l is wanted = absurd (omega arith)
 
-length-due_instance : (layout : Layout) (block : Block) → length (due layout (instance_of layout block).shop) ≡ due_count layout block.size
+pub length-due_instance : (layout : Layout) (block : Block) → length (due layout (instance_of layout block).shop) ≡ due_count layout block.size
 unfolding instance_of
 length-due_instance layout block = length-due layout (instance_of layout block)
 
@@ -157,21 +157,10 @@ time_wanted OrLib size job machine j m =
     orlib_at size (2 * x + 1) (time_place OrLib size job machine j m)
     ∙ ap (λ i. if i == 0 then machine_number ((2 * x + 1) / 2 % size.machines) else any_time) odd
 
-pub instance_within : (layout : Layout) (block : Block) → is_within_limits block.size ≡ true → are_due layout block.size block.numbers ≡ true → length block.numbers ≡ due_count layout block.size
-    → IsInstance limits (instance_of layout block)
+pub times_short : (layout : Layout) (block : Block) → are_due layout block.size block.numbers ≡ true → length block.numbers ≡ due_count layout block.size
+    → All (λ time. time ≤ LONGEST_TIME) (instance_of layout block).shop.times
 unfolding instance_of
-instance_within layout block size all whole =
-    let fits = size_within block.size size in
-    record {
-      within = record {
-        sizes = fits.sizes;
-        every_time = length-times layout block;
-        short_times = All-from_get_or (λ time. time ≤ LONGEST_TIME) (instance_of layout block).shop.times 0 short;
-      };
-      seed = fits.seed;
-      upper = fits.upper;
-      lower = fits.lower;
-    }
+times_short layout block all whole = All-from_get_or (λ time. time ≤ LONGEST_TIME) (instance_of layout block).shop.times 0 short
   where
     short : (k : ℕ) → k < length (instance_of layout block).shop.times → get_or (instance_of layout block).shop.times k 0 ≤ LONGEST_TIME
     short k h =
@@ -184,3 +173,19 @@ instance_within layout block size all whole =
         let right = due_number layout block.size block.numbers place all (omega (arith, whole, time_place layout block.size at.row at.column at.row_in at.column_in)) in
         let fits : is_due any_time (get_or block.numbers place 0) ≡ true = sym (ap (λ d. is_due d (get_or block.numbers place 0)) (time_wanted layout block.size at.row at.column at.row_in at.column_in)) ∙ right in
         omega (arith, number, leb-true (get_or block.numbers place 0) LONGEST_TIME fits)
+
+pub instance_within : (layout : Layout) (block : Block) → is_within_limits block.size ≡ true → are_due layout block.size block.numbers ≡ true → length block.numbers ≡ due_count layout block.size
+    → IsInstance limits (instance_of layout block)
+unfolding instance_of
+instance_within layout block size all whole =
+    let fits = size_within block.size size in
+    record {
+      within = record {
+        sizes = fits.sizes;
+        every_time = length-times layout block;
+        short_times = times_short layout block all whole;
+      };
+      seed = fits.seed;
+      upper = fits.upper;
+      lower = fits.lower;
+    }

@@ -1,20 +1,19 @@
 -- Which lines lead to complete blocks.
-use Rattle.std.proofs.Common.{◌≡◌, ℕ, zero, suc, ◌+◌, ◌*◌, ◌<◌, ◌≤◌, Bool, true, false, not, ◌&&◌, ◌||◌, List, [], ◌∷◌, ◌++◌, length, flat_map, refl, sym, ◌∙◌, ap, subst, arith, Option, Some, None, if◌then◌else◌, ◌==◌}
-use Rattle.std.specs.List.{AllByRecursion, list_any, list_all}
-use Rattle.std.proofs.lemmas.Bool.{eqb-true, eq-eqb, or_parts}
-use Rattle.std.proofs.lemmas.List.{append_assoc, append-nil, length-append}
+use Rattle.std.proofs.Common.{◌≡◌, ℕ, zero, suc, ◌*◌, ◌≤◌, Bool, true, false, not, ◌&&◌, ◌||◌, List, [], ◌∷◌, ◌++◌, length, flat_map, refl, sym, ◌∙◌, ap, subst, arith, Option, Some, None, if◌then◌else◌, ◌==◌}
+use Rattle.std.specs.List.{list_any, list_all}
+use Rattle.std.proofs.lemmas.Bool.{and_from, eqb-true, eq-eqb, or_parts}
+use Rattle.std.proofs.lemmas.List.{append_assoc, append-nil}
 use Rattle.std.proofs.lemmas.List.Folds.{list_any-append, list_all-append}
 use Rattle.std.proofs.lemmas.Grind.{flat_map-append}
 use Rattle.pfs_base.specs.Limits.{limits}
-use Rattle.pfs_base.specs.Problem.{Problem}
 use Rattle.pfs_base.proofs.Lists.{by_push}
 use Rattle.pfs_layout.specs.declared.layout.Layout.{Layout}
 use Rattle.pfs_layout.specs.declared.layout.Layout.TheVariants.{Taillard, OrLib}
 use Rattle.pfs_layout.specs.Bytes.{is_digit, is_word_byte}
 use Rattle.pfs_layout.specs.Size.{Size, is_within_limits}
 use Rattle.pfs_layout.specs.Lines.{is_mixed, is_number_line, is_no_digit, values, numbers, ended_numbers, last_digits}
-use Rattle.pfs_layout.specs.Block.{stated_size, due_count, are_due, due}
-use Rattle.pfs_layout.specs.File.{IsBlock, IsSomeBlock, AreBlocks}
+use Rattle.pfs_layout.specs.Block.{stated_size, due_count, are_due}
+use Rattle.pfs_layout.specs.File.{IsBlock}
 use Rattle.pfs_layout.specs.Stand.{Block, Now, seeking, inside, lost, Stand, after_size, after_numbers, after_line, stand_after, stand, instance_of}
 use Rattle.pfs_layout.proofs.LineLemmas.{numbers_is, ended_numbers-push, open_part-push}
 use Rattle.pfs_layout.proofs.SizeLemmas.{size_within}
@@ -85,9 +84,6 @@ pub record IsMade (layout : Layout) (text : List (List ℕ)) (stood : Stand) : T
 abbrev standing : List Block → Now → Stand
 standing complete now = record { complete = complete; now = now }
 
-and_true : (a b : Bool) → a ≡ true → b ≡ true → (a && b) ≡ true
-and_true a b p q = ap (λ v. v && b) p ∙ q
-
 some_product : (a b : ℕ) → 1 ≤ a → 1 ≤ b → a * b ≡ 0 → ⊥
 some_product zero b p q h = omega arith
 some_product (suc a) zero p q h = omega arith
@@ -132,7 +128,7 @@ module _ (layout : Layout) (text : List (List ℕ)) (complete : List Block) (lin
   }
 
   one_more : (test : List ℕ → Bool) (ls : List (List ℕ)) → list_all test ls ≡ true → test line ≡ true → list_all test (ls ++ line ∷ []) ≡ true
-  one_more test ls all last = list_all-append test ls (line ∷ []) ∙ and_true _ _ all (and_true _ _ last refl)
+  one_more test ls all last = list_all-append test ls (line ∷ []) ∙ and_from _ _ all (and_from _ _ last refl)
 
   -- a size line
   begun : (size : Size) (m : IsMade layout text (standing complete seeking)) → is_number_line line ≡ true → stated_size layout (numbers line) ≡ Some size → (v : Bool) → is_within_limits size ≡ v
@@ -172,7 +168,7 @@ module _ (layout : Layout) (text : List (List ℕ)) (complete : List Block) (lin
   unmixed_numbers : list_any is_digit line ≡ true → is_mixed line ≡ false → is_number_line line ≡ true
   unmixed_numbers digit unmixed =
       let word : list_any is_word_byte line ≡ false = sym (ap (λ v. v && list_any is_word_byte line) digit) ∙ unmixed in
-      and_true (list_any is_digit line) (not (list_any is_word_byte line)) digit (ap not word)
+      and_from (list_any is_digit line) (not (list_any is_word_byte line)) digit (ap not word)
 
   completed : (block : Block) → IsMade layout text (standing complete (inside block)) → is_mixed line ≡ false → are_due layout block.size (block.numbers ++ numbers line) ≡ true
       → length (block.numbers ++ numbers line) ≡ due_count layout block.size → IsMade layout (text ++ line ∷ []) (standing (complete ++ longer block ∷ []) seeking)

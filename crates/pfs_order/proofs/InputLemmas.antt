@@ -1,6 +1,6 @@
 -- What was read of an input, and what its judgement says of the whole.
-use Rattle.std.proofs.Common.{◌≡◌, ℕ, ◌+◌, ◌-◌, ◌<◌, ◌≤◌, List, [], ◌++◌, length, take, Option, Some, None, refl, sym, ◌∙◌, ap, subst, arith}
-use Rattle.std.specs.Prelude.{IfSome, IfOk, IfErr, Result, Ok, Err}
+use Rattle.std.proofs.Common.{◌≡◌, ℕ, ◌+◌, ◌-◌, ◌<◌, ◌≤◌, List, [], ◌++◌, length, take, Option, Some, None, refl, sym, ◌∙◌, ap, subst, arith, inl, inr}
+use Rattle.std.specs.Prelude.{IfSome, IfOk, IfErr, OnOk, Result, Ok, Err}
 use Rattle.std.specs.Io.KnownBytes.{Consumes, IsAtEnd}
 use Rattle.std.proofs.KnownBytes.{Consumes-trans, Consumes-whole}
 use Rattle.std.proofs.lemmas.List.{append-nil, length-append, length-take-le, take-append-le, take-take}
@@ -10,7 +10,8 @@ use Rattle.pfs_base.specs.declared.limits.TheConstants.{LONGEST_ORDER_FILE}
 use Rattle.pfs_order.specs.declared.fault.OrderFault.{OrderFault}
 use Rattle.pfs_order.specs.declared.fault.OrderFault.TheVariants.{Syntax, JobRange, Repeated, TooLong, Read, Memory}
 use Rattle.pfs_order.specs.Sequence.{StatedOrder}
-use Rattle.pfs_order.specs.OrderFile.{IsOrderFile, RefusesUnlessFailed}
+use Rattle.pfs_order.specs.OrderFile.{IsOrderFile, RefusesOrder, RefusesUnlessFailed, IsUnlessFailed}
+use Rattle.pfs_order.proofs.OrderVerdicts.{one_refusal, not_both, one_file}
 use Rattle.pfs_order.specs.Pieces.{JudgesText}
 
 -- the bytes before those that were written into a part, and some of these
@@ -64,3 +65,30 @@ reads_unmade (Some input) fault e = subst (RefusesUnlessFailed input) (sym e) tt
 -- a front of what stands in a buffer
 pub front_of : (n size : ℕ) (new rest buffer : List ℕ) → buffer ≡ take size (new ++ rest) → n ≤ size → n ≤ length new → take n buffer ≡ take n new
 front_of n size new rest buffer e h l = ap (take n) e ∙ take-take n size (new ++ rest) h ∙ take-append-le n new rest l
+
+-- no other answer is the right one
+pub decides_ok : (left : Option (List ℕ)) (answer : Result StatedOrder OrderFault) → IfOk answer (λ file. IfSome left (λ input. IsOrderFile input file))
+    → IfErr answer (λ fault. IfSome left (λ input. RefusesUnlessFailed input fault)) → IfSome left (λ input. (file : StatedOrder) → IsOrderFile input file → IsUnlessFailed answer (Ok file))
+decides_ok None answer h k = tt
+decides_ok (Some input) (Ok other) h k = λ file is. inl (ap Ok (one_file input other file h is))
+decides_ok (Some input) (Err (Syntax p)) h k = λ file is. absurd (not_both input file (Syntax p) is k)
+decides_ok (Some input) (Err (JobRange p)) h k = λ file is. absurd (not_both input file (JobRange p) is k)
+decides_ok (Some input) (Err (Repeated p)) h k = λ file is. absurd (not_both input file (Repeated p) is k)
+decides_ok (Some input) (Err TooLong) h k = λ file is. absurd (not_both input file TooLong is k)
+decides_ok (Some input) (Err Read) h k = λ file is. inr (inl refl)
+decides_ok (Some input) (Err Memory) h k = λ file is. inr (inr refl)
+
+pub decides_err : (left : Option (List ℕ)) (answer : Result StatedOrder OrderFault) → IfOk answer (λ file. IfSome left (λ input. IsOrderFile input file))
+    → IfErr answer (λ fault. IfSome left (λ input. RefusesUnlessFailed input fault)) → IfSome left (λ input. (fault : OrderFault) → RefusesOrder input fault → IsUnlessFailed answer (Err fault))
+decides_err None answer h k = tt
+decides_err (Some input) (Ok file) h k = λ fault is. absurd (not_both input file fault h is)
+decides_err (Some input) (Err (Syntax p)) h k = λ fault is. inl (ap Err (one_refusal input (Syntax p) fault k is))
+decides_err (Some input) (Err (JobRange p)) h k = λ fault is. inl (ap Err (one_refusal input (JobRange p) fault k is))
+decides_err (Some input) (Err (Repeated p)) h k = λ fault is. inl (ap Err (one_refusal input (Repeated p) fault k is))
+decides_err (Some input) (Err TooLong) h k = λ fault is. inl (ap Err (one_refusal input TooLong fault k is))
+decides_err (Some input) (Err Read) h k = λ fault is. inr (inl refl)
+decides_err (Some input) (Err Memory) h k = λ fault is. inr (inr refl)
+
+pub on_ok : (answer : Result StatedOrder OrderFault) (P : Type 0) → P → OnOk answer P
+on_ok (Ok file) P h = h
+on_ok (Err fault) P h = tt

@@ -1,4 +1,5 @@
 pub mod OrderFile
+pub mod OrderLaws
 pub mod OrderText
 pub mod Pieces
 pub mod Sequence

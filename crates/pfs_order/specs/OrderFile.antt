@@ -1,6 +1,6 @@
 -- Which inputs are order files, and how the others are refused. Job numbers count from 1 in a file, and so
 -- do places.
-use Rattle.std.specs.Prelude.{◌≡◌, ⊤, ℕ, ◌+◌, ◌<◌, ◌≤◌, ◌^◌, List, ◌++◌, length, map, take, slice_index}
+use Rattle.std.specs.Prelude.{◌≡◌, ⊤, ℕ, ◌+◌, ◌<◌, ◌≤◌, ◌^◌, List, ◌++◌, length, map, take, slice_index, ◌⊎◌, Result, Ok, Err}
 use Rattle.std.specs.List.{All, Contains}
 use Rattle.pfs_base.specs.declared.limits.TheConstants.{MOST_JOBS, LONGEST_ORDER_FILE}
 use Rattle.pfs_order.specs.declared.fault.OrderFault.{OrderFault}
@@ -78,3 +78,7 @@ abbrev pub RefusesUnlessFailed : List ℕ → OrderFault → Type 0
 RefusesUnlessFailed input Read = ⊤
 RefusesUnlessFailed input Memory = ⊤
 RefusesUnlessFailed input fault = RefusesOrder input fault
+
+-- the result is this answer, unless a failed read or want of memory is told
+abbrev pub IsUnlessFailed : Result StatedOrder OrderFault → Result StatedOrder OrderFault → Type 0
+IsUnlessFailed result answer = (result ≡ answer) ⊎ ((result ≡ Err Read) ⊎ (result ≡ Err Memory))

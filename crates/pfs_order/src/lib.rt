@@ -3,8 +3,11 @@
 
 pub mod fault;
 pub mod file;
+pub mod laws;
 pub mod order;
 pub mod reading;
+#[cfg(test)]
+mod reading_tests;
 pub mod scan;
 pub mod seq;
 #[cfg(test)]

@@ -1,9 +1,10 @@
 //! Reading an order file.
 ghost use Rattle.std.specs.Prelude.{◌≡◌, ℕ, ◌+◌, ◌-◌, ◌<◌, ◌≤◌, true, false, List, [], ◌∷◌, ◌++◌, length, map, take, drop, Contains, IfOk, IfErr, IfSome, OnOk, OnErr, vec_len};
 ghost use Rattle.std.specs.Io.KnownBytes.{Consumes, IsAtEnd};
-ghost use Rattle.pfs_order.specs.OrderFile.{HasText, IsText, IsOrderFile, RefusesUnlessFailed};
+ghost use Rattle.pfs_order.specs.OrderFile.{HasText, IsText, IsOrderFile, RefusesOrder, RefusesUnlessFailed, IsUnlessFailed};
 ghost use Rattle.pfs_order.specs.Pieces.{SaysSyntax, HasJobs, RefusesJob, RefusesJobs, JudgesText, counted};
-ghost use Rattle.pfs_order.specs.Sequence.{IsSequence};
+ghost use Rattle.pfs_order.specs.Sequence.{IsSequence, StatedOrder};
+ghost use Rattle.pfs_order.specs.declared.fault.OrderFault.{OrderFault};
 
 use crate::fault::OrderFault;
 use crate::file::OrderFile;
@@ -28,6 +29,11 @@ pub fn read_order<R: Source>(alloc: Global, reader: &mut R) -> Result<OrderFile,
         IfSome (R.left reader.old) (λ input. IsOrderFile input file)) }
     ensures refused { IfErr result (λ fault.
         IfSome (R.left reader.old) (λ input. RefusesUnlessFailed input fault)) }
+    ensures accepts { IfSome (R.left reader.old) (λ input. (file : StatedOrder) →
+        IsOrderFile input file → IsUnlessFailed result (Ok file)) }
+    ensures refuses { IfSome (R.left reader.old) (λ input. (fault : OrderFault) →
+        RefusesOrder input fault → IsUnlessFailed result (Err fault)) }
+    ensures ended { OnOk result (IsAtEnd (R.left reader.new)) }
     ensures failed { result ≡ Err OrderFault.Read → R.has_failed reader.new ≡ true }
     ensures working { R.has_failed reader.new ≡ true → result ≡ Err OrderFault.Read }
 {

@@ -17,8 +17,10 @@ step-before-requires-clause-in_limit g c =
     let above = head_le weigh LONGEST_TIME small place machine in
     let before = head_before_le weigh LONGEST_TIME small place machine in
     let time = time_of-le (g.B.Bench.shop c.loop-machine.bench) (g.met.B.Bench.within c.loop-machine.bench) c.at-job.result machine in
-    let at : g.B.Span.Length.number c.index.result.now ≡ head weigh place machine =
-    ap g.B.Span.Length.number c.index.ensures ∙ c.loop-machine.invariant.to_do machine c.index.result.now (omega arith) (omega arith) in
+    let number = g.B.Span.Length.number in
+    let items = c.loop-machine.row.items in
+    let read : number c.index.result.now ≡ number (get_or items machine c.index.result.now) = ap number c.index.ensures in
+    let above_it = c.loop-machine.invariant.to_do machine c.index.result.now (omega arith) (omega arith) in
     let before_it = c.loop-machine.invariant.before_it in
     let few = shop_within.sizes in
     omega arith
@@ -33,10 +35,10 @@ loop-machine-preserved g c =
     let items = c.loop-machine.row.items in
     let invariant = c.loop-machine.invariant in
     let within : machine < length items = omega (arith, c.loop-machine.row.ok.0) in
-    let at : number c.index.result.now ≡ head weigh place machine =
-    ap number c.index.ensures ∙ invariant.to_do machine c.index.result.now (omega arith) (omega arith) in
-    let time : time_of (g.B.Bench.shop c.loop-machine.bench) c.at-job.result machine ≡ weigh place machine =
-    ap (λ (s : FlowShop). time_of s c.at-job.result machine) invariant.same_shop ∙ ap (λ job. time_of shop job machine) c.at-job.ensures.value in
+    let read : number c.index.result.now ≡ number (get_or items machine c.index.result.now) = ap number c.index.ensures in
+    let above_it = invariant.to_do machine c.index.result.now (omega arith) (omega arith) in
+    let same_time = ap (λ (s : FlowShop). time_of s c.at-job.result machine) invariant.same_shop in
+    let time = ap (λ job. time_of shop job machine) c.at-job.ensures.value in
     let written : number c.step-before.result ≡ head weigh (place + 1) machine =
     let more = head_more weigh place machine in
     let value = c.step-before.ensures.value in

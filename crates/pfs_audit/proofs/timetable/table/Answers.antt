@@ -59,4 +59,4 @@ returns-clause-ends_by c =
 pub returns-clause-earliest : goal.returns-clause-earliest
 returns-clause-earliest c =
     let last = last_at (goal.at.returns-clause-earliest c).After-loop-row in
-    λ starts time feasible by. let low = none_ends_earlier c.args.instance.now.shop c.args.order.now starts time (omega arith) feasible by in omega arith
+    λ starts time feasible by. let low = none_ends_earlier c.args.instance.now.shop c.args.order.now (omega arith) starts time feasible by in omega arith

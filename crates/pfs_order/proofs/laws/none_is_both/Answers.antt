@@ -1,0 +1,5 @@
+use Rattle.pfs_order.proofs.OrderVerdicts.{not_both}
+use Rattle.pfs_order.proofs.laws.none_is_both.Goals as goal
+
+pub returns : goal.returns
+returns c = not_both

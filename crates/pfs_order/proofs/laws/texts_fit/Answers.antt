@@ -1,0 +1,5 @@
+use Rattle.pfs_order.proofs.OrderVerdicts.{text_fits}
+use Rattle.pfs_order.proofs.laws.texts_fit.Goals as goal
+
+pub returns : goal.returns
+returns c = text_fits

@@ -1,0 +1,5 @@
+use Rattle.pfs_order.proofs.OrderVerdicts.{written_file}
+use Rattle.pfs_order.proofs.laws.written_is_read.Goals as goal
+
+pub returns : goal.returns
+returns c = written_file

@@ -1,0 +1,41 @@
+-- Laws of order files and of how other inputs are refused.
+use Rattle.std.specs.Prelude.{◌≡◌, ℕ, ◌<◌, ◌≤◌, ◌^◌, List, ◌∷◌, ◌++◌, length, take}
+use Rattle.pfs_base.specs.Limits.{limits}
+use Rattle.pfs_base.specs.declared.limits.TheConstants.{LONGEST_ORDER_FILE}
+use Rattle.pfs_order.specs.declared.fault.OrderFault.{OrderFault}
+use Rattle.pfs_order.specs.OrderText.{file_text}
+use Rattle.pfs_order.specs.OrderFile.{IsText, IsOrderFile, IsSyntaxFault, RefusesOrder}
+use Rattle.pfs_order.specs.Sequence.{StatedOrder, IsSequence, IsSize}
+
+-- what is written of an order is its order file
+abbrev pub WrittenIsRead : Type 0
+WrittenIsRead = (order : List ℕ) (makespan : ℕ) → IsSize limits (length order) → IsSequence (length order) order → makespan < 10 ^ 18
+    → IsOrderFile (file_text order makespan) (record { order = order; makespan = makespan })
+
+-- and no other text is
+abbrev pub OnlyWritten : Type 0
+OnlyWritten = (input : List ℕ) (file : StatedOrder) → IsOrderFile input file → input ≡ file_text file.order file.makespan
+
+-- an input states at most one order and one makespan
+abbrev pub OneOrderFile : Type 0
+OneOrderFile = (input : List ℕ) (one other : StatedOrder) → IsOrderFile input one → IsOrderFile input other → one ≡ other
+
+-- an input is refused in at most one way
+abbrev pub OneRefusal : Type 0
+OneRefusal = (input : List ℕ) (one other : OrderFault) → RefusesOrder input one → RefusesOrder input other → one ≡ other
+
+-- no order file is refused
+abbrev pub NoneIsBoth : Type 0
+NoneIsBoth = (input : List ℕ) (file : StatedOrder) (fault : OrderFault) → IsOrderFile input file → ¬ RefusesOrder input fault
+
+-- every text of the grammar is within the limit
+abbrev pub TextsFit : Type 0
+TextsFit = (text : List ℕ) → IsText text → length text ≤ LONGEST_ORDER_FILE
+
+-- a text of the grammar that is cut is refused where it ends
+abbrev pub CutText : Type 0
+CutText = (text : List ℕ) (cut : ℕ) → IsText text → cut < length text → IsSyntaxFault (take cut text) cut
+
+-- a text of the grammar with more behind it is refused where it ended
+abbrev pub LongerText : Type 0
+LongerText = (text : List ℕ) (byte : ℕ) (more : List ℕ) → IsText text → IsSyntaxFault (text ++ byte ∷ more) (length text)

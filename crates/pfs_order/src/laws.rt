@@ -1,0 +1,42 @@
+//! Laws about the definitions alone.
+ghost use Rattle.pfs_order.specs.OrderLaws.{WrittenIsRead, OnlyWritten, OneOrderFile, OneRefusal, NoneIsBoth, TextsFit, CutText, LongerText};
+
+/// What is written of an order and a makespan is their order file.
+pub fn written_is_read()
+    ensures { WrittenIsRead }
+{}
+
+/// No other text is the order file of an order and a makespan.
+pub fn only_written()
+    ensures { OnlyWritten }
+{}
+
+/// An input is the order file of at most one order and one makespan.
+pub fn one_order_file()
+    ensures { OneOrderFile }
+{}
+
+/// An input is refused in at most one way.
+pub fn one_refusal()
+    ensures { OneRefusal }
+{}
+
+/// No order file is refused.
+pub fn none_is_both()
+    ensures { NoneIsBoth }
+{}
+
+/// Every text of the grammar is within the limit, so that its length never decides.
+pub fn texts_fit()
+    ensures { TextsFit }
+{}
+
+/// A text of the grammar that is cut short is refused at its end: no text begins another.
+pub fn cut_text()
+    ensures { CutText }
+{}
+
+/// A text of the grammar with more behind it is refused where it ended.
+pub fn longer_text()
+    ensures { LongerText }
+{}
