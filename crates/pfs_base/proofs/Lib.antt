@@ -6,3 +6,4 @@ pub mod Printing
 pub mod SendsLemmas
 pub mod SendsOn
 pub mod Sent
+pub mod SpacedLemmas

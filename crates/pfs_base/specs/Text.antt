@@ -18,3 +18,7 @@ entry (suc place) number = 32 ∷ decimal number
 -- a name, a space and a number, as a line
 abbrev pub named_number : List ℕ → ℕ → List ℕ
 named_number name number = with_line_end (name ++ 32 ∷ decimal number)
+
+-- a number between two texts, as a line
+abbrev pub number_between : List ℕ → ℕ → List ℕ → List ℕ
+number_between before number after = with_line_end (before ++ decimal number ++ after)

@@ -1,8 +1,8 @@
 //! Printing of texts part by part, without memory. Each call answers how many bytes of the text went out
 //! with its own part, as `put` does.
-ghost use Rattle.std.specs.Prelude.{◌≡◌, ◌+◌, ◌<◌, ◌≤◌, ◌^◌, false, length, decimal, IfOk};
+ghost use Rattle.std.specs.Prelude.{◌≡◌, ◌+◌, ◌<◌, ◌≤◌, ◌^◌, ◌∷◌, false, length, decimal, IfOk};
 ghost use Rattle.pfs_base.specs.Sends.{Sends};
-ghost use Rattle.pfs_base.specs.Text.{with_line_end, spaced, entry, named_number};
+ghost use Rattle.pfs_base.specs.Text.{with_line_end, spaced, entry, named_number, number_between};
 
 use crate::device::{Sink, WriteFault, put};
 use itoa::Buffer;
@@ -80,4 +80,33 @@ pub fn put_numbers<W: Sink>(writer: &mut W, numbers: &[u64], sent: u64) -> Resul
         reached = put_entry(writer, place, *number, reached)?;
     }
     put(writer, b"\n", reached)
+}
+
+/// Writes a line of a text, a number and a text.
+pub fn put_between<W: Sink>(
+    writer: &mut W,
+    before: &[u8],
+    number: u64,
+    after: &[u8],
+    sent: u64,
+) -> Result<u64, WriteFault>
+    requires working { W.has_failed writer.old ≡ false }
+    requires fits { sent + length before.now + length after.now + 41 < 2 ^ 64 }
+    ensures text { Sends (W.written writer.old) (W.written writer.new) (W.has_failed writer.new) sent (number_between before.now number after.now) result }
+    ensures short { IfOk result (λ total. total ≤ sent + length before.now + length after.now + 41) }
+{
+    let sent = put(writer, before, sent)?;
+    let sent = put_number(writer, number, sent)?;
+    put_line(writer, after, sent)
+}
+
+/// Writes a space and a number.
+pub fn put_next<W: Sink>(writer: &mut W, number: u64, sent: u64) -> Result<u64, WriteFault>
+    requires working { W.has_failed writer.old ≡ false }
+    requires fits { sent + 41 < 2 ^ 64 }
+    ensures text { Sends (W.written writer.old) (W.written writer.new) (W.has_failed writer.new) sent (32 ∷ decimal number) result }
+    ensures short { IfOk result (λ total. total ≤ sent + 41) }
+{
+    let spaced = put(writer, b" ", sent)?;
+    put_number(writer, number, spaced)
 }
