@@ -50,6 +50,43 @@ pub fn put_named<W: Sink>(
     put(writer, b"\n", sent)
 }
 
+/// Writes the number at a place of a line of numbers, with a space before it unless it is the first.
+/// Places count from 0.
+pub fn put_entry<W: Sink>(
+    writer: &mut W,
+    place: usize,
+    number: u64,
+    sent: u64,
+) -> Result<u64, WriteFault>
+    requires working { W.has_failed writer.old ≡ false }
+    requires fits { sent + length (entry place number) < 2 ^ 64 }
+    ensures { Sends (W.written writer.old) (W.written writer.new) (W.has_failed writer.new)
+        sent (entry place number) result }
+{
+    let mut buffer = Buffer::new();
+    let digits = buffer.format(number).as_bytes();
+    if place == 0 {
+        put(writer, digits, sent)
+    } else {
+        let sent = put(writer, b" ", sent)?;
+        put(writer, digits, sent)
+    }
+}
+
+/// Writes a line of numbers with single spaces between them.
+pub fn put_numbers<W: Sink>(writer: &mut W, numbers: &[u64], sent: u64) -> Result<u64, WriteFault>
+    requires working { W.has_failed writer.old ≡ false }
+    requires fits { sent + length (with_line_end (spaced numbers.now)) < 2 ^ 64 }
+    ensures { Sends (W.written writer.old) (W.written writer.new) (W.has_failed writer.new)
+        sent (with_line_end (spaced numbers.now)) result }
+{
+    let mut reached = sent;
+    for (place, number) in numbers.iter().enumerate() {
+        reached = put_entry(writer, place, *number, reached)?;
+    }
+    put(writer, b"\n", reached)
+}
+
 /// Writes a line of a text, a number and a text.
 pub fn put_between<W: Sink>(
     writer: &mut W,
@@ -79,39 +116,4 @@ pub fn put_next<W: Sink>(writer: &mut W, number: u64, sent: u64) -> Result<u64, 
 {
     let spaced = put(writer, b" ", sent)?;
     put_number(writer, number, spaced)
-}
-
-/// Writes the number at a place of a line of numbers, with a space before it unless it is the first.
-/// Places count from 0.
-pub fn put_entry<W: Sink>(
-    writer: &mut W,
-    place: usize,
-    number: u64,
-    sent: u64,
-) -> Result<u64, WriteFault>
-    requires working { W.has_failed writer.old ≡ false }
-    requires fits { sent + length (entry place number) < 2 ^ 64 }
-    ensures { Sends (W.written writer.old) (W.written writer.new) (W.has_failed writer.new) sent (entry place number) result }
-{
-    let mut buffer = Buffer::new();
-    let digits = buffer.format(number).as_bytes();
-    if place == 0 {
-        put(writer, digits, sent)
-    } else {
-        let sent = put(writer, b" ", sent)?;
-        put(writer, digits, sent)
-    }
-}
-
-/// Writes a line of numbers with single spaces between them.
-pub fn put_numbers<W: Sink>(writer: &mut W, numbers: &[u64], sent: u64) -> Result<u64, WriteFault>
-    requires working { W.has_failed writer.old ≡ false }
-    requires fits { sent + length (with_line_end (spaced numbers.now)) < 2 ^ 64 }
-    ensures { Sends (W.written writer.old) (W.written writer.new) (W.has_failed writer.new) sent (with_line_end (spaced numbers.now)) result }
-{
-    let mut reached = sent;
-    for (place, number) in numbers.iter().enumerate() {
-        reached = put_entry(writer, place, *number, reached)?;
-    }
-    put(writer, b"\n", reached)
 }
