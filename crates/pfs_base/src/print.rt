@@ -57,7 +57,8 @@ pub fn put_entry<W: Sink>(
 ) -> Result<u64, WriteFault>
     requires working { W.has_failed writer.old ≡ false }
     requires fits { sent + length (entry place number) < 2 ^ 64 }
-    ensures { Sends (W.written writer.old) (W.written writer.new) (W.has_failed writer.new) sent (entry place number) result }
+    ensures { Sends (W.written writer.old) (W.written writer.new) (W.has_failed writer.new) sent
+        (entry place number) result }
 {
     let mut buffer = Buffer::new();
     let digits = buffer.format(number).as_bytes();
@@ -73,7 +74,8 @@ pub fn put_entry<W: Sink>(
 pub fn put_numbers<W: Sink>(writer: &mut W, numbers: &[u64], sent: u64) -> Result<u64, WriteFault>
     requires working { W.has_failed writer.old ≡ false }
     requires fits { sent + length (with_line_end (spaced numbers.now)) < 2 ^ 64 }
-    ensures { Sends (W.written writer.old) (W.written writer.new) (W.has_failed writer.new) sent (with_line_end (spaced numbers.now)) result }
+    ensures { Sends (W.written writer.old) (W.written writer.new) (W.has_failed writer.new) sent
+        (with_line_end (spaced numbers.now)) result }
 {
     let mut reached = sent;
     for (place, number) in numbers.iter().enumerate() {
