@@ -1,5 +1,5 @@
 -- A canonical text is an instance file.
-use Rattle.std.proofs.Common.{◌≡◌, ℕ, zero, suc, ◌+◌, ◌-◌, ◌*◌, ◌<◌, ◌≤◌, ◌^◌, Bool, true, false, not, ◌&&◌, ◌||◌, ◌==◌, nat_le, if◌then◌else◌, List, [], ◌∷◌, ◌++◌, length, map, flat_map, filter, get_or, decimal, codes, Some, refl, sym, ◌∙◌, ap, subst, inl, arith, lit<, lit≤, length-append, append_assoc, append-nil}
+use Rattle.std.proofs.Common.{◌≡◌, ℕ, zero, suc, ◌+◌, ◌-◌, ◌<◌, ◌≤◌, ◌^◌, Bool, true, false, not, ◌&&◌, ◌||◌, nat_le, if◌then◌else◌, List, [], ◌∷◌, ◌++◌, length, map, flat_map, filter, get_or, decimal, Some, refl, sym, ◌∙◌, ap, subst, inl, arith, lit<, length-append, append_assoc, append-nil}
 use Rattle.std.specs.List.{range_with_len, slice_split, list_any, list_all, All}
 use Rattle.std.specs.Str.Parse.{digits_value}
 use Rattle.std.proofs.lemmas.Bool.{le-leb, ne_eqb, not-true}
@@ -8,7 +8,7 @@ use Rattle.std.proofs.lemmas.Fmt.{decimal_is_IsNumeral}
 use Rattle.std.proofs.lemmas.Grind.{flat_map-append}
 use Rattle.std.proofs.lemmas.List.{map-append}
 use Rattle.std.proofs.lemmas.List.Elements.{All-from_get_or, All-append, All-cons, All-nil, All-head, filter-append}
-use Rattle.std.proofs.lemmas.List.Folds.{list_any_none, list_any-append}
+use Rattle.std.proofs.lemmas.List.Folds.{list_any_none}
 use Rattle.std.proofs.lemmas.List.Splits.{slice_split_none, slice_split_at}
 use Rattle.std.proofs.lemmas.Str.Parse.{digit_at}
 use Rattle.pfs_base.specs.FlowShop.{FlowShop}
@@ -24,7 +24,7 @@ use Rattle.pfs_layout.specs.Bytes.{is_digit, is_blank, is_line_end, is_word_byte
 use Rattle.pfs_layout.specs.Lines.{lines, open_line, ended_lines, ended_parts, open_part, is_mixed, is_number_line, is_no_digit, values, numbers}
 use Rattle.pfs_layout.specs.Size.{size_of}
 use Rattle.pfs_layout.specs.Block.{due_row, row_count, due, stated_size}
-use Rattle.pfs_layout.specs.File.{IsInstance, IsBody, IsBlock, File}
+use Rattle.pfs_layout.specs.File.{IsInstance, IsBody, IsBlock}
 use Rattle.pfs_layout.specs.CanonicalText.{head_lines, row_lines, canonical_text, as_written, CanonicalLaw}
 use Rattle.pfs_layout.proofs.LineLemmas.{split_is}
 use Rattle.pfs_layout.proofs.SoundLemmas.{values_last}

@@ -1,14 +1,12 @@
 -- A canonical text: how long it is, its lines, and their numbers.
-use Rattle.std.proofs.Common.{◌≡◌, ℕ, zero, suc, ◌+◌, ◌-◌, ◌*◌, ◌<◌, ◌≤◌, ◌^◌, Bool, true, false, not, ◌&&◌, ◌||◌, ◌==◌, List, [], ◌∷◌, ◌++◌, length, map, flat_map, filter, get_or, Option, decimal, codes, refl, sym, ◌∙◌, ap, subst, arith, lit<, lit≤, length-append, append_assoc, append-nil}
-use Rattle.std.specs.List.{range_with_len, slice_split, list_any, list_all, onto_first}
+use Rattle.std.proofs.Common.{◌≡◌, ℕ, zero, suc, ◌+◌, ◌*◌, ◌<◌, ◌≤◌, ◌^◌, Bool, List, [], ◌∷◌, ◌++◌, length, flat_map, get_or, Option, decimal, codes, ◌∙◌, ap, arith, lit<, lit≤, length-append}
+use Rattle.std.specs.List.{range_with_len}
 use Rattle.std.proofs.Math.Nat.{mul-le-mul}
-use Rattle.std.specs.Str.Parse.{digits_value}
-use Rattle.std.proofs.lemmas.Fmt.{length-decimal-le, decimal_is_IsNumeral}
-use Rattle.pfs_base.specs.Lists.{below}
+use Rattle.std.proofs.lemmas.Fmt.{length-decimal-le}
 use Rattle.pfs_base.specs.Text.{with_line_end, spaced}
-use Rattle.pfs_base.specs.FlowShop.{FlowShop, time_of, IsWithin}
+use Rattle.pfs_base.specs.FlowShop.{FlowShop, IsWithin}
 use Rattle.pfs_base.specs.Limits.{limits}
-use Rattle.pfs_base.specs.declared.limits.TheConstants.{MOST_JOBS, MOST_MACHINES, LONGEST_TIME, LONGEST_INPUT}
+use Rattle.pfs_base.specs.declared.limits.TheConstants.{MOST_JOBS, MOST_MACHINES, LONGEST_INPUT}
 use Rattle.pfs_base.specs.Problem.{Problem}
 use Rattle.pfs_base.specs.Sends.{SendsAll, SendsFront}
 use Rattle.pfs_base.proofs.SendsLemmas.{then_all, then_front, front_of}
@@ -16,9 +14,9 @@ use Rattle.pfs_layout.specs.declared.layout.Layout.{Layout}
 use Rattle.pfs_layout.specs.declared.layout.Layout.TheVariants.{Taillard, OrLib}
 use Rattle.pfs_layout.specs.Size.{Size, size_of}
 use Rattle.pfs_layout.specs.Block.{due_row, row_count}
-use Rattle.pfs_layout.specs.CanonicalText.{head_lines, row_lines, canonical_text}
+use Rattle.pfs_layout.specs.CanonicalText.{head_lines, row_line, row_lines, canonical_text}
 use Rattle.pfs_layout.proofs.DueLemmas.{length-due_row, row_width, pairs_of, at_row, short_at}
-use Rattle.pfs_layout.proofs.WritingLemmas.{row_line, time_in_row, pair_in_row}
+use Rattle.pfs_layout.proofs.WritingLemmas.{time_in_row, pair_in_row}
 
 -- the numbers are of 64 bits
 abbrev pub AllFit : List ℕ → Type 0

@@ -1,5 +1,5 @@
 -- Seeds of the generator, and times that are set one by one.
-use Rattle.std.proofs.Common.{◌≡◌, ◌≢◌, ℕ, zero, suc, ◌+◌, ◌*◌, ◌/◌, ◌%◌, ◌<◌, ◌≤◌, ◌⊎◌, inl, inr, List, length, map, flat_map, get_or, add-one, refl, sym, ◌∙◌, ap, arith}
+use Rattle.std.proofs.Common.{◌≡◌, ◌≢◌, ℕ, zero, suc, ◌+◌, ◌*◌, ◌/◌, ◌%◌, ◌<◌, ◌≤◌, ◌⊎◌, inl, inr, List, length, map, flat_map, get_or, add-one, sym, ◌∙◌, ap, arith}
 use Rattle.std.specs.List.{range_with_len, All}
 use Rattle.std.proofs.lemmas.List.Elements.{All-nil, All-append, All-map}
 use Rattle.std.proofs.lemmas.Bool.{cases_order}
@@ -13,7 +13,7 @@ use Rattle.pfs_base.specs.Problem.{Problem}
 use Rattle.pfs_base.specs.declared.limits.TheConstants.{LONGEST_TIME}
 use Rattle.pfs_base.specs.declared.notes.Notes.{Notes}
 use Rattle.pfs_layout.specs.Generator.{prime, IsSeed, seed_after, drawn_time, generated, SeedsStay, GeneratedWithin}
-use Rattle.pfs_layout.proofs.DueLemmas.{length-rows, get_or-rows, IsAt, at_row}
+use Rattle.pfs_layout.proofs.DueLemmas.{length-rows, get_or-rows, at_row}
 use Rattle.pfs_base.specs.Lists.{below}
 
 pub seed_after-below : (draws seed : ℕ) → seed < prime → seed_after draws seed < prime

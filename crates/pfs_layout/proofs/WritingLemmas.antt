@@ -1,5 +1,5 @@
 -- The rows of a body, number by number and line by line.
-use Rattle.std.proofs.Common.{◌≡◌, ℕ, zero, suc, ◌+◌, ◌-◌, ◌*◌, ◌<◌, ◌≤◌, List, [], ◌∷◌, ◌++◌, length, take, flat_map, get_or, refl, sym, ◌∙◌, ap, subst, arith, lit<, append-nil}
+use Rattle.std.proofs.Common.{◌≡◌, ℕ, zero, suc, ◌+◌, ◌-◌, ◌*◌, ◌<◌, List, [], ◌∷◌, ◌++◌, take, flat_map, get_or, refl, sym, ◌∙◌, ap, subst, arith, lit<, append-nil}
 use Rattle.std.specs.List.{range_with_len}
 use Rattle.std.proofs.lemmas.Grind.{flat_map-append}
 use Rattle.std.proofs.lemmas.List.{take_all}
@@ -13,13 +13,10 @@ use Rattle.pfs_base.proofs.SendsOn.{GoesOn}
 use Rattle.pfs_layout.specs.declared.layout.Layout.{Layout}
 use Rattle.pfs_layout.specs.declared.layout.Layout.TheVariants.{Taillard, OrLib}
 use Rattle.pfs_layout.specs.Block.{due_row, row_count}
-use Rattle.pfs_layout.specs.CanonicalText.{row_lines}
+use Rattle.pfs_layout.specs.CanonicalText.{row_line, row_lines}
 use Rattle.pfs_layout.proofs.DueLemmas.{get_or-rows, length-due_row, row_width, pairs_of}
 
--- the line of a row, and its first numbers
-abbrev pub row_line : Layout → FlowShop → ℕ → List ℕ
-row_line layout shop row = with_line_end (spaced (due_row layout shop row))
-
+-- the first numbers of a row's line
 abbrev pub row_begun : Layout → FlowShop → ℕ → ℕ → List ℕ
 row_begun layout shop row count = spaced (take count (due_row layout shop row))
 

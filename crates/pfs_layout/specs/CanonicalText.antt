@@ -12,8 +12,11 @@ use Rattle.pfs_layout.specs.Block.{due_row, row_count}
 use Rattle.pfs_layout.specs.File.{IsInstance, File}
 
 -- each row of the body on a line
+abbrev pub row_line : Layout → FlowShop → ℕ → List ℕ
+row_line layout shop row = with_line_end (spaced (due_row layout shop row))
+
 abbrev pub row_lines : Layout → FlowShop → List ℕ
-row_lines layout shop = flat_map (λ row. with_line_end (spaced (due_row layout shop row))) (below (row_count layout shop))
+row_lines layout shop = flat_map (row_line layout shop) (below (row_count layout shop))
 
 -- the lines before the body
 abbrev pub head_lines : Layout → Size → List ℕ
@@ -35,4 +38,5 @@ as_written OrLib problem = record { shop = problem.shop; notes = record { seed =
 
 -- what is written is an instance file, and holds the problem
 abbrev pub CanonicalLaw : Type 0
-CanonicalLaw = (layout : Layout) (problem : Problem) → IsInstance limits problem → File limits layout (canonical_text layout problem) 1 (as_written layout problem)
+CanonicalLaw = (layout : Layout) (problem : Problem) → IsInstance limits problem
+    → File limits layout (canonical_text layout problem) 1 (as_written layout problem)

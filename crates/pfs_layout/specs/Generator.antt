@@ -34,4 +34,5 @@ SeedsStay = (draws seed : ℕ) → IsSeed seed → IsSeed (seed_after draws seed
 
 -- what is drawn is an instance within the limits
 abbrev pub GeneratedWithin : Type 0
-GeneratedWithin = (jobs machines seed : ℕ) → AreSizes limits jobs machines → IsSeed seed → IsInstance limits (generated jobs machines seed)
+GeneratedWithin = (jobs machines seed : ℕ) → AreSizes limits jobs machines → IsSeed seed
+    → IsInstance limits (generated jobs machines seed)

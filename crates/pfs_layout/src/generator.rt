@@ -35,7 +35,8 @@ pub fn generate(
     requires few_machines { machines ≤ MOST_MACHINES }
     ensures drawn { IfOk result (λ made. made ≡ generated jobs machines seed) }
     ensures seed_range { result ≡ Err LayoutFault.SeedRange ↔ (¬ IsSeed seed) }
-    ensures faults { IfErr result (λ fault. (fault ≡ LayoutFault.SeedRange) ⊎ (fault ≡ LayoutFault.Memory)) }
+    ensures faults { IfErr result
+        (λ fault. (fault ≡ LayoutFault.SeedRange) ⊎ (fault ≡ LayoutFault.Memory)) }
 {
     if seed < 1 || seed >= MODULUS {
         return Err(LayoutFault::SeedRange);
@@ -66,8 +67,10 @@ fn draw_times(instance: &mut Instance, machine: usize, seed: u64) -> u64
     ensures machines { instance.new.shop.machines ≡ instance.old.shop.machines }
     ensures times { length instance.new.shop.times ≡ length instance.old.shop.times }
     ensures notes { instance.new.notes ≡ instance.old.notes }
-    ensures drawn { (job : ℕ) → job < instance.old.shop.jobs → time_of instance.new.shop job machine ≡ drawn_time (seed_after (job + 1) seed) }
-    ensures others { (job other : ℕ) → other < instance.old.shop.machines → other ≢ machine → time_of instance.new.shop job other ≡ time_of instance.old.shop job other }
+    ensures drawn { (job : ℕ) → job < instance.old.shop.jobs
+        → time_of instance.new.shop job machine ≡ drawn_time (seed_after (job + 1) seed) }
+    ensures others { (job other : ℕ) → other < instance.old.shop.machines → other ≢ machine
+        → time_of instance.new.shop job other ≡ time_of instance.old.shop job other }
 {
     let mut drawn = seed;
     for job in 0..instance.jobs() {

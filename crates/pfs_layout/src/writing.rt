@@ -1,10 +1,9 @@
 //! Writing instance files.
 ghost use Rattle.std.specs.Prelude.{◌≡◌, ◌+◌, ◌<◌, ◌≤◌, ◌^◌, false, true, length, take, IfErr, OnOk, OnErr};
 ghost use Rattle.std.specs.Io.KnownBytes.{Appends};
-ghost use Rattle.pfs_base.specs.Text.{with_line_end, spaced};
 ghost use Rattle.pfs_base.specs.Sends.{Sends};
-ghost use Rattle.pfs_layout.specs.Block.{due_row, row_count};
-ghost use Rattle.pfs_layout.specs.CanonicalText.{head_lines, row_lines, canonical_text};
+ghost use Rattle.pfs_layout.specs.Block.{row_count};
+ghost use Rattle.pfs_layout.specs.CanonicalText.{head_lines, row_line, row_lines, canonical_text};
 
 use crate::layout::Layout;
 use pfs_base::print::{put_entry, put_numbers};
@@ -19,11 +18,13 @@ pub fn write_block<W: Sink>(
     layout: Layout,
 ) -> Result<(), WriteFault>
     requires working { W.has_failed writer.old ≡ false }
-    ensures text { OnOk result (Appends (W.written writer.old) (W.written writer.new) (canonical_text layout instance.now)) }
+    ensures text { OnOk result
+        (Appends (W.written writer.old) (W.written writer.new) (canonical_text layout instance.now)) }
     ensures working { OnOk result (W.has_failed writer.new ≡ false) }
     ensures failed { OnErr result (W.has_failed writer.new ≡ true) }
     ensures within { IfErr result (λ fault. fault.written ≤ length (canonical_text layout instance.now)) }
-    ensures front { IfErr result (λ fault. Appends (W.written writer.old) (W.written writer.new) (take fault.written (canonical_text layout instance.now))) }
+    ensures front { IfErr result (λ fault. Appends (W.written writer.old) (W.written writer.new)
+        (take fault.written (canonical_text layout instance.now))) }
 {
     let jobs = instance.jobs();
     let machines = instance.machines();
@@ -42,8 +43,10 @@ fn put_head<W: Sink>(
     notes: Notes,
 ) -> Result<u64, WriteFault>
     requires working { W.has_failed writer.old ≡ false }
-    requires fits { length (head_lines layout (record { jobs = jobs; machines = machines; notes = notes })) < 2 ^ 64 }
-    ensures { Sends (W.written writer.old) (W.written writer.new) (W.has_failed writer.new) 0 (head_lines layout (record { jobs = jobs; machines = machines; notes = notes })) result }
+    requires fits { length
+        (head_lines layout (record { jobs = jobs; machines = machines; notes = notes })) < 2 ^ 64 }
+    ensures { Sends (W.written writer.old) (W.written writer.new) (W.has_failed writer.new) 0
+        (head_lines layout (record { jobs = jobs; machines = machines; notes = notes })) result }
 {
     match layout {
         Layout::Taillard => {
@@ -74,7 +77,8 @@ fn put_rows<W: Sink>(
 ) -> Result<u64, WriteFault>
     requires working { W.has_failed writer.old ≡ false }
     requires fits { sent + length (row_lines layout instance.now.shop) < 2 ^ 64 }
-    ensures { Sends (W.written writer.old) (W.written writer.new) (W.has_failed writer.new) sent (row_lines layout instance.now.shop) result }
+    ensures { Sends (W.written writer.old) (W.written writer.new) (W.has_failed writer.new) sent
+        (row_lines layout instance.now.shop) result }
 {
     let rows = row_number(instance, layout);
     let mut reached = sent;
@@ -104,8 +108,9 @@ fn put_row<W: Sink>(
 ) -> Result<u64, WriteFault>
     requires working { W.has_failed writer.old ≡ false }
     requires row { row < row_count layout instance.now.shop }
-    requires fits { sent + length (with_line_end (spaced (due_row layout instance.now.shop row))) < 2 ^ 64 }
-    ensures { Sends (W.written writer.old) (W.written writer.new) (W.has_failed writer.new) sent (with_line_end (spaced (due_row layout instance.now.shop row))) result }
+    requires fits { sent + length (row_line layout instance.now.shop row) < 2 ^ 64 }
+    ensures { Sends (W.written writer.old) (W.written writer.new) (W.has_failed writer.new) sent
+        (row_line layout instance.now.shop row) result }
 {
     match layout {
         Layout::Taillard => put_machine(writer, instance, row, sent),
@@ -122,8 +127,9 @@ fn put_machine<W: Sink>(
 ) -> Result<u64, WriteFault>
     requires working { W.has_failed writer.old ≡ false }
     requires machine { machine < instance.now.shop.machines }
-    requires fits { sent + length (with_line_end (spaced (due_row Layout.Taillard instance.now.shop machine))) < 2 ^ 64 }
-    ensures { Sends (W.written writer.old) (W.written writer.new) (W.has_failed writer.new) sent (with_line_end (spaced (due_row Layout.Taillard instance.now.shop machine))) result }
+    requires fits { sent + length (row_line Layout.Taillard instance.now.shop machine) < 2 ^ 64 }
+    ensures { Sends (W.written writer.old) (W.written writer.new) (W.has_failed writer.new) sent
+        (row_line Layout.Taillard instance.now.shop machine) result }
 {
     let mut reached = sent;
     for job in 0..instance.jobs() {
@@ -141,8 +147,9 @@ fn put_job<W: Sink>(
 ) -> Result<u64, WriteFault>
     requires working { W.has_failed writer.old ≡ false }
     requires job { job < instance.now.shop.jobs }
-    requires fits { sent + length (with_line_end (spaced (due_row Layout.OrLib instance.now.shop job))) < 2 ^ 64 }
-    ensures { Sends (W.written writer.old) (W.written writer.new) (W.has_failed writer.new) sent (with_line_end (spaced (due_row Layout.OrLib instance.now.shop job))) result }
+    requires fits { sent + length (row_line Layout.OrLib instance.now.shop job) < 2 ^ 64 }
+    ensures { Sends (W.written writer.old) (W.written writer.new) (W.has_failed writer.new) sent
+        (row_line Layout.OrLib instance.now.shop job) result }
 {
     let mut reached = sent;
     for machine in 0..instance.machines() {

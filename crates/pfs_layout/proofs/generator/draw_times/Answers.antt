@@ -1,6 +1,6 @@
-use Rattle.std.proofs.Common.{ℕ, subst, refl, sym, ◌∙◌, ap, arith, rules, ◌%◌, ◌*◌}
-use Rattle.pfs_layout.specs.Generator.{prime, drawn_time, seed_after}
-use Rattle.pfs_layout.proofs.GeneratorLemmas.{DrawnSoFar, drawn_more}
+use Rattle.std.proofs.Common.{refl, arith}
+use Rattle.pfs_layout.specs.Generator.{seed_after}
+use Rattle.pfs_layout.proofs.GeneratorLemmas.{drawn_more}
 use Rattle.pfs_layout.proofs.generator.draw_times.Goals as goal
 
 pub loop-job-init : goal.loop-job-init

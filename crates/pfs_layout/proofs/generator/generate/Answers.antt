@@ -1,7 +1,7 @@
-use Rattle.std.proofs.Common.{◌≡◌, ℕ, zero, refl, arith, ◌*◌, replicate, length, sym, ap, ◌∙◌}
+use Rattle.std.proofs.Common.{◌≡◌, refl, arith, ◌*◌, sym, ap, ◌∙◌}
 use Rattle.std.proofs.lemmas.List.{length-replicate}
 use Rattle.pfs_layout.specs.Generator.{seed_after}
-use Rattle.pfs_layout.proofs.GeneratorLemmas.{DrawnMachines, DrawnSoFar, machine_more, drawn_all}
+use Rattle.pfs_layout.proofs.GeneratorLemmas.{DrawnSoFar, machine_more, drawn_all}
 use Rattle.pfs_layout.proofs.generator.generate.Goals as goal
 
 pub loop-machine-init : goal.loop-machine-init

@@ -1,4 +1,4 @@
-use Rattle.std.proofs.Common.{rules, ◌≡◌, Err, List, [], ◌∷◌, ◌++◌, codes}
+use Rattle.std.proofs.Common.{rules, ◌≡◌, Err, List, [], ◌∷◌, ◌++◌}
 use Rattle.pfs_base.specs.Text.{with_line_end, spaced}
 use Rattle.pfs_base.proofs.SendsLemmas.{then_front, front_of}
 use Rattle.pfs_base.proofs.SendsOn.{then_sends}
