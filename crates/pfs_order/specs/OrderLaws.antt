@@ -43,3 +43,7 @@ LongerText = (text : List ℕ) (byte : ℕ) (more : List ℕ) → IsText text �
 -- each input is a text of the grammar or has a fault of syntax
 abbrev pub TextOrFault : Type 0
 TextOrFault = (input : List ℕ) → IsText input ⊎ ((offset : ℕ) × IsSyntaxFault input offset)
+
+-- each input is an order file or is refused; by the laws above, in one way
+abbrev pub SomeVerdict : Type 0
+SomeVerdict = (input : List ℕ) → ((file : StatedOrder) × IsOrderFile input file) ⊎ ((fault : OrderFault) × RefusesOrder input fault)
