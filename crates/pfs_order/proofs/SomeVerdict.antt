@@ -1,16 +1,14 @@
 -- Each input is an order file or has a refusal.
-use Rattle.std.proofs.Common.{◌≡◌, ◌≢◌, ℕ, zero, suc, ◌+◌, ◌-◌, ◌*◌, ◌<◌, ◌≤◌, ◌^◌, ◌⊎◌, inl, inr, Option, Some, None, List, [], ◌∷◌, ◌++◌, true, false, length, take, drop, map, get_or, Contains, refl, sym, ◌∙◌, ap, subst, arith, codes, lit≤, lit<, eqb, below_more, zero-add}
+use Rattle.std.proofs.Common.{◌≡◌, ◌≢◌, ℕ, zero, suc, ◌+◌, ◌-◌, ◌*◌, ◌<◌, ◌≤◌, ◌^◌, ◌⊎◌, inl, inr, Option, Some, None, List, [], ◌∷◌, ◌++◌, length, drop, refl, sym, ◌∙◌, ap, subst, arith, codes, lit≤, lit<, zero-add}
 use Rattle.std.specs.Fmt.{decimal}
 use Rattle.std.specs.Char.{digit_value}
 use Rattle.std.specs.Option.{ForSome}
-use Rattle.std.specs.List.{All}
 use Rattle.std.proofs.lemmas.Bool.{cases_eq, cases_lt}
 use Rattle.std.proofs.lemmas.Fmt.{decimal_digit}
-use Rattle.std.proofs.lemmas.List.{append_assoc, append-nil, length-append, drop_at, get_or-map, length-map}
+use Rattle.std.proofs.lemmas.List.{append_assoc, length-append, drop_at}
 use Rattle.std.proofs.lemmas.List.Elements.{All-nil, All-push}
-use Rattle.pfs_base.specs.declared.limits.TheConstants.{MOST_JOBS, LONGEST_ORDER_FILE}
-use Rattle.pfs_order.specs.declared.fault.OrderFault.{OrderFault}
-use Rattle.pfs_order.specs.declared.fault.OrderFault.TheVariants.{Syntax, JobRange, Repeated, TooLong}
+use Rattle.pfs_base.specs.declared.limits.TheConstants.{MOST_JOBS}
+use Rattle.pfs_order.specs.declared.fault.OrderFault.TheVariants.{Syntax}
 use Rattle.pfs_order.specs.Text.{spaced}
 use Rattle.pfs_order.specs.OrderFile.{IsText, IsFaultOf, IsSyntaxFault}
 use Rattle.pfs_order.specs.Pieces.{Begins, IsWord, IsNumeral, IsPieceFault, numeral_of, counted, last_line, AreJobs, HasJobs}
