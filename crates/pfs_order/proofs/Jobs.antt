@@ -9,7 +9,7 @@ use Rattle.std.proofs.lemmas.List.Elements.{All-get_or}
 use Rattle.pfs_base.specs.declared.limits.TheConstants.{MOST_JOBS}
 use Rattle.pfs_order.specs.declared.fault.OrderFault.{OrderFault}
 use Rattle.pfs_order.specs.declared.fault.OrderFault.TheVariants.{Syntax, JobRange, Repeated, TooLong, Read, Memory}
-use Rattle.pfs_order.specs.Text.{spaced}
+use Rattle.pfs_base.specs.Text.{spaced}
 use Rattle.pfs_order.specs.Sequence.{Sequence, IsSequence}
 use Rattle.pfs_order.specs.OrderFile.{HasText, IsText, IsJob, IsRepeated, AreRightBefore}
 use Rattle.pfs_order.specs.Pieces.{IsNumeral, IsPieceFault, RefusesJob, RefusesJobs, counted, last_line}

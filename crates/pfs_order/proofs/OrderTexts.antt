@@ -5,7 +5,7 @@ use Rattle.std.specs.Char.{digit_value}
 use Rattle.std.specs.List.{All}
 use Rattle.std.proofs.lemmas.List.{append_assoc, append_cancel_left}
 use Rattle.std.proofs.lemmas.List.Elements.{All-head, All-tail}
-use Rattle.pfs_order.specs.Text.{spaced}
+use Rattle.pfs_base.specs.Text.{spaced}
 use Rattle.pfs_order.specs.OrderText.{order_text}
 use Rattle.pfs_order.specs.Pieces.{counted, last_line}
 use Rattle.pfs_order.proofs.Numerals.{cut_at, decimal_lacks, decimal_one}

@@ -11,7 +11,7 @@ use Rattle.pfs_base.specs.Limits.{limits}
 use Rattle.pfs_base.specs.declared.limits.TheConstants.{LONGEST_ORDER_FILE}
 use Rattle.pfs_order.specs.declared.fault.OrderFault.{OrderFault}
 use Rattle.pfs_order.specs.declared.fault.OrderFault.TheVariants.{Syntax, JobRange, Repeated, TooLong, Read, Memory}
-use Rattle.pfs_order.specs.Text.{spaced}
+use Rattle.pfs_base.specs.Text.{spaced}
 use Rattle.pfs_order.specs.OrderText.{file_text}
 use Rattle.pfs_order.specs.Sequence.{StatedOrder, IsSequence, IsSize}
 use Rattle.pfs_order.specs.OrderFile.{IsText, IsFaultOf, IsSyntaxFault, IsJob, IsRepeated, AreRightBefore, IsJobFault, HasJobFault, RefusesOrder, IsOrderFile}

@@ -1,12 +1,10 @@
 -- The line of the jobs of an order file, up to a place.
-use Rattle.std.proofs.Common.{◌≡◌, ℕ, ◌+◌, ◌*◌, ◌<◌, ◌≤◌, ◌^◌, List, [], ◌∷◌, ◌++◌, length, map, take, drop, decimal, get_or, refl, sym, ◌∙◌, ap, arith, lit<, codes, length-append, append_assoc, append-nil, take-append-drop, drop-cons, add-one}
-use Rattle.std.specs.List.{flat_map, All}
-use Rattle.std.proofs.lemmas.Fmt.{length-decimal-le}
-use Rattle.std.proofs.lemmas.List.Elements.{All-head, All-tail}
+use Rattle.std.proofs.Common.{◌≡◌, ℕ, ◌+◌, ◌<◌, ◌≤◌, List, [], ◌∷◌, ◌++◌, length, map, take, drop, decimal, get_or, refl, sym, ◌∙◌, ap, arith, codes, append_assoc, append-nil, take-append-drop, drop-cons, add-one}
+use Rattle.std.specs.List.{flat_map}
 use Rattle.std.proofs.lemmas.Grind.{flat_map-append}
 use Rattle.std.proofs.lemmas.List.{map-append, take_more, length-take-le, length-map}
-use Rattle.pfs_order.specs.OrderText.{order_text}
-use Rattle.pfs_order.specs.Text.{spaced, with_line_end, named_number}
+use Rattle.pfs_order.specs.OrderText.{order_text, file_text}
+use Rattle.pfs_base.specs.Text.{spaced, with_line_end, named_number}
 
 -- the job numbers of an order file, of jobs that count from 0
 abbrev pub numbers : List ℕ → List ℕ
@@ -47,50 +45,26 @@ spaced_more jobs place low h =
     ∙ ap (λ l. spaced (numbers (take place jobs)) ++ 32 ∷ l) (append-nil (decimal (next + 1)))
     ∙ sym (append_assoc (spaced (numbers (take place jobs))) (32 ∷ []) (decimal (next + 1)))
 
--- the line as far as a place, the next number, and the rest
+-- the line as far as a place, a space, the next number, and the rest
 pub line_from : (jobs : List ℕ) (place : ℕ) → 1 ≤ place → place < length jobs
-    → with_line_end (spaced (numbers jobs)) ≡ spaced (numbers (take place jobs)) ++ ((32 ∷ []) ++ (decimal (get_or jobs place 0 + 1) ++ (behind (numbers (drop (place + 1) jobs)) ++ 10 ∷ [])))
+    → ((spaced (numbers (take place jobs)) ++ 32 ∷ []) ++ decimal (get_or jobs place 0 + 1)) ++ (behind (numbers (drop (place + 1) jobs)) ++ 10 ∷ []) ≡ with_line_end (spaced (numbers jobs))
 line_from jobs place low h =
     let front : List ℕ = numbers (take place jobs) in
     let next : ℕ = get_or jobs place 0 in
+    let number : List ℕ = decimal (next + 1) in
     let rest : List ℕ = numbers (drop (place + 1) jobs) in
     let some : 1 ≤ length front = omega (arith, length-map (take place jobs) (λ job. job + 1), length-take-le place jobs (omega arith)) in
     let parts : numbers jobs ≡ front ++ (next + 1) ∷ rest =
     ap numbers (from_place jobs place h) ∙ map-append (λ job. job + 1) (take place jobs) (next ∷ drop (place + 1) jobs) in
-    let line : spaced (numbers jobs) ≡ spaced front ++ 32 ∷ (decimal (next + 1) ++ behind rest) =
+    let line : spaced (numbers jobs) ≡ spaced front ++ 32 ∷ (number ++ behind rest) =
     ap spaced parts ∙ spaced-append front ((next + 1) ∷ rest) some in
-    ap with_line_end line ∙ append_assoc (spaced front) (32 ∷ (decimal (next + 1) ++ behind rest)) (10 ∷ [])
-    ∙ ap (λ l. spaced front ++ 32 ∷ l) (append_assoc (decimal (next + 1)) (behind rest) (10 ∷ []))
-
--- the first number, and the rest of the line
-pub line_of_first : (jobs : List ℕ) → 1 ≤ length jobs
-    → with_line_end (spaced (numbers jobs)) ≡ [] ++ (decimal (get_or jobs 0 0 + 1) ++ (behind (numbers (drop 1 jobs)) ++ 10 ∷ []))
-line_of_first [] h = absurd (omega arith)
-line_of_first (job ∷ jobs) h =
-    ap with_line_end (spaced-cons (job + 1) (numbers jobs)) ∙ append_assoc (decimal (job + 1)) (behind (numbers jobs)) (10 ∷ [])
-
--- the numbers behind another one take at most 21 bytes each
-length-behind-le : (size : ℕ) (jobs : List ℕ) → size ≤ 2 ^ 32 → All (λ job. job < size) jobs → length (behind (numbers jobs)) ≤ 21 * length jobs
-length-behind-le size [] few h = omega arith
-length-behind-le size (job ∷ jobs) few h =
-    let small = All-head (λ j. j < size) job jobs h in
-    let rest = length-behind-le size jobs few (All-tail (λ j. j < size) job jobs h) in
-    omega (arith, length-decimal-le 20 (job + 1) (lit< tt) (omega arith) (omega arith), length-append (decimal (job + 1)) (behind (numbers jobs)))
-
--- and so do all numbers of the line
-pub length-spaced-le : (size : ℕ) (jobs : List ℕ) → size ≤ 2 ^ 32 → All (λ job. job < size) jobs → length (spaced (numbers jobs)) ≤ 21 * length jobs
-length-spaced-le size [] few h = omega arith
-length-spaced-le size (job ∷ jobs) few h =
-    let small = All-head (λ j. j < size) job jobs h in
-    let rest = length-behind-le size jobs few (All-tail (λ j. j < size) job jobs h) in
-    omega (arith, ap length (spaced-cons (job + 1) (numbers jobs)), length-decimal-le 20 (job + 1) (lit< tt) (omega arith) (omega arith), length-append (decimal (job + 1)) (behind (numbers jobs)))
+    append_assoc (spaced front ++ 32 ∷ []) number (behind rest ++ 10 ∷ []) ∙ append_assoc (spaced front) (32 ∷ []) (number ++ (behind rest ++ 10 ∷ []))
+    ∙ ap (λ l. spaced front ++ 32 ∷ l) (sym (append_assoc number (behind rest) (10 ∷ [])))
+    ∙ sym (append_assoc (spaced front) (32 ∷ (number ++ behind rest)) (10 ∷ [])) ∙ sym (ap with_line_end line)
 
 -- the three lines of an order file
 pub order_parts : (jobs : List ℕ) (count makespan : ℕ) → count ≡ length jobs
-    → order_text (numbers jobs) makespan ≡ named_number (codes "order") count ++ (with_line_end (spaced (numbers jobs)) ++ named_number (codes "makespan") makespan)
+    → (named_number (codes "order") count ++ with_line_end (spaced (numbers jobs))) ++ named_number (codes "makespan") makespan ≡ file_text jobs makespan
 unfolding order_text
 order_parts jobs count makespan e =
-    let line : List ℕ = with_line_end (spaced (numbers jobs)) in
-    let last : List ℕ = named_number (codes "makespan") makespan in
-    ap (λ n. (named_number (codes "order") n ++ line) ++ last) (length-map jobs (λ job. job + 1) ∙ sym e)
-    ∙ append_assoc (named_number (codes "order") count) line last
+    ap (λ n. (named_number (codes "order") n ++ with_line_end (spaced (numbers jobs))) ++ named_number (codes "makespan") makespan) (e ∙ sym (length-map jobs (λ job. job + 1)))

@@ -6,7 +6,7 @@ use Rattle.std.proofs.lemmas.List.{append_assoc, append_cancel_left, append-nil,
 use Rattle.std.proofs.lemmas.List.Elements.{All-nil, All-cons, All-append, All-replicate}
 use Rattle.pfs_base.specs.declared.limits.TheConstants.{MOST_JOBS}
 use Rattle.pfs_order.specs.declared.fault.OrderFault.{OrderFault}
-use Rattle.pfs_order.specs.Text.{spaced}
+use Rattle.pfs_base.specs.Text.{spaced}
 use Rattle.pfs_order.specs.OrderFile.{HasText, IsText, CanBeCompleted, IsSyntaxFault}
 use Rattle.pfs_order.specs.Pieces.{Begins, IsWord, IsNumeral, IsPieceFault, SaysSyntax, counted, last_line, AreJobs, HasJobs}
 use Rattle.pfs_order.proofs.Faults.{syntax_behind, fault_here}

@@ -3,5 +3,3 @@ pub mod OrderLaws
 pub mod OrderText
 pub mod Pieces
 pub mod Sequence
-pub mod Text
-pub mod Writing

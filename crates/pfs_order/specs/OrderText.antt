@@ -1,6 +1,6 @@
 -- The one spelling of an order file.
 use Rattle.std.specs.Prelude.{ℕ, ◌+◌, List, ◌++◌, length, map, codes}
-use Rattle.pfs_order.specs.Text.{with_line_end, spaced, named_number}
+use Rattle.pfs_base.specs.Text.{with_line_end, spaced, named_number}
 
 -- the text of these jobs and this makespan; jobs are numbers from 1 on in it
 unfoldable pub order_text : List ℕ → ℕ → List ℕ

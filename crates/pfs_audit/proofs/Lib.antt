@@ -1,0 +1,7 @@
+mod BoundLemmas
+mod Orders
+pub mod Ranges
+mod RowSteps
+mod Rows
+pub mod Schedules
+mod TableLemmas

@@ -1,0 +1,10 @@
+use Rattle.pfs_audit.specs.Schedule.{least_end, least_start, AreRows}
+use Rattle.pfs_audit.proofs.timetable.table.Given as goal
+
+abbrev pub invariant-loop-row : goal.invariant-loop-row
+invariant-loop-row l =
+    let shop = l.instance.shop in
+    record {
+      starts : AreRows (least_start shop l.order) shop.machines l.row l.starts.items;
+      ends : AreRows (least_end shop l.order) shop.machines l.row l.ends.items;
+    }

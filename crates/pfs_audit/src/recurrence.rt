@@ -1,0 +1,41 @@
+//! The makespan of a sequence, on a bench that counts.
+ghost use Rattle.std.specs.Prelude.{◌≡◌, ℕ, ◌+◌, ◌*◌, ◌<◌, ◌≤◌, ◌^◌, length, IfOk, OnOk, OnErr};
+ghost use Rattle.pfs_base.specs.Paths.{makespan};
+
+use crate::fault::AuditFault;
+use pfs_base::{Bench, Length};
+use pfs_order::Seq;
+use std::alloc::{AllocError, Global};
+
+/// The makespan of a sequence: when its last job leaves the last machine, if each operation starts as
+/// early as it can. It computes one row of ends after the other, and counts a cell for each job and
+/// machine. It asks for the memory of one row.
+pub fn makespan<B: Bench>(alloc: Global, bench: &mut B, seq: &Seq) -> Result<B::Span, AuditFault>
+    requires sizes { seq.now.size ≡ (B.shop bench.old).jobs }
+    requires room { B.counted bench.old + length seq.now.jobs * (B.shop bench.old).machines < 2 ^ 64 }
+    ensures value { IfOk result (λ span. B.Span.number span ≡ makespan (B.shop bench.old) seq.now.jobs) }
+    ensures counted { OnOk result (B.counted bench.new ≡ B.counted bench.old + length seq.now.jobs * (B.shop bench.old).machines) }
+    ensures fault_low { OnErr result (B.counted bench.old ≤ B.counted bench.new) }
+    ensures fault_high { OnErr result (B.counted bench.new ≤ B.counted bench.old + length seq.now.jobs * (B.shop bench.old).machines) }
+    ensures shop { B.shop bench.new ≡ B.shop bench.old }
+{
+    let machines = bench.machines();
+    let zero = bench.zero();
+    let mut row = match Vec::with_capacity(alloc, machines) {
+        Ok(row) => row,
+        Err(AllocError) => return Err(AuditFault::Memory),
+    };
+    match row.resize(machines, zero) {
+        Ok(()) => {}
+        Err(AllocError) => return Err(AuditFault::Memory),
+    }
+    for place in 0..seq.len() {
+        let job = seq.at(place);
+        let mut before = zero;
+        for machine in 0..machines {
+            before = bench.step(job, machine, row[machine], before);
+            row[machine] = before;
+        }
+    }
+    Ok(row[machines - 1])
+}

@@ -1,0 +1,11 @@
+//! Tests that cross crates: worked examples, devices that fail or are short, and calls at concrete types.
+//! What the contracts say is proved and not tested again here.
+#![tactic(auto)]
+
+#[cfg(test)]
+mod base;
+#[cfg(test)]
+mod engines;
+pub mod fakes;
+#[cfg(test)]
+mod writers;
