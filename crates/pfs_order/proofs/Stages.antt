@@ -1,14 +1,13 @@
 -- What each stage of reading a text knows: what may follow there, and that it can be completed.
-use Rattle.std.proofs.Common.{◌≡◌, ℕ, ◌+◌, ◌-◌, ◌<◌, ◌≤◌, ◌^◌, List, [], ◌∷◌, ◌++◌, suc, length, take, drop, replicate, refl, sym, ◌∙◌, ap, subst, arith, codes, lit≤, lit<}
+use Rattle.std.proofs.Common.{◌≡◌, ℕ, ◌+◌, ◌-◌, ◌<◌, ◌≤◌, ◌^◌, List, [], ◌∷◌, ◌++◌, suc, length, drop, replicate, refl, sym, ◌∙◌, ap, subst, arith, codes, lit≤, lit<}
 use Rattle.std.specs.Fmt.{decimal}
 use Rattle.std.specs.List.{All}
 use Rattle.std.proofs.lemmas.List.{append_assoc, append_cancel_left, append-nil, length-append, length-drop, length-replicate}
-use Rattle.std.proofs.lemmas.List.Elements.{All-head, All-tail, All-nil, All-cons, All-append, All-replicate}
+use Rattle.std.proofs.lemmas.List.Elements.{All-nil, All-cons, All-append, All-replicate}
 use Rattle.pfs_base.specs.declared.limits.TheConstants.{MOST_JOBS}
 use Rattle.pfs_order.specs.declared.fault.OrderFault.{OrderFault}
 use Rattle.pfs_base.specs.Text.{spaced}
-use Rattle.pfs_order.specs.OrderText.{order_text}
-use Rattle.pfs_order.specs.OrderFile.{HasText, IsText, CanBeCompleted, IsFaultOf, IsSyntaxFault}
+use Rattle.pfs_order.specs.OrderFile.{HasText, IsText, CanBeCompleted, IsSyntaxFault}
 use Rattle.pfs_order.specs.Pieces.{Begins, IsWord, IsNumeral, IsPieceFault, SaysSyntax, counted, last_line, AreJobs, HasJobs}
 use Rattle.pfs_order.proofs.Faults.{syntax_behind, fault_here}
 use Rattle.pfs_order.proofs.Numerals.{cut_at, decimal_lacks}
@@ -69,7 +68,7 @@ count_fault text at fault h e f = syntax_behind (IsNumeral 1 MOST_JOBS 10) text 
 
 -- Behind the count and some jobs, but not all, stands a job.
 
-counted-append : (n : ℕ) (rest more : List ℕ) → counted n rest ++ more ≡ counted n (rest ++ more)
+pub counted-append : (n : ℕ) (rest more : List ℕ) → counted n rest ++ more ≡ counted n (rest ++ more)
 counted-append n rest more = ap (λ xs. codes "order " ++ xs) (append_assoc (decimal n) (10 ∷ rest) more)
 
 -- what is read where some of the jobs were
@@ -172,7 +171,7 @@ end_fault count done text at fault h last within e f =
 
 -- Behind the line of the jobs stands the last line.
 
-line-append : (count : ℕ) (jobs rest more : List ℕ) → counted count (spaced jobs ++ 10 ∷ rest) ++ more ≡ counted count (spaced jobs ++ 10 ∷ (rest ++ more))
+pub line-append : (count : ℕ) (jobs rest more : List ℕ) → counted count (spaced jobs ++ 10 ∷ rest) ++ more ≡ counted count (spaced jobs ++ 10 ∷ (rest ++ more))
 line-append count jobs rest more = counted-append count (spaced jobs ++ 10 ∷ rest) more ∙ ap (counted count) (append_assoc (spaced jobs) (10 ∷ rest) more)
 
 -- what stands behind the jobs in a text

@@ -1,4 +1,4 @@
-use Rattle.std.proofs.Common.{◌≡◌, ◌≤◌, ◌<◌, ◌+◌, ◌-◌, ◌∙◌, ℕ, List, length, take, drop, subst, arith, Option}
+use Rattle.std.proofs.Common.{◌≡◌, ℕ, List, length, take, drop, subst, arith, Option}
 use Rattle.std.specs.Prelude.{IfOk, IfErr, Err}
 use Rattle.std.proofs.lemmas.List.{length-take-le}
 use Rattle.pfs_order.specs.OrderFile.{IsOrderFile}
