@@ -1,7 +1,7 @@
 -- How far a text can be completed: at one place, and behind a front.
 use Rattle.std.proofs.Common.{◌≡◌, ℕ, ◌+◌, ◌-◌, ◌<◌, ◌≤◌, ◌⊎◌, inl, inr, List, [], ◌∷◌, ◌++◌, suc, length, take, drop, refl, sym, ◌∙◌, ap, subst, arith}
 use Rattle.std.proofs.lemmas.Bool.{cases_lt}
-use Rattle.std.proofs.lemmas.List.{append_assoc, length-append, take-append-drop, append-nil, length-drop, take_at, drop_at}
+use Rattle.std.proofs.lemmas.List.{append_assoc, length-append, take-append-drop, append-nil, length-drop, take_at}
 use Rattle.std.proofs.Math.Seq.{take-append-add}
 use Rattle.pfs_order.specs.declared.fault.OrderFault.{OrderFault}
 use Rattle.pfs_order.specs.declared.fault.OrderFault.TheVariants.{Syntax, JobRange, Repeated, TooLong, Read, Memory}

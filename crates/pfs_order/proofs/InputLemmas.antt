@@ -1,9 +1,9 @@
 -- What was read of an input, and what its judgement says of the whole.
-use Rattle.std.proofs.Common.{◌≡◌, ℕ, ◌+◌, ◌-◌, ◌<◌, ◌≤◌, List, [], ◌++◌, length, take, Option, Some, None, refl, sym, ◌∙◌, ap, subst, arith, inl, inr}
-use Rattle.std.specs.Prelude.{IfSome, IfOk, IfErr, Result, Ok, Err}
+use Rattle.std.proofs.Common.{◌≡◌, ℕ, ◌+◌, ◌<◌, ◌≤◌, List, ◌++◌, length, take, Option, Some, None, refl, sym, ◌∙◌, ap, subst, arith, inl, inr}
+use Rattle.std.specs.Prelude.{IfSome, IfOk, IfErr, OnOk, Result, Ok, Err}
 use Rattle.std.specs.Io.KnownBytes.{Consumes, IsAtEnd}
 use Rattle.std.proofs.KnownBytes.{Consumes-trans, Consumes-whole}
-use Rattle.std.proofs.lemmas.List.{append-nil, length-append, length-take-le, take-append-le, take-take}
+use Rattle.std.proofs.lemmas.List.{length-append, length-take-le, take-append-le, take-take}
 use Rattle.std.proofs.Math.Seq.{take-append-add}
 use borrow.Rule.Slice.PartMut.{put_mid, post_of}
 use Rattle.pfs_base.specs.declared.limits.TheConstants.{LONGEST_ORDER_FILE}
@@ -88,3 +88,7 @@ decides_err (Some input) (Err (Repeated p)) h k = λ fault is. inl (ap Err (one_
 decides_err (Some input) (Err TooLong) h k = λ fault is. inl (ap Err (one_refusal input TooLong fault k is))
 decides_err (Some input) (Err Read) h k = λ fault is. inr (inl refl)
 decides_err (Some input) (Err Memory) h k = λ fault is. inr (inr refl)
+
+pub on_ok : (answer : Result StatedOrder OrderFault) (P : Type 0) → P → OnOk answer P
+on_ok (Ok file) P h = h
+on_ok (Err fault) P h = tt

@@ -1,9 +1,9 @@
 -- The jobs of a text of the grammar, place by place.
-use Rattle.std.proofs.Common.{◌≡◌, ℕ, ◌+◌, ◌-◌, ◌<◌, ◌≤◌, ◌^◌, ◌⊎◌, inl, inr, List, [], ◌∷◌, ◌++◌, suc, length, take, drop, map, get_or, Contains, refl, sym, ◌∙◌, ap, subst, arith, codes, below_more}
+use Rattle.std.proofs.Common.{◌≡◌, ℕ, ◌+◌, ◌-◌, ◌<◌, ◌≤◌, ◌^◌, ◌⊎◌, inl, inr, List, [], ◌∷◌, ◌++◌, length, take, drop, map, get_or, Contains, refl, sym, ◌∙◌, ap, subst, arith, codes, below_more}
 use Rattle.std.specs.Fmt.{decimal}
 use Rattle.std.specs.Char.{digit_value}
 use Rattle.std.specs.List.{All}
-use Rattle.std.proofs.lemmas.List.{append_assoc, append-nil, append_cancel_left, length-append, length-map, length-take-le, map-append, take_more, take_all, drop_more, get_or-map, length-drop}
+use Rattle.std.proofs.lemmas.List.{append_assoc, append_cancel_left, length-map, length-take-le, map-append, take_more, take_all, drop_more, get_or-map, length-drop}
 use Rattle.std.proofs.lemmas.List.Edits.{insert_end}
 use Rattle.std.proofs.lemmas.List.Elements.{All-get_or}
 use Rattle.pfs_base.specs.declared.limits.TheConstants.{MOST_JOBS}
@@ -11,7 +11,7 @@ use Rattle.pfs_order.specs.declared.fault.OrderFault.{OrderFault}
 use Rattle.pfs_order.specs.declared.fault.OrderFault.TheVariants.{Syntax, JobRange, Repeated, TooLong, Read, Memory}
 use Rattle.pfs_base.specs.Text.{spaced}
 use Rattle.pfs_order.specs.Sequence.{Sequence, IsSequence}
-use Rattle.pfs_order.specs.OrderFile.{HasText, IsText, IsJob, IsRepeated, AreRightBefore, IsJobFault, HasJobFault}
+use Rattle.pfs_order.specs.OrderFile.{HasText, IsText, IsJob, IsRepeated, AreRightBefore}
 use Rattle.pfs_order.specs.Pieces.{IsNumeral, IsPieceFault, RefusesJob, RefusesJobs, counted, last_line}
 use Rattle.pfs_order.proofs.Numerals.{cut_at, decimal_lacks, decimal_one}
 use Rattle.pfs_order.proofs.OrderTexts.{IsShort, same_count, same_jobs, text_shape, ten_10, ten_32}

@@ -1,16 +1,14 @@
 -- The texts of the grammar of order files, piece by piece.
-use Rattle.std.proofs.Common.{◌≡◌, ℕ, ◌+◌, ◌-◌, ◌<◌, ◌≤◌, ◌^◌, List, [], ◌∷◌, ◌++◌, suc, length, take, drop, refl, sym, ◌∙◌, ap, subst, arith, codes, lit≤}
+use Rattle.std.proofs.Common.{◌≡◌, ℕ, ◌+◌, ◌<◌, ◌≤◌, ◌^◌, List, [], ◌∷◌, ◌++◌, suc, length, refl, sym, ◌∙◌, ap, arith, codes, lit≤}
 use Rattle.std.specs.Fmt.{decimal}
 use Rattle.std.specs.Char.{digit_value}
 use Rattle.std.specs.List.{All}
-use Rattle.std.proofs.lemmas.List.{append_assoc, append_cancel_left, append-nil}
+use Rattle.std.proofs.lemmas.List.{append_assoc, append_cancel_left}
 use Rattle.std.proofs.lemmas.List.Elements.{All-head, All-tail}
-use Rattle.pfs_base.specs.declared.limits.TheConstants.{MOST_JOBS}
-use Rattle.pfs_base.specs.Text.{with_line_end, spaced, named_number}
+use Rattle.pfs_base.specs.Text.{spaced}
 use Rattle.pfs_order.specs.OrderText.{order_text}
-use Rattle.pfs_order.specs.OrderFile.{HasText, IsText}
 use Rattle.pfs_order.specs.Pieces.{counted, last_line}
-use Rattle.pfs_order.proofs.Numerals.{LacksByte, cut_at, decimal_lacks, decimal_one}
+use Rattle.pfs_order.proofs.Numerals.{cut_at, decimal_lacks, decimal_one}
 
 -- a job numeral of at most nine digits
 abbrev pub IsShort : ℕ → Type 0

@@ -1,5 +1,5 @@
 -- One input, one answer.
-use Rattle.std.proofs.Common.{◌≡◌, ◌≢◌, ℕ, ◌+◌, ◌-◌, ◌*◌, ◌<◌, ◌≤◌, ◌^◌, ◌⊎◌, inl, inr, List, [], ◌∷◌, ◌++◌, suc, true, false, length, take, drop, map, get_or, Contains, refl, sym, ◌∙◌, ap, subst, arith, codes, lit≤, lit<, eqb}
+use Rattle.std.proofs.Common.{◌≡◌, ℕ, ◌+◌, ◌-◌, ◌*◌, ◌<◌, ◌≤◌, ◌^◌, ◌⊎◌, inl, inr, List, [], ◌∷◌, ◌++◌, true, false, length, take, drop, map, get_or, refl, sym, ◌∙◌, ap, subst, arith, lit≤, lit<, eqb}
 use Rattle.std.specs.Fmt.{decimal}
 use Rattle.std.specs.List.{All}
 use Rattle.std.proofs.lemmas.Bool.{cases_order, eq-eqb}
@@ -8,14 +8,14 @@ use Rattle.std.proofs.lemmas.List.{append-nil, length-append, length-map, length
 use Rattle.std.proofs.lemmas.List.Elements.{All-head, All-tail, All-get_or, All-map, All-weaker}
 use Rattle.std.proofs.lemmas.Map.Keys.{apart_from_distinct}
 use Rattle.pfs_base.specs.Limits.{limits}
-use Rattle.pfs_base.specs.declared.limits.TheConstants.{MOST_JOBS, LONGEST_ORDER_FILE}
+use Rattle.pfs_base.specs.declared.limits.TheConstants.{LONGEST_ORDER_FILE}
 use Rattle.pfs_order.specs.declared.fault.OrderFault.{OrderFault}
 use Rattle.pfs_order.specs.declared.fault.OrderFault.TheVariants.{Syntax, JobRange, Repeated, TooLong, Read, Memory}
 use Rattle.pfs_base.specs.Text.{spaced}
 use Rattle.pfs_order.specs.OrderText.{file_text}
 use Rattle.pfs_order.specs.Sequence.{StatedOrder, IsSequence, IsSize}
-use Rattle.pfs_order.specs.OrderFile.{HasText, IsText, CanBeCompleted, IsFaultOf, IsSyntaxFault, IsJob, IsRepeated, AreRightBefore, IsJobFault, HasJobFault, RefusesOrder, IsOrderFile}
-use Rattle.pfs_order.specs.Pieces.{counted, last_line}
+use Rattle.pfs_order.specs.OrderFile.{IsText, IsFaultOf, IsSyntaxFault, IsJob, IsRepeated, AreRightBefore, IsJobFault, HasJobFault, RefusesOrder, IsOrderFile}
+use Rattle.pfs_order.specs.Pieces.{last_line}
 use Rattle.pfs_order.proofs.Faults.{fault_here}
 use Rattle.pfs_order.proofs.Jobs.{one_text}
 use Rattle.pfs_order.proofs.OrderTexts.{IsShort, text_shape}

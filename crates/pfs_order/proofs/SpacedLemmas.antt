@@ -1,5 +1,5 @@
 -- The line of the jobs of an order file, up to a place.
-use Rattle.std.proofs.Common.{◌≡◌, ℕ, ◌+◌, ◌<◌, ◌≤◌, List, [], ◌∷◌, ◌++◌, length, map, take, drop, decimal, get_or, refl, sym, ◌∙◌, ap, arith, codes, append_assoc, append-nil, take-append-drop, drop-cons, add-one}
+use Rattle.std.proofs.Common.{◌≡◌, ℕ, ◌+◌, ◌<◌, ◌≤◌, List, [], ◌∷◌, ◌++◌, length, map, take, drop, decimal, get_or, sym, ◌∙◌, ap, arith, codes, append_assoc, append-nil, take-append-drop, drop-cons, add-one}
 use Rattle.std.specs.List.{flat_map}
 use Rattle.std.proofs.lemmas.Grind.{flat_map-append}
 use Rattle.std.proofs.lemmas.List.{map-append, take_more, length-take-le, length-map}
@@ -28,11 +28,6 @@ spaced-append (n ∷ ns) ms h =
 from_place : (jobs : List ℕ) (place : ℕ) → place < length jobs → jobs ≡ take place jobs ++ get_or jobs place 0 ∷ drop (place + 1) jobs
 from_place jobs place h =
     sym (take-append-drop place jobs) ∙ ap (λ l. take place jobs ++ l) (rw (add-one place) (drop-cons jobs place 0 h))
-
--- the line of the first job alone
-pub spaced_first : (jobs : List ℕ) → 1 ≤ length jobs → spaced (numbers (take 1 jobs)) ≡ decimal (get_or jobs 0 0 + 1)
-spaced_first [] h = absurd (omega arith)
-spaced_first (job ∷ jobs) h = refl
 
 -- the line as far as a place, and the next number
 pub spaced_more : (jobs : List ℕ) (place : ℕ) → 1 ≤ place → place < length jobs

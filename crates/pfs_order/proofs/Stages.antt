@@ -1,14 +1,13 @@
 -- What each stage of reading a text knows: what may follow there, and that it can be completed.
-use Rattle.std.proofs.Common.{◌≡◌, ℕ, ◌+◌, ◌-◌, ◌<◌, ◌≤◌, ◌^◌, List, [], ◌∷◌, ◌++◌, suc, length, take, drop, replicate, refl, sym, ◌∙◌, ap, subst, arith, codes, lit≤, lit<}
+use Rattle.std.proofs.Common.{◌≡◌, ℕ, ◌+◌, ◌-◌, ◌<◌, ◌≤◌, ◌^◌, List, [], ◌∷◌, ◌++◌, suc, length, drop, replicate, refl, sym, ◌∙◌, ap, subst, arith, codes, lit≤, lit<}
 use Rattle.std.specs.Fmt.{decimal}
 use Rattle.std.specs.List.{All}
 use Rattle.std.proofs.lemmas.List.{append_assoc, append_cancel_left, append-nil, length-append, length-drop, length-replicate}
-use Rattle.std.proofs.lemmas.List.Elements.{All-head, All-tail, All-nil, All-cons, All-append, All-replicate}
+use Rattle.std.proofs.lemmas.List.Elements.{All-nil, All-cons, All-append, All-replicate}
 use Rattle.pfs_base.specs.declared.limits.TheConstants.{MOST_JOBS}
 use Rattle.pfs_order.specs.declared.fault.OrderFault.{OrderFault}
 use Rattle.pfs_base.specs.Text.{spaced}
-use Rattle.pfs_order.specs.OrderText.{order_text}
-use Rattle.pfs_order.specs.OrderFile.{HasText, IsText, CanBeCompleted, IsFaultOf, IsSyntaxFault}
+use Rattle.pfs_order.specs.OrderFile.{HasText, IsText, CanBeCompleted, IsSyntaxFault}
 use Rattle.pfs_order.specs.Pieces.{Begins, IsWord, IsNumeral, IsPieceFault, SaysSyntax, counted, last_line, AreJobs, HasJobs}
 use Rattle.pfs_order.proofs.Faults.{syntax_behind, fault_here}
 use Rattle.pfs_order.proofs.Numerals.{cut_at, decimal_lacks}

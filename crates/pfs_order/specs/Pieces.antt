@@ -4,7 +4,7 @@ use Rattle.std.specs.List.{All, Contains}
 use Rattle.pfs_base.specs.declared.limits.TheConstants.{MOST_JOBS}
 use Rattle.pfs_base.specs.Text.{spaced}
 use Rattle.pfs_order.specs.declared.fault.OrderFault.{OrderFault}
-use Rattle.pfs_order.specs.declared.fault.OrderFault.TheVariants.{Syntax, JobRange, Repeated, TooLong, Read, Memory}
+use Rattle.pfs_order.specs.declared.fault.OrderFault.TheVariants.{Syntax, JobRange, Repeated, Memory}
 use Rattle.pfs_order.specs.Sequence.{Sequence}
 use Rattle.pfs_order.specs.OrderFile.{IsText, IsFaultOf, IsSyntaxFault, HasJobFault, RefusesOrder}
 

@@ -33,6 +33,7 @@ pub fn read_order<R: Source>(alloc: Global, reader: &mut R) -> Result<OrderFile,
         IsOrderFile input file → IsUnlessFailed result (Ok file)) }
     ensures refuses { IfSome (R.left reader.old) (λ input. (fault : OrderFault) →
         RefusesOrder input fault → IsUnlessFailed result (Err fault)) }
+    ensures ended { OnOk result (IsAtEnd (R.left reader.new)) }
     ensures failed { result ≡ Err OrderFault.Read → R.has_failed reader.new ≡ true }
     ensures working { R.has_failed reader.new ≡ true → result ≡ Err OrderFault.Read }
 {
@@ -170,7 +171,8 @@ fn order_line(alloc: Global, text: &[u8], start: usize, count: usize) -> Result<
 fn add_job(seq: &mut Seq, number: u64) -> Result<(), OrderFault>
     ensures in_range { OnOk result ((1 ≤ number) × (number ≤ seq.old.size)) }
     ensures absent { OnOk result (Contains seq.old.jobs (number - 1) → ⊥) }
-    ensures added { OnOk result (seq.new ≡ record seq.old { jobs = seq.old.jobs ++ (number - 1) ∷ [] }) }
+    ensures added { OnOk result
+        (seq.new ≡ record seq.old { jobs = seq.old.jobs ++ (number - 1) ∷ [] }) }
     ensures refused { IfErr result (λ fault. RefusesJob seq.old number fault) }
 {
     let place = seq.len();

@@ -6,7 +6,8 @@ ghost use Rattle.pfs_order.specs.Pieces.{IsWord, IsNumeral, IsPieceFault, numera
 
 use crate::fault::OrderFault;
 
-/// Where a text goes on behind a word that stands at an offset.
+/// Where a text goes on behind a word that stands at an offset. The fault tells the first byte that
+/// differs.
 pub(crate) fn word(text: &[u8], at: usize, word: &[u8]) -> Result<usize, OrderFault>
     requires { at ≤ length text.now }
     ensures read { IfOk result (λ next. drop at text.now ≡ word.now ++ drop next text.now) }
@@ -65,7 +66,8 @@ fn longer(number: Option<u64>, byte: u8, least: u64, most: u64) -> Option<u64>
     requires small { ForSome number (λ n. n < 10 ^ 18) }
     ensures on { IfSome result (λ n. decimal n ≡ numeral_of number ++ byte ∷ []) }
     ensures in_range { IfSome result (λ n. (least ≤ n) × (n ≤ most)) }
-    ensures ends { IfNone result ((n : ℕ) (rest : List ℕ) → least ≤ n → n ≤ most → decimal n ≢ numeral_of number ++ byte ∷ rest) }
+    ensures ends { IfNone result ((n : ℕ) (rest : List ℕ) → least ≤ n → n ≤ most →
+        decimal n ≢ numeral_of number ++ byte ∷ rest) }
 {
     let n = with_digit(number, byte)?;
     if least <= n && n <= most {
@@ -80,7 +82,8 @@ fn with_digit(number: Option<u64>, byte: u8) -> Option<u64>
     requires { ForSome number (λ n. n < 10 ^ 18) }
     ensures on { IfSome result (λ n. decimal n ≡ numeral_of number ++ byte ∷ []) }
     ensures small { IfSome result (λ n. n < 10 ^ 20) }
-    ensures ends { IfNone result ((n : ℕ) (rest : List ℕ) → n < 10 ^ 18 → decimal n ≢ numeral_of number ++ byte ∷ rest) }
+    ensures ends { IfNone result ((n : ℕ) (rest : List ℕ) → n < 10 ^ 18 →
+        decimal n ≢ numeral_of number ++ byte ∷ rest) }
 {
     let digit = match byte {
         b'0'..=b'9' => u64::from(byte - b'0'),

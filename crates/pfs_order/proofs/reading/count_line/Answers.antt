@@ -1,6 +1,4 @@
-use Rattle.std.proofs.Common.{◌≡◌, ◌≤◌, ◌++◌, length, drop, codes, arith}
 use Rattle.std.proofs.lemmas.Result.{err_from_is_err_and}
-use Rattle.pfs_order.specs.Pieces.{SaysSyntax}
 use Rattle.pfs_order.proofs.Stages.{start_fault, count_fault}
 use Rattle.pfs_order.proofs.reading.count_line.Goals as goal
 

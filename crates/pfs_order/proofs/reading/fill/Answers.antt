@@ -1,4 +1,4 @@
-use Rattle.std.proofs.Common.{◌≡◌, ◌≤◌, ◌+◌, ◌-◌, ◌∙◌, length, arith}
+use Rattle.std.proofs.Common.{◌-◌, ◌∙◌, length}
 use Rattle.pfs_order.proofs.InputLemmas.{read_more, read_within}
 use Rattle.pfs_order.proofs.reading.fill.Goals as goal
 

@@ -1,8 +1,7 @@
-use Rattle.std.proofs.Common.{◌≡◌, ◌≤◌, ◌<◌, ◌+◌, ◌∷◌, [], ◌++◌, ℕ, List, length, drop, arith}
+use Rattle.std.proofs.Common.{◌∷◌, [], ◌++◌, ℕ, arith}
 use Rattle.std.proofs.lemmas.List.{length-append}
 use Rattle.std.proofs.lemmas.List.Elements.{All-push}
 use Rattle.std.proofs.lemmas.Result.{err_from_is_err_and}
-use Rattle.pfs_order.specs.Pieces.{SaysSyntax}
 use Rattle.pfs_order.proofs.OrderTexts.{IsShort}
 use Rattle.pfs_order.proofs.Stages.{IsAmongJobs, space_fault, end_fault, next_read, last_read}
 use Rattle.pfs_order.proofs.reading.jobs_line.Goals as goal

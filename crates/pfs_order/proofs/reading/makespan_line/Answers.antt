@@ -1,7 +1,6 @@
-use Rattle.std.proofs.Common.{◌≡◌, ◌≤◌, ◌<◌, ◌^◌, ◌+◌, ◌++◌, [], ◌∷◌, ℕ, List, length, drop, get_or, codes, arith, subst, sym, ap, ◌∙◌}
+use Rattle.std.proofs.Common.{◌≡◌, ◌<◌, ◌^◌, ◌+◌, ◌++◌, [], ◌∷◌, ℕ, List, length, drop, get_or, arith, subst, sym, ap, ◌∙◌}
 use Rattle.std.proofs.lemmas.Result.{err_from_is_err_and}
 use Rattle.std.proofs.lemmas.List.{append-nil, drop_all, drop_more}
-use Rattle.pfs_order.specs.Pieces.{SaysSyntax}
 use Rattle.pfs_order.specs.OrderFile.{HasText, IsSyntaxFault}
 use Rattle.pfs_order.proofs.Stages.{name_fault, span_fault, more_fault, end_text}
 use Rattle.pfs_order.proofs.reading.makespan_line.Goals as goal

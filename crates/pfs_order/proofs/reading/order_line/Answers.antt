@@ -1,7 +1,5 @@
-use Rattle.std.proofs.Common.{◌≡◌, ◌≤◌, ◌<◌, ◌+◌, ◌^◌, ℕ, List, map, length, sym, ap, ◌∙◌, arith, subst, inl, inr}
+use Rattle.std.proofs.Common.{◌≡◌, ◌<◌, ◌+◌, ◌^◌, map, sym, ap, ◌∙◌, arith, inl, inr}
 use Rattle.std.proofs.lemmas.Result.{err_from_is_err_and}
-use Rattle.pfs_order.specs.Sequence.{Sequence, IsSequence}
-use Rattle.pfs_order.specs.Pieces.{RefusesJobs}
 use Rattle.pfs_order.proofs.Jobs.{EndsJob, judging_start, numeral_here, refused_here, judging_more, judged_all}
 use Rattle.pfs_order.proofs.reading.order_line.Goals as goal
 use Rattle.pfs_order.proofs.reading.order_line.Goals.{then-place-count, else-place-count}

@@ -1,10 +1,11 @@
-use Rattle.std.proofs.Common.{◌≡◌, ◌≤◌, ◌<◌, ◌+◌, ◌-◌, ◌∙◌, ℕ, List, length, take, drop, subst, arith, Option}
+use Rattle.std.proofs.Common.{◌≡◌, ℕ, List, length, take, drop, subst, arith, Option}
 use Rattle.std.specs.Prelude.{IfOk, IfErr, Err}
 use Rattle.std.proofs.lemmas.List.{length-take-le}
 use Rattle.pfs_order.specs.OrderFile.{IsOrderFile}
 use Rattle.pfs_order.specs.Pieces.{JudgesText}
 use Rattle.std.proofs.lemmas.Result.{err_from_is_err_and}
-use Rattle.pfs_order.proofs.InputLemmas.{reads_accepted, reads_refused, reads_too_long, reads_failed, reads_unmade, front_of, decides_ok, decides_err}
+use Rattle.pfs_order.proofs.InputLemmas.{reads_accepted, reads_refused, reads_too_long, reads_failed, reads_unmade, front_of, decides_ok, decides_err, on_ok}
+use Rattle.std.specs.Io.KnownBytes.{IsAtEnd}
 use Rattle.pfs_order.specs.declared.fault.OrderFault.TheVariants.{TooLong}
 use Rattle.pfs_order.proofs.reading.read_order.Goals as goal
 
@@ -79,3 +80,7 @@ returns-clause-accepts g c = decides_ok (g.R.Source.left c.args.reader.now) c.pa
 
 pub returns-clause-refuses : goal.returns-clause-refuses
 returns-clause-refuses g c = decides_err (g.R.Source.left c.args.reader.now) c.parse.result (returns-clause-accepted g c) (returns-clause-refused g c)
+
+pub returns-clause-ended : goal.returns-clause-ended
+returns-clause-ended g c =
+    on_ok c.parse.result (IsAtEnd (g.R.Source.left c.fill.new.reader)) (c.in_ok-filled.ensures.end (omega (arith, c.in_ok-buffer.ensures.len, c.deref_mut.ensures.len, c.fill.auto.buffer)))

@@ -1,8 +1,8 @@
-use Rattle.std.proofs.Common.{◌≡◌, ◌≢◌, ℕ, ◌≤◌, ◌<◌, ◌+◌, subst, List, [], ◌++◌, ◌∷◌, length, drop, get_or, suc, ap, sym, arith, ◌∙◌, refl, Option, Some, None}
-use Rattle.std.proofs.lemmas.List.{append-nil, drop_all, drop_more}
+use Rattle.std.proofs.Common.{◌≡◌, ◌≢◌, ℕ, ◌<◌, ◌+◌, subst, List, [], ◌++◌, ◌∷◌, length, drop, get_or, ap, sym, arith, ◌∙◌, Some, None}
+use Rattle.std.proofs.lemmas.List.{drop_all, drop_more}
 use Rattle.std.specs.Option.{ForSome}
 use Rattle.pfs_order.specs.Pieces.{numeral_of}
-use Rattle.pfs_order.proofs.Numerals.{IsWithin, Stops, numeral_fault_at}
+use Rattle.pfs_order.proofs.Numerals.{Stops, numeral_fault_at}
 use Rattle.pfs_order.proofs.scan.numeral.Goals as goal
 use Rattle.pfs_order.proofs.scan.numeral.Goals.{in-Some+else-byte-end, in_default}
 

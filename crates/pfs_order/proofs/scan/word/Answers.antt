@@ -1,4 +1,4 @@
-use Rattle.std.proofs.Common.{◌≡◌, ◌≢◌, ℕ, ◌≤◌, ◌<◌, ◌+◌, List, [], ◌++◌, ◌∷◌, length, drop, get_or, suc, ap, sym, arith, ◌∙◌, refl}
+use Rattle.std.proofs.Common.{◌≡◌, ◌≢◌, ℕ, ◌<◌, ◌+◌, List, [], ◌∷◌, length, drop, get_or, sym, arith, ◌∙◌}
 use Rattle.std.proofs.lemmas.List.{drop_all, drop_more}
 use Rattle.pfs_order.proofs.Words.{word_fault_at}
 use Rattle.pfs_order.proofs.scan.word.Goals as goal
