@@ -3,7 +3,7 @@ use Rattle.std.proofs.Common.{◌≡◌, ℕ, zero, suc, ◌+◌, ◌-◌, ◌<�
 use Rattle.pfs_base.specs.FlowShop.{FlowShop}
 use Rattle.pfs_base.specs.Paths.{makespan, operation}
 use Rattle.pfs_base.proofs.Heads.{head, head_before, head_step, head_before_more, heaviest_is, makespan_is}
-use Rattle.pfs_audit.specs.Schedule.{Starts, end_of, EndsBy, IsFeasible, IsLeastSchedule, least_end, least_start, LeastScheduleLaw, NoneEndsEarlier}
+use Rattle.pfs_audit.specs.Schedule.{Starts, end_of, EndsBy, IsFeasible, IsLeastSchedule, least_end, least_start, LeastScheduleLaw, NoneEndsEarlier, OneLeastSchedule}
 use Rattle.pfs_audit.proofs.BoundLemmas.{head_along, head_down}
 
 module _ (shop : FlowShop) (order : List ℕ) where
@@ -91,3 +91,14 @@ none_ends_earlier shop (job ∷ jobs) some starts time feasible by =
     let is = makespan_is shop order in
     let last = end_of_least shop order row machine in
     omega arith
+
+pub one_least_schedule : OneLeastSchedule
+one_least_schedule shop order one other a b row machine r m =
+    let below = a.least other b.feasible row machine r m in
+    let above = b.least one a.feasible row machine r m in
+    omega arith
+
+-- the least schedule is that of the heaviest paths
+pub least_is : (shop : FlowShop) (order : List ℕ) (starts : Starts) → IsLeastSchedule shop order starts → (row machine : ℕ) → row < length order → machine < shop.machines →
+    starts row machine ≡ least_start shop order row machine
+least_is shop order starts is = one_least_schedule shop order starts (least_start shop order) is (is_least_schedule shop order)

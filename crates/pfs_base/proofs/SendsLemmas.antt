@@ -1,11 +1,11 @@
 -- A text that is written part by part.
-use Rattle.std.proofs.Common.{◌≡◌, ℕ, ◌+◌, ◌-◌, ◌≤◌, Bool, List, [], ◌∷◌, ◌++◌, Option, length, take, decimal, sym, ◌∙◌, ap, subst, arith, length-append, append_assoc}
+use Rattle.std.proofs.Common.{◌≡◌, ℕ, ◌+◌, ◌-◌, ◌≤◌, Bool, List, [], ◌∷◌, ◌++◌, Option, Result, Ok, Err, length, take, sym, ◌∙◌, ap, subst, arith, length-append, append_assoc}
 use Rattle.std.proofs.lemmas.List.{take-append-le}
 use Rattle.std.proofs.Math.Seq.{take-append-add}
 use Rattle.std.proofs.KnownBytes.{Appends-trans}
 use Rattle.std.specs.Io.KnownBytes.{Appends}
-use Rattle.pfs_base.specs.Text.{named_number}
-use Rattle.pfs_base.specs.Sends.{SendsAll, SendsFront}
+use Rattle.pfs_base.specs.declared.device.WriteFault.{WriteFault}
+use Rattle.pfs_base.specs.Sends.{Sends, SendsAll, SendsFront}
 
 -- a part went out, and then the next
 pub then_all : {a b c : Option (List ℕ)} {working_b failed : Bool} {sent middle total : ℕ} {done part : List ℕ}
@@ -49,3 +49,9 @@ front_of {a} {b} {failed} {sent} {reached} {text} rest p =
       within = omega (arith, length-append text rest);
       bytes = subst (Appends a b) (sym (take-append-le (reached - sent) text rest (omega arith))) p.bytes;
     }
+
+-- a part went out, and then all of the next or a front of it
+pub then_sends : {a b : Option (List ℕ)} {working_b : Bool} {sent middle : ℕ} {done : List ℕ} (c : Option (List ℕ)) (failed : Bool) (part : List ℕ) (result : Result ℕ WriteFault)
+    → SendsAll a b working_b sent done middle → Sends b c failed middle part result → Sends a c failed sent (done ++ part) result
+then_sends c failed part (Ok total) p q = then_all p q
+then_sends c failed part (Err fault) p q = then_front p q

@@ -20,3 +20,8 @@ pub record SendsFront (old new : Option (List ℕ)) (failed : Bool) (sent : ℕ)
 abbrev pub Sends : Option (List ℕ) → Option (List ℕ) → Bool → ℕ → List ℕ → Result ℕ WriteFault → Type 0
 Sends old new failed sent text (Ok total) = SendsAll old new failed sent text total
 Sends old new failed sent text (Err fault) = SendsFront old new failed sent text fault.written
+
+-- a whole text went out, or the writer has failed and as many of its first bytes went out as the fault says
+abbrev pub Prints : {A : Type 0} → Option (List ℕ) → Option (List ℕ) → Bool → List ℕ → Result A WriteFault → Type 0
+Prints old new failed text (Ok answer) = (failed ≡ false) × Appends old new text
+Prints old new failed text (Err fault) = SendsFront old new failed 0 text fault.written

@@ -1,5 +1,5 @@
 -- Printed lines.
-use Rattle.std.specs.Prelude.{ℕ, List, [], ◌∷◌, ◌++◌, map, decimal}
+use Rattle.std.specs.Prelude.{ℕ, zero, suc, List, [], ◌∷◌, ◌++◌, map, decimal}
 use Rattle.std.specs.List.{join_with_byte}
 
 -- the text, and byte 10
@@ -10,6 +10,15 @@ with_line_end text = text ++ 10 ∷ []
 abbrev pub spaced : List ℕ → List ℕ
 spaced numbers = join_with_byte 32 (map decimal numbers)
 
+-- a number on a line of numbers: a space stands before it, unless it is the first
+abbrev pub entry : ℕ → ℕ → List ℕ
+entry zero number = decimal number
+entry (suc place) number = 32 ∷ decimal number
+
 -- a name, a space and a number, as a line
 abbrev pub named_number : List ℕ → ℕ → List ℕ
 named_number name number = with_line_end (name ++ 32 ∷ decimal number)
+
+-- a number between two texts, as a line
+abbrev pub number_between : List ℕ → ℕ → List ℕ → List ℕ
+number_between before number after = with_line_end (before ++ decimal number ++ after)

@@ -137,7 +137,8 @@ pub struct WriteFault {
 pub fn put<W: Sink>(writer: &mut W, bytes: &[u8], sent: u64) -> Result<u64, WriteFault>
     requires working { W.has_failed writer.old ≡ false }
     requires fits { sent + length bytes.now < 2 ^ 64 }
-    ensures { Sends (W.written writer.old) (W.written writer.new) (W.has_failed writer.new) sent bytes.now result }
+    ensures { Sends (W.written writer.old) (W.written writer.new) (W.has_failed writer.new)
+        sent bytes.now result }
 {
     let mut done = 0;
     while done < bytes.len() {

@@ -1,8 +1,8 @@
 //! Printing of texts part by part, without memory. Each call answers how many bytes of the text went out
 //! with its own part, as `put` does.
-ghost use Rattle.std.specs.Prelude.{◌≡◌, ◌+◌, ◌<◌, ◌≤◌, ◌^◌, false, length, decimal, IfOk};
+ghost use Rattle.std.specs.Prelude.{◌≡◌, ◌+◌, ◌<◌, ◌≤◌, ◌^◌, ◌∷◌, false, length, decimal, IfOk};
 ghost use Rattle.pfs_base.specs.Sends.{Sends};
-ghost use Rattle.pfs_base.specs.Text.{with_line_end, named_number};
+ghost use Rattle.pfs_base.specs.Text.{with_line_end, spaced, entry, named_number, number_between};
 
 use crate::device::{Sink, WriteFault, put};
 use itoa::Buffer;
@@ -11,7 +11,8 @@ use itoa::Buffer;
 pub fn put_number<W: Sink>(writer: &mut W, number: u64, sent: u64) -> Result<u64, WriteFault>
     requires working { W.has_failed writer.old ≡ false }
     requires fits { sent + 40 < 2 ^ 64 }
-    ensures text { Sends (W.written writer.old) (W.written writer.new) (W.has_failed writer.new) sent (decimal number) result }
+    ensures text { Sends (W.written writer.old) (W.written writer.new) (W.has_failed writer.new)
+        sent (decimal number) result }
     ensures short { IfOk result (λ total. total ≤ sent + 40) }
 {
     let mut buffer = Buffer::new();
@@ -22,7 +23,8 @@ pub fn put_number<W: Sink>(writer: &mut W, number: u64, sent: u64) -> Result<u64
 pub fn put_line<W: Sink>(writer: &mut W, line: &[u8], sent: u64) -> Result<u64, WriteFault>
     requires working { W.has_failed writer.old ≡ false }
     requires fits { sent + length line.now + 1 < 2 ^ 64 }
-    ensures text { Sends (W.written writer.old) (W.written writer.new) (W.has_failed writer.new) sent (with_line_end line.now) result }
+    ensures text { Sends (W.written writer.old) (W.written writer.new) (W.has_failed writer.new)
+        sent (with_line_end line.now) result }
     ensures short { IfOk result (λ total. total ≤ sent + length line.now + 1) }
 {
     let sent = put(writer, line, sent)?;
@@ -38,11 +40,80 @@ pub fn put_named<W: Sink>(
 ) -> Result<u64, WriteFault>
     requires working { W.has_failed writer.old ≡ false }
     requires fits { sent + length name.now + 42 < 2 ^ 64 }
-    ensures text { Sends (W.written writer.old) (W.written writer.new) (W.has_failed writer.new) sent (named_number name.now number) result }
+    ensures text { Sends (W.written writer.old) (W.written writer.new) (W.has_failed writer.new)
+        sent (named_number name.now number) result }
     ensures short { IfOk result (λ total. total ≤ sent + length name.now + 42) }
 {
     let sent = put(writer, name, sent)?;
     let sent = put(writer, b" ", sent)?;
     let sent = put_number(writer, number, sent)?;
     put(writer, b"\n", sent)
+}
+
+/// Writes the number at a place of a line of numbers, with a space before it unless it is the first.
+/// Places count from 0.
+pub fn put_entry<W: Sink>(
+    writer: &mut W,
+    place: usize,
+    number: u64,
+    sent: u64,
+) -> Result<u64, WriteFault>
+    requires working { W.has_failed writer.old ≡ false }
+    requires fits { sent + length (entry place number) < 2 ^ 64 }
+    ensures { Sends (W.written writer.old) (W.written writer.new) (W.has_failed writer.new)
+        sent (entry place number) result }
+{
+    let mut buffer = Buffer::new();
+    let digits = buffer.format(number).as_bytes();
+    if place == 0 {
+        put(writer, digits, sent)
+    } else {
+        let sent = put(writer, b" ", sent)?;
+        put(writer, digits, sent)
+    }
+}
+
+/// Writes a line of numbers with single spaces between them.
+pub fn put_numbers<W: Sink>(writer: &mut W, numbers: &[u64], sent: u64) -> Result<u64, WriteFault>
+    requires working { W.has_failed writer.old ≡ false }
+    requires fits { sent + length (with_line_end (spaced numbers.now)) < 2 ^ 64 }
+    ensures { Sends (W.written writer.old) (W.written writer.new) (W.has_failed writer.new)
+        sent (with_line_end (spaced numbers.now)) result }
+{
+    let mut reached = sent;
+    for (place, number) in numbers.iter().enumerate() {
+        reached = put_entry(writer, place, *number, reached)?;
+    }
+    put(writer, b"\n", reached)
+}
+
+/// Writes a line of a text, a number and a text.
+pub fn put_between<W: Sink>(
+    writer: &mut W,
+    before: &[u8],
+    number: u64,
+    after: &[u8],
+    sent: u64,
+) -> Result<u64, WriteFault>
+    requires working { W.has_failed writer.old ≡ false }
+    requires fits { sent + length before.now + length after.now + 41 < 2 ^ 64 }
+    ensures text { Sends (W.written writer.old) (W.written writer.new) (W.has_failed writer.new)
+        sent (number_between before.now number after.now) result }
+    ensures short { IfOk result (λ total. total ≤ sent + length before.now + length after.now + 41) }
+{
+    let sent = put(writer, before, sent)?;
+    let numbered = put_number(writer, number, sent)?;
+    put_line(writer, after, numbered)
+}
+
+/// Writes a space and a number.
+pub fn put_next<W: Sink>(writer: &mut W, number: u64, sent: u64) -> Result<u64, WriteFault>
+    requires working { W.has_failed writer.old ≡ false }
+    requires fits { sent + 41 < 2 ^ 64 }
+    ensures text { Sends (W.written writer.old) (W.written writer.new) (W.has_failed writer.new)
+        sent (32 ∷ decimal number) result }
+    ensures short { IfOk result (λ total. total ≤ sent + 41) }
+{
+    let spaced = put(writer, b" ", sent)?;
+    put_number(writer, number, spaced)
 }

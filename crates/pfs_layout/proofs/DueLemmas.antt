@@ -38,11 +38,11 @@ module _ (f : ℕ → List ℕ) (w : ℕ) (each : (i : ℕ) → length (f i) ≡
 abbrev pub pairs_of : FlowShop → ℕ → ℕ → List ℕ
 pairs_of shop job machine = machine ∷ time_of shop job machine ∷ []
 
-abbrev row_width : Layout → FlowShop → ℕ
+abbrev pub row_width : Layout → FlowShop → ℕ
 row_width Taillard shop = shop.jobs
 row_width OrLib shop = shop.machines * 2
 
-length-due_row : (layout : Layout) (shop : FlowShop) (r : ℕ) → length (due_row layout shop r) ≡ row_width layout shop
+pub length-due_row : (layout : Layout) (shop : FlowShop) (r : ℕ) → length (due_row layout shop r) ≡ row_width layout shop
 unfolding due_row
 length-due_row Taillard shop r = length-map-range_with_len (λ job. time_of shop job r) 0 shop.jobs
 length-due_row OrLib shop r = length-rows (pairs_of shop r) 2 (λ i. refl) 0 shop.machines
@@ -70,7 +70,7 @@ time_due OrLib problem job machine j m =
 -- ---- what is due passes
 
 -- the times are within the limit
-short_at : (times : List ℕ) → All (λ time. time ≤ LONGEST_TIME) times → (k : ℕ) → get_or times k 0 ≤ LONGEST_TIME
+pub short_at : (times : List ℕ) → All (λ time. time ≤ LONGEST_TIME) times → (k : ℕ) → get_or times k 0 ≤ LONGEST_TIME
 short_at times short k = by_order (cases_order k (length times))
   where
     past : length times ≤ k → get_or times k 0 ≤ LONGEST_TIME

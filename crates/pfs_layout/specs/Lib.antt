@@ -1,7 +1,9 @@
 pub mod Block
 pub mod Bytes
+pub mod CanonicalText
 pub mod Examples
 pub mod File
+pub mod Generator
 pub mod Laws
 pub mod Lines
 pub mod Refuse

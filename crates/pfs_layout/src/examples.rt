@@ -1,11 +1,13 @@
 //! What the definitions say of some files.
-ghost use Rattle.std.specs.Prelude.{◌≡◌, ℕ, ◌+◌, ◌∷◌, [], ◌++◌, codes, length, take, map, replicate};
+ghost use Rattle.std.specs.Prelude.{◌≡◌, ℕ, ◌+◌, ◌∷◌, [], ◌++◌, codes, length, take, map, replicate, sum};
 ghost use Rattle.pfs_base.specs.Limits.{limits};
 ghost use Rattle.pfs_base.specs.Lists.{below};
 ghost use Rattle.pfs_layout.specs.Lines.{lines, open_line, numbers};
 ghost use Rattle.pfs_layout.specs.Block.{due};
 ghost use Rattle.pfs_layout.specs.File.{File};
 ghost use Rattle.pfs_layout.specs.Refuse.{refusal, accepted};
+ghost use Rattle.pfs_layout.specs.CanonicalText.{canonical_text};
+ghost use Rattle.pfs_layout.specs.Generator.{generated};
 ghost use Rattle.pfs_layout.specs.Examples.{heading, ending_with, three_jobs_file, three_jobs, two_blocks_file, one_job};
 
 use crate::{Layout, LayoutFault};
@@ -88,4 +90,20 @@ pub fn cuts()
         ++ replicate 13 (Some (LayoutFault.NoBlock 1)) ++ replicate 2 (Some (LayoutFault.SizeCount 9)) ++ replicate 4 (Some (LayoutFault.Truncated 0))
         ++ replicate 4 (Some (LayoutFault.Truncated 1)) ++ replicate 4 (Some (LayoutFault.Truncated 2)) ++ replicate 4 (Some (LayoutFault.Truncated 3))
         ++ replicate 4 (Some (LayoutFault.Truncated 4)) ++ replicate 4 (Some (LayoutFault.Truncated 5)) ++ replicate 6 None }
+{}
+
+/// What is written of the three jobs, in each layout.
+pub fn canonical_texts()
+    ensures by_machine { canonical_text Layout.Taillard three_jobs ≡ three_jobs_file }
+    ensures by_job { canonical_text Layout.OrLib three_jobs ≡ codes "flow shop instance\n3 2\n0 3 1 2\n0 2 1 5\n0 4 1 1\n" }
+{}
+
+/// Times that are drawn, machine by machine.
+pub fn drawn_times()
+    ensures five { due Layout.Taillard (generated 5 1 873654221).shop ≡ 54 ∷ 83 ∷ 15 ∷ 71 ∷ 77 ∷ [] }
+    ensures four { due Layout.Taillard (generated 2 2 873654221).shop ≡ 54 ∷ 83 ∷ 15 ∷ 71 ∷ [] }
+    ensures least { due Layout.Taillard (generated 1 1 1).shop ≡ 1 ∷ [] }
+    ensures greatest { due Layout.Taillard (generated 1 1 2147483646).shop ≡ 99 ∷ [] }
+    ensures twenty { sum (take 20 (due Layout.Taillard (generated 20 5 873654221).shop)) ≡ 1121 }
+    ensures notes { (generated 5 1 873654221).notes ≡ record { seed = 873654221; upper = 0; lower = 0 } }
 {}

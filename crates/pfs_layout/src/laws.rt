@@ -1,4 +1,6 @@
 //! Laws about the definitions alone.
+ghost use Rattle.pfs_layout.specs.CanonicalText.{CanonicalLaw};
+ghost use Rattle.pfs_layout.specs.Generator.{SeedsStay, GeneratedWithin};
 ghost use Rattle.pfs_layout.specs.Laws.{FileStands, SomeFile, OneVerdict, OneFault, RefusalLaw, AcceptedLaw, FaultStays, ByteFaultLaw, FreeBehind, WiderLimits, DueAndBack, DueFronts};
 
 /// An input holds a problem's file exactly where the lines of a front of it lead to the wanted number of
@@ -59,4 +61,20 @@ pub fn due_and_back()
 /// Numbers pass, place by place, exactly where they begin what is due for some problem of the size.
 pub fn due_fronts()
     ensures { DueFronts }
+{}
+
+/// What is written of an instance is an instance file, and its first block is that instance, but for the
+/// notes in the OR-Library's layout.
+pub fn canonical_text()
+    ensures { CanonicalLaw }
+{}
+
+/// A seed that is drawn is a seed again.
+pub fn seeds_stay()
+    ensures { SeedsStay }
+{}
+
+/// What is drawn is an instance within the limits.
+pub fn generated_within()
+    ensures { GeneratedWithin }
 {}

@@ -3,8 +3,12 @@
 
 pub mod examples;
 pub mod fault;
+pub mod generator;
 pub mod laws;
 pub mod layout;
+pub mod writing;
 
 pub use fault::LayoutFault;
+pub use generator::generate;
 pub use layout::Layout;
+pub use writing::write_block;

@@ -5,3 +5,5 @@
 #[cfg(test)]
 mod base;
 pub mod fakes;
+#[cfg(test)]
+mod writers;

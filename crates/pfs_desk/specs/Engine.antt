@@ -1,0 +1,90 @@
+-- What an engine answers and writes. Bytes are those that a reader has left, where they are told.
+use Rattle.std.specs.Prelude.{⊤, ◌≡◌, ℕ, Bool, false, List, Option, Result, Ok, Err, IfSome}
+use Rattle.std.specs.Io.KnownBytes.{Appends}
+use Rattle.pfs_base.specs.Limits.{limits}
+use Rattle.pfs_base.specs.Problem.{Problem}
+use Rattle.pfs_base.specs.Sends.{SendsFront}
+use Rattle.pfs_layout.specs.declared.layout.Layout.{Layout}
+use Rattle.pfs_layout.specs.File.{File}
+use Rattle.pfs_order.specs.Sequence.{StatedOrder}
+use Rattle.pfs_order.specs.OrderFile.{IsOrderFile, RefusesUnlessFailed}
+use Rattle.pfs_order.specs.declared.fault.OrderFault.{OrderFault}
+use Rattle.pfs_audit.specs.Verdicts.{verdict_on}
+use Rattle.pfs_desk.specs.declared.fault.Outcome.{Outcome}
+use Rattle.pfs_desk.specs.declared.fault.Outcome.TheVariants.{Done}
+use Rattle.pfs_desk.specs.declared.fault.DeskFault.{DeskFault}
+use Rattle.pfs_desk.specs.declared.fault.DeskFault.TheVariants.{Order, Write}
+use Rattle.pfs_desk.specs.OutputText.{value_text, verdict_text, outcome_of, TablePrints}
+
+-- a block of an instance file holds this problem
+abbrev pub Holds : Layout → Option (List ℕ) → ℕ → Problem → Type 0
+Holds layout file block problem = IfSome file (λ bytes. File limits layout bytes block problem)
+
+-- a block of an instance file holds no problem
+abbrev pub HoldsNone : Layout → Option (List ℕ) → ℕ → Type 0
+HoldsNone layout file block = IfSome file (λ bytes. (problem : Problem) → ¬ File limits layout bytes block problem)
+
+-- an order file states this order and this makespan
+abbrev pub States : Option (List ℕ) → StatedOrder → Type 0
+States file stated = IfSome file (λ bytes. IsOrderFile bytes stated)
+
+-- a block of the instance file holds a problem, and the order file is refused for this fault, or its
+-- reading failed or wanted memory
+pub record RefusesSecond (layout : Layout) (file : Option (List ℕ)) (block : ℕ) (order_file : Option (List ℕ)) (fault : OrderFault) : Type 0 where
+  pub problem : Problem
+  pub holds : Holds layout file block problem
+  pub refused : IfSome order_file (λ bytes. RefusesUnlessFailed bytes fault)
+
+-- the order file is judged behind the instance file
+abbrev pub JudgesSecond : Layout → Option (List ℕ) → ℕ → Option (List ℕ) → DeskFault → Type 0
+JudgesSecond layout file block order_file (Order fault) = RefusesSecond layout file block order_file fault
+JudgesSecond layout file block order_file others = ⊤
+
+-- all of an output went out
+pub record WritesAll (output : Outcome → List ℕ → Type 0) (old new : Option (List ℕ)) (failed : Bool) (outcome : Outcome) : Type 0 where
+  pub text : List ℕ
+  pub is_output : output outcome text
+  pub working : failed ≡ false
+  pub bytes : Appends old new text
+
+-- the writer has failed, and as many of an output's first bytes went out as its fault says
+pub record WritesFront (output : Outcome → List ℕ → Type 0) (old new : Option (List ℕ)) (failed : Bool) (written : ℕ) : Type 0 where
+  pub outcome : Outcome
+  pub text : List ℕ
+  pub is_output : output outcome text
+  pub front : SendsFront old new failed 0 text written
+
+-- nothing was written
+pub record WritesNothing (old new : Option (List ℕ)) (failed : Bool) : Type 0 where
+  pub working : failed ≡ false
+  pub kept : new ≡ old
+
+-- an engine wrote its output, or a front of it where a write failed, and nothing where it met another fault
+abbrev pub Writes : (Outcome → List ℕ → Type 0) → Option (List ℕ) → Option (List ℕ) → Bool → Result Outcome DeskFault → Type 0
+Writes output old new failed (Ok outcome) = WritesAll output old new failed outcome
+Writes output old new failed (Err (Write fault)) = WritesFront output old new failed fault.written
+Writes output old new failed (Err others) = WritesNothing old new failed
+
+-- the makespan of the jobs of an instance in the order of their numbers
+pub record ValueOutput (layout : Layout) (file : Option (List ℕ)) (block : ℕ) (outcome : Outcome) (text : List ℕ) : Type 0 where
+  pub problem : Problem
+  pub holds : Holds layout file block problem
+  pub done : outcome ≡ Done
+  pub spelled : text ≡ value_text problem.shop
+
+-- the verdict on the order that an order file states for an instance
+pub record CheckOutput (layout : Layout) (file : Option (List ℕ)) (block : ℕ) (order_file : Option (List ℕ)) (outcome : Outcome) (text : List ℕ) : Type 0 where
+  pub problem : Problem
+  pub stated : StatedOrder
+  pub holds : Holds layout file block problem
+  pub states : States order_file stated
+  pub judged : outcome ≡ outcome_of (verdict_on problem.shop stated)
+  pub spelled : text ≡ verdict_text (verdict_on problem.shop stated)
+
+-- the time table of the order that an order file states for an instance; the stated makespan isn't compared
+pub record TableOutput (layout : Layout) (file : Option (List ℕ)) (block : ℕ) (order_file : Option (List ℕ)) (outcome : Outcome) (text : List ℕ) : Type 0 where
+  pub problem : Problem
+  pub stated : StatedOrder
+  pub holds : Holds layout file block problem
+  pub states : States order_file stated
+  pub prints : TablePrints problem.shop stated.order outcome text

@@ -1,0 +1,62 @@
+-- What each command prints.
+use Rattle.std.specs.Prelude.{◌≡◌, ◌≢◌, ℕ, ◌+◌, ◌<◌, nat_eq, List, [], ◌∷◌, ◌++◌, length, slice_index, if◌then◌else◌, codes}
+use Rattle.std.specs.List.{flat_map}
+use Rattle.pfs_base.specs.FlowShop.{FlowShop}
+use Rattle.pfs_base.specs.Lists.{below}
+use Rattle.pfs_base.specs.Paths.{makespan}
+use Rattle.pfs_base.specs.Text.{with_line_end, spaced, named_number}
+use Rattle.pfs_order.specs.Sequence.{all_jobs}
+use Rattle.pfs_audit.specs.Schedule.{Timing, start_in, end_in, end_of, last_end, IsLeastSchedule}
+use Rattle.pfs_audit.specs.declared.verdicts.Verdict.{Verdict}
+use Rattle.pfs_audit.specs.declared.verdicts.Verdict.TheVariants.{Valid, WrongSize, WrongMakespan}
+use Rattle.pfs_desk.specs.declared.fault.Outcome.{Outcome}
+use Rattle.pfs_desk.specs.declared.fault.Outcome.TheVariants.{Done, CheckFailed}
+
+-- the makespan of the jobs in the order of their numbers
+abbrev pub value_text : FlowShop → List ℕ
+value_text shop = named_number (codes "makespan") (makespan shop (all_jobs shop.jobs))
+
+-- a title, and two numbers by their names
+abbrev pub finding : List ℕ → List ℕ → ℕ → List ℕ → ℕ → List ℕ
+finding title name number other_name other_number = with_line_end title ++ named_number name number ++ named_number other_name other_number
+
+-- optimal exactly where the makespan is the bound
+unfoldable pub valid_text : ℕ → ℕ → List ℕ
+valid_text makespan bound = finding (codes "valid") (codes "makespan") makespan (codes "bound") bound
+    ++ (if nat_eq makespan bound then with_line_end (codes "optimal") else [])
+
+abbrev pub wrong_size_text : ℕ → ℕ → List ℕ
+wrong_size_text order jobs = finding (codes "wrong size") (codes "order") order (codes "jobs") jobs
+
+abbrev pub verdict_text : Verdict → List ℕ
+verdict_text (Valid makespan bound) = valid_text makespan bound
+verdict_text (WrongSize order jobs) = wrong_size_text order jobs
+verdict_text (WrongMakespan stated computed) = finding (codes "wrong makespan") (codes "stated") stated (codes "computed") computed
+
+-- a check fails exactly where the size or the makespan is wrong
+abbrev pub outcome_of : Verdict → Outcome
+outcome_of (Valid makespan bound) = Done
+outcome_of (WrongSize order jobs) = CheckFailed
+outcome_of (WrongMakespan stated computed) = CheckFailed
+
+-- the job at a row, counted from 1, and its starts and ends, machine by machine
+unfoldable pub row_text : Timing → ℕ → List ℕ
+row_text timing row = with_line_end (spaced ((slice_index timing.jobs row + 1) ∷ flat_map (λ machine. start_in timing row machine ∷ end_in timing row machine ∷ []) (below timing.machines)))
+
+-- the sizes of a time table, its rows, and when it ends
+unfoldable pub table_text : Timing → List ℕ
+table_text timing = with_line_end (codes "table" ++ 32 ∷ spaced (length timing.jobs ∷ timing.machines ∷ []))
+    ++ flat_map (row_text timing) (below (length timing.jobs)) ++ named_number (codes "makespan") (last_end timing)
+
+-- the time table of an order whose operations start as early as they can
+pub record IsLeastTable (shop : FlowShop) (order : List ℕ) (timing : Timing) : Type 0 where
+  pub jobs : timing.jobs ≡ order
+  pub machines : timing.machines ≡ shop.machines
+  pub earliest : IsLeastSchedule shop order (start_in timing)
+  pub ends : (row machine : ℕ) → row < length order → machine < shop.machines → end_in timing row machine ≡ end_of shop order (start_in timing) row machine
+  pub makespan : last_end timing ≡ makespan shop order
+
+-- an order's table, or that the order has a wrong size
+pub record TablePrints (shop : FlowShop) (order : List ℕ) (outcome : Outcome) (text : List ℕ) : Type 0 where
+  pub right : length order ≡ shop.jobs → (outcome ≡ Done) × ((timing : Timing) × IsLeastTable shop order timing × (text ≡ table_text timing))
+  pub wrong : length order ≢ shop.jobs → (outcome ≡ CheckFailed) × (text ≡ wrong_size_text (length order) shop.jobs)

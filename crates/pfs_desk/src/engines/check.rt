@@ -1,0 +1,127 @@
+//! The verdict on an order file.
+ghost use Rattle.std.specs.Prelude.{◌≡◌, ◌+◌, ◌<◌, ◌≤◌, ◌^◌, ◌↔◌, true, false, length, IfOk, IfErr};
+ghost use Rattle.pfs_base.specs.Sends.{Sends};
+ghost use Rattle.pfs_desk.specs.Engine.{Writes, CheckOutput, HoldsNone, JudgesSecond};
+ghost use Rattle.pfs_desk.specs.OutputText.{finding, valid_text, wrong_size_text, verdict_text, outcome_of};
+
+use crate::fault::{DeskFault, Outcome};
+use crate::reading::read_instance;
+use pfs_audit::{Verdict, check};
+use pfs_base::print::{put_line, put_named};
+use pfs_base::{MOST_BLOCKS, Sink, Source, WriteFault};
+use pfs_layout::Layout;
+use pfs_order::{OrderFault, read_order};
+use std::alloc::Global;
+
+/// Reads a block of an instance file and then an order file, and prints the verdict on the order. Blocks
+/// count from 1.
+pub fn run_check<R: Source, O: Source, W: Sink>(
+    alloc: Global,
+    reader: &mut R,
+    layout: Layout,
+    block: usize,
+    order_reader: &mut O,
+    writer: &mut W,
+) -> Result<Outcome, DeskFault>
+    requires reading { R.has_failed reader.old ≡ false }
+    requires reading_order { O.has_failed order_reader.old ≡ false }
+    requires writing { W.has_failed writer.old ≡ false }
+    requires some { 1 ≤ block }
+    requires few { block ≤ MOST_BLOCKS }
+    ensures written { Writes (CheckOutput layout (R.left reader.old) block (O.left order_reader.old))
+        (W.written writer.old) (W.written writer.new) (W.has_failed writer.new) result }
+    ensures refused { result ≡ Err DeskFault.Refused → HoldsNone layout (R.left reader.old) block }
+    ensures read { result ≡ Err DeskFault.Read ↔ (R.has_failed reader.new ≡ true) }
+    ensures order_refused { IfErr result (JudgesSecond layout (R.left reader.old) block (O.left order_reader.old)) }
+    ensures order_read { result ≡ Err (DeskFault.Order OrderFault.Read) ↔ (O.has_failed order_reader.new ≡ true) }
+{
+    let instance = read_instance(alloc, reader, layout, block)?;
+    let file = read_order(alloc, order_reader)?;
+    let verdict = check(alloc, &instance, &file)?;
+    put_verdict(writer, verdict)?;
+    Ok(outcome_on(verdict))
+}
+
+// How a check with this verdict ends.
+fn outcome_on(verdict: Verdict) -> Outcome
+    ensures { result ≡ outcome_of verdict }
+{
+    match verdict {
+        Verdict::Valid { .. } => Outcome::Done,
+        Verdict::WrongSize { .. } | Verdict::WrongMakespan { .. } => Outcome::CheckFailed,
+    }
+}
+
+fn put_verdict<W: Sink>(writer: &mut W, verdict: Verdict) -> Result<u64, WriteFault>
+    requires { W.has_failed writer.old ≡ false }
+    ensures { Sends (W.written writer.old) (W.written writer.new) (W.has_failed writer.new)
+        0 (verdict_text verdict) result }
+{
+    match verdict {
+        Verdict::Valid { makespan, bound } => put_valid(writer, makespan, bound),
+        Verdict::WrongSize { order, jobs } => put_wrong_size(writer, order, jobs),
+        Verdict::WrongMakespan { stated, computed } => {
+            put_finding(
+                writer,
+                b"wrong makespan",
+                b"stated",
+                stated,
+                b"computed",
+                computed,
+            )
+        }
+    }
+}
+
+/// Writes that an order has another number of jobs than the instance.
+pub(super) fn put_wrong_size<W: Sink>(
+    writer: &mut W,
+    order: usize,
+    jobs: usize,
+) -> Result<u64, WriteFault>
+    requires { W.has_failed writer.old ≡ false }
+    ensures { Sends (W.written writer.old) (W.written writer.new) (W.has_failed writer.new)
+        0 (wrong_size_text order jobs) result }
+{
+    put_finding(
+        writer,
+        b"wrong size",
+        b"order",
+        order as u64,
+        b"jobs",
+        jobs as u64,
+    )
+}
+
+fn put_valid<W: Sink>(writer: &mut W, makespan: u64, bound: u64) -> Result<u64, WriteFault>
+    requires { W.has_failed writer.old ≡ false }
+    ensures { Sends (W.written writer.old) (W.written writer.new) (W.has_failed writer.new)
+        0 (valid_text makespan bound) result }
+{
+    let sent = put_finding(writer, b"valid", b"makespan", makespan, b"bound", bound)?;
+    if makespan == bound {
+        put_line(writer, b"optimal", sent)
+    } else {
+        Ok(sent)
+    }
+}
+
+// Writes a title, and two numbers by their names.
+fn put_finding<W: Sink>(
+    writer: &mut W,
+    title: &[u8],
+    name: &[u8],
+    number: u64,
+    other_name: &[u8],
+    other_number: u64,
+) -> Result<u64, WriteFault>
+    requires working { W.has_failed writer.old ≡ false }
+    requires short { length title.now + length name.now + length other_name.now < 100 }
+    ensures text { Sends (W.written writer.old) (W.written writer.new) (W.has_failed writer.new)
+        0 (finding title.now name.now number other_name.now other_number) result }
+    ensures short { IfOk result (λ sent. sent < 200) }
+{
+    let sent = put_line(writer, title, 0)?;
+    let sent = put_named(writer, name, number, sent)?;
+    put_named(writer, other_name, other_number, sent)
+}

@@ -1,0 +1,113 @@
+//! The time table of an order.
+ghost use Rattle.std.specs.Prelude.{◌≡◌, ◌+◌, ◌*◌, ◌<◌, ◌≤◌, ◌^◌, ◌∷◌, ◌++◌, [], ◌↔◌, true, false, length, IfOk, IfErr};
+ghost use Rattle.pfs_base.specs.Sends.{Sends};
+ghost use Rattle.pfs_base.specs.Text.{with_line_end, spaced};
+ghost use Rattle.pfs_desk.specs.Engine.{Writes, TableOutput, HoldsNone, JudgesSecond};
+ghost use Rattle.pfs_desk.specs.OutputText.{row_text, table_text};
+ghost use Rattle.pfs_desk.specs.Printable.{IsPrintable};
+
+use crate::engines::check::put_wrong_size;
+use crate::fault::{DeskFault, Outcome};
+use crate::reading::read_instance;
+use pfs_audit::{TimeTable, table};
+use pfs_base::print::{put_named, put_next, put_number};
+use pfs_base::{MOST_BLOCKS, MOST_MACHINES, Sink, Source, WriteFault, put};
+use pfs_layout::Layout;
+use pfs_order::{OrderFault, read_order};
+use std::alloc::Global;
+
+/// Reads a block of an instance file and then an order file, and prints when each operation of the order
+/// starts and ends, each as early as it can. Blocks count from 1. The makespan that the order file states
+/// isn't looked at.
+pub fn run_table<R: Source, O: Source, W: Sink>(
+    alloc: Global,
+    reader: &mut R,
+    layout: Layout,
+    block: usize,
+    order_reader: &mut O,
+    writer: &mut W,
+) -> Result<Outcome, DeskFault>
+    requires reading { R.has_failed reader.old ≡ false }
+    requires reading_order { O.has_failed order_reader.old ≡ false }
+    requires writing { W.has_failed writer.old ≡ false }
+    requires some { 1 ≤ block }
+    requires few { block ≤ MOST_BLOCKS }
+    ensures written { Writes (TableOutput layout (R.left reader.old) block (O.left order_reader.old))
+        (W.written writer.old) (W.written writer.new) (W.has_failed writer.new) result }
+    ensures refused { result ≡ Err DeskFault.Refused → HoldsNone layout (R.left reader.old) block }
+    ensures read { result ≡ Err DeskFault.Read ↔ (R.has_failed reader.new ≡ true) }
+    ensures order_refused { IfErr result (JudgesSecond layout (R.left reader.old) block (O.left order_reader.old)) }
+    ensures order_read { result ≡ Err (DeskFault.Order OrderFault.Read) ↔ (O.has_failed order_reader.new ≡ true) }
+{
+    let instance = read_instance(alloc, reader, layout, block)?;
+    let file = read_order(alloc, order_reader)?;
+    let order = file.order();
+    let jobs = instance.jobs();
+    if order.len() != jobs {
+        put_wrong_size(writer, order.len(), jobs)?;
+        return Ok(Outcome::CheckFailed);
+    }
+    let table = table(alloc, &instance, order)?;
+    put_table(writer, &table)?;
+    Ok(Outcome::Done)
+}
+
+fn put_table<W: Sink>(writer: &mut W, table: &TimeTable) -> Result<u64, WriteFault>
+    requires working { W.has_failed writer.old ≡ false }
+    requires printable { IsPrintable table.now }
+    ensures { Sends (W.written writer.old) (W.written writer.new) (W.has_failed writer.new)
+        0 (table_text table.now) result }
+{
+    let mut sent = put_sizes(
+        writer,
+        b"table",
+        table.rows() as u64,
+        table.machines() as u64,
+    )?;
+    for row in 0..table.rows() {
+        sent = put_row(writer, table, row, sent)?;
+    }
+    put_named(writer, b"makespan", table.makespan(), sent)
+}
+
+// Writes a line of a name and two sizes.
+fn put_sizes<W: Sink>(
+    writer: &mut W,
+    name: &[u8],
+    rows: u64,
+    machines: u64,
+) -> Result<u64, WriteFault>
+    requires working { W.has_failed writer.old ≡ false }
+    requires short { length name.now < 100 }
+    ensures text { Sends (W.written writer.old) (W.written writer.new) (W.has_failed writer.new)
+        0 (with_line_end (name.now ++ 32 ∷ spaced (rows ∷ machines ∷ []))) result }
+    ensures short { IfOk result (λ sent. sent < 200) }
+{
+    let sent = put(writer, name, 0)?;
+    let sent = put_next(writer, rows, sent)?;
+    let sent = put_next(writer, machines, sent)?;
+    put(writer, b"\n", sent)
+}
+
+// Writes the line of a row.
+fn put_row<W: Sink>(
+    writer: &mut W,
+    table: &TimeTable,
+    row: usize,
+    start: u64,
+) -> Result<u64, WriteFault>
+    requires working { W.has_failed writer.old ≡ false }
+    requires printable { IsPrintable table.now }
+    requires row { row < length table.now.jobs }
+    requires room { start < 2 ^ 63 }
+    ensures text { Sends (W.written writer.old) (W.written writer.new) (W.has_failed writer.new)
+        start (row_text table.now row) result }
+    ensures short { IfOk result (λ sent. sent ≤ start + 82 * MOST_MACHINES + 41) }
+{
+    let mut sent = put_number(writer, table.job(row) as u64 + 1, start)?;
+    for machine in 0..table.machines() {
+        sent = put_next(writer, table.start(row, machine), sent)?;
+        sent = put_next(writer, table.end(row, machine), sent)?;
+    }
+    put(writer, b"\n", sent)
+}

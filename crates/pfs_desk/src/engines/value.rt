@@ -1,0 +1,54 @@
+//! The makespan of an instance's jobs in the order of their numbers.
+ghost use Rattle.std.specs.Prelude.{◌≡◌, ◌≤◌, ◌↔◌, true, false, IfOk, IfErr};
+ghost use Rattle.pfs_base.specs.Paths.{makespan};
+ghost use Rattle.pfs_order.specs.Sequence.{all_jobs};
+ghost use Rattle.pfs_desk.specs.Engine.{Writes, ValueOutput, HoldsNone};
+
+use crate::fault::{DeskFault, Outcome};
+use crate::reading::read_instance;
+use pfs_audit::makespan;
+use pfs_base::print::put_named;
+use pfs_base::{Bench, Instance, Length, MOST_BLOCKS, Sink, Source};
+use pfs_layout::Layout;
+use pfs_order::Order;
+use std::alloc::Global;
+
+/// Reads a block of an instance file, and prints the makespan of its jobs in the order of their numbers.
+/// Blocks count from 1.
+pub fn run_value<R: Source, W: Sink>(
+    alloc: Global,
+    reader: &mut R,
+    layout: Layout,
+    block: usize,
+    writer: &mut W,
+) -> Result<Outcome, DeskFault>
+    requires reading { R.has_failed reader.old ≡ false }
+    requires writing { W.has_failed writer.old ≡ false }
+    requires some { 1 ≤ block }
+    requires few { block ≤ MOST_BLOCKS }
+    ensures written { Writes (ValueOutput layout (R.left reader.old) block)
+        (W.written writer.old) (W.written writer.new) (W.has_failed writer.new) result }
+    ensures refused { result ≡ Err DeskFault.Refused → HoldsNone layout (R.left reader.old) block }
+    ensures read { result ≡ Err DeskFault.Read ↔ (R.has_failed reader.new ≡ true) }
+{
+    let instance = read_instance(alloc, reader, layout, block)?;
+    let value = value_of(alloc, &instance)?;
+    put_named(writer, b"makespan", value, 0)?;
+    Ok(Outcome::Done)
+}
+
+// The makespan of the jobs in the order of their numbers.
+fn value_of(alloc: Global, instance: &Instance) -> Result<u64, DeskFault>
+    ensures value { IfOk result (λ value.
+        value ≡ makespan instance.now.shop (all_jobs instance.now.shop.jobs)) }
+    ensures memory { IfErr result (λ fault. fault ≡ DeskFault.Memory) }
+{
+    let Ok(order) = Order::identity(alloc, instance.jobs()) else {
+        return Err(DeskFault::Memory);
+    };
+    let mut bench = instance.metered();
+    let Ok(span) = makespan(alloc, &mut bench, order.seq()) else {
+        return Err(DeskFault::Memory);
+    };
+    Ok(bench.reveal(span))
+}

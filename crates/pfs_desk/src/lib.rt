@@ -1,0 +1,13 @@
+//! The desk: what each command reads, computes and prints, and the faults that it can end in.
+#![tactic(auto)]
+
+pub mod engines;
+pub mod fault;
+mod reading;
+#[cfg(test)]
+mod tests;
+
+pub use engines::check::run_check;
+pub use engines::table::run_table;
+pub use engines::value::run_value;
+pub use fault::{DeskFault, Outcome, status, write_fault};

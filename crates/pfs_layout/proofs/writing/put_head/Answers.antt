@@ -1,0 +1,32 @@
+use Rattle.std.proofs.Common.{rules, ◌≡◌, Err, List, [], ◌∷◌, ◌++◌, codes}
+use Rattle.pfs_base.specs.Text.{with_line_end, spaced}
+use Rattle.pfs_base.proofs.SendsLemmas.{then_front, front_of}
+use Rattle.pfs_base.proofs.SendsOn.{then_sends}
+use Rattle.pfs_layout.specs.declared.layout.Layout.TheVariants.{Taillard, OrLib}
+use Rattle.pfs_layout.proofs.CanonicalLemmas.{title, times_title}
+use Rattle.pfs_layout.proofs.writing.put_head.Goals as goal
+
+pub returns-in_err-sent-in-Taillard : goal.returns-in_err-sent-in-Taillard
+returns-in_err-sent-in-Taillard g c =
+    let answer : c.from_residual.result ≡ Err c.in_err-sent-in-Taillard.field-0.0 = search rules in
+    rw (c.in-Taillard.is, answer) (front_of _ c.in_err-sent-in-Taillard.ensures)
+
+pub returns-in_err-sent-in-Taillard-2 : goal.returns-in_err-sent-in-Taillard-2
+returns-in_err-sent-in-Taillard-2 g c =
+    let answer : c.from_residual-in_err-sent-in-Taillard-2.result ≡ Err c.in_err-sent-in-Taillard-2.field-0.0 = search rules in
+    rw (c.in-Taillard.is, answer) (then_front c.in_ok-sent-in-Taillard.ensures (front_of _ c.in_err-sent-in-Taillard-2.ensures))
+
+pub returns-in_err-sent-in-OrLib : goal.returns-in_err-sent-in-OrLib
+returns-in_err-sent-in-OrLib g c =
+    let answer : c.from_residual-in_err-sent-in-OrLib.result ≡ Err c.in_err-sent-in-OrLib.field-0.0 = search rules in
+    rw (c.in-OrLib.is, answer) (front_of _ c.in_err-sent-in-OrLib.ensures)
+
+pub returns-in_ok-sent-in-Taillard-2 : goal.returns-in_ok-sent-in-Taillard-2
+returns-in_ok-sent-in-Taillard-2 g c =
+    let sizes : List _ = with_line_end (spaced (c.args.jobs ∷ c.args.machines ∷ c.args.notes.seed ∷ c.args.notes.upper ∷ c.args.notes.lower ∷ [])) in
+    let both = then_sends _ _ _ _ _ c.in_ok-sent-in-Taillard.sent c.in_ok-sent-in-Taillard-2.sent sizes (with_line_end times_title) _ c.in_ok-sent-in-Taillard-2.ensures c.put-in-Taillard.ensures in
+    rw c.in-Taillard.is (then_sends _ _ _ _ _ 0 c.in_ok-sent-in-Taillard.sent (with_line_end (title Taillard)) (sizes ++ with_line_end times_title) _ c.in_ok-sent-in-Taillard.ensures both)
+
+pub returns-in_ok-sent-in-OrLib : goal.returns-in_ok-sent-in-OrLib
+returns-in_ok-sent-in-OrLib g c =
+    rw c.in-OrLib.is (then_sends _ _ _ _ _ 0 c.in_ok-sent-in-OrLib.sent (with_line_end (title OrLib)) (with_line_end (spaced (c.args.jobs ∷ c.args.machines ∷ []))) _ c.in_ok-sent-in-OrLib.ensures c.put_numbers-in-OrLib.ensures)

@@ -1,0 +1,38 @@
+-- The one text of an instance that is written, in each layout.
+use Rattle.std.specs.Prelude.{ℕ, List, [], ◌∷◌, ◌++◌, flat_map, codes}
+use Rattle.pfs_base.specs.FlowShop.{FlowShop}
+use Rattle.pfs_base.specs.Limits.{limits}
+use Rattle.pfs_base.specs.Lists.{below}
+use Rattle.pfs_base.specs.Problem.{Problem}
+use Rattle.pfs_base.specs.Text.{with_line_end, spaced}
+use Rattle.pfs_layout.specs.declared.layout.Layout.{Layout}
+use Rattle.pfs_layout.specs.declared.layout.Layout.TheVariants.{Taillard, OrLib}
+use Rattle.pfs_layout.specs.Size.{Size, size_of}
+use Rattle.pfs_layout.specs.Block.{due_row, row_count}
+use Rattle.pfs_layout.specs.File.{IsInstance, File}
+
+-- each row of the body on a line
+abbrev pub row_lines : Layout → FlowShop → List ℕ
+row_lines layout shop = flat_map (λ row. with_line_end (spaced (due_row layout shop row))) (below (row_count layout shop))
+
+-- the lines before the body
+abbrev pub head_lines : Layout → Size → List ℕ
+head_lines Taillard size =
+    with_line_end (codes "number of jobs, number of machines, initial seed, upper bound and lower bound :")
+    ++ with_line_end (spaced (size.jobs ∷ size.machines ∷ size.notes.seed ∷ size.notes.upper ∷ size.notes.lower ∷ []))
+    ++ with_line_end (codes "processing times :")
+head_lines OrLib size =
+    with_line_end (codes "flow shop instance")
+    ++ with_line_end (spaced (size.jobs ∷ size.machines ∷ []))
+
+unfoldable pub canonical_text : Layout → Problem → List ℕ
+canonical_text layout problem = head_lines layout (size_of problem) ++ row_lines layout problem.shop
+
+-- what the text holds of a problem: the layout of the OR-Library has no notes
+abbrev pub as_written : Layout → Problem → Problem
+as_written Taillard problem = problem
+as_written OrLib problem = record { shop = problem.shop; notes = record { seed = 0; upper = 0; lower = 0 } }
+
+-- what is written is an instance file, and holds the problem
+abbrev pub CanonicalLaw : Type 0
+CanonicalLaw = (layout : Layout) (problem : Problem) → IsInstance limits problem → File limits layout (canonical_text layout problem) 1 (as_written layout problem)

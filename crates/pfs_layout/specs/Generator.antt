@@ -1,0 +1,37 @@
+-- Taillard's generator of instances: products modulo a prime.
+use Rattle.std.specs.Prelude.{ℕ, zero, suc, ◌+◌, ◌*◌, ◌/◌, ◌%◌, ◌<◌}
+use Rattle.pfs_base.specs.FlowShop.{AreSizes}
+use Rattle.pfs_base.specs.Limits.{limits}
+use Rattle.pfs_base.specs.Problem.{Problem}
+use Rattle.pfs_layout.specs.File.{IsInstance}
+use Rattle.pfs_layout.specs.Size.{problem_of}
+
+abbrev pub prime : ℕ
+prime = 2147483647
+
+abbrev pub IsSeed : ℕ → Type 0
+IsSeed seed = (0 < seed) × (seed < prime)
+
+-- the seed after so many draws
+unfoldable pub seed_after : ℕ → ℕ → ℕ
+seed_after zero seed = seed
+seed_after (suc draws) seed = 16807 * seed_after draws seed % prime
+
+-- the time that a seed gives, from 1 to 99
+abbrev pub drawn_time : ℕ → ℕ
+drawn_time seed = 1 + seed * 99 / prime
+
+-- machine by machine, and within a machine job by job; the first seed itself gives no time
+unfoldable pub generated : ℕ → ℕ → ℕ → Problem
+unfolding seed_after
+generated jobs machines seed = problem_of
+    (record { jobs = jobs; machines = machines; notes = record { seed = seed; upper = 0; lower = 0 } })
+    (λ job machine. drawn_time (seed_after (machine * jobs + job + 1) seed))
+
+-- a seed that is drawn is a seed again
+abbrev pub SeedsStay : Type 0
+SeedsStay = (draws seed : ℕ) → IsSeed seed → IsSeed (seed_after draws seed)
+
+-- what is drawn is an instance within the limits
+abbrev pub GeneratedWithin : Type 0
+GeneratedWithin = (jobs machines seed : ℕ) → AreSizes limits jobs machines → IsSeed seed → IsInstance limits (generated jobs machines seed)

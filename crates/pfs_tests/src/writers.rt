@@ -1,0 +1,117 @@
+//! Texts that are written and instances that are drawn.
+use crate::fakes::Taken;
+use pfs_base::{BaseFault, Instance, LONGEST_TIME, Notes, WriteFault};
+use pfs_layout::{Layout, LayoutFault, generate, write_block};
+use std::alloc::Global;
+use std::process::Abort;
+use std::test::Fail;
+
+/// Three jobs on two machines in Taillard's layout, in 121 bytes.
+const BY_MACHINE: &[u8] =
+    b"number of jobs, number of machines, initial seed, upper bound and lower bound :\n3 2 0 0 0\nprocessing times :\n3 2 4\n2 5 1\n";
+
+/// The same three jobs in the OR-Library's layout.
+const BY_JOB: &[u8] = b"flow shop instance\n3 2\n0 3 1 2\n0 2 1 5\n0 4 1 1\n";
+
+// Three jobs on two machines.
+fn three_jobs(rt: &impl Abort, alloc: Global) -> Result<Instance, BaseFault> {
+    let notes = Notes {
+        seed: 0,
+        upper: 0,
+        lower: 0,
+    };
+    let mut instance = Instance::new(alloc, 3, 2, notes)?;
+    for (job, machine, time) in [
+        (0, 0, 3),
+        (0, 1, 2),
+        (1, 0, 2),
+        (1, 1, 5),
+        (2, 0, 4),
+        (2, 1, 1),
+    ] {
+        assert!(rt; job < instance.jobs());
+        assert!(rt; machine < instance.machines());
+        assert!(rt; time <= LONGEST_TIME);
+        instance.set(job, machine, time);
+    }
+    Ok(instance)
+}
+
+#[test]
+fn writes_whole_texts(rt: HostRuntime) -> Result<(), Fail> {
+    assert_eq!(rt; BY_MACHINE.len(), 121);
+    let instance = three_jobs(&rt, rt.alloc())?;
+    for (layout, text) in [(Layout::Taillard, BY_MACHINE), (Layout::OrLib, BY_JOB)] {
+        let mut writer = Taken::new(256, 256);
+        write_block(&mut writer, &instance, layout)?;
+        assert_eq!(rt; writer.bytes(), text);
+    }
+    Ok(())
+}
+
+#[test]
+fn writes_a_front_where_the_writer_fails(rt: HostRuntime) -> Result<(), Fail> {
+    let instance = three_jobs(&rt, rt.alloc())?;
+    for (layout, text) in [(Layout::Taillard, BY_MACHINE), (Layout::OrLib, BY_JOB)] {
+        for at_once in [1, 256] {
+            for room in 0..text.len() {
+                let mut writer = Taken::new(room, at_once);
+                let answer = write_block(&mut writer, &instance, layout);
+                let fault = WriteFault {
+                    written: room as u64,
+                };
+                assert_eq!(rt; answer, Err(fault), "{at_once} at once");
+                assert_eq!(rt; writer.bytes(), &text[..room], "{at_once} at once");
+            }
+        }
+    }
+    Ok(())
+}
+
+// Whether the instance takes these times, machine by machine.
+fn assert_times(rt: &impl Abort, instance: &Instance, times: &[u32]) {
+    assert_eq!(rt; instance.jobs() * instance.machines(), times.len());
+    let mut place = 0;
+    for machine in 0..instance.machines() {
+        for job in 0..instance.jobs() {
+            assert_eq!(rt;
+                times.get(place),
+                Some(&instance.time(job, machine)),
+                "at {place}"
+            );
+            place += 1;
+        }
+    }
+}
+
+#[test]
+fn draws_the_published_times(rt: HostRuntime) -> Result<(), Fail> {
+    assert_times(
+        &rt,
+        &generate(rt.alloc(), 5, 1, 873_654_221)?,
+        &[54, 83, 15, 71, 77],
+    );
+    assert_times(
+        &rt,
+        &generate(rt.alloc(), 2, 2, 873_654_221)?,
+        &[54, 83, 15, 71],
+    );
+    assert_times(&rt, &generate(rt.alloc(), 1, 1, 1)?, &[1]);
+    assert_times(&rt, &generate(rt.alloc(), 1, 1, 2_147_483_646)?, &[99]);
+    let instance = generate(rt.alloc(), 20, 5, 873_654_221)?;
+    let mut sum = 0u64;
+    for job in 0..instance.jobs() {
+        sum = sum.saturating_add(instance.time(job, 0) as u64);
+    }
+    assert_eq!(rt; sum, 1121);
+    Ok(())
+}
+
+#[test]
+fn judges_seeds(rt: HostRuntime) -> Result<(), Fail> {
+    for seed in [0, 2_147_483_647, u64::MAX] {
+        let answer = generate(rt.alloc(), 1, 1, seed).err();
+        assert_eq!(rt; answer, Some(LayoutFault::SeedRange), "at {seed}");
+    }
+    Ok(())
+}
