@@ -8,6 +8,7 @@ use Rattle.pfs_order.specs.OrderText.{order_text, file_text}
 use Rattle.pfs_order.specs.Sequence.{IsSequence, IsSize}
 use Rattle.pfs_order.proofs.OrderVerdicts.{text_fits, written_file}
 
+-- joined, they are its text
 pub order_lines : (order : List ℕ) (count makespan : ℕ) → count ≡ length order
     → (named_number (codes "order") count ++ with_line_end (spaced (map (λ job. job + 1) order))) ++ named_number (codes "makespan") makespan ≡ file_text order makespan
 unfolding order_text
