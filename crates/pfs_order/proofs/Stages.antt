@@ -68,7 +68,7 @@ count_fault text at fault h e f = syntax_behind (IsNumeral 1 MOST_JOBS 10) text 
 
 -- Behind the count and some jobs, but not all, stands a job.
 
-counted-append : (n : ℕ) (rest more : List ℕ) → counted n rest ++ more ≡ counted n (rest ++ more)
+pub counted-append : (n : ℕ) (rest more : List ℕ) → counted n rest ++ more ≡ counted n (rest ++ more)
 counted-append n rest more = ap (λ xs. codes "order " ++ xs) (append_assoc (decimal n) (10 ∷ rest) more)
 
 -- what is read where some of the jobs were
@@ -171,7 +171,7 @@ end_fault count done text at fault h last within e f =
 
 -- Behind the line of the jobs stands the last line.
 
-line-append : (count : ℕ) (jobs rest more : List ℕ) → counted count (spaced jobs ++ 10 ∷ rest) ++ more ≡ counted count (spaced jobs ++ 10 ∷ (rest ++ more))
+pub line-append : (count : ℕ) (jobs rest more : List ℕ) → counted count (spaced jobs ++ 10 ∷ rest) ++ more ≡ counted count (spaced jobs ++ 10 ∷ (rest ++ more))
 line-append count jobs rest more = counted-append count (spaced jobs ++ 10 ∷ rest) more ∙ ap (counted count) (append_assoc (spaced jobs) (10 ∷ rest) more)
 
 -- what stands behind the jobs in a text

@@ -6,7 +6,7 @@ use Rattle.pfs_order.specs.OrderFile.{IsFaultOf, CanBeCompleted}
 use Rattle.pfs_order.specs.Pieces.{Begins, IsWord, IsPieceFault}
 use Rattle.pfs_order.proofs.Faults.{fault_here}
 
-word_fault : (front more after : List ℕ) (c : ℕ) → ((b : ℕ) (bs : List ℕ) → after ≡ b ∷ bs → b ≢ c)
+pub word_fault : (front more after : List ℕ) (c : ℕ) → ((b : ℕ) (bs : List ℕ) → after ≡ b ∷ bs → b ≢ c)
     → IsFaultOf (Begins (IsWord (front ++ c ∷ more))) (front ++ after) (length front)
 word_fault front more after c other = fault_here (Begins (IsWord (front ++ c ∷ more))) front after done (λ _. unended) stuck
   where

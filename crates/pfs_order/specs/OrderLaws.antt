@@ -1,5 +1,5 @@
 -- Laws of order files and of how other inputs are refused.
-use Rattle.std.specs.Prelude.{◌≡◌, ℕ, ◌<◌, ◌≤◌, ◌^◌, List, ◌∷◌, ◌++◌, length, take}
+use Rattle.std.specs.Prelude.{◌≡◌, ℕ, ◌<◌, ◌≤◌, ◌^◌, List, ◌∷◌, ◌++◌, length, take, ◌⊎◌}
 use Rattle.pfs_base.specs.Limits.{limits}
 use Rattle.pfs_base.specs.declared.limits.TheConstants.{LONGEST_ORDER_FILE}
 use Rattle.pfs_order.specs.declared.fault.OrderFault.{OrderFault}
@@ -39,3 +39,11 @@ CutText = (text : List ℕ) (cut : ℕ) → IsText text → cut < length text �
 -- a text of the grammar with more behind it is refused where it ended
 abbrev pub LongerText : Type 0
 LongerText = (text : List ℕ) (byte : ℕ) (more : List ℕ) → IsText text → IsSyntaxFault (text ++ byte ∷ more) (length text)
+
+-- each input is a text of the grammar or has a fault of syntax
+abbrev pub TextOrFault : Type 0
+TextOrFault = (input : List ℕ) → IsText input ⊎ ((offset : ℕ) × IsSyntaxFault input offset)
+
+-- each input is an order file or is refused; by the laws above, in one way
+abbrev pub SomeVerdict : Type 0
+SomeVerdict = (input : List ℕ) → ((file : StatedOrder) × IsOrderFile input file) ⊎ ((fault : OrderFault) × RefusesOrder input fault)

@@ -1,5 +1,5 @@
 //! Laws about the definitions alone.
-ghost use Rattle.pfs_order.specs.OrderLaws.{WrittenIsRead, OnlyWritten, OneOrderFile, OneRefusal, NoneIsBoth, TextsFit, CutText, LongerText};
+ghost use Rattle.pfs_order.specs.OrderLaws.{WrittenIsRead, OnlyWritten, OneOrderFile, OneRefusal, NoneIsBoth, TextsFit, CutText, LongerText, TextOrFault, SomeVerdict};
 
 /// What is written of an order and a makespan is their order file.
 pub fn written_is_read()
@@ -39,4 +39,14 @@ pub fn cut_text()
 /// A text of the grammar with more behind it is refused where it ended.
 pub fn longer_text()
     ensures { LongerText }
+{}
+
+/// Each input is a text of the grammar or has an offset from which on it can't be one.
+pub fn text_or_fault()
+    ensures { TextOrFault }
+{}
+
+/// Each input is an order file or is refused, and so, by the laws above, in exactly one way.
+pub fn some_verdict()
+    ensures { SomeVerdict }
 {}

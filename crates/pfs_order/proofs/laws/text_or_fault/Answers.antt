@@ -1,0 +1,5 @@
+use Rattle.pfs_order.proofs.SomeVerdict.{text_or_fault}
+use Rattle.pfs_order.proofs.laws.text_or_fault.Goals as goal
+
+pub returns : goal.returns
+returns c = text_or_fault
