@@ -4,6 +4,8 @@
 
 #[cfg(test)]
 mod base;
+#[cfg(test)]
+mod engines;
 pub mod fakes;
 #[cfg(test)]
 mod writers;

@@ -1,0 +1,234 @@
+//! Runs the call that its first word names, on a worked example, and prints the answer, or `memory` where a
+//! growth was refused. `tests/run` runs each call with each growth of memory refused in turn.
+#![tactic(auto)]
+
+ghost use Rattle.std.specs.Prelude.{◌≡◌, IfOk};
+
+use pfs_audit::{AuditFault, Verdict, check, makespan, table};
+use pfs_base::{BaseFault, Bench, FromRead, Instance, Notes, ToWrite};
+use pfs_desk::{DeskFault, run_check, run_table};
+use pfs_layout::{Layout, LayoutFault, generate};
+use pfs_order::{Order, OrderFault, OrderFile, Seq, read_order};
+use std::alloc::{AllocError, Global};
+use std::{env, io};
+
+const FILE: &[u8] = b"title :\n3 2 0 0 0\nprocessing times :\n3 2 4\n2 5 1\n";
+
+const ORDER: &[u8] = b"order 3\n2 1 3\nmakespan 10\n";
+
+/// Why a call did not answer.
+#[derive(Drop)]
+enum Stop {
+    /// A growth of memory was refused.
+    Memory,
+    /// The call answered something that no growth of memory explains.
+    Other,
+}
+
+impl From<AllocError> for Stop {
+    fn from(_fault: AllocError) -> Stop {
+        Stop::Memory
+    }
+}
+
+impl From<BaseFault> for Stop {
+    fn from(fault: BaseFault) -> Stop {
+        match fault {
+            BaseFault::Memory => Stop::Memory,
+            BaseFault::Size => Stop::Other,
+        }
+    }
+}
+
+impl From<OrderFault> for Stop {
+    fn from(fault: OrderFault) -> Stop {
+        match fault {
+            OrderFault::Memory => Stop::Memory,
+            _ => Stop::Other,
+        }
+    }
+}
+
+impl From<LayoutFault> for Stop {
+    fn from(fault: LayoutFault) -> Stop {
+        match fault {
+            LayoutFault::Memory => Stop::Memory,
+            _ => Stop::Other,
+        }
+    }
+}
+
+impl From<AuditFault> for Stop {
+    fn from(fault: AuditFault) -> Stop {
+        match fault {
+            AuditFault::Memory => Stop::Memory,
+        }
+    }
+}
+
+impl From<DeskFault> for Stop {
+    fn from(fault: DeskFault) -> Stop {
+        match fault {
+            DeskFault::Memory | DeskFault::Order(OrderFault::Memory) => Stop::Memory,
+            _ => Stop::Other,
+        }
+    }
+}
+
+impl From<io::Error> for Stop {
+    fn from(_fault: io::Error) -> Stop {
+        Stop::Other
+    }
+}
+
+fn main(rt: HostRuntime) -> io::Result<()> {
+    let answer = match name_of(&rt) {
+        Ok(name) => answer_of(&rt, name.as_str()),
+        Err(stop) => Err(stop),
+    };
+    match answer {
+        Ok(()) => Ok(()),
+        Err(Stop::Memory) => println!(rt; "memory"),
+        Err(Stop::Other) => println!(rt; "another fault"),
+    }
+}
+
+// The first word.
+fn name_of(rt: &HostRuntime) -> Result<String, Stop> {
+    let Ok(words) = env::args(rt) else {
+        return Err(Stop::Memory);
+    };
+    let mut words = words.skip(1);
+    words.next().ok_or(Stop::Other)
+}
+
+fn answer_of(rt: &HostRuntime, name: &str) -> Result<(), Stop> {
+    match name {
+        "instance" => instance_call(rt),
+        "generate" => generate_call(rt),
+        "seq" => seq_call(rt),
+        "identity" => identity_call(rt),
+        "read_order" => read_order_call(rt),
+        "makespan" => makespan_call(rt),
+        "table" => table_call(rt),
+        "check" => check_call(rt),
+        "run_check" => run_check_call(rt),
+        "run_table" => run_table_call(rt),
+        _ => Err(Stop::Other),
+    }
+}
+
+// Three jobs on two machines.
+fn three_jobs(alloc: Global) -> Result<Instance, Stop>
+    ensures { IfOk result (λ made. (made.shop.jobs ≡ 3) × (made.shop.machines ≡ 2)) }
+{
+    let notes = Notes {
+        seed: 0,
+        upper: 0,
+        lower: 0,
+    };
+    let mut instance = Instance::new(alloc, 3, 2, notes)?;
+    instance.set(0, 0, 3);
+    instance.set(0, 1, 2);
+    instance.set(1, 0, 2);
+    instance.set(1, 1, 5);
+    instance.set(2, 0, 4);
+    instance.set(2, 1, 1);
+    Ok(instance)
+}
+
+fn read_the_order(alloc: Global) -> Result<OrderFile, Stop> {
+    Ok(read_order(alloc, &mut FromRead::new(ORDER))?)
+}
+
+fn instance_call(rt: &HostRuntime) -> Result<(), Stop> {
+    let instance = three_jobs(rt.alloc())?;
+    println!(rt;
+        "{} jobs, {} machines",
+        instance.jobs(),
+        instance.machines()
+    )?;
+    Ok(())
+}
+
+fn generate_call(rt: &HostRuntime) -> Result<(), Stop> {
+    let instance = generate(rt.alloc(), 1, 1, 2147483646)?;
+    println!(rt; "seed {}", instance.notes().seed)?;
+    Ok(())
+}
+
+fn seq_call(rt: &HostRuntime) -> Result<(), Stop> {
+    let mut seq = Seq::new(rt.alloc(), 3)?;
+    seq.insert_at(0, 2);
+    println!(rt; "{} of {}", seq.len(), seq.size())?;
+    Ok(())
+}
+
+fn identity_call(rt: &HostRuntime) -> Result<(), Stop> {
+    let order = Order::identity(rt.alloc(), 3)?;
+    println!(rt; "{} jobs", order.len())?;
+    Ok(())
+}
+
+fn read_order_call(rt: &HostRuntime) -> Result<(), Stop> {
+    let file = read_the_order(rt.alloc())?;
+    println!(rt; "{} jobs, makespan {}", file.order().len(), file.makespan())?;
+    Ok(())
+}
+
+fn makespan_call(rt: &HostRuntime) -> Result<(), Stop> {
+    let instance = three_jobs(rt.alloc())?;
+    let order = Order::identity(rt.alloc(), instance.jobs())?;
+    let mut bench = instance.metered();
+    let span = makespan(rt.alloc(), &mut bench, order.seq())?;
+    println!(rt; "makespan {}, {} cells", bench.reveal(span), bench.cells())?;
+    Ok(())
+}
+
+fn table_call(rt: &HostRuntime) -> Result<(), Stop> {
+    let instance = three_jobs(rt.alloc())?;
+    let order = Order::identity(rt.alloc(), instance.jobs())?;
+    let table = table(rt.alloc(), &instance, &order)?;
+    println!(rt; "{} rows, makespan {}", table.rows(), table.makespan())?;
+    Ok(())
+}
+
+fn check_call(rt: &HostRuntime) -> Result<(), Stop> {
+    let instance = three_jobs(rt.alloc())?;
+    let file = read_the_order(rt.alloc())?;
+    match check(rt.alloc(), &instance, &file)? {
+        Verdict::Valid { makespan, bound } => println!(rt; "valid {makespan} {bound}")?,
+        Verdict::WrongSize { .. } | Verdict::WrongMakespan { .. } => println!(rt; "wrong")?,
+    }
+    Ok(())
+}
+
+fn run_check_call(rt: &HostRuntime) -> Result<(), Stop> {
+    let mut reader = FromRead::new(FILE);
+    let mut orders = FromRead::new(ORDER);
+    let mut writer = ToWrite::new(io::writer(rt));
+    run_check(
+        rt.alloc(),
+        &mut reader,
+        Layout::Taillard,
+        1,
+        &mut orders,
+        &mut writer,
+    )?;
+    Ok(())
+}
+
+fn run_table_call(rt: &HostRuntime) -> Result<(), Stop> {
+    let mut reader = FromRead::new(FILE);
+    let mut orders = FromRead::new(ORDER);
+    let mut writer = ToWrite::new(io::writer(rt));
+    run_table(
+        rt.alloc(),
+        &mut reader,
+        Layout::Taillard,
+        1,
+        &mut orders,
+        &mut writer,
+    )?;
+    Ok(())
+}

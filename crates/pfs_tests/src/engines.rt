@@ -1,0 +1,254 @@
+//! What the commands read, print and answer, on the three-job instance and its variants.
+use crate::fakes::{Pieces, Taken};
+use pfs_base::{Sink, WriteFault};
+use pfs_desk::{DeskFault, Outcome, run_check, run_table, run_value, status};
+use pfs_layout::Layout;
+use pfs_order::OrderFault;
+use std::alloc::Global;
+use std::process::Abort;
+
+const TITLE: &[u8] =
+    b"number of jobs, number of machines, initial seed, upper bound and lower bound :\n";
+
+const THREE_JOBS: &[u8] =
+    b"number of jobs, number of machines, initial seed, upper bound and lower bound :\n3 2 0 0 0\nprocessing times :\n3 2 4\n2 5 1\n";
+
+const GOOD_ORDER: &[u8] = b"order 3\n2 1 3\nmakespan 10\n";
+
+/// Checks what `value` answers and prints for block 1 of a file in Taillard's layout.
+fn assert_value(
+    rt: &impl Abort,
+    alloc: Global,
+    file: &[u8],
+    answer: Result<Outcome, DeskFault>,
+    text: &[u8],
+) {
+    let mut writer = Taken::new(256, 256);
+    let result = run_value(
+        alloc,
+        &mut Pieces::whole(file),
+        Layout::Taillard,
+        1,
+        &mut writer,
+    );
+    assert_eq!(rt; result, answer);
+    assert_eq!(rt; writer.bytes(), text);
+}
+
+#[test]
+fn value_prints_the_makespan(rt: HostRuntime) {
+    let done = Ok(Outcome::Done);
+    assert_value(&rt, rt.alloc(), THREE_JOBS, done, b"makespan 11\n");
+    assert_value(&rt, rt.alloc(), b"1 1 0 0 0\n0\n", done, b"makespan 0\n");
+}
+
+#[test]
+fn value_accepts_every_spelling(rt: HostRuntime) {
+    let files: [&[u8]; 6] = [
+        b"jobs 5x :\n3 2 0 0 0\nprocessing times :\n3 2 4\n2 5 1\n",
+        b"title :\r\n3 2 0 0 0\r\nprocessing times :\r\n3 2 4\r\n2 5 1\r\n",
+        b"title :\n3 2 0 0 0\nprocessing times :\n3 2 4\n2 5 1",
+        b"title :\n3 2 0 0 0\nprocessing times :\n3 2\n4\n2 5 1\n",
+        b"title :\n03 2 0 0 0\nprocessing times :\n03 2 4\n2 5 1\n",
+        b"title :\n3 2 0 0 0\n3 2 4\n2 5 1\ntitle :\n3 2 0 0 0\nprocessing times :\n3 2 4\n2 5 1\n",
+    ];
+    for file in files {
+        assert_value(&rt, rt.alloc(), file, Ok(Outcome::Done), b"makespan 11\n");
+    }
+}
+
+#[test]
+fn value_reads_a_byte_a_call(rt: HostRuntime) {
+    let mut reader = Pieces::new(THREE_JOBS, 1, None);
+    let mut writer = Taken::new(256, 1);
+    let result = run_value(rt.alloc(), &mut reader, Layout::Taillard, 1, &mut writer);
+    assert_eq!(rt; result, Ok(Outcome::Done));
+    assert_eq!(rt; writer.bytes(), b"makespan 11\n".as_slice());
+}
+
+#[test]
+fn refused_files_have_status_2_and_print_nothing(rt: HostRuntime) {
+    let files: [&[u8]; 8] = [
+        b"",
+        TITLE,
+        b"3 2 0 0 0\nprocessing times :\n3 2 4\n2 5x 1\n",
+        b"3 2 0 0 0\nprocessing times :\n3 2 4\nx 2 5 1\n",
+        b"3 2 0 0 0\nprocessing times :\n3 2 4\n2 5 1 7\n",
+        b"3 2 0 0 0\nprocessing times :\n3 2 4\n2 5",
+        b"3 2 0 0 0\nprocessing times :\n3 2 4\n2 5 1000001\n",
+        b"3 2\n3 2 4\n2 5 1\n",
+    ];
+    for file in files {
+        let mut writer = Taken::new(256, 256);
+        let result = run_value(
+            rt.alloc(),
+            &mut Pieces::whole(file),
+            Layout::Taillard,
+            1,
+            &mut writer,
+        );
+        assert_eq!(rt; result.as_ref().err().map(status), Some(2));
+        assert_eq!(rt; writer.bytes(), b"".as_slice());
+    }
+}
+
+#[test]
+fn a_failed_read_has_status_4_and_prints_nothing(rt: HostRuntime) {
+    for call in 1..8 {
+        let mut reader = Pieces::new(THREE_JOBS, 16, Some(call));
+        let mut writer = Taken::new(256, 256);
+        let result = run_value(rt.alloc(), &mut reader, Layout::Taillard, 1, &mut writer);
+        assert_eq!(rt; result.as_ref().err().map(status), Some(4), "call {call}");
+        assert_eq!(rt; writer.bytes(), b"".as_slice());
+    }
+}
+
+#[test]
+fn a_failed_write_says_how_many_bytes_went_out(rt: HostRuntime) {
+    let text = b"makespan 11\n";
+    for room in 0..text.len() {
+        let mut writer = Taken::new(room, 3);
+        let mut reader = Pieces::whole(THREE_JOBS);
+        let result = run_value(rt.alloc(), &mut reader, Layout::Taillard, 1, &mut writer);
+        let fault = WriteFault {
+            written: room as u64,
+        };
+        assert_eq!(rt; result, Err(DeskFault::Write(fault)));
+        assert_eq!(rt; writer.bytes(), &text[..room]);
+        assert!(rt; writer.failed());
+    }
+}
+
+#[test]
+fn value_reads_the_wanted_block_of_the_other_layout(rt: HostRuntime) {
+    let file =
+        b"+++\ninstance one 1\n+++\nfirst\n1 1\n0 7\n+++\nsecond\n3 2\n0 3 1 2\n0 2 1 5\n0 4 1 1\n+++\n";
+    for (block, text) in [(1, b"makespan 7\n".as_slice()), (2, b"makespan 11\n")] {
+        let mut writer = Taken::new(256, 256);
+        let mut reader = Pieces::new(file, 7, None);
+        let result = run_value(rt.alloc(), &mut reader, Layout::OrLib, block, &mut writer);
+        assert_eq!(rt; result, Ok(Outcome::Done));
+        assert_eq!(rt; writer.bytes(), text);
+    }
+}
+
+/// Checks what `check` answers and prints for an order file of the three-job instance.
+fn assert_check(
+    rt: &impl Abort,
+    alloc: Global,
+    order: &[u8],
+    answer: Result<Outcome, DeskFault>,
+    text: &[u8],
+) {
+    let mut writer = Taken::new(256, 256);
+    let mut reader = Pieces::whole(THREE_JOBS);
+    let mut orders = Pieces::whole(order);
+    let result = run_check(
+        alloc,
+        &mut reader,
+        Layout::Taillard,
+        1,
+        &mut orders,
+        &mut writer,
+    );
+    assert_eq!(rt; result, answer);
+    assert_eq!(rt; writer.bytes(), text);
+}
+
+#[test]
+fn check_prints_its_verdict(rt: HostRuntime) {
+    let done = Ok(Outcome::Done);
+    let failed = Ok(Outcome::CheckFailed);
+    let alloc = rt.alloc();
+    assert_check(
+        &rt,
+        alloc,
+        GOOD_ORDER,
+        done,
+        b"valid\nmakespan 10\nbound 10\noptimal\n",
+    );
+    assert_check(
+        &rt,
+        alloc,
+        b"order 3\n1 2 3\nmakespan 11\n",
+        done,
+        b"valid\nmakespan 11\nbound 10\n",
+    );
+    assert_check(
+        &rt,
+        alloc,
+        b"order 3\n2 1 3\nmakespan 9\n",
+        failed,
+        b"wrong makespan\nstated 9\ncomputed 10\n",
+    );
+    assert_check(
+        &rt,
+        alloc,
+        b"order 2\n1 2\nmakespan 9\n",
+        failed,
+        b"wrong size\norder 2\njobs 3\n",
+    );
+    let syntax = OrderFault::Syntax { offset: 6 };
+    assert_check(
+        &rt,
+        alloc,
+        b"order 03\n",
+        Err(DeskFault::Order(syntax)),
+        b"",
+    );
+}
+
+#[test]
+fn table_prints_when_each_operation_starts_and_ends(rt: HostRuntime) {
+    let text = b"table 3 2\n2 0 2 2 7\n1 2 5 7 9\n3 5 9 9 10\nmakespan 10\n";
+    let wrong = b"wrong size\norder 2\njobs 3\n";
+    let orders: [(&[u8], Outcome, &[u8]); 3] = [
+        (GOOD_ORDER, Outcome::Done, text),
+        (b"order 3\n2 1 3\nmakespan 9\n", Outcome::Done, text),
+        (b"order 2\n1 2\nmakespan 9\n", Outcome::CheckFailed, wrong),
+    ];
+    for (order, outcome, printed) in orders {
+        let mut writer = Taken::new(256, 5);
+        let mut reader = Pieces::whole(THREE_JOBS);
+        let mut orders = Pieces::new(order, 2, None);
+        let result = run_table(
+            rt.alloc(),
+            &mut reader,
+            Layout::Taillard,
+            1,
+            &mut orders,
+            &mut writer,
+        );
+        assert_eq!(rt; result, Ok(outcome));
+        assert_eq!(rt; writer.bytes(), printed);
+    }
+}
+
+#[test]
+fn the_instance_file_is_judged_before_the_order_file(rt: HostRuntime) {
+    let mut writer = Taken::new(256, 256);
+    let mut reader = Pieces::new(THREE_JOBS, 256, Some(1));
+    let mut orders = Pieces::new(GOOD_ORDER, 256, Some(1));
+    let result = run_check(
+        rt.alloc(),
+        &mut reader,
+        Layout::Taillard,
+        1,
+        &mut orders,
+        &mut writer,
+    );
+    assert_eq!(rt; result.as_ref().err().map(status), Some(4));
+    assert!(rt; result != Err(DeskFault::Order(OrderFault::Read)));
+    let mut reader = Pieces::whole(THREE_JOBS);
+    let mut orders = Pieces::new(GOOD_ORDER, 26, Some(2));
+    let result = run_check(
+        rt.alloc(),
+        &mut reader,
+        Layout::Taillard,
+        1,
+        &mut orders,
+        &mut writer,
+    );
+    assert_eq!(rt; result, Err(DeskFault::Order(OrderFault::Read)));
+    assert_eq!(rt; writer.bytes(), b"".as_slice());
+}
