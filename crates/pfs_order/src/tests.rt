@@ -61,7 +61,7 @@ fn seq_of(rt: &impl Abort, alloc: Global, size: usize, jobs: &[usize]) -> Result
     Ok(seq)
 }
 
-// Whether the sequence has these jobs in order.
+// Asserts that the sequence has these jobs in order.
 fn assert_jobs(rt: &impl Abort, seq: &Seq, jobs: &[usize]) {
     assert_eq!(rt; seq.len(), jobs.len());
     for place in 0..seq.len() {

@@ -1,40 +1,30 @@
-use Rattle.std.proofs.Common.{rules, ◌+◌, ℕ, take, drop, decimal, List, [], ◌∷◌, ◌++◌, get_or, arith, sym, ◌∙◌, append_assoc}
-use Rattle.pfs_base.specs.Text.{spaced}
-use Rattle.pfs_base.proofs.SendsLemmas.{then_all, then_front, front_of}
-use Rattle.pfs_order.proofs.SpacedLemmas.{numbers, behind, spaced_more, line_from}
+use Rattle.std.proofs.Common.{rules, ◌+◌, ◌≡◌, ◌<◌, ℕ, List, length, map, take, get_or, arith, sym, ◌∙◌, ap}
+use Rattle.std.proofs.lemmas.List.{length-map, get_or-map}
+use Rattle.pfs_base.specs.Text.{spaced, entry, with_line_end}
+use Rattle.pfs_base.proofs.SendsOn.{GoesOn, goes_on-fits, goes_on-more, goes_on-stopped}
+use Rattle.pfs_base.proofs.Printing.{line_on}
 use Rattle.pfs_order.proofs.writing.put_jobs.Goals as goal
 
-pub returns-in_err-sent-2-clause-text : goal.returns-in_err-sent-2-clause-text
-returns-in_err-sent-2-clause-text g c =
-    let jobs = c.args.order.now in
-    let place = c.loop-place.place in
-    let number = decimal (get_or jobs place 0 + 1) in
-    let rest : List ℕ = behind (numbers (drop (place + 1) jobs)) ++ 10 ∷ [] in
-    let so_far : List ℕ = spaced (numbers (take place jobs)) ++ 32 ∷ [] in
-    let whole = sym (append_assoc so_far number rest) ∙ line_from jobs place c.loop-place.auto.place (omega (arith, c.loop-place-test.true, c.len-count.ensures.value)) in
-    let space = then_front c.loop-place.invariant.text c.in_err-sent-2.ensures in
-    let front = front_of (number ++ rest) space in
-    let told = rw whole at front in
-    search rules
+-- the line of the jobs goes on with the number of the job at a place
+job_on : (jobs : List ℕ) (place job : ℕ) → place < length jobs → job ≡ get_or jobs place 0
+    → GoesOn (with_line_end (spaced (map (λ j. j + 1) jobs))) (spaced (take place (map (λ j. j + 1) jobs))) (entry place (job + 1)) (spaced (take (place + 1) (map (λ j. j + 1) jobs)))
+job_on jobs place job less is =
+    let number : get_or (map (λ j. j + 1) jobs) place 0 ≡ job + 1 = get_or-map (λ j. j + 1) jobs place 0 0 less ∙ ap (λ j. j + 1) (sym is) in
+    let on = line_on (map (λ j. j + 1) jobs) place (omega (arith, length-map jobs (λ j. j + 1))) in
+    rw number at on
 
-pub returns-in_err-sent-3-clause-text : goal.returns-in_err-sent-3-clause-text
-returns-in_err-sent-3-clause-text g c =
-    let jobs = c.args.order.now in
-    let place = c.loop-place.place in
-    let rest : List ℕ = behind (numbers (drop (place + 1) jobs)) ++ 10 ∷ [] in
-    let whole = line_from jobs place c.loop-place.auto.place (omega (arith, c.loop-place-test.true, c.len-count.ensures.value)) in
-    let number = then_front (then_all c.loop-place.invariant.text c.in_ok-sent-2.ensures) c.in_err-sent-3.ensures.text in
-    let front_of_line = rw c.at-in-loop-place.ensures.value at number in
-    let front = front_of rest front_of_line in
-    let told = rw whole at front in
+pub put_entry-requires-clause-fits : goal.put_entry-requires-clause-fits
+put_entry-requires-clause-fits g c =
+    let on = job_on c.args.order.now c.loop-place.place c.at.result (omega (arith, c.loop-place-test.true, c.len-place-end.ensures.value)) c.at.ensures.value in
+    goes_on-fits _ _ _ c.args.sent c.loop-place.reached _ _ _ _ on c.loop-place.invariant c.requires.fits
+
+pub returns-in_err-reached : goal.returns-in_err-reached
+returns-in_err-reached g c =
+    let on = job_on c.args.order.now c.loop-place.place c.at.result (omega (arith, c.loop-place-test.true, c.len-place-end.ensures.value)) c.at.ensures.value in
+    let front = goes_on-stopped _ _ _ _ _ c.args.sent c.loop-place.reached _ _ _ _ _ on c.loop-place.invariant c.in_err-reached.ensures in
     search rules
 
 pub loop-place-preserved : goal.loop-place-preserved
 loop-place-preserved g c =
-    let jobs = c.args.order.now in
-    let place = c.loop-place.place in
-    let number = then_all (then_all c.loop-place.invariant.text c.in_ok-sent-2.ensures) c.in_ok-sent-3.ensures.text in
-    record {
-      text = rw (spaced_more jobs place c.loop-place.auto.place (omega (arith, c.loop-place-test.true, c.len-count.ensures.value))) (rw c.at-in-loop-place.ensures.value at number);
-      short = omega (arith, c.in_ok-sent-3.ensures.short, c.in_ok-sent-2.ensures.counted, c.loop-place.invariant.short);
-    }
+    let on = job_on c.args.order.now c.loop-place.place c.at.result (omega (arith, c.loop-place-test.true, c.len-place-end.ensures.value)) c.at.ensures.value in
+    goes_on-more _ _ _ _ _ c.args.sent c.loop-place.reached _ _ _ _ _ on c.loop-place.invariant c.in_ok-reached.ensures
