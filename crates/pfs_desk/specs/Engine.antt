@@ -1,11 +1,14 @@
 -- What an engine answers and writes. Bytes are those that a reader has left, where they are told.
-use Rattle.std.specs.Prelude.{⊤, ◌≡◌, ℕ, Bool, false, List, Option, Result, Ok, Err, IfSome}
+use Rattle.std.specs.Prelude.{⊤, ◌≡◌, ◌≢◌, ℕ, Bool, false, List, Option, Result, Ok, Err, IfSome}
 use Rattle.std.specs.Io.KnownBytes.{Appends}
 use Rattle.pfs_base.specs.Limits.{limits}
 use Rattle.pfs_base.specs.Problem.{Problem}
 use Rattle.pfs_base.specs.Sends.{SendsFront}
 use Rattle.pfs_layout.specs.declared.layout.Layout.{Layout}
+use Rattle.pfs_layout.specs.declared.fault.LayoutFault.{LayoutFault}
+use Rattle.pfs_layout.specs.declared.fault.LayoutFault.TheVariants as layout_faults
 use Rattle.pfs_layout.specs.File.{File}
+use Rattle.pfs_layout.specs.Refuse.{Refuse}
 use Rattle.pfs_order.specs.Sequence.{StatedOrder}
 use Rattle.pfs_order.specs.OrderFile.{IsOrderFile, RefusesUnlessFailed}
 use Rattle.pfs_order.specs.declared.fault.OrderFault.{OrderFault}
@@ -14,15 +17,21 @@ use Rattle.pfs_desk.specs.declared.fault.Outcome.{Outcome}
 use Rattle.pfs_desk.specs.declared.fault.Outcome.TheVariants.{Done}
 use Rattle.pfs_desk.specs.declared.fault.DeskFault.{DeskFault}
 use Rattle.pfs_desk.specs.declared.fault.DeskFault.TheVariants.{Order, Write}
+use Rattle.pfs_desk.specs.declared.fault.DeskFault.TheVariants as faults
 use Rattle.pfs_desk.specs.OutputText.{value_text, verdict_text, outcome_of, TablePrints}
 
 -- a block of an instance file holds this problem
 abbrev pub Holds : Layout → Option (List ℕ) → ℕ → Problem → Type 0
 Holds layout file block problem = IfSome file (λ bytes. File limits layout bytes block problem)
 
--- a block of an instance file holds no problem
-abbrev pub HoldsNone : Layout → Option (List ℕ) → ℕ → Type 0
-HoldsNone layout file block = IfSome file (λ bytes. (problem : Problem) → ¬ File limits layout bytes block problem)
+-- an instance file has this fault in front of the end of the block, unless its reading failed or wanted memory
+abbrev pub RefusesFirst : Layout → Option (List ℕ) → ℕ → LayoutFault → Type 0
+RefusesFirst layout file block fault = fault ≢ layout_faults.Read → fault ≢ layout_faults.Memory → IfSome file (λ bytes. Refuse layout bytes block fault)
+
+-- the instance file is judged first
+abbrev pub JudgesFirst : Layout → Option (List ℕ) → ℕ → DeskFault → Type 0
+JudgesFirst layout file block (faults.Layout fault) = RefusesFirst layout file block fault
+JudgesFirst layout file block others = ⊤
 
 -- an order file states this order and this makespan
 abbrev pub States : Option (List ℕ) → StatedOrder → Type 0

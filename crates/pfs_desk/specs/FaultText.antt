@@ -2,10 +2,27 @@
 use Rattle.std.specs.Prelude.{ℕ, List, codes}
 use Rattle.pfs_base.specs.declared.device.WriteFault.{WriteFault}
 use Rattle.pfs_base.specs.Text.{with_line_end, named_number, number_between}
+use Rattle.pfs_layout.specs.declared.fault.LayoutFault.{LayoutFault}
+use Rattle.pfs_layout.specs.declared.fault.LayoutFault.TheVariants as layout
 use Rattle.pfs_order.specs.declared.fault.OrderFault.{OrderFault}
 use Rattle.pfs_order.specs.declared.fault.OrderFault.TheVariants as order
 use Rattle.pfs_desk.specs.declared.fault.DeskFault.{DeskFault}
-use Rattle.pfs_desk.specs.declared.fault.DeskFault.TheVariants.{Refused, Read, Order, Write, Memory}
+use Rattle.pfs_desk.specs.declared.fault.DeskFault.TheVariants.{Layout, Order, Write, Memory}
+
+-- offsets count from 0, and lines from 1
+abbrev pub layout_fault_text : LayoutFault → List ℕ
+layout_fault_text (layout.NoBlock found) = named_number (codes "pfs: no block, found") found
+layout_fault_text (layout.SizeCount line) = number_between (codes "pfs: size line ") line (codes " has a wrong count")
+layout_fault_text (layout.SizeRange line) = number_between (codes "pfs: size line ") line (codes " is out of range")
+layout_fault_text (layout.MixedLine offset) = named_number (codes "pfs: mixed line at") offset
+layout_fault_text (layout.TimeRange offset) = named_number (codes "pfs: time out of range at") offset
+layout_fault_text (layout.MachineNumber offset) = named_number (codes "pfs: wrong machine number at") offset
+layout_fault_text (layout.ExtraNumber offset) = named_number (codes "pfs: extra number at") offset
+layout_fault_text (layout.Truncated have) = number_between (codes "pfs: truncated after ") have (codes " times")
+layout_fault_text layout.TooLong = with_line_end (codes "pfs: input too long")
+layout_fault_text layout.SeedRange = with_line_end (codes "pfs: seed out of range")
+layout_fault_text layout.Read = with_line_end (codes "pfs: read failed")
+layout_fault_text layout.Memory = with_line_end (codes "pfs: no memory")
 
 -- offsets count from 0, and places from 1
 abbrev pub order_fault_text : OrderFault → List ℕ
@@ -17,11 +34,24 @@ order_fault_text order.Read = with_line_end (codes "pfs: order file read failed"
 order_fault_text order.Memory = with_line_end (codes "pfs: no memory")
 
 abbrev pub fault_text : DeskFault → List ℕ
-fault_text Refused = with_line_end (codes "pfs: input refused")
-fault_text Read = with_line_end (codes "pfs: read failed")
+fault_text (Layout fault) = layout_fault_text fault
 fault_text (Order fault) = order_fault_text fault
 fault_text (Write fault) = number_between (codes "pfs: write failed after ") fault.written (codes " bytes")
 fault_text Memory = with_line_end (codes "pfs: no memory")
+
+abbrev pub layout_status_of : LayoutFault → ℕ
+layout_status_of (layout.NoBlock found) = 2
+layout_status_of (layout.SizeCount line) = 2
+layout_status_of (layout.SizeRange line) = 2
+layout_status_of (layout.MixedLine offset) = 2
+layout_status_of (layout.TimeRange offset) = 2
+layout_status_of (layout.MachineNumber offset) = 2
+layout_status_of (layout.ExtraNumber offset) = 2
+layout_status_of (layout.Truncated have) = 2
+layout_status_of layout.TooLong = 2
+layout_status_of layout.SeedRange = 2
+layout_status_of layout.Read = 4
+layout_status_of layout.Memory = 4
 
 abbrev pub order_status_of : OrderFault → ℕ
 order_status_of (order.Syntax offset) = 2
@@ -33,8 +63,7 @@ order_status_of order.Memory = 4
 
 -- 2 where a file is refused, and 4 where a read, a write or memory failed
 abbrev pub status_of : DeskFault → ℕ
-status_of Refused = 2
-status_of Read = 4
+status_of (Layout fault) = layout_status_of fault
 status_of (Order fault) = order_status_of fault
 status_of (Write fault) = 4
 status_of Memory = 4

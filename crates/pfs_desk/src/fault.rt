@@ -1,14 +1,14 @@
 //! How a command ends: its outcome, or the fault that it tells, in one line and by its exit status.
-ghost use Rattle.std.specs.Prelude.{◌≡◌, false};
+ghost use Rattle.std.specs.Prelude.{◌≡◌, ◌<◌, false, length, codes};
 ghost use Rattle.pfs_base.specs.Sends.{Sends, Prints};
-ghost use Rattle.pfs_desk.specs.declared.fault.DeskFault.TheVariants.{Order, Write, Memory};
-ghost use Rattle.pfs_desk.specs.ReadFaults.{fault_of};
-ghost use Rattle.pfs_desk.specs.FaultText.{fault_text, order_fault_text, status_of, order_status_of};
+ghost use Rattle.pfs_base.specs.Text.{number_between};
+ghost use Rattle.pfs_desk.specs.declared.fault.DeskFault.TheVariants.{Layout, Order, Write, Memory};
+ghost use Rattle.pfs_desk.specs.FaultText.{fault_text, layout_fault_text, order_fault_text, status_of, layout_status_of, order_status_of};
 
-use crate::reading::ReadFault;
 use pfs_audit::AuditFault;
 use pfs_base::print::{put_between, put_line, put_named};
 use pfs_base::{Sink, WriteFault};
+use pfs_layout::LayoutFault;
 use pfs_order::OrderFault;
 use thiserror::Error;
 
@@ -24,19 +24,16 @@ pub enum Outcome {
 /// Why a command could not do what was asked for.
 #[derive(Clone, Copy, Debug, PartialEq, Eq, Error)]
 pub enum DeskFault {
-    /// The instance file is refused.
-    #[error("Refused")]
-    Refused,
-    /// A read of the instance file failed.
-    #[error("Read")]
-    Read,
-    /// The order file is refused, or could not be read.
+    /// The instance file is refused, or could not be read, or memory for its instance was refused.
+    #[error("Layout")]
+    Layout(LayoutFault),
+    /// The order file is refused, or could not be read, or memory for it was refused.
     #[error("Order")]
     Order(OrderFault),
     /// A write of the output failed.
     #[error("Write")]
     Write(WriteFault),
-    /// Memory was refused.
+    /// Memory was refused once all files were read.
     #[error("Memory")]
     Memory,
 }
@@ -46,6 +43,14 @@ impl From<WriteFault> for DeskFault {
 
     fn from(fault: WriteFault) -> DeskFault {
         DeskFault::Write(fault)
+    }
+}
+
+impl From<LayoutFault> for DeskFault {
+    ghost from_gives = { λ fault made. made ≡ Layout fault };
+
+    fn from(fault: LayoutFault) -> DeskFault {
+        DeskFault::Layout(fault)
     }
 }
 
@@ -65,27 +70,33 @@ impl From<AuditFault> for DeskFault {
     }
 }
 
-impl From<ReadFault> for DeskFault {
-    ghost from_gives = { λ fault made. made ≡ fault_of fault };
-
-    fn from(fault: ReadFault) -> DeskFault {
-        match fault {
-            ReadFault::Refused => DeskFault::Refused,
-            ReadFault::Read => DeskFault::Read,
-            ReadFault::Memory => DeskFault::Memory,
-        }
-    }
-}
-
 /// The exit status of the program for a fault: 2 where a file is refused, and 4 where a read, a write or
 /// memory failed.
 pub fn status(fault: &DeskFault) -> u8
     ensures { result ≡ status_of fault.now }
 {
     match fault {
-        DeskFault::Refused => 2,
+        DeskFault::Layout(fault) => layout_status(fault),
         DeskFault::Order(fault) => order_status(fault),
-        DeskFault::Read | DeskFault::Write(_) | DeskFault::Memory => 4,
+        DeskFault::Write(_) | DeskFault::Memory => 4,
+    }
+}
+
+fn layout_status(fault: &LayoutFault) -> u8
+    ensures { result ≡ layout_status_of fault.now }
+{
+    match fault {
+        LayoutFault::NoBlock { .. }
+        | LayoutFault::SizeCount { .. }
+        | LayoutFault::SizeRange { .. }
+        | LayoutFault::MixedLine { .. }
+        | LayoutFault::TimeRange { .. }
+        | LayoutFault::MachineNumber { .. }
+        | LayoutFault::ExtraNumber { .. }
+        | LayoutFault::Truncated { .. }
+        | LayoutFault::TooLong
+        | LayoutFault::SeedRange => 2,
+        LayoutFault::Read | LayoutFault::Memory => 4,
     }
 }
 
@@ -108,8 +119,7 @@ pub fn write_fault<W: Sink>(writer: &mut W, fault: &DeskFault) -> Result<(), Wri
         (fault_text fault.now) result }
 {
     match fault {
-        DeskFault::Refused => put_line(writer, b"pfs: input refused", 0)?,
-        DeskFault::Read => put_line(writer, b"pfs: read failed", 0)?,
+        DeskFault::Layout(fault) => put_layout_fault(writer, fault)?,
         DeskFault::Order(fault) => put_order_fault(writer, fault)?,
         DeskFault::Write(fault) => {
             put_between(
@@ -123,6 +133,49 @@ pub fn write_fault<W: Sink>(writer: &mut W, fault: &DeskFault) -> Result<(), Wri
         DeskFault::Memory => put_line(writer, b"pfs: no memory", 0)?,
     };
     Ok(())
+}
+
+fn put_layout_fault<W: Sink>(writer: &mut W, fault: &LayoutFault) -> Result<u64, WriteFault>
+    requires { W.has_failed writer.old ≡ false }
+    ensures { Sends (W.written writer.old) (W.written writer.new) (W.has_failed writer.new)
+        0 (layout_fault_text fault.now) result }
+{
+    match fault {
+        LayoutFault::NoBlock { found } => {
+            put_named(writer, b"pfs: no block, found", *found as u64, 0)
+        }
+        LayoutFault::SizeCount { line } => put_size_fault(writer, *line, b" has a wrong count"),
+        LayoutFault::SizeRange { line } => put_size_fault(writer, *line, b" is out of range"),
+        LayoutFault::MixedLine { offset } => {
+            put_named(writer, b"pfs: mixed line at", *offset as u64, 0)
+        }
+        LayoutFault::TimeRange { offset } => {
+            put_named(writer, b"pfs: time out of range at", *offset as u64, 0)
+        }
+        LayoutFault::MachineNumber { offset } => {
+            put_named(writer, b"pfs: wrong machine number at", *offset as u64, 0)
+        }
+        LayoutFault::ExtraNumber { offset } => {
+            put_named(writer, b"pfs: extra number at", *offset as u64, 0)
+        }
+        LayoutFault::Truncated { have } => {
+            put_between(writer, b"pfs: truncated after ", *have as u64, b" times", 0)
+        }
+        LayoutFault::TooLong => put_line(writer, b"pfs: input too long", 0),
+        LayoutFault::SeedRange => put_line(writer, b"pfs: seed out of range", 0),
+        LayoutFault::Read => put_line(writer, b"pfs: read failed", 0),
+        LayoutFault::Memory => put_line(writer, b"pfs: no memory", 0),
+    }
+}
+
+// Writes what is wrong with a size line.
+fn put_size_fault<W: Sink>(writer: &mut W, line: usize, wrong: &[u8]) -> Result<u64, WriteFault>
+    requires working { W.has_failed writer.old ≡ false }
+    requires short { length wrong.now < 100 }
+    ensures { Sends (W.written writer.old) (W.written writer.new) (W.has_failed writer.new)
+        0 (number_between (codes "pfs: size line ") line wrong.now) result }
+{
+    put_between(writer, b"pfs: size line ", line as u64, wrong, 0)
 }
 
 fn put_order_fault<W: Sink>(writer: &mut W, fault: &OrderFault) -> Result<u64, WriteFault>

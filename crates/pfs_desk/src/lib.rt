@@ -3,7 +3,6 @@
 
 pub mod engines;
 pub mod fault;
-mod reading;
 #[cfg(test)]
 mod tests;
 

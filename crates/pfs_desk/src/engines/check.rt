@@ -1,15 +1,14 @@
 //! The verdict on an order file.
-ghost use Rattle.std.specs.Prelude.{◌≡◌, ◌+◌, ◌<◌, ◌≤◌, ◌^◌, ◌↔◌, true, false, length, IfOk, IfErr};
+ghost use Rattle.std.specs.Prelude.{◌≡◌, ◌≢◌, ◌+◌, ◌<◌, ◌≤◌, ◌^◌, ◌↔◌, true, false, length, IfOk, IfErr};
 ghost use Rattle.pfs_base.specs.Sends.{Sends};
-ghost use Rattle.pfs_desk.specs.Engine.{Writes, CheckOutput, HoldsNone, JudgesSecond};
+ghost use Rattle.pfs_desk.specs.Engine.{Writes, CheckOutput, JudgesFirst, JudgesSecond};
 ghost use Rattle.pfs_desk.specs.OutputText.{finding, valid_text, wrong_size_text, verdict_text, outcome_of};
 
 use crate::fault::{DeskFault, Outcome};
-use crate::reading::read_instance;
 use pfs_audit::{Verdict, check};
 use pfs_base::print::{put_line, put_named};
 use pfs_base::{MOST_BLOCKS, Sink, Source, WriteFault};
-use pfs_layout::Layout;
+use pfs_layout::{Layout, LayoutFault, read_block};
 use pfs_order::{OrderFault, read_order};
 use std::alloc::Global;
 
@@ -30,12 +29,13 @@ pub fn run_check<R: Source, O: Source, W: Sink>(
     requires few { block ≤ MOST_BLOCKS }
     ensures written { Writes (CheckOutput layout (R.left reader.old) block (O.left order_reader.old))
         (W.written writer.old) (W.written writer.new) (W.has_failed writer.new) result }
-    ensures refused { result ≡ Err DeskFault.Refused → HoldsNone layout (R.left reader.old) block }
-    ensures read { result ≡ Err DeskFault.Read ↔ (R.has_failed reader.new ≡ true) }
+    ensures refused { IfErr result (JudgesFirst layout (R.left reader.old) block) }
+    ensures read { result ≡ Err (DeskFault.Layout LayoutFault.Read) ↔ (R.has_failed reader.new ≡ true) }
+    ensures no_seed { result ≢ Err (DeskFault.Layout LayoutFault.SeedRange) }
     ensures order_refused { IfErr result (JudgesSecond layout (R.left reader.old) block (O.left order_reader.old)) }
     ensures order_read { result ≡ Err (DeskFault.Order OrderFault.Read) ↔ (O.has_failed order_reader.new ≡ true) }
 {
-    let instance = read_instance(alloc, reader, layout, block)?;
+    let instance = read_block(alloc, reader, layout, block)?;
     let file = read_order(alloc, order_reader)?;
     let verdict = check(alloc, &instance, &file)?;
     put_verdict(writer, verdict)?;

@@ -1,18 +1,17 @@
 //! The time table of an order.
-ghost use Rattle.std.specs.Prelude.{◌≡◌, ◌+◌, ◌*◌, ◌<◌, ◌≤◌, ◌^◌, ◌∷◌, ◌++◌, [], ◌↔◌, true, false, length, IfOk, IfErr};
+ghost use Rattle.std.specs.Prelude.{◌≡◌, ◌≢◌, ◌+◌, ◌*◌, ◌<◌, ◌≤◌, ◌^◌, ◌∷◌, ◌++◌, [], ◌↔◌, true, false, length, IfOk, IfErr};
 ghost use Rattle.pfs_base.specs.Sends.{Sends};
 ghost use Rattle.pfs_base.specs.Text.{with_line_end, spaced};
-ghost use Rattle.pfs_desk.specs.Engine.{Writes, TableOutput, HoldsNone, JudgesSecond};
+ghost use Rattle.pfs_desk.specs.Engine.{Writes, TableOutput, JudgesFirst, JudgesSecond};
 ghost use Rattle.pfs_desk.specs.OutputText.{row_text, table_text};
 ghost use Rattle.pfs_desk.specs.Printable.{IsPrintable};
 
 use crate::engines::check::put_wrong_size;
 use crate::fault::{DeskFault, Outcome};
-use crate::reading::read_instance;
 use pfs_audit::{TimeTable, table};
 use pfs_base::print::{put_named, put_next, put_number};
 use pfs_base::{MOST_BLOCKS, MOST_MACHINES, Sink, Source, WriteFault, put};
-use pfs_layout::Layout;
+use pfs_layout::{Layout, LayoutFault, read_block};
 use pfs_order::{OrderFault, read_order};
 use std::alloc::Global;
 
@@ -34,12 +33,13 @@ pub fn run_table<R: Source, O: Source, W: Sink>(
     requires few { block ≤ MOST_BLOCKS }
     ensures written { Writes (TableOutput layout (R.left reader.old) block (O.left order_reader.old))
         (W.written writer.old) (W.written writer.new) (W.has_failed writer.new) result }
-    ensures refused { result ≡ Err DeskFault.Refused → HoldsNone layout (R.left reader.old) block }
-    ensures read { result ≡ Err DeskFault.Read ↔ (R.has_failed reader.new ≡ true) }
+    ensures refused { IfErr result (JudgesFirst layout (R.left reader.old) block) }
+    ensures read { result ≡ Err (DeskFault.Layout LayoutFault.Read) ↔ (R.has_failed reader.new ≡ true) }
+    ensures no_seed { result ≢ Err (DeskFault.Layout LayoutFault.SeedRange) }
     ensures order_refused { IfErr result (JudgesSecond layout (R.left reader.old) block (O.left order_reader.old)) }
     ensures order_read { result ≡ Err (DeskFault.Order OrderFault.Read) ↔ (O.has_failed order_reader.new ≡ true) }
 {
-    let instance = read_instance(alloc, reader, layout, block)?;
+    let instance = read_block(alloc, reader, layout, block)?;
     let file = read_order(alloc, order_reader)?;
     let order = file.order();
     let jobs = instance.jobs();

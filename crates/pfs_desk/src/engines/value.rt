@@ -1,15 +1,14 @@
 //! The makespan of an instance's jobs in the order of their numbers.
-ghost use Rattle.std.specs.Prelude.{◌≡◌, ◌≤◌, ◌↔◌, true, false, IfOk, IfErr};
+ghost use Rattle.std.specs.Prelude.{◌≡◌, ◌≢◌, ◌≤◌, ◌↔◌, true, false, IfOk, IfErr};
 ghost use Rattle.pfs_base.specs.Paths.{makespan};
 ghost use Rattle.pfs_order.specs.Sequence.{all_jobs};
-ghost use Rattle.pfs_desk.specs.Engine.{Writes, ValueOutput, HoldsNone};
+ghost use Rattle.pfs_desk.specs.Engine.{Writes, ValueOutput, JudgesFirst};
 
 use crate::fault::{DeskFault, Outcome};
-use crate::reading::read_instance;
 use pfs_audit::makespan;
 use pfs_base::print::put_named;
 use pfs_base::{Bench, Instance, Length, MOST_BLOCKS, Sink, Source};
-use pfs_layout::Layout;
+use pfs_layout::{Layout, LayoutFault, read_block};
 use pfs_order::Order;
 use std::alloc::Global;
 
@@ -28,10 +27,11 @@ pub fn run_value<R: Source, W: Sink>(
     requires few { block ≤ MOST_BLOCKS }
     ensures written { Writes (ValueOutput layout (R.left reader.old) block)
         (W.written writer.old) (W.written writer.new) (W.has_failed writer.new) result }
-    ensures refused { result ≡ Err DeskFault.Refused → HoldsNone layout (R.left reader.old) block }
-    ensures read { result ≡ Err DeskFault.Read ↔ (R.has_failed reader.new ≡ true) }
+    ensures refused { IfErr result (JudgesFirst layout (R.left reader.old) block) }
+    ensures read { result ≡ Err (DeskFault.Layout LayoutFault.Read) ↔ (R.has_failed reader.new ≡ true) }
+    ensures no_seed { result ≢ Err (DeskFault.Layout LayoutFault.SeedRange) }
 {
-    let instance = read_instance(alloc, reader, layout, block)?;
+    let instance = read_block(alloc, reader, layout, block)?;
     let value = value_of(alloc, &instance)?;
     put_named(writer, b"makespan", value, 0)?;
     Ok(Outcome::Done)

@@ -21,7 +21,7 @@ returns-in_err-put_wrong_size-clause-written g c =
       is_output = record {
         problem = c.in_ok-instance.instance;
         stated = c.in_ok-file.file;
-        holds = c.in_ok-instance.ensures.accepted;
+        holds = c.in_ok-instance.ensures.file;
         states = c.in_ok-file.ensures.accepted;
         prints = wrong_size_prints c.in_ok-instance.instance.shop c.in_ok-file.file.order size jobs
             (c.len-then-len-jobs.ensures.value ∙ ap length c.order-order.ensures.value) c.jobs-jobs.ensures.value
@@ -44,7 +44,7 @@ returns-clause-written g c =
       is_output = record {
         problem = c.in_ok-instance.instance;
         stated = c.in_ok-file.file;
-        holds = c.in_ok-instance.ensures.accepted;
+        holds = c.in_ok-instance.ensures.file;
         states = c.in_ok-file.ensures.accepted;
         prints = subst Prints c.order-order.ensures.value (right_size_prints shop order timing size (record {
           jobs = c.in_ok-table.ensures.jobs;
