@@ -1,4 +1,5 @@
 pub mod Heads
 pub mod Heaviest
+pub mod Lists
 mod MakespanLaws
 mod Sent

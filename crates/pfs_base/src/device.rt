@@ -4,42 +4,46 @@ ghost use Rattle.std.specs.Io.KnownBytes.{Appends};
 ghost use Rattle.pfs_base.specs.Device.{Reads, Writes, fails_after};
 
 use std::io::{Read, Write};
+use thiserror::Error;
 
-/// A reader.
+/// A reader of bytes. Contracts see the bytes that are left, where they are told, and whether a read has
+/// failed.
 pub trait Source {
-    /// The bytes that are left, where they are told.
     ghost left: { Self → Option (List ℕ) };
 
-    /// Whether a read has failed.
     ghost has_failed: { Self → Bool };
 
-    /// Reads some bytes. `None` is a failure.
+    /// Reads some bytes into the front of `buf`, and says how many; 0 is the end of the bytes, if `buf`
+    /// isn't empty. `None` is a failure, and moves no byte.
     fn read(&mut self, buf: &mut [u8]) -> Option<usize>
         ensures bytes { Reads (left self.old) (left self.new) result buf.new }
         ensures failed { has_failed self.new ≡ fails_after (has_failed self.old) result };
 
+    /// Whether a read has failed.
     fn failed(&self) -> bool
         ensures { result ≡ has_failed self.now };
 }
 
-/// A writer.
+/// A writer of bytes. Contracts see the bytes that were written, where they are told, and whether a write
+/// has failed.
 pub trait Sink {
-    /// The bytes that were written, where they are told.
     ghost written: { Self → Option (List ℕ) };
 
-    /// Whether a write has failed.
     ghost has_failed: { Self → Bool };
 
-    /// Writes some bytes. `None` is a failure.
+    /// Writes the front of `bytes`, and says how many, which is at least one if there is one. `None` is a
+    /// failure, and moves no byte.
     fn write(&mut self, bytes: &[u8]) -> Option<usize>
         ensures bytes { Writes (written self.old) (written self.new) result bytes.now }
         ensures failed { has_failed self.new ≡ fails_after (has_failed self.old) result };
 
+    /// Whether a write has failed.
     fn failed(&self) -> bool
         ensures { result ≡ has_failed self.now };
 }
 
-/// A reader of std as a source.
+/// A source over a reader of std. A read fails where the reader's call answers an error, an interrupted
+/// call too: nothing is tried again.
 #[derive(Drop)]
 pub struct FromRead<R> {
     reader: R,
@@ -47,6 +51,7 @@ pub struct FromRead<R> {
 }
 
 impl<R: Read> FromRead<R> {
+    /// A source of the bytes that the reader has left, which hasn't failed.
     pub fn new(reader: R) -> FromRead<R>
         ensures left { ⟦<FromRead<R> as Source>⟧.left result ≡ R.remaining reader }
         ensures failed { ⟦<FromRead<R> as Source>⟧.has_failed result ≡ false }
@@ -78,7 +83,8 @@ impl<R: Read> Source for FromRead<R> {
     }
 }
 
-/// A writer of std as a sink.
+/// A sink over a writer of std. A write fails where the writer's call answers an error, an interrupted
+/// call too, or takes no byte: nothing is tried again.
 #[derive(Drop)]
 pub struct ToWrite<W> {
     writer: W,
@@ -86,6 +92,7 @@ pub struct ToWrite<W> {
 }
 
 impl<W: Write> ToWrite<W> {
+    /// A sink to the writer, which hasn't failed.
     pub fn new(writer: W) -> ToWrite<W>
         ensures written { ⟦<ToWrite<W> as Sink>⟧.written result ≡ W.contents writer }
         ensures failed { ⟦<ToWrite<W> as Sink>⟧.has_failed result ≡ false }
@@ -117,13 +124,16 @@ impl<W: Write> Sink for ToWrite<W> {
     }
 }
 
-/// A write failed after so many bytes.
-#[derive(Debug, Drop)]
+/// A write failed.
+#[derive(Clone, Copy, Debug, PartialEq, Eq, Error)]
+#[error("WriteFault")]
 pub struct WriteFault {
+    /// How many bytes went out before, of the whole text.
     pub written: u64,
 }
 
-/// Writes all bytes, and answers how many were sent with those before.
+/// Writes all bytes, and answers `sent`, which is how many bytes of a text went out before, and with them
+/// how many have gone out now. Where a write fails, a front of the bytes went out.
 pub fn put<W: Sink>(writer: &mut W, bytes: &[u8], sent: u64) -> Result<u64, WriteFault>
     requires working { W.has_failed writer.old ≡ false }
     requires fits { sent + length bytes.now < 2 ^ 64 }

@@ -1,0 +1,6 @@
+pub mod BlockLemmas
+pub mod DueLemmas
+pub mod LineLemmas
+pub mod PlaceLemmas
+pub mod SizeLemmas
+pub mod SoundLemmas

@@ -1,0 +1,5 @@
+use Rattle.pfs_layout.proofs.PlaceLemmas.{one_fault}
+use Rattle.pfs_layout.proofs.laws.one_fault.Goals as goal
+
+pub returns : goal.returns
+returns c = one_fault

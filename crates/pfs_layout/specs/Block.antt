@@ -1,0 +1,62 @@
+-- A block of an instance file: a size line, and the numbers that are due in its body.
+use Rattle.std.specs.Prelude.{ℕ, ◌*◌, ◌/◌, ◌%◌, Bool, false, ◌==◌, nat_lt, nat_le, List, [], ◌∷◌, map, flat_map, Option, Some, None, if◌then◌else◌}
+use Rattle.std.specs.List.{list_all, enumerate_from}
+use Rattle.pfs_base.specs.declared.limits.TheConstants.{LONGEST_TIME}
+use Rattle.pfs_base.specs.FlowShop.{FlowShop, time_of}
+use Rattle.pfs_base.specs.Lists.{below}
+use Rattle.pfs_layout.specs.declared.layout.Layout.{Layout}
+use Rattle.pfs_layout.specs.declared.layout.Layout.TheVariants.{Taillard, OrLib}
+use Rattle.pfs_layout.specs.Size.{Size}
+
+-- a row of a body: the times of all jobs on a machine, or a job's pairs of machine and time
+unfoldable pub due_row : Layout → FlowShop → ℕ → List ℕ
+due_row Taillard shop machine = map (λ job. time_of shop job machine) (below shop.jobs)
+due_row OrLib shop job = flat_map (λ machine. machine ∷ time_of shop job machine ∷ []) (below shop.machines)
+
+-- how many rows a body has
+abbrev pub row_count : Layout → FlowShop → ℕ
+row_count Taillard shop = shop.machines
+row_count OrLib shop = shop.jobs
+
+-- the numbers that the body of a flow shop's block must hold
+unfoldable pub due : Layout → FlowShop → List ℕ
+unfolding due_row
+due layout shop = flat_map (due_row layout shop) (below (row_count layout shop))
+
+-- the size that the numbers of a size line state, where they are as many as the layout says
+unfoldable pub stated_size : Layout → List ℕ → Option Size
+stated_size Taillard (jobs ∷ machines ∷ seed ∷ upper ∷ lower ∷ []) = Some (record { jobs = jobs; machines = machines; notes = record { seed = seed; upper = upper; lower = lower } })
+stated_size OrLib (jobs ∷ machines ∷ []) = Some (record { jobs = jobs; machines = machines; notes = record { seed = 0; upper = 0; lower = 0 } })
+stated_size layout others = None
+
+-- how many numbers are due
+abbrev pub due_count : Layout → Size → ℕ
+due_count Taillard size = size.jobs * size.machines
+due_count OrLib size = 2 * (size.jobs * size.machines)
+
+-- what is due at a place of the body
+pub data Due : Type 0 where
+  any_time : Due
+  machine_number : ℕ → Due
+  nothing : Due
+
+abbrev pub pair_due : Size → ℕ → Due
+pair_due size place = if place % 2 == 0 then machine_number (place / 2 % size.machines) else any_time
+
+unfoldable pub due_at : Layout → Size → ℕ → Due
+due_at layout size place = if nat_lt place (due_count layout size) then in_order layout else nothing
+  where
+    in_order : Layout → Due
+    in_order Taillard = any_time
+    in_order OrLib = pair_due size place
+
+-- a number is what is due
+abbrev pub is_due : Due → ℕ → Bool
+is_due any_time number = nat_le number LONGEST_TIME
+is_due (machine_number machine) number = number == machine
+is_due nothing number = false
+
+-- the numbers are the first of some list that is due
+unfoldable pub are_due : Layout → Size → List ℕ → Bool
+unfolding due_at
+are_due layout size numbers = list_all (λ placed. is_due (due_at layout size placed.0) placed.1) (enumerate_from 0 numbers)

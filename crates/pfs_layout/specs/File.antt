@@ -1,0 +1,61 @@
+-- What an instance file is: blocks, each of skipped lines, a size line and a body.
+use Rattle.std.specs.Prelude.{◌≡◌, ℕ, ◌+◌, ◌≤◌, not, List, [], ◌∷◌, ◌++◌, length, flat_map, Some, ◌⊎◌, IsTrue}
+use Rattle.std.specs.List.{list_all, AllByRecursion}
+use Rattle.pfs_base.specs.FlowShop.{FlowShop, IsWithin}
+use Rattle.pfs_base.specs.Limits.{Limits}
+use Rattle.pfs_base.specs.Problem.{Problem}
+use Rattle.pfs_layout.specs.declared.layout.Layout.{Layout}
+use Rattle.pfs_layout.specs.Lines.{lines, open_line, is_mixed, is_number_line, numbers}
+use Rattle.pfs_layout.specs.Size.{size_of}
+use Rattle.pfs_layout.specs.Block.{due, stated_size}
+
+-- the sizes, times and notes are within the limits
+pub record IsInstance (limits : Limits) (problem : Problem) : Type 0 where
+  pub within : IsWithin limits problem.shop
+  pub seed : problem.notes.seed ≤ limits.note
+  pub upper : problem.notes.upper ≤ limits.note
+  pub lower : problem.notes.lower ≤ limits.note
+
+-- a number line with as many numbers as the layout says, which are the problem's sizes and notes
+pub record IsSizeLine (layout : Layout) (problem : Problem) (line : List ℕ) : Type 0 where
+  pub number_line : IsTrue (is_number_line line)
+  pub states : stated_size layout (numbers line) ≡ Some (size_of problem)
+
+-- lines of which none is mixed and the last is a number line, and whose numbers are those that are due
+pub record IsBody (layout : Layout) (shop : FlowShop) (front : List (List ℕ)) (last : List ℕ) : Type 0 where
+  pub front_unmixed : IsTrue (list_all (λ line. not (is_mixed line)) front)
+  pub last_numbers : IsTrue (is_number_line last)
+  pub holds : flat_map numbers front ++ numbers last ≡ due layout shop
+
+-- skipped lines, a size line and a body
+pub record IsBlock (limits : Limits) (layout : Layout) (problem : Problem) (block : List (List ℕ)) : Type 0 where
+  pub skipped : List (List ℕ)
+  pub size_line : List ℕ
+  pub front : List (List ℕ)
+  pub last : List ℕ
+  pub parts : block ≡ skipped ++ size_line ∷ front ++ last ∷ []
+  pub no_numbers : IsTrue (list_all (λ line. not (is_number_line line)) skipped)
+  pub size : IsSizeLine layout problem size_line
+  pub body : IsBody layout problem.shop front last
+  pub within : IsInstance limits problem
+
+abbrev pub IsSomeBlock : Limits → Layout → List (List ℕ) → Type 0
+IsSomeBlock limits layout block = (problem : Problem) × IsBlock limits layout problem block
+
+-- k blocks, the last of which is the problem's
+pub record AreBlocks (limits : Limits) (layout : Layout) (k : ℕ) (problem : Problem) (text : List (List ℕ)) : Type 0 where
+  pub earlier : List (List (List ℕ))
+  pub own : List (List ℕ)
+  pub parts : text ≡ flat_map (λ block. block) earlier ++ own
+  pub count : length earlier + 1 ≡ k
+  pub each : AllByRecursion (IsSomeBlock limits layout) earlier
+  pub is_own : IsBlock limits layout problem own
+
+-- a front of the input, whose last line ends with byte 10 or with the input, is k blocks
+pub record File (limits : Limits) (layout : Layout) (input : List ℕ) (k : ℕ) (problem : Problem) : Type 0 where
+  pub text : List ℕ
+  pub rest : List ℕ
+  pub whole : input ≡ text ++ rest
+  pub ended : (open_line text ≡ []) ⊎ (rest ≡ [])
+  pub short : length text ≤ limits.input
+  pub blocks : AreBlocks limits layout k problem (lines text)

@@ -1,0 +1,51 @@
+-- Lines of a text, their kinds, and the numbers on them.
+use Rattle.std.specs.Prelude.{ℕ, Bool, not, ◌&&◌, List, [], ◌∷◌, ◌++◌, map, filter, if◌then◌else◌}
+use Rattle.std.specs.List.{list_any, slice_split}
+use Rattle.std.specs.Str.Parse.{digits_value}
+use Rattle.pfs_base.specs.Lists.{is_empty, last_of, all_but_last}
+use Rattle.pfs_layout.specs.Bytes.{is_digit, is_word_byte, is_line_end}
+
+-- the parts of a list that an element which passes ends, and the part behind the last such element
+unfoldable pub ended_parts : (ℕ → Bool) → List ℕ → List (List ℕ)
+ended_parts passes bytes = all_but_last (slice_split passes bytes)
+
+unfoldable pub open_part : (ℕ → Bool) → List ℕ → List ℕ
+open_part passes bytes = last_of [] (slice_split passes bytes)
+
+-- the lines that a byte 10 ends, and what follows the last byte 10
+abbrev pub ended_lines : List ℕ → List (List ℕ)
+ended_lines text = ended_parts is_line_end text
+
+abbrev pub open_line : List ℕ → List ℕ
+open_line text = open_part is_line_end text
+
+-- the lines of a text: what follows the last byte 10 is one if it isn't empty
+unfoldable pub lines : List ℕ → List (List ℕ)
+unfolding ended_parts open_part
+lines text = ended_lines text ++ (if is_empty (open_line text) then [] else open_line text ∷ [])
+
+-- The kinds of a line: plain without a digit, else mixed or a number line.
+abbrev pub is_mixed : List ℕ → Bool
+is_mixed line = list_any is_digit line && list_any is_word_byte line
+
+abbrev pub is_number_line : List ℕ → Bool
+is_number_line line = list_any is_digit line && not (list_any is_word_byte line)
+
+abbrev pub is_no_digit : ℕ → Bool
+is_no_digit byte = not (is_digit byte)
+
+-- the values of runs of digits, without the empty ones
+abbrev pub values : List (List ℕ) → List ℕ
+values runs = map (digits_value 10) (filter (λ run. not (is_empty run)) runs)
+
+-- the numbers on a line: its longest runs of digits
+unfoldable pub numbers : List ℕ → List ℕ
+numbers line = values (slice_split is_no_digit line)
+
+-- the numbers on a line that a byte behind them ends, and the digits that none ends
+unfoldable pub ended_numbers : List ℕ → List ℕ
+unfolding ended_parts
+ended_numbers line = values (ended_parts is_no_digit line)
+
+abbrev pub last_digits : List ℕ → List ℕ
+last_digits text = open_part is_no_digit text

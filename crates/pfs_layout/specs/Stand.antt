@@ -1,0 +1,71 @@
+-- Where an instance file stands after some lines.
+use Rattle.std.specs.Prelude.{ℕ, ◌+◌, ◌*◌, ◌==◌, List, [], ◌∷◌, ◌++◌, length, fold, slice_index, Option, Some, None, if◌then◌else◌}
+use Rattle.pfs_base.specs.Problem.{Problem}
+use Rattle.pfs_layout.specs.declared.layout.Layout.{Layout}
+use Rattle.pfs_layout.specs.declared.layout.Layout.TheVariants.{Taillard, OrLib}
+use Rattle.pfs_layout.specs.Size.{Size, is_within_limits, problem_of}
+use Rattle.pfs_layout.specs.Lines.{is_mixed, is_number_line, numbers}
+use Rattle.pfs_layout.specs.Block.{stated_size, due_count, are_due}
+
+-- a block: its size, and the numbers of its body so far
+pub record Block : Type 0 where
+  pub size : Size
+  pub numbers : List ℕ
+
+-- the next block is sought, or this one is begun, or all is lost for good
+pub data Now : Type 0 where
+  seeking : Now
+  inside : Block → Now
+  lost : Now
+
+pub record Stand : Type 0 where
+  pub complete : List Block
+  pub now : Now
+
+-- a size line begins a block
+abbrev pub after_size : Option Size → Now
+after_size None = lost
+after_size (Some size) = if is_within_limits size then inside (record { size = size; numbers = [] }) else lost
+
+-- a block's numbers are all that is due, or the first of it, or no list that is due begins so
+abbrev pub after_numbers : Layout → List Block → Block → Stand
+after_numbers layout complete block = if are_due layout block.size block.numbers
+    then (if length block.numbers == due_count layout block.size
+    then record { complete = complete ++ block ∷ []; now = seeking }
+    else record { complete = complete; now = inside block })
+    else record { complete = complete; now = lost }
+
+-- a skipped line changes nothing, a size line begins a block, and a line of a body adds its numbers
+abbrev pub after_line : Layout → List Block → Now → List ℕ → Stand
+after_line layout complete seeking line = record { complete = complete; now = if is_number_line line then after_size (stated_size layout (numbers line)) else seeking }
+after_line layout complete (inside block) line = if is_mixed line
+    then record { complete = complete; now = lost }
+    else after_numbers layout complete (record { size = block.size; numbers = block.numbers ++ numbers line })
+after_line layout complete lost line = record { complete = complete; now = lost }
+
+unfoldable pub stand_after : Layout → Stand → List ℕ → Stand
+stand_after layout before line = after_line layout before.complete before.now line
+
+-- where these lines lead from the front of a file
+unfoldable pub stand : Layout → List (List ℕ) → Stand
+stand layout text = fold (stand_after layout) (record { complete = []; now = seeking }) text
+
+-- the second of each pair
+abbrev pub seconds : List ℕ → List ℕ
+seconds [] = []
+seconds (first ∷ []) = []
+seconds (first ∷ second ∷ more) = second ∷ seconds more
+
+-- the times among the first numbers of a body
+abbrev pub times_among : Layout → List ℕ → List ℕ
+times_among Taillard numbers = numbers
+times_among OrLib numbers = seconds numbers
+
+-- where a time stands among the numbers of a body
+abbrev pub place_of_time : Layout → Size → ℕ → ℕ → ℕ
+place_of_time Taillard size job machine = machine * size.jobs + job
+place_of_time OrLib size job machine = 2 * (job * size.machines + machine) + 1
+
+-- the problem of a complete block
+unfoldable pub instance_of : Layout → Block → Problem
+instance_of layout block = problem_of block.size (λ job machine. slice_index block.numbers (place_of_time layout block.size job machine))
