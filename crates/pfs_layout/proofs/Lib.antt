@@ -4,3 +4,5 @@ pub mod LineLemmas
 pub mod PlaceLemmas
 pub mod SizeLemmas
 pub mod SoundLemmas
+pub mod StepLemmas
+pub mod TableLemmas

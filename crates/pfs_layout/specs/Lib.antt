@@ -3,6 +3,8 @@ pub mod Bytes
 pub mod File
 pub mod Laws
 pub mod Lines
+pub mod Reader
 pub mod Refuse
 pub mod Size
 pub mod Stand
+pub mod Step

@@ -1,5 +1,9 @@
 //! How far a reader is in the body of a block.
+ghost use Rattle.std.specs.Prelude.{◌≡◌, ◌<◌, ◌≤◌, ◌+◌};
+ghost use Rattle.pfs_layout.specs.Step.{HasPlace, body_of, is_machine_due as machine_due_test, after_machine as behind_machine, after_time as behind_time, next_of};
+
 use crate::Layout;
+use pfs_base::{MOST_JOBS, MOST_MACHINES};
 
 /// The sizes of a block, how many of its numbers are judged, and where the next time stands.
 #[derive(Clone, Copy)]
@@ -17,7 +21,11 @@ pub struct Body {
 
 impl Body {
     /// A block of these sizes, of which nothing is judged.
-    pub fn new(layout: Layout, jobs: usize, machines: usize) -> Body {
+    pub fn new(layout: Layout, jobs: usize, machines: usize) -> Body
+        requires jobs { jobs ≤ MOST_JOBS }
+        requires machines { machines ≤ MOST_MACHINES }
+        ensures { result ≡ body_of layout jobs machines }
+    {
         let times = jobs * machines;
         Body {
             jobs,
@@ -33,7 +41,9 @@ impl Body {
     }
 
     /// Whether the number that is due is that of a machine.
-    pub fn is_machine_due(self, layout: Layout) -> bool {
+    pub fn is_machine_due(self, layout: Layout) -> bool
+        ensures { result ≡ machine_due_test layout self }
+    {
         match layout {
             Layout::Taillard => false,
             Layout::OrLib => self.judged % 2 == 0,
@@ -41,7 +51,10 @@ impl Body {
     }
 
     /// Behind the number of a machine.
-    pub fn after_machine(self) -> Body {
+    pub fn after_machine(self) -> Body
+        requires { HasPlace self }
+        ensures { result ≡ behind_machine self }
+    {
         Body {
             jobs: self.jobs,
             machines: self.machines,
@@ -53,7 +66,10 @@ impl Body {
     }
 
     /// Behind a time.
-    pub fn after_time(self, layout: Layout) -> Body {
+    pub fn after_time(self, layout: Layout) -> Body
+        requires { HasPlace self }
+        ensures { result ≡ behind_time layout self }
+    {
         match layout {
             Layout::Taillard => self.at_next_job(),
             Layout::OrLib => self.at_next_machine(),
@@ -61,14 +77,17 @@ impl Body {
     }
 
     /// The same machine's next job, or the next machine's first.
-    fn at_next_job(self) -> Body {
+    fn at_next_job(self) -> Body
+        requires { HasPlace self }
+        ensures { result ≡ behind_time Layout.Taillard self }
+    {
         let last = self.job + 1 == self.jobs;
         Body {
             jobs: self.jobs,
             machines: self.machines,
             due: self.due,
             judged: self.judged + 1,
-            job: if last { 0 } else { self.job + 1 },
+            job: next(self.job, self.jobs),
             machine: if last {
                 next(self.machine, self.machines)
             } else {
@@ -78,7 +97,10 @@ impl Body {
     }
 
     /// The same job's next machine, or the next job's first.
-    fn at_next_machine(self) -> Body {
+    fn at_next_machine(self) -> Body
+        requires { HasPlace self }
+        ensures { result ≡ behind_time Layout.OrLib self }
+    {
         let last = self.machine + 1 == self.machines;
         Body {
             jobs: self.jobs,
@@ -90,7 +112,7 @@ impl Body {
             } else {
                 self.job
             },
-            machine: if last { 0 } else { self.machine + 1 },
+            machine: next(self.machine, self.machines),
         }
     }
 
@@ -104,6 +126,9 @@ impl Body {
 }
 
 /// The number behind `at`, and 0 behind the last of `count`.
-fn next(at: usize, count: usize) -> usize {
+fn next(at: usize, count: usize) -> usize
+    requires { at < count }
+    ensures { result ≡ next_of at count }
+{
     if at + 1 == count { 0 } else { at + 1 }
 }

@@ -1,9 +1,14 @@
 //! What a reader holds, and what a byte does to it.
+ghost use Rattle.std.specs.Prelude.{◌≡◌, ◌≢◌, ◌+◌, ◌*◌, ◌<◌, ◌≤◌, true, false, ◌==◌, replicate, Some, None, IfOk, IfErr, OnOk, OnErr, IfSome, option_map, is_some, if◌then◌else◌};
+ghost use Rattle.pfs_layout.specs.Bytes.{is_digit as digit_test};
+ghost use Rattle.pfs_layout.specs.Size.{is_within_limits};
+ghost use Rattle.pfs_layout.specs.Step.{refused, is_live as live_test, is_in_block, CanCount, with_problem_time, stored, counted, time_judged, machine_judged, body_judged, number_ended, size_given, empty_problem, block_begun, size_line_ended, block_ended, line_ended, last_number_ended, judged, Keeps, LacksMemory};
+
 use crate::body::Body;
 use crate::scan::{Digits, Kinds, LINE_END, is_blank, is_digit};
 use crate::size_line::{SizeLine, Stated};
 use crate::{Layout, LayoutFault};
-use pfs_base::{BaseFault, Instance, LONGEST_TIME};
+use pfs_base::{BaseFault, Instance, LONGEST_INPUT, LONGEST_TIME};
 use std::alloc::Global;
 
 /// What is being read.
@@ -18,6 +23,13 @@ pub enum Phase {
     /// The wanted block has ended.
     Done,
     Refused(LayoutFault),
+}
+
+/// How far a reader came in a piece, and whether its block has ended.
+#[derive(Clone, Copy, Debug, PartialEq, Eq)]
+pub struct Progress {
+    pub used: usize,
+    pub done: bool,
 }
 
 /// The fields of a reader.
@@ -43,11 +55,15 @@ pub struct Fields {
 
 impl Fields {
     #[cold]
-    pub fn refuse(&mut self, fault: LayoutFault) {
+    pub fn refuse(&mut self, fault: LayoutFault)
+        ensures { self.new ≡ refused self.old fault }
+    {
         self.phase = Phase::Refused(fault);
     }
 
-    fn in_block(&self) -> bool {
+    fn in_block(&self) -> bool
+        ensures { result ≡ is_in_block self.now.phase }
+    {
         match self.phase {
             Phase::Body | Phase::AfterLast => true,
             Phase::Seeking | Phase::Done | Phase::Refused(_) => false,
@@ -55,7 +71,9 @@ impl Fields {
     }
 
     /// Whether a further byte is wanted.
-    pub fn is_live(&self) -> bool {
+    pub fn is_live(&self) -> bool
+        ensures { result ≡ live_test self.now.phase }
+    {
         match self.phase {
             Phase::Done | Phase::Refused(_) => false,
             Phase::Seeking | Phase::Body | Phase::AfterLast => true,
@@ -63,7 +81,11 @@ impl Fields {
     }
 
     /// Keeps a time of the wanted block.
-    fn store(&mut self, time: u32) {
+    fn store(&mut self, time: u32)
+        requires can { CanCount self.old }
+        requires short { time ≤ LONGEST_TIME }
+        ensures { self.new ≡ stored self.old time }
+    {
         if let Some(instance) = &mut self.instance {
             instance.set(self.body.job, self.body.machine, time);
             self.held += 1;
@@ -71,7 +93,9 @@ impl Fields {
     }
 
     /// One number of the body more was judged.
-    fn count(&mut self, body: Body) {
+    fn count(&mut self, body: Body)
+        ensures { self.new ≡ counted self.old body }
+    {
         self.body = body;
         self.phase = if body.judged < body.due {
             Phase::Body
@@ -81,7 +105,10 @@ impl Fields {
     }
 
     /// The number is a time.
-    fn judge_time(&mut self, value: u64, first: usize) {
+    fn judge_time(&mut self, value: u64, first: usize)
+        requires { CanCount self.old }
+        ensures { self.new ≡ time_judged self.old value first }
+    {
         if value > u64::from(LONGEST_TIME) {
             self.refuse(LayoutFault::TimeRange { offset: first });
             return;
@@ -91,7 +118,10 @@ impl Fields {
     }
 
     /// The number is that of a machine.
-    fn judge_machine(&mut self, value: u64, first: usize) {
+    fn judge_machine(&mut self, value: u64, first: usize)
+        requires { CanCount self.old }
+        ensures { self.new ≡ machine_judged self.old value first }
+    {
         if value != self.body.machine as u64 {
             self.refuse(LayoutFault::MachineNumber { offset: first });
             return;
@@ -99,7 +129,10 @@ impl Fields {
         self.count(self.body.after_machine());
     }
 
-    fn judge_body(&mut self, value: u64, first: usize) {
+    fn judge_body(&mut self, value: u64, first: usize)
+        requires { CanCount self.old }
+        ensures { self.new ≡ body_judged self.old value first }
+    {
         if self.body.is_machine_due(self.layout) {
             self.judge_machine(value, first);
         } else {
@@ -109,7 +142,12 @@ impl Fields {
 
     /// The number stands outside a body.
     #[inline(never)]
-    fn end_other_number(&mut self, value: u64, first: usize) {
+    #[tactic(auto, unfolding(crate::specs::Step::number_ended))]
+    fn end_other_number(&mut self, value: u64, first: usize)
+        requires elsewhere { self.old.phase ≢ Phase.Body }
+        requires count { self.old.size_line.count < LONGEST_INPUT }
+        ensures { self.new ≡ number_ended self.old value first }
+    {
         match self.phase {
             Phase::Seeking => self.size_line = self.size_line.with(value),
             Phase::AfterLast => self.refuse(LayoutFault::ExtraNumber { offset: first }),
@@ -118,7 +156,12 @@ impl Fields {
     }
 
     /// A blank, a line end or the end of the input ends a number.
-    pub fn end_number(&mut self, value: u64, first: usize) {
+    #[tactic(auto, unfolding(crate::specs::Step::number_ended))]
+    pub fn end_number(&mut self, value: u64, first: usize)
+        requires can { self.old.phase ≡ Phase.Body → CanCount self.old }
+        requires count { self.old.size_line.count < LONGEST_INPUT }
+        ensures { self.new ≡ number_ended self.old value first }
+    {
         if let Phase::Body = self.phase {
             self.judge_body(value, first);
         } else {
@@ -126,9 +169,29 @@ impl Fields {
         }
     }
 
+    /// A blank, a line end or the end of the input ends the unfinished number, if there is one.
+    #[inline(always)]
+    fn end_last_number(&mut self, digits: Digits)
+        requires can { self.old.phase ≡ Phase.Body → CanCount self.old }
+        requires count { self.old.size_line.count < LONGEST_INPUT }
+        requires live { live_test self.old.phase ≡ true }
+        ensures ended { self.new ≡ last_number_ended self.old digits }
+        ensures kept { Keeps self.old self.new }
+    {
+        if digits.is_some() {
+            self.end_number(digits.value, digits.first);
+        }
+    }
+
     /// Memory for the block, if it is the wanted one.
-    fn instance_for(&self, alloc: Global, stated: Stated) -> Result<Option<Instance>, BaseFault> {
-        if self.complete + 1 == self.wanted {
+    fn instance_for(&self, alloc: Global, stated: Stated) -> Result<Option<Instance>, BaseFault>
+        requires complete { self.now.complete < self.now.wanted }
+        requires within { is_within_limits (size_given stated) ≡ true }
+        ensures made { IfOk result (λ instance. instance ≡ (if self.now.complete + 1 == self.now.wanted then Some (empty_problem (size_given stated)) else None)) }
+        ensures wanted { OnErr result (self.now.complete + 1 ≡ self.now.wanted) }
+    {
+        let wanted = self.wanted;
+        if self.complete + 1 == wanted {
             let instance = Instance::new(alloc, stated.jobs, stated.machines, stated.notes)?;
             Ok(Some(instance))
         } else {
@@ -137,7 +200,13 @@ impl Fields {
     }
 
     /// A block of these sizes begins.
-    fn begin_block(&mut self, alloc: Global, stated: Stated) {
+    fn begin_block(&mut self, alloc: Global, stated: Stated)
+        requires complete { self.old.complete < self.old.wanted }
+        requires within { is_within_limits (size_given stated) ≡ true }
+        ensures begun { self.new.phase ≢ Phase.Refused LayoutFault.Memory → self.new ≡ block_begun self.old (size_given stated) }
+        ensures memory { self.new.phase ≡ Phase.Refused LayoutFault.Memory → self.old.complete + 1 ≡ self.old.wanted }
+        ensures held { self.new.held ≡ self.old.held }
+    {
         match self.instance_for(alloc, stated) {
             Ok(instance) => {
                 self.instance = instance;
@@ -149,14 +218,22 @@ impl Fields {
     }
 
     #[inline(never)]
-    fn end_size_line(&mut self, alloc: Global, size_line: SizeLine, line: usize) {
+    fn end_size_line(&mut self, alloc: Global, size_line: SizeLine, line: usize)
+        requires complete { self.old.complete < self.old.wanted }
+        ensures ended { self.new.phase ≢ Phase.Refused LayoutFault.Memory → self.new ≡ size_line_ended self.old size_line line }
+        ensures memory { self.new.phase ≡ Phase.Refused LayoutFault.Memory → self.old.complete + 1 ≡ self.old.wanted }
+        ensures begins { self.new.phase ≡ Phase.Refused LayoutFault.Memory → (size_line_ended self.old size_line line).phase ≡ Phase.Body }
+    {
         match size_line.stated(self.layout, line) {
             Ok(stated) => self.begin_block(alloc, stated),
             Err(fault) => self.refuse(fault),
         }
     }
 
-    fn end_block(&mut self) {
+    fn end_block(&mut self)
+        requires { self.old.complete < self.old.wanted }
+        ensures { self.new ≡ block_ended self.old }
+    {
         let complete = self.complete + 1;
         self.complete = complete;
         self.phase = if complete == self.wanted {
@@ -167,7 +244,14 @@ impl Fields {
     }
 
     /// Byte 10 ends the line.
-    fn end_line(&mut self, alloc: Global, kinds: Kinds) {
+    #[tactic(auto, unfolding(crate::specs::Step::line_ended))]
+    fn end_line(&mut self, alloc: Global, kinds: Kinds)
+        requires complete { self.old.complete < self.old.wanted }
+        requires line { self.old.line ≤ LONGEST_INPUT }
+        requires memory { self.old.phase ≢ Phase.Refused LayoutFault.Memory }
+        ensures ended { self.new.phase ≢ Phase.Refused LayoutFault.Memory → self.new ≡ line_ended self.old kinds }
+        ensures memory { self.new.phase ≡ Phase.Refused LayoutFault.Memory → LacksMemory self.old (line_ended self.old kinds) }
+    {
         let line = self.line;
         let size_line = self.size_line;
         self.line = line + 1;
@@ -185,11 +269,18 @@ impl Fields {
 
     /// Judges what a byte that is no digit ends.
     #[inline(always)]
-    fn judge_other(&mut self, alloc: Global, digits: Digits, kinds: Kinds, b: u8) {
+    fn judge_other(&mut self, alloc: Global, digits: Digits, kinds: Kinds, b: u8)
+        requires other { digit_test b ≡ false }
+        requires can { self.old.phase ≡ Phase.Body → CanCount self.old }
+        requires count { self.old.size_line.count < LONGEST_INPUT }
+        requires complete { self.old.complete < self.old.wanted }
+        requires line { self.old.line ≤ LONGEST_INPUT }
+        requires live { live_test self.old.phase ≡ true }
+        ensures judged { self.new.phase ≢ Phase.Refused LayoutFault.Memory → self.new ≡ judged self.old digits kinds b }
+        ensures memory { self.new.phase ≡ Phase.Refused LayoutFault.Memory → (b ≡ LINE_END) × LacksMemory self.old (judged self.old digits kinds b) }
+    {
         if is_blank(b) || b == LINE_END {
-            if digits.is_some() {
-                self.end_number(digits.value, digits.first);
-            }
+            self.end_last_number(digits);
             if b == LINE_END {
                 self.end_line(alloc, kinds);
             }
@@ -202,7 +293,15 @@ impl Fields {
 
     /// Judges a byte behind what was scanned.
     #[inline(always)]
-    pub fn judge(&mut self, alloc: Global, digits: Digits, kinds: Kinds, b: u8) {
+    pub fn judge(&mut self, alloc: Global, digits: Digits, kinds: Kinds, b: u8)
+        requires can { self.old.phase ≡ Phase.Body → CanCount self.old }
+        requires count { self.old.size_line.count < LONGEST_INPUT }
+        requires complete { self.old.complete < self.old.wanted }
+        requires line { self.old.line ≤ LONGEST_INPUT }
+        requires live { live_test self.old.phase ≡ true }
+        ensures judged { self.new.phase ≢ Phase.Refused LayoutFault.Memory → self.new ≡ judged self.old digits kinds b }
+        ensures memory { self.new.phase ≡ Phase.Refused LayoutFault.Memory → (b ≡ LINE_END) × LacksMemory self.old (judged self.old digits kinds b) }
+    {
         if is_digit(b) {
             if kinds.has_word && self.in_block() {
                 self.refuse(LayoutFault::MixedLine {
@@ -214,12 +313,58 @@ impl Fields {
         }
     }
 
+    fn progress(&self, used: usize) -> Result<Progress, LayoutFault> {
+        match self.phase {
+            Phase::Done => Ok(Progress { used, done: true }),
+            Phase::Refused(fault) => Err(fault),
+            Phase::Seeking | Phase::Body | Phase::AfterLast => Ok(Progress { used, done: false }),
+        }
+    }
+
+    /// Takes bytes that are all within the limit, up to the end of the wanted block or a refusal.
+    fn take(&mut self, alloc: Global, piece: &[u8]) -> usize {
+        let mut digits = self.digits;
+        let mut kinds = self.kinds;
+        let mut used = 0;
+        for b in piece {
+            let b = *b;
+            let quiet = is_digit(b) && !kinds.has_word;
+            if !quiet {
+                self.judge(alloc, digits, kinds, b);
+            }
+            digits = digits.after(b);
+            kinds = kinds.after(b);
+            used += 1;
+            if !quiet && !self.is_live() {
+                break;
+            }
+        }
+        self.digits = digits;
+        self.kinds = kinds;
+        used
+    }
+
+    /// Takes a piece, up to the end of the wanted block or a refusal.
+    pub fn feed(&mut self, alloc: Global, piece: &[u8]) -> Result<Progress, LayoutFault> {
+        if !self.is_live() {
+            return self.progress(0);
+        }
+        let room = LONGEST_INPUT - self.digits.offset;
+        if piece.len() <= room {
+            let used = self.take(alloc, piece);
+            return self.progress(used);
+        }
+        let used = self.take(alloc, &piece[..room]);
+        if self.is_live() {
+            self.refuse(LayoutFault::TooLong);
+        }
+        self.progress(used)
+    }
+
     /// Judges the end of the input, which ends the last number and the last line. It is no fault where
     /// the wanted block is complete.
     pub fn judge_end(&mut self) -> Result<(), LayoutFault> {
-        if self.digits.is_some() {
-            self.end_number(self.digits.value, self.digits.first);
-        }
+        self.end_last_number(self.digits);
         match self.phase {
             Phase::Seeking => Err(self.sought_fault()),
             Phase::Body => Err(LayoutFault::Truncated {

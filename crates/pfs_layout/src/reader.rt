@@ -1,18 +1,11 @@
 //! The push reader of instance files.
 use crate::body::Body;
-use crate::fields::{Fields, Phase};
-use crate::scan::{Digits, Kinds, is_digit};
+use crate::fields::{Fields, Phase, Progress};
+use crate::scan::{Digits, Kinds};
 use crate::size_line::SizeLine;
 use crate::{Layout, LayoutFault};
-use pfs_base::{Instance, LONGEST_INPUT, Source};
+use pfs_base::{Instance, Source};
 use std::alloc::Global;
-
-/// How far a reader came in a piece, and whether its block has ended.
-#[derive(Clone, Copy, Debug, PartialEq, Eq)]
-pub struct Progress {
-    pub used: usize,
-    pub done: bool,
-}
 
 /// Reads one block of an instance file, which is handed to it in pieces cut anywhere. It keeps the
 /// block's instance, and beside it a fixed number of fields.
@@ -56,53 +49,10 @@ impl BlockReader {
         self.fields.held
     }
 
-    fn progress(&self, used: usize) -> Result<Progress, LayoutFault> {
-        match self.fields.phase {
-            Phase::Done => Ok(Progress { used, done: true }),
-            Phase::Refused(fault) => Err(fault),
-            Phase::Seeking | Phase::Body | Phase::AfterLast => Ok(Progress { used, done: false }),
-        }
-    }
-
-    /// Takes bytes that are all within the limit, up to the end of the wanted block or a refusal.
-    fn take(&mut self, piece: &[u8]) -> usize {
-        let mut digits = self.fields.digits;
-        let mut kinds = self.fields.kinds;
-        let mut used = 0;
-        for b in piece {
-            let b = *b;
-            let quiet = is_digit(b) && !kinds.has_word;
-            if !quiet {
-                self.fields.judge(self.alloc, digits, kinds, b);
-            }
-            digits = digits.after(b);
-            kinds = kinds.after(b);
-            used += 1;
-            if !quiet && !self.fields.is_live() {
-                break;
-            }
-        }
-        self.fields.digits = digits;
-        self.fields.kinds = kinds;
-        used
-    }
-
     /// Takes a piece of the input, up to the end of the wanted block. Behind this end it takes nothing
     /// more. After a refusal it answers the same refusal again.
     pub fn feed(&mut self, piece: &[u8]) -> Result<Progress, LayoutFault> {
-        if !self.fields.is_live() {
-            return self.progress(0);
-        }
-        let room = LONGEST_INPUT - self.fields.digits.offset;
-        if piece.len() <= room {
-            let used = self.take(piece);
-            return self.progress(used);
-        }
-        let used = self.take(&piece[..room]);
-        if self.fields.is_live() {
-            self.fields.refuse(LayoutFault::TooLong);
-        }
-        self.progress(used)
+        self.fields.feed(self.alloc, piece)
     }
 
     /// The instance, if the input may end here. The end of the input ends the last number and the

@@ -1,5 +1,6 @@
 //! Worked files, cut and changed, and what a reader answers.
-use crate::reader::{BlockReader, Progress, read_block};
+use crate::fields::Progress;
+use crate::reader::{BlockReader, read_block};
 use crate::{Layout, LayoutFault};
 use pfs_base::{Instance, LONGEST_INPUT, Source};
 use std::alloc::Global;

@@ -1,5 +1,10 @@
 //! What a reader keeps of the line so far, in two parts that a byte steps on. They have no padding, so
 //! that a step is a few instructions.
+ghost use Rattle.std.specs.Prelude.{◌≡◌, ◌<◌, ◌≤◌, ◌&&◌, not, ◌==◌};
+ghost use Rattle.pfs_layout.specs.Bytes.{is_digit as digit_test, is_blank as blank_test};
+ghost use Rattle.pfs_layout.specs.Step.{digits_after, kinds_after};
+
+use pfs_base::LONGEST_INPUT;
 
 /// All greater values of a number are kept as this: it is greater than every number that is accepted.
 pub const CEILING: u64 = 4_294_967_296;
@@ -8,13 +13,17 @@ pub const CEILING: u64 = 4_294_967_296;
 pub const LINE_END: u8 = 10;
 
 #[inline(always)]
-pub fn is_digit(b: u8) -> bool {
+pub fn is_digit(b: u8) -> bool
+    ensures { result ≡ digit_test b }
+{
     48 <= b && b <= 57
 }
 
 /// A space, a tab or a carriage return.
 #[inline(always)]
-pub fn is_blank(b: u8) -> bool {
+pub fn is_blank(b: u8) -> bool
+    ensures { result ≡ blank_test b }
+{
     b == 32 || b == 9 || b == 13
 }
 
@@ -39,7 +48,11 @@ pub struct Kinds {
 impl Digits {
     /// One byte on.
     #[inline(always)]
-    pub fn after(self, b: u8) -> Digits {
+    pub fn after(self, b: u8) -> Digits
+        requires offset { self.offset < LONGEST_INPUT }
+        requires value { self.value ≤ CEILING }
+        ensures { result ≡ digits_after self b }
+    {
         let offset = self.offset + 1;
         let digit = is_digit(b);
         Digits {
@@ -55,7 +68,9 @@ impl Digits {
 
     /// Whether there is an unfinished number.
     #[inline(always)]
-    pub fn is_some(self) -> bool {
+    pub fn is_some(self) -> bool
+        ensures { result ≡ not (self.first == self.offset) }
+    {
         self.first != self.offset
     }
 }
@@ -63,7 +78,9 @@ impl Digits {
 impl Kinds {
     /// One byte on.
     #[inline(always)]
-    pub fn after(self, b: u8) -> Kinds {
+    pub fn after(self, b: u8) -> Kinds
+        ensures { result ≡ kinds_after self b }
+    {
         let digit = is_digit(b);
         let ends = b == LINE_END;
         Kinds {
@@ -73,7 +90,9 @@ impl Kinds {
     }
 
     /// Whether the line is a number line.
-    pub fn is_number_line(self) -> bool {
+    pub fn is_number_line(self) -> bool
+        ensures { result ≡ (self.has_digit && not self.has_word) }
+    {
         self.has_digit && !self.has_word
     }
 }

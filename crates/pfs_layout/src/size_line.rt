@@ -1,7 +1,12 @@
 //! A line that may be a size line.
+ghost use Rattle.std.specs.Prelude.{◌≡◌, ◌<◌, true, Some, IfOk, IfErr, IsTrue};
+ghost use Rattle.pfs_layout.specs.Size.{is_within_limits};
+ghost use Rattle.pfs_layout.specs.Refuse.{size_fault};
+ghost use Rattle.pfs_layout.specs.Step.{no_numbers, with_number, stated_by, size_given};
+
 use crate::scan::CEILING;
 use crate::{Layout, LayoutFault};
-use pfs_base::{MOST_JOBS, MOST_MACHINES, Notes};
+use pfs_base::{LONGEST_INPUT, MOST_JOBS, MOST_MACHINES, Notes};
 
 /// The numbers so far of a line that may be a size line.
 #[derive(Clone, Copy)]
@@ -22,7 +27,9 @@ pub struct Stated {
 
 impl SizeLine {
     /// No number yet.
-    pub fn new() -> SizeLine {
+    pub fn new() -> SizeLine
+        ensures { result ≡ no_numbers }
+    {
         SizeLine {
             count: 0,
             values: [0; 5],
@@ -30,7 +37,10 @@ impl SizeLine {
     }
 
     /// One number more.
-    pub fn with(self, value: u64) -> SizeLine {
+    pub fn with(self, value: u64) -> SizeLine
+        requires { self.count < LONGEST_INPUT }
+        ensures { result ≡ with_number self value }
+    {
         let mut values = self.values;
         if self.count < 5 {
             values[self.count] = value;
@@ -42,7 +52,11 @@ impl SizeLine {
     }
 
     /// What the whole line states: the count of its numbers is judged before their ranges.
-    pub fn stated(self, layout: Layout, line: usize) -> Result<Stated, LayoutFault> {
+    pub fn stated(self, layout: Layout, line: usize) -> Result<Stated, LayoutFault>
+        ensures stated { IfOk result (λ stated. stated_by layout self ≡ Some (size_given stated)) }
+        ensures within { IfOk result (λ stated. is_within_limits (size_given stated) ≡ true) }
+        ensures fault { IfErr result (λ fault. size_fault (stated_by layout self) line ≡ Some fault) }
+    {
         match layout {
             Layout::Taillard => {
                 if self.count != 5 {
@@ -68,7 +82,11 @@ fn in_range(
     upper: u64,
     lower: u64,
     line: usize,
-) -> Result<Stated, LayoutFault> {
+) -> Result<Stated, LayoutFault>
+    ensures stated { IfOk result (λ stated. size_given stated ≡ record { jobs = jobs; machines = machines; notes = record { seed = seed; upper = upper; lower = lower } }) }
+    ensures within { IfOk result (λ stated. is_within_limits (size_given stated) ≡ true) }
+    ensures fault { IfErr result (λ fault. size_fault (Some (record { jobs = jobs; machines = machines; notes = record { seed = seed; upper = upper; lower = lower } })) line ≡ Some fault) }
+{
     let fits = 1 <= jobs
         && jobs <= MOST_JOBS as u64
         && 1 <= machines
