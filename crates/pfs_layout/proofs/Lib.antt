@@ -1,6 +1,8 @@
 pub mod BlockLemmas
 pub mod DueLemmas
 pub mod LineLemmas
+pub mod NumberLemmas
+pub mod NumberSteps
 pub mod PlaceLemmas
 pub mod SizeLemmas
 pub mod SoundLemmas

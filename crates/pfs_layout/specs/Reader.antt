@@ -1,5 +1,5 @@
 -- What the fields of a reader say of the bytes that it has read.
-use Rattle.std.specs.Prelude.{◌≡◌, ◌≢◌, ◌↔◌, ℕ, ◌+◌, ◌-◌, ◌*◌, ◌/◌, ◌<◌, ◌≤◌, min, Bool, true, false, nat_lt, List, [], ◌∷◌, ◌++◌, length, take, count_by, slice_index, Option, Some, None, option_map, Result, IfOk, IfErr, IsTrue, IsFalse, if◌then◌else◌, ◌==◌, slice_get}
+use Rattle.std.specs.Prelude.{◌≡◌, ◌≢◌, ◌↔◌, ℕ, ◌+◌, ◌-◌, ◌*◌, ◌/◌, ◌<◌, ◌≤◌, min, Bool, true, false, nat_lt, List, [], ◌∷◌, ◌++◌, length, take, count_by, slice_index, Option, Some, None, option_map, Result, Ok, Err, IfOk, IfErr, IsTrue, IsFalse, if◌then◌else◌, ◌==◌, slice_get}
 use Rattle.std.specs.List.{list_any}
 use Rattle.std.specs.Option.{option_map_or}
 use Rattle.std.specs.Str.Parse.{digits_value}
@@ -84,7 +84,7 @@ abbrev pub FollowsNow : Fields → Now → List ℕ → Type 0
 FollowsNow r seeking more = (r.phase ≡ (if nat_lt r.complete r.wanted then phases.Seeking else phases.Done))
     × (r.kinds.has_word ≡ false → HoldsNumbers r.size_line more)
 FollowsNow r (inside block) more = (r.phase ≡ (if nat_lt r.body.judged r.body.due then phases.Body else phases.AfterLast))
-    × (is_within_limits block.size ≡ true) × FollowsBody r.layout block.size (length block.numbers + length more) r.body
+    × (r.complete < r.wanted) × (is_within_limits block.size ≡ true) × FollowsBody r.layout block.size (length block.numbers + length more) r.body
 FollowsNow r lost more = ⊥
 
 -- the blocks, behind lines that lead here and these ended numbers of the last line
