@@ -1,6 +1,7 @@
 pub mod BlockLemmas
 pub mod DueLemmas
 pub mod LineLemmas
+pub mod LineSteps
 pub mod NumberLemmas
 pub mod NumberSteps
 pub mod PlaceLemmas

@@ -81,6 +81,7 @@ time_behind Taillard size count body f more odd = record {
   machines = f.machines;
   due = f.due;
   judged = omega (arith, f.judged);
+  few = omega arith;
   job = next_within body.job body.jobs f.job;
   machine = row_within (body.job + 1 == body.jobs) body.machine body.machines f.machine;
   place = λ later.
@@ -96,6 +97,7 @@ time_behind OrLib size count body f more odd = record {
   machines = f.machines;
   due = f.due;
   judged = omega (arith, f.judged);
+  few = omega arith;
   job = row_within (body.machine + 1 == body.machines) body.job body.jobs f.job;
   machine = next_within body.machine body.machines f.machine;
   place = λ later.
@@ -117,6 +119,7 @@ machine_behind size count body f more even = record {
   machines = f.machines;
   due = f.due;
   judged = omega (arith, f.judged);
+  few = omega arith;
   job = f.job;
   machine = f.machine;
   place = λ later. let half : (body.judged + 1) / 2 ≡ body.judged / 2 = omega arith in half ∙ f.place more;

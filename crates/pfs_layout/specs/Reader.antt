@@ -75,6 +75,7 @@ pub record FollowsBody (layout : Layout) (size : Size) (count : ℕ) (body : Bod
   pub machines : body.machines ≡ size.machines
   pub due : body.due ≡ due_count layout size
   pub judged : body.judged ≡ count
+  pub few : body.judged ≤ body.due
   pub job : body.job < body.jobs
   pub machine : body.machine < body.machines
   pub place : body.judged < body.due → IsNextTime layout body
