@@ -5,6 +5,7 @@ pub mod LineSteps
 pub mod NumberLemmas
 pub mod NumberSteps
 pub mod PlaceLemmas
+pub mod ScanLemmas
 pub mod SizeLemmas
 pub mod SoundLemmas
 pub mod StepLemmas

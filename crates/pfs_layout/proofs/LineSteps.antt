@@ -149,7 +149,7 @@ due_some OrLib size within = let w = size_within size within in let p = product_
 
 begun_follows : (r : Fields) (complete : List Block) (size : Size) (more : List ℕ) → r.complete ≡ length complete → r.complete < r.wanted → is_within_limits size ≡ true
     → r.held ≡ time_count r.layout (block_of r.wanted (record { complete = complete; now = seeking }) more)
-    → FollowsBlocks (block_begun r size) (record { complete = complete; now = inside (record { size = size; numbers = [] }) }) []
+    → FollowsBlocks false (block_begun r size) (record { complete = complete; now = inside (record { size = size; numbers = [] }) }) []
 begun_follows r complete size more count few within held =
     let least : length complete < r.wanted = omega arith in
     let none : r.held ≡ 0 = held ∙ ap (time_count r.layout) (no_block complete r.wanted more least) in
@@ -182,7 +182,7 @@ pub record Refuses (old : Fields) (fault : LayoutFault) (new : Fields) : Type 0 
 
 -- the fault, or what the fields say behind the line
 abbrev pub LineOutcome : Fields → Stand → Fields → Option LayoutFault → Type 0
-LineOutcome r stood next None = FollowsBlocks next stood []
+LineOutcome r stood next None = FollowsBlocks false next stood []
 LineOutcome r stood next (Some fault) = Refuses r fault next
 
 holds_none : HoldsNumbers no_numbers []
@@ -202,17 +202,17 @@ size_step (Some size) r complete more kept line clips count few held =
   where
     by_within : (t : Bool) → is_within_limits size ≡ t
         → LineOutcome r (record { complete = complete; now = if t then inside (record { size = size; numbers = [] }) else lost }) (size_judged r (Some (clipped size)) (then_some (not t) (SizeRange line))) (then_some (not t) (SizeRange line))
-    by_within true e = subst (λ s. FollowsBlocks (block_begun r s) (record { complete = complete; now = inside (record { size = size; numbers = [] }) }) []) (sym (clipped_is size e)) (begun_follows r complete size more count few e held)
+    by_within true e = subst (λ s. FollowsBlocks false (block_begun r s) (record { complete = complete; now = inside (record { size = size; numbers = [] }) }) []) (sym (clipped_is size e)) (begun_follows r complete size more count few e held)
     by_within false e = record { phase = refl; held = refl; layout = refl; wanted = refl }
 
 -- a line behind which the next block is sought
-sought_line : (r : Fields) (complete : List Block) (line : List ℕ) (kinds : Kinds) → FollowsBlocks r (record { complete = complete; now = seeking }) (numbers line)
-    → r.phase ≡ phases.Seeking → r.complete < r.wanted → (list_any is_word_byte line ≡ false → r.kinds.has_word ≡ false)
+pub sought_line : (r : Fields) (complete : List Block) (line : List ℕ) (kinds : Kinds) → FollowsBlocks (list_any is_word_byte line) r (record { complete = complete; now = seeking }) (numbers line)
+    → r.phase ≡ phases.Seeking → r.complete < r.wanted
     → (kinds.has_digit && not kinds.has_word) ≡ is_number_line line
     → LineOutcome r (stand_after r.layout (record { complete = complete; now = seeking }) line) (line_ended r kinds)
     (if is_number_line line then size_fault (stated_size r.layout (numbers line)) r.line else None)
 unfolding line_ended stand_after
-sought_line r complete line kinds f phase few unworded same = by_kind (is_number_line line) refl
+sought_line r complete line kinds f phase few same = by_kind (is_number_line line) refl
   where
     Claim : Bool → Type 0
     Claim t = LineOutcome r (record { complete = complete; now = if t then after_size (stated_size r.layout (numbers line)) else seeking })
@@ -230,7 +230,7 @@ sought_line r complete line kinds f phase few unworded same = by_kind (is_number
     claim true e =
         let plain : list_any is_word_byte line ≡ false = no_word (list_any is_digit line) (list_any is_word_byte line) e in
         let outcome = size_step (stated_size r.layout (numbers line)) (at_next_line r) complete (numbers line) (stated_by r.layout r.size_line) r.line
-        (clips r.layout r.size_line (numbers line) (f.now.1 (unworded plain))) f.complete few f.held in
+        (clips r.layout r.size_line (numbers line) (f.now.1 plain)) f.complete few f.held in
         old_is (size_fault (stated_size r.layout (numbers line)) r.line) outcome
       where
         old_is : (fault : Option LayoutFault) → LineOutcome (at_next_line r) (record { complete = complete; now = after_size (stated_size r.layout (numbers line)) }) (size_line_ended (at_next_line r) r.size_line r.line) fault
@@ -252,12 +252,12 @@ full_or_not : (layout : Layout) (complete : List Block) (block : Block) → are_
     → after_numbers layout complete block ≡ (if length block.numbers == due_count layout block.size then (let s : Stand = record { complete = complete ++ block ∷ []; now = seeking } in s) else record { complete = complete; now = inside block })
 full_or_not layout complete block due = ap (λ t. if t then (if length block.numbers == due_count layout block.size then (let s : Stand = record { complete = complete ++ block ∷ []; now = seeking } in s) else record { complete = complete; now = inside block }) else record { complete = complete; now = lost }) due
 
-body_line : (r : Fields) (complete : List Block) (block : Block) (line : List ℕ) (kinds : Kinds) → FollowsBlocks r (record { complete = complete; now = inside block }) (numbers line)
+pub body_line : {worded : Bool} (r : Fields) (complete : List Block) (block : Block) (line : List ℕ) (kinds : Kinds) → FollowsBlocks worded r (record { complete = complete; now = inside block }) (numbers line)
     → is_mixed line ≡ false → are_due r.layout block.size (block.numbers ++ numbers line) ≡ true
-    → FollowsBlocks (line_ended r kinds) (stand_after r.layout (record { complete = complete; now = inside block }) line) []
+    → FollowsBlocks false (line_ended r kinds) (stand_after r.layout (record { complete = complete; now = inside block }) line) []
 unfolding line_ended stand_after
-body_line r complete block line kinds f unmixed due =
-    subst (λ s. FollowsBlocks (line_ended_in r.phase r kinds) s []) (sym stands) (by_full (nat_lt r.body.judged r.body.due) refl)
+body_line {worded} r complete block line kinds f unmixed due =
+    subst (λ s. FollowsBlocks false (line_ended_in r.phase r kinds) s []) (sym stands) (by_full (nat_lt r.body.judged r.body.due) refl)
   where
     whole : Block
     whole = record { size = block.size; numbers = block.numbers ++ numbers line }
@@ -281,7 +281,7 @@ body_line r complete block line kinds f unmixed due =
     begun more ns = ap (λ t. if t then (if length complete + 1 == r.wanted then Some (let b : Block = record { size = block.size; numbers = ns ++ more } in b) else None) else slice_get complete (r.wanted - 1)) (lt-ltb (length complete) r.wanted few)
 
     by_full : (t : Bool) → nat_lt r.body.judged r.body.due ≡ t
-        → FollowsBlocks (line_ended_in r.phase r kinds)
+        → FollowsBlocks false (line_ended_in r.phase r kinds)
         (if length (block.numbers ++ numbers line) == due_count r.layout block.size then (let s : Stand = record { complete = complete ++ record { size = block.size; numbers = block.numbers ++ numbers line } ∷ []; now = seeking } in s) else record { complete = complete; now = inside (record { size = block.size; numbers = block.numbers ++ numbers line }) }) []
     by_full true e =
         let less : r.body.judged < r.body.due = ltb-true r.body.judged r.body.due e in
@@ -291,8 +291,8 @@ body_line r complete block line kinds f unmixed due =
         let same : block_of r.wanted (record { complete = complete; now = inside block }) (numbers line) ≡ block_of r.wanted (record { complete = complete; now = inside (record { size = block.size; numbers = block.numbers ++ numbers line }) }) [] =
         begun (numbers line) block.numbers ∙ ap (λ ns. if length complete + 1 == r.wanted then Some (let b : Block = record { size = block.size; numbers = ns } in b) else None) (sym (append-nil (block.numbers ++ numbers line))) ∙ sym (begun [] (block.numbers ++ numbers line)) in
         let counts : length block.numbers + length (numbers line) ≡ length (block.numbers ++ numbers line) + length {A = ℕ} [] = omega (arith, length-append block.numbers (numbers line)) in
-        subst (λ z. FollowsBlocks z (if length (block.numbers ++ numbers line) == due_count r.layout block.size then (let s : Stand = record { complete = complete ++ record { size = block.size; numbers = block.numbers ++ numbers line } ∷ []; now = seeking } in s) else record { complete = complete; now = inside (record { size = block.size; numbers = block.numbers ++ numbers line }) }) []) (sym next)
-        (subst (λ t. FollowsBlocks (at_next_line r) (if t then (let s : Stand = record { complete = complete ++ record { size = block.size; numbers = block.numbers ++ numbers line } ∷ []; now = seeking } in s) else record { complete = complete; now = inside (record { size = block.size; numbers = block.numbers ++ numbers line }) }) []) (sym not_full)
+        subst (λ z. FollowsBlocks false z (if length (block.numbers ++ numbers line) == due_count r.layout block.size then (let s : Stand = record { complete = complete ++ record { size = block.size; numbers = block.numbers ++ numbers line } ∷ []; now = seeking } in s) else record { complete = complete; now = inside (record { size = block.size; numbers = block.numbers ++ numbers line }) }) []) (sym next)
+        (subst (λ t. FollowsBlocks false (at_next_line r) (if t then (let s : Stand = record { complete = complete ++ record { size = block.size; numbers = block.numbers ++ numbers line } ∷ []; now = seeking } in s) else record { complete = complete; now = inside (record { size = block.size; numbers = block.numbers ++ numbers line }) }) []) (sym not_full)
         (record {
           complete = f.complete;
           now = (f.now.0, f.now.1, f.now.2, subst (λ n. FollowsBody r.layout block.size n r.body) counts body);
@@ -307,8 +307,8 @@ body_line r complete block line kinds f unmixed due =
         let pushed : length (complete ++ whole ∷ []) ≡ length complete + 1 = length_push complete whole in
         let same : block_of r.wanted (record { complete = complete; now = inside block }) (numbers line) ≡ block_of r.wanted (record { complete = complete ++ whole ∷ []; now = seeking }) [] =
         begun (numbers line) block.numbers ∙ sym (ended pushed) in
-        subst (λ z. FollowsBlocks z (if length (block.numbers ++ numbers line) == due_count r.layout block.size then (let s : Stand = record { complete = complete ++ record { size = block.size; numbers = block.numbers ++ numbers line } ∷ []; now = seeking } in s) else record { complete = complete; now = inside (record { size = block.size; numbers = block.numbers ++ numbers line }) }) []) (sym next)
-        (subst (λ t. FollowsBlocks (block_ended (at_next_line r)) (if t then (let s : Stand = record { complete = complete ++ record { size = block.size; numbers = block.numbers ++ numbers line } ∷ []; now = seeking } in s) else record { complete = complete; now = inside (record { size = block.size; numbers = block.numbers ++ numbers line }) }) []) (sym full)
+        subst (λ z. FollowsBlocks false z (if length (block.numbers ++ numbers line) == due_count r.layout block.size then (let s : Stand = record { complete = complete ++ record { size = block.size; numbers = block.numbers ++ numbers line } ∷ []; now = seeking } in s) else record { complete = complete; now = inside (record { size = block.size; numbers = block.numbers ++ numbers line }) }) []) (sym next)
+        (subst (λ t. FollowsBlocks false (block_ended (at_next_line r)) (if t then (let s : Stand = record { complete = complete ++ record { size = block.size; numbers = block.numbers ++ numbers line } ∷ []; now = seeking } in s) else record { complete = complete; now = inside (record { size = block.size; numbers = block.numbers ++ numbers line }) }) []) (sym full)
         (record {
           complete = omega (arith, f.complete, pushed);
           now = (by_wanted (r.complete + 1 == r.wanted) refl, λ plain. holds_none);

@@ -27,9 +27,9 @@ use Rattle.pfs_layout.proofs.TableLemmas.{times_in}
 use Rattle.pfs_layout.proofs.NumberLemmas.{holds_push, time_behind, machine_behind, Keeping, keeping_time, keeping_machine}
 
 -- the fault, or what the fields say with the number
-abbrev pub NumberOutcome : Fields → List Block → Now → List ℕ → ℕ → Fields → Option LayoutFault → Type 0
-NumberOutcome r complete now more v next None = FollowsBlocks next (record { complete = complete; now = now }) (more ++ v ∷ [])
-NumberOutcome r complete now more v next (Some fault) = next ≡ refused r fault
+abbrev pub NumberOutcome : Bool → Fields → List Block → Now → List ℕ → ℕ → Fields → Option LayoutFault → Type 0
+NumberOutcome worded r complete now more v next None = FollowsBlocks worded next (record { complete = complete; now = now }) (more ++ v ∷ [])
+NumberOutcome worded r complete now more v next (Some fault) = next ≡ refused r fault
 
 -- the fault of a number behind these
 abbrev pub misfit_in : Layout → Now → List ℕ → ℕ → ℕ → Option LayoutFault
@@ -43,14 +43,14 @@ sought_phase : (v : Bool) (phase : Phase) → phase ≡ (if v then phases.Seekin
 sought_phase true phase e live = e
 sought_phase false phase e live = absurd (let dead : is_live phase ≡ false = ap is_live e in cc)
 
-sought_number : (r : Fields) (complete : List Block) (more : List ℕ) (v first : ℕ) → FollowsBlocks r (record { complete = complete; now = seeking }) more
+sought_number : {worded : Bool} (r : Fields) (complete : List Block) (more : List ℕ) (v first : ℕ) → FollowsBlocks worded r (record { complete = complete; now = seeking }) more
     → is_live r.phase ≡ true → length r.size_line.values ≡ 5
-    → FollowsBlocks (number_ended r (min CEILING v) first) (record { complete = complete; now = seeking }) (more ++ v ∷ [])
+    → FollowsBlocks worded (number_ended r (min CEILING v) first) (record { complete = complete; now = seeking }) (more ++ v ∷ [])
 unfolding number_ended
-sought_number r complete more v first f live five =
+sought_number {worded} r complete more v first f live five =
     let next : number_ended r (min CEILING v) first ≡ record r { size_line = with_number r.size_line (min CEILING v) } =
     ap (λ phase. number_ended_in phase r (min CEILING v) first) (sought_phase (nat_lt r.complete r.wanted) r.phase f.now.0 live) in
-    subst (λ z. FollowsBlocks z (record { complete = complete; now = seeking }) (more ++ v ∷ [])) (sym next) (record {
+    subst (λ z. FollowsBlocks worded z (record { complete = complete; now = seeking }) (more ++ v ∷ [])) (sym next) (record {
       complete = f.complete;
       now = (f.now.0, λ no_word. holds_push r.size_line more v five (f.now.1 no_word));
       instance = f.instance;
@@ -106,10 +106,10 @@ time_place OrLib size body n f more odd =
     let e : n ≡ body.judged = sym f.judged in
     rw (← m) (omega arith)
 
-time_follows : (r : Fields) (complete : List Block) (block : Block) (more : List ℕ) (v : ℕ) → FollowsBlocks r (record { complete = complete; now = inside block }) more
+time_follows : {worded : Bool} (r : Fields) (complete : List Block) (block : Block) (more : List ℕ) (v : ℕ) → FollowsBlocks worded r (record { complete = complete; now = inside block }) more
     → r.body.judged < r.body.due → (r.layout ≡ OrLib → r.body.judged % 2 ≡ 1)
-    → FollowsBlocks (counted (stored r v) (after_time r.layout r.body)) (record { complete = complete; now = inside block }) (more ++ v ∷ [])
-time_follows r complete block more v f due odd =
+    → FollowsBlocks worded (counted (stored r v) (after_time r.layout r.body)) (record { complete = complete; now = inside block }) (more ++ v ∷ [])
+time_follows {worded} r complete block more v f due odd =
     let body = f.now.3 in
     let count : length (block.numbers ++ more) ≡ length block.numbers + length more = length-append block.numbers more in
     let n_is : length (block.numbers ++ more) ≡ r.body.judged = count ∙ sym body.judged in
@@ -127,10 +127,10 @@ time_follows r complete block more v f due odd =
       held = kept.1;
     }
 
-machine_follows : (r : Fields) (complete : List Block) (block : Block) (more : List ℕ) (v : ℕ) → r.layout ≡ OrLib → FollowsBlocks r (record { complete = complete; now = inside block }) more
+machine_follows : {worded : Bool} (r : Fields) (complete : List Block) (block : Block) (more : List ℕ) (v : ℕ) → r.layout ≡ OrLib → FollowsBlocks worded r (record { complete = complete; now = inside block }) more
     → r.body.judged < r.body.due → r.body.judged % 2 ≡ 0
-    → FollowsBlocks (counted r (after_machine r.body)) (record { complete = complete; now = inside block }) (more ++ v ∷ [])
-machine_follows r complete block more v layout f due even =
+    → FollowsBlocks worded (counted r (after_machine r.body)) (record { complete = complete; now = inside block }) (more ++ v ∷ [])
+machine_follows {worded} r complete block more v layout f due even =
     let body = f.now.3 in
     let count : length (block.numbers ++ more) ≡ length block.numbers + length more = length-append block.numbers more in
     let n_is : length (block.numbers ++ more) ≡ r.body.judged = count ∙ sym body.judged in
@@ -155,32 +155,32 @@ machine_follows r complete block more v layout f due even =
     }
 
 -- a time is due
-time_step : (r : Fields) (complete : List Block) (block : Block) (more : List ℕ) (v first : ℕ) → FollowsBlocks r (record { complete = complete; now = inside block }) more
+time_step : {worded : Bool} (r : Fields) (complete : List Block) (block : Block) (more : List ℕ) (v first : ℕ) → FollowsBlocks worded r (record { complete = complete; now = inside block }) more
     → r.body.judged < r.body.due → (r.layout ≡ OrLib → r.body.judged % 2 ≡ 1)
-    → NumberOutcome r complete (inside block) more v (time_judged r (min CEILING v) first) (misfit any_time v first)
-time_step r complete block more v first f due odd = by_range (nat_lt LONGEST_TIME v) refl
+    → NumberOutcome worded r complete (inside block) more v (time_judged r (min CEILING v) first) (misfit any_time v first)
+time_step {worded} r complete block more v first f due odd = by_range (nat_lt LONGEST_TIME v) refl
   where
     clipped : (t : Bool) → nat_lt LONGEST_TIME v ≡ t → nat_lt LONGEST_TIME (min CEILING v) ≡ t
     clipped true e = let l : LONGEST_TIME < v = ltb-true LONGEST_TIME v e in lt-ltb LONGEST_TIME (min CEILING v) (omega arith)
     clipped false e = let l : v ≤ LONGEST_TIME = ltb-false LONGEST_TIME v e in le-ltb LONGEST_TIME (min CEILING v) (omega arith)
 
-    by_range : (t : Bool) → nat_lt LONGEST_TIME v ≡ t → NumberOutcome r complete (inside block) more v (time_judged r (min CEILING v) first) (then_some (nat_lt LONGEST_TIME v) (TimeRange first))
+    by_range : (t : Bool) → nat_lt LONGEST_TIME v ≡ t → NumberOutcome worded r complete (inside block) more v (time_judged r (min CEILING v) first) (then_some (nat_lt LONGEST_TIME v) (TimeRange first))
     by_range true e =
         let next : time_judged r (min CEILING v) first ≡ refused r (TimeRange first) = ap (λ t. if t then refused r (TimeRange first) else counted (stored r (min CEILING v)) (after_time r.layout r.body)) (clipped true e) in
-        subst (λ t. NumberOutcome r complete (inside block) more v (time_judged r (min CEILING v) first) (then_some t (TimeRange first))) (sym e) next
+        subst (λ t. NumberOutcome worded r complete (inside block) more v (time_judged r (min CEILING v) first) (then_some t (TimeRange first))) (sym e) next
     by_range false e =
         let l : v ≤ LONGEST_TIME = ltb-false LONGEST_TIME v e in
         let same : v ≡ min CEILING v = omega arith in
         let next : time_judged r (min CEILING v) first ≡ counted (stored r (min CEILING v)) (after_time r.layout r.body) = ap (λ t. if t then refused r (TimeRange first) else counted (stored r (min CEILING v)) (after_time r.layout r.body)) (clipped false e) in
         let next_v : time_judged r (min CEILING v) first ≡ counted (stored r v) (after_time r.layout r.body) = next ∙ ap (λ c. counted (stored r c) (after_time r.layout r.body)) (sym same) in
-        subst (λ t. NumberOutcome r complete (inside block) more v (time_judged r (min CEILING v) first) (then_some t (TimeRange first))) (sym e)
-        (subst (λ z. FollowsBlocks z (record { complete = complete; now = inside block }) (more ++ v ∷ [])) (sym next_v) (time_follows r complete block more v f due odd))
+        subst (λ t. NumberOutcome worded r complete (inside block) more v (time_judged r (min CEILING v) first) (then_some t (TimeRange first))) (sym e)
+        (subst (λ z. FollowsBlocks worded z (record { complete = complete; now = inside block }) (more ++ v ∷ [])) (sym next_v) (time_follows r complete block more v f due odd))
 
 -- the number of a machine is due
-machine_step : (r : Fields) (complete : List Block) (block : Block) (more : List ℕ) (v first : ℕ) → r.layout ≡ OrLib → FollowsBlocks r (record { complete = complete; now = inside block }) more
+machine_step : {worded : Bool} (r : Fields) (complete : List Block) (block : Block) (more : List ℕ) (v first : ℕ) → r.layout ≡ OrLib → FollowsBlocks worded r (record { complete = complete; now = inside block }) more
     → r.body.judged < r.body.due → r.body.judged % 2 ≡ 0
-    → NumberOutcome r complete (inside block) more v (machine_judged r (min CEILING v) first) (misfit (machine_number r.body.machine) v first)
-machine_step r complete block more v first layout f due even = by_same (v == r.body.machine) refl
+    → NumberOutcome worded r complete (inside block) more v (machine_judged r (min CEILING v) first) (misfit (machine_number r.body.machine) v first)
+machine_step {worded} r complete block more v first layout f due even = by_same (v == r.body.machine) refl
   where
     small : r.body.machine < CEILING
     small = let body = f.now.3 in let within = size_within block.size f.now.2 in omega (arith, body.machine, body.machines, within.sizes.few_machines)
@@ -189,28 +189,28 @@ machine_step r complete block more v first layout f due even = by_same (v == r.b
     clipped true e = let l : v ≡ r.body.machine = eqb-true v r.body.machine e in eq-eqb (min CEILING v) r.body.machine (omega (arith, small))
     clipped false e = let l : v ≢ r.body.machine = eqb-false v r.body.machine e in ne_eqb (min CEILING v) r.body.machine (λ z. l (omega (arith, small)))
 
-    by_same : (t : Bool) → (v == r.body.machine) ≡ t → NumberOutcome r complete (inside block) more v (machine_judged r (min CEILING v) first) (then_some (not (v == r.body.machine)) (MachineNumber first))
+    by_same : (t : Bool) → (v == r.body.machine) ≡ t → NumberOutcome worded r complete (inside block) more v (machine_judged r (min CEILING v) first) (then_some (not (v == r.body.machine)) (MachineNumber first))
     by_same false e =
         let next : machine_judged r (min CEILING v) first ≡ refused r (MachineNumber first) = ap (λ t. if t then counted r (after_machine r.body) else refused r (MachineNumber first)) (clipped false e) in
-        subst (λ t. NumberOutcome r complete (inside block) more v (machine_judged r (min CEILING v) first) (then_some (not t) (MachineNumber first))) (sym e) next
+        subst (λ t. NumberOutcome worded r complete (inside block) more v (machine_judged r (min CEILING v) first) (then_some (not t) (MachineNumber first))) (sym e) next
     by_same true e =
         let next : machine_judged r (min CEILING v) first ≡ counted r (after_machine r.body) = ap (λ t. if t then counted r (after_machine r.body) else refused r (MachineNumber first)) (clipped true e) in
-        subst (λ t. NumberOutcome r complete (inside block) more v (machine_judged r (min CEILING v) first) (then_some (not t) (MachineNumber first))) (sym e)
-        (subst (λ z. FollowsBlocks z (record { complete = complete; now = inside block }) (more ++ v ∷ [])) (sym next) (machine_follows r complete block more v layout f due even))
+        subst (λ t. NumberOutcome worded r complete (inside block) more v (machine_judged r (min CEILING v) first) (then_some (not t) (MachineNumber first))) (sym e)
+        (subst (λ z. FollowsBlocks worded z (record { complete = complete; now = inside block }) (more ++ v ∷ [])) (sym next) (machine_follows r complete block more v layout f due even))
 
 -- a number is due at all
-due_step : (layout : Layout) (r : Fields) (complete : List Block) (block : Block) (more : List ℕ) (v first : ℕ) → r.layout ≡ layout → FollowsBlocks r (record { complete = complete; now = inside block }) more
-    → r.body.judged < r.body.due → NumberOutcome r complete (inside block) more v (body_judged r (min CEILING v) first) (misfit (due_at layout block.size (length block.numbers + length more)) v first)
+due_step : {worded : Bool} (layout : Layout) (r : Fields) (complete : List Block) (block : Block) (more : List ℕ) (v first : ℕ) → r.layout ≡ layout → FollowsBlocks worded r (record { complete = complete; now = inside block }) more
+    → r.body.judged < r.body.due → NumberOutcome worded r complete (inside block) more v (body_judged r (min CEILING v) first) (misfit (due_at layout block.size (length block.numbers + length more)) v first)
 unfolding due_at
-due_step Taillard r complete block more v first layout f due =
+due_step {worded} Taillard r complete block more v first layout f due =
     let body = f.now.3 in
     let lt : nat_lt (length block.numbers + length more) (block.size.jobs * block.size.machines) ≡ true =
     lt-ltb _ _ (let total : r.body.due ≡ block.size.jobs * block.size.machines = body.due ∙ ap (λ l. due_count l block.size) layout in omega (arith, body.judged)) in
     let is_due : due_at Taillard block.size (length block.numbers + length more) ≡ any_time = ap (λ t. if t then any_time else nothing) lt in
     let next : body_judged r (min CEILING v) first ≡ time_judged r (min CEILING v) first = ap (λ l. if is_machine_due l r.body then machine_judged r (min CEILING v) first else time_judged r (min CEILING v) first) layout in
-    subst (λ d. NumberOutcome r complete (inside block) more v (body_judged r (min CEILING v) first) (misfit d v first)) (sym is_due)
-    (subst (λ z. NumberOutcome r complete (inside block) more v z (misfit any_time v first)) (sym next) (time_step r complete block more v first f due (λ o. absurd (let bad : Taillard ≡ OrLib = sym layout ∙ o in cc))))
-due_step OrLib r complete block more v first layout f due = by_half (r.body.judged % 2 == 0) refl
+    subst (λ d. NumberOutcome worded r complete (inside block) more v (body_judged r (min CEILING v) first) (misfit d v first)) (sym is_due)
+    (subst (λ z. NumberOutcome worded r complete (inside block) more v z (misfit any_time v first)) (sym next) (time_step r complete block more v first f due (λ o. absurd (let bad : Taillard ≡ OrLib = sym layout ∙ o in cc))))
+due_step {worded} OrLib r complete block more v first layout f due = by_half (r.body.judged % 2 == 0) refl
   where
     body : FollowsBody r.layout block.size (length block.numbers + length more) r.body
     body = f.now.3
@@ -224,7 +224,7 @@ due_step OrLib r complete block more v first layout f due = by_half (r.body.judg
     place : r.body.judged / 2 ≡ r.body.job * r.body.machines + r.body.machine
     place = subst (λ l. IsNextTime l r.body) layout (body.place due)
 
-    by_half : (t : Bool) → (r.body.judged % 2 == 0) ≡ t → NumberOutcome r complete (inside block) more v (body_judged r (min CEILING v) first) (misfit (due_at OrLib block.size (length block.numbers + length more)) v first)
+    by_half : (t : Bool) → (r.body.judged % 2 == 0) ≡ t → NumberOutcome worded r complete (inside block) more v (body_judged r (min CEILING v) first) (misfit (due_at OrLib block.size (length block.numbers + length more)) v first)
     by_half true e =
         let even : r.body.judged % 2 ≡ 0 = eqb-true (r.body.judged % 2) 0 e in
         let here : (length block.numbers + length more) % 2 ≡ 0 = ap (λ n. n % 2) (sym body.judged) ∙ even in
@@ -235,8 +235,8 @@ due_step OrLib r complete block more v first layout f due = by_half (r.body.judg
         let next : body_judged r (min CEILING v) first ≡ machine_judged r (min CEILING v) first =
         ap (λ l. if is_machine_due l r.body then machine_judged r (min CEILING v) first else time_judged r (min CEILING v) first) layout
         ∙ ap (λ t. if t then machine_judged r (min CEILING v) first else time_judged r (min CEILING v) first) e in
-        subst (λ d. NumberOutcome r complete (inside block) more v (body_judged r (min CEILING v) first) (misfit d v first)) (sym is_due)
-        (subst (λ z. NumberOutcome r complete (inside block) more v z (misfit (machine_number r.body.machine) v first)) (sym next) (machine_step r complete block more v first layout f due even))
+        subst (λ d. NumberOutcome worded r complete (inside block) more v (body_judged r (min CEILING v) first) (misfit d v first)) (sym is_due)
+        (subst (λ z. NumberOutcome worded r complete (inside block) more v z (misfit (machine_number r.body.machine) v first)) (sym next) (machine_step r complete block more v first layout f due even))
     by_half false e =
         let other : r.body.judged % 2 ≢ 0 = eqb-false (r.body.judged % 2) 0 e in
         let odd : r.body.judged % 2 ≡ 1 = omega arith in
@@ -246,8 +246,8 @@ due_step OrLib r complete block more v first layout f due = by_half (r.body.judg
         let next : body_judged r (min CEILING v) first ≡ time_judged r (min CEILING v) first =
         ap (λ l. if is_machine_due l r.body then machine_judged r (min CEILING v) first else time_judged r (min CEILING v) first) layout
         ∙ ap (λ t. if t then machine_judged r (min CEILING v) first else time_judged r (min CEILING v) first) e in
-        subst (λ d. NumberOutcome r complete (inside block) more v (body_judged r (min CEILING v) first) (misfit d v first)) (sym is_due)
-        (subst (λ z. NumberOutcome r complete (inside block) more v z (misfit any_time v first)) (sym next) (time_step r complete block more v first f due (λ o. odd)))
+        subst (λ d. NumberOutcome worded r complete (inside block) more v (body_judged r (min CEILING v) first) (misfit d v first)) (sym is_due)
+        (subst (λ z. NumberOutcome worded r complete (inside block) more v z (misfit any_time v first)) (sym next) (time_step r complete block more v first f due (λ o. odd)))
 
 body_phase : (v : Bool) (phase : Phase) → phase ≡ (if v then phases.Body else phases.AfterLast) → (v ≡ true → phase ≡ phases.Body) × (v ≡ false → phase ≡ phases.AfterLast)
 body_phase true phase e = (λ t. e, λ t. cc)
@@ -259,31 +259,31 @@ unfolding due_at
 extra_step Taillard size k v first h = ap (λ t. misfit (if t then any_time else nothing) v first) (le-ltb k (size.jobs * size.machines) h)
 extra_step OrLib size k v first h = ap (λ t. misfit (if t then pair_due size k else nothing) v first) (le-ltb k (2 * (size.jobs * size.machines)) h)
 
-begun_number : (r : Fields) (complete : List Block) (block : Block) (more : List ℕ) (v first : ℕ) → FollowsBlocks r (record { complete = complete; now = inside block }) more
-    → NumberOutcome r complete (inside block) more v (number_ended r (min CEILING v) first) (misfit (due_at r.layout block.size (length block.numbers + length more)) v first)
+begun_number : {worded : Bool} (r : Fields) (complete : List Block) (block : Block) (more : List ℕ) (v first : ℕ) → FollowsBlocks worded r (record { complete = complete; now = inside block }) more
+    → NumberOutcome worded r complete (inside block) more v (number_ended r (min CEILING v) first) (misfit (due_at r.layout block.size (length block.numbers + length more)) v first)
 unfolding number_ended
-begun_number r complete block more v first f = by_due (nat_lt r.body.judged r.body.due) refl
+begun_number {worded} r complete block more v first f = by_due (nat_lt r.body.judged r.body.due) refl
   where
     body : FollowsBody r.layout block.size (length block.numbers + length more) r.body
     body = f.now.3
 
     by_due : (t : Bool) → nat_lt r.body.judged r.body.due ≡ t
-        → NumberOutcome r complete (inside block) more v (number_ended_in r.phase r (min CEILING v) first) (misfit (due_at r.layout block.size (length block.numbers + length more)) v first)
+        → NumberOutcome worded r complete (inside block) more v (number_ended_in r.phase r (min CEILING v) first) (misfit (due_at r.layout block.size (length block.numbers + length more)) v first)
     by_due true e =
         let phase : r.phase ≡ phases.Body = (body_phase (nat_lt r.body.judged r.body.due) r.phase f.now.0).0 e in
-        subst (λ p. NumberOutcome r complete (inside block) more v (number_ended_in p r (min CEILING v) first) (misfit (due_at r.layout block.size (length block.numbers + length more)) v first)) (sym phase)
+        subst (λ p. NumberOutcome worded r complete (inside block) more v (number_ended_in p r (min CEILING v) first) (misfit (due_at r.layout block.size (length block.numbers + length more)) v first)) (sym phase)
         (due_step r.layout r complete block more v first refl f (ltb-true r.body.judged r.body.due e))
     by_due false e =
         let phase : r.phase ≡ phases.AfterLast = (body_phase (nat_lt r.body.judged r.body.due) r.phase f.now.0).1 e in
         let all : r.body.due ≤ r.body.judged = ltb-false r.body.judged r.body.due e in
         let extra = extra_step r.layout block.size (length block.numbers + length more) v first (omega (arith, body.due, body.judged)) in
-        subst (λ o. NumberOutcome r complete (inside block) more v (number_ended_in r.phase r (min CEILING v) first) o) (sym extra)
+        subst (λ o. NumberOutcome worded r complete (inside block) more v (number_ended_in r.phase r (min CEILING v) first) o) (sym extra)
         (ap (λ p. number_ended_in p r (min CEILING v) first) phase)
 
 -- a number more, wherever it stands
-pub number_step : (r : Fields) (complete : List Block) (now : Now) (more : List ℕ) (v first : ℕ) → FollowsBlocks r (record { complete = complete; now = now }) more
+pub number_step : {worded : Bool} (r : Fields) (complete : List Block) (now : Now) (more : List ℕ) (v first : ℕ) → FollowsBlocks worded r (record { complete = complete; now = now }) more
     → is_live r.phase ≡ true → length r.size_line.values ≡ 5
-    → NumberOutcome r complete now more v (number_ended r (min CEILING v) first) (misfit_in r.layout now more v first)
-number_step r complete seeking more v first f live five = sought_number r complete more v first f live five
-number_step r complete (inside block) more v first f live five = begun_number r complete block more v first f
-number_step r complete lost more v first f live five = absurd f.now
+    → NumberOutcome worded r complete now more v (number_ended r (min CEILING v) first) (misfit_in r.layout now more v first)
+number_step {worded} r complete seeking more v first f live five = sought_number r complete more v first f live five
+number_step {worded} r complete (inside block) more v first f live five = begun_number r complete block more v first f
+number_step {worded} r complete lost more v first f live five = absurd f.now

@@ -80,18 +80,19 @@ pub record FollowsBody (layout : Layout) (size : Size) (count : ℕ) (body : Bod
   pub machine : body.machine < body.machines
   pub place : body.judged < body.due → IsNextTime layout body
 
--- whether the next block is sought or a block is begun, behind these ended numbers of the last line
-abbrev pub FollowsNow : Fields → Now → List ℕ → Type 0
-FollowsNow r seeking more = (r.phase ≡ (if nat_lt r.complete r.wanted then phases.Seeking else phases.Done))
-    × (r.kinds.has_word ≡ false → HoldsNumbers r.size_line more)
-FollowsNow r (inside block) more = (r.phase ≡ (if nat_lt r.body.judged r.body.due then phases.Body else phases.AfterLast))
+-- whether the next block is sought or a block is begun, behind these ended numbers of the last line, which has a
+-- word byte or not
+abbrev pub FollowsNow : Bool → Fields → Now → List ℕ → Type 0
+FollowsNow worded r seeking more = (r.phase ≡ (if nat_lt r.complete r.wanted then phases.Seeking else phases.Done))
+    × (worded ≡ false → HoldsNumbers r.size_line more)
+FollowsNow worded r (inside block) more = (r.phase ≡ (if nat_lt r.body.judged r.body.due then phases.Body else phases.AfterLast))
     × (r.complete < r.wanted) × (is_within_limits block.size ≡ true) × FollowsBody r.layout block.size (length block.numbers + length more) r.body
-FollowsNow r lost more = ⊥
+FollowsNow worded r lost more = ⊥
 
--- the blocks, behind lines that lead here and these ended numbers of the last line
-pub record FollowsBlocks (r : Fields) (stood : Stand) (more : List ℕ) : Type 0 where
+-- the blocks, behind lines that lead here and these ended numbers of the last line, which has a word byte or not
+pub record FollowsBlocks (worded : Bool) (r : Fields) (stood : Stand) (more : List ℕ) : Type 0 where
   pub complete : r.complete ≡ length stood.complete
-  pub now : FollowsNow r stood.now more
+  pub now : FollowsNow worded r stood.now more
   pub instance : r.instance ≡ option_map (instance_of r.layout) (block_of r.wanted stood more)
   pub held : r.held ≡ time_count r.layout (block_of r.wanted stood more)
 
@@ -102,7 +103,7 @@ pub record Follows (r : Fields) (text : List ℕ) : Type 0 where
   pub line : r.line ≡ 1 + count_by is_line_end text
   pub few_numbers : r.size_line.count ≤ length text
   pub five_values : length r.size_line.values ≡ 5
-  pub blocks : FollowsBlocks r (stand r.layout (ended_lines text)) (ended_numbers (open_line text))
+  pub blocks : FollowsBlocks (list_any is_word_byte (open_line text)) r (stand r.layout (ended_lines text)) (ended_numbers (open_line text))
 
 -- ---- where a reader stands
 
