@@ -49,7 +49,7 @@ are_due-push layout size ns n all one =
     let last : list_all test ((0 + length ns, n) ∷ []) ≡ true = rw e (and_true (is_due (due_at layout size (length ns)) n) true one refl) in
     ap (list_all test) (enumerate_from-append 0 ns (n ∷ [])) ∙ list_all-append test (enumerate_from 0 ns) ((0 + length ns, n) ∷ []) ∙ and_true _ _ all last
 
-misfit_none : (due : Due) (n offset : ℕ) → misfit due n offset ≡ None → is_due due n ≡ true
+pub misfit_none : (due : Due) (n offset : ℕ) → misfit due n offset ≡ None → is_due due n ≡ true
 misfit_none any_time n offset e = le-leb n LONGEST_TIME (ltb-false LONGEST_TIME n (then_some_none _ _ e))
 misfit_none (machine_number i) n offset e = not-false _ (then_some_none _ _ e)
 misfit_none nothing n offset e = cc
@@ -95,7 +95,7 @@ GoodNow layout (inside block) line = GoodBody layout block line
 GoodNow layout lost line = ⊥
 
 -- a digit at the end of a line is a digit on it
-digit_there : (line : List ℕ) → is_empty (last_digits line) ≡ false → list_any is_digit line ≡ true
+pub digit_there : (line : List ℕ) → is_empty (last_digits line) ≡ false → list_any is_digit line ≡ true
 digit_there = by_push (λ line. is_empty (last_digits line) ≡ false → list_any is_digit line ≡ true) none more
   where
     none : is_empty (last_digits []) ≡ false → list_any is_digit [] ≡ true
