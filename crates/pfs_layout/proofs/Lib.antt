@@ -1,4 +1,5 @@
 pub mod BlockLemmas
+pub mod ByteSteps
 pub mod DueLemmas
 pub mod LineLemmas
 pub mod LineSteps

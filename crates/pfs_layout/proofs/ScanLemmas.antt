@@ -20,7 +20,7 @@ value_after-push : (n : ℕ) (ds : List ℕ) (b : ℕ) → digits_value_after 10
 value_after-push n [] b = refl
 value_after-push n (d ∷ ds) b = value_after-push (n * 10 + digit_value d) ds b
 
-digit_is : (b : ℕ) → is_digit b ≡ true → (48 ≤ b) × (b < 58)
+pub digit_is : (b : ℕ) → is_digit b ≡ true → (48 ≤ b) × (b < 58)
 digit_is b e = let h = and_parts (nat_le 48 b) (nat_le b 57) e in (leb-true 48 b h.0, (let l : b ≤ 57 = leb-true b 57 h.1 in omega arith))
 
 digit_value_is : (b : ℕ) → is_digit b ≡ true → digit_value b ≡ b - 48
