@@ -76,10 +76,10 @@ live_few worded r seeking more f live = by_few (nat_lt r.complete r.wanted) refl
 live_few worded r (inside block) more f live = f.1
 live_few worded r lost more f live = absurd f
 
-sought_phase : (worded : Bool) (r : Fields) (more : List ℕ) → FollowsNow worded r seeking more → r.complete < r.wanted → r.phase ≡ phases.Seeking
+pub sought_phase : (worded : Bool) (r : Fields) (more : List ℕ) → FollowsNow worded r seeking more → r.complete < r.wanted → r.phase ≡ phases.Seeking
 sought_phase worded r more f few = f.0 ∙ ap (λ t. if t then phases.Seeking else phases.Done) (lt-ltb r.complete r.wanted few)
 
-begun_phase : (worded : Bool) (r : Fields) (block : Block) (more : List ℕ) → FollowsNow worded r (inside block) more → is_in_block r.phase ≡ true
+pub begun_phase : (worded : Bool) (r : Fields) (block : Block) (more : List ℕ) → FollowsNow worded r (inside block) more → is_in_block r.phase ≡ true
 begun_phase worded r block more f = ap is_in_block f.0 ∙ either (nat_lt r.body.judged r.body.due)
   where
     either : (t : Bool) → is_in_block (if t then phases.Body else phases.AfterLast) ≡ true
@@ -93,11 +93,11 @@ abbrev pub ByteOutcome : Fields → Bool → Stand → List ℕ → Fields → O
 ByteOutcome r worded stood more next None = FollowsBlocks worded next stood more
 ByteOutcome r worded stood more next (Some fault) = Refuses r fault next
 
-refuses_is : (r next : Fields) (fault : LayoutFault) → next ≡ refused r fault → Refuses r fault next
+pub refuses_is : (r next : Fields) (fault : LayoutFault) → next ≡ refused r fault → Refuses r fault next
 refuses_is r next fault e = record { phase = ap (λ (z : Fields). z.phase) e; held = ap (λ (z : Fields). z.held) e; layout = ap (λ (z : Fields). z.layout) e; wanted = ap (λ (z : Fields). z.wanted) e }
 
 -- where the line's words stay or become known, the blocks stay as they are
-weaker : (worded less : Bool) (r : Fields) (complete : List Block) (now : Now) (more : List ℕ) → (less ≡ false → worded ≡ false)
+pub weaker : (worded less : Bool) (r : Fields) (complete : List Block) (now : Now) (more : List ℕ) → (less ≡ false → worded ≡ false)
     → FollowsBlocks worded r (record { complete = complete; now = now }) more → FollowsBlocks less r (record { complete = complete; now = now }) more
 weaker worded less r complete seeking more h f = record { complete = f.complete; now = (f.now.0, λ e. f.now.1 (h e)); instance = f.instance; held = f.held }
 weaker worded less r complete (inside block) more h f = record { complete = f.complete; now = f.now; instance = f.instance; held = f.held }
@@ -131,7 +131,7 @@ mixed_digit text b unmixed digit = mixed_is text b unmixed ∙ by_line (list_any
     by_line d w false blank end e = cc
 
 -- a word byte behind digits
-mixed_word : (text : List ℕ) (b : ℕ) → is_mixed (open_line text) ≡ false → is_digit b ≡ false → (is_blank b || is_line_end b) ≡ false
+pub mixed_word : (text : List ℕ) (b : ℕ) → is_mixed (open_line text) ≡ false → is_digit b ≡ false → (is_blank b || is_line_end b) ≡ false
     → mixed_line text (Some b) ≡ then_some (list_any is_digit (open_line text)) (MixedLine (length text))
 mixed_word text b unmixed digit other = mixed_is text b unmixed ∙ by_line (list_any is_digit (open_line text)) (list_any is_word_byte (open_line text)) (is_digit b) (is_blank b) (is_line_end b) digit other
   where
@@ -144,7 +144,7 @@ mixed_word text b unmixed digit other = mixed_is text b unmixed ∙ by_line (lis
     by_line false w false false false e o = refl
 
 -- a blank or a line end mixes nothing
-mixed_other : (text : List ℕ) (b : ℕ) → is_mixed (open_line text) ≡ false → is_digit b ≡ false → (is_blank b || is_line_end b) ≡ true → mixed_line text (Some b) ≡ None
+pub mixed_other : (text : List ℕ) (b : ℕ) → is_mixed (open_line text) ≡ false → is_digit b ≡ false → (is_blank b || is_line_end b) ≡ true → mixed_line text (Some b) ≡ None
 mixed_other text b unmixed digit other = mixed_is text b unmixed ∙ by_line (list_any is_digit (open_line text)) (list_any is_word_byte (open_line text)) (is_digit b) (is_blank b) (is_line_end b) unmixed digit other
   where
     by_line : (d w digit blank end : Bool) → (d && w) ≡ false → digit ≡ false → (blank || end) ≡ true → then_some ((d || digit) && (w || not (digit || blank || end))) (MixedLine (length text)) ≡ None
@@ -164,19 +164,19 @@ judged_digit r digits kinds b e = ap (λ t. if t then (if kinds.has_word && is_i
 judged_other : (r : Fields) (digits : Digits) (kinds : Kinds) (b : ℕ) → is_digit b ≡ false → judged r digits kinds b ≡ (if is_blank b || is_line_end b then (if is_line_end b then line_ended (last_number_ended r digits) kinds else last_number_ended r digits) else (if kinds.has_digit && is_in_block r.phase then refused r (MixedLine digits.offset) else r))
 judged_other r digits kinds b e = ap (λ t. if t then (if kinds.has_word && is_in_block r.phase then refused r (MixedLine digits.offset) else r) else (if is_blank b || is_line_end b then (if is_line_end b then line_ended (last_number_ended r digits) kinds else last_number_ended r digits) else (if kinds.has_digit && is_in_block r.phase then refused r (MixedLine digits.offset) else r))) e
 
-judged_word : (r : Fields) (digits : Digits) (kinds : Kinds) (b : ℕ) → is_digit b ≡ false → (is_blank b || is_line_end b) ≡ false → judged r digits kinds b ≡ (if kinds.has_digit && is_in_block r.phase then refused r (MixedLine digits.offset) else r)
+pub judged_word : (r : Fields) (digits : Digits) (kinds : Kinds) (b : ℕ) → is_digit b ≡ false → (is_blank b || is_line_end b) ≡ false → judged r digits kinds b ≡ (if kinds.has_digit && is_in_block r.phase then refused r (MixedLine digits.offset) else r)
 judged_word r digits kinds b e o = judged_other r digits kinds b e ∙ ap (λ t. if t then (if is_line_end b then line_ended (last_number_ended r digits) kinds else last_number_ended r digits) else (if kinds.has_digit && is_in_block r.phase then refused r (MixedLine digits.offset) else r)) o
 
-judged_blank : (r : Fields) (digits : Digits) (kinds : Kinds) (b : ℕ) → is_digit b ≡ false → (is_blank b || is_line_end b) ≡ true → judged r digits kinds b ≡ (if is_line_end b then line_ended (last_number_ended r digits) kinds else last_number_ended r digits)
+pub judged_blank : (r : Fields) (digits : Digits) (kinds : Kinds) (b : ℕ) → is_digit b ≡ false → (is_blank b || is_line_end b) ≡ true → judged r digits kinds b ≡ (if is_line_end b then line_ended (last_number_ended r digits) kinds else last_number_ended r digits)
 judged_blank r digits kinds b e o = judged_other r digits kinds b e ∙ ap (λ t. if t then (if is_line_end b then line_ended (last_number_ended r digits) kinds else last_number_ended r digits) else (if kinds.has_digit && is_in_block r.phase then refused r (MixedLine digits.offset) else r)) o
 
 -- a byte that ends no line has no fault while a block is sought
-sought_fine : (layout : Layout) (text : List ℕ) (b : ℕ) → is_line_end b ≡ false → wrong_size layout text (Some b) ≡ None
+pub sought_fine : (layout : Layout) (text : List ℕ) (b : ℕ) → is_line_end b ≡ false → wrong_size layout text (Some b) ≡ None
 unfolding wrong_size
 sought_fine layout text b e = ap (λ t. if t && is_number_line (open_line text) then size_fault (stated_size layout (numbers (open_line text))) (1 + count_by is_line_end text) else None) e
 
 -- a byte that ends no number has no fault of a number
-number_fine : (layout : Layout) (block : Block) (text : List ℕ) (b : ℕ) → (is_blank b || is_line_end b) ≡ false → wrong_number layout block text (Some b) ≡ None
+pub number_fine : (layout : Layout) (block : Block) (text : List ℕ) (b : ℕ) → (is_blank b || is_line_end b) ≡ false → wrong_number layout block text (Some b) ≡ None
 unfolding wrong_number
 number_fine layout block text b e = ap (λ t. if t then misfit (due_at layout block.size (length block.numbers + length (ended_numbers (open_line text)))) (digits_value 10 (last_digits text)) (length text - length (last_digits text)) else None) (ap (λ t. not (is_empty (last_digits text)) && t) e ∙ and_false (not (is_empty (last_digits text))))
   where
@@ -190,12 +190,12 @@ stays_or : (r : Fields) (worded : Bool) (stood : Stand) (more : List ℕ) (test 
 stays_or r worded stood more true offset place e f = refuses_is r (refused r (MixedLine offset)) (MixedLine place) (ap (λ n. refused r (MixedLine n)) e)
 stays_or r worded stood more false offset place e f = f
 
-and_true_is : (x y : Bool) → y ≡ true → (x && y) ≡ x
+pub and_true_is : (x y : Bool) → y ≡ true → (x && y) ≡ x
 and_true_is true true e = refl
 and_true_is false true e = refl
 and_true_is x false e = cc
 
-and_false_is : (x y : Bool) → y ≡ false → (x && y) ≡ false
+pub and_false_is : (x y : Bool) → y ≡ false → (x && y) ≡ false
 and_false_is true false e = refl
 and_false_is false false e = refl
 and_false_is x true e = cc

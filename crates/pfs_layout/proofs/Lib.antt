@@ -1,6 +1,7 @@
 pub mod BlockLemmas
 pub mod ByteSteps
 pub mod DueLemmas
+pub mod EndSteps
 pub mod LineLemmas
 pub mod LineSteps
 pub mod NumberLemmas
