@@ -158,7 +158,7 @@ mixed_other text b unmixed digit other = mixed_is text b unmixed ∙ by_line (li
 
 -- ---- a digit, or a word byte
 
-judged_digit : (r : Fields) (digits : Digits) (kinds : Kinds) (b : ℕ) → is_digit b ≡ true → judged r digits kinds b ≡ (if kinds.has_word && is_in_block r.phase then refused r (MixedLine digits.offset) else r)
+pub judged_digit : (r : Fields) (digits : Digits) (kinds : Kinds) (b : ℕ) → is_digit b ≡ true → judged r digits kinds b ≡ (if kinds.has_word && is_in_block r.phase then refused r (MixedLine digits.offset) else r)
 judged_digit r digits kinds b e = ap (λ t. if t then (if kinds.has_word && is_in_block r.phase then refused r (MixedLine digits.offset) else r) else (if is_blank b || is_line_end b then (if is_line_end b then line_ended (last_number_ended r digits) kinds else last_number_ended r digits) else (if kinds.has_digit && is_in_block r.phase then refused r (MixedLine digits.offset) else r))) e
 
 judged_other : (r : Fields) (digits : Digits) (kinds : Kinds) (b : ℕ) → is_digit b ≡ false → judged r digits kinds b ≡ (if is_blank b || is_line_end b then (if is_line_end b then line_ended (last_number_ended r digits) kinds else last_number_ended r digits) else (if kinds.has_digit && is_in_block r.phase then refused r (MixedLine digits.offset) else r))

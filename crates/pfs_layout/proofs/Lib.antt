@@ -7,6 +7,7 @@ pub mod LineSteps
 pub mod NumberLemmas
 pub mod NumberSteps
 pub mod PlaceLemmas
+pub mod ReaderLemmas
 pub mod ScanLemmas
 pub mod SizeLemmas
 pub mod SoundLemmas
