@@ -11,5 +11,6 @@ pub mod ReaderLemmas
 pub mod ScanLemmas
 pub mod SizeLemmas
 pub mod SoundLemmas
+pub mod StaleLemmas
 pub mod StepLemmas
 pub mod TableLemmas

@@ -60,7 +60,7 @@ sought_number {worded} r complete more v first f live five =
 -- ---- a number is due
 
 -- what is kept of the block that is begun
-keeping_of : (r : Fields) (complete : List Block) (block : Block) (more : List ℕ) → length complete < r.wanted
+pub keeping_of : (r : Fields) (complete : List Block) (block : Block) (more : List ℕ) → length complete < r.wanted
     → r.instance ≡ option_map (instance_of r.layout) (block_of r.wanted (record { complete = complete; now = inside block }) more)
     → r.held ≡ time_count r.layout (block_of r.wanted (record { complete = complete; now = inside block }) more)
     → Keeping r.layout (length complete + 1 == r.wanted) (record { size = block.size; numbers = block.numbers ++ more }) r.instance r.held

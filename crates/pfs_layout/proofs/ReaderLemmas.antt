@@ -1,13 +1,18 @@
 -- Where a reader stands after one byte more.
 use Rattle.std.proofs.Common.{◌≡◌, ◌≢◌, ℕ, ◌+◌, ◌-◌, ◌<◌, ◌≤◌, Bool, true, false, not, ◌&&◌, ◌||◌, List, [], ◌∷◌, ◌++◌, length, count_by, refl, sym, ◌∙◌, ap, subst, arith, Option, Some, None, if◌then◌else◌, ◌==◌, nat_lt, ◌⊎◌, inl, inr}
-use Rattle.std.specs.Prelude.{option_map}
+use Rattle.std.specs.Prelude.{◌*◌, ◌/◌, min, option_map, IfSome}
 use Rattle.std.specs.List.{list_any}
 use Rattle.std.specs.Option.{option_or}
-use Rattle.std.proofs.lemmas.List.{length_push}
-use Rattle.std.proofs.lemmas.Bool.{not-true}
+use Rattle.std.proofs.Math.Nat.{mul-le-mul}
+use Rattle.std.proofs.lemmas.List.{length_push, length-append}
+use Rattle.std.proofs.lemmas.List.Sums.{count_by-le-length}
+use Rattle.std.proofs.lemmas.Bool.{ltb-true}
 use Rattle.std.proofs.lemmas.List.Folds.{list_any-append}
 use Rattle.pfs_base.specs.declared.limits.TheConstants.{LONGEST_INPUT}
+use Rattle.pfs_base.specs.Problem.{Problem}
 use Rattle.pfs_layout.specs.declared.layout.Layout.{Layout}
+use Rattle.pfs_layout.specs.declared.layout.Layout.TheVariants.{Taillard, OrLib}
+use Rattle.pfs_layout.specs.declared.scan.TheConstants.{CEILING}
 use Rattle.pfs_layout.specs.declared.fault.LayoutFault.{LayoutFault}
 use Rattle.pfs_layout.specs.declared.fault.LayoutFault.TheVariants.{MixedLine, Memory}
 use Rattle.pfs_layout.specs.declared.scan.Digits.{Digits}
@@ -17,30 +22,28 @@ use Rattle.pfs_layout.specs.declared.fields.Phase.TheVariants as phases
 use Rattle.pfs_layout.specs.declared.fields.Fields.{Fields}
 use Rattle.pfs_layout.specs.Bytes.{is_digit, is_blank, is_line_end, is_word_byte}
 use Rattle.pfs_layout.specs.Lines.{ended_parts, ended_lines, open_line, numbers, ended_numbers}
+use Rattle.pfs_layout.specs.Size.{Size, is_within_limits}
+use Rattle.pfs_layout.specs.Block.{due_count}
 use Rattle.pfs_layout.specs.Stand.{Block, Now, seeking, inside, lost, Stand, stand, stand_after, instance_of}
 use Rattle.pfs_layout.specs.Refuse.{fault_behind, byte_fault}
-use Rattle.pfs_layout.specs.Step.{is_live, is_in_block, refused, digits_after, kinds_after, Keeps, number_ended, last_number_ended, line_ended, judged, no_numbers, LacksMemory, CanCount}
+use Rattle.pfs_layout.specs.Step.{is_live, is_in_block, refused, digits_after, kinds_after, Keeps, number_ended, last_number_ended, line_ended, judged, with_line, stepped, no_numbers, LacksMemory, CanCount}
 use Rattle.pfs_layout.specs.Reader.{block_of, block_read, time_count, FollowsLine, FollowsBody, FollowsNow, FollowsBlocks, Follows, IsRefused, StandsIn, StandsAfter, EndsWantedSize}
 use Rattle.pfs_layout.proofs.LineLemmas.{open_part-push, ended_numbers-push}
 use Rattle.pfs_layout.proofs.PlaceLemmas.{byte_fault-push}
 use Rattle.pfs_layout.proofs.SoundLemmas.{GoodNow, stand_of, stand_of-push, sound}
 use Rattle.pfs_layout.proofs.StepLemmas.{keeps_last, KeepsNumbers, keeps_numbers, ends_line}
+use Rattle.pfs_layout.proofs.SizeLemmas.{size_within}
+use Rattle.pfs_layout.proofs.TableLemmas.{times_in, length-times_among}
+use Rattle.pfs_layout.proofs.NumberLemmas.{Keeping}
+use Rattle.pfs_layout.proofs.NumberSteps.{keeping_of}
 use Rattle.pfs_layout.proofs.LineSteps.{Refuses}
 use Rattle.pfs_layout.proofs.ScanLemmas.{count_push, line_push, digit-no_line_end}
 use Rattle.pfs_layout.proofs.ByteSteps.{fault_in, place_fault, live_few, ByteOutcome, digit_byte, judged_digit, judged_word, judged_blank}
 use Rattle.pfs_layout.proofs.EndSteps.{word_byte, blank_byte, end_byte}
 
--- with another last line
-abbrev pub with_line : Fields → Digits → Kinds → Fields
-with_line r digits kinds = record r { digits = digits; kinds = kinds }
-
--- behind one byte more
-abbrev pub stepped : Fields → ℕ → Fields
-stepped r b = with_line (judged r r.digits r.kinds b) (digits_after r.digits b) (kinds_after r.kinds b)
-
 -- ---- what a byte leaves as it is
 
-record Carries (old new : Fields) (ends : Bool) : Type 0 where
+pub record Carries (old new : Fields) (ends : Bool) : Type 0 where
   pub layout : new.layout ≡ old.layout
   pub wanted : new.wanted ≡ old.wanted
   pub line : new.line ≡ old.line + (if ends then 1 else 0)
@@ -61,7 +64,7 @@ last_numbers r digits = by_none (digits.first == digits.offset)
     by_none true = record { few = omega arith; five = refl }
     by_none false = keeps_numbers r digits.value digits.first
 
-carries : (r : Fields) (b : ℕ) → is_live r.phase ≡ true → Carries r (judged r r.digits r.kinds b) (is_line_end b)
+pub carries : (r : Fields) (b : ℕ) → is_live r.phase ≡ true → Carries r (judged r r.digits r.kinds b) (is_line_end b)
 carries r b live = by_digit (is_digit b) refl
   where
     by_end : (t : Bool) → is_line_end b ≡ t → Carries r (if t then line_ended (last_number_ended r r.digits) r.kinds else last_number_ended r r.digits) t
@@ -277,3 +280,82 @@ step_stands r text b f live short =
         → StandsAfter (stepped r b) (text ++ b ∷ [])
     by_fault None e o = stands_of (stepped r b) (text ++ b ∷ []) (follow_stands r (judged r r.digits r.kinds b) text b f short e (carries r b live) o)
     by_fault (Some fault) e o = refuse_stands r (judged r r.digits r.kinds b) text b fault (digits_after r.digits b) (kinds_after r.kinds b) f e o
+
+-- ---- what a live reader may do next
+
+-- what the judgement of a byte needs
+pub record IsReady (r : Fields) : Type 0 where
+  pub can : r.phase ≡ phases.Body → CanCount r
+  pub count : r.size_line.count < LONGEST_INPUT
+  pub complete : r.complete < r.wanted
+  pub line : r.line ≤ LONGEST_INPUT
+  pub offset : r.digits.offset < LONGEST_INPUT
+  pub value : r.digits.value ≤ CEILING
+
+pub instance_sizes : (layout : Layout) (block : Block) → ((instance_of layout block).shop.jobs ≡ block.size.jobs) × ((instance_of layout block).shop.machines ≡ block.size.machines)
+unfolding instance_of
+instance_sizes layout block = (refl, refl)
+
+times_few : (layout : Layout) (n : ℕ) → times_in layout n ≤ n
+times_few Taillard n = omega arith
+times_few OrLib n = omega arith
+
+due_few : (layout : Layout) (size : Size) → is_within_limits size ≡ true → due_count layout size < LONGEST_INPUT
+due_few Taillard size within = let w = size_within size within in let p = mul-le-mul w.sizes.few_jobs w.sizes.few_machines in omega arith
+due_few OrLib size within = let w = size_within size within in let p = mul-le-mul w.sizes.few_jobs w.sizes.few_machines in omega arith
+
+begun_ready : (worded : Bool) (r : Fields) (complete : List Block) (block : Block) (more : List ℕ) → FollowsBlocks worded r (record { complete = complete; now = inside block }) more → r.phase ≡ phases.Body → CanCount r
+begun_ready worded r complete block more f e = by_due (nat_lt r.body.judged r.body.due) refl f.now.0
+  where
+    body : FollowsBody r.layout block.size (length block.numbers + length more) r.body
+    body = f.now.3
+
+    least : length complete < r.wanted
+    least = omega (arith, f.complete, f.now.1)
+
+    kept : Keeping r.layout (length complete + 1 == r.wanted) (record { size = block.size; numbers = block.numbers ++ more }) r.instance r.held
+    kept = keeping_of r complete block more least f.instance f.held
+
+    sizes : (wanted : Bool) (block : Block) (o : Option Problem) → o ≡ option_map (instance_of r.layout) (if wanted then Some block else None) → r.body.jobs ≡ block.size.jobs → r.body.machines ≡ block.size.machines
+        → IfSome o (λ problem. (problem.shop.jobs ≡ r.body.jobs) × (problem.shop.machines ≡ r.body.machines))
+    sizes true block o i j m = let s = instance_sizes r.layout block in subst (λ o. IfSome o (λ (problem : Problem). (problem.shop.jobs ≡ r.body.jobs) × (problem.shop.machines ≡ r.body.machines))) (sym i) (s.0 ∙ sym j, s.1 ∙ sym m)
+    sizes false block o i j m = subst (λ o. IfSome o (λ (problem : Problem). (problem.shop.jobs ≡ r.body.jobs) × (problem.shop.machines ≡ r.body.machines))) (sym i) tt
+
+    few : (wanted : Bool) → r.held ≡ time_count r.layout (if wanted then Some (let b : Block = record { size = block.size; numbers = block.numbers ++ more } in b) else None) → r.held ≤ r.body.judged
+    few true h =
+        let count : length (block.numbers ++ more) ≡ length block.numbers + length more = length-append block.numbers more in
+        let times : r.held ≡ times_in r.layout (length (block.numbers ++ more)) = h ∙ length-times_among r.layout (block.numbers ++ more) in
+        let most = times_few r.layout (length (block.numbers ++ more)) in
+        omega (arith, body.judged)
+    few false h = omega arith
+
+    by_due : (t : Bool) → nat_lt r.body.judged r.body.due ≡ t → r.phase ≡ (if t then phases.Body else phases.AfterLast) → CanCount r
+    by_due true t p =
+        let held = few (length complete + 1 == r.wanted) kept.held in
+        let due = due_few r.layout block.size f.now.2 in
+        let less = ltb-true r.body.judged r.body.due t in
+        record {
+          place = record { judged = less; job = body.job; machine = body.machine };
+          held = omega (arith, body.due);
+          instance = sizes (length complete + 1 == r.wanted) (record { size = block.size; numbers = block.numbers ++ more }) r.instance kept.instance body.jobs body.machines;
+        }
+    by_due false t p = absurd (let bad : phases.Body ≡ phases.AfterLast = sym e ∙ p in cc)
+
+can_count : (worded : Bool) (r : Fields) (complete : List Block) (now : Now) (more : List ℕ) → FollowsBlocks worded r (record { complete = complete; now = now }) more → r.phase ≡ phases.Body → CanCount r
+can_count worded r complete seeking more f e = absurd (either (nat_lt r.complete r.wanted) (sym e ∙ f.now.0))
+  where
+    either : (t : Bool) → phases.Body ≡ (if t then phases.Seeking else phases.Done) → ⊥
+    either true e = cc
+    either false e = cc
+can_count worded r complete (inside block) more f e = begun_ready worded r complete block more f e
+can_count worded r complete lost more f e = absurd f.now
+
+pub follows_ready : (r : Fields) (text : List ℕ) → Follows r text → is_live r.phase ≡ true → length text < LONGEST_INPUT → IsReady r
+follows_ready r text f live short = record {
+  can = can_count (list_any is_word_byte (open_line text)) r (stand_of r.layout text).complete (stand_of r.layout text).now (ended_numbers (open_line text)) f.blocks;
+  count = omega (arith, f.few_numbers);
+  complete = live_few (list_any is_word_byte (open_line text)) r (stand_of r.layout text).now (ended_numbers (open_line text)) f.blocks.now live;
+  line = omega (arith, f.line, count_by-le-length is_line_end text);
+  offset = omega (arith, f.last_line.offset);
+  value = let v = f.last_line.value in omega arith;
+}

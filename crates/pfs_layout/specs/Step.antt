@@ -218,6 +218,14 @@ pub record Keeps (old new : Fields) : Type 0 where
   pub sought : new.phase ≡ phases.Seeking → old.phase ≡ phases.Seeking
   pub memory : new.phase ≢ phases.Refused Memory
 
+-- with another last line
+abbrev pub with_line : Fields → Digits → Kinds → Fields
+with_line r digits kinds = record r { digits = digits; kinds = kinds }
+
+-- behind one byte more
+abbrev pub stepped : Fields → ℕ → Fields
+stepped r b = with_line (judged r r.digits r.kinds b) (digits_after r.digits b) (kinds_after r.kinds b)
+
 -- the memory for the wanted block was refused, where its size line ends
 pub record LacksMemory (old next : Fields) : Type 0 where
   pub sought : old.phase ≡ phases.Seeking
