@@ -14,3 +14,4 @@ pub mod SoundLemmas
 pub mod StaleLemmas
 pub mod StepLemmas
 pub mod TableLemmas
+pub mod TakeLemmas

@@ -26,7 +26,7 @@ use Rattle.pfs_layout.specs.Size.{Size, is_within_limits}
 use Rattle.pfs_layout.specs.Block.{due_count}
 use Rattle.pfs_layout.specs.Stand.{Block, Now, seeking, inside, lost, Stand, stand, stand_after, instance_of}
 use Rattle.pfs_layout.specs.Refuse.{fault_behind, byte_fault}
-use Rattle.pfs_layout.specs.Step.{is_live, is_in_block, refused, digits_after, kinds_after, Keeps, number_ended, last_number_ended, line_ended, judged, with_line, stepped, no_numbers, LacksMemory, CanCount}
+use Rattle.pfs_layout.specs.Step.{is_live, is_in_block, refused, digits_after, kinds_after, Keeps, number_ended, last_number_ended, line_ended, judged, with_line, stepped, no_numbers, LacksMemory, CanCount, IsReady}
 use Rattle.pfs_layout.specs.Reader.{block_of, block_read, time_count, FollowsLine, FollowsBody, FollowsNow, FollowsBlocks, Follows, IsRefused, StandsIn, StandsAfter, EndsWantedSize}
 use Rattle.pfs_layout.proofs.LineLemmas.{open_part-push, ended_numbers-push}
 use Rattle.pfs_layout.proofs.PlaceLemmas.{byte_fault-push}
@@ -282,15 +282,6 @@ step_stands r text b f live short =
     by_fault (Some fault) e o = refuse_stands r (judged r r.digits r.kinds b) text b fault (digits_after r.digits b) (kinds_after r.kinds b) f e o
 
 -- ---- what a live reader may do next
-
--- what the judgement of a byte needs
-pub record IsReady (r : Fields) : Type 0 where
-  pub can : r.phase ≡ phases.Body → CanCount r
-  pub count : r.size_line.count < LONGEST_INPUT
-  pub complete : r.complete < r.wanted
-  pub line : r.line ≤ LONGEST_INPUT
-  pub offset : r.digits.offset < LONGEST_INPUT
-  pub value : r.digits.value ≤ CEILING
 
 pub instance_sizes : (layout : Layout) (block : Block) → ((instance_of layout block).shop.jobs ≡ block.size.jobs) × ((instance_of layout block).shop.machines ≡ block.size.machines)
 unfolding instance_of

@@ -141,6 +141,14 @@ pub record EndsWantedSize (layout : Layout) (k : ℕ) (text : List ℕ) (byte : 
   pub sought : (stand layout (ended_lines text)).now ≡ seeking
   pub begun : (block : Block) × ((stand layout (ended_lines (text ++ byte ∷ []))).now ≡ inside block)
 
+-- what the bytes that were taken leave of a reader that stands after this text
+pub record TakeMeets (old : Fields) (text piece : List ℕ) (used : ℕ) (new : Fields) : Type 0 where
+  pub layout : new.phase ≢ phases.Refused Memory → new.layout ≡ old.layout
+  pub wanted : new.phase ≢ phases.Refused Memory → new.wanted ≡ old.wanted
+  pub stands : new.phase ≢ phases.Refused Memory → StandsAfter new (text ++ take used piece)
+  pub memory : new.phase ≡ phases.Refused Memory → (n : ℕ) × (n < length piece) × EndsWantedSize old.layout old.wanted (text ++ take n piece) (slice_index piece n)
+  pub no_more : (n : ℕ) → n < used → length (stand old.layout (ended_lines (text ++ take n piece))).complete < old.wanted
+
 -- what feed owes a reader that stands after this text
 pub record FeedMeets (old : Fields) (text piece : List ℕ) (outcome : Result Progress LayoutFault) (new : Fields) : Type 0 where
   pub ok : IfOk outcome (λ progress. (progress.used ≤ length piece) × StandsAfter new (text ++ take progress.used piece))

@@ -1,6 +1,6 @@
 -- What one byte does to what a reader keeps. Only the contracts of private functions speak of it: what a
 -- reader's fields say of the bytes that it has read stands in `Reader`.
-use Rattle.std.specs.Prelude.{◌≡◌, ◌≢◌, ℕ, ◌+◌, ◌-◌, ◌*◌, ◌%◌, ◌<◌, min, Bool, true, false, not, ◌&&◌, ◌||◌, ◌==◌, nat_lt, List, replicate, slice_index, slice_set, Option, Some, None, is_some, option_map, IfSome, if◌then◌else◌}
+use Rattle.std.specs.Prelude.{◌≡◌, ◌≢◌, ℕ, ◌+◌, ◌-◌, ◌*◌, ◌%◌, ◌<◌, ◌≤◌, min, Bool, true, false, not, ◌&&◌, ◌||◌, ◌==◌, nat_lt, List, replicate, slice_index, slice_set, Option, Some, None, is_some, option_map, IfSome, if◌then◌else◌}
 use Rattle.pfs_base.specs.declared.limits.TheConstants.{LONGEST_TIME, LONGEST_INPUT}
 use Rattle.pfs_base.specs.FlowShop.{with_time}
 use Rattle.pfs_base.specs.Problem.{Problem}
@@ -237,3 +237,12 @@ pub record CanCount (r : Fields) : Type 0 where
   pub place : HasPlace r.body
   pub held : r.held < LONGEST_INPUT
   pub instance : IfSome r.instance (λ problem. (problem.shop.jobs ≡ r.body.jobs) × (problem.shop.machines ≡ r.body.machines))
+
+-- what the judgement of a byte needs
+pub record IsReady (r : Fields) : Type 0 where
+  pub can : r.phase ≡ phases.Body → CanCount r
+  pub count : r.size_line.count < LONGEST_INPUT
+  pub complete : r.complete < r.wanted
+  pub line : r.line ≤ LONGEST_INPUT
+  pub offset : r.digits.offset < LONGEST_INPUT
+  pub value : r.digits.value ≤ CEILING

@@ -1,8 +1,9 @@
 //! What a reader holds, and what a byte does to it.
-ghost use Rattle.std.specs.Prelude.{◌≡◌, ◌≢◌, ◌+◌, ◌*◌, ◌<◌, ◌≤◌, true, false, ◌==◌, replicate, Some, None, IfOk, IfErr, OnOk, OnErr, IfSome, option_map, is_some, if◌then◌else◌};
+ghost use Rattle.std.specs.Prelude.{◌≡◌, ◌≢◌, ◌+◌, ◌*◌, ◌<◌, ◌≤◌, true, false, ◌==◌, ℕ, List, length, replicate, Some, None, IfOk, IfErr, OnOk, OnErr, IfSome, option_map, is_some, if◌then◌else◌};
 ghost use Rattle.pfs_layout.specs.Bytes.{is_digit as digit_test};
 ghost use Rattle.pfs_layout.specs.Size.{is_within_limits};
-ghost use Rattle.pfs_layout.specs.Step.{refused, is_live as live_test, is_in_block, CanCount, with_problem_time, stored, counted, time_judged, machine_judged, body_judged, number_ended, size_given, empty_problem, block_begun, size_line_ended, block_ended, line_ended, last_number_ended, judged, Keeps, LacksMemory};
+ghost use Rattle.pfs_layout.specs.Step.{refused, is_live as live_test, is_in_block, CanCount, with_problem_time, stored, counted, time_judged, machine_judged, body_judged, number_ended, size_given, empty_problem, block_begun, size_line_ended, block_ended, line_ended, last_number_ended, judged, with_line, IsReady, Keeps, LacksMemory};
+ghost use Rattle.pfs_layout.specs.Reader.{StandsAfter, TakeMeets};
 
 use crate::body::Body;
 use crate::scan::{Digits, Kinds, LINE_END, is_blank, is_digit};
@@ -313,6 +314,24 @@ impl Fields {
         }
     }
 
+    /// Judges a byte behind what was scanned, and answers whether a further one is wanted.
+    #[inline(always)]
+    fn take_byte(&mut self, alloc: Global, digits: Digits, kinds: Kinds, b: u8) -> bool
+        requires live { live_test self.old.phase ≡ true }
+        requires ready { IsReady (with_line self.old digits kinds) }
+        ensures judged { self.new.phase ≢ Phase.Refused LayoutFault.Memory → self.new ≡ judged self.old digits kinds b }
+        ensures memory { self.new.phase ≡ Phase.Refused LayoutFault.Memory → (b ≡ LINE_END) × LacksMemory self.old (judged self.old digits kinds b) }
+        ensures live { result ≡ live_test self.new.phase }
+    {
+        let is_quiet = is_digit(b) && !kinds.has_word;
+        if is_quiet {
+            // no digit is a fault on a line without a word byte
+            return true;
+        }
+        self.judge(alloc, digits, kinds, b);
+        self.is_live()
+    }
+
     fn progress(&self, used: usize) -> Result<Progress, LayoutFault> {
         match self.phase {
             Phase::Done => Ok(Progress { used, done: true }),
@@ -322,20 +341,25 @@ impl Fields {
     }
 
     /// Takes bytes that are all within the limit, up to the end of the wanted block or a refusal.
-    fn take(&mut self, alloc: Global, piece: &[u8]) -> usize {
+    fn take(&mut self, alloc: Global, piece: &[u8]) -> usize
+        requires live { live_test self.old.phase ≡ true }
+        requires stands { (text : List ℕ) × StandsAfter self.old text }
+        requires room { self.old.digits.offset + length piece.now ≤ LONGEST_INPUT }
+        ensures within { result ≤ length piece.now }
+        ensures whole { live_test self.new.phase ≡ true → result ≡ length piece.now }
+        ensures moved { self.new.digits.offset ≡ self.old.digits.offset + result }
+        ensures meets { (text : List ℕ) → StandsAfter self.old text → TakeMeets self.old text piece.now result self.new }
+    {
         let mut digits = self.digits;
         let mut kinds = self.kinds;
         let mut used = 0;
         for b in piece {
             let b = *b;
-            let quiet = is_digit(b) && !kinds.has_word;
-            if !quiet {
-                self.judge(alloc, digits, kinds, b);
-            }
+            let is_live = self.take_byte(alloc, digits, kinds, b);
             digits = digits.after(b);
             kinds = kinds.after(b);
             used += 1;
-            if !quiet && !self.is_live() {
+            if !is_live {
                 break;
             }
         }
