@@ -172,3 +172,12 @@ taken_all old now piece i t all text s stands = record {
   memory = λ h. absurd (live-memory now.phase t.live h);
   no_more = λ n less. t.no_more text s n less;
 }
+
+-- the same bytes and fields by other names
+pub meets_as : (old : Fields) (text piece : List ℕ) (used count : ℕ) (r next : Fields) (digits last : Digits) (kinds words : Kinds) → used ≡ count → r ≡ next → digits ≡ last → kinds ≡ words
+    → TakeMeets old text piece count (with_line next last words) → TakeMeets old text piece used (with_line r digits kinds)
+meets_as old text piece used count r next digits last kinds words e f g h m =
+    subst (λ u. TakeMeets old text piece u (with_line r digits kinds)) (sym e)
+        (subst (λ z. TakeMeets old text piece count (with_line z digits kinds)) (sym f)
+            (subst (λ d. TakeMeets old text piece count (with_line next d kinds)) (sym g)
+                (subst (λ k. TakeMeets old text piece count (with_line next last k)) (sym h) m)))
