@@ -2,4 +2,5 @@ pub mod Heads
 pub mod Heaviest
 pub mod Lists
 mod MakespanLaws
-mod Sent
+pub mod SendsLemmas
+pub mod Sent

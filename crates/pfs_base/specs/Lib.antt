@@ -4,3 +4,5 @@ pub mod Limits
 pub mod Lists
 pub mod Paths
 pub mod Problem
+pub mod Sends
+pub mod Text

@@ -1,7 +1,7 @@
 //! Readers and writers that may fail.
-ghost use Rattle.std.specs.Prelude.{◌≡◌, ℕ, ◌+◌, ◌-◌, ◌<◌, ◌≤◌, ◌^◌, List, Option, length, take, Bool, true, false, IfOk, IfErr, OnOk, OnErr};
-ghost use Rattle.std.specs.Io.KnownBytes.{Appends};
+ghost use Rattle.std.specs.Prelude.{◌≡◌, ℕ, ◌+◌, ◌<◌, ◌^◌, List, Option, length, Bool, false};
 ghost use Rattle.pfs_base.specs.Device.{Reads, Writes, fails_after};
+ghost use Rattle.pfs_base.specs.Sends.{Sends};
 
 use std::io::{Read, Write};
 use thiserror::Error;
@@ -137,12 +137,7 @@ pub struct WriteFault {
 pub fn put<W: Sink>(writer: &mut W, bytes: &[u8], sent: u64) -> Result<u64, WriteFault>
     requires working { W.has_failed writer.old ≡ false }
     requires fits { sent + length bytes.now < 2 ^ 64 }
-    ensures sent { IfOk result (λ total. total ≡ sent + length bytes.now) }
-    ensures all { OnOk result (Appends (W.written writer.old) (W.written writer.new) bytes.now) }
-    ensures working { OnOk result (W.has_failed writer.new ≡ false) }
-    ensures failed { OnErr result (W.has_failed writer.new ≡ true) }
-    ensures counted { IfErr result (λ fault. (sent ≤ fault.written) × (fault.written ≤ sent + length bytes.now)) }
-    ensures front { IfErr result (λ fault. Appends (W.written writer.old) (W.written writer.new) (take (fault.written - sent) bytes.now)) }
+    ensures { Sends (W.written writer.old) (W.written writer.new) (W.has_failed writer.new) sent bytes.now result }
 {
     let mut done = 0;
     while done < bytes.len() {

@@ -109,7 +109,8 @@ impl Instance {
         ensures value { result ≡ time_of self.now.shop job machine }
         ensures short { result ≤ LONGEST_TIME }
     {
-        self.times[job * self.machines + machine]
+        let place = job * self.machines + machine;
+        self.times[place]
     }
 
     /// Changes the time of a job on a machine, and nothing else.

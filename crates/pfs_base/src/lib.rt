@@ -9,6 +9,7 @@ pub mod laws;
 pub mod limits;
 pub mod metered;
 pub mod notes;
+pub mod print;
 
 pub use bench::{Bench, Length, SPAN_MAX, Shop};
 pub use device::{FromRead, Sink, Source, ToWrite, WriteFault, put};

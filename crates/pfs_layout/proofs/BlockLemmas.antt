@@ -7,7 +7,7 @@ use Rattle.std.proofs.lemmas.List.Folds.{list_any-append, list_all-append}
 use Rattle.std.proofs.lemmas.List.Sums.{fold-append}
 use Rattle.pfs_layout.specs.declared.layout.Layout.{Layout}
 use Rattle.pfs_layout.specs.Bytes.{is_digit, is_word_byte}
-use Rattle.pfs_base.specs.Limits.{Limits, limits}
+use Rattle.pfs_base.specs.Limits.{limits}
 use Rattle.pfs_base.specs.Lists.{is_empty}
 use Rattle.pfs_base.proofs.Lists.{by_push, enumerate_from-append}
 use Rattle.pfs_base.specs.Problem.{Problem}

@@ -19,11 +19,11 @@ use Rattle.pfs_layout.specs.Block.{any_time, machine_number, nothing, is_due, du
 use Rattle.pfs_layout.specs.Stand.{place_of_time}
 
 module _ (f : ℕ → List ℕ) (w : ℕ) (each : (i : ℕ) → length (f i) ≡ w) where
-  length-rows : (a n : ℕ) → length (flat_map f (range_with_len a n)) ≡ n * w
+  pub length-rows : (a n : ℕ) → length (flat_map f (range_with_len a n)) ≡ n * w
   length-rows a zero = omega arith
   length-rows a (suc n) = length-append (f a) (flat_map f (range_with_len (a + 1) n)) ∙ grind (arith, each a, length-rows (a + 1) n)
 
-  get_or-rows : (a n r c d : ℕ) → r < n → c < w → get_or (flat_map f (range_with_len a n)) (r * w + c) d ≡ get_or (f (a + r)) c d
+  pub get_or-rows : (a n r c d : ℕ) → r < n → c < w → get_or (flat_map f (range_with_len a n)) (r * w + c) d ≡ get_or (f (a + r)) c d
   get_or-rows a zero r c d h l = absurd (omega arith)
   get_or-rows a (suc n) zero c d h l =
       let e : 0 * w + c ≡ c = omega arith in
@@ -35,7 +35,7 @@ module _ (f : ℕ → List ℕ) (w : ℕ) (each : (i : ℕ) → length (f i) ≡
       rw e (get_or-append-add (f a) (flat_map f (range_with_len (a + 1) n)) (r * w + c) d ∙ get_or-rows (a + 1) n r c d (omega arith) l ∙ ap (λ i. get_or (f i) c d) g)
 
 -- a machine and its time
-abbrev pairs_of : FlowShop → ℕ → ℕ → List ℕ
+abbrev pub pairs_of : FlowShop → ℕ → ℕ → List ℕ
 pairs_of shop job machine = machine ∷ time_of shop job machine ∷ []
 
 abbrev row_width : Layout → FlowShop → ℕ
@@ -89,7 +89,7 @@ pub record IsAt (k rows width : ℕ) : Type 0 where
   pub column_in : column < width
   pub is : k ≡ row * width + column
 
-at_row : (k rows width : ℕ) → 0 < width → k < rows * width → IsAt k rows width
+pub at_row : (k rows width : ℕ) → 0 < width → k < rows * width → IsAt k rows width
 at_row k rows width w h = record {
   row = k / width;
   column = k % width;
@@ -102,17 +102,59 @@ some_machine : (a b k : ℕ) → k < 2 * (a * b) → 0 < b
 some_machine a zero k h = absurd (omega arith)
 some_machine a (suc b) k h = omega arith
 
-taillard_at : (s : Size) (k : ℕ) → k < due_count Taillard s → due_at Taillard s k ≡ any_time
+pub taillard_at : (s : Size) (k : ℕ) → k < due_count Taillard s → due_at Taillard s k ≡ any_time
 unfolding due_at
 taillard_at s k h = ap (λ v. if v then any_time else nothing) (lt-ltb k (due_count Taillard s) h)
 
-orlib_at : (s : Size) (k : ℕ) → k < due_count OrLib s → due_at OrLib s k ≡ (if k % 2 == 0 then machine_number (k / 2 % s.machines) else any_time)
+pub orlib_at : (s : Size) (k : ℕ) → k < due_count OrLib s → due_at OrLib s k ≡ (if k % 2 == 0 then machine_number (k / 2 % s.machines) else any_time)
 unfolding due_at
 orlib_at s k h = ap (λ v. if v then (if k % 2 == 0 then machine_number (k / 2 % s.machines) else any_time) else nothing) (lt-ltb k (due_count OrLib s) h)
 
-some_factor : (a b k : ℕ) → k < a * b → 0 < a
+pub some_factor : (a b k : ℕ) → k < a * b → 0 < a
 some_factor zero b k h = absurd (omega arith)
 some_factor (suc a) b k h = omega arith
+
+-- k is in the pair of a job and a machine, the number of the machine or its time
+pub record IsInPair (size : Size) (k : ℕ) : Type 0 where
+  pub job : ℕ
+  pub machine : ℕ
+  pub column : ℕ
+  pub job_in : job < size.jobs
+  pub machine_in : machine < size.machines
+  pub column_in : column < 2
+  pub is : k ≡ job * (size.machines * 2) + (machine * 2 + column)
+  pub wanted : due_at OrLib size k ≡ (if column == 0 then machine_number machine else any_time)
+
+pub in_pair : (size : Size) (k : ℕ) → k < due_count OrLib size → IsInPair size k
+in_pair size k h =
+    let m : ℕ = size.machines in
+    let machines_some : 0 < m = some_machine size.jobs m k h in
+    let rows : k < size.jobs * (m * 2) = grind (arith, h) in
+    let at = at_row k size.jobs (m * 2) (omega arith) rows in
+    let pair = at_row at.column m 2 (lit< tt) at.column_in in
+    let is : k ≡ at.row * (m * 2) + (pair.row * 2 + pair.column) = omega (arith, at.is, pair.is) in
+    let halves : k ≡ (at.row * m + pair.row) * 2 + pair.column = grind (arith, is) in
+    let odd : k % 2 ≡ pair.column = ap (λ i. i % 2) halves ∙ mod-mul-add (at.row * m + pair.row) 2 pair.column pair.column_in in
+    let half : k / 2 ≡ at.row * m + pair.row = ap (λ i. i / 2) halves ∙ div-mul-add (at.row * m + pair.row) 2 pair.column pair.column_in in
+    let number : k / 2 % m ≡ pair.row = ap (λ i. i % m) half ∙ mod-mul-add at.row m pair.row pair.row_in in
+    record {
+      job = at.row;
+      machine = pair.row;
+      column = pair.column;
+      job_in = at.row_in;
+      machine_in = pair.row_in;
+      column_in = pair.column_in;
+      is = is;
+      wanted = orlib_at size k h ∙ ap (λ i. if i == 0 then machine_number (k / 2 % m) else any_time) odd ∙ ap (λ i. if pair.column == 0 then machine_number i else any_time) number;
+    }
+
+-- what stands in the pair
+pub pair_at : (shop : FlowShop) (job machine c d : ℕ) → job < shop.jobs → machine < shop.machines → c < 2
+    → get_or (due OrLib shop) (job * (shop.machines * 2) + (machine * 2 + c)) d ≡ get_or (pairs_of shop (0 + job) (0 + machine)) c d
+unfolding due due_row
+pair_at shop job machine c d j m l =
+    get_or-rows (due_row OrLib shop) (shop.machines * 2) (length-due_row OrLib shop) 0 shop.jobs job (machine * 2 + c) d j (omega arith)
+    ∙ get_or-rows (pairs_of shop (0 + job)) 2 (λ i. refl) 0 shop.machines machine c d m l
 
 module _ (problem : Problem) (within : All (λ time. time ≤ LONGEST_TIME) problem.shop.times) where
   time_within : (job machine : ℕ) → time_of problem.shop job machine ≤ LONGEST_TIME
@@ -121,11 +163,8 @@ module _ (problem : Problem) (within : All (λ time. time ≤ LONGEST_TIME) prob
   -- a machine number and a time
   pair_passes : (even : Bool) (job machine c d : ℕ) → job < problem.shop.jobs → machine < problem.shop.machines → c < 2 → (c == 0) ≡ even
       → is_due (if even then machine_number machine else any_time) (get_or (due OrLib problem.shop) (job * (problem.shop.machines * 2) + (machine * 2 + c)) d) ≡ true
-  unfolding due due_row
   pair_passes even job machine c d j m l e =
-      let place : get_or (due OrLib problem.shop) (job * (problem.shop.machines * 2) + (machine * 2 + c)) d ≡ get_or (pairs_of problem.shop (0 + job) (0 + machine)) c d =
-      get_or-rows (due_row OrLib problem.shop) (problem.shop.machines * 2) (length-due_row OrLib problem.shop) 0 problem.shop.jobs job (machine * 2 + c) d j (omega arith)
-      ∙ get_or-rows (pairs_of problem.shop (0 + job)) 2 (λ i. refl) 0 problem.shop.machines machine c d m l in
+      let place : get_or (due OrLib problem.shop) (job * (problem.shop.machines * 2) + (machine * 2 + c)) d ≡ get_or (pairs_of problem.shop (0 + job) (0 + machine)) c d = pair_at problem.shop job machine c d j m l in
       rw place (by_column even c e l)
     where
       by_column : (even : Bool) (c : ℕ) → (c == 0) ≡ even → c < 2 → is_due (if even then machine_number machine else any_time) (get_or (pairs_of problem.shop (0 + job) (0 + machine)) c d) ≡ true
@@ -153,20 +192,9 @@ module _ (problem : Problem) (within : All (λ time. time ≤ LONGEST_TIME) prob
 
   orlib_passes : (k d : ℕ) → k < due_count OrLib (size_of problem) → is_due (due_at OrLib (size_of problem) k) (get_or (due OrLib problem.shop) k d) ≡ true
   orlib_passes k d h =
-      let m : ℕ = problem.shop.machines in
-      let machines_some : 0 < m = some_machine problem.shop.jobs m k h in
-      let rows : k < problem.shop.jobs * (m * 2) = grind (arith, h) in
-      let at = at_row k problem.shop.jobs (m * 2) (omega arith) rows in
-      let pair = at_row at.column m 2 (lit< tt) at.column_in in
-      let is : k ≡ at.row * (m * 2) + (pair.row * 2 + pair.column) = omega (arith, at.is, pair.is) in
-      let halves : k ≡ (at.row * m + pair.row) * 2 + pair.column = grind (arith, is) in
-      let odd : k % 2 ≡ pair.column = ap (λ i. i % 2) halves ∙ mod-mul-add (at.row * m + pair.row) 2 pair.column pair.column_in in
-      let half : k / 2 ≡ at.row * m + pair.row = ap (λ i. i / 2) halves ∙ div-mul-add (at.row * m + pair.row) 2 pair.column pair.column_in in
-      let number : k / 2 % m ≡ pair.row = ap (λ i. i % m) half ∙ mod-mul-add at.row m pair.row pair.row_in in
-      let wanted : due_at OrLib (size_of problem) k ≡ (if pair.column == 0 then machine_number pair.row else any_time) =
-      orlib_at (size_of problem) k h ∙ ap (λ i. if i == 0 then machine_number (k / 2 % m) else any_time) odd ∙ ap (λ i. if pair.column == 0 then machine_number i else any_time) number in
-      let place : get_or (due OrLib problem.shop) k d ≡ get_or (due OrLib problem.shop) (at.row * (m * 2) + (pair.row * 2 + pair.column)) d = ap (λ i. get_or (due OrLib problem.shop) i d) is in
-      rw (wanted, place) (pair_passes (pair.column == 0) at.row pair.row pair.column d at.row_in pair.row_in pair.column_in refl)
+      let pair = in_pair (size_of problem) k h in
+      let place : get_or (due OrLib problem.shop) k d ≡ get_or (due OrLib problem.shop) (pair.job * (problem.shop.machines * 2) + (pair.machine * 2 + pair.column)) d = ap (λ i. get_or (due OrLib problem.shop) i d) pair.is in
+      rw (pair.wanted, place) (pair_passes (pair.column == 0) pair.job pair.machine pair.column d pair.job_in pair.machine_in pair.column_in refl)
 
 -- what is due passes
 pub due_passes : (layout : Layout) (problem : Problem) → All (λ time. time ≤ LONGEST_TIME) problem.shop.times → are_due layout (size_of problem) (due layout problem.shop) ≡ true

@@ -1,5 +1,5 @@
 -- Lines and numbers of a text with one more byte.
-use Rattle.std.proofs.Common.{◌≡◌, ℕ, Bool, true, false, not, List, [], ◌∷◌, ◌++◌, map, refl, sym, ◌∙◌, ap, subst, if◌then◌else◌}
+use Rattle.std.proofs.Common.{◌≡◌, ℕ, Bool, true, false, not, List, [], ◌∷◌, ◌++◌, map, refl, sym, ◌∙◌, ap, if◌then◌else◌}
 use Rattle.std.specs.List.{slice_split, onto_first}
 use Rattle.std.proofs.lemmas.List.{map-append}
 use Rattle.std.proofs.lemmas.List.Elements.{filter-append}
@@ -9,7 +9,7 @@ use Rattle.pfs_base.proofs.Lists.{all_and_last, all_but_last-push, last_of-push}
 use Rattle.pfs_layout.specs.Lines.{ended_parts, open_part, is_no_digit, values, numbers, ended_numbers, last_digits}
 
 -- a list of parts that isn't empty
-record IsSome (parts : List (List ℕ)) : Type 0 where
+pub record IsSome (parts : List (List ℕ)) : Type 0 where
   pub first : List ℕ
   pub more : List (List ℕ)
   pub is : parts ≡ first ∷ more
@@ -22,7 +22,7 @@ some_by : (b : Bool) (x : ℕ) (parts : List (List ℕ)) → IsSome (if b then [
 some_by true x parts = record { first = []; more = parts; is = refl }
 some_by false x parts = onto_first-some x parts
 
-split_some : (p : ℕ → Bool) (xs : List ℕ) → IsSome (slice_split p xs)
+pub split_some : (p : ℕ → Bool) (xs : List ℕ) → IsSome (slice_split p xs)
 split_some p [] = record { first = []; more = []; is = refl }
 split_some p (x ∷ xs) = some_by (p x) x (slice_split p xs)
 
@@ -74,7 +74,7 @@ ended_parts-push p xs b = ended_by (p b) p xs b refl
 pub open_part-push : (p : ℕ → Bool) (xs : List ℕ) (b : ℕ) → open_part p (xs ++ b ∷ []) ≡ (if p b then [] else open_part p xs ++ b ∷ [])
 open_part-push p xs b = open_by (p b) p xs b refl
 
-values-append : (xs ys : List (List ℕ)) → values (xs ++ ys) ≡ values xs ++ values ys
+pub values-append : (xs ys : List (List ℕ)) → values (xs ++ ys) ≡ values xs ++ values ys
 values-append xs ys = ap (map (digits_value 10)) (filter-append (λ run. not (is_empty run)) xs ys) ∙ map-append (digits_value 10) _ _
 
 -- the numbers on a line are those that are ended and the one that isn't, if there is one

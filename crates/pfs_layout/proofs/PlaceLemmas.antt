@@ -2,7 +2,8 @@
 use Rattle.std.proofs.Common.{◌≡◌, ℕ, zero, suc, ◌+◌, ◌<◌, ◌≤◌, List, [], ◌∷◌, ◌++◌, length, take, map, refl, ◌∙◌, ap, arith, Option, Some, None, ◌↔◌, ◌⊎◌, inl, inr}
 use Rattle.std.specs.List.{slice_get, range_with_len}
 use Rattle.std.specs.Option.{option_or}
-use Rattle.std.proofs.lemmas.List.{length_push, take-append-le, take_at, map-append}
+use Rattle.std.proofs.lemmas.List.{length_push, take-append-le, take_at, take_all, map-append}
+use Rattle.std.proofs.lemmas.Option.{slice_get_past}
 use Rattle.std.proofs.lemmas.Bool.{cases_eq, cases_order}
 use Rattle.pfs_layout.specs.declared.layout.Layout.{Layout}
 use Rattle.pfs_layout.specs.declared.fault.LayoutFault.{LayoutFault}
@@ -39,7 +40,7 @@ byte_fault-push layout k text b =
 -- ---- the first place that has a fault
 
 -- p is the first number from a on at which f gives x
-record IsFirst {A : Type 0} (f : ℕ → Option A) (a p : ℕ) (x : A) : Type 0 where
+pub record IsFirst {A : Type 0} (f : ℕ → Option A) (a p : ℕ) (x : A) : Type 0 where
   pub low : a ≤ p
   pub here : f p ≡ Some x
   pub before : (q : ℕ) → a ≤ q → q < p → f q ≡ None
@@ -62,7 +63,7 @@ step_found f a n x o h (inl more) (inl none) = (
     by_start q low high (inl s) = rw s (h ∙ none)
     by_start q low high (inr d) = more.2.before q (omega arith) high
 
-first_found : {A : Type 0} (f : ℕ → Option A) (a n : ℕ) (x : A) → first_some (map f (range_with_len a n)) ≡ Some x → (p : ℕ) × (p < a + n) × IsFirst f a p x
+pub first_found : {A : Type 0} (f : ℕ → Option A) (a n : ℕ) (x : A) → first_some (map f (range_with_len a n)) ≡ Some x → (p : ℕ) × (p < a + n) × IsFirst f a p x
 first_found f a zero x e = cc
 first_found {A} f a (suc n) x e = by_here (f a) refl e (λ h. first_found f (a + 1) n x h)
   where
@@ -71,7 +72,7 @@ first_found {A} f a (suc n) x e = by_here (f a) refl e (λ h. first_found f (a +
     by_here (Some y) h e more = step_found f a n x (Some y) h (inr e) (inr e)
     by_here None h e more = step_found f a n x None h (inl (more e)) (inl refl)
 
-first_not_found : {A : Type 0} (f : ℕ → Option A) (a n : ℕ) → first_some (map f (range_with_len a n)) ≡ None → (q : ℕ) → a ≤ q → q < a + n → f q ≡ None
+pub first_not_found : {A : Type 0} (f : ℕ → Option A) (a n : ℕ) → first_some (map f (range_with_len a n)) ≡ None → (q : ℕ) → a ≤ q → q < a + n → f q ≡ None
 first_not_found f a zero e q low high = absurd (omega arith)
 first_not_found {A} f a (suc n) e q low high = by_here (f a) refl e (cases_eq q a) (λ h l. first_not_found f (a + 1) n h q l (omega arith))
   where
@@ -119,3 +120,43 @@ refusal_is layout input k fault = (to, from)
 -- at most one fault
 pub one_fault : (layout : Layout) (input : List ℕ) (k : ℕ) (one other : LayoutFault) → Refuse layout input k one → Refuse layout input k other → one ≡ other
 one_fault layout input k one other r s = one_first (fault_at layout k input) 0 r.place s.place one other (first_of layout input k one r) (first_of layout input k other s)
+
+-- ---- places without a fault
+
+none_first : {A : Type 0} (f : ℕ → Option A) (a n : ℕ) → ((q : ℕ) → a ≤ q → q < a + n → f q ≡ None) → first_some (map f (range_with_len a n)) ≡ None
+none_first f a zero none = refl
+none_first f a (suc n) none = by_here (f a) (map f (range_with_len (a + 1) n)) (none a (omega arith) (omega arith)) (none_first f (a + 1) n (λ q low high. none q (omega arith) (omega arith)))
+  where
+    by_here : {A : Type 0} (o : Option A) (os : List (Option A)) → o ≡ None → first_some os ≡ None → first_some (o ∷ os) ≡ None
+    by_here None os e rest = rest
+    by_here (Some x) os e rest = cc
+
+-- no place of an input that isn't refused has a fault
+pub no_fault : (layout : Layout) (k : ℕ) (input : List ℕ) → refusal layout input k ≡ None → (place : ℕ) → place ≤ length input → fault_at layout k input place ≡ None
+unfolding refusal
+no_fault layout k input e place h = first_not_found (fault_at layout k input) 0 (length input + 1) e place (omega arith) (omega arith)
+
+pub not_refused : (layout : Layout) (k : ℕ) (input : List ℕ) → ((place : ℕ) → place ≤ length input → fault_at layout k input place ≡ None) → refusal layout input k ≡ None
+unfolding refusal
+not_refused layout k input none = none_first (fault_at layout k input) 0 (length input + 1) (λ q low high. none q (omega arith))
+
+pub no_byte_fault : (layout : Layout) (k : ℕ) (text : List ℕ) → ((place : ℕ) → place < length text → fault_at layout k text place ≡ None) → byte_fault layout k text ≡ None
+unfolding byte_fault
+no_byte_fault layout k text none = none_first (fault_at layout k text) 0 (length text) (λ q low high. none q (omega arith))
+
+pub slice_get-at : {A : Type 0} (xs : List A) (y : A) (ys : List A) → slice_get (xs ++ y ∷ ys) (length xs) ≡ Some y
+slice_get-at [] y ys = refl
+slice_get-at (x ∷ xs) y ys = slice_get-at xs y ys
+
+-- the place of a byte, and the end
+pub fault_at-byte : (layout : Layout) (k : ℕ) (before : List ℕ) (b : ℕ) (after : List ℕ) → fault_at layout k (before ++ b ∷ after) (length before) ≡ fault_behind layout k before (Some b)
+fault_at-byte layout k before b after =
+    let front : take (length before) (before ++ b ∷ after) ≡ before = take_at before (b ∷ after) (length before) refl in
+    let next : slice_get (before ++ b ∷ after) (length before) ≡ Some b = slice_get-at before b after in
+    cc
+
+pub fault_at-end : (layout : Layout) (k : ℕ) (text : List ℕ) → fault_at layout k text (length text) ≡ fault_behind layout k text None
+fault_at-end layout k text =
+    let front : take (length text) text ≡ text = take_all (length text) text (omega arith) in
+    let next : slice_get text (length text) ≡ None = slice_get_past text (length text) (omega arith) in
+    cc

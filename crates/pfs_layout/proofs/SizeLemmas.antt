@@ -1,26 +1,25 @@
 -- The test of a size line's numbers is that they are within the limits.
-use Rattle.std.proofs.Common.{◌≡◌, ℕ, ◌≤◌, Bool, true, ◌&&◌, nat_le, ap, ◌∙◌}
-use Rattle.std.proofs.lemmas.Bool.{and_parts, le-leb, leb-true}
-use Rattle.pfs_base.specs.declared.limits.TheConstants.{MOST_JOBS, MOST_MACHINES, GREATEST_NOTE}
+use Rattle.std.proofs.Common.{◌≡◌, ℕ, ◌≤◌, true, List, [], ◌∷◌, nat_le}
+use Rattle.std.specs.List.{All, list_all}
+use Rattle.std.proofs.lemmas.List.Elements.{All-nil, All-cons}
+use Rattle.std.proofs.lemmas.Bool.{and_from, and_parts, le-leb, leb-true}
+use Rattle.pfs_base.specs.declared.limits.TheConstants.{MOST_JOBS, MOST_MACHINES, GREATEST_NOTE, LONGEST_TIME}
 use Rattle.pfs_base.specs.FlowShop.{AreSizes}
 use Rattle.pfs_base.specs.Limits.{limits}
 use Rattle.pfs_base.specs.Problem.{Problem}
 use Rattle.pfs_layout.specs.Size.{Size, size_of, is_between, is_within_limits}
 use Rattle.pfs_layout.specs.File.{IsInstance}
 
-and_true : (a b : Bool) → a ≡ true → b ≡ true → (a && b) ≡ true
-and_true a b p q = ap (λ v. v && b) p ∙ q
-
 pub within_size : (problem : Problem) → IsInstance limits problem → is_within_limits (size_of problem) ≡ true
 within_size problem is =
     let sizes = is.within.sizes in
     let notes = problem.notes in
-    let jobs = and_true _ _ (le-leb 1 problem.shop.jobs sizes.some_job) (le-leb problem.shop.jobs MOST_JOBS sizes.few_jobs) in
-    let machines = and_true _ _ (le-leb 1 problem.shop.machines sizes.some_machine) (le-leb problem.shop.machines MOST_MACHINES sizes.few_machines) in
+    let jobs = and_from _ _ (le-leb 1 problem.shop.jobs sizes.some_job) (le-leb problem.shop.jobs MOST_JOBS sizes.few_jobs) in
+    let machines = and_from _ _ (le-leb 1 problem.shop.machines sizes.some_machine) (le-leb problem.shop.machines MOST_MACHINES sizes.few_machines) in
     let seed = le-leb notes.seed GREATEST_NOTE is.seed in
     let upper = le-leb notes.upper GREATEST_NOTE is.upper in
     let lower = le-leb notes.lower GREATEST_NOTE is.lower in
-    and_true _ _ (and_true _ _ (and_true _ _ (and_true _ _ jobs machines) seed) upper) lower
+    and_from _ _ (and_from _ _ (and_from _ _ (and_from _ _ jobs machines) seed) upper) lower
 
 -- what the test says
 pub record AreWithin (size : Size) : Type 0 where
@@ -46,3 +45,10 @@ size_within size e =
       upper = leb-true size.notes.upper GREATEST_NOTE upper.1;
       lower = leb-true size.notes.lower GREATEST_NOTE lower.1;
     }
+
+-- times that pass the test are short
+pub all_short : (times : List ℕ) → list_all (λ time. nat_le time LONGEST_TIME) times ≡ true → All (λ time. time ≤ LONGEST_TIME) times
+all_short [] e = All-nil (λ time. time ≤ LONGEST_TIME)
+all_short (time ∷ times) e =
+    let parts = and_parts (nat_le time LONGEST_TIME) (list_all (λ time. nat_le time LONGEST_TIME) times) e in
+    All-cons (λ time. time ≤ LONGEST_TIME) time times (leb-true time LONGEST_TIME parts.0) (all_short times parts.1)

@@ -1,10 +1,10 @@
 -- While no byte has a fault, the numbers so far are due and no line of a body is mixed.
-use Rattle.std.proofs.Common.{◌≡◌, ℕ, ◌+◌, ◌-◌, ◌<◌, ◌≤◌, Bool, true, false, not, ◌&&◌, ◌||◌, List, [], ◌∷◌, ◌++◌, length, map, count_by, refl, sym, ◌∙◌, ap, subst, arith, Option, Some, None, if◌then◌else◌, ◌==◌}
+use Rattle.std.proofs.Common.{◌≡◌, ℕ, ◌+◌, ◌-◌, ◌<◌, ◌≤◌, Bool, true, false, not, ◌&&◌, ◌||◌, List, [], ◌∷◌, ◌++◌, length, map, count_by, refl, sym, ◌∙◌, ap, arith, Option, Some, None, if◌then◌else◌, ◌==◌}
 use Rattle.std.specs.List.{list_any, list_all, enumerate_from}
 use Rattle.std.specs.Bool.{then_some}
 use Rattle.std.specs.Option.{option_or}
 use Rattle.std.specs.Str.Parse.{digits_value}
-use Rattle.std.proofs.lemmas.Bool.{ltb-false, lt-ltb, le-leb, not-false, not-true, eqb-true}
+use Rattle.std.proofs.lemmas.Bool.{and_from, ltb-false, lt-ltb, le-leb, not-false, not-true, eqb-true, or_right}
 use Rattle.std.proofs.lemmas.List.{append-nil, append_assoc, length-append}
 use Rattle.std.proofs.lemmas.List.Folds.{list_any-append, list_all-append}
 use Rattle.std.proofs.lemmas.List.Sums.{fold-append}
@@ -17,17 +17,17 @@ use Rattle.pfs_layout.specs.Size.{Size, is_within_limits}
 use Rattle.pfs_layout.specs.Lines.{ended_parts, open_part, ended_lines, open_line, is_mixed, is_number_line, is_no_digit, values, numbers, ended_numbers, last_digits}
 use Rattle.pfs_layout.specs.Block.{Due, any_time, machine_number, nothing, is_due, due_at, are_due, stated_size, due_count}
 use Rattle.pfs_layout.specs.Stand.{Block, Now, seeking, inside, lost, Stand, after_size, after_numbers, after_line, stand_after, stand}
-use Rattle.pfs_layout.specs.Refuse.{mixed_line, misfit, ends_number, wrong_number, size_fault, wrong_size, too_long, ends_early, faults, fault_behind, byte_fault}
+use Rattle.pfs_layout.specs.Refuse.{mixed_line, misfit, ends_line, ends_number, wrong_number, size_fault, wrong_size, too_long, ends_early, faults, fault_behind, byte_fault}
 use Rattle.pfs_layout.proofs.LineLemmas.{ended_parts-push, open_part-push, ended_numbers-push, numbers_is}
 use Rattle.pfs_layout.proofs.PlaceLemmas.{byte_fault-push}
 
 -- ---- options
 
-then_some_none : {A : Type 0} (c : Bool) (x : A) → then_some c x ≡ None → c ≡ false
+pub then_some_none : {A : Type 0} (c : Bool) (x : A) → then_some c x ≡ None → c ≡ false
 then_some_none true x e = cc
 then_some_none false x e = refl
 
-first_none : {A : Type 0} (o : Option A) (os : List (Option A)) → first_some (o ∷ os) ≡ None → (o ≡ None) × (first_some os ≡ None)
+pub first_none : {A : Type 0} (o : Option A) (os : List (Option A)) → first_some (o ∷ os) ≡ None → (o ≡ None) × (first_some os ≡ None)
 first_none None os e = (refl, e)
 first_none (Some x) os e = cc
 
@@ -37,17 +37,14 @@ or_none (Some x) p e = cc
 
 -- ---- numbers that are due
 
-and_true : (a b : Bool) → a ≡ true → b ≡ true → (a && b) ≡ true
-and_true a b p q = ap (λ v. v && b) p ∙ q
-
 -- one more number that is due
 pub are_due-push : (layout : Layout) (size : Size) (ns : List ℕ) (n : ℕ) → are_due layout size ns ≡ true → is_due (due_at layout size (length ns)) n ≡ true → are_due layout size (ns ++ n ∷ []) ≡ true
 unfolding are_due due_at
 are_due-push layout size ns n all one =
     let test : ℕ × ℕ → Bool = λ p. is_due (due_at layout size p.0) p.1 in
     let e : 0 + length ns ≡ length ns = omega arith in
-    let last : list_all test ((0 + length ns, n) ∷ []) ≡ true = rw e (and_true (is_due (due_at layout size (length ns)) n) true one refl) in
-    ap (list_all test) (enumerate_from-append 0 ns (n ∷ [])) ∙ list_all-append test (enumerate_from 0 ns) ((0 + length ns, n) ∷ []) ∙ and_true _ _ all last
+    let last : list_all test ((0 + length ns, n) ∷ []) ≡ true = rw e (and_from (is_due (due_at layout size (length ns)) n) true one refl) in
+    ap (list_all test) (enumerate_from-append 0 ns (n ∷ [])) ∙ list_all-append test (enumerate_from 0 ns) ((0 + length ns, n) ∷ []) ∙ and_from _ _ all last
 
 pub misfit_none : (due : Due) (n offset : ℕ) → misfit due n offset ≡ None → is_due due n ≡ true
 misfit_none any_time n offset e = le-leb n LONGEST_TIME (ltb-false LONGEST_TIME n (then_some_none _ _ e))
@@ -64,7 +61,7 @@ last_digits-none : last_digits [] ≡ []
 unfolding open_part
 last_digits-none = refl
 
-open_line-none : open_line [] ≡ []
+pub open_line-none : open_line [] ≡ []
 unfolding open_part
 open_line-none = refl
 
@@ -113,31 +110,33 @@ digit_there = by_push (λ line. is_empty (last_digits line) ≡ false → list_a
     more : (line : List ℕ) (b : ℕ) → (is_empty (last_digits line) ≡ false → list_any is_digit line ≡ true) → is_empty (last_digits (line ++ b ∷ [])) ≡ false → list_any is_digit (line ++ b ∷ []) ≡ true
     more line b h e = list_any-append is_digit line (b ∷ []) ∙ step (is_digit b) line b refl (rw (← open_part-push is_no_digit line b) e)
 
--- where a byte ends the number at the end of the line without a fault, all numbers of the line are due
-all_due : (v : Bool) (layout : Layout) (block : Block) (text : List ℕ) (b : ℕ) → is_empty (last_digits (open_line text)) ≡ v
+-- where the number at the end of the line is ended without a fault, all numbers of the line are due
+all_due : (v : Bool) (layout : Layout) (block : Block) (text : List ℕ) (next : Option ℕ) → is_empty (last_digits (open_line text)) ≡ v
     → are_due layout block.size (block.numbers ++ ended_numbers (open_line text)) ≡ true
-    → (v ≡ false → (is_blank b || is_line_end b) ≡ true)
-    → wrong_number layout block text (Some b) ≡ None
+    → (v ≡ false → ends_number text next ≡ true)
+    → wrong_number layout block text next ≡ None
     → are_due layout block.size (block.numbers ++ numbers (open_line text)) ≡ true
 unfolding wrong_number
-all_due true layout block text b empty due ends right =
+all_due true layout block text next empty due ends right =
     let e : numbers (open_line text) ≡ ended_numbers (open_line text) = numbers_is (open_line text) ∙ ap (λ ns. ended_numbers (open_line text) ++ ns) (values_last true (last_digits (open_line text)) empty) ∙ append-nil (ended_numbers (open_line text)) in
     rw e due
-all_due false layout block text b empty due ends right =
+all_due false layout block text next empty due ends right =
     let line = open_line text in
     let last : last_digits text ≡ last_digits line = same_last text in
     let e : numbers line ≡ ended_numbers line ++ digits_value 10 (last_digits line) ∷ [] = numbers_is line ∙ ap (λ ns. ended_numbers line ++ ns) (values_last false (last_digits line) empty) in
-    let there : is_empty (last_digits text) ≡ false = ap is_empty last ∙ empty in
-    let end : ends_number text (Some b) ≡ true = and_true (not (is_empty (last_digits text))) (is_blank b || is_line_end b) (ap not there) (ends refl) in
     let place : ℕ = length block.numbers + length (ended_numbers line) in
     let value : ℕ = digits_value 10 (last_digits text) in
     let offset : ℕ = length text - length (last_digits text) in
-    let fits : misfit (due_at layout block.size place) value offset ≡ None = sym (ap (λ v. if v then misfit (due_at layout block.size place) value offset else None) end) ∙ right in
+    let fits : misfit (due_at layout block.size place) value offset ≡ None = sym (ap (λ v. if v then misfit (due_at layout block.size place) value offset else None) (ends refl)) ∙ right in
     let one : is_due (due_at layout block.size place) value ≡ true = misfit_none (due_at layout block.size place) value offset fits in
     let at : length (block.numbers ++ ended_numbers line) ≡ place = length-append block.numbers (ended_numbers line) in
     let same : value ≡ digits_value 10 (last_digits line) = ap (digits_value 10) last in
     let pushed : are_due layout block.size ((block.numbers ++ ended_numbers line) ++ digits_value 10 (last_digits line) ∷ []) ≡ true = are_due-push layout block.size (block.numbers ++ ended_numbers line) (digits_value 10 (last_digits line)) due (rw (at, ← same) one) in
     rw e (rw (← append_assoc block.numbers (ended_numbers line) (digits_value 10 (last_digits line) ∷ [])) pushed)
+
+-- digits at the end of a text are ended by a blank and by a line end
+digits_ended : (text : List ℕ) (b : ℕ) → is_empty (last_digits (open_line text)) ≡ false → (is_blank b || is_line_end b) ≡ true → ends_number text (Some b) ≡ true
+digits_ended text b there ends = and_from (not (is_empty (last_digits text))) (is_blank b || is_line_end b) (ap not (ap is_empty (same_last text) ∙ there)) ends
 
 or_last : (a b : Bool) → b ≡ true → (a || (b || false)) ≡ true
 or_last true b e = refl
@@ -157,7 +156,7 @@ ends_by false line b e no_digit unmixed there =
     let digits : list_any is_digit (line ++ b ∷ []) ≡ true = list_any-append is_digit line (b ∷ []) ∙ ap (λ v. v || (is_digit b || false)) (digit_there line there) in
     let word : is_word_byte b ≡ true = is_word_by (is_digit b) (is_blank b) (is_line_end b) (not-true (is_digit b) no_digit) e in
     let words : list_any is_word_byte (line ++ b ∷ []) ≡ true = list_any-append is_word_byte line (b ∷ []) ∙ or_last (list_any is_word_byte line) (is_word_byte b) word in
-    absurd (let mixed : is_mixed (line ++ b ∷ []) ≡ true = and_true (list_any is_digit (line ++ b ∷ [])) (list_any is_word_byte (line ++ b ∷ [])) digits words in cc)
+    absurd (let mixed : is_mixed (line ++ b ∷ []) ≡ true = and_from (list_any is_digit (line ++ b ∷ [])) (list_any is_word_byte (line ++ b ∷ [])) digits words in cc)
 
 -- a body's line with one more byte that isn't its end
 body_push : (layout : Layout) (block : Block) (text : List ℕ) (b : ℕ) → GoodBody layout block (open_line text)
@@ -173,7 +172,7 @@ body_push layout block text b good right_line right_number =
     }
   where
     by_digit : (v : Bool) (line : List ℕ) → is_no_digit b ≡ v → is_mixed (open_line text ++ b ∷ []) ≡ false → are_due layout block.size (block.numbers ++ (if v then numbers (open_line text) else ended_numbers (open_line text))) ≡ true
-    by_digit true line e unmixed = all_due (is_empty (last_digits (open_line text))) layout block text b refl good.due (λ there. ends_by (is_blank b || is_line_end b) (open_line text) b refl e unmixed there) right_number
+    by_digit true line e unmixed = all_due (is_empty (last_digits (open_line text))) layout block text (Some b) refl good.due (λ there. digits_ended text b there (ends_by (is_blank b || is_line_end b) (open_line text) b refl e unmixed there)) right_number
     by_digit false line e unmixed = good.due
 
 -- the complete blocks stay
@@ -213,11 +212,13 @@ good_size layout line (Some size) e = by_limits (is_within_limits size) refl (no
     by_limits true p q = good_begun layout size
     by_limits false p q = absurd (cc)
 
-good_sought : (v : Bool) (layout : Layout) (text : List ℕ) → is_number_line (open_line text) ≡ v → wrong_size layout text (Some 10) ≡ None
+good_sought : (v : Bool) (layout : Layout) (text : List ℕ) (next : Option ℕ) → ends_line text next ≡ true → is_number_line (open_line text) ≡ v → wrong_size layout text next ≡ None
     → GoodNow layout (if v then after_size (stated_size layout (numbers (open_line text))) else seeking) []
 unfolding wrong_size
-good_sought true layout text e right = good_size layout _ (stated_size layout (numbers (open_line text))) (sym (ap (λ v. if v then size_fault (stated_size layout (numbers (open_line text))) (1 + count_by is_line_end text) else None) e) ∙ right)
-good_sought false layout text e right = tt
+good_sought true layout text next ends e right =
+    let stated : Option Size = stated_size layout (numbers (open_line text)) in
+    good_size layout (1 + count_by is_line_end text) stated (sym (ap (λ v. if v then size_fault stated (1 + count_by is_line_end text) else None) (and_from (ends_line text next) (is_number_line (open_line text)) ends e)) ∙ right)
+good_sought false layout text next ends e right = tt
 
 -- after numbers that are due
 good_numbers : (layout : Layout) (complete : List Block) (next : Block) → are_due layout next.size next.numbers ≡ true → GoodNow layout (after_numbers layout complete next).now []
@@ -253,14 +254,15 @@ right_body layout k block text next right =
     let most = first_none (mixed_line text next) (wrong_number layout block text next ∷ ends_early layout k text next ∷ []) more.1 in
     (most.0, (first_none (wrong_number layout block text next) (ends_early layout k text next ∷ []) most.1).0)
 
-good_end : (layout : Layout) (k : ℕ) (complete : List Block) (now : Now) (text : List ℕ) → GoodNow layout now (open_line text)
-    → first_some (faults layout k now text (Some 10)) ≡ None → GoodNow layout (after_line layout complete now (open_line text)).now []
-good_end layout k complete seeking text good right =
-    good_sought (is_number_line (open_line text)) layout text refl (right_sought layout k text (Some 10) right)
-good_end layout k complete (inside block) text good right =
+pub good_end : (layout : Layout) (k : ℕ) (complete : List Block) (now : Now) (text : List ℕ) (next : Option ℕ) → ends_line text next ≡ true
+    → (is_empty (last_digits (open_line text)) ≡ false → ends_number text next ≡ true) → GoodNow layout now (open_line text)
+    → first_some (faults layout k now text next) ≡ None → GoodNow layout (after_line layout complete now (open_line text)).now []
+good_end layout k complete seeking text next ends digits good right =
+    good_sought (is_number_line (open_line text)) layout text next ends refl (right_sought layout k text next right)
+good_end layout k complete (inside block) text next ends digits good right =
     good_line (is_mixed (open_line text)) layout complete block text refl good.unmixed
-    (all_due (is_empty (last_digits (open_line text))) layout block text 10 refl good.due (λ there. refl) (right_body layout k block text (Some 10) right).1)
-good_end layout k complete lost text good right = good
+    (all_due (is_empty (last_digits (open_line text))) layout block text next refl good.due digits (right_body layout k block text next right).1)
+good_end layout k complete lost text next ends digits good right = good
 
 -- ---- a byte
 
@@ -272,7 +274,7 @@ good_byte layout k (inside block) text b good right =
     body_push layout block text b good rights.0 rights.1
 good_byte layout k lost text b good right = good
 
-stand-push : (layout : Layout) (lines : List (List ℕ)) (line : List ℕ) → stand layout (lines ++ line ∷ []) ≡ stand_after layout (stand layout lines) line
+pub stand-push : (layout : Layout) (lines : List (List ℕ)) (line : List ℕ) → stand layout (lines ++ line ∷ []) ≡ stand_after layout (stand layout lines) line
 unfolding stand
 stand-push layout lines line = fold-append (stand_after layout) _ lines (line ∷ [])
 
@@ -310,9 +312,7 @@ sound_more layout k text b sound right few =
     by_end : (v : Bool) → byte_fault layout k text ≡ None → fault_behind layout k text (Some b) ≡ None → is_line_end b ≡ v → Claim v
     by_end true before at e few =
         let fewer : length (stand_of layout text).complete < k = omega (arith, complete_stays layout (stand_of layout text).complete (stand_of layout text).now (open_line text)) in
-        let b_is : b ≡ 10 = eqb-true b 10 e in
-        let at_ten : first_some (faults layout k (stand_of layout text).now text (Some 10)) ≡ None = subst (λ c. first_some (faults layout k (stand_of layout text).now text (Some c)) ≡ None) b_is (here fewer at) in
-        let good = good_end layout k (stand_of layout text).complete (stand_of layout text).now text (sound before fewer) at_ten in
+        let good = good_end layout k (stand_of layout text).complete (stand_of layout text).now text (Some b) e (λ there. digits_ended text b there (or_right (is_blank b) (is_line_end b) e)) (sound before fewer) (here fewer at) in
         let s : stand_of layout (text ++ b ∷ []) ≡ stand_after layout (stand_of layout text) (open_line text) = stand_of-push layout text b ∙ ap (λ v. if v then stand_after layout (stand_of layout text) (open_line text) else stand_of layout text) e in
         let l : open_line (text ++ b ∷ []) ≡ [] = open_part-push is_line_end text b ∙ ap (λ v. if v then [] else open_line text ++ b ∷ []) e in
         rw (s, l) good

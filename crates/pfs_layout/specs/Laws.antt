@@ -1,10 +1,65 @@
 -- Laws about instance files.
-use Rattle.std.specs.Prelude.{◌≡◌, ◌↔◌, ℕ, ◌+◌, List, [], ◌∷◌, ◌++◌, length, Some}
-use Rattle.pfs_base.specs.Limits.{limits}
+use Rattle.std.specs.Prelude.{◌≡◌, ◌↔◌, ℕ, ◌+◌, ◌*◌, ◌<◌, ◌≤◌, List, [], ◌∷◌, ◌++◌, length, Some, None, ◌⊎◌, IsTrue}
+use Rattle.std.specs.List.{All}
+use Rattle.pfs_base.specs.declared.limits.TheConstants.{LONGEST_TIME, LONGEST_INPUT}
+use Rattle.pfs_base.specs.Limits.{Limits, limits}
 use Rattle.pfs_base.specs.Problem.{Problem}
 use Rattle.pfs_layout.specs.declared.layout.Layout.{Layout}
 use Rattle.pfs_layout.specs.declared.fault.LayoutFault.{LayoutFault}
-use Rattle.pfs_layout.specs.Refuse.{Refuse, refusal}
+use Rattle.pfs_layout.specs.Lines.{lines, ended_lines, open_line}
+use Rattle.pfs_layout.specs.Size.{Size, size_of}
+use Rattle.pfs_layout.specs.Block.{due, are_due}
+use Rattle.pfs_layout.specs.File.{File}
+use Rattle.pfs_layout.specs.Stand.{Block, seeking, stand, instance_of}
+use Rattle.pfs_layout.specs.Refuse.{Refuse, refusal, accepted, byte_fault}
+
+-- a front of the input, whose last line ends with byte 10 or with the input, leads to k complete blocks,
+-- the last of which is the problem's
+pub record Completes (layout : Layout) (input : List ℕ) (k : ℕ) (problem : Problem) : Type 0 where
+  pub text : List ℕ
+  pub rest : List ℕ
+  pub whole : input ≡ text ++ rest
+  pub ended : (open_line text ≡ []) ⊎ (rest ≡ [])
+  pub short : length text ≤ LONGEST_INPUT
+  pub earlier : List Block
+  pub own : Block
+  pub count : length earlier + 1 ≡ k
+  pub stands : stand layout (lines text) ≡ record { complete = earlier ++ own ∷ []; now = seeking }
+  pub is : problem ≡ instance_of layout own
+
+-- files are told by where their lines lead
+abbrev pub FileStands : Type 0
+FileStands = (layout : Layout) (input : List ℕ) (k : ℕ) (problem : Problem) → File limits layout input k problem ↔ Completes layout input k problem
+
+-- a front of the input ends with byte 10 or is the whole input, and the next block is sought behind it, k being complete
+pub record Seeks (layout : Layout) (input : List ℕ) (k : ℕ) : Type 0 where
+  pub text : List ℕ
+  pub rest : List ℕ
+  pub whole : input ≡ text ++ rest
+  pub ended : ((front : List ℕ) × (text ≡ front ++ 10 ∷ [])) ⊎ (rest ≡ [])
+  pub short : length text ≤ LONGEST_INPUT
+  pub complete : length (stand layout (lines text)).complete ≡ k
+  pub now : (stand layout (lines text)).now ≡ seeking
+
+-- where an input holds a file of some problem
+abbrev pub SomeFile : Type 0
+SomeFile = (layout : Layout) (input : List ℕ) (k : ℕ) → 1 ≤ k → ((problem : Problem) × File limits layout input k problem) ↔ Seeks layout input k
+
+-- something has the property, and nothing else has it
+pub record ExactlyOne {A : Type 0} (P : A → Type 0) : Type 0 where
+  pub one : A
+  pub has : P one
+  pub no_other : (other : A) → P other → other ≡ one
+
+-- an input holds the file of exactly one problem and has no fault, or it has exactly one fault and holds no file
+abbrev pub OneVerdict : Type 0
+OneVerdict = (layout : Layout) (input : List ℕ) (k : ℕ) → 1 ≤ k
+    → (ExactlyOne (File limits layout input k) × ((fault : LayoutFault) → ¬ Refuse layout input k fault))
+    ⊎ (ExactlyOne (Refuse layout input k) × ((problem : Problem) → ¬ File limits layout input k problem))
+
+-- which problem's file an input holds can be computed
+abbrev pub AcceptedLaw : Type 0
+AcceptedLaw = (layout : Layout) (input : List ℕ) (k : ℕ) (problem : Problem) → 1 ≤ k → accepted layout input k ≡ Some problem ↔ File limits layout input k problem
 
 -- an input has at most one fault
 abbrev pub OneFault : Type 0
@@ -13,3 +68,45 @@ OneFault = (layout : Layout) (input : List ℕ) (k : ℕ) (one other : LayoutFau
 -- which fault it has can be computed
 abbrev pub RefusalLaw : Type 0
 RefusalLaw = (layout : Layout) (input : List ℕ) (k : ℕ) (fault : LayoutFault) → refusal layout input k ≡ Some fault ↔ Refuse layout input k fault
+
+-- a fault at a byte stays, whatever follows
+abbrev pub FaultStays : Type 0
+FaultStays = (layout : Layout) (text more : List ℕ) (k : ℕ) (fault : LayoutFault) → byte_fault layout k text ≡ Some fault → Refuse layout (text ++ more) k fault
+
+-- the first fault at a byte is the fault, where its place is a byte
+abbrev pub ByteFaultLaw : Type 0
+ByteFaultLaw = (layout : Layout) (text : List ℕ) (k : ℕ) (fault : LayoutFault) → byte_fault layout k text ≡ Some fault ↔ ((refused : Refuse layout text k fault) × (refused.place < length text))
+
+-- where the ended lines of a text without a fault at a byte complete k blocks, what follows is free
+abbrev pub FreeBehind : Type 0
+FreeBehind = (layout : Layout) (text more : List ℕ) (k : ℕ) (problem : Problem) → 1 ≤ k → byte_fault layout k text ≡ None → k ≤ length (stand layout (ended_lines text)).complete
+    → File limits layout text k problem ↔ File limits layout (text ++ more) k problem
+
+-- no limit is lower
+pub record IsWider (narrow wide : Limits) : Type 0 where
+  pub jobs : narrow.jobs ≤ wide.jobs
+  pub machines : narrow.machines ≤ wide.machines
+  pub time : narrow.time ≤ wide.time
+  pub note : narrow.note ≤ wide.note
+  pub input : narrow.input ≤ wide.input
+
+-- wider limits keep every file
+abbrev pub WiderLimits : Type 0
+WiderLimits = (narrow wide : Limits) (layout : Layout) (input : List ℕ) (k : ℕ) (problem : Problem) → IsWider narrow wide → File narrow layout input k problem → File wide layout input k problem
+
+-- the numbers that are due give a problem back
+abbrev pub DueAndBack : Type 0
+DueAndBack = (layout : Layout) (problem : Problem) → length problem.shop.times ≡ problem.shop.jobs * problem.shop.machines
+    → instance_of layout (record { size = size_of problem; numbers = due layout problem.shop }) ≡ problem
+
+-- numbers begin what is due for a problem of this size
+pub record BeginDue (layout : Layout) (size : Size) (numbers : List ℕ) : Type 0 where
+  pub problem : Problem
+  pub rest : List ℕ
+  pub of_size : size_of problem ≡ size
+  pub every_time : length problem.shop.times ≡ size.jobs * size.machines
+  pub short_times : All (λ time. time ≤ LONGEST_TIME) problem.shop.times
+  pub begin : due layout problem.shop ≡ numbers ++ rest
+
+abbrev pub DueFronts : Type 0
+DueFronts = (layout : Layout) (size : Size) (numbers : List ℕ) → IsTrue (are_due layout size numbers) ↔ BeginDue layout size numbers

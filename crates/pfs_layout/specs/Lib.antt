@@ -1,5 +1,6 @@
 pub mod Block
 pub mod Bytes
+pub mod Examples
 pub mod File
 pub mod Laws
 pub mod Lines

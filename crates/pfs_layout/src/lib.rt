@@ -2,6 +2,7 @@
 #![tactic(auto)]
 
 pub mod body;
+pub mod examples;
 pub mod fault;
 pub mod fields;
 pub mod laws;

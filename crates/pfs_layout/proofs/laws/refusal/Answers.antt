@@ -1,6 +1,4 @@
 use Rattle.pfs_layout.proofs.PlaceLemmas.{refusal_is}
-use Rattle.pfs_layout.proofs.SoundLemmas.{sound}
-use Rattle.pfs_layout.proofs.BlockLemmas.{file_leads}
 use Rattle.pfs_layout.proofs.laws.refusal.Goals as goal
 
 pub returns : goal.returns

@@ -1,0 +1,9 @@
+# make run    proves and builds pfs, and runs it on the stored instance (crates/pfs/stdin)
+# make test   the merge gate: proves everything from nothing, tries the must-fail edits, runs the tests and pfs
+.PHONY: run test
+
+run:
+	cd crates/pfs && rt run < stdin
+
+test:
+	rt ci

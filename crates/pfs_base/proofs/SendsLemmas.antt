@@ -1,0 +1,51 @@
+-- A text that is written part by part.
+use Rattle.std.proofs.Common.{◌≡◌, ℕ, ◌+◌, ◌-◌, ◌≤◌, Bool, List, [], ◌∷◌, ◌++◌, Option, length, take, decimal, sym, ◌∙◌, ap, subst, arith, length-append, append_assoc}
+use Rattle.std.proofs.lemmas.List.{take-append-le}
+use Rattle.std.proofs.Math.Seq.{take-append-add}
+use Rattle.std.proofs.KnownBytes.{Appends-trans}
+use Rattle.std.specs.Io.KnownBytes.{Appends}
+use Rattle.pfs_base.specs.Text.{named_number}
+use Rattle.pfs_base.specs.Sends.{SendsAll, SendsFront}
+
+-- a part went out, and then the next
+pub then_all : {a b c : Option (List ℕ)} {working_b failed : Bool} {sent middle total : ℕ} {done part : List ℕ}
+    → SendsAll a b working_b sent done middle → SendsAll b c failed middle part total → SendsAll a c failed sent (done ++ part) total
+then_all {a} {b} {c} {working_b} {failed} {sent} {middle} {total} {done} {part} p q =
+    let first = p.counted in
+    let second = q.counted in
+    record {
+      working = q.working;
+      counted = omega (arith, length-append done part);
+      bytes = Appends-trans a b c done part p.bytes q.bytes;
+    }
+
+-- a part went out, and then a front of the next
+pub then_front : {a b c : Option (List ℕ)} {working_b failed : Bool} {sent middle reached : ℕ} {done part : List ℕ}
+    → SendsAll a b working_b sent done middle → SendsFront b c failed middle part reached → SendsFront a c failed sent (done ++ part) reached
+then_front {a} {b} {c} {working_b} {failed} {sent} {middle} {reached} {done} {part} p q =
+    let first = p.counted in
+    let low = q.from in
+    let high = q.within in
+    let more : ℕ = reached - middle in
+    let reach : length done + more ≡ reached - sent = omega arith in
+    let front : take (reached - sent) (done ++ part) ≡ done ++ take more part =
+    sym (ap (λ n. take n (done ++ part)) reach) ∙ take-append-add done part more in
+    record {
+      stopped = q.stopped;
+      from = omega arith;
+      within = omega (arith, length-append done part);
+      bytes = subst (Appends a c) (sym front) (Appends-trans a b c done (take more part) p.bytes q.bytes);
+    }
+
+-- a front of a text went out, which is a front of a longer text
+pub front_of : {a b : Option (List ℕ)} {failed : Bool} {sent reached : ℕ} {text : List ℕ} (rest : List ℕ)
+    → SendsFront a b failed sent text reached → SendsFront a b failed sent (text ++ rest) reached
+front_of {a} {b} {failed} {sent} {reached} {text} rest p =
+    let low = p.from in
+    let high = p.within in
+    record {
+      stopped = p.stopped;
+      from = omega arith;
+      within = omega (arith, length-append text rest);
+      bytes = subst (Appends a b) (sym (take-append-le (reached - sent) text rest (omega arith))) p.bytes;
+    }

@@ -1,0 +1,5 @@
+use Rattle.pfs_layout.proofs.LawLemmas.{accepted_law}
+use Rattle.pfs_layout.proofs.laws.accepted.Goals as goal
+
+pub returns : goal.returns
+returns c = accepted_law

@@ -1,0 +1,5 @@
+use Rattle.pfs_layout.proofs.EndLemmas.{byte_fault_law}
+use Rattle.pfs_layout.proofs.laws.byte_fault.Goals as goal
+
+pub returns : goal.returns
+returns c = byte_fault_law

@@ -1,0 +1,5 @@
+use Rattle.pfs_layout.proofs.FrontLemmas.{due_fronts}
+use Rattle.pfs_layout.proofs.laws.due_fronts.Goals as goal
+
+pub returns : goal.returns
+returns c = due_fronts

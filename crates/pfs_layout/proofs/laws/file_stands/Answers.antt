@@ -1,0 +1,5 @@
+use Rattle.pfs_layout.proofs.FileLemmas.{file_stands}
+use Rattle.pfs_layout.proofs.laws.file_stands.Goals as goal
+
+pub returns : goal.returns
+returns c = file_stands

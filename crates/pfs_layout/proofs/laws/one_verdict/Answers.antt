@@ -1,0 +1,5 @@
+use Rattle.pfs_layout.proofs.LawLemmas.{one_verdict}
+use Rattle.pfs_layout.proofs.laws.one_verdict.Goals as goal
+
+pub returns : goal.returns
+returns c = one_verdict

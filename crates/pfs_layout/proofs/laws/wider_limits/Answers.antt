@@ -1,0 +1,5 @@
+use Rattle.pfs_layout.proofs.WideLemmas.{wider_limits}
+use Rattle.pfs_layout.proofs.laws.wider_limits.Goals as goal
+
+pub returns : goal.returns
+returns c = wider_limits

@@ -1,0 +1,30 @@
+-- Some instance files, and what they hold.
+use Rattle.std.specs.Prelude.{ℕ, List, [], ◌∷◌, ◌++◌, codes}
+use Rattle.pfs_base.specs.Problem.{Problem}
+
+-- the first line of a file in Taillard's layout
+abbrev pub heading : List ℕ
+heading = codes "number of jobs, number of machines, initial seed, upper bound and lower bound :\n"
+
+-- three jobs on two machines, with these bytes as the last line
+abbrev pub ending_with : List ℕ → List ℕ
+ending_with last = heading ++ codes "3 2 0 0 0\nprocessing times :\n3 2 4\n" ++ last ++ codes "\n"
+
+abbrev pub three_jobs_file : List ℕ
+three_jobs_file = ending_with (codes "2 5 1")
+
+abbrev pub three_jobs : Problem
+three_jobs = record {
+  shop = record { jobs = 3; machines = 2; times = 3 ∷ 2 ∷ 2 ∷ 5 ∷ 4 ∷ 1 ∷ [] };
+  notes = record { seed = 0; upper = 0; lower = 0 };
+}
+
+-- in the OR-Library's layout one job of time 7, and then the three jobs
+abbrev pub two_blocks_file : List ℕ
+two_blocks_file = codes "+++\ninstance one 1\n+++\nfirst\n1 1\n0 7\n+++\nsecond\n3 2\n0 3 1 2\n0 2 1 5\n0 4 1 1\n+++\n"
+
+abbrev pub one_job : Problem
+one_job = record {
+  shop = record { jobs = 1; machines = 1; times = 7 ∷ [] };
+  notes = record { seed = 0; upper = 0; lower = 0 };
+}

@@ -1,0 +1,91 @@
+//! What the definitions say of some files.
+ghost use Rattle.std.specs.Prelude.{◌≡◌, ℕ, ◌+◌, ◌∷◌, [], ◌++◌, codes, length, take, map, replicate};
+ghost use Rattle.pfs_base.specs.Limits.{limits};
+ghost use Rattle.pfs_base.specs.Lists.{below};
+ghost use Rattle.pfs_layout.specs.Lines.{lines, open_line, numbers};
+ghost use Rattle.pfs_layout.specs.Block.{due};
+ghost use Rattle.pfs_layout.specs.File.{File};
+ghost use Rattle.pfs_layout.specs.Refuse.{refusal, accepted};
+ghost use Rattle.pfs_layout.specs.Examples.{heading, ending_with, three_jobs_file, three_jobs, two_blocks_file, one_job};
+
+use crate::{Layout, LayoutFault};
+
+/// Lines and their numbers.
+pub fn lines_and_numbers()
+    ensures lines { lines (codes "ab\n\n3 4") ≡ codes "ab" ∷ [] ∷ codes "3 4" ∷ [] }
+    ensures ended { lines (codes "3 4\n") ≡ codes "3 4" ∷ [] }
+    ensures open { open_line (codes "ab\n\n3 4") ≡ codes "3 4" }
+    ensures numbers { numbers (codes " 03 42x7 ") ≡ 3 ∷ 42 ∷ 7 ∷ [] }
+{}
+
+/// Three jobs on two machines, as a file.
+pub fn three_jobs()
+    ensures length { length three_jobs_file ≡ 121 }
+    ensures by_machine { due Layout.Taillard three_jobs.shop ≡ 3 ∷ 2 ∷ 4 ∷ 2 ∷ 5 ∷ 1 ∷ [] }
+    ensures by_job { due Layout.OrLib three_jobs.shop ≡ 0 ∷ 3 ∷ 1 ∷ 2 ∷ 0 ∷ 2 ∷ 1 ∷ 5 ∷ 0 ∷ 4 ∷ 1 ∷ 1 ∷ [] }
+    ensures file { File limits Layout.Taillard three_jobs_file 1 three_jobs }
+    ensures accepted { accepted Layout.Taillard three_jobs_file 1 ≡ Some three_jobs }
+{}
+
+/// Other files of the same three jobs.
+pub fn spellings()
+    ensures unended { accepted Layout.Taillard (take 120 three_jobs_file) 1 ≡ Some three_jobs }
+    ensures no_words { accepted Layout.Taillard (codes "3 2 0 0 0\n3 2\n4\n2 5 1") 1 ≡ Some three_jobs }
+    ensures carriage_returns { accepted Layout.Taillard (codes "3 2 0 0 0\r\n3 2 4\r\n2 5 1\r\n") 1 ≡ Some three_jobs }
+    ensures leading_zeros { accepted Layout.Taillard (codes "03 2 0 0 0\n" ++ replicate 60 48 ++ codes "3 2 4\n2 5 1") 1 ≡ Some three_jobs }
+    ensures mixed_title { accepted Layout.Taillard (codes "jobs 5x :\n3 2 0 0 0\nprocessing times :\n3 2 4\n2 5 1\n") 1 ≡ Some three_jobs }
+    ensures one_line { accepted Layout.Taillard (codes "3 2 0 0 0\n3 2 4 2 5 1\nwhat follows is free, 5x") 1 ≡ Some three_jobs }
+{}
+
+/// A line of a body with a word byte.
+pub fn mixed_lines()
+    ensures behind_digit { refusal Layout.Taillard (ending_with (codes "2 5x 1")) 1 ≡ Some (LayoutFault.MixedLine 118) }
+    ensures before_digit { refusal Layout.Taillard (ending_with (codes "x 2 5 1")) 1 ≡ Some (LayoutFault.MixedLine 117) }
+    ensures extra_number { refusal Layout.Taillard (ending_with (codes "2 5 1 7x")) 1 ≡ Some (LayoutFault.MixedLine 122) }
+    ensures greatest_byte { refusal Layout.Taillard (ending_with (codes "2 5 1" ++ 255 ∷ [])) 1 ≡ Some (LayoutFault.MixedLine 120) }
+{}
+
+/// Numbers that aren't what is due.
+pub fn wrong_numbers()
+    ensures longest { refusal Layout.Taillard (ending_with (codes "2 5 1000000")) 1 ≡ None }
+    ensures too_long { refusal Layout.Taillard (ending_with (codes "2 5 1000001")) 1 ≡ Some (LayoutFault.TimeRange 119) }
+    ensures forty_digits { refusal Layout.Taillard (ending_with (codes "2 5 " ++ replicate 40 57)) 1 ≡ Some (LayoutFault.TimeRange 119) }
+    ensures before_word { refusal Layout.Taillard (codes "1 1 0 0 0\n9999999999 x") 1 ≡ Some (LayoutFault.TimeRange 10) }
+    ensures by_word { refusal Layout.Taillard (codes "1 1 0 0 0\n9999999999x") 1 ≡ Some (LayoutFault.MixedLine 20) }
+    ensures machine { refusal Layout.OrLib (codes "d\n1 2\n0 3 2 4\n") 1 ≡ Some (LayoutFault.MachineNumber 10) }
+    ensures extra { refusal Layout.Taillard (ending_with (codes "2 5 1 7")) 1 ≡ Some (LayoutFault.ExtraNumber 121) }
+{}
+
+/// Size lines with a wrong count of numbers, or with a number out of its limit.
+pub fn size_lines()
+    ensures greatest { refusal Layout.Taillard (codes "2000 200 4294967295 0 0") 1 ≡ Some (LayoutFault.Truncated 0) }
+    ensures count { refusal Layout.Taillard (codes "3 2") 1 ≡ Some (LayoutFault.SizeCount 1) }
+    ensures jobs { refusal Layout.Taillard (codes "\n2001 1 0 0 0") 1 ≡ Some (LayoutFault.SizeRange 2) }
+    ensures no_machine { refusal Layout.OrLib (codes "1 0\n") 1 ≡ Some (LayoutFault.SizeRange 1) }
+    ensures note { refusal Layout.Taillard (codes "1 1 4294967296 0 0") 1 ≡ Some (LayoutFault.SizeRange 1) }
+    ensures forty_digits { refusal Layout.Taillard (codes "3 2 0 0 " ++ replicate 40 57) 1 ≡ Some (LayoutFault.SizeRange 1) }
+    ensures count_first { refusal Layout.Taillard (codes "2001 1") 1 ≡ Some (LayoutFault.SizeCount 1) }
+{}
+
+/// Several blocks.
+pub fn several_blocks()
+    ensures first { accepted Layout.Taillard (three_jobs_file ++ three_jobs_file) 1 ≡ Some three_jobs }
+    ensures second { accepted Layout.Taillard (three_jobs_file ++ three_jobs_file) 2 ≡ Some three_jobs }
+    ensures third { refusal Layout.Taillard (three_jobs_file ++ three_jobs_file) 3 ≡ Some (LayoutFault.NoBlock 2) }
+    ensures one_job { accepted Layout.OrLib two_blocks_file 1 ≡ Some one_job }
+    ensures three_jobs { accepted Layout.OrLib two_blocks_file 2 ≡ Some three_jobs }
+    ensures no_third { refusal Layout.OrLib two_blocks_file 3 ≡ Some (LayoutFault.NoBlock 2) }
+{}
+
+/// Files that are cut at each byte.
+pub fn cuts()
+    ensures three_jobs { map (λ cut. refusal Layout.Taillard (take cut three_jobs_file) 1) (below 122)
+        ≡ replicate 81 (Some (LayoutFault.NoBlock 0)) ++ replicate 8 (Some (LayoutFault.SizeCount 2)) ++ replicate 21 (Some (LayoutFault.Truncated 0))
+        ++ replicate 2 (Some (LayoutFault.Truncated 1)) ++ replicate 2 (Some (LayoutFault.Truncated 2)) ++ replicate 2 (Some (LayoutFault.Truncated 3))
+        ++ replicate 2 (Some (LayoutFault.Truncated 4)) ++ replicate 2 (Some (LayoutFault.Truncated 5)) ++ replicate 2 None }
+    ensures two_blocks { map (λ cut. refusal Layout.OrLib (take cut two_blocks_file) 2) (below 81)
+        ≡ replicate 30 (Some (LayoutFault.NoBlock 0)) ++ replicate 2 (Some (LayoutFault.SizeCount 5)) ++ replicate 4 (Some (LayoutFault.Truncated 0))
+        ++ replicate 13 (Some (LayoutFault.NoBlock 1)) ++ replicate 2 (Some (LayoutFault.SizeCount 9)) ++ replicate 4 (Some (LayoutFault.Truncated 0))
+        ++ replicate 4 (Some (LayoutFault.Truncated 1)) ++ replicate 4 (Some (LayoutFault.Truncated 2)) ++ replicate 4 (Some (LayoutFault.Truncated 3))
+        ++ replicate 4 (Some (LayoutFault.Truncated 4)) ++ replicate 4 (Some (LayoutFault.Truncated 5)) ++ replicate 6 None }
+{}

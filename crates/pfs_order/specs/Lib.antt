@@ -1,0 +1,2 @@
+pub mod OrderText
+pub mod Sequence

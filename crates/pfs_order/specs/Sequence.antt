@@ -1,0 +1,28 @@
+-- Sequences of distinct jobs. Jobs count from 0.
+use Rattle.std.specs.Prelude.{ℕ, ◌<◌, ◌≤◌, List, nat_eq}
+use Rattle.std.specs.List.{All, IsDistinct, range_with_len}
+use Rattle.pfs_base.specs.Limits.{Limits}
+
+-- how many jobs there are, and which of them stand in the sequence, in order
+pub record Sequence : Type 0 where
+  pub size : ℕ
+  pub jobs : List ℕ
+
+-- an order of all jobs, and the makespan that is stated for it
+pub record StatedOrder : Type 0 where
+  pub order : List ℕ
+  pub makespan : ℕ
+
+-- distinct jobs below the size
+pub record IsSequence (size : ℕ) (jobs : List ℕ) : Type 0 where
+  pub in_range : All (λ job. job < size) jobs
+  pub distinct : IsDistinct nat_eq jobs
+
+-- so many jobs are accepted
+pub record IsSize (limits : Limits) (size : ℕ) : Type 0 where
+  pub some : 1 ≤ size
+  pub few : size ≤ limits.jobs
+
+-- all jobs in the order of their numbers
+abbrev pub all_jobs : ℕ → List ℕ
+all_jobs size = range_with_len 0 size

@@ -1,0 +1,138 @@
+//! Sequences of distinct jobs.
+ghost use Rattle.std.specs.Prelude.{◌≡◌, ℕ, ◌<◌, ◌≤◌, ◌↔◌, List, [], length, Contains, IsTrue, IfOk, IfErr, slice_index, insert, remove, vec_len, vec_capacity};
+ghost use Rattle.pfs_base.specs.Limits.{limits};
+ghost use Rattle.pfs_order.specs.Sequence.{IsSequence, IsSize};
+
+use crate::fault::OrderFault;
+use pfs_base::MOST_JOBS;
+use std::alloc::{AllocError, Global};
+use std::marker::Model;
+
+/// Distinct jobs below a size. Jobs and places count from 0. It reserves its memory when it is made, so
+/// no later call takes memory or fails.
+#[derive(Drop)]
+pub struct Seq {
+    size: usize,
+    jobs: Vec<usize>,
+}
+
+impl Model for Seq {
+    ghost use Rattle.std.specs.Prelude.{◌≤◌, vec_capacity};
+    ghost use Rattle.pfs_base.specs.Limits.{limits};
+    ghost use Rattle.pfs_order.specs.Sequence.{Sequence, IsSequence, IsSize};
+
+    ghost Value = { Sequence };
+
+    ghost view = { λ a. record { size = a.size; jobs = a.jobs.items } };
+
+    ghost invariant = { λ a. record {
+      accepted : IsSize limits a.size;
+      sequence : IsSequence a.size a.jobs.items;
+      room : a.size ≤ vec_capacity a.jobs;
+    } };
+}
+
+impl Seq {
+    /// An empty sequence of jobs below a size.
+    pub fn new(alloc: Global, size: usize) -> Result<Seq, OrderFault>
+        requires some { 1 ≤ size }
+        requires few { size ≤ MOST_JOBS }
+        ensures made { IfOk result (λ made. made ≡ record { size = size; jobs = [] }) }
+        ensures memory { IfErr result (λ fault. fault ≡ OrderFault.Memory) }
+    {
+        match Vec::with_capacity(alloc, size) {
+            Ok(jobs) => Ok(Seq { size, jobs }),
+            Err(AllocError) => Err(OrderFault::Memory),
+        }
+    }
+
+    /// Every job is below this number.
+    pub fn size(&self) -> usize
+        ensures value { result ≡ self.now.size }
+        ensures accepted { IsSize limits self.now.size }
+        ensures sequence { IsSequence self.now.size self.now.jobs }
+        ensures within { length self.now.jobs ≤ self.now.size }
+    {
+        self.size
+    }
+
+    /// How many jobs stand in the sequence.
+    pub fn len(&self) -> usize
+        ensures value { result ≡ length self.now.jobs }
+        ensures accepted { IsSize limits self.now.size }
+        ensures sequence { IsSequence self.now.size self.now.jobs }
+        ensures within { length self.now.jobs ≤ self.now.size }
+    {
+        self.jobs.len()
+    }
+
+    /// The job at a place.
+    pub fn at(&self, place: usize) -> usize
+        requires { place < length self.now.jobs }
+        ensures value { result ≡ slice_index self.now.jobs place }
+        ensures in_range { result < self.now.size }
+    {
+        self.jobs[place]
+    }
+
+    /// Whether a job stands in the sequence. It looks at every place.
+    pub fn has(&self, job: usize) -> bool
+        ensures { IsTrue result ↔ Contains self.now.jobs job }
+    {
+        self.jobs.contains(&job)
+    }
+
+    /// Puts a job at a place; the jobs from there on move back by one.
+    pub fn insert_at(&mut self, place: usize, job: usize)
+        requires place { place ≤ length self.old.jobs }
+        requires in_range { job < self.old.size }
+        requires absent { Contains self.old.jobs job → ⊥ }
+        ensures { self.new ≡ record self.old { jobs = insert self.old.jobs place job } }
+    {
+        put_in_room(&mut self.jobs, place, job);
+    }
+
+    /// Takes the job at a place; the jobs after it move up by one.
+    pub fn remove_at(&mut self, place: usize) -> usize
+        requires { place < length self.old.jobs }
+        ensures job { result ≡ slice_index self.old.jobs place }
+        ensures rest { self.new ≡ record self.old { jobs = remove self.old.jobs place } }
+    {
+        self.jobs.remove(place)
+    }
+
+    /// Takes over the jobs of another sequence, in place of its own.
+    pub fn copy_from(&mut self, other: &Seq)
+        requires { self.old.size ≡ other.now.size }
+        ensures { self.new ≡ other.now }
+    {
+        let _size = other.size;
+        copy_in_room(&mut self.jobs, &other.jobs);
+    }
+}
+
+// Puts a job at a place of a list that has room.
+fn put_in_room(jobs: &mut Vec<usize>, place: usize, job: usize)
+    requires place { place ≤ vec_len jobs.old }
+    requires room { vec_len jobs.old < vec_capacity jobs.old }
+    ensures items { jobs.new.items ≡ insert jobs.old.items place job }
+    ensures capacity { vec_capacity jobs.old ≤ vec_capacity jobs.new }
+{
+    match jobs.insert(place, job) {
+        Ok(()) => {}
+        Err(_) => unreachable!(),
+    }
+}
+
+// Makes a list that has room equal to another.
+fn copy_in_room(jobs: &mut Vec<usize>, others: &[usize])
+    requires { length others.now ≤ vec_capacity jobs.old }
+    ensures items { jobs.new.items ≡ others.now }
+    ensures capacity { vec_capacity jobs.old ≤ vec_capacity jobs.new }
+{
+    jobs.clear();
+    match jobs.extend_from_slice(others) {
+        Ok(()) => {}
+        Err(_) => unreachable!(),
+    }
+}

@@ -1,0 +1,143 @@
+//! Readers and writers that are short, or fail at a chosen call.
+ghost use Rattle.std.specs.Prelude.{◌≡◌, ◌+◌, ◌≤◌, false, None};
+
+use pfs_base::{Sink, Source};
+use std::io;
+use std::io::{ErrorKind, Read, Write};
+
+/// A source that gives the bytes of a text, at most so many a call, and fails at one of its calls, which
+/// count from 1.
+#[derive(Drop)]
+pub struct Pieces<'a> {
+    rest: &'a [u8],
+    most: usize,
+    calls: u64,
+    fails_at: Option<u64>,
+    failed: bool,
+}
+
+impl<'a> Pieces<'a> {
+    /// A source that gives at most `most` bytes a call, and fails at this call, if there is one.
+    pub fn new(text: &'a [u8], most: usize, fails_at: Option<u64>) -> Pieces<'a>
+        ensures { ⟦<Pieces<'a> as Source>⟧.has_failed result ≡ false }
+    {
+        Pieces {
+            rest: text,
+            most,
+            calls: 0,
+            fails_at,
+            failed: false,
+        }
+    }
+
+    /// A source that gives the whole text.
+    pub fn whole(text: &'a [u8]) -> Pieces<'a>
+        ensures { ⟦<Pieces<'a> as Source>⟧.has_failed result ≡ false }
+    {
+        Pieces::new(text, usize::MAX, None)
+    }
+}
+
+impl Source for Pieces<'_> {
+    ghost left = { λ _. None };
+
+    ghost has_failed = { λ s. s.failed };
+
+    fn read(&mut self, buf: &mut [u8]) -> Option<usize> {
+        self.calls = self.calls.saturating_add(1);
+        if self.fails_at == Some(self.calls) {
+            self.failed = true;
+            return None;
+        }
+        let count = buf.len().min(self.most).min(self.rest.len());
+        let (front, rest) = self.rest.split_at(count);
+        buf[..count].copy_from_slice(front);
+        self.rest = rest;
+        Some(count)
+    }
+
+    fn failed(&self) -> bool {
+        self.failed
+    }
+}
+
+/// A sink that keeps what it takes, at most so many bytes a call, and fails once its room is full.
+#[derive(Drop)]
+pub struct Taken {
+    bytes: [u8; 256],
+    count: usize,
+    room: usize,
+    most: usize,
+    failed: bool,
+    ghost fits: { count + room ≤ 256 },
+}
+
+impl Taken {
+    /// A sink that takes at most `most` bytes a call, and `room` bytes in all, of which there are at most 256.
+    pub fn new(room: usize, most: usize) -> Taken
+        ensures { ⟦<Taken as Sink>⟧.has_failed result ≡ false }
+    {
+        Taken {
+            bytes: [0; 256],
+            count: 0,
+            room: room.min(256),
+            most,
+            failed: false,
+        }
+    }
+
+    /// What it has taken.
+    pub fn bytes(&self) -> &[u8] {
+        &self.bytes[..self.count]
+    }
+}
+
+impl Sink for Taken {
+    ghost written = { λ _. None };
+
+    ghost has_failed = { λ s. s.failed };
+
+    fn write(&mut self, bytes: &[u8]) -> Option<usize> {
+        let count = bytes.len().min(self.most).min(self.room);
+        if count == 0 {
+            self.failed = true;
+            return None;
+        }
+        self.bytes[self.count..self.count + count].copy_from_slice(&bytes[..count]);
+        self.count += count;
+        self.room -= count;
+        Some(count)
+    }
+
+    fn failed(&self) -> bool {
+        self.failed
+    }
+}
+
+/// A reader and writer of std whose calls answer this error, or take and give no byte where there is none.
+#[derive(Drop)]
+pub struct Broken {
+    pub error: Option<ErrorKind>,
+}
+
+impl Read for Broken {
+    fn read(&mut self, _buf: &mut [u8]) -> io::Result<usize> {
+        match self.error {
+            Some(kind) => Err(io::Error::from(kind)),
+            None => Ok(0),
+        }
+    }
+}
+
+impl Write for Broken {
+    fn write(&mut self, _buf: &[u8]) -> io::Result<usize> {
+        match self.error {
+            Some(kind) => Err(io::Error::from(kind)),
+            None => Ok(0),
+        }
+    }
+
+    fn flush(&mut self) -> io::Result<()> {
+        Ok(())
+    }
+}

@@ -1,0 +1,7 @@
+//! Tests that cross crates: worked examples, devices that fail or are short, and calls at concrete types.
+//! What the contracts say is proved and not tested again here.
+#![tactic(auto)]
+
+#[cfg(test)]
+mod base;
+pub mod fakes;
