@@ -5,6 +5,7 @@ pub mod CutLemmas
 pub mod DueLemmas
 pub mod EndLemmas
 pub mod EndSteps
+pub mod FeedLemmas
 pub mod FileLemmas
 pub mod FrontLemmas
 pub mod GrowLemmas

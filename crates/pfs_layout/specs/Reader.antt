@@ -149,6 +149,14 @@ pub record TakeMeets (old : Fields) (text piece : List ℕ) (used : ℕ) (new : 
   pub memory : new.phase ≡ phases.Refused Memory → (n : ℕ) × (n < length piece) × EndsWantedSize old.layout old.wanted (text ++ take n piece) (slice_index piece n)
   pub no_more : (n : ℕ) → n < used → length (stand old.layout (ended_lines (text ++ take n piece))).complete < old.wanted
 
+-- what is told of the bytes that were taken
+abbrev pub progress_of : Phase → ℕ → Result Progress LayoutFault
+progress_of phases.Seeking used = Ok (record { used = used; done = false })
+progress_of phases.Body used = Ok (record { used = used; done = false })
+progress_of phases.AfterLast used = Ok (record { used = used; done = false })
+progress_of phases.Done used = Ok (record { used = used; done = true })
+progress_of (phases.Refused fault) used = Err fault
+
 -- what feed owes a reader that stands after this text
 pub record FeedMeets (old : Fields) (text piece : List ℕ) (outcome : Result Progress LayoutFault) (new : Fields) : Type 0 where
   pub ok : IfOk outcome (λ progress. (progress.used ≤ length piece) × StandsAfter new (text ++ take progress.used piece))
