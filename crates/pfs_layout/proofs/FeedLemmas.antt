@@ -1,12 +1,13 @@
 -- What a reader owes for a piece.
-use Rattle.std.proofs.Common.{◌≡◌, ◌≢◌, ℕ, ◌+◌, ◌-◌, ◌<◌, ◌≤◌, Bool, true, false, not, ◌&&◌, ◌||◌, List, [], ◌∷◌, ◌++◌, length, take, drop, get_or, count_by, refl, sym, ◌∙◌, ap, subst, arith, Option, Some, None, if◌then◌else◌, ◌==◌, nat_lt, ◌⊎◌, inl, inr}
+use Rattle.std.proofs.Common.{◌≡◌, ◌≢◌, ℕ, ◌+◌, ◌-◌, ◌<◌, ◌≤◌, Bool, true, false, not, ◌&&◌, ◌||◌, List, [], ◌∷◌, ◌++◌, length, take, drop, get_or, count_by, refl, sym, ◌∙◌, ap, subst, arith, add-one, min, Option, Some, None, if◌then◌else◌, ◌==◌, nat_lt, ◌⊎◌, inl, inr}
 use Rattle.std.specs.Prelude.{Result, Ok, Err, slice_index, ◌↔◌, IfOk, IfErr, IsTrue, IsFalse}
 use Rattle.std.specs.List.{list_any}
 use Rattle.std.specs.Bool.{then_some}
 use Rattle.std.specs.Option.{option_or}
 use Rattle.std.specs.Str.Parse.{digits_value}
 use Rattle.std.proofs.lemmas.Bool.{ltb-true, ltb-false, le-ltb, lt-ltb, eq-eqb}
-use Rattle.std.proofs.lemmas.List.{append_assoc, append-nil, length-append, take_all, take-append-drop}
+use Rattle.std.proofs.lemmas.List.{append_assoc, append-nil, length-append, take_all, take-append-drop, take-take, length-take, get_or-take}
+use Rattle.std.proofs.Math.Seq.{drop-cons}
 use Rattle.pfs_base.specs.declared.limits.TheConstants.{LONGEST_TIME, LONGEST_INPUT}
 use Rattle.pfs_base.specs.Lists.{is_empty, first_some}
 use Rattle.pfs_layout.specs.declared.layout.Layout.{Layout}
@@ -65,14 +66,14 @@ no_memory_in : (layout : Layout) (k : ℕ) (now : Now) (text : List ℕ) (b : �
 unfolding mixed_line wrong_number wrong_size ends_early
 no_memory_in layout k seeking text b =
     no_memory_first (too_long text (Some b)) (wrong_size layout text (Some b) ∷ None ∷ []) (no_memory_if (length text == LONGEST_INPUT && true) TooLong (λ e. cc))
-        (no_memory_first (wrong_size layout text (Some b)) (None ∷ []) (no_memory_or_none (is_line_end b && is_number_line (open_line text)) (size_fault (stated_size layout (numbers (open_line text))) (1 + count_by is_line_end text)) (no_memory_size (stated_size layout (numbers (open_line text))) (1 + count_by is_line_end text))) (λ e. cc))
+    (no_memory_first (wrong_size layout text (Some b)) (None ∷ []) (no_memory_or_none (is_line_end b && is_number_line (open_line text)) (size_fault (stated_size layout (numbers (open_line text))) (1 + count_by is_line_end text)) (no_memory_size (stated_size layout (numbers (open_line text))) (1 + count_by is_line_end text))) (λ e. cc))
 no_memory_in layout k (inside block) text b =
     no_memory_first (too_long text (Some b)) (mixed_line text (Some b) ∷ wrong_number layout block text (Some b) ∷ None ∷ []) (no_memory_if (length text == LONGEST_INPUT && true) TooLong (λ e. cc))
-        (no_memory_first (mixed_line text (Some b)) (wrong_number layout block text (Some b) ∷ None ∷ []) (no_memory_if (not (is_mixed (open_line text)) && is_mixed (open_line text ++ b ∷ [])) (MixedLine (length text)) (λ e. cc))
-            (no_memory_first (wrong_number layout block text (Some b)) (None ∷ [])
-                (no_memory_or_none (not (is_empty (last_digits text)) && (is_blank b || is_line_end b)) (misfit (due_at layout block.size (length block.numbers + length (ended_numbers (open_line text)))) (digits_value 10 (last_digits text)) (length text - length (last_digits text)))
-                    (no_memory_misfit (due_at layout block.size (length block.numbers + length (ended_numbers (open_line text)))) (digits_value 10 (last_digits text)) (length text - length (last_digits text))))
-                (λ e. cc)))
+    (no_memory_first (mixed_line text (Some b)) (wrong_number layout block text (Some b) ∷ None ∷ []) (no_memory_if (not (is_mixed (open_line text)) && is_mixed (open_line text ++ b ∷ [])) (MixedLine (length text)) (λ e. cc))
+    (no_memory_first (wrong_number layout block text (Some b)) (None ∷ [])
+    (no_memory_or_none (not (is_empty (last_digits text)) && (is_blank b || is_line_end b)) (misfit (due_at layout block.size (length block.numbers + length (ended_numbers (open_line text)))) (digits_value 10 (last_digits text)) (length text - length (last_digits text)))
+    (no_memory_misfit (due_at layout block.size (length block.numbers + length (ended_numbers (open_line text)))) (digits_value 10 (last_digits text)) (length text - length (last_digits text))))
+    (λ e. cc)))
 no_memory_in layout k lost text b = λ e. cc
 
 no_memory_behind : (layout : Layout) (k : ℕ) (text : List ℕ) (b : ℕ) → NoMemory (fault_behind layout k text (Some b))
@@ -193,8 +194,8 @@ feed_of old text piece used new m within whole = by_phase new.phase refl
         other z = cc
     by_phase (phases.Refused fault) e =
         let stood : fault ≢ Memory → IsRefused new (text ++ piece) fault = λ h.
-            subst (λ xs. IsRefused new xs fault) (sym (whole_text text piece used))
-                (refused_more new (text ++ take used piece) (drop used piece) fault (subst (λ p. StandsIn p new (text ++ take used piece)) e (m.stands (λ z. h (same_refusal (sym e ∙ z)))))) in
+        subst (λ xs. IsRefused new xs fault) (sym (whole_text text piece used))
+        (refused_more new (text ++ take used piece) (drop used piece) fault (subst (λ p. StandsIn p new (text ++ take used piece)) e (m.stands (λ z. h (same_refusal (sym e ∙ z)))))) in
         record {
           ok = tt;
           whole = tt;
@@ -228,3 +229,101 @@ idle_meets r text piece s = record {
   memory = λ h. absurd (memory_nowhere r text h s);
   no_more = λ n less. absurd (omega arith);
 }
+
+-- ---- a piece that passes the limit
+
+front_place : (text piece : List ℕ) (room n : ℕ) → n ≤ room → text ++ take n (take room piece) ≡ text ++ take n piece
+front_place text piece room n h = ap (λ xs. text ++ xs) (take-take n room piece h)
+
+-- what was taken of a front was taken of the piece
+pub front_meets : (old : Fields) (text piece : List ℕ) (room used : ℕ) (new : Fields) → TakeMeets old text (take room piece) used new → room ≤ length piece → used ≤ room → TakeMeets old text piece used new
+front_meets old text piece room used new m within few = record {
+  layout = m.layout;
+  wanted = m.wanted;
+  stands = λ h. subst (StandsAfter new) (front_place text piece room used few) (m.stands h);
+  memory = λ h. let size = m.memory h in
+      let least : size.0 < room = omega (arith, size.1, length-take room piece) in (
+        size.0,
+        omega arith,
+        subst (λ b. EndsWantedSize old.layout old.wanted (text ++ take size.0 piece) b) (get_or-take room piece size.0 0 least)
+            (subst (λ xs. EndsWantedSize old.layout old.wanted xs (get_or (take room piece) size.0 0)) (front_place text piece room size.0 (omega arith)) size.2),
+      );
+  no_more = λ n less. subst (λ xs. length (stand old.layout (ended_lines xs)).complete < old.wanted) (front_place text piece room n (omega arith)) (m.no_more n less);
+}
+
+-- the limit is reached, and a byte follows
+long_fault : (r : Fields) (text : List ℕ) (b : ℕ) → Follows r text → is_live r.phase ≡ true → length text ≡ LONGEST_INPUT → fault_behind r.layout r.wanted text (Some b) ≡ Some TooLong
+unfolding fault_behind
+long_fault r text b f live full =
+    ap (λ t. if t then first_some (faults r.layout r.wanted (stand_of r.layout text).now text (Some b)) else None)
+    (lt-ltb (length (stand_of r.layout text).complete) r.wanted (let c = f.blocks.complete in let l = live_few (list_any is_word_byte (open_line text)) r (stand_of r.layout text).now (ended_numbers (open_line text)) f.blocks.now live in omega arith))
+    ∙ by_now (stand_of r.layout text).now f.blocks.now
+  where
+    at : (length text == LONGEST_INPUT) ≡ true
+    at = eq-eqb (length text) LONGEST_INPUT full
+
+    by_now : (now : Now) → FollowsNow (list_any is_word_byte (open_line text)) r now (ended_numbers (open_line text)) → first_some (faults r.layout r.wanted now text (Some b)) ≡ Some TooLong
+    by_now seeking n = ap (λ t. first_some (then_some (t && true) TooLong ∷ wrong_size r.layout text (Some b) ∷ ends_early r.layout r.wanted text (Some b) ∷ [])) at
+    by_now (inside block) n = ap (λ t. first_some (then_some (t && true) TooLong ∷ mixed_line text (Some b) ∷ wrong_number r.layout block text (Some b) ∷ ends_early r.layout r.wanted text (Some b) ∷ [])) at
+    by_now lost n = absurd n
+
+pub long_meets : (old : Fields) (text piece : List ℕ) (room : ℕ) (mid : Fields) → TakeMeets old text (take room piece) room mid → is_live old.phase ≡ true → StandsAfter old text → old.digits.offset + room ≡ LONGEST_INPUT → room < length piece
+    → is_live mid.phase ≡ true → FeedMeets old text piece (Err TooLong) (refused mid TooLong)
+unfolding block_read
+long_meets old text piece room mid m was s full within live =
+    let no_memory = live-memory mid.phase live in
+    let before : Follows old text = live_follows old text was s in
+    let size : length (take room piece) ≡ room = length-take room piece ∙ (let least : min room (length piece) ≡ room = omega arith in least) in
+    let stands : StandsAfter mid (text ++ take room piece) = subst (StandsAfter mid) (front_place text piece room room (omega arith)) (m.stands no_memory) in
+    let follows : Follows mid (text ++ take room piece) = live_follows mid (text ++ take room piece) live stands in
+    let b : ℕ = get_or piece room 0 in
+    let long : length (text ++ take room piece) ≡ LONGEST_INPUT = omega (arith, length-append text (take room piece), before.last_line.offset) in
+    let stood : IsRefused (refused mid TooLong) (text ++ piece) TooLong = record {
+      front = text ++ take room piece;
+      byte = b;
+      rest = drop (room + 1) piece;
+      whole = whole_text text piece room ∙ ap (λ xs. (text ++ take room piece) ++ xs) (drop_at piece room within);
+      sound = follows.sound;
+      here = long_fault mid (text ++ take room piece) b follows live long;
+      held = follows.blocks.held;
+    } in
+    let is : byte_fault old.layout old.wanted (text ++ piece) ≡ Some TooLong = same_place old mid (text ++ piece) (m.layout no_memory) (m.wanted no_memory) ∙ refused_fault (refused mid TooLong) (text ++ piece) TooLong stood in
+    record {
+      ok = tt;
+      whole = tt;
+      done = tt;
+      no_more = tt;
+      refused = λ h. stood;
+      exact = λ h other. (λ z. is ∙ ap Some (same_error z), λ z. ap Err (same_some (sym is ∙ z)));
+      stays = refl;
+      memory = λ h. absurd (not_memory (same_error h));
+    }
+  where
+    drop_at : (xs : List ℕ) (i : ℕ) → i < length xs → drop i xs ≡ get_or xs i 0 ∷ drop (i + 1) xs
+    drop_at xs i h = rw (add-one) (drop-cons xs i 0 h)
+
+    same_error : {a b : LayoutFault} → ◌≡◌ {A = Result Progress LayoutFault} (Err a) (Err b) → a ≡ b
+    same_error z = cc
+
+    same_some : {a b : LayoutFault} → ◌≡◌ {A = Option LayoutFault} (Some a) (Some b) → a ≡ b
+    same_some z = cc
+
+    not_memory : TooLong ≡ Memory → ⊥
+    not_memory z = cc
+
+-- the same, where the front has another name
+pub front_meets_as : (old : Fields) (text piece front : List ℕ) (room used : ℕ) (new : Fields) → TakeMeets old text front used new → front ≡ take room piece → room ≤ length piece → used ≤ length front → TakeMeets old text piece used new
+front_meets_as old text piece front room used new m e within few =
+    let size : length front ≡ room = ap length e ∙ length-take room piece ∙ (let least : min room (length piece) ≡ room = omega arith in least) in
+    front_meets old text piece room used new (subst (λ xs. TakeMeets old text xs used new) e m) within (omega arith)
+
+pub long_meets_as : (old : Fields) (text piece front : List ℕ) (room used : ℕ) (mid : Fields) → TakeMeets old text front used mid → front ≡ take room piece → is_live old.phase ≡ true → StandsAfter old text → old.digits.offset + room ≡ LONGEST_INPUT → room < length piece
+    → (is_live mid.phase ≡ true → used ≡ length front) → is_live mid.phase ≡ true → FeedMeets old text piece (Err TooLong) (refused mid TooLong)
+long_meets_as old text piece front room used mid m e was s full within whole live =
+    let size : length front ≡ room = ap length e ∙ length-take room piece ∙ (let least : min room (length piece) ≡ room = omega arith in least) in
+    let all : used ≡ room = whole live ∙ size in
+    long_meets old text piece room mid (subst (λ u. TakeMeets old text (take room piece) u mid) all (subst (λ xs. TakeMeets old text xs used mid) e m)) was s full within live
+
+-- a refusal for the length stands behind some text
+pub long_stands : (old : Fields) (text piece : List ℕ) (new : Fields) (fault : LayoutFault) → FeedMeets old text piece (Err fault) new → fault ≢ Memory → (after : List ℕ) × StandsAfter new after
+long_stands old text piece new fault m other = (text ++ piece, m.refused other)

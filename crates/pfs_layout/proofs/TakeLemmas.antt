@@ -178,6 +178,6 @@ pub meets_as : (old : Fields) (text piece : List ℕ) (used count : ℕ) (r next
     → TakeMeets old text piece count (with_line next last words) → TakeMeets old text piece used (with_line r digits kinds)
 meets_as old text piece used count r next digits last kinds words e f g h m =
     subst (λ u. TakeMeets old text piece u (with_line r digits kinds)) (sym e)
-        (subst (λ z. TakeMeets old text piece count (with_line z digits kinds)) (sym f)
-            (subst (λ d. TakeMeets old text piece count (with_line next d kinds)) (sym g)
-                (subst (λ k. TakeMeets old text piece count (with_line next last k)) (sym h) m)))
+    (subst (λ z. TakeMeets old text piece count (with_line z digits kinds)) (sym f)
+    (subst (λ d. TakeMeets old text piece count (with_line next d kinds)) (sym g)
+    (subst (λ k. TakeMeets old text piece count (with_line next last k)) (sym h) m)))

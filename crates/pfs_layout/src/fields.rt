@@ -3,7 +3,7 @@ ghost use Rattle.std.specs.Prelude.{◌≡◌, ◌≢◌, ◌+◌, ◌*◌, ◌<
 ghost use Rattle.pfs_layout.specs.Bytes.{is_digit as digit_test};
 ghost use Rattle.pfs_layout.specs.Size.{is_within_limits};
 ghost use Rattle.pfs_layout.specs.Step.{refused, is_live as live_test, is_in_block, CanCount, with_problem_time, stored, counted, time_judged, machine_judged, body_judged, number_ended, size_given, empty_problem, block_begun, size_line_ended, block_ended, line_ended, last_number_ended, judged, with_line, IsReady, Keeps, LacksMemory};
-ghost use Rattle.pfs_layout.specs.Reader.{StandsAfter, TakeMeets};
+ghost use Rattle.pfs_layout.specs.Reader.{StandsAfter, IsReader, TakeMeets, FeedMeets, progress_of};
 
 use crate::body::Body;
 use crate::scan::{Digits, Kinds, LINE_END, is_blank, is_digit};
@@ -332,7 +332,9 @@ impl Fields {
         self.is_live()
     }
 
-    fn progress(&self, used: usize) -> Result<Progress, LayoutFault> {
+    fn progress(&self, used: usize) -> Result<Progress, LayoutFault>
+        ensures { result ≡ progress_of self.now.phase used }
+    {
         match self.phase {
             Phase::Done => Ok(Progress { used, done: true }),
             Phase::Refused(fault) => Err(fault),
@@ -369,7 +371,14 @@ impl Fields {
     }
 
     /// Takes a piece, up to the end of the wanted block or a refusal.
-    pub fn feed(&mut self, alloc: Global, piece: &[u8]) -> Result<Progress, LayoutFault> {
+    pub fn feed(&mut self, alloc: Global, piece: &[u8]) -> Result<Progress, LayoutFault>
+        requires { IsReader self.old }
+        ensures reader { IsReader self.new }
+        ensures idle { live_test self.old.phase ≡ false → (result ≡ progress_of self.old.phase 0) × (self.new ≡ self.old) }
+        ensures whole { IfOk result (λ progress. progress.done ≡ false → progress.used ≡ length piece.now) }
+        ensures moved { IfOk result (λ progress. self.new.digits.offset ≡ self.old.digits.offset + progress.used) }
+        ensures meets { (text : List ℕ) → StandsAfter self.old text → FeedMeets self.old text piece.now result self.new }
+    {
         if !self.is_live() {
             return self.progress(0);
         }
@@ -381,6 +390,7 @@ impl Fields {
         let used = self.take(alloc, &piece[..room]);
         if self.is_live() {
             self.refuse(LayoutFault::TooLong);
+            return Err(LayoutFault::TooLong);
         }
         self.progress(used)
     }

@@ -21,7 +21,7 @@ loop-b-preserved c =
       used = omega arith;
       taken = subst (λ d. TakenTo old (with_line next d c.after-kinds.result) piece (i + 1)) (sym c.after-digits.ensures)
           (subst (λ k. TakenTo old (with_line next (digits_after c.loop-b.digits b) k) piece (i + 1)) (sym c.after-kinds.ensures)
-              (taken_byte old c.loop-b.self next c.loop-b.digits c.loop-b.kinds piece i c.loop-b.invariant.taken (omega arith) c.requires.room c.take_byte-is_live.ensures.judged (sym c.take_byte-is_live.ensures.live ∙ c.if-not-is_live.false)));
+          (taken_byte old c.loop-b.self next c.loop-b.digits c.loop-b.kinds piece i c.loop-b.invariant.taken (omega arith) c.requires.room c.take_byte-is_live.ensures.judged (sym c.take_byte-is_live.ensures.live ∙ c.if-not-is_live.false)));
     }
 
 pub returns-clause-meets : goal.returns-clause-meets
@@ -31,11 +31,11 @@ returns-clause-meets c text s =
     let i = c.loop-b.b-index in
     let b = get_or piece i 0 in
     elim c.loop-b-test.branch [
-      else-loop-b-test w ↦
+      | else-loop-b-test w ↦
           meets_as old text piece c.loop-b-test.used i c.loop-b-test.self c.loop-b.self c.loop-b-test.digits c.loop-b.digits c.loop-b-test.kinds c.loop-b.kinds (w.used-is ∙ c.loop-b.invariant.used) w.self-is w.digits-is w.kinds-is
-              (taken_all old (with_line c.loop-b.self c.loop-b.digits c.loop-b.kinds) piece i c.loop-b.invariant.taken (omega arith) text s stands_of)
-    | then-loop-b-test+then-not-is_live w ↦
+          (taken_all old (with_line c.loop-b.self c.loop-b.digits c.loop-b.kinds) piece i c.loop-b.invariant.taken (omega arith) text s stands_of)
+      | then-loop-b-test+then-not-is_live w ↦
           meets_as old text piece c.loop-b-test.used (i + 1) c.loop-b-test.self w.take_byte-is_live.new.self c.loop-b-test.digits (digits_after c.loop-b.digits b) c.loop-b-test.kinds (kinds_after c.loop-b.kinds b)
-              (let u = c.loop-b.invariant.used in let v = w.used-is in omega arith) w.self-is (w.digits-is ∙ w.after-digits.ensures) (w.kinds-is ∙ w.after-kinds.ensures)
-              (taken_end old c.loop-b.self w.take_byte-is_live.new.self c.loop-b.digits c.loop-b.kinds piece i c.loop-b.invariant.taken (omega arith) c.requires.room w.take_byte-is_live.ensures.judged w.take_byte-is_live.ensures.memory text s)
+          (let u = c.loop-b.invariant.used in let v = w.used-is in omega arith) w.self-is (w.digits-is ∙ w.after-digits.ensures) (w.kinds-is ∙ w.after-kinds.ensures)
+          (taken_end old c.loop-b.self w.take_byte-is_live.new.self c.loop-b.digits c.loop-b.kinds piece i c.loop-b.invariant.taken (omega arith) c.requires.room w.take_byte-is_live.ensures.judged w.take_byte-is_live.ensures.memory text s)
     ]
