@@ -13,6 +13,7 @@ pub mod LawLemmas
 pub mod LineLemmas
 pub mod LineSteps
 pub mod LoseLemmas
+pub mod NewLemmas
 pub mod NumberLemmas
 pub mod NumberSteps
 pub mod PlaceLemmas
