@@ -7,6 +7,7 @@ pub mod EndLemmas
 pub mod EndSteps
 pub mod FeedLemmas
 pub mod FileLemmas
+pub mod FinishLemmas
 pub mod FrontLemmas
 pub mod GrowLemmas
 pub mod LawLemmas

@@ -34,7 +34,7 @@ use Rattle.pfs_layout.proofs.TableLemmas.{instance_of-none}
 -- ---- what a size line states
 
 -- the numbers as they are kept
-abbrev clipped : Size → Size
+abbrev pub clipped : Size → Size
 clipped size = record {
   jobs = min CEILING size.jobs;
   machines = min CEILING size.machines;
@@ -42,7 +42,7 @@ clipped size = record {
 }
 
 -- what is kept of a stated size, or that none is stated
-abbrev Clips : Option Size → Option Size → Type 0
+abbrev pub Clips : Option Size → Option Size → Type 0
 Clips kept None = kept ≡ None
 Clips kept (Some size) = kept ≡ Some (clipped size)
 
@@ -53,7 +53,7 @@ same_size p q r s t = cc
 other_count : (line : SizeLine) (n k : ℕ) (some : Option Size) → line.count ≡ n → n ≢ k → (if line.count == k then some else None) ≡ None
 other_count line n k some e other = ap (λ t. if t then some else None) (ne_eqb line.count k (λ z. other (sym e ∙ z)))
 
-clips : (layout : Layout) (line : SizeLine) (ns : List ℕ) → HoldsNumbers line ns → Clips (stated_by layout line) (stated_size layout ns)
+pub clips : (layout : Layout) (line : SizeLine) (ns : List ℕ) → HoldsNumbers line ns → Clips (stated_by layout line) (stated_size layout ns)
 unfolding stated_size
 clips Taillard line (a ∷ b ∷ c ∷ d ∷ e ∷ []) h =
     ap (λ n. if n == 5 then Some (let s : Size = record { jobs = get_or line.values 0 0; machines = get_or line.values 1 0; notes = record { seed = get_or line.values 2 0; upper = get_or line.values 3 0; lower = get_or line.values 4 0 } } in s) else None) h.count
@@ -86,7 +86,7 @@ clipped_ge v = by_le (nat_le 1 v) refl
     by_le true e = let l : 1 ≤ v = leb-true 1 v e in le-leb 1 (min CEILING v) (omega arith)
     by_le false e = let l : v < 1 = leb-false 1 v e in lt-leb 1 (min CEILING v) (omega arith)
 
-same_within : (size : Size) → is_within_limits (clipped size) ≡ is_within_limits size
+pub same_within : (size : Size) → is_within_limits (clipped size) ≡ is_within_limits size
 same_within size =
     let a = clipped_ge size.jobs in
     let b = clipped_le size.jobs MOST_JOBS (omega arith) in
@@ -112,7 +112,7 @@ no_block complete wanted more few =
     either true = refl
     either false = refl
 
-no_times : (layout : Layout) → length (times_among layout []) ≡ 0
+pub no_times : (layout : Layout) → length (times_among layout []) ≡ 0
 no_times Taillard = refl
 no_times OrLib = refl
 
@@ -248,7 +248,7 @@ sought_line r complete line kinds f phase few same = by_kind (is_number_line lin
 
 -- ---- a line of a body
 
-full_or_not : (layout : Layout) (complete : List Block) (block : Block) → are_due layout block.size block.numbers ≡ true
+pub full_or_not : (layout : Layout) (complete : List Block) (block : Block) → are_due layout block.size block.numbers ≡ true
     → after_numbers layout complete block ≡ (if length block.numbers == due_count layout block.size then (let s : Stand = record { complete = complete ++ block ∷ []; now = seeking } in s) else record { complete = complete; now = inside block })
 full_or_not layout complete block due = ap (λ t. if t then (if length block.numbers == due_count layout block.size then (let s : Stand = record { complete = complete ++ block ∷ []; now = seeking } in s) else record { complete = complete; now = inside block }) else record { complete = complete; now = lost }) due
 

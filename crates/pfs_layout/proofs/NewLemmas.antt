@@ -38,6 +38,7 @@ unfolding byte_fault ended_parts open_part stand ended_numbers
 follows_new r n =
     let few : 0 < r.wanted = n.wanted in
     record {
+      some = n.wanted;
       sound = refl;
       short = omega arith;
       last_line = record { offset = n.offset; first = n.first; value = n.value; has_digit = n.has_digit; has_word = n.has_word };

@@ -22,10 +22,10 @@ use Rattle.pfs_layout.specs.Size.{Size, is_within_limits}
 use Rattle.pfs_layout.specs.Block.{Due, any_time, machine_number, nothing, due_count, pair_due, due_at}
 use Rattle.pfs_layout.specs.Stand.{Block, Now, seeking, inside, lost, Stand, times_among, place_of_time, instance_of}
 use Rattle.pfs_layout.specs.Refuse.{misfit}
-use Rattle.pfs_layout.specs.Step.{is_live, with_number, next_of, after_time, after_machine, refused, counted, with_problem_time, stored, time_judged, machine_judged, body_judged, number_ended_in, number_ended}
+use Rattle.pfs_layout.specs.Step.{times_in, is_live, with_number, next_of, after_time, after_machine, refused, counted, with_problem_time, stored, time_judged, machine_judged, body_judged, number_ended_in, number_ended}
 use Rattle.pfs_layout.specs.Reader.{block_of, time_count, HoldsNumbers, IsNextTime, FollowsBody, FollowsNow, FollowsBlocks}
 use Rattle.pfs_layout.proofs.SizeLemmas.{size_within}
-use Rattle.pfs_layout.proofs.TableLemmas.{instance_of-time, instance_of-machine, times_in, length-times_among}
+use Rattle.pfs_layout.proofs.TableLemmas.{instance_of-time, instance_of-machine, length-times_among}
 
 -- ---- a line that may be a size line
 

@@ -20,10 +20,9 @@ use Rattle.pfs_layout.specs.Size.{Size, is_within_limits}
 use Rattle.pfs_layout.specs.Block.{Due, any_time, machine_number, nothing, due_count, pair_due, due_at}
 use Rattle.pfs_layout.specs.Stand.{Block, Now, seeking, inside, lost, Stand, place_of_time, instance_of}
 use Rattle.pfs_layout.specs.Refuse.{misfit}
-use Rattle.pfs_layout.specs.Step.{is_live, after_time, after_machine, is_machine_due, refused, counted, with_problem_time, stored, with_number, time_judged, machine_judged, body_judged, number_ended_in, number_ended}
+use Rattle.pfs_layout.specs.Step.{times_in, is_live, after_time, after_machine, is_machine_due, refused, counted, with_problem_time, stored, with_number, time_judged, machine_judged, body_judged, number_ended_in, number_ended}
 use Rattle.pfs_layout.specs.Reader.{block_of, time_count, HoldsNumbers, IsNextTime, FollowsBody, FollowsNow, FollowsBlocks}
 use Rattle.pfs_layout.proofs.SizeLemmas.{size_within}
-use Rattle.pfs_layout.proofs.TableLemmas.{times_in}
 use Rattle.pfs_layout.proofs.NumberLemmas.{holds_push, time_behind, machine_behind, Keeping, keeping_time, keeping_machine}
 
 -- the fault, or what the fields say with the number

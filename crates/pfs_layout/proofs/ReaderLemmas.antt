@@ -26,14 +26,14 @@ use Rattle.pfs_layout.specs.Size.{Size, is_within_limits}
 use Rattle.pfs_layout.specs.Block.{due_count}
 use Rattle.pfs_layout.specs.Stand.{Block, Now, seeking, inside, lost, Stand, stand, stand_after, instance_of}
 use Rattle.pfs_layout.specs.Refuse.{fault_behind, byte_fault}
-use Rattle.pfs_layout.specs.Step.{is_live, is_in_block, refused, digits_after, kinds_after, Keeps, number_ended, last_number_ended, line_ended, judged, with_line, stepped, no_numbers, LacksMemory, CanCount, IsReady}
+use Rattle.pfs_layout.specs.Step.{is_live, is_in_block, refused, digits_after, kinds_after, Keeps, number_ended, last_number_ended, line_ended, judged, with_line, stepped, no_numbers, LacksMemory, CanCount, IsReady, times_in}
 use Rattle.pfs_layout.specs.Reader.{block_of, block_read, time_count, FollowsLine, FollowsBody, FollowsNow, FollowsBlocks, Follows, IsRefused, StandsIn, StandsAfter, EndsWantedSize}
 use Rattle.pfs_layout.proofs.LineLemmas.{open_part-push, ended_numbers-push}
 use Rattle.pfs_layout.proofs.PlaceLemmas.{byte_fault-push}
 use Rattle.pfs_layout.proofs.SoundLemmas.{GoodNow, stand_of, stand_of-push, sound}
 use Rattle.pfs_layout.proofs.StepLemmas.{keeps_last, KeepsNumbers, keeps_numbers, ends_line}
 use Rattle.pfs_layout.proofs.SizeLemmas.{size_within}
-use Rattle.pfs_layout.proofs.TableLemmas.{times_in, length-times_among}
+use Rattle.pfs_layout.proofs.TableLemmas.{length-times_among}
 use Rattle.pfs_layout.proofs.NumberLemmas.{Keeping}
 use Rattle.pfs_layout.proofs.NumberSteps.{keeping_of}
 use Rattle.pfs_layout.proofs.LineSteps.{Refuses}
@@ -250,6 +250,7 @@ follow_stands r next text b f short here c blocks =
     let sound_then : byte_fault r.layout r.wanted (text ++ b ∷ []) ≡ None = byte_fault-push r.layout r.wanted text b ∙ ap (λ o. option_or o (fault_behind r.layout r.wanted text (Some b))) f.sound ∙ here in
     let count : length (text ++ b ∷ []) ≡ length text + 1 = length_push text b in
     record {
+      some = let w = c.wanted in let s = f.some in omega arith;
       sound = ap (λ l. byte_fault l next.wanted (text ++ b ∷ [])) c.layout ∙ ap (λ k. byte_fault r.layout k (text ++ b ∷ [])) c.wanted ∙ sound_then;
       short = omega arith;
       last_line = line_push r.digits r.kinds text b f.last_line;

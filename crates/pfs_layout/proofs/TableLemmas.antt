@@ -15,7 +15,7 @@ use Rattle.pfs_layout.specs.declared.layout.Layout.{Layout}
 use Rattle.pfs_layout.specs.declared.layout.Layout.TheVariants.{Taillard, OrLib}
 use Rattle.pfs_layout.specs.Size.{Size, problem_of}
 use Rattle.pfs_layout.specs.Stand.{Block, seconds, times_among, place_of_time, instance_of}
-use Rattle.pfs_layout.specs.Step.{empty_problem}
+use Rattle.pfs_layout.specs.Step.{empty_problem, times_in}
 
 -- a row with one entry changed
 set_row : (f g : ℕ → ℕ) (a n i v : ℕ) → i < n → g (a + i) ≡ v → ((k : ℕ) → k < a + n → k ≢ a + i → f k ≡ g k)
@@ -139,11 +139,6 @@ zeros m a (suc n) =
 pub instance_of-none : (layout : Layout) (size : Size) → instance_of layout (record { size = size; numbers = [] }) ≡ empty_problem size
 unfolding instance_of
 instance_of-none layout size = same_problem (problem_of size (λ r c. 0)) (same_shop size.jobs size.machines (zeros size.machines 0 size.jobs))
-
--- how many times are among so many numbers
-abbrev pub times_in : Layout → ℕ → ℕ
-times_in Taillard n = n
-times_in OrLib n = n / 2
 
 pub length-times_among : (layout : Layout) (ns : List ℕ) → length (times_among layout ns) ≡ times_in layout (length ns)
 length-times_among Taillard ns = refl

@@ -97,6 +97,7 @@ pub record FollowsBlocks (worded : Bool) (r : Fields) (stood : Stand) (more : Li
   pub held : r.held ≡ time_count r.layout (block_of r.wanted stood more)
 
 pub record Follows (r : Fields) (text : List ℕ) : Type 0 where
+  pub some : 1 ≤ r.wanted
   pub sound : byte_fault r.layout r.wanted text ≡ None
   pub short : length text ≤ LONGEST_INPUT
   pub last_line : FollowsLine r.digits r.kinds text

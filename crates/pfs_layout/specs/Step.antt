@@ -1,13 +1,14 @@
 -- What one byte does to what a reader keeps. Only the contracts of private functions speak of it: what a
 -- reader's fields say of the bytes that it has read stands in `Reader`.
-use Rattle.std.specs.Prelude.{◌≡◌, ◌≢◌, ℕ, ◌+◌, ◌-◌, ◌*◌, ◌%◌, ◌<◌, ◌≤◌, min, Bool, true, false, not, ◌&&◌, ◌||◌, ◌==◌, nat_lt, List, replicate, slice_index, slice_set, Option, Some, None, is_some, option_map, IfSome, if◌then◌else◌}
+use Rattle.std.specs.Prelude.{◌≡◌, ◌≢◌, ℕ, ◌+◌, ◌-◌, ◌*◌, ◌/◌, ◌%◌, ◌<◌, ◌≤◌, min, Bool, true, false, not, ◌&&◌, ◌||◌, ◌==◌, nat_lt, List, replicate, slice_index, slice_set, Option, Some, None, is_some, option_map, IfSome, if◌then◌else◌}
+use Rattle.std.specs.Option.{option_or}
 use Rattle.pfs_base.specs.declared.limits.TheConstants.{LONGEST_TIME, LONGEST_INPUT}
 use Rattle.pfs_base.specs.FlowShop.{with_time}
 use Rattle.pfs_base.specs.Problem.{Problem}
 use Rattle.pfs_layout.specs.declared.layout.Layout.{Layout}
 use Rattle.pfs_layout.specs.declared.layout.Layout.TheVariants.{Taillard, OrLib}
 use Rattle.pfs_layout.specs.declared.fault.LayoutFault.{LayoutFault}
-use Rattle.pfs_layout.specs.declared.fault.LayoutFault.TheVariants.{MixedLine, TimeRange, MachineNumber, ExtraNumber, Memory}
+use Rattle.pfs_layout.specs.declared.fault.LayoutFault.TheVariants.{NoBlock, MixedLine, TimeRange, MachineNumber, ExtraNumber, Truncated, Memory}
 use Rattle.pfs_layout.specs.declared.scan.Digits.{Digits}
 use Rattle.pfs_layout.specs.declared.scan.Kinds.{Kinds}
 use Rattle.pfs_layout.specs.declared.scan.TheConstants.{CEILING}
@@ -217,6 +218,29 @@ pub record Keeps (old new : Fields) : Type 0 where
   pub line : new.line ≡ old.line
   pub sought : new.phase ≡ phases.Seeking → old.phase ≡ phases.Seeking
   pub memory : new.phase ≢ phases.Refused Memory
+
+-- how many of so many numbers are times
+abbrev pub times_in : Layout → ℕ → ℕ
+times_in Taillard n = n
+times_in OrLib n = n / 2
+
+-- the fault of an input that ends here, where the wanted block isn't complete: a size line without a fault begins a
+-- block, of which no time was read
+abbrev pub end_fault_in : Phase → Kinds → Fields → Option LayoutFault
+end_fault_in phases.Seeking kinds r = if kinds.has_digit && not kinds.has_word
+    then option_or (size_fault (stated_by r.layout r.size_line) r.line) (Some (Truncated 0))
+    else Some (NoBlock r.complete)
+end_fault_in phases.Body kinds r = Some (Truncated (times_in r.layout r.body.judged))
+end_fault_in phases.AfterLast kinds r = if r.complete + 1 == r.wanted then None else Some (NoBlock (r.complete + 1))
+end_fault_in phases.Done kinds r = None
+end_fault_in (phases.Refused fault) kinds r = Some fault
+
+abbrev pub end_fault : Kinds → Fields → Option LayoutFault
+end_fault kinds r = end_fault_in r.phase kinds r
+
+-- behind the last number of an input that ends here
+abbrev pub at_end : Fields → Fields
+at_end r = if is_live r.phase then last_number_ended r r.digits else r
 
 -- with another last line
 abbrev pub with_line : Fields → Digits → Kinds → Fields

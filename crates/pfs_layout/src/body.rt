@@ -1,6 +1,6 @@
 //! How far a reader is in the body of a block.
 ghost use Rattle.std.specs.Prelude.{◌≡◌, ◌<◌, ◌≤◌, ◌+◌};
-ghost use Rattle.pfs_layout.specs.Step.{HasPlace, body_of, is_machine_due as machine_due_test, after_machine as behind_machine, after_time as behind_time, next_of};
+ghost use Rattle.pfs_layout.specs.Step.{HasPlace, body_of, is_machine_due as machine_due_test, after_machine as behind_machine, after_time as behind_time, next_of, times_in};
 
 use crate::Layout;
 use pfs_base::{MOST_JOBS, MOST_MACHINES};
@@ -117,7 +117,9 @@ impl Body {
     }
 
     /// How many of the judged numbers are times.
-    pub fn times(self, layout: Layout) -> usize {
+    pub fn times(self, layout: Layout) -> usize
+        ensures { result ≡ times_in layout self.judged }
+    {
         match layout {
             Layout::Taillard => self.judged,
             Layout::OrLib => self.judged / 2,

@@ -2,7 +2,7 @@
 ghost use Rattle.std.specs.Prelude.{◌≡◌, ◌≢◌, ◌+◌, ◌*◌, ◌<◌, ◌≤◌, true, false, ◌==◌, ℕ, List, length, replicate, Some, None, IfOk, IfErr, OnOk, OnErr, IfSome, option_map, is_some, if◌then◌else◌};
 ghost use Rattle.pfs_layout.specs.Bytes.{is_digit as digit_test};
 ghost use Rattle.pfs_layout.specs.Size.{is_within_limits};
-ghost use Rattle.pfs_layout.specs.Step.{refused, is_live as live_test, is_in_block, CanCount, with_problem_time, stored, counted, time_judged, machine_judged, body_judged, number_ended, size_given, empty_problem, block_begun, size_line_ended, block_ended, line_ended, last_number_ended, judged, with_line, IsReady, Keeps, LacksMemory};
+ghost use Rattle.pfs_layout.specs.Step.{refused, is_live as live_test, is_in_block, CanCount, with_problem_time, stored, counted, time_judged, machine_judged, body_judged, number_ended, size_given, empty_problem, block_begun, size_line_ended, block_ended, line_ended, last_number_ended, judged, with_line, end_fault, end_fault_in, at_end, IsReady, Keeps, LacksMemory};
 ghost use Rattle.pfs_layout.specs.Reader.{StandsAfter, IsReader, TakeMeets, FeedMeets, progress_of};
 
 use crate::body::Body;
@@ -395,33 +395,52 @@ impl Fields {
         self.progress(used)
     }
 
-    /// Judges the end of the input, which ends the last number and the last line. It is no fault where
-    /// the wanted block is complete.
-    pub fn judge_end(&mut self) -> Result<(), LayoutFault> {
-        self.end_last_number(self.digits);
+    /// Judges the last number of an input that ends here, and answers the fault of the end, if the wanted
+    /// block isn't complete.
+    pub fn judge_end(&mut self) -> Option<LayoutFault>
+        requires { IsReader self.old }
+        ensures fault { result ≡ end_fault self.old.kinds (at_end self.old) }
+        ensures fields { self.new ≡ at_end self.old }
+    {
+        let kinds = self.kinds;
+        if !self.is_live() {
+            return self.end_fault(kinds);
+        }
+        let digits = self.digits;
+        self.end_last_number(digits);
+        self.end_fault(kinds)
+    }
+
+    /// The fault of an input that ends here.
+    fn end_fault(&self, kinds: Kinds) -> Option<LayoutFault>
+        requires { live_test self.now.phase ≡ true → self.now.complete < self.now.wanted }
+        ensures { result ≡ end_fault kinds self.now }
+    {
         match self.phase {
-            Phase::Seeking => Err(self.sought_fault()),
-            Phase::Body => Err(LayoutFault::Truncated {
+            Phase::Seeking => Some(self.sought_fault(kinds)),
+            Phase::Body => Some(LayoutFault::Truncated {
                 have: self.body.times(self.layout),
             }),
             Phase::AfterLast => {
-                if self.complete + 1 == self.wanted {
-                    Ok(())
+                let wanted = self.wanted;
+                let complete = self.complete + 1;
+                if complete == wanted {
+                    None
                 } else {
-                    Err(LayoutFault::NoBlock {
-                        found: self.complete + 1,
-                    })
+                    Some(LayoutFault::NoBlock { found: complete })
                 }
             }
-            Phase::Done => Ok(()),
-            Phase::Refused(fault) => Err(fault),
+            Phase::Done => None,
+            Phase::Refused(fault) => Some(fault),
         }
     }
 
     /// The fault of an input that ends while a block is sought. A size line without a fault begins a
     /// block, of which no time was read.
-    fn sought_fault(&self) -> LayoutFault {
-        if self.kinds.is_number_line() {
+    fn sought_fault(&self, kinds: Kinds) -> LayoutFault
+        ensures { Some result ≡ end_fault_in Phase.Seeking kinds self.now }
+    {
+        if kinds.is_number_line() {
             match self.size_line.stated(self.layout, self.line) {
                 Ok(_) => LayoutFault::Truncated { have: 0 },
                 Err(fault) => fault,

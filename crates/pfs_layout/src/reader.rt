@@ -89,9 +89,13 @@ impl BlockReader {
     /// last line.
     pub fn finish(self) -> Result<Instance, LayoutFault> {
         let mut fields = self.fields;
-        fields.judge_end()?;
-        let found = fields.complete;
-        fields.instance.ok_or(LayoutFault::NoBlock { found })
+        match fields.judge_end() {
+            Some(fault) => Err(fault),
+            None => {
+                let found = fields.complete;
+                fields.instance.ok_or(LayoutFault::NoBlock { found })
+            }
+        }
     }
 }
 
