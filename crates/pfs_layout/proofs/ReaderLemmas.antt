@@ -27,11 +27,11 @@ use Rattle.pfs_layout.specs.Block.{due_count}
 use Rattle.pfs_layout.specs.Stand.{Block, Now, seeking, inside, lost, Stand, stand, stand_after, instance_of}
 use Rattle.pfs_layout.specs.Refuse.{fault_behind, byte_fault}
 use Rattle.pfs_layout.specs.Step.{is_live, is_in_block, refused, digits_after, kinds_after, Keeps, number_ended, last_number_ended, line_ended, judged, with_line, stepped, no_numbers, LacksMemory, CanCount, IsReady, times_in}
-use Rattle.pfs_layout.specs.Reader.{block_of, block_read, time_count, FollowsLine, FollowsBody, FollowsNow, FollowsBlocks, Follows, IsRefused, StandsIn, StandsAfter, EndsWantedSize}
+use Rattle.pfs_layout.specs.Reader.{block_of, block_read, time_count, FollowsLine, FollowsBody, FollowsNow, FollowsBlocks, Follows, IsRefused, StandsIn, StandsAfter, IsReader}
 use Rattle.pfs_layout.proofs.LineLemmas.{open_part-push, ended_numbers-push}
 use Rattle.pfs_layout.proofs.PlaceLemmas.{byte_fault-push}
 use Rattle.pfs_layout.proofs.SoundLemmas.{GoodNow, stand_of, stand_of-push, sound}
-use Rattle.pfs_layout.proofs.StepLemmas.{keeps_last, KeepsNumbers, keeps_numbers, ends_line}
+use Rattle.pfs_layout.proofs.StepLemmas.{live-memory, keeps_last, KeepsNumbers, keeps_numbers, ends_line}
 use Rattle.pfs_layout.proofs.SizeLemmas.{size_within}
 use Rattle.pfs_layout.proofs.TableLemmas.{length-times_among}
 use Rattle.pfs_layout.proofs.NumberLemmas.{Keeping}
@@ -351,3 +351,19 @@ follows_ready r text f live short = record {
   offset = omega (arith, f.last_line.offset);
   value = let v = f.last_line.value in omega arith;
 }
+
+-- what the judgement of the last number needs
+pub record IsEndReady (r : Fields) : Type 0 where
+  pub can : r.phase ≡ phases.Body → CanCount r
+  pub count : r.size_line.count ≤ LONGEST_INPUT
+  pub complete : r.complete < r.wanted
+
+pub end_ready : (r : Fields) (text : List ℕ) → Follows r text → is_live r.phase ≡ true → IsEndReady r
+end_ready r text f live = record {
+  can = can_count (list_any is_word_byte (open_line text)) r (stand_of r.layout text).complete (stand_of r.layout text).now (ended_numbers (open_line text)) f.blocks;
+  count = omega (arith, f.few_numbers, f.short);
+  complete = live_few (list_any is_word_byte (open_line text)) r (stand_of r.layout text).now (ended_numbers (open_line text)) f.blocks.now live;
+}
+
+pub reader_end_ready : (r : Fields) → IsReader r → is_live r.phase ≡ true → IsEndReady r
+reader_end_ready r some live = let s = some (live-memory r.phase live) in end_ready r s.0 (live_follows r s.0 live s.1) live

@@ -265,7 +265,7 @@ pub record CanCount (r : Fields) : Type 0 where
 -- what the judgement of a byte needs
 pub record IsReady (r : Fields) : Type 0 where
   pub can : r.phase ≡ phases.Body → CanCount r
-  pub count : r.size_line.count < LONGEST_INPUT
+  pub count : r.size_line.count ≤ LONGEST_INPUT
   pub complete : r.complete < r.wanted
   pub line : r.line ≤ LONGEST_INPUT
   pub offset : r.digits.offset < LONGEST_INPUT

@@ -146,7 +146,7 @@ impl Fields {
     #[tactic(auto, unfolding(crate::specs::Step::number_ended))]
     fn end_other_number(&mut self, value: u64, first: usize)
         requires elsewhere { self.old.phase ≢ Phase.Body }
-        requires count { self.old.size_line.count < LONGEST_INPUT }
+        requires count { self.old.size_line.count ≤ LONGEST_INPUT }
         ensures { self.new ≡ number_ended self.old value first }
     {
         match self.phase {
@@ -160,7 +160,7 @@ impl Fields {
     #[tactic(auto, unfolding(crate::specs::Step::number_ended))]
     pub fn end_number(&mut self, value: u64, first: usize)
         requires can { self.old.phase ≡ Phase.Body → CanCount self.old }
-        requires count { self.old.size_line.count < LONGEST_INPUT }
+        requires count { self.old.size_line.count ≤ LONGEST_INPUT }
         ensures { self.new ≡ number_ended self.old value first }
     {
         if let Phase::Body = self.phase {
@@ -174,7 +174,7 @@ impl Fields {
     #[inline(always)]
     fn end_last_number(&mut self, digits: Digits)
         requires can { self.old.phase ≡ Phase.Body → CanCount self.old }
-        requires count { self.old.size_line.count < LONGEST_INPUT }
+        requires count { self.old.size_line.count ≤ LONGEST_INPUT }
         requires live { live_test self.old.phase ≡ true }
         ensures ended { self.new ≡ last_number_ended self.old digits }
         ensures kept { Keeps self.old self.new }
@@ -273,7 +273,7 @@ impl Fields {
     fn judge_other(&mut self, alloc: Global, digits: Digits, kinds: Kinds, b: u8)
         requires other { digit_test b ≡ false }
         requires can { self.old.phase ≡ Phase.Body → CanCount self.old }
-        requires count { self.old.size_line.count < LONGEST_INPUT }
+        requires count { self.old.size_line.count ≤ LONGEST_INPUT }
         requires complete { self.old.complete < self.old.wanted }
         requires line { self.old.line ≤ LONGEST_INPUT }
         requires live { live_test self.old.phase ≡ true }
@@ -296,7 +296,7 @@ impl Fields {
     #[inline(always)]
     pub fn judge(&mut self, alloc: Global, digits: Digits, kinds: Kinds, b: u8)
         requires can { self.old.phase ≡ Phase.Body → CanCount self.old }
-        requires count { self.old.size_line.count < LONGEST_INPUT }
+        requires count { self.old.size_line.count ≤ LONGEST_INPUT }
         requires complete { self.old.complete < self.old.wanted }
         requires line { self.old.line ≤ LONGEST_INPUT }
         requires live { live_test self.old.phase ≡ true }

@@ -1,5 +1,5 @@
 //! A line that may be a size line.
-ghost use Rattle.std.specs.Prelude.{◌≡◌, ◌<◌, true, Some, IfOk, IfErr, IsTrue};
+ghost use Rattle.std.specs.Prelude.{◌≡◌, ◌≤◌, true, Some, IfOk, IfErr, IsTrue};
 ghost use Rattle.pfs_layout.specs.Size.{is_within_limits};
 ghost use Rattle.pfs_layout.specs.Refuse.{size_fault};
 ghost use Rattle.pfs_layout.specs.Step.{no_numbers, with_number, stated_by, size_given};
@@ -38,7 +38,7 @@ impl SizeLine {
 
     /// One number more.
     pub fn with(self, value: u64) -> SizeLine
-        requires { self.count < LONGEST_INPUT }
+        requires { self.count ≤ LONGEST_INPUT }
         ensures { result ≡ with_number self value }
     {
         let mut values = self.values;
