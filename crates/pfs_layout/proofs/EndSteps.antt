@@ -209,7 +209,7 @@ unfolding line_ended
 refused_line r fault kinds = record { phase = refl; held = refl; layout = refl; wanted = refl }
 
 -- the numbers of a body's line are due, where none has a fault
-due_line : (layout : Layout) (block : Block) (text : List ℕ) → GoodBody layout block (open_line text) → number_fault layout (inside block) text ≡ None
+pub due_line : (layout : Layout) (block : Block) (text : List ℕ) → GoodBody layout block (open_line text) → number_fault layout (inside block) text ≡ None
     → are_due layout block.size (block.numbers ++ numbers (open_line text)) ≡ true
 due_line layout block text good none = by_empty (is_empty (last_digits text)) refl
   where

@@ -59,7 +59,7 @@ one_or None None = refl
 -- ---- a block is sought
 
 -- the fault of the end, where the open line is this
-abbrev sought_fault : Layout → ℕ → List ℕ → ℕ → Option LayoutFault
+abbrev pub sought_fault : Layout → ℕ → List ℕ → ℕ → Option LayoutFault
 sought_fault layout count line place = if is_number_line line then option_or (size_fault (stated_size layout (numbers line)) place) (Some (Truncated 0)) else Some (NoBlock count)
 
 size_begins : (layout : Layout) (k count place : ℕ) (stated : Option Size) → option_or (size_fault stated place) (missing layout k count (after_size stated)) ≡ option_or (size_fault stated place) (Some (Truncated 0))

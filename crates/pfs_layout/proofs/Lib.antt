@@ -17,6 +17,7 @@ pub mod LoseLemmas
 pub mod NewLemmas
 pub mod NumberLemmas
 pub mod NumberSteps
+pub mod OutcomeLemmas
 pub mod PlaceLemmas
 pub mod ReaderLemmas
 pub mod RoundLemmas

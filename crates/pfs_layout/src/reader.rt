@@ -1,7 +1,7 @@
 //! The push reader of instance files.
 ghost use Rattle.std.specs.Prelude.{◌≡◌, ℕ, ◌+◌, ◌≤◌, List, [], length, true, false, IfOk};
 ghost use Rattle.pfs_layout.specs.Step.{is_live as live_test};
-ghost use Rattle.pfs_layout.specs.Reader.{StandsAfter, FeedMeets, progress_of};
+ghost use Rattle.pfs_layout.specs.Reader.{StandsAfter, FeedMeets, FinishMeets, progress_of};
 
 use crate::body::Body;
 use crate::fields::{Fields, Phase, Progress};
@@ -87,13 +87,19 @@ impl BlockReader {
 
     /// The instance, if the input may end here. The end of the input ends the last number and the
     /// last line.
-    pub fn finish(self) -> Result<Instance, LayoutFault> {
+    pub fn finish(self) -> Result<Instance, LayoutFault>
+        ensures refused { (fault : LayoutFault) → self.phase ≡ Phase.Refused fault → result ≡ Err fault }
+        ensures meets { (text : List ℕ) → StandsAfter self text → FinishMeets self text result }
+    {
         let mut fields = self.fields;
         match fields.judge_end() {
             Some(fault) => Err(fault),
             None => {
                 let found = fields.complete;
-                fields.instance.ok_or(LayoutFault::NoBlock { found })
+                match fields.instance {
+                    Some(instance) => Ok(instance),
+                    None => Err(LayoutFault::NoBlock { found }),
+                }
             }
         }
     }
