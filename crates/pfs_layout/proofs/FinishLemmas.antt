@@ -83,11 +83,11 @@ sought_end layout k text complete stood few =
     by_kind true e =
         let some = number_some (open_line text) e in
         let end : stand layout (lines text) ≡ record { complete = complete; now = after_size (stated_size layout (numbers (open_line text))) } =
-            stand_lines layout text ∙ ap (λ t. if t then stand layout (ended_lines text) else stand_after layout (stand layout (ended_lines text)) (open_line text)) some
-            ∙ ap (λ s. stand_after layout s (open_line text)) stood ∙ ap (λ t. let s : Stand = record { complete = complete; now = if t then after_size (stated_size layout (numbers (open_line text))) else seeking } in s) e in
+        stand_lines layout text ∙ ap (λ t. if t then stand layout (ended_lines text) else stand_after layout (stand layout (ended_lines text)) (open_line text)) some
+        ∙ ap (λ s. stand_after layout s (open_line text)) stood ∙ ap (λ t. let s : Stand = record { complete = complete; now = if t then after_size (stated_size layout (numbers (open_line text))) else seeking } in s) e in
         let wrong : wrong_size layout text None ≡ size_fault (stated_size layout (numbers (open_line text))) (1 + count_by is_line_end text) =
-            ap (λ t. if not t && is_number_line (open_line text) then size_fault (stated_size layout (numbers (open_line text))) (1 + count_by is_line_end text) else None) some
-            ∙ ap (λ t. if t then size_fault (stated_size layout (numbers (open_line text))) (1 + count_by is_line_end text) else None) e in
+        ap (λ t. if not t && is_number_line (open_line text) then size_fault (stated_size layout (numbers (open_line text))) (1 + count_by is_line_end text) else None) some
+        ∙ ap (λ t. if t then size_fault (stated_size layout (numbers (open_line text))) (1 + count_by is_line_end text) else None) e in
         ap (λ o. option_or o (ends_early layout k text None)) wrong
         ∙ ap (λ (s : Stand). option_or (size_fault (stated_size layout (numbers (open_line text))) (1 + count_by is_line_end text)) (missing layout k (length s.complete) s.now)) end
         ∙ size_begins layout k (length complete) (1 + count_by is_line_end text) (stated_size layout (numbers (open_line text)))

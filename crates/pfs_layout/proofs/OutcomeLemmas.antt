@@ -87,8 +87,8 @@ live_end r text f live = by_now (stand_of r.layout text).now refl
         let phase = sought_phase worded (last_number_ended r r.digits) (numbers (open_line text)) one.now few_then in
         let kind : (r.kinds.has_digit && not r.kinds.has_word) ≡ is_number_line (open_line text) = ap (λ t. t && not r.kinds.has_word) f.last_line.has_digit ∙ ap (λ t. list_any is_digit (open_line text) && not t) f.last_line.has_word in
         let told : end_fault r.kinds (at_end r) ≡ sought_fault r.layout (length (stand_of r.layout text).complete) (open_line text) (1 + count_by is_line_end text) =
-            ap (end_fault r.kinds) (at_end_live r live) ∙ sought_told (last_number_ended r r.digits) (stand_of r.layout text).complete (open_line text) r.kinds (1 + count_by is_line_end text) one phase (keeps.line ∙ f.line) kind
-            ∙ ap (λ l. sought_fault l (length (stand_of r.layout text).complete) (open_line text) (1 + count_by is_line_end text)) keeps.layout in
+        ap (end_fault r.kinds) (at_end_live r live) ∙ sought_told (last_number_ended r r.digits) (stand_of r.layout text).complete (open_line text) r.kinds (1 + count_by is_line_end text) one phase (keeps.line ∙ f.line) kind
+        ∙ ap (λ l. sought_fault l (length (stand_of r.layout text).complete) (open_line text) (1 + count_by is_line_end text)) keeps.layout in
         record {
           fault = place ∙ ap (λ n. first_some (faults r.layout r.wanted n text None)) e ∙ sought_end r.layout r.wanted text (stand_of r.layout text).complete (standing seeking e) few ∙ sym told;
           instance = λ none. absurd (sought_some r.layout (length (stand_of r.layout text).complete) (open_line text) (1 + count_by is_line_end text) (sym told ∙ none));

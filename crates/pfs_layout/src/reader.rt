@@ -96,10 +96,7 @@ impl BlockReader {
             Some(fault) => Err(fault),
             None => {
                 let found = fields.complete;
-                match fields.instance {
-                    Some(instance) => Ok(instance),
-                    None => Err(LayoutFault::NoBlock { found }),
-                }
+                fields.instance.ok_or(LayoutFault::NoBlock { found })
             }
         }
     }
