@@ -1,16 +1,27 @@
-//! What the files of flow shop instances are: their lines, blocks and faults, and laws about them.
+//! The files of flow shop instances in Taillard's layout and OR-Library's: what they are, laws about them,
+//! a reader that takes their bytes in any cutting, a writer, and Taillard's generator.
 #![tactic(auto)]
 
+pub mod body;
 pub mod examples;
 pub mod fault;
+pub mod fields;
 pub mod generator;
 pub mod laws;
 pub mod layout;
+pub mod reader;
 pub mod reader_stub;
+pub mod scan;
+pub mod size_line;
 pub mod writing;
 
+#[cfg(test)]
+mod reader_rows;
+
 pub use fault::LayoutFault;
+pub use fields::Progress;
 pub use generator::generate;
 pub use layout::Layout;
+pub use reader::BlockReader;
 pub use reader_stub::read_block;
 pub use writing::write_block;

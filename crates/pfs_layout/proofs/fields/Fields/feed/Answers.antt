@@ -1,0 +1,56 @@
+-- What was taken of the piece, or of its front within the limit, is what feed owes.
+use Rattle.std.proofs.Common.{◌≡◌, ◌+◌, ◌-◌, ◌<◌, ◌≤◌, Bool, true, ◌++◌, length, take, sym, ◌∙◌, ap, subst, arith}
+use Rattle.std.specs.Prelude.{Err}
+use Rattle.std.proofs.lemmas.List.{length-take}
+use Rattle.pfs_base.specs.declared.limits.TheConstants.{LONGEST_INPUT}
+use Rattle.pfs_layout.specs.declared.fault.LayoutFault.TheVariants.{TooLong}
+use Rattle.pfs_layout.specs.Step.{is_live, refused}
+use Rattle.pfs_layout.specs.Reader.{StandsAfter, TakeMeets, FeedMeets, progress_of}
+use Rattle.pfs_layout.proofs.StepLemmas.{live-memory}
+use Rattle.pfs_layout.proofs.ReaderLemmas.{live_follows}
+use Rattle.pfs_layout.proofs.FeedLemmas.{feed_of, idle_meets, front_meets_as, long_meets_as, long_stands}
+use Rattle.pfs_layout.proofs.fields.Fields.feed.Goals as goal
+
+pub returns-then-not-is_live-clause-meets : goal.returns-then-not-is_live-clause-meets
+returns-then-not-is_live-clause-meets c text s =
+    let old = c.args.self.now in
+    let piece = c.args.piece.now in
+    let dead : is_live old.phase ≡ true → 0 ≡ length piece = λ h. absurd (let e = c.is_live.ensures in let t = c.if-not-is_live.true in cc) in
+    subst (λ o. FeedMeets old text piece o old) (sym c.progress.ensures) (feed_of old text piece 0 old (idle_meets old text piece s) (omega arith) dead)
+
+pub returns-then-piece-room-clause-reader : goal.returns-then-piece-room-clause-reader
+returns-then-piece-room-clause-reader c h =
+    let was : is_live c.args.self.now.phase ≡ true = sym c.is_live.ensures ∙ c.if-not-is_live.false in
+    let some = c.requires (live-memory c.args.self.now.phase was) in
+    (some.0 ++ take c.take-used.result c.args.piece.now, (c.take-used.ensures.meets some.0 some.1).stands h)
+
+pub returns-then-piece-room-clause-meets : goal.returns-then-piece-room-clause-meets
+returns-then-piece-room-clause-meets c text s =
+    subst (λ o. FeedMeets c.args.self.now text c.args.piece.now o c.take-used.new.self) (sym c.progress-then-piece-room.ensures)
+    (feed_of c.args.self.now text c.args.piece.now c.take-used.result c.take-used.new.self (c.take-used.ensures.meets text s) c.take-used.ensures.within c.take-used.ensures.whole)
+
+pub returns-then-is_live-clause-meets : goal.returns-then-is_live-clause-meets
+returns-then-is_live-clause-meets c text s =
+    let old = c.args.self.now in
+    let was : is_live old.phase ≡ true = sym c.is_live.ensures ∙ c.if-not-is_live.false in
+    let live : is_live c.take-used-2.new.self.phase ≡ true = sym c.is_live-2.ensures ∙ c.if-is_live.true in
+    let follows = live_follows old text was s in
+    subst (λ z. FeedMeets old text c.args.piece.now (Err TooLong) z) (sym c.refuse.ensures)
+    (long_meets_as old text c.args.piece.now _ (LONGEST_INPUT - old.digits.offset) c.take-used-2.result c.take-used-2.new.self (c.take-used-2.ensures.meets text s) (ap (λ k. take k c.args.piece.now) (omega arith)) was s
+    (omega (arith, follows.short, follows.last_line.offset)) (omega arith) c.take-used-2.ensures.whole live)
+
+pub returns-then-is_live-clause-reader : goal.returns-then-is_live-clause-reader
+returns-then-is_live-clause-reader c h =
+    let old = c.args.self.now in
+    let was : is_live old.phase ≡ true = sym c.is_live.ensures ∙ c.if-not-is_live.false in
+    let some = c.requires (live-memory old.phase was) in
+    long_stands old some.0 c.args.piece.now c.refuse.new.self TooLong (returns-then-is_live-clause-meets c some.0 some.1) (λ z. cc)
+
+pub returns-clause-meets : goal.returns-clause-meets
+returns-clause-meets c text s =
+    let old = c.args.self.now in
+    let dead : is_live c.take-used-2.new.self.phase ≡ true → c.take-used-2.result ≡ length c.args.piece.now = λ h. absurd (let e = c.is_live-2.ensures in let t = c.if-is_live.false in cc) in
+    subst (λ o. FeedMeets old text c.args.piece.now o c.take-used-2.new.self) (sym c.progress-2.ensures)
+    (feed_of old text c.args.piece.now c.take-used-2.result c.take-used-2.new.self
+    (front_meets_as old text c.args.piece.now _ (LONGEST_INPUT - old.digits.offset) c.take-used-2.result c.take-used-2.new.self (c.take-used-2.ensures.meets text s) (ap (λ k. take k c.args.piece.now) (omega arith)) (omega arith) c.take-used-2.ensures.within)
+    (omega (arith, c.take-used-2.ensures.within, length-take (LONGEST_INPUT - old.digits.offset) c.args.piece.now)) dead)

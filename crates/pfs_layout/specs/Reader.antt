@@ -1,0 +1,176 @@
+-- What the fields of a reader say of the bytes that it has read.
+use Rattle.std.specs.Prelude.{◌≡◌, ◌≢◌, ◌↔◌, ℕ, ◌+◌, ◌-◌, ◌*◌, ◌/◌, ◌<◌, ◌≤◌, min, Bool, true, false, nat_lt, List, [], ◌∷◌, ◌++◌, length, take, count_by, slice_index, Option, Some, None, option_map, Result, Ok, Err, IfOk, IfErr, IsTrue, IsFalse, if◌then◌else◌, ◌==◌, slice_get}
+use Rattle.std.specs.List.{list_any}
+use Rattle.std.specs.Option.{option_map_or}
+use Rattle.std.specs.Str.Parse.{digits_value}
+use Rattle.pfs_base.specs.declared.limits.TheConstants.{LONGEST_INPUT}
+use Rattle.pfs_base.specs.Limits.{limits}
+use Rattle.pfs_base.specs.Problem.{Problem}
+use Rattle.pfs_layout.specs.declared.layout.Layout.{Layout}
+use Rattle.pfs_layout.specs.declared.layout.Layout.TheVariants.{Taillard, OrLib}
+use Rattle.pfs_layout.specs.declared.fault.LayoutFault.{LayoutFault}
+use Rattle.pfs_layout.specs.declared.fault.LayoutFault.TheVariants.{Memory}
+use Rattle.pfs_layout.specs.declared.scan.Digits.{Digits}
+use Rattle.pfs_layout.specs.declared.scan.Kinds.{Kinds}
+use Rattle.pfs_layout.specs.declared.scan.TheConstants.{CEILING}
+use Rattle.pfs_layout.specs.declared.size_line.SizeLine.{SizeLine}
+use Rattle.pfs_layout.specs.declared.body.Body.{Body}
+use Rattle.pfs_layout.specs.declared.fields.Phase.{Phase}
+use Rattle.pfs_layout.specs.declared.fields.Phase.TheVariants as phases
+use Rattle.pfs_layout.specs.declared.fields.Fields.{Fields}
+use Rattle.pfs_layout.specs.declared.fields.Progress.{Progress}
+use Rattle.pfs_layout.specs.Bytes.{is_digit, is_word_byte, is_line_end}
+use Rattle.pfs_layout.specs.Lines.{ended_lines, open_line, ended_numbers, last_digits}
+use Rattle.pfs_layout.specs.Size.{Size, is_within_limits}
+use Rattle.pfs_layout.specs.Block.{due_count}
+use Rattle.pfs_layout.specs.Stand.{Block, Now, seeking, inside, lost, Stand, stand, times_among, instance_of}
+use Rattle.pfs_layout.specs.File.{File}
+use Rattle.pfs_layout.specs.Refuse.{Refuse, fault_behind, byte_fault}
+
+-- ---- the wanted block, as far as it was read
+
+-- the block that is begun, with these numbers that its last line has ended
+abbrev pub block_begun_by : Now → List ℕ → Option Block
+block_begun_by seeking more = None
+block_begun_by (inside block) more = Some (record { size = block.size; numbers = block.numbers ++ more })
+block_begun_by lost more = None
+
+-- block k, behind lines that lead here and these ended numbers of the last line
+abbrev pub block_of : ℕ → Stand → List ℕ → Option Block
+block_of k stood more = if nat_lt (length stood.complete) k
+    then (if length stood.complete + 1 == k then block_begun_by stood.now more else None)
+    else slice_get stood.complete (k - 1)
+
+unfoldable pub block_read : Layout → ℕ → List ℕ → Option Block
+block_read layout k text = block_of k (stand layout (ended_lines text)) (ended_numbers (open_line text))
+
+-- how many times it has
+abbrev pub time_count : Layout → Option Block → ℕ
+time_count layout None = 0
+time_count layout (Some block) = length (times_among layout block.numbers)
+
+-- ---- the fields of a reader that has met no fault
+
+-- the unfinished number, and what the last line holds
+pub record FollowsLine (digits : Digits) (kinds : Kinds) (text : List ℕ) : Type 0 where
+  pub offset : digits.offset ≡ length text
+  pub first : digits.first ≡ length text - length (last_digits text)
+  pub value : digits.value ≡ min CEILING (digits_value 10 (last_digits text))
+  pub has_digit : kinds.has_digit ≡ list_any is_digit (open_line text)
+  pub has_word : kinds.has_word ≡ list_any is_word_byte (open_line text)
+
+-- the count of these numbers, and the first five of them
+pub record HoldsNumbers (line : SizeLine) (numbers : List ℕ) : Type 0 where
+  pub count : line.count ≡ length numbers
+  pub values : (i : ℕ) → i < length numbers → i < 5 → slice_index line.values i ≡ min CEILING (slice_index numbers i)
+
+-- job and machine are those of the next time, where so many numbers were judged
+abbrev pub IsNextTime : Layout → Body → Type 0
+IsNextTime Taillard body = body.judged ≡ body.machine * body.jobs + body.job
+IsNextTime OrLib body = body.judged / 2 ≡ body.job * body.machines + body.machine
+
+-- a block of this size, of which so many numbers were judged
+pub record FollowsBody (layout : Layout) (size : Size) (count : ℕ) (body : Body) : Type 0 where
+  pub jobs : body.jobs ≡ size.jobs
+  pub machines : body.machines ≡ size.machines
+  pub due : body.due ≡ due_count layout size
+  pub judged : body.judged ≡ count
+  pub few : body.judged ≤ body.due
+  pub job : body.job < body.jobs
+  pub machine : body.machine < body.machines
+  pub place : body.judged < body.due → IsNextTime layout body
+
+-- whether the next block is sought or a block is begun, behind these ended numbers of the last line, which has a
+-- word byte or not
+abbrev pub FollowsNow : Bool → Fields → Now → List ℕ → Type 0
+FollowsNow worded r seeking more = (r.phase ≡ (if nat_lt r.complete r.wanted then phases.Seeking else phases.Done))
+    × (worded ≡ false → HoldsNumbers r.size_line more)
+FollowsNow worded r (inside block) more = (r.phase ≡ (if nat_lt r.body.judged r.body.due then phases.Body else phases.AfterLast))
+    × (r.complete < r.wanted) × (is_within_limits block.size ≡ true) × FollowsBody r.layout block.size (length block.numbers + length more) r.body
+FollowsNow worded r lost more = ⊥
+
+-- the blocks, behind lines that lead here and these ended numbers of the last line, which has a word byte or not
+pub record FollowsBlocks (worded : Bool) (r : Fields) (stood : Stand) (more : List ℕ) : Type 0 where
+  pub complete : r.complete ≡ length stood.complete
+  pub now : FollowsNow worded r stood.now more
+  pub instance : r.instance ≡ option_map (instance_of r.layout) (block_of r.wanted stood more)
+  pub held : r.held ≡ time_count r.layout (block_of r.wanted stood more)
+
+pub record Follows (r : Fields) (text : List ℕ) : Type 0 where
+  pub some : 1 ≤ r.wanted
+  pub sound : byte_fault r.layout r.wanted text ≡ None
+  pub short : length text ≤ LONGEST_INPUT
+  pub last_line : FollowsLine r.digits r.kinds text
+  pub line : r.line ≡ 1 + count_by is_line_end text
+  pub few_numbers : r.size_line.count ≤ length text
+  pub five_values : length r.size_line.values ≡ 5
+  pub blocks : FollowsBlocks (list_any is_word_byte (open_line text)) r (stand r.layout (ended_lines text)) (ended_numbers (open_line text))
+
+-- ---- where a reader stands
+
+-- a byte of the text had this fault, and none before it had one: the times that were ended before it are held
+pub record IsRefused (r : Fields) (text : List ℕ) (fault : LayoutFault) : Type 0 where
+  pub front : List ℕ
+  pub byte : ℕ
+  pub rest : List ℕ
+  pub whole : text ≡ front ++ byte ∷ rest
+  pub sound : byte_fault r.layout r.wanted front ≡ None
+  pub here : fault_behind r.layout r.wanted front (Some byte) ≡ Some fault
+  pub held : r.held ≡ time_count r.layout (block_read r.layout r.wanted front)
+
+abbrev pub StandsIn : Phase → Fields → List ℕ → Type 0
+StandsIn phases.Seeking r text = Follows r text
+StandsIn phases.Body r text = Follows r text
+StandsIn phases.AfterLast r text = Follows r text
+StandsIn phases.Done r text = Follows r text
+StandsIn (phases.Refused fault) r text = IsRefused r text fault
+
+-- the reader has read this text, with or without a fault
+abbrev pub StandsAfter : Fields → List ℕ → Type 0
+StandsAfter r text = StandsIn r.phase r text
+
+-- every reader has read some text, or was refused memory
+abbrev pub IsReader : Fields → Type 0
+IsReader r = r.phase ≢ phases.Refused Memory → (text : List ℕ) × StandsAfter r text
+
+-- ---- what the calls owe
+
+-- the byte is the end of the wanted block's size line
+pub record EndsWantedSize (layout : Layout) (k : ℕ) (text : List ℕ) (byte : ℕ) : Type 0 where
+  pub line_end : byte ≡ 10
+  pub last : length (stand layout (ended_lines text)).complete + 1 ≡ k
+  pub sought : (stand layout (ended_lines text)).now ≡ seeking
+  pub begun : (block : Block) × ((stand layout (ended_lines (text ++ byte ∷ []))).now ≡ inside block)
+
+-- what the bytes that were taken leave of a reader that stands after this text
+pub record TakeMeets (old : Fields) (text piece : List ℕ) (used : ℕ) (new : Fields) : Type 0 where
+  pub layout : new.phase ≢ phases.Refused Memory → new.layout ≡ old.layout
+  pub wanted : new.phase ≢ phases.Refused Memory → new.wanted ≡ old.wanted
+  pub stands : new.phase ≢ phases.Refused Memory → StandsAfter new (text ++ take used piece)
+  pub memory : new.phase ≡ phases.Refused Memory → (n : ℕ) × (n < length piece) × EndsWantedSize old.layout old.wanted (text ++ take n piece) (slice_index piece n)
+  pub no_more : (n : ℕ) → n < used → length (stand old.layout (ended_lines (text ++ take n piece))).complete < old.wanted
+
+-- what is told of the bytes that were taken
+abbrev pub progress_of : Phase → ℕ → Result Progress LayoutFault
+progress_of phases.Seeking used = Ok (record { used = used; done = false })
+progress_of phases.Body used = Ok (record { used = used; done = false })
+progress_of phases.AfterLast used = Ok (record { used = used; done = false })
+progress_of phases.Done used = Ok (record { used = used; done = true })
+progress_of (phases.Refused fault) used = Err fault
+
+-- what feed owes a reader that stands after this text
+pub record FeedMeets (old : Fields) (text piece : List ℕ) (outcome : Result Progress LayoutFault) (new : Fields) : Type 0 where
+  pub ok : IfOk outcome (λ progress. (progress.used ≤ length piece) × StandsAfter new (text ++ take progress.used piece))
+  -- it has used the whole piece, or the wanted block has ended with the last byte that it used
+  pub whole : IfOk outcome (λ progress. IsFalse progress.done → progress.used ≡ length piece)
+  pub done : IfOk outcome (λ progress. IsTrue progress.done ↔ (new.phase ≡ phases.Done))
+  pub no_more : IfOk outcome (λ progress. (n : ℕ) → n < progress.used → length (stand old.layout (ended_lines (text ++ take n piece))).complete < old.wanted)
+  pub refused : IfErr outcome (λ fault. fault ≢ Memory → StandsAfter new (text ++ piece))
+  pub exact : outcome ≢ Err Memory → (fault : LayoutFault) → (outcome ≡ Err fault) ↔ (byte_fault old.layout old.wanted (text ++ piece) ≡ Some fault)
+  pub stays : IfErr outcome (λ fault. new.phase ≡ phases.Refused fault)
+  pub memory : outcome ≡ Err Memory → (n : ℕ) × (n < length piece) × EndsWantedSize old.layout old.wanted (text ++ take n piece) (slice_index piece n)
+
+-- what finish owes
+pub record FinishMeets (old : Fields) (text : List ℕ) (outcome : Result Problem LayoutFault) : Type 0 where
+  pub file : (problem : Problem) → (outcome ≡ Ok problem) ↔ File limits old.layout text old.wanted problem
+  pub refused : (fault : LayoutFault) → (outcome ≡ Err fault) ↔ Refuse old.layout text old.wanted fault

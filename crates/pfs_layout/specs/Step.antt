@@ -1,0 +1,272 @@
+-- What one byte does to what a reader keeps. Only the contracts of private functions speak of it: what a
+-- reader's fields say of the bytes that it has read stands in `Reader`.
+use Rattle.std.specs.Prelude.{◌≡◌, ◌≢◌, ℕ, ◌+◌, ◌-◌, ◌*◌, ◌/◌, ◌%◌, ◌<◌, ◌≤◌, min, Bool, true, false, not, ◌&&◌, ◌||◌, ◌==◌, nat_lt, List, replicate, slice_index, slice_set, Option, Some, None, is_some, option_map, IfSome, if◌then◌else◌}
+use Rattle.std.specs.Option.{option_or}
+use Rattle.pfs_base.specs.declared.limits.TheConstants.{LONGEST_TIME, LONGEST_INPUT}
+use Rattle.pfs_base.specs.FlowShop.{with_time}
+use Rattle.pfs_base.specs.Problem.{Problem}
+use Rattle.pfs_layout.specs.declared.layout.Layout.{Layout}
+use Rattle.pfs_layout.specs.declared.layout.Layout.TheVariants.{Taillard, OrLib}
+use Rattle.pfs_layout.specs.declared.fault.LayoutFault.{LayoutFault}
+use Rattle.pfs_layout.specs.declared.fault.LayoutFault.TheVariants.{NoBlock, MixedLine, TimeRange, MachineNumber, ExtraNumber, Truncated, Memory}
+use Rattle.pfs_layout.specs.declared.scan.Digits.{Digits}
+use Rattle.pfs_layout.specs.declared.scan.Kinds.{Kinds}
+use Rattle.pfs_layout.specs.declared.scan.TheConstants.{CEILING}
+use Rattle.pfs_layout.specs.declared.size_line.SizeLine.{SizeLine}
+use Rattle.pfs_layout.specs.declared.size_line.Stated.{Stated}
+use Rattle.pfs_layout.specs.declared.body.Body.{Body}
+use Rattle.pfs_layout.specs.declared.fields.Phase.{Phase}
+use Rattle.pfs_layout.specs.declared.fields.Phase.TheVariants as phases
+use Rattle.pfs_layout.specs.declared.fields.Fields.{Fields}
+use Rattle.pfs_layout.specs.Bytes.{is_digit, is_blank, is_line_end}
+use Rattle.pfs_layout.specs.Size.{Size, is_within_limits}
+use Rattle.pfs_layout.specs.Refuse.{size_fault}
+
+-- ---- the line so far
+
+abbrev pub digits_after : Digits → ℕ → Digits
+digits_after d b = record {
+  offset = d.offset + 1;
+  first = if is_digit b then d.first else d.offset + 1;
+  value = if is_digit b then min CEILING (d.value * 10 + (b - 48)) else 0;
+}
+
+abbrev pub kinds_after : Kinds → ℕ → Kinds
+kinds_after k b = record {
+  has_digit = is_digit b || (not (b == 10) && k.has_digit);
+  has_word = not (b == 10) && (k.has_word || not (is_digit b || is_blank b));
+}
+
+-- ---- a line that may be a size line
+
+abbrev pub with_number : SizeLine → ℕ → SizeLine
+with_number line value = record {
+  count = line.count + 1;
+  values = if nat_lt line.count 5 then slice_set line.values line.count value else line.values;
+}
+
+-- what the numbers state, where they are as many as the layout says
+abbrev pub stated_by : Layout → SizeLine → Option Size
+stated_by Taillard line = if line.count == 5 then Some (record {
+  jobs = slice_index line.values 0;
+  machines = slice_index line.values 1;
+  notes = record { seed = slice_index line.values 2; upper = slice_index line.values 3; lower = slice_index line.values 4 };
+}) else None
+stated_by OrLib line = if line.count == 2 then Some (record {
+  jobs = slice_index line.values 0;
+  machines = slice_index line.values 1;
+  notes = record { seed = 0; upper = 0; lower = 0 };
+}) else None
+
+-- the size that was given
+abbrev pub size_given : Stated → Size
+size_given stated = record { jobs = stated.jobs; machines = stated.machines; notes = stated.notes }
+
+-- ---- the body of a block
+
+abbrev pub count_due : Layout → ℕ → ℕ → ℕ
+count_due Taillard jobs machines = jobs * machines
+count_due OrLib jobs machines = 2 * (jobs * machines)
+
+abbrev pub body_of : Layout → ℕ → ℕ → Body
+body_of layout jobs machines = record { jobs = jobs; machines = machines; due = count_due layout jobs machines; judged = 0; job = 0; machine = 0 }
+
+abbrev pub is_machine_due : Layout → Body → Bool
+is_machine_due Taillard body = false
+is_machine_due OrLib body = body.judged % 2 == 0
+
+abbrev pub after_machine : Body → Body
+after_machine body = record body { judged = body.judged + 1 }
+
+-- the number behind, and 0 behind the last
+abbrev pub next_of : ℕ → ℕ → ℕ
+next_of at count = if at + 1 == count then 0 else at + 1
+
+abbrev pub after_time : Layout → Body → Body
+after_time Taillard body = record body {
+  judged = body.judged + 1;
+  job = next_of body.job body.jobs;
+  machine = if body.job + 1 == body.jobs then next_of body.machine body.machines else body.machine;
+}
+after_time OrLib body = record body {
+  judged = body.judged + 1;
+  job = if body.machine + 1 == body.machines then next_of body.job body.jobs else body.job;
+  machine = next_of body.machine body.machines;
+}
+
+-- a number is due, and the next time has a place
+pub record HasPlace (body : Body) : Type 0 where
+  pub judged : body.judged < body.due
+  pub job : body.job < body.jobs
+  pub machine : body.machine < body.machines
+
+-- ---- the fields
+
+abbrev pub is_live : Phase → Bool
+is_live phases.Seeking = true
+is_live phases.Body = true
+is_live phases.AfterLast = true
+is_live phases.Done = false
+is_live (phases.Refused fault) = false
+
+abbrev pub is_in_block : Phase → Bool
+is_in_block phases.Seeking = false
+is_in_block phases.Body = true
+is_in_block phases.AfterLast = true
+is_in_block phases.Done = false
+is_in_block (phases.Refused fault) = false
+
+abbrev pub refused : Fields → LayoutFault → Fields
+refused r fault = record r { phase = phases.Refused fault }
+
+-- the body has come so far
+abbrev pub counted : Fields → Body → Fields
+counted r body = record r { body = body; phase = if nat_lt body.judged body.due then phases.Body else phases.AfterLast }
+
+abbrev pub with_problem_time : Body → ℕ → Problem → Problem
+with_problem_time body time problem = record problem { shop = with_time problem.shop body.job body.machine time }
+
+-- the time stands in the instance, if there is one
+abbrev pub stored : Fields → ℕ → Fields
+stored r time = record r { instance = option_map (with_problem_time r.body time) r.instance; held = if is_some r.instance then r.held + 1 else r.held }
+
+abbrev pub time_judged : Fields → ℕ → ℕ → Fields
+time_judged r value first = if nat_lt LONGEST_TIME value
+    then refused r (TimeRange first)
+    else counted (stored r value) (after_time r.layout r.body)
+
+abbrev pub machine_judged : Fields → ℕ → ℕ → Fields
+machine_judged r value first = if value == r.body.machine
+    then counted r (after_machine r.body)
+    else refused r (MachineNumber first)
+
+abbrev pub body_judged : Fields → ℕ → ℕ → Fields
+body_judged r value first = if is_machine_due r.layout r.body then machine_judged r value first else time_judged r value first
+
+abbrev pub number_ended_in : Phase → Fields → ℕ → ℕ → Fields
+number_ended_in phases.Seeking r value first = record r { size_line = with_number r.size_line value }
+number_ended_in phases.Body r value first = body_judged r value first
+number_ended_in phases.AfterLast r value first = refused r (ExtraNumber first)
+number_ended_in phases.Done r value first = r
+number_ended_in (phases.Refused fault) r value first = r
+
+-- behind a number
+unfoldable pub number_ended : Fields → ℕ → ℕ → Fields
+number_ended r value first = number_ended_in r.phase r value first
+
+-- a problem of this size whose times are all 0
+abbrev pub empty_problem : Size → Problem
+empty_problem size = record {
+  shop = record { jobs = size.jobs; machines = size.machines; times = replicate (size.jobs * size.machines) 0 };
+  notes = size.notes;
+}
+
+abbrev pub block_begun : Fields → Size → Fields
+block_begun r size = record r {
+  instance = if r.complete + 1 == r.wanted then Some (empty_problem size) else None;
+  body = body_of r.layout size.jobs size.machines;
+  phase = phases.Body;
+}
+
+-- the fault of what a size line states, or else the block that it begins
+abbrev pub size_judged : Fields → Option Size → Option LayoutFault → Fields
+size_judged r stated (Some fault) = refused r fault
+size_judged r None None = r
+size_judged r (Some size) None = block_begun r size
+
+abbrev pub size_line_ended : Fields → SizeLine → ℕ → Fields
+size_line_ended r size_line line = size_judged r (stated_by r.layout size_line) (size_fault (stated_by r.layout size_line) line)
+
+abbrev pub block_ended : Fields → Fields
+block_ended r = record r { complete = r.complete + 1; phase = if r.complete + 1 == r.wanted then phases.Done else phases.Seeking }
+
+-- no number yet
+abbrev pub no_numbers : SizeLine
+no_numbers = record { count = 0; values = replicate 5 0 }
+
+abbrev pub at_next_line : Fields → Fields
+at_next_line r = record r { line = r.line + 1; size_line = no_numbers }
+
+abbrev pub line_ended_in : Phase → Fields → Kinds → Fields
+line_ended_in phases.Seeking r kinds = if kinds.has_digit && not kinds.has_word then size_line_ended (at_next_line r) r.size_line r.line else at_next_line r
+line_ended_in phases.Body r kinds = at_next_line r
+line_ended_in phases.AfterLast r kinds = block_ended (at_next_line r)
+line_ended_in phases.Done r kinds = at_next_line r
+line_ended_in (phases.Refused fault) r kinds = at_next_line r
+
+-- behind a byte 10
+unfoldable pub line_ended : Fields → Kinds → Fields
+line_ended r kinds = line_ended_in r.phase r kinds
+
+-- behind the number, if there is one
+abbrev pub last_number_ended : Fields → Digits → Fields
+last_number_ended r digits = if digits.first == digits.offset then r else number_ended r digits.value digits.first
+
+-- behind a byte, but for the line so far
+abbrev pub judged : Fields → Digits → Kinds → ℕ → Fields
+judged r digits kinds b = if is_digit b
+    then (if kinds.has_word && is_in_block r.phase then refused r (MixedLine digits.offset) else r)
+    else (if is_blank b || is_line_end b
+    then (if is_line_end b then line_ended (last_number_ended r digits) kinds else last_number_ended r digits)
+    else (if kinds.has_digit && is_in_block r.phase then refused r (MixedLine digits.offset) else r))
+
+-- what the judgement of a number leaves as it is
+pub record Keeps (old new : Fields) : Type 0 where
+  pub layout : new.layout ≡ old.layout
+  pub wanted : new.wanted ≡ old.wanted
+  pub complete : new.complete ≡ old.complete
+  pub line : new.line ≡ old.line
+  pub sought : new.phase ≡ phases.Seeking → old.phase ≡ phases.Seeking
+  pub memory : new.phase ≢ phases.Refused Memory
+
+-- how many of so many numbers are times
+abbrev pub times_in : Layout → ℕ → ℕ
+times_in Taillard n = n
+times_in OrLib n = n / 2
+
+-- the fault of an input that ends here, where the wanted block isn't complete: a size line without a fault begins a
+-- block, of which no time was read
+abbrev pub end_fault_in : Phase → Kinds → Fields → Option LayoutFault
+end_fault_in phases.Seeking kinds r = if kinds.has_digit && not kinds.has_word
+    then option_or (size_fault (stated_by r.layout r.size_line) r.line) (Some (Truncated 0))
+    else Some (NoBlock r.complete)
+end_fault_in phases.Body kinds r = Some (Truncated (times_in r.layout r.body.judged))
+end_fault_in phases.AfterLast kinds r = if r.complete + 1 == r.wanted then None else Some (NoBlock (r.complete + 1))
+end_fault_in phases.Done kinds r = None
+end_fault_in (phases.Refused fault) kinds r = Some fault
+
+abbrev pub end_fault : Kinds → Fields → Option LayoutFault
+end_fault kinds r = end_fault_in r.phase kinds r
+
+-- behind the last number of an input that ends here
+abbrev pub at_end : Fields → Fields
+at_end r = if is_live r.phase then last_number_ended r r.digits else r
+
+-- with another last line
+abbrev pub with_line : Fields → Digits → Kinds → Fields
+with_line r digits kinds = record r { digits = digits; kinds = kinds }
+
+-- behind one byte more
+abbrev pub stepped : Fields → ℕ → Fields
+stepped r b = with_line (judged r r.digits r.kinds b) (digits_after r.digits b) (kinds_after r.kinds b)
+
+-- the memory for the wanted block was refused, where its size line ends
+pub record LacksMemory (old next : Fields) : Type 0 where
+  pub sought : old.phase ≡ phases.Seeking
+  pub wanted : old.complete + 1 ≡ old.wanted
+  pub begins : next.phase ≡ phases.Body
+
+-- what the judgement of a number of the body needs
+pub record CanCount (r : Fields) : Type 0 where
+  pub place : HasPlace r.body
+  pub held : r.held < LONGEST_INPUT
+  pub instance : IfSome r.instance (λ problem. (problem.shop.jobs ≡ r.body.jobs) × (problem.shop.machines ≡ r.body.machines))
+
+-- what the judgement of a byte needs
+pub record IsReady (r : Fields) : Type 0 where
+  pub can : r.phase ≡ phases.Body → CanCount r
+  pub count : r.size_line.count ≤ LONGEST_INPUT
+  pub complete : r.complete < r.wanted
+  pub line : r.line ≤ LONGEST_INPUT
+  pub offset : r.digits.offset < LONGEST_INPUT
+  pub value : r.digits.value ≤ CEILING

@@ -1,0 +1,136 @@
+//! How far a reader is in the body of a block.
+ghost use Rattle.std.specs.Prelude.{◌≡◌, ◌<◌, ◌≤◌, ◌+◌};
+ghost use Rattle.pfs_layout.specs.Step.{HasPlace, body_of, is_machine_due as machine_due_test, after_machine as behind_machine, after_time as behind_time, next_of, times_in};
+
+use crate::Layout;
+use pfs_base::{MOST_JOBS, MOST_MACHINES};
+
+/// The sizes of a block, how many of its numbers are judged, and where the next time stands.
+#[derive(Clone, Copy)]
+pub struct Body {
+    pub jobs: usize,
+    pub machines: usize,
+    /// How many numbers are due in all.
+    pub due: usize,
+    /// How many were judged.
+    pub judged: usize,
+    /// The job and the machine of the next time: both 0 behind the last.
+    pub job: usize,
+    pub machine: usize,
+}
+
+impl Body {
+    /// A block of these sizes, of which nothing is judged.
+    pub fn new(layout: Layout, jobs: usize, machines: usize) -> Body
+        requires jobs { jobs ≤ MOST_JOBS }
+        requires machines { machines ≤ MOST_MACHINES }
+        ensures { result ≡ body_of layout jobs machines }
+    {
+        let times = jobs * machines;
+        Body {
+            jobs,
+            machines,
+            due: match layout {
+                Layout::Taillard => times,
+                Layout::OrLib => 2 * times,
+            },
+            judged: 0,
+            job: 0,
+            machine: 0,
+        }
+    }
+
+    /// Whether the number that is due is that of a machine.
+    pub fn is_machine_due(self, layout: Layout) -> bool
+        ensures { result ≡ machine_due_test layout self }
+    {
+        match layout {
+            Layout::Taillard => false,
+            Layout::OrLib => self.judged % 2 == 0,
+        }
+    }
+
+    /// Behind the number of a machine.
+    pub fn after_machine(self) -> Body
+        requires { HasPlace self }
+        ensures { result ≡ behind_machine self }
+    {
+        Body {
+            jobs: self.jobs,
+            machines: self.machines,
+            due: self.due,
+            judged: self.judged + 1,
+            job: self.job,
+            machine: self.machine,
+        }
+    }
+
+    /// Behind a time.
+    pub fn after_time(self, layout: Layout) -> Body
+        requires { HasPlace self }
+        ensures { result ≡ behind_time layout self }
+    {
+        match layout {
+            Layout::Taillard => self.at_next_job(),
+            Layout::OrLib => self.at_next_machine(),
+        }
+    }
+
+    /// The same machine's next job, or the next machine's first.
+    fn at_next_job(self) -> Body
+        requires { HasPlace self }
+        ensures { result ≡ behind_time Layout.Taillard self }
+    {
+        let last = self.job + 1 == self.jobs;
+        Body {
+            jobs: self.jobs,
+            machines: self.machines,
+            due: self.due,
+            judged: self.judged + 1,
+            job: next(self.job, self.jobs),
+            machine: if last {
+                next(self.machine, self.machines)
+            } else {
+                self.machine
+            },
+        }
+    }
+
+    /// The same job's next machine, or the next job's first.
+    fn at_next_machine(self) -> Body
+        requires { HasPlace self }
+        ensures { result ≡ behind_time Layout.OrLib self }
+    {
+        let last = self.machine + 1 == self.machines;
+        Body {
+            jobs: self.jobs,
+            machines: self.machines,
+            due: self.due,
+            judged: self.judged + 1,
+            job: if last {
+                next(self.job, self.jobs)
+            } else {
+                self.job
+            },
+            machine: next(self.machine, self.machines),
+        }
+    }
+
+    /// How many of the judged numbers are times.
+    pub fn times(self, layout: Layout) -> usize
+        ensures { result ≡ times_in layout self.judged }
+    {
+        match layout {
+            Layout::Taillard => self.judged,
+            Layout::OrLib => self.judged / 2,
+        }
+    }
+}
+
+/// The number behind `at`, and 0 behind the last of `count`.
+fn next(at: usize, count: usize) -> usize
+    requires { at < count }
+    ensures { result ≡ next_of at count }
+{
+    if at + 1 == count { 0 } else { at + 1 }
+}

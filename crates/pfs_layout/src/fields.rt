@@ -1,0 +1,454 @@
+//! What a reader holds, and what a byte does to it.
+ghost use Rattle.std.specs.Prelude.{◌≡◌, ◌≢◌, ◌+◌, ◌*◌, ◌<◌, ◌≤◌, true, false, ◌==◌, ℕ, List, length, replicate, Some, None, IfOk, IfErr, OnOk, OnErr, IfSome, option_map, is_some, if◌then◌else◌};
+ghost use Rattle.pfs_layout.specs.Bytes.{is_digit as digit_test};
+ghost use Rattle.pfs_layout.specs.Size.{is_within_limits};
+ghost use Rattle.pfs_layout.specs.Step.{refused, is_live as live_test, is_in_block, CanCount, with_problem_time, stored, counted, time_judged, machine_judged, body_judged, number_ended, size_given, empty_problem, block_begun, size_line_ended, block_ended, line_ended, last_number_ended, judged, with_line, end_fault, end_fault_in, at_end, IsReady, Keeps, LacksMemory};
+ghost use Rattle.pfs_layout.specs.Reader.{StandsAfter, IsReader, TakeMeets, FeedMeets, progress_of};
+
+use crate::body::Body;
+use crate::scan::{Digits, Kinds, LINE_END, is_blank, is_digit};
+use crate::size_line::{SizeLine, Stated};
+use crate::{Layout, LayoutFault};
+use pfs_base::{BaseFault, Instance, LONGEST_INPUT, LONGEST_TIME};
+use std::alloc::Global;
+
+/// What is being read.
+#[derive(Clone, Copy)]
+pub enum Phase {
+    /// The next block is sought.
+    Seeking,
+    /// Numbers of a block are due.
+    Body,
+    /// All numbers of a block were judged, and their last line isn't ended.
+    AfterLast,
+    /// The wanted block has ended.
+    Done,
+    Refused(LayoutFault),
+}
+
+/// How far a reader came in a piece, and whether its block has ended.
+#[derive(Clone, Copy, Debug, PartialEq, Eq)]
+pub struct Progress {
+    pub used: usize,
+    pub done: bool,
+}
+
+/// The fields of a reader.
+#[derive(Drop)]
+pub struct Fields {
+    pub layout: Layout,
+    /// The number of the wanted block, from 1.
+    pub wanted: usize,
+    /// How many blocks are complete.
+    pub complete: usize,
+    /// The number of the line, from 1.
+    pub line: usize,
+    pub phase: Phase,
+    pub digits: Digits,
+    pub kinds: Kinds,
+    pub size_line: SizeLine,
+    pub body: Body,
+    /// The instance of the wanted block, from the end of its size line on. Times that weren't read are 0.
+    pub instance: Option<Instance>,
+    /// How many of its times were read.
+    pub held: usize,
+}
+
+impl Fields {
+    #[cold]
+    pub fn refuse(&mut self, fault: LayoutFault)
+        ensures { self.new ≡ refused self.old fault }
+    {
+        self.phase = Phase::Refused(fault);
+    }
+
+    fn in_block(&self) -> bool
+        ensures { result ≡ is_in_block self.now.phase }
+    {
+        match self.phase {
+            Phase::Body | Phase::AfterLast => true,
+            Phase::Seeking | Phase::Done | Phase::Refused(_) => false,
+        }
+    }
+
+    /// Whether a further byte is wanted.
+    pub fn is_live(&self) -> bool
+        ensures { result ≡ live_test self.now.phase }
+    {
+        match self.phase {
+            Phase::Done | Phase::Refused(_) => false,
+            Phase::Seeking | Phase::Body | Phase::AfterLast => true,
+        }
+    }
+
+    /// Keeps a time of the wanted block.
+    fn store(&mut self, time: u32)
+        requires can { CanCount self.old }
+        requires short { time ≤ LONGEST_TIME }
+        ensures { self.new ≡ stored self.old time }
+    {
+        if let Some(instance) = &mut self.instance {
+            instance.set(self.body.job, self.body.machine, time);
+            self.held += 1;
+        }
+    }
+
+    /// One number of the body more was judged.
+    fn count(&mut self, body: Body)
+        ensures { self.new ≡ counted self.old body }
+    {
+        self.body = body;
+        self.phase = if body.judged < body.due {
+            Phase::Body
+        } else {
+            Phase::AfterLast
+        };
+    }
+
+    /// The number is a time.
+    fn judge_time(&mut self, value: u64, first: usize)
+        requires { CanCount self.old }
+        ensures { self.new ≡ time_judged self.old value first }
+    {
+        if value > u64::from(LONGEST_TIME) {
+            self.refuse(LayoutFault::TimeRange { offset: first });
+            return;
+        }
+        self.store(value as u32);
+        self.count(self.body.after_time(self.layout));
+    }
+
+    /// The number is that of a machine.
+    fn judge_machine(&mut self, value: u64, first: usize)
+        requires { CanCount self.old }
+        ensures { self.new ≡ machine_judged self.old value first }
+    {
+        if value != self.body.machine as u64 {
+            self.refuse(LayoutFault::MachineNumber { offset: first });
+            return;
+        }
+        self.count(self.body.after_machine());
+    }
+
+    fn judge_body(&mut self, value: u64, first: usize)
+        requires { CanCount self.old }
+        ensures { self.new ≡ body_judged self.old value first }
+    {
+        if self.body.is_machine_due(self.layout) {
+            self.judge_machine(value, first);
+        } else {
+            self.judge_time(value, first);
+        }
+    }
+
+    /// The number stands outside a body.
+    #[inline(never)]
+    #[tactic(auto, unfolding(crate::specs::Step::number_ended))]
+    fn end_other_number(&mut self, value: u64, first: usize)
+        requires elsewhere { self.old.phase ≢ Phase.Body }
+        requires count { self.old.size_line.count ≤ LONGEST_INPUT }
+        ensures { self.new ≡ number_ended self.old value first }
+    {
+        match self.phase {
+            Phase::Seeking => self.size_line = self.size_line.with(value),
+            Phase::AfterLast => self.refuse(LayoutFault::ExtraNumber { offset: first }),
+            Phase::Body | Phase::Done | Phase::Refused(_) => {}
+        }
+    }
+
+    /// A blank, a line end or the end of the input ends a number.
+    #[tactic(auto, unfolding(crate::specs::Step::number_ended))]
+    pub fn end_number(&mut self, value: u64, first: usize)
+        requires can { self.old.phase ≡ Phase.Body → CanCount self.old }
+        requires count { self.old.size_line.count ≤ LONGEST_INPUT }
+        ensures { self.new ≡ number_ended self.old value first }
+    {
+        if let Phase::Body = self.phase {
+            self.judge_body(value, first);
+        } else {
+            self.end_other_number(value, first);
+        }
+    }
+
+    /// A blank, a line end or the end of the input ends the unfinished number, if there is one.
+    #[inline(always)]
+    fn end_last_number(&mut self, digits: Digits)
+        requires can { self.old.phase ≡ Phase.Body → CanCount self.old }
+        requires count { self.old.size_line.count ≤ LONGEST_INPUT }
+        requires live { live_test self.old.phase ≡ true }
+        ensures ended { self.new ≡ last_number_ended self.old digits }
+        ensures kept { Keeps self.old self.new }
+    {
+        if digits.is_some() {
+            self.end_number(digits.value, digits.first);
+        }
+    }
+
+    /// Memory for the block, if it is the wanted one.
+    fn instance_for(&self, alloc: Global, stated: Stated) -> Result<Option<Instance>, BaseFault>
+        requires complete { self.now.complete < self.now.wanted }
+        requires within { is_within_limits (size_given stated) ≡ true }
+        ensures made { IfOk result (λ instance. instance ≡ (if self.now.complete + 1 == self.now.wanted then Some (empty_problem (size_given stated)) else None)) }
+        ensures wanted { OnErr result (self.now.complete + 1 ≡ self.now.wanted) }
+    {
+        let wanted = self.wanted;
+        if self.complete + 1 == wanted {
+            let instance = Instance::new(alloc, stated.jobs, stated.machines, stated.notes)?;
+            Ok(Some(instance))
+        } else {
+            Ok(None)
+        }
+    }
+
+    /// A block of these sizes begins.
+    fn begin_block(&mut self, alloc: Global, stated: Stated)
+        requires complete { self.old.complete < self.old.wanted }
+        requires within { is_within_limits (size_given stated) ≡ true }
+        ensures begun { self.new.phase ≢ Phase.Refused LayoutFault.Memory → self.new ≡ block_begun self.old (size_given stated) }
+        ensures memory { self.new.phase ≡ Phase.Refused LayoutFault.Memory → self.old.complete + 1 ≡ self.old.wanted }
+        ensures held { self.new.held ≡ self.old.held }
+    {
+        match self.instance_for(alloc, stated) {
+            Ok(instance) => {
+                self.instance = instance;
+                self.body = Body::new(self.layout, stated.jobs, stated.machines);
+                self.phase = Phase::Body;
+            }
+            Err(_) => self.refuse(LayoutFault::Memory),
+        }
+    }
+
+    #[inline(never)]
+    fn end_size_line(&mut self, alloc: Global, size_line: SizeLine, line: usize)
+        requires complete { self.old.complete < self.old.wanted }
+        ensures ended { self.new.phase ≢ Phase.Refused LayoutFault.Memory → self.new ≡ size_line_ended self.old size_line line }
+        ensures memory { self.new.phase ≡ Phase.Refused LayoutFault.Memory → self.old.complete + 1 ≡ self.old.wanted }
+        ensures begins { self.new.phase ≡ Phase.Refused LayoutFault.Memory → (size_line_ended self.old size_line line).phase ≡ Phase.Body }
+    {
+        match size_line.stated(self.layout, line) {
+            Ok(stated) => self.begin_block(alloc, stated),
+            Err(fault) => self.refuse(fault),
+        }
+    }
+
+    fn end_block(&mut self)
+        requires { self.old.complete < self.old.wanted }
+        ensures { self.new ≡ block_ended self.old }
+    {
+        let complete = self.complete + 1;
+        self.complete = complete;
+        self.phase = if complete == self.wanted {
+            Phase::Done
+        } else {
+            Phase::Seeking
+        };
+    }
+
+    /// Byte 10 ends the line.
+    #[tactic(auto, unfolding(crate::specs::Step::line_ended))]
+    fn end_line(&mut self, alloc: Global, kinds: Kinds)
+        requires complete { self.old.complete < self.old.wanted }
+        requires line { self.old.line ≤ LONGEST_INPUT }
+        requires memory { self.old.phase ≢ Phase.Refused LayoutFault.Memory }
+        ensures ended { self.new.phase ≢ Phase.Refused LayoutFault.Memory → self.new ≡ line_ended self.old kinds }
+        ensures memory { self.new.phase ≡ Phase.Refused LayoutFault.Memory → LacksMemory self.old (line_ended self.old kinds) }
+    {
+        let line = self.line;
+        let size_line = self.size_line;
+        self.line = line + 1;
+        self.size_line = SizeLine::new();
+        match self.phase {
+            Phase::Seeking => {
+                if kinds.is_number_line() {
+                    self.end_size_line(alloc, size_line, line);
+                }
+            }
+            Phase::AfterLast => self.end_block(),
+            Phase::Body | Phase::Done | Phase::Refused(_) => {}
+        }
+    }
+
+    /// Judges what a byte that is no digit ends.
+    #[inline(always)]
+    fn judge_other(&mut self, alloc: Global, digits: Digits, kinds: Kinds, b: u8)
+        requires other { digit_test b ≡ false }
+        requires can { self.old.phase ≡ Phase.Body → CanCount self.old }
+        requires count { self.old.size_line.count ≤ LONGEST_INPUT }
+        requires complete { self.old.complete < self.old.wanted }
+        requires line { self.old.line ≤ LONGEST_INPUT }
+        requires live { live_test self.old.phase ≡ true }
+        ensures judged { self.new.phase ≢ Phase.Refused LayoutFault.Memory → self.new ≡ judged self.old digits kinds b }
+        ensures memory { self.new.phase ≡ Phase.Refused LayoutFault.Memory → (b ≡ LINE_END) × LacksMemory self.old (judged self.old digits kinds b) }
+    {
+        if is_blank(b) || b == LINE_END {
+            self.end_last_number(digits);
+            if b == LINE_END {
+                self.end_line(alloc, kinds);
+            }
+        } else if kinds.has_digit && self.in_block() {
+            self.refuse(LayoutFault::MixedLine {
+                offset: digits.offset,
+            });
+        }
+    }
+
+    /// Judges a byte behind what was scanned.
+    #[inline(always)]
+    pub fn judge(&mut self, alloc: Global, digits: Digits, kinds: Kinds, b: u8)
+        requires can { self.old.phase ≡ Phase.Body → CanCount self.old }
+        requires count { self.old.size_line.count ≤ LONGEST_INPUT }
+        requires complete { self.old.complete < self.old.wanted }
+        requires line { self.old.line ≤ LONGEST_INPUT }
+        requires live { live_test self.old.phase ≡ true }
+        ensures judged { self.new.phase ≢ Phase.Refused LayoutFault.Memory → self.new ≡ judged self.old digits kinds b }
+        ensures memory { self.new.phase ≡ Phase.Refused LayoutFault.Memory → (b ≡ LINE_END) × LacksMemory self.old (judged self.old digits kinds b) }
+    {
+        if is_digit(b) {
+            if kinds.has_word && self.in_block() {
+                self.refuse(LayoutFault::MixedLine {
+                    offset: digits.offset,
+                });
+            }
+        } else {
+            self.judge_other(alloc, digits, kinds, b);
+        }
+    }
+
+    /// Judges a byte behind what was scanned, and answers whether a further one is wanted.
+    #[inline(always)]
+    fn take_byte(&mut self, alloc: Global, digits: Digits, kinds: Kinds, b: u8) -> bool
+        requires live { live_test self.old.phase ≡ true }
+        requires ready { IsReady (with_line self.old digits kinds) }
+        ensures judged { self.new.phase ≢ Phase.Refused LayoutFault.Memory → self.new ≡ judged self.old digits kinds b }
+        ensures memory { self.new.phase ≡ Phase.Refused LayoutFault.Memory → (b ≡ LINE_END) × LacksMemory self.old (judged self.old digits kinds b) }
+        ensures live { result ≡ live_test self.new.phase }
+    {
+        let is_quiet = is_digit(b) && !kinds.has_word;
+        if is_quiet {
+            // no digit is a fault on a line without a word byte
+            return true;
+        }
+        self.judge(alloc, digits, kinds, b);
+        self.is_live()
+    }
+
+    fn progress(&self, used: usize) -> Result<Progress, LayoutFault>
+        ensures { result ≡ progress_of self.now.phase used }
+    {
+        match self.phase {
+            Phase::Done => Ok(Progress { used, done: true }),
+            Phase::Refused(fault) => Err(fault),
+            Phase::Seeking | Phase::Body | Phase::AfterLast => Ok(Progress { used, done: false }),
+        }
+    }
+
+    /// Takes bytes that are all within the limit, up to the end of the wanted block or a refusal.
+    fn take(&mut self, alloc: Global, piece: &[u8]) -> usize
+        requires live { live_test self.old.phase ≡ true }
+        requires stands { (text : List ℕ) × StandsAfter self.old text }
+        requires room { self.old.digits.offset + length piece.now ≤ LONGEST_INPUT }
+        ensures within { result ≤ length piece.now }
+        ensures whole { live_test self.new.phase ≡ true → result ≡ length piece.now }
+        ensures moved { self.new.digits.offset ≡ self.old.digits.offset + result }
+        ensures meets { (text : List ℕ) → StandsAfter self.old text → TakeMeets self.old text piece.now result self.new }
+    {
+        let mut digits = self.digits;
+        let mut kinds = self.kinds;
+        let mut used = 0;
+        for b in piece {
+            let b = *b;
+            let is_live = self.take_byte(alloc, digits, kinds, b);
+            digits = digits.after(b);
+            kinds = kinds.after(b);
+            used += 1;
+            if !is_live {
+                break;
+            }
+        }
+        self.digits = digits;
+        self.kinds = kinds;
+        used
+    }
+
+    /// Takes a piece, up to the end of the wanted block or a refusal.
+    pub fn feed(&mut self, alloc: Global, piece: &[u8]) -> Result<Progress, LayoutFault>
+        requires { IsReader self.old }
+        ensures reader { IsReader self.new }
+        ensures idle { live_test self.old.phase ≡ false → (result ≡ progress_of self.old.phase 0) × (self.new ≡ self.old) }
+        ensures whole { IfOk result (λ progress. progress.done ≡ false → progress.used ≡ length piece.now) }
+        ensures moved { IfOk result (λ progress. self.new.digits.offset ≡ self.old.digits.offset + progress.used) }
+        ensures meets { (text : List ℕ) → StandsAfter self.old text → FeedMeets self.old text piece.now result self.new }
+    {
+        if !self.is_live() {
+            return self.progress(0);
+        }
+        let room = LONGEST_INPUT - self.digits.offset;
+        if piece.len() <= room {
+            let used = self.take(alloc, piece);
+            return self.progress(used);
+        }
+        let used = self.take(alloc, &piece[..room]);
+        if self.is_live() {
+            self.refuse(LayoutFault::TooLong);
+            return Err(LayoutFault::TooLong);
+        }
+        self.progress(used)
+    }
+
+    /// Judges the last number of an input that ends here, and answers the fault of the end, if the wanted
+    /// block isn't complete.
+    pub fn judge_end(&mut self) -> Option<LayoutFault>
+        requires { IsReader self.old }
+        ensures fault { result ≡ end_fault self.old.kinds (at_end self.old) }
+        ensures fields { self.new ≡ at_end self.old }
+    {
+        let kinds = self.kinds;
+        if !self.is_live() {
+            return self.end_fault(kinds);
+        }
+        let digits = self.digits;
+        self.end_last_number(digits);
+        self.end_fault(kinds)
+    }
+
+    /// The fault of an input that ends here.
+    fn end_fault(&self, kinds: Kinds) -> Option<LayoutFault>
+        requires { live_test self.now.phase ≡ true → self.now.complete < self.now.wanted }
+        ensures { result ≡ end_fault kinds self.now }
+    {
+        match self.phase {
+            Phase::Seeking => Some(self.sought_fault(kinds)),
+            Phase::Body => Some(LayoutFault::Truncated {
+                have: self.body.times(self.layout),
+            }),
+            Phase::AfterLast => {
+                let wanted = self.wanted;
+                let complete = self.complete + 1;
+                if complete == wanted {
+                    None
+                } else {
+                    Some(LayoutFault::NoBlock { found: complete })
+                }
+            }
+            Phase::Done => None,
+            Phase::Refused(fault) => Some(fault),
+        }
+    }
+
+    /// The fault of an input that ends while a block is sought. A size line without a fault begins a
+    /// block, of which no time was read.
+    fn sought_fault(&self, kinds: Kinds) -> LayoutFault
+        ensures { Some result ≡ end_fault_in Phase.Seeking kinds self.now }
+    {
+        if kinds.is_number_line() {
+            match self.size_line.stated(self.layout, self.line) {
+                Ok(_) => LayoutFault::Truncated { have: 0 },
+                Err(fault) => fault,
+            }
+        } else {
+            LayoutFault::NoBlock {
+                found: self.complete,
+            }
+        }
+    }
+}

@@ -1,0 +1,129 @@
+//! The push reader of instance files.
+ghost use Rattle.std.specs.Prelude.{◌≡◌, ℕ, ◌+◌, ◌≤◌, List, [], length, true, false, IfOk};
+ghost use Rattle.pfs_layout.specs.Step.{is_live as live_test};
+ghost use Rattle.pfs_layout.specs.Reader.{StandsAfter, FeedMeets, FinishMeets, progress_of};
+
+use crate::body::Body;
+use crate::fields::{Fields, Phase, Progress};
+use crate::scan::{Digits, Kinds};
+use crate::size_line::SizeLine;
+use crate::{Layout, LayoutFault};
+use pfs_base::{Instance, MOST_BLOCKS, Source};
+use std::alloc::Global;
+use std::marker::Model;
+
+/// Reads one block of an instance file, which is handed to it in pieces cut anywhere. It keeps the
+/// block's instance, and beside it a fixed number of fields.
+#[derive(Drop)]
+pub struct BlockReader {
+    alloc: Global,
+    fields: Fields,
+}
+
+impl Model for BlockReader {
+    ghost use Rattle.pfs_layout.specs.declared.fields.Fields.{Fields};
+    ghost use Rattle.pfs_layout.specs.Reader.{IsReader};
+
+    ghost Value = { Fields };
+
+    ghost view = { λ r. r.fields };
+
+    ghost invariant = { λ r. IsReader r.fields };
+}
+
+impl BlockReader {
+    /// A reader of the block of this number, counted from 1. It asks for memory at the end of this
+    /// block's size line, and nowhere else.
+    pub fn new(alloc: Global, layout: Layout, block: usize) -> BlockReader
+        requires some { 1 ≤ block }
+        requires few { block ≤ MOST_BLOCKS }
+        ensures stands { StandsAfter result [] }
+        ensures layout { result.layout ≡ layout }
+        ensures wanted { result.wanted ≡ block }
+        ensures offset { result.digits.offset ≡ 0 }
+    {
+        BlockReader {
+            alloc,
+            fields: Fields {
+                layout,
+                wanted: block,
+                complete: 0,
+                line: 1,
+                phase: Phase::Seeking,
+                digits: Digits {
+                    offset: 0,
+                    first: 0,
+                    value: 0,
+                },
+                kinds: Kinds {
+                    has_digit: false,
+                    has_word: false,
+                },
+                size_line: SizeLine::new(),
+                body: Body::new(layout, 1, 1),
+                instance: None,
+                held: 0,
+            },
+        }
+    }
+
+    /// How many times are stored: those of the wanted block that were read.
+    pub fn held(&self) -> usize
+        ensures { result ≡ self.now.held }
+    {
+        self.fields.held
+    }
+
+    /// Takes a piece of the input, up to the end of the wanted block. Behind this end it takes nothing
+    /// more. After a refusal it answers the same refusal again.
+    pub fn feed(&mut self, piece: &[u8]) -> Result<Progress, LayoutFault>
+        ensures idle { live_test self.old.phase ≡ false → (result ≡ progress_of self.old.phase 0) × (self.new ≡ self.old) }
+        ensures whole { IfOk result (λ progress. progress.done ≡ false → progress.used ≡ length piece.now) }
+        ensures moved { IfOk result (λ progress. self.new.digits.offset ≡ self.old.digits.offset + progress.used) }
+        ensures meets { (text : List ℕ) → StandsAfter self.old text → FeedMeets self.old text piece.now result self.new }
+    {
+        self.fields.feed(self.alloc, piece)
+    }
+
+    /// The instance, if the input may end here. The end of the input ends the last number and the
+    /// last line.
+    pub fn finish(self) -> Result<Instance, LayoutFault>
+        ensures refused { (fault : LayoutFault) → self.phase ≡ Phase.Refused fault → result ≡ Err fault }
+        ensures meets { (text : List ℕ) → StandsAfter self text → FinishMeets self text result }
+    {
+        let mut fields = self.fields;
+        match fields.judge_end() {
+            Some(fault) => Err(fault),
+            None => {
+                let found = fields.complete;
+                fields.instance.ok_or(LayoutFault::NoBlock { found })
+            }
+        }
+    }
+}
+
+/// The greatest piece that is read at once.
+const PIECE: usize = 4096;
+
+/// Reads one block of an instance file, counted from 1, up to its end.
+pub fn read_block<R: Source>(
+    alloc: Global,
+    reader: &mut R,
+    layout: Layout,
+    block: usize,
+) -> Result<Instance, LayoutFault> {
+    let mut block = BlockReader::new(alloc, layout, block);
+    let mut buf = [0; PIECE];
+    loop {
+        let Some(n) = reader.read(&mut buf) else {
+            return Err(LayoutFault::Read);
+        };
+        if n == 0 {
+            return block.finish();
+        }
+        let progress = block.feed(&buf[..n])?;
+        if progress.done {
+            return block.finish();
+        }
+    }
+}

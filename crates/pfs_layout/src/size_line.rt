@@ -1,0 +1,110 @@
+//! A line that may be a size line.
+ghost use Rattle.std.specs.Prelude.{◌≡◌, ◌≤◌, true, Some, IfOk, IfErr, IsTrue};
+ghost use Rattle.pfs_layout.specs.Size.{is_within_limits};
+ghost use Rattle.pfs_layout.specs.Refuse.{size_fault};
+ghost use Rattle.pfs_layout.specs.Step.{no_numbers, with_number, stated_by, size_given};
+
+use crate::scan::CEILING;
+use crate::{Layout, LayoutFault};
+use pfs_base::{LONGEST_INPUT, MOST_JOBS, MOST_MACHINES, Notes};
+
+/// The numbers so far of a line that may be a size line.
+#[derive(Clone, Copy)]
+pub struct SizeLine {
+    /// How many there are.
+    pub count: usize,
+    /// The first five, each at most the ceiling. Those that aren't there yet may be any.
+    pub values: [u64; 5],
+}
+
+/// What a size line states.
+#[derive(Clone, Copy)]
+pub struct Stated {
+    pub jobs: usize,
+    pub machines: usize,
+    pub notes: Notes,
+}
+
+impl SizeLine {
+    /// No number yet.
+    pub fn new() -> SizeLine
+        ensures { result ≡ no_numbers }
+    {
+        SizeLine {
+            count: 0,
+            values: [0; 5],
+        }
+    }
+
+    /// One number more.
+    pub fn with(self, value: u64) -> SizeLine
+        requires { self.count ≤ LONGEST_INPUT }
+        ensures { result ≡ with_number self value }
+    {
+        let mut values = self.values;
+        if self.count < 5 {
+            values[self.count] = value;
+        }
+        SizeLine {
+            count: self.count + 1,
+            values,
+        }
+    }
+
+    /// What the whole line states: the count of its numbers is judged before their ranges.
+    pub fn stated(self, layout: Layout, line: usize) -> Result<Stated, LayoutFault>
+        ensures stated { IfOk result (λ stated. stated_by layout self ≡ Some (size_given stated)) }
+        ensures within { IfOk result (λ stated. is_within_limits (size_given stated) ≡ true) }
+        ensures fault { IfErr result (λ fault. size_fault (stated_by layout self) line ≡ Some fault) }
+    {
+        match layout {
+            Layout::Taillard => {
+                if self.count != 5 {
+                    return Err(LayoutFault::SizeCount { line });
+                }
+                let [jobs, machines, seed, upper, lower] = self.values;
+                in_range(jobs, machines, seed, upper, lower, line)
+            }
+            Layout::OrLib => {
+                if self.count != 2 {
+                    return Err(LayoutFault::SizeCount { line });
+                }
+                in_range(self.values[0], self.values[1], 0, 0, 0, line)
+            }
+        }
+    }
+}
+
+fn in_range(
+    jobs: u64,
+    machines: u64,
+    seed: u64,
+    upper: u64,
+    lower: u64,
+    line: usize,
+) -> Result<Stated, LayoutFault>
+    ensures stated { IfOk result (λ stated. size_given stated ≡ record { jobs = jobs; machines = machines; notes = record { seed = seed; upper = upper; lower = lower } }) }
+    ensures within { IfOk result (λ stated. is_within_limits (size_given stated) ≡ true) }
+    ensures fault { IfErr result (λ fault. size_fault (Some (record { jobs = jobs; machines = machines; notes = record { seed = seed; upper = upper; lower = lower } })) line ≡ Some fault) }
+{
+    let fits = 1 <= jobs
+        && jobs <= MOST_JOBS as u64
+        && 1 <= machines
+        && machines <= MOST_MACHINES as u64
+        && seed < CEILING
+        && upper < CEILING
+        && lower < CEILING;
+    if fits {
+        Ok(Stated {
+            jobs: jobs as usize,
+            machines: machines as usize,
+            notes: Notes {
+                seed: seed as u32,
+                upper: upper as u32,
+                lower: lower as u32,
+            },
+        })
+    } else {
+        Err(LayoutFault::SizeRange { line })
+    }
+}
