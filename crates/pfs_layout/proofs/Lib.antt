@@ -4,6 +4,7 @@ pub mod CanonicalFile
 pub mod CanonicalLemmas
 mod Computing
 pub mod CutLemmas
+mod CuttingLemmas
 pub mod DueLemmas
 pub mod EndLemmas
 pub mod EndSteps

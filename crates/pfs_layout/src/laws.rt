@@ -1,7 +1,13 @@
-//! Laws about the definitions alone.
+//! Laws about the definitions, and one about readers.
+ghost use Rattle.std.specs.Prelude.{◌≡◌, ℕ, List};
+ghost use Rattle.pfs_layout.specs.Reader.{StandsAfter};
 ghost use Rattle.pfs_layout.specs.CanonicalText.{CanonicalLaw};
 ghost use Rattle.pfs_layout.specs.Generator.{SeedsStay, GeneratedWithin};
 ghost use Rattle.pfs_layout.specs.Laws.{FileStands, SomeFile, OneVerdict, OneFault, RefusalLaw, AcceptedLaw, FaultStays, ByteFaultLaw, FreeBehind, WiderLimits, DueAndBack, DueFronts};
+
+use crate::LayoutFault;
+use crate::reader::BlockReader;
+use pfs_base::Instance;
 
 /// An input holds a problem's file exactly where the lines of a front of it lead to the wanted number of
 /// complete blocks, the last of which is the problem's.
@@ -78,3 +84,15 @@ pub fn seeds_stay()
 pub fn generated_within()
     ensures { GeneratedWithin }
 {}
+
+/// Two readers of one block and layout that stand after the same bytes give equal answers, however the
+/// bytes were cut for each.
+pub fn cutting(
+    one: BlockReader,
+    other: BlockReader,
+) -> (Result<Instance, LayoutFault>, Result<Instance, LayoutFault>)
+    ensures { (text : List ℕ) → one.layout ≡ other.layout → one.wanted ≡ other.wanted
+        → StandsAfter one text → StandsAfter other text → result.0 ≡ result.1 }
+{
+    (one.finish(), other.finish())
+}

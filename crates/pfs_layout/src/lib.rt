@@ -10,13 +10,12 @@ pub mod generator;
 pub mod laws;
 pub mod layout;
 pub mod reader;
+#[cfg(test)]
+mod reader_rows;
 pub mod reader_stub;
 pub mod scan;
 pub mod size_line;
 pub mod writing;
-
-#[cfg(test)]
-mod reader_rows;
 
 pub use fault::LayoutFault;
 pub use fields::Progress;
