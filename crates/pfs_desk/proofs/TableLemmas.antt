@@ -1,5 +1,5 @@
 -- The lines of a time table, part by part.
-use Rattle.std.proofs.Common.{◌≡◌, ℕ, zero, suc, ◌+◌, ◌<◌, Bool, List, [], ◌∷◌, ◌++◌, Option, length, decimal, codes, get_or, refl, sym, ◌∙◌, ap, subst, append_assoc, append-nil, add-one}
+use Rattle.std.proofs.Common.{◌≡◌, ℕ, ◌+◌, ◌<◌, Bool, List, [], ◌∷◌, ◌++◌, Option, length, decimal, codes, get_or, refl, sym, ◌∙◌, ap, subst, append_assoc, append-nil, add-one}
 use Rattle.std.specs.List.{flat_map}
 use Rattle.pfs_base.specs.Lists.{below}
 use Rattle.pfs_base.specs.Sends.{SendsAll, SendsFront}

@@ -1,6 +1,5 @@
 -- The line that tells a fault, and the program's exit status for it.
 use Rattle.std.specs.Prelude.{ℕ, List, codes}
-use Rattle.pfs_base.specs.declared.device.WriteFault.{WriteFault}
 use Rattle.pfs_base.specs.Text.{with_line_end, named_number, number_between}
 use Rattle.pfs_layout.specs.declared.fault.LayoutFault.{LayoutFault}
 use Rattle.pfs_layout.specs.declared.fault.LayoutFault.TheVariants as layout

@@ -1,4 +1,4 @@
-use Rattle.std.proofs.Common.{◌≡◌, List, ℕ, length, ap, ◌∙◌, sym, subst, arith, rules}
+use Rattle.std.proofs.Common.{◌≡◌, List, ℕ, length, ap, ◌∙◌, sym, subst, rules}
 use Rattle.pfs_desk.specs.declared.fault.Outcome.TheVariants.{Done, CheckFailed}
 use Rattle.pfs_desk.specs.Engine.{WritesFront, TableOutput}
 use Rattle.pfs_desk.specs.OutputText.{wrong_size_text, table_text, TablePrints}
