@@ -43,7 +43,7 @@ impl BlockReader {
         ensures stands { StandsAfter result [] }
         ensures layout { result.layout ≡ layout }
         ensures wanted { result.wanted ≡ block }
-        ensures offset { result.digits.offset ≡ 0 }
+        ensures live { live_test result.phase ≡ true }
     {
         BlockReader {
             alloc,
@@ -131,7 +131,10 @@ pub fn read_block<R: Source>(
         if n == 0 {
             return taker.finish();
         }
-        let progress = taker.feed(&buf[..n])?;
+        let progress = match taker.feed(&buf[..n]) {
+            Ok(progress) => progress,
+            Err(fault) => return Err(fault),
+        };
         if progress.done {
             return taker.finish();
         }
