@@ -98,9 +98,11 @@ reading_done layout k first left next r new piece progress outcome t c m ended m
     let follows : Follows new front = subst (λ p. StandsIn p new front) phase m.ok.1 in
     let found = finish_done new front follows phase in
     let file : File limits new.layout (front ++ (drop progress.used piece ++ more.0)) new.wanted found.0 =
-        (free_behind new.layout front (drop progress.used piece ++ more.0) new.wanted found.0 follows.some follows.sound (done_enough new front follows phase)).0 found.1 in
+    (free_behind new.layout front (drop progress.used piece ++ more.0) new.wanted found.0 follows.some follows.sound (done_enough new front follows phase)).0 found.1 in
     let whole : front ++ (drop progress.used piece ++ more.0) ≡ text =
-        sym (append_assoc front (drop progress.used piece) more.0) ∙ ap (λ xs. xs ++ more.0) (append_assoc t.front (take progress.used piece) (drop progress.used piece) ∙ ap (λ xs. t.front ++ xs) (take-append-drop progress.used piece))
-        ∙ append_assoc t.front piece more.0 ∙ ap (λ xs. t.front ++ xs) (sym more.2) ∙ sym rest.2 in
-    (found.0, ((meets front m.ok.1).file found.0).1 found.1,
-    subst (λ l. File limits l text k found.0) (m.layout ∙ t.layout_is) (subst (λ n. File limits new.layout text n found.0) (m.wanted ∙ t.wanted_is) (subst (λ xs. File limits new.layout xs new.wanted found.0) whole file)))
+    sym (append_assoc front (drop progress.used piece) more.0) ∙ ap (λ xs. xs ++ more.0) (append_assoc t.front (take progress.used piece) (drop progress.used piece) ∙ ap (λ xs. t.front ++ xs) (take-append-drop progress.used piece))
+    ∙ append_assoc t.front piece more.0 ∙ ap (λ xs. t.front ++ xs) (sym more.2) ∙ sym rest.2 in (
+      found.0,
+      ((meets front m.ok.1).file found.0).1 found.1,
+      subst (λ l. File limits l text k found.0) (m.layout ∙ t.layout_is) (subst (λ n. File limits new.layout text n found.0) (m.wanted ∙ t.wanted_is) (subst (λ xs. File limits new.layout xs new.wanted found.0) whole file)),
+    )
