@@ -158,6 +158,8 @@ feed_of old text piece used new m within whole = by_phase new.phase refl
         let right : byte_fault old.layout old.wanted (text ++ piece) ≡ None = same_place old new (text ++ piece) (m.layout no_memory) (m.wanted no_memory) ∙ ap (λ z. byte_fault new.layout new.wanted (text ++ z)) (sym taken) ∙ follows.sound in
         record {
           ok = (within, m.stands no_memory);
+          layout = m.layout no_memory;
+          wanted = m.wanted no_memory;
           whole = λ h. all;
           done = (λ h. absurd (cc), λ h. absurd (not_done p live (sym e ∙ h)));
           no_more = m.no_more;
@@ -181,6 +183,8 @@ feed_of old text piece used new m within whole = by_phase new.phase refl
         let right : byte_fault old.layout old.wanted (text ++ piece) ≡ None = same_place old new (text ++ piece) (m.layout no_memory) (m.wanted no_memory) ∙ ap (byte_fault new.layout new.wanted) (whole_text text piece used) ∙ fine in
         record {
           ok = (within, m.stands no_memory);
+          layout = m.layout no_memory;
+          wanted = m.wanted no_memory;
           whole = λ h. absurd (cc);
           done = (λ h. e, λ h. refl);
           no_more = m.no_more;
@@ -198,6 +202,8 @@ feed_of old text piece used new m within whole = by_phase new.phase refl
         (refused_more new (text ++ take used piece) (drop used piece) fault (subst (λ p. StandsIn p new (text ++ take used piece)) e (m.stands (λ z. h (same_refusal (sym e ∙ z)))))) in
         record {
           ok = tt;
+          layout = tt;
+          wanted = tt;
           whole = tt;
           done = tt;
           no_more = tt;
@@ -290,6 +296,8 @@ long_meets old text piece room mid m was s full within live =
     let is : byte_fault old.layout old.wanted (text ++ piece) ≡ Some TooLong = same_place old mid (text ++ piece) (m.layout no_memory) (m.wanted no_memory) ∙ refused_fault (refused mid TooLong) (text ++ piece) TooLong stood in
     record {
       ok = tt;
+      layout = tt;
+      wanted = tt;
       whole = tt;
       done = tt;
       no_more = tt;

@@ -24,6 +24,7 @@ pub mod NumberLemmas
 pub mod NumberSteps
 pub mod OutcomeLemmas
 pub mod PlaceLemmas
+pub mod ReadLemmas
 pub mod ReaderLemmas
 pub mod RoundLemmas
 pub mod ScanLemmas

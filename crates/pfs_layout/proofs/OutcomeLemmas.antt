@@ -238,3 +238,11 @@ finish_tells r text s = by_phase r.phase refl s
 
         meets_as : (other : LayoutFault) → fault ≡ other → FinishMeets r text (Err fault) → FinishMeets r text (Err other)
         meets_as other z m = subst (λ g. FinishMeets r text (Err g)) z m
+
+-- a reader that is done has a file
+pub finish_done : (r : Fields) (text : List ℕ) → Follows r text → r.phase ≡ phases.Done → (problem : Problem) × File limits r.layout text r.wanted problem
+finish_done r text f e =
+    let here : at_end r ≡ r = ap (λ p. if is_live p then last_number_ended r r.digits else r) e in
+    let told : end_fault r.kinds (at_end r) ≡ None = ap (end_fault r.kinds) here ∙ ap (λ p. end_fault_in p r.kinds r) e in
+    let found = outcome_none r text f (done_end r text f e) told in
+    (found.0, (found.2.file found.0).0 refl)

@@ -25,6 +25,7 @@ use Rattle.pfs_layout.specs.Size.{Size, is_within_limits}
 use Rattle.pfs_layout.specs.Block.{due_count}
 use Rattle.pfs_layout.specs.Stand.{Block, Now, seeking, inside, lost, Stand, stand, times_among, instance_of}
 use Rattle.pfs_layout.specs.File.{File}
+use Rattle.pfs_layout.specs.Step.{is_live}
 use Rattle.pfs_layout.specs.Refuse.{Refuse, fault_behind, byte_fault}
 
 -- ---- the wanted block, as far as it was read
@@ -161,6 +162,8 @@ progress_of (phases.Refused fault) used = Err fault
 -- what feed owes a reader that stands after this text
 pub record FeedMeets (old : Fields) (text piece : List ℕ) (outcome : Result Progress LayoutFault) (new : Fields) : Type 0 where
   pub ok : IfOk outcome (λ progress. (progress.used ≤ length piece) × StandsAfter new (text ++ take progress.used piece))
+  pub layout : IfOk outcome (λ _. new.layout ≡ old.layout)
+  pub wanted : IfOk outcome (λ _. new.wanted ≡ old.wanted)
   -- it has used the whole piece, or the wanted block has ended with the last byte that it used
   pub whole : IfOk outcome (λ progress. IsFalse progress.done → progress.used ≡ length piece)
   pub done : IfOk outcome (λ progress. IsTrue progress.done ↔ (new.phase ≡ phases.Done))
@@ -174,3 +177,12 @@ pub record FeedMeets (old : Fields) (text piece : List ℕ) (outcome : Result Pr
 pub record FinishMeets (old : Fields) (text : List ℕ) (outcome : Result Problem LayoutFault) : Type 0 where
   pub file : (problem : Problem) → (outcome ≡ Ok problem) ↔ File limits old.layout text old.wanted problem
   pub refused : (fault : LayoutFault) → (outcome ≡ Err fault) ↔ Refuse old.layout text old.wanted fault
+
+-- a reader of the block that has read a front of what its source had left at first, where that is told
+pub record Reading (layout : Layout) (k : ℕ) (first left : Option (List ℕ)) (r : Fields) : Type 0 where
+  pub layout_is : r.layout ≡ layout
+  pub wanted_is : r.wanted ≡ k
+  pub live : is_live r.phase ≡ true
+  pub front : List ℕ
+  pub stands : StandsAfter r front
+  pub told : (text : List ℕ) → first ≡ Some text → (rest : List ℕ) × (left ≡ Some rest) × (text ≡ front ++ rest)

@@ -1,5 +1,8 @@
 //! The push reader of instance files.
-ghost use Rattle.std.specs.Prelude.{◌≡◌, ℕ, ◌+◌, ◌≤◌, List, [], length, true, false, IfOk};
+ghost use Rattle.std.specs.Prelude.{◌≡◌, ◌≢◌, ℕ, Some, IfErr, ◌+◌, ◌≤◌, List, [], length, true, false, IfOk};
+ghost use Rattle.pfs_base.specs.Limits.{limits};
+ghost use Rattle.pfs_layout.specs.File.{File};
+ghost use Rattle.pfs_layout.specs.Refuse.{Refuse};
 ghost use Rattle.pfs_layout.specs.Step.{is_live as live_test};
 ghost use Rattle.pfs_layout.specs.Reader.{StandsAfter, FeedMeets, FinishMeets, progress_of};
 
@@ -40,7 +43,7 @@ impl BlockReader {
         ensures stands { StandsAfter result [] }
         ensures layout { result.layout ≡ layout }
         ensures wanted { result.wanted ≡ block }
-        ensures offset { result.digits.offset ≡ 0 }
+        ensures live { live_test result.phase ≡ true }
     {
         BlockReader {
             alloc,
@@ -111,19 +114,29 @@ pub fn read_block<R: Source>(
     reader: &mut R,
     layout: Layout,
     block: usize,
-) -> Result<Instance, LayoutFault> {
-    let mut block = BlockReader::new(alloc, layout, block);
+) -> Result<Instance, LayoutFault>
+    requires some { 1 ≤ block }
+    requires few { block ≤ MOST_BLOCKS }
+    requires working { R.has_failed reader.old ≡ false }
+    ensures file { (text : List ℕ) → R.left reader.old ≡ Some text → IfOk result (λ problem. File limits layout text block problem) }
+    ensures refused { (text : List ℕ) → R.left reader.old ≡ Some text → IfErr result (λ fault. fault ≢ LayoutFault.Read → fault ≢ LayoutFault.Memory → Refuse layout text block fault) }
+    ensures working { result ≢ Err LayoutFault.Read → R.has_failed reader.new ≡ false }
+{
+    let mut taker = BlockReader::new(alloc, layout, block);
     let mut buf = [0; PIECE];
-    loop {
+    'pieces: loop {
         let Some(n) = reader.read(&mut buf) else {
             return Err(LayoutFault::Read);
         };
         if n == 0 {
-            return block.finish();
+            return taker.finish();
         }
-        let progress = block.feed(&buf[..n])?;
+        let progress = match taker.feed(&buf[..n]) {
+            Ok(progress) => progress,
+            Err(fault) => return Err(fault),
+        };
         if progress.done {
-            return block.finish();
+            return taker.finish();
         }
     }
 }

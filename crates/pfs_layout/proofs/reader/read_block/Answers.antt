@@ -1,0 +1,54 @@
+-- Each piece takes the reader on, a fault of a piece is one of the whole input, and so is the wanted block.
+use Rattle.std.proofs.Common.{◌≡◌, ℕ, ◌+◌, ◌-◌, ◌<◌, ◌≤◌, length, take, sym, ◌∙◌, ap, subst, arith, true, Some}
+use Rattle.std.proofs.lemmas.List.{length-take-le}
+use Rattle.pfs_base.specs.declared.limits.TheConstants.{LONGEST_INPUT}
+use Rattle.std.specs.Prelude.{Ok, Err, IfOk, IfErr}
+use Rattle.pfs_layout.proofs.ReadLemmas.{reading_start, reading_more, reading_short, reading_fault, reading_done}
+use Rattle.pfs_layout.proofs.reader.read_block.Goals as goal
+
+pub pieces-init : goal.pieces-init
+pieces-init g c = record {
+  working = c.requires.working;
+  reading = reading_start _ _ _ c.new-taker.result c.new-taker.ensures.layout c.new-taker.ensures.wanted c.new-taker.ensures.live c.new-taker.ensures.stands;
+}
+
+pub pieces-preserved : goal.pieces-preserved
+pieces-preserved g c =
+    let t = c.pieces.invariant.reading in
+    record {
+      working = c.in-Some.ensures.failed ∙ c.pieces.invariant.working;
+      reading = reading_more _ _ _ _ _ c.pieces.taker c.feed.new.self (take c.in-Some.n c.read.new.buf) c.in-Ok.progress t
+          c.in-Some.ensures.bytes.1 (c.in-Ok.ensures.meets t.front t.stands) c.if-progress.false;
+    }
+
+pub returns-in-Err-clause-refused : goal.returns-in-Err-clause-refused
+returns-in-Err-clause-refused g c text e =
+    let t = c.pieces.invariant.reading in
+    λ read memory. reading_fault _ _ _ _ _ c.pieces.taker c.feed.new.self (take c.in-Some.n c.read.new.buf) c.in-Err.fault t
+    c.in-Some.ensures.bytes.1 (c.in-Err.ensures.meets t.front t.stands) memory text e
+
+pub returns-then-progress-clause-file : goal.returns-then-progress-clause-file
+returns-then-progress-clause-file g c text e =
+    let t = c.pieces.invariant.reading in
+    let found = reading_done _ _ _ _ _ c.pieces.taker c.feed.new.self (take c.in-Some.n c.read.new.buf) c.in-Ok.progress c.finish-then-progress.result t
+    c.in-Some.ensures.bytes.1 (c.in-Ok.ensures.meets t.front t.stands) c.if-progress.true c.finish-then-progress.ensures.meets text e in
+    rw found.1 found.2
+
+pub returns-then-progress-clause-refused : goal.returns-then-progress-clause-refused
+returns-then-progress-clause-refused g c text e =
+    let t = c.pieces.invariant.reading in
+    let found = reading_done _ _ _ _ _ c.pieces.taker c.feed.new.self (take c.in-Some.n c.read.new.buf) c.in-Ok.progress c.finish-then-progress.result t
+    c.in-Some.ensures.bytes.1 (c.in-Ok.ensures.meets t.front t.stands) c.if-progress.true c.finish-then-progress.ensures.meets text e in
+    rw found.1 tt
+
+further : (old new used : ℕ) → new ≡ old + used → 0 < used → new ≤ LONGEST_INPUT → LONGEST_INPUT - new < LONGEST_INPUT - old
+further old new used e some short = omega arith
+
+pub pieces-smaller : goal.pieces-smaller
+pieces-smaller g c =
+    let short = reading_short _ _ _ _ _ (pieces-preserved g c).reading in
+    let moved : c.feed.new.self.digits.offset ≡ c.pieces.taker.digits.offset + c.in-Ok.progress.used = c.in-Ok.ensures.moved in
+    let whole : c.in-Ok.progress.used ≡ length (take c.in-Some.n c.read.new.buf) = c.in-Ok.ensures.whole c.if-progress.false in
+    let size : length (take c.in-Some.n c.read.new.buf) ≡ c.in-Some.n = length-take-le c.in-Some.n c.read.new.buf c.in-Some.ensures.bytes.0 in
+    let some : 0 < c.in-Some.n = (let other = c.if-n-eq0.false in omega arith) in
+    further c.pieces.taker.digits.offset c.feed.new.self.digits.offset c.in-Ok.progress.used moved (omega arith) short

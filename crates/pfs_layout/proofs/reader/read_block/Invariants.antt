@@ -1,0 +1,14 @@
+-- Each piece takes the reader on, and a live reader has read no more than the limit.
+use Rattle.std.proofs.Common.{◌≡◌, ◌-◌, false}
+use Rattle.pfs_base.specs.declared.limits.TheConstants.{LONGEST_INPUT}
+use Rattle.pfs_layout.specs.Reader.{Reading}
+use Rattle.pfs_layout.proofs.reader.read_block.Given as goal
+
+abbrev pub invariant-pieces : goal.invariant-pieces
+invariant-pieces g l = record {
+  working : g.R.Source.has_failed l.reader ≡ false;
+  reading : Reading l.fn.layout l.fn.block (g.R.Source.left l.fn.reader) (g.R.Source.left l.reader) l.taker;
+}
+
+abbrev pub decreases-pieces : goal.decreases-pieces
+decreases-pieces g l = LONGEST_INPUT - l.taker.digits.offset
