@@ -25,6 +25,7 @@ pub mod NumberSteps
 pub mod OutcomeLemmas
 pub mod PlaceLemmas
 pub mod ReadLemmas
+pub mod ReadNames
 pub mod ReaderLemmas
 pub mod RoundLemmas
 pub mod ScanLemmas
@@ -35,6 +36,7 @@ pub mod StandLemmas
 pub mod StepLemmas
 pub mod TableLemmas
 pub mod TakeLemmas
+pub mod ToldLemmas
 pub mod VerdictLemmas
 mod WideLemmas
 pub mod WritingLemmas

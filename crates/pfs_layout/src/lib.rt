@@ -12,7 +12,6 @@ pub mod layout;
 pub mod reader;
 #[cfg(test)]
 mod reader_rows;
-pub mod reader_stub;
 pub mod scan;
 pub mod size_line;
 pub mod writing;
@@ -21,6 +20,5 @@ pub use fault::LayoutFault;
 pub use fields::Progress;
 pub use generator::generate;
 pub use layout::Layout;
-pub use reader::BlockReader;
-pub use reader_stub::read_block;
+pub use reader::{BlockReader, read_block};
 pub use writing::write_block;

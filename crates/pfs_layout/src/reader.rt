@@ -1,5 +1,5 @@
 //! The push reader of instance files.
-ghost use Rattle.std.specs.Prelude.{◌≡◌, ◌≢◌, ℕ, Some, IfErr, ◌+◌, ◌≤◌, List, [], length, true, false, IfOk};
+ghost use Rattle.std.specs.Prelude.{◌≡◌, ◌≢◌, ◌↔◌, ℕ, ◌+◌, ◌≤◌, List, [], length, true, false, IfOk, IfErr, IfSome};
 ghost use Rattle.pfs_base.specs.Limits.{limits};
 ghost use Rattle.pfs_layout.specs.File.{File};
 ghost use Rattle.pfs_layout.specs.Refuse.{Refuse};
@@ -118,9 +118,12 @@ pub fn read_block<R: Source>(
     requires some { 1 ≤ block }
     requires few { block ≤ MOST_BLOCKS }
     requires working { R.has_failed reader.old ≡ false }
-    ensures file { (text : List ℕ) → R.left reader.old ≡ Some text → IfOk result (λ problem. File limits layout text block problem) }
-    ensures refused { (text : List ℕ) → R.left reader.old ≡ Some text → IfErr result (λ fault. fault ≢ LayoutFault.Read → fault ≢ LayoutFault.Memory → Refuse layout text block fault) }
-    ensures working { result ≢ Err LayoutFault.Read → R.has_failed reader.new ≡ false }
+    ensures file { IfOk result (λ instance.
+        IfSome (R.left reader.old) (λ bytes. File limits layout bytes block instance)) }
+    ensures refused { IfErr result (λ fault. fault ≢ LayoutFault.Read → fault ≢ LayoutFault.Memory
+        → IfSome (R.left reader.old) (λ bytes. Refuse layout bytes block fault)) }
+    ensures read { result ≡ Err LayoutFault.Read ↔ (R.has_failed reader.new ≡ true) }
+    ensures no_seed { result ≢ Err LayoutFault.SeedRange }
 {
     let mut taker = BlockReader::new(alloc, layout, block);
     let mut buf = [0; PIECE];

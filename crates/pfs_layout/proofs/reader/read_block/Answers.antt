@@ -1,8 +1,12 @@
 -- Each piece takes the reader on, a fault of a piece is one of the whole input, and so is the wanted block.
-use Rattle.std.proofs.Common.{◌≡◌, ℕ, ◌+◌, ◌-◌, ◌<◌, ◌≤◌, length, take, sym, ◌∙◌, ap, subst, arith, true, Some}
+use Rattle.std.proofs.Common.{refl, ◌++◌, ◌≡◌, ℕ, ◌+◌, ◌-◌, ◌<◌, ◌≤◌, length, take, sym, ◌∙◌, ap, subst, arith, true, Some}
 use Rattle.std.proofs.lemmas.List.{length-take-le}
 use Rattle.pfs_base.specs.declared.limits.TheConstants.{LONGEST_INPUT}
 use Rattle.std.specs.Prelude.{Ok, Err, IfOk, IfErr}
+use Rattle.pfs_layout.specs.Refuse.{Refuse}
+use Rattle.pfs_layout.specs.declared.fault.LayoutFault.TheVariants.{Read, SeedRange}
+use Rattle.pfs_layout.proofs.ReadNames.{finish_named, feed_named, same_answer, never_failed}
+use Rattle.pfs_layout.proofs.ToldLemmas.{told, file_told, refused_told}
 use Rattle.pfs_layout.proofs.ReadLemmas.{reading_start, reading_more, reading_short, reading_fault, reading_done}
 use Rattle.pfs_layout.proofs.reader.read_block.Goals as goal
 
@@ -22,24 +26,27 @@ pieces-preserved g c =
     }
 
 pub returns-in-Err-clause-refused : goal.returns-in-Err-clause-refused
-returns-in-Err-clause-refused g c text e =
+returns-in-Err-clause-refused g c =
     let t = c.pieces.invariant.reading in
-    λ read memory. reading_fault _ _ _ _ _ c.pieces.taker c.feed.new.self (take c.in-Some.n c.read.new.buf) c.in-Err.fault t
-    c.in-Some.ensures.bytes.1 (c.in-Err.ensures.meets t.front t.stands) memory text e
+    λ read memory. told (λ bytes. Refuse c.args.layout bytes c.args.block c.in-Err.fault) (g.R.Source.left c.args.reader.now)
+        (λ text e. reading_fault _ _ _ _ _ c.pieces.taker c.feed.new.self (take c.in-Some.n c.read.new.buf) c.in-Err.fault t
+            c.in-Some.ensures.bytes.1 (c.in-Err.ensures.meets t.front t.stands) memory text e)
 
 pub returns-then-progress-clause-file : goal.returns-then-progress-clause-file
-returns-then-progress-clause-file g c text e =
+returns-then-progress-clause-file g c =
     let t = c.pieces.invariant.reading in
+    file_told c.args.layout c.args.block (g.R.Source.left c.args.reader.now) c.finish-then-progress.result (λ text e.
     let found = reading_done _ _ _ _ _ c.pieces.taker c.feed.new.self (take c.in-Some.n c.read.new.buf) c.in-Ok.progress c.finish-then-progress.result t
     c.in-Some.ensures.bytes.1 (c.in-Ok.ensures.meets t.front t.stands) c.if-progress.true c.finish-then-progress.ensures.meets text e in
-    rw found.1 found.2
+    rw found.1 found.2)
 
 pub returns-then-progress-clause-refused : goal.returns-then-progress-clause-refused
-returns-then-progress-clause-refused g c text e =
+returns-then-progress-clause-refused g c =
     let t = c.pieces.invariant.reading in
+    refused_told c.args.layout c.args.block (g.R.Source.left c.args.reader.now) c.finish-then-progress.result (λ text e.
     let found = reading_done _ _ _ _ _ c.pieces.taker c.feed.new.self (take c.in-Some.n c.read.new.buf) c.in-Ok.progress c.finish-then-progress.result t
     c.in-Some.ensures.bytes.1 (c.in-Ok.ensures.meets t.front t.stands) c.if-progress.true c.finish-then-progress.ensures.meets text e in
-    rw found.1 tt
+    rw found.1 tt)
 
 further : (old new used : ℕ) → new ≡ old + used → 0 < used → new ≤ LONGEST_INPUT → LONGEST_INPUT - new < LONGEST_INPUT - old
 further old new used e some short = omega arith
@@ -52,3 +59,36 @@ pieces-smaller g c =
     let size : length (take c.in-Some.n c.read.new.buf) ≡ c.in-Some.n = length-take-le c.in-Some.n c.read.new.buf c.in-Some.ensures.bytes.0 in
     let some : 0 < c.in-Some.n = (let other = c.if-n-eq0.false in omega arith) in
     further c.pieces.taker.digits.offset c.feed.new.self.digits.offset c.in-Ok.progress.used moved (omega arith) short
+
+pub returns-then-n-eq0-clause-read : goal.returns-then-n-eq0-clause-read
+returns-then-n-eq0-clause-read g c =
+    let t = c.pieces.invariant.reading in
+    never_failed _ _ (c.in-Some.ensures.failed ∙ c.pieces.invariant.working) (finish_named _ t.front _ Read (c.finish.ensures.meets t.front t.stands) refl)
+
+pub returns-then-n-eq0-clause-no_seed : goal.returns-then-n-eq0-clause-no_seed
+returns-then-n-eq0-clause-no_seed g c =
+    let t = c.pieces.invariant.reading in
+    finish_named _ t.front _ SeedRange (c.finish.ensures.meets t.front t.stands) refl
+
+pub returns-in-Err-clause-read : goal.returns-in-Err-clause-read
+returns-in-Err-clause-read g c =
+    let t = c.pieces.invariant.reading in
+    never_failed _ _ (c.in-Some.ensures.failed ∙ c.pieces.invariant.working)
+        (λ e. feed_named _ _ t.front _ c.in-Err.fault Read (c.in-Err.ensures.meets t.front t.stands) (λ z. cc) refl (same_answer e))
+
+pub returns-in-Err-clause-no_seed : goal.returns-in-Err-clause-no_seed
+returns-in-Err-clause-no_seed g c e =
+    let t = c.pieces.invariant.reading in
+    feed_named _ _ t.front _ c.in-Err.fault SeedRange (c.in-Err.ensures.meets t.front t.stands) (λ z. cc) refl (same_answer e)
+
+pub returns-then-progress-clause-read : goal.returns-then-progress-clause-read
+returns-then-progress-clause-read g c =
+    let t = c.pieces.invariant.reading in
+    let ok = (c.in-Ok.ensures.meets t.front t.stands).ok in
+    never_failed _ _ (c.in-Some.ensures.failed ∙ c.pieces.invariant.working) (finish_named _ _ _ Read (c.finish-then-progress.ensures.meets _ ok.1) refl)
+
+pub returns-then-progress-clause-no_seed : goal.returns-then-progress-clause-no_seed
+returns-then-progress-clause-no_seed g c =
+    let t = c.pieces.invariant.reading in
+    let ok = (c.in-Ok.ensures.meets t.front t.stands).ok in
+    finish_named _ _ _ SeedRange (c.finish-then-progress.ensures.meets _ ok.1) refl
