@@ -69,7 +69,9 @@ impl From<AuditFault> for Stop {
 impl From<DeskFault> for Stop {
     fn from(fault: DeskFault) -> Stop {
         match fault {
-            DeskFault::Memory | DeskFault::Order(OrderFault::Memory) => Stop::Memory,
+            DeskFault::Memory
+            | DeskFault::Layout(LayoutFault::Memory)
+            | DeskFault::Order(OrderFault::Memory) => Stop::Memory,
             _ => Stop::Other,
         }
     }

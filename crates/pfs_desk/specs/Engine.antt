@@ -33,6 +33,11 @@ abbrev pub JudgesFirst : Layout → Option (List ℕ) → ℕ → DeskFault → 
 JudgesFirst layout file block (faults.Layout fault) = RefusesFirst layout file block fault
 JudgesFirst layout file block others = ⊤
 
+-- no order file was asked for, and none is refused
+abbrev pub RefusesNoOrder : DeskFault → Type 0
+RefusesNoOrder (faults.Order fault) = ⊥
+RefusesNoOrder others = ⊤
+
 -- an order file states this order and this makespan
 abbrev pub States : Option (List ℕ) → StatedOrder → Type 0
 States file stated = IfSome file (λ bytes. IsOrderFile bytes stated)
