@@ -82,19 +82,19 @@ of_faults : (layout : Layout) (k : ℕ) (now : Now) (text : List ℕ) (next : Op
 unfolding wrong_number wrong_size
 of_faults layout k seeking text next =
     of_first (too_long text next) (wrong_size layout text next ∷ ends_early layout k text next ∷ []) (of_if (length text == LONGEST_INPUT && is_some next) TooLong refl)
-        (of_first (wrong_size layout text next) (ends_early layout k text next ∷ [])
-            (of_or_none (ends_line text next && is_number_line (open_line text)) (size_fault (stated_size layout (numbers (open_line text))) (1 + count_by is_line_end text))
-                (of_size (stated_size layout (numbers (open_line text))) (1 + count_by is_line_end text)))
-            (of_first (ends_early layout k text next) [] (of_early layout k text next) of_none))
+    (of_first (wrong_size layout text next) (ends_early layout k text next ∷ [])
+    (of_or_none (ends_line text next && is_number_line (open_line text)) (size_fault (stated_size layout (numbers (open_line text))) (1 + count_by is_line_end text))
+    (of_size (stated_size layout (numbers (open_line text))) (1 + count_by is_line_end text)))
+    (of_first (ends_early layout k text next) [] (of_early layout k text next) of_none))
 of_faults layout k (inside block) text next =
     let due : Due = due_at layout block.size (length block.numbers + length (ended_numbers (open_line text))) in
     let number : ℕ = digits_value 10 (last_digits text) in
     let offset : ℕ = length text - length (last_digits text) in
     of_first (too_long text next) (mixed_line text next ∷ wrong_number layout block text next ∷ ends_early layout k text next ∷ []) (of_if (length text == LONGEST_INPUT && is_some next) TooLong refl)
-        (of_first (mixed_line text next) (wrong_number layout block text next ∷ ends_early layout k text next ∷ []) (of_mixed text next)
-            (of_first (wrong_number layout block text next) (ends_early layout k text next ∷ [])
-                (of_or_none (ends_number text next) (misfit due number offset) (of_misfit due number offset))
-                (of_first (ends_early layout k text next) [] (of_early layout k text next) of_none)))
+    (of_first (mixed_line text next) (wrong_number layout block text next ∷ ends_early layout k text next ∷ []) (of_mixed text next)
+    (of_first (wrong_number layout block text next) (ends_early layout k text next ∷ [])
+    (of_or_none (ends_number text next) (misfit due number offset) (of_misfit due number offset))
+    (of_first (ends_early layout k text next) [] (of_early layout k text next) of_none)))
 of_faults layout k lost text next = of_none
 
 pub of_place : (layout : Layout) (k : ℕ) (text : List ℕ) (next : Option ℕ) → OfInput (fault_behind layout k text next)

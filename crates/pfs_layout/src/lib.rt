@@ -10,8 +10,6 @@ pub mod generator;
 pub mod laws;
 pub mod layout;
 pub mod reader;
-#[cfg(test)]
-mod reader_rows;
 pub mod scan;
 pub mod size_line;
 pub mod writing;

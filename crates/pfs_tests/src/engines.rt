@@ -239,6 +239,8 @@ fn the_instance_file_is_judged_before_the_order_file(rt: HostRuntime) {
     );
     assert_eq!(rt; result.as_ref().err().map(status), Some(4));
     assert!(rt; result != Err(DeskFault::Order(OrderFault::Read)));
+    assert_eq!(rt; writer.bytes(), b"".as_slice());
+    let mut writer = Taken::new(256, 256);
     let mut reader = Pieces::whole(THREE_JOBS);
     let mut orders = Pieces::new(GOOD_ORDER, 26, Some(2));
     let result = run_check(

@@ -61,6 +61,50 @@ impl Source for Pieces<'_> {
     }
 }
 
+/// A source that gives one byte again and again, so many times, and then ends or fails.
+#[derive(Drop)]
+pub struct Endless {
+    byte: u8,
+    left: usize,
+    fails: bool,
+    failed: bool,
+}
+
+impl Endless {
+    /// A source of `left` times this byte, that then fails, or ends.
+    pub fn new(byte: u8, left: usize, fails: bool) -> Endless
+        ensures { ⟦<Endless as Source>⟧.has_failed result ≡ false }
+    {
+        Endless {
+            byte,
+            left,
+            fails,
+            failed: false,
+        }
+    }
+}
+
+impl Source for Endless {
+    ghost left = { λ _. None };
+
+    ghost has_failed = { λ s. s.failed };
+
+    fn read(&mut self, buf: &mut [u8]) -> Option<usize> {
+        if self.left == 0 && self.fails {
+            self.failed = true;
+            return None;
+        }
+        let count = buf.len().min(self.left);
+        buf[..count].fill(self.byte);
+        self.left -= count;
+        Some(count)
+    }
+
+    fn failed(&self) -> bool {
+        self.failed
+    }
+}
+
 /// A sink that keeps what it takes, at most so many bytes a call, and fails once its room is full.
 #[derive(Drop)]
 pub struct Taken {

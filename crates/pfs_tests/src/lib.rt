@@ -8,4 +8,6 @@ mod base;
 mod engines;
 pub mod fakes;
 #[cfg(test)]
+mod reader;
+#[cfg(test)]
 mod writers;

@@ -29,8 +29,8 @@ pub returns-in-Err-clause-refused : goal.returns-in-Err-clause-refused
 returns-in-Err-clause-refused g c =
     let t = c.pieces.invariant.reading in
     λ read memory. told (λ bytes. Refuse c.args.layout bytes c.args.block c.in-Err.fault) (g.R.Source.left c.args.reader.now)
-        (λ text e. reading_fault _ _ _ _ _ c.pieces.taker c.feed.new.self (take c.in-Some.n c.read.new.buf) c.in-Err.fault t
-            c.in-Some.ensures.bytes.1 (c.in-Err.ensures.meets t.front t.stands) memory text e)
+    (λ text e. reading_fault _ _ _ _ _ c.pieces.taker c.feed.new.self (take c.in-Some.n c.read.new.buf) c.in-Err.fault t
+    c.in-Some.ensures.bytes.1 (c.in-Err.ensures.meets t.front t.stands) memory text e)
 
 pub returns-then-progress-clause-file : goal.returns-then-progress-clause-file
 returns-then-progress-clause-file g c =
@@ -74,7 +74,7 @@ pub returns-in-Err-clause-read : goal.returns-in-Err-clause-read
 returns-in-Err-clause-read g c =
     let t = c.pieces.invariant.reading in
     never_failed _ _ (c.in-Some.ensures.failed ∙ c.pieces.invariant.working)
-        (λ e. feed_named _ _ t.front _ c.in-Err.fault Read (c.in-Err.ensures.meets t.front t.stands) (λ z. cc) refl (same_answer e))
+    (λ e. feed_named _ _ t.front _ c.in-Err.fault Read (c.in-Err.ensures.meets t.front t.stands) (λ z. cc) refl (same_answer e))
 
 pub returns-in-Err-clause-no_seed : goal.returns-in-Err-clause-no_seed
 returns-in-Err-clause-no_seed g c e =
