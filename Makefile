@@ -1,5 +1,6 @@
 # make run    proves and builds pfs, and runs it on the stored instance (crates/pfs/stdin)
-# make test   the merge gate: proves everything from nothing, tries the must-fail edits, runs the tests and pfs
+# make test   the merge gate: proves everything from nothing, tries the must-fail edits, runs the tests and
+#             programs; then runs the built programs with each growth of memory refused in turn
 .PHONY: run test
 
 run:
@@ -7,3 +8,4 @@ run:
 
 test:
 	rt ci
+	tests/run
