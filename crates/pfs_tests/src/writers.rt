@@ -1,5 +1,6 @@
 //! Texts that are written and instances that are drawn.
 use crate::fakes::Taken;
+use pfs_audit::bound;
 use pfs_base::{BaseFault, Instance, LONGEST_TIME, Notes, WriteFault};
 use pfs_layout::{Layout, LayoutFault, generate, write_block};
 use std::alloc::Global;
@@ -104,6 +105,7 @@ fn draws_the_published_times(rt: HostRuntime) -> Result<(), Fail> {
         sum = sum.saturating_add(instance.time(job, 0) as u64);
     }
     assert_eq!(rt; sum, 1121);
+    assert_eq!(rt; bound(&instance), 1232, "the published bound");
     Ok(())
 }
 
