@@ -3,7 +3,6 @@ ghost use Rattle.std.specs.Prelude.{◌≡◌, ℕ, ◌+◌, ◌<◌, ◌^◌, L
 ghost use Rattle.pfs_base.specs.Device.{Reads, Writes, fails_after};
 ghost use Rattle.pfs_base.specs.Sends.{Sends};
 
-use std::io::{Read, Write};
 use thiserror::Error;
 
 /// A reader of bytes. Contracts see the bytes that are left, where they are told, and whether a read has
@@ -40,88 +39,6 @@ pub trait Sink {
     /// Whether a write has failed.
     fn failed(&self) -> bool
         ensures { result ≡ has_failed self.now };
-}
-
-/// A source over a reader of std. A read fails where the reader's call answers an error, an interrupted
-/// call too: nothing is tried again.
-#[derive(Drop)]
-pub struct FromRead<R> {
-    reader: R,
-    failed: bool,
-}
-
-impl<R: Read> FromRead<R> {
-    /// A source of the bytes that the reader has left, which hasn't failed.
-    pub fn new(reader: R) -> FromRead<R>
-        ensures left { ⟦<FromRead<R> as Source>⟧.left result ≡ R.remaining reader }
-        ensures failed { ⟦<FromRead<R> as Source>⟧.has_failed result ≡ false }
-    {
-        FromRead {
-            reader,
-            failed: false,
-        }
-    }
-}
-
-impl<R: Read> Source for FromRead<R> {
-    ghost left = { λ s. R.remaining s.reader };
-
-    ghost has_failed = { λ s. s.failed };
-
-    fn read(&mut self, buf: &mut [u8]) -> Option<usize> {
-        match self.reader.read(buf) {
-            Ok(n) => Some(n),
-            Err(_) => {
-                self.failed = true;
-                None
-            }
-        }
-    }
-
-    fn failed(&self) -> bool {
-        self.failed
-    }
-}
-
-/// A sink over a writer of std. A write fails where the writer's call answers an error, an interrupted
-/// call too, or takes no byte: nothing is tried again.
-#[derive(Drop)]
-pub struct ToWrite<W> {
-    writer: W,
-    failed: bool,
-}
-
-impl<W: Write> ToWrite<W> {
-    /// A sink to the writer, which hasn't failed.
-    pub fn new(writer: W) -> ToWrite<W>
-        ensures written { ⟦<ToWrite<W> as Sink>⟧.written result ≡ W.contents writer }
-        ensures failed { ⟦<ToWrite<W> as Sink>⟧.has_failed result ≡ false }
-    {
-        ToWrite {
-            writer,
-            failed: false,
-        }
-    }
-}
-
-impl<W: Write> Sink for ToWrite<W> {
-    ghost written = { λ s. W.contents s.writer };
-
-    ghost has_failed = { λ s. s.failed };
-
-    fn write(&mut self, bytes: &[u8]) -> Option<usize> {
-        match self.writer.write(bytes) {
-            Ok(n) if n > 0 => Some(n),
-            _ => {
-                self.failed = true;
-                None
-            }
-        }
-    }
-
-    fn failed(&self) -> bool {
-        self.failed
-    }
 }
 
 /// A write failed.

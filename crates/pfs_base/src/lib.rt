@@ -4,15 +4,18 @@
 
 pub mod bench;
 pub mod device;
+pub mod from_read;
 pub mod instance;
 pub mod laws;
 pub mod limits;
 pub mod metered;
 pub mod notes;
 pub mod print;
+pub mod to_write;
 
 pub use bench::{Bench, Length, SPAN_MAX, Shop};
-pub use device::{FromRead, Sink, Source, ToWrite, WriteFault, put};
+pub use device::{Sink, Source, WriteFault, put};
+pub use from_read::FromRead;
 pub use instance::{BaseFault, Instance};
 pub use limits::{
     GREATEST_NOTE, LONGEST_INPUT, LONGEST_ORDER_FILE, LONGEST_TIME, MOST_BLOCKS, MOST_JOBS,
@@ -20,3 +23,4 @@ pub use limits::{
 };
 pub use metered::{Metered, Span};
 pub use notes::Notes;
+pub use to_write::ToWrite;

@@ -1,0 +1,46 @@
+//! A source over a reader of std.
+ghost use Rattle.std.specs.Prelude.{◌≡◌, false};
+
+use crate::device::Source;
+use std::io::Read;
+
+/// A source over a reader of std. A read fails where the reader's call answers an error, an interrupted
+/// call too: nothing is tried again.
+#[derive(Drop)]
+pub struct FromRead<R> {
+    reader: R,
+    failed: bool,
+}
+
+impl<R: Read> FromRead<R> {
+    /// A source of the bytes that the reader has left, which hasn't failed.
+    pub fn new(reader: R) -> FromRead<R>
+        ensures left { ⟦<FromRead<R> as Source>⟧.left result ≡ R.remaining reader }
+        ensures failed { ⟦<FromRead<R> as Source>⟧.has_failed result ≡ false }
+    {
+        FromRead {
+            reader,
+            failed: false,
+        }
+    }
+}
+
+impl<R: Read> Source for FromRead<R> {
+    ghost left = { λ s. R.remaining s.reader };
+
+    ghost has_failed = { λ s. s.failed };
+
+    fn read(&mut self, buf: &mut [u8]) -> Option<usize> {
+        match self.reader.read(buf) {
+            Ok(n) => Some(n),
+            Err(_) => {
+                self.failed = true;
+                None
+            }
+        }
+    }
+
+    fn failed(&self) -> bool {
+        self.failed
+    }
+}

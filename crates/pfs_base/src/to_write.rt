@@ -1,0 +1,46 @@
+//! A sink over a writer of std.
+ghost use Rattle.std.specs.Prelude.{◌≡◌, false};
+
+use crate::device::Sink;
+use std::io::Write;
+
+/// A sink over a writer of std. A write fails where the writer's call answers an error, an interrupted
+/// call too, or takes no byte: nothing is tried again.
+#[derive(Drop)]
+pub struct ToWrite<W> {
+    writer: W,
+    failed: bool,
+}
+
+impl<W: Write> ToWrite<W> {
+    /// A sink to the writer, which hasn't failed.
+    pub fn new(writer: W) -> ToWrite<W>
+        ensures written { ⟦<ToWrite<W> as Sink>⟧.written result ≡ W.contents writer }
+        ensures failed { ⟦<ToWrite<W> as Sink>⟧.has_failed result ≡ false }
+    {
+        ToWrite {
+            writer,
+            failed: false,
+        }
+    }
+}
+
+impl<W: Write> Sink for ToWrite<W> {
+    ghost written = { λ s. W.contents s.writer };
+
+    ghost has_failed = { λ s. s.failed };
+
+    fn write(&mut self, bytes: &[u8]) -> Option<usize> {
+        match self.writer.write(bytes) {
+            Ok(n) if n > 0 => Some(n),
+            _ => {
+                self.failed = true;
+                None
+            }
+        }
+    }
+
+    fn failed(&self) -> bool {
+        self.failed
+    }
+}
