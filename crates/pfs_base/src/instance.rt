@@ -45,7 +45,7 @@ impl Model for Instance {
 
 impl Instance {
     /// An instance of these sizes whose times are all 0. The sizes are judged before any memory is
-    /// asked for.
+    /// asked for, which is for `jobs * machines` times.
     pub fn new(
         alloc: Global,
         jobs: usize,
@@ -102,7 +102,7 @@ impl Instance {
         self.notes
     }
 
-    /// The time of a job on a machine.
+    /// How long a job takes on a machine, in the instance's own unit of time.
     pub fn time(&self, job: usize, machine: usize) -> u32
         requires job { job < self.now.shop.jobs }
         requires machine { machine < self.now.shop.machines }

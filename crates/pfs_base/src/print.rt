@@ -7,7 +7,7 @@ ghost use Rattle.pfs_base.specs.Text.{with_line_end, spaced, entry, named_number
 use crate::device::{Sink, WriteFault, put};
 use itoa::Buffer;
 
-/// Writes a number.
+/// Writes a number in decimal digits, without leading zeros.
 pub fn put_number<W: Sink>(writer: &mut W, number: u64, sent: u64) -> Result<u64, WriteFault>
     requires working { W.has_failed writer.old ≡ false }
     requires fits { sent + 40 < 2 ^ 64 }
@@ -19,7 +19,7 @@ pub fn put_number<W: Sink>(writer: &mut W, number: u64, sent: u64) -> Result<u64
     put(writer, buffer.format(number).as_bytes(), sent)
 }
 
-/// Writes a line.
+/// Writes a text and byte 10, which ends a line.
 pub fn put_line<W: Sink>(writer: &mut W, line: &[u8], sent: u64) -> Result<u64, WriteFault>
     requires working { W.has_failed writer.old ≡ false }
     requires fits { sent + length line.now + 1 < 2 ^ 64 }
@@ -73,7 +73,7 @@ pub fn put_entry<W: Sink>(
     }
 }
 
-/// Writes a line of numbers with single spaces between them.
+/// Writes a line of numbers with single spaces between them. Where there is none, the line is empty.
 pub fn put_numbers<W: Sink>(writer: &mut W, numbers: &[u64], sent: u64) -> Result<u64, WriteFault>
     requires working { W.has_failed writer.old ≡ false }
     requires fits { sent + length (with_line_end (spaced numbers.now)) < 2 ^ 64 }
@@ -87,7 +87,7 @@ pub fn put_numbers<W: Sink>(writer: &mut W, numbers: &[u64], sent: u64) -> Resul
     put(writer, b"\n", reached)
 }
 
-/// Writes a line of a text, a number and a text.
+/// Writes a line of a text, a number and a text, with nothing between them.
 pub fn put_between<W: Sink>(
     writer: &mut W,
     before: &[u8],

@@ -25,6 +25,7 @@ impl Model for OrderFile {
 }
 
 impl OrderFile {
+    /// What a file states. The makespan has at most eighteen digits, as in a file.
     pub(crate) fn new(order: Order, makespan: u64) -> OrderFile
         requires { makespan < 10 ^ 18 }
         ensures { result ≡ record { order = order; makespan = makespan } }
@@ -32,7 +33,7 @@ impl OrderFile {
         OrderFile { order, makespan }
     }
 
-    /// The order.
+    /// The order that the file states. Its jobs count from 0 here, and from 1 in the file.
     pub fn order(&self) -> &Order
         ensures value { result.now ≡ self.now.order }
         ensures accepted { IsSize limits (length self.now.order) }

@@ -33,7 +33,8 @@ impl Model for Seq {
 }
 
 impl Seq {
-    /// An empty sequence of jobs below a size.
+    /// An empty sequence of jobs below a size, with room for all of them. It fails only where that room
+    /// is refused.
     pub fn new(alloc: Global, size: usize) -> Result<Seq, OrderFault>
         requires some { 1 ≤ size }
         requires few { size ≤ MOST_JOBS }

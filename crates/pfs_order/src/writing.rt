@@ -8,8 +8,8 @@ use crate::order::Order;
 use pfs_base::print::{put_entry, put_named};
 use pfs_base::{Sink, WriteFault, put};
 
-/// Writes the order file of an order and a makespan, and answers how many bytes it has. Where a write
-/// fails, a front of the file went out.
+/// Writes the order file of an order and a makespan, in which jobs count from 1, and answers how many
+/// bytes it has. Where a write fails, a front of the file went out.
 pub fn write_order<W: Sink>(writer: &mut W, order: &Order, makespan: u64) -> Result<u64, WriteFault>
     requires working { W.has_failed writer.old ≡ false }
     requires stated { makespan < 10 ^ 18 }
