@@ -9,7 +9,8 @@ use Rattle.pfs_base.specs.Text.{with_line_end, spaced, entry}
 abbrev pub behind : List ℕ → List ℕ
 behind ns = flat_map (λ n. 32 ∷ decimal n) ns
 
-spaced-append : (n : ℕ) (ns ms : List ℕ) → spaced ((n ∷ ns) ++ ms) ≡ spaced (n ∷ ns) ++ behind ms
+-- the numbers of two lists, and a space before each of the second
+pub spaced-append : (n : ℕ) (ns ms : List ℕ) → spaced ((n ∷ ns) ++ ms) ≡ spaced (n ∷ ns) ++ behind ms
 spaced-append n [] [] = sym (append-nil (decimal n))
 spaced-append n [] (m ∷ ms) = ap (λ l. decimal n ++ 32 ∷ l) (spaced-append m [] ms)
 spaced-append n (m ∷ ns) ms = ap (λ l. decimal n ++ 32 ∷ l) (spaced-append m ns ms) ∙ sym (append_assoc (decimal n) (32 ∷ spaced (m ∷ ns)) (behind ms))

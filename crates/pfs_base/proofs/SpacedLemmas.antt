@@ -6,6 +6,7 @@ use Rattle.std.proofs.lemmas.Grind.{flat_map-append}
 use Rattle.pfs_base.specs.Lists.{below}
 use Rattle.pfs_base.specs.Text.{spaced}
 use Rattle.pfs_base.proofs.Lists.{range_with_len-push}
+use Rattle.pfs_base.proofs.Printing.{spaced-append}
 
 -- one part more
 pub flat_map_more : (f : ℕ → List ℕ) (n : ℕ) → flat_map f (below (suc n)) ≡ flat_map f (below n) ++ f n
@@ -26,8 +27,7 @@ flat_map_from f k (suc n) h = elim (eqb_tells k n) [
 
 -- the first number, and a space before each of the others
 pub spaced-cons : (n : ℕ) (ns : List ℕ) → spaced (n ∷ ns) ≡ decimal n ++ flat_map (λ m. 32 ∷ decimal m) ns
-spaced-cons n [] = sym (append-nil (decimal n))
-spaced-cons n (m ∷ ns) = ap (λ text. decimal n ++ 32 ∷ text) (spaced-cons m ns)
+spaced-cons n ns = spaced-append n [] ns
 
 -- numbers in pairs, with a space before each
 pub spaced_pairs : (one other : ℕ → ℕ) (ns : List ℕ)
