@@ -129,7 +129,7 @@ fn reads_order_files(rt: HostRuntime) {
 #[test]
 fn refuses_other_texts(rt: HostRuntime) {
     let syntax = |offset| OrderFault::Syntax { offset };
-    let cases: [(&[u8], OrderFault); 22] = [
+    let cases: [(&[u8], OrderFault); 24] = [
         (b"", syntax(0)),
         (b"order", syntax(5)),
         (b"order 3", syntax(7)),
@@ -165,6 +165,14 @@ fn refuses_other_texts(rt: HostRuntime) {
         (
             b"order 3\n1 1 4\nmakespan 1\n",
             OrderFault::Repeated { place: 2 },
+        ),
+        (
+            b"order 3\n4 1 1\nmakespan 1\n",
+            OrderFault::JobRange { place: 1 },
+        ),
+        (
+            b"order 3\n1 0 1\nmakespan 1\n",
+            OrderFault::JobRange { place: 2 },
         ),
         (b"order 3\n1 1 4\nmakespan x\n", syntax(23)),
     ];
