@@ -3,13 +3,7 @@ use Rattle.std.proofs.Common.{◌≡◌, ℕ, ◌+◌, ◌-◌, ◌<◌, ◌≤�
 use Rattle.std.specs.Io.KnownBytes.{Appends}
 use Rattle.pfs_base.specs.declared.device.WriteFault.{WriteFault}
 use Rattle.pfs_base.specs.Sends.{Sends, SendsAll, SendsFront}
-use Rattle.pfs_base.proofs.SendsLemmas.{then_all, then_front, front_of}
-
--- a text went out, and then another was begun
-pub then_sends : (a b c : Option (List ℕ)) (worked failed : Bool) (sent middle : ℕ) (done part : List ℕ) (result : Result ℕ WriteFault)
-    → SendsAll a b worked sent done middle → Sends b c failed middle part result → Sends a c failed sent (done ++ part) result
-then_sends a b c worked failed sent middle done part (Ok total) p q = then_all p q
-then_sends a b c worked failed sent middle done part (Err fault) p q = then_front p q
+use Rattle.pfs_base.proofs.SendsLemmas.{then_all, then_front, then_sends, front_of}
 
 -- a text that goes on, behind what is done, with this part
 pub record GoesOn (text done part next : List ℕ) : Type 0 where
@@ -33,7 +27,7 @@ goes_on-stopped a b c worked failed sent middle reached text done part next on p
 -- the last part of a text
 pub last_sends : (a b c : Option (List ℕ)) (worked failed : Bool) (sent middle : ℕ) (text done part : List ℕ) (result : Result ℕ WriteFault) → text ≡ done ++ part
     → SendsAll a b worked sent done middle → Sends b c failed middle part result → Sends a c failed sent text result
-last_sends a b c worked failed sent middle text done part result whole p q = rw whole (then_sends a b c worked failed sent middle done part result p q)
+last_sends a b c worked failed sent middle text done part result whole p q = rw whole (then_sends c failed part result p q)
 
 pub last_fits : (a b : Option (List ℕ)) (worked : Bool) (sent middle : ℕ) (text done part : List ℕ) → text ≡ done ++ part → SendsAll a b worked sent done middle
     → sent + length text < 2 ^ 64 → middle + length part < 2 ^ 64
