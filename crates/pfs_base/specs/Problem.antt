@@ -1,5 +1,4 @@
 -- What an instance holds: a flow shop, and the three notes of its file.
-use Rattle.std.specs.Prelude.{ℕ}
 use Rattle.pfs_base.specs.FlowShop.{FlowShop}
 use Rattle.pfs_base.specs.declared.notes.Notes.{Notes}
 

@@ -1,6 +1,5 @@
-use Rattle.std.proofs.Common.{ℕ, List, ◌-◌, ◌∙◌, arith, rules, length, take, drop, subst}
+use Rattle.std.proofs.Common.{◌∙◌, arith}
 use Rattle.std.proofs.lemmas.List.{take_rest, length-take, length-drop}
-use Rattle.std.specs.Io.KnownBytes.{Appends}
 use Rattle.pfs_base.proofs.Sent.{Appends_more}
 use Rattle.pfs_base.proofs.device.put.Goals as goal
 

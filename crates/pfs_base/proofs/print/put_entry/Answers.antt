@@ -1,4 +1,4 @@
-use Rattle.std.proofs.Common.{◌≡◌, [], ◌∷◌, ◌∙◌, decimal}
+use Rattle.std.proofs.Common.{◌≡◌, ◌∙◌, decimal}
 use Rattle.pfs_base.proofs.Printing.{entry_later}
 use Rattle.pfs_base.proofs.SendsLemmas.{then_sends}
 use Rattle.pfs_base.proofs.print.put_entry.Goals as goal
