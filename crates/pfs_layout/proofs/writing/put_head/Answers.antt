@@ -1,7 +1,6 @@
 use Rattle.std.proofs.Common.{rules, ◌≡◌, Err, List, [], ◌∷◌, ◌++◌}
 use Rattle.pfs_base.specs.Text.{with_line_end, spaced}
-use Rattle.pfs_base.proofs.SendsLemmas.{then_front, front_of}
-use Rattle.pfs_base.proofs.SendsOn.{then_sends}
+use Rattle.pfs_base.proofs.SendsLemmas.{then_front, then_sends, front_of}
 use Rattle.pfs_layout.specs.declared.layout.Layout.TheVariants.{Taillard, OrLib}
 use Rattle.pfs_layout.proofs.CanonicalLemmas.{title, times_title}
 use Rattle.pfs_layout.proofs.writing.put_head.Goals as goal
@@ -24,9 +23,9 @@ returns-in_err-sent-in-OrLib g c =
 pub returns-in_ok-sent-in-Taillard-2 : goal.returns-in_ok-sent-in-Taillard-2
 returns-in_ok-sent-in-Taillard-2 g c =
     let sizes : List _ = with_line_end (spaced (c.args.jobs ∷ c.args.machines ∷ c.args.notes.seed ∷ c.args.notes.upper ∷ c.args.notes.lower ∷ [])) in
-    let both = then_sends _ _ _ _ _ c.in_ok-sent-in-Taillard.sent c.in_ok-sent-in-Taillard-2.sent sizes (with_line_end times_title) _ c.in_ok-sent-in-Taillard-2.ensures c.put-in-Taillard.ensures in
-    rw c.in-Taillard.is (then_sends _ _ _ _ _ 0 c.in_ok-sent-in-Taillard.sent (with_line_end (title Taillard)) (sizes ++ with_line_end times_title) _ c.in_ok-sent-in-Taillard.ensures both)
+    let both = then_sends _ _ (with_line_end times_title) c.put-in-Taillard.result c.in_ok-sent-in-Taillard-2.ensures c.put-in-Taillard.ensures in
+    rw c.in-Taillard.is (then_sends _ _ (sizes ++ with_line_end times_title) c.put-in-Taillard.result c.in_ok-sent-in-Taillard.ensures both)
 
 pub returns-in_ok-sent-in-OrLib : goal.returns-in_ok-sent-in-OrLib
 returns-in_ok-sent-in-OrLib g c =
-    rw c.in-OrLib.is (then_sends _ _ _ _ _ 0 c.in_ok-sent-in-OrLib.sent (with_line_end (title OrLib)) (with_line_end (spaced (c.args.jobs ∷ c.args.machines ∷ []))) _ c.in_ok-sent-in-OrLib.ensures c.put_numbers-in-OrLib.ensures)
+    rw c.in-OrLib.is (then_sends _ _ (with_line_end (spaced (c.args.jobs ∷ c.args.machines ∷ []))) c.put_numbers-in-OrLib.result c.in_ok-sent-in-OrLib.ensures c.put_numbers-in-OrLib.ensures)
