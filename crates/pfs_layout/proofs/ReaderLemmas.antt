@@ -366,4 +366,4 @@ end_ready r text f live = record {
 }
 
 pub reader_end_ready : (r : Fields) → IsReader r → is_live r.phase ≡ true → IsEndReady r
-reader_end_ready r some live = let s = some (live-memory r.phase live) in end_ready r s.0 (live_follows r s.0 live s.1) live
+reader_end_ready r some live = let s = some.stands (live-memory r.phase live) in end_ready r s.0 (live_follows r s.0 live s.1) live

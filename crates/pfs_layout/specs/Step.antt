@@ -217,6 +217,7 @@ pub record Keeps (old new : Fields) : Type 0 where
   pub complete : new.complete ≡ old.complete
   pub line : new.line ≡ old.line
   pub sought : new.phase ≡ phases.Seeking → old.phase ≡ phases.Seeking
+  pub held : new.phase ≡ phases.Seeking → new.held ≡ old.held
   pub memory : new.phase ≢ phases.Refused Memory
 
 -- how many of so many numbers are times
@@ -255,6 +256,12 @@ pub record LacksMemory (old next : Fields) : Type 0 where
   pub sought : old.phase ≡ phases.Seeking
   pub wanted : old.complete + 1 ≡ old.wanted
   pub begins : next.phase ≡ phases.Body
+
+-- what want of memory leaves as it is
+pub record KeepsHeld (old new : Fields) : Type 0 where
+  pub layout : new.layout ≡ old.layout
+  pub wanted : new.wanted ≡ old.wanted
+  pub held : new.held ≡ old.held
 
 -- what the judgement of a number of the body needs
 pub record CanCount (r : Fields) : Type 0 where

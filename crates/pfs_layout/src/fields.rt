@@ -2,7 +2,7 @@
 ghost use Rattle.std.specs.Prelude.{◌≡◌, ◌≢◌, ◌+◌, ◌*◌, ◌<◌, ◌≤◌, true, false, ◌==◌, ℕ, List, length, replicate, Some, None, IfOk, IfErr, OnOk, OnErr, IfSome, option_map, is_some, if◌then◌else◌};
 ghost use Rattle.pfs_layout.specs.Bytes.{is_digit as digit_test};
 ghost use Rattle.pfs_layout.specs.Size.{is_within_limits};
-ghost use Rattle.pfs_layout.specs.Step.{refused, is_live as live_test, is_in_block, CanCount, with_problem_time, stored, counted, time_judged, machine_judged, body_judged, number_ended, size_given, empty_problem, block_begun, size_line_ended, block_ended, line_ended, last_number_ended, judged, with_line, end_fault, end_fault_in, at_end, IsReady, Keeps, LacksMemory};
+ghost use Rattle.pfs_layout.specs.Step.{refused, is_live as live_test, is_in_block, CanCount, with_problem_time, stored, counted, time_judged, machine_judged, body_judged, number_ended, size_given, empty_problem, block_begun, size_line_ended, block_ended, line_ended, last_number_ended, judged, with_line, end_fault, end_fault_in, at_end, IsReady, Keeps, KeepsHeld, LacksMemory};
 ghost use Rattle.pfs_layout.specs.Reader.{StandsAfter, IsReader, TakeMeets, FeedMeets, progress_of};
 
 use crate::body::Body;
@@ -206,7 +206,7 @@ impl Fields {
         requires within { is_within_limits (size_given stated) ≡ true }
         ensures begun { self.new.phase ≢ Phase.Refused LayoutFault.Memory → self.new ≡ block_begun self.old (size_given stated) }
         ensures memory { self.new.phase ≡ Phase.Refused LayoutFault.Memory → self.old.complete + 1 ≡ self.old.wanted }
-        ensures held { self.new.held ≡ self.old.held }
+        ensures kept { KeepsHeld self.old self.new }
     {
         match self.instance_for(alloc, stated) {
             Ok(instance) => {
@@ -224,6 +224,7 @@ impl Fields {
         ensures ended { self.new.phase ≢ Phase.Refused LayoutFault.Memory → self.new ≡ size_line_ended self.old size_line line }
         ensures memory { self.new.phase ≡ Phase.Refused LayoutFault.Memory → self.old.complete + 1 ≡ self.old.wanted }
         ensures begins { self.new.phase ≡ Phase.Refused LayoutFault.Memory → (size_line_ended self.old size_line line).phase ≡ Phase.Body }
+        ensures kept { KeepsHeld self.old self.new }
     {
         match size_line.stated(self.layout, line) {
             Ok(stated) => self.begin_block(alloc, stated),
@@ -252,6 +253,7 @@ impl Fields {
         requires memory { self.old.phase ≢ Phase.Refused LayoutFault.Memory }
         ensures ended { self.new.phase ≢ Phase.Refused LayoutFault.Memory → self.new ≡ line_ended self.old kinds }
         ensures memory { self.new.phase ≡ Phase.Refused LayoutFault.Memory → LacksMemory self.old (line_ended self.old kinds) }
+        ensures kept { KeepsHeld self.old self.new }
     {
         let line = self.line;
         let size_line = self.size_line;
@@ -279,6 +281,7 @@ impl Fields {
         requires live { live_test self.old.phase ≡ true }
         ensures judged { self.new.phase ≢ Phase.Refused LayoutFault.Memory → self.new ≡ judged self.old digits kinds b }
         ensures memory { self.new.phase ≡ Phase.Refused LayoutFault.Memory → (b ≡ LINE_END) × LacksMemory self.old (judged self.old digits kinds b) }
+        ensures kept { self.new.phase ≡ Phase.Refused LayoutFault.Memory → KeepsHeld self.old self.new }
     {
         if is_blank(b) || b == LINE_END {
             self.end_last_number(digits);
@@ -302,6 +305,7 @@ impl Fields {
         requires live { live_test self.old.phase ≡ true }
         ensures judged { self.new.phase ≢ Phase.Refused LayoutFault.Memory → self.new ≡ judged self.old digits kinds b }
         ensures memory { self.new.phase ≡ Phase.Refused LayoutFault.Memory → (b ≡ LINE_END) × LacksMemory self.old (judged self.old digits kinds b) }
+        ensures kept { self.new.phase ≡ Phase.Refused LayoutFault.Memory → KeepsHeld self.old self.new }
     {
         if is_digit(b) {
             if kinds.has_word && self.in_block() {
@@ -321,6 +325,7 @@ impl Fields {
         requires ready { IsReady (with_line self.old digits kinds) }
         ensures judged { self.new.phase ≢ Phase.Refused LayoutFault.Memory → self.new ≡ judged self.old digits kinds b }
         ensures memory { self.new.phase ≡ Phase.Refused LayoutFault.Memory → (b ≡ LINE_END) × LacksMemory self.old (judged self.old digits kinds b) }
+        ensures kept { self.new.phase ≡ Phase.Refused LayoutFault.Memory → KeepsHeld self.old self.new }
         ensures live { result ≡ live_test self.new.phase }
     {
         let is_quiet = is_digit(b) && !kinds.has_word;
@@ -376,6 +381,7 @@ impl Fields {
         ensures reader { IsReader self.new }
         ensures idle { live_test self.old.phase ≡ false → (result ≡ progress_of self.old.phase 0) × (self.new ≡ self.old) }
         ensures whole { IfOk result (λ progress. progress.done ≡ false → progress.used ≡ length piece.now) }
+        ensures stays { IfErr result (λ fault. self.new.phase ≡ Phase.Refused fault) }
         ensures moved { IfOk result (λ progress. self.new.digits.offset ≡ self.old.digits.offset + progress.used) }
         ensures meets { (text : List ℕ) → StandsAfter self.old text → FeedMeets self.old text piece.now result self.new }
     {

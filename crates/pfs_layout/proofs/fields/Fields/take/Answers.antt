@@ -37,5 +37,5 @@ returns-clause-meets c text s =
       | then-loop-b-test+then-not-is_live w ↦
           meets_as old text piece c.loop-b-test.used (i + 1) c.loop-b-test.self w.take_byte-is_live.new.self c.loop-b-test.digits (digits_after c.loop-b.digits b) c.loop-b-test.kinds (kinds_after c.loop-b.kinds b)
           (let u = c.loop-b.invariant.used in let v = w.used-is in omega arith) w.self-is (w.digits-is ∙ w.after-digits.ensures) (w.kinds-is ∙ w.after-kinds.ensures)
-          (taken_end old c.loop-b.self w.take_byte-is_live.new.self c.loop-b.digits c.loop-b.kinds piece i c.loop-b.invariant.taken (omega arith) c.requires.room w.take_byte-is_live.ensures.judged w.take_byte-is_live.ensures.memory text s)
+          (taken_end old c.loop-b.self w.take_byte-is_live.new.self c.loop-b.digits c.loop-b.kinds piece i c.loop-b.invariant.taken (omega arith) c.requires.room w.take_byte-is_live.ensures.judged w.take_byte-is_live.ensures.memory w.take_byte-is_live.ensures.kept text s)
     ]

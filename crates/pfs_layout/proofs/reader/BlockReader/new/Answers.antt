@@ -7,4 +7,4 @@ pub returns-clause-stands : goal.returns-clause-stands
 returns-clause-stands c = follows_new _ (record { wanted = c.requires.some; complete = refl; offset = refl; first = refl; value = refl; has_digit = refl; has_word = refl; line = refl; phase = refl; size_line = c.new.ensures; instance = refl; held = refl })
 
 pub invariant_of-result : goal.invariant_of-result
-invariant_of-result c other = ([], follows_new _ (record { wanted = c.requires.some; complete = refl; offset = refl; first = refl; value = refl; has_digit = refl; has_word = refl; line = refl; phase = refl; size_line = c.new.ensures; instance = refl; held = refl }))
+invariant_of-result c = record { stands = λ other. ([], follows_new _ (record { wanted = c.requires.some; complete = refl; offset = refl; first = refl; value = refl; has_digit = refl; has_word = refl; line = refl; phase = refl; size_line = c.new.ensures; instance = refl; held = refl })); none = λ h. refl }
