@@ -23,10 +23,11 @@ pub enum Phase {
     AfterLast,
     /// The wanted block has ended.
     Done,
+    /// The input was refused.
     Refused(LayoutFault),
 }
 
-/// How far a reader came in a piece, and whether its block has ended.
+/// How many of a piece's bytes a reader used, from its front, and whether its block has ended.
 #[derive(Clone, Copy, Debug, PartialEq, Eq)]
 pub struct Progress {
     pub used: usize,
@@ -55,6 +56,7 @@ pub struct Fields {
 }
 
 impl Fields {
+    /// Refuses the input: the fault is told from now on, and no byte is wanted.
     #[cold]
     pub fn refuse(&mut self, fault: LayoutFault)
         ensures { self.new ≡ refused self.old fault }
@@ -62,6 +64,7 @@ impl Fields {
         self.phase = Phase::Refused(fault);
     }
 
+    /// Whether a block is begun and not ended.
     fn in_block(&self) -> bool
         ensures { result ≡ is_in_block self.now.phase }
     {
@@ -130,6 +133,7 @@ impl Fields {
         self.count(self.body.after_machine());
     }
 
+    /// The number is one of a body, where a time or a machine's number is due.
     fn judge_body(&mut self, value: u64, first: usize)
         requires { CanCount self.old }
         ensures { self.new ≡ body_judged self.old value first }
@@ -218,6 +222,8 @@ impl Fields {
         }
     }
 
+    /// A number line ends while a block is sought: its numbers begin a block, or are refused. It is this
+    /// line, counted from 1.
     #[inline(never)]
     fn end_size_line(&mut self, alloc: Global, size_line: SizeLine, line: usize)
         requires complete { self.old.complete < self.old.wanted }
@@ -232,6 +238,7 @@ impl Fields {
         }
     }
 
+    /// The line of a block's last number ends.
     fn end_block(&mut self)
         requires { self.old.complete < self.old.wanted }
         ensures { self.new ≡ block_ended self.old }
@@ -337,6 +344,7 @@ impl Fields {
         self.is_live()
     }
 
+    /// What is told of so many bytes that were used.
     fn progress(&self, used: usize) -> Result<Progress, LayoutFault>
         ensures { result ≡ progress_of self.now.phase used }
     {
