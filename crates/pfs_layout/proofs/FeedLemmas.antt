@@ -1,18 +1,18 @@
 -- What a reader owes for a piece.
-use Rattle.std.proofs.Common.{◌≡◌, ◌≢◌, ℕ, ◌+◌, ◌-◌, ◌<◌, ◌≤◌, Bool, true, false, not, ◌&&◌, ◌||◌, List, [], ◌∷◌, ◌++◌, length, take, drop, get_or, count_by, refl, sym, ◌∙◌, ap, subst, arith, add-one, min, Option, Some, None, if◌then◌else◌, ◌==◌, nat_lt, ◌⊎◌, inl, inr}
-use Rattle.std.specs.Prelude.{Result, Ok, Err, slice_index, ◌↔◌, IfOk, IfErr, IsTrue, IsFalse}
+use Rattle.std.proofs.Common.{◌≡◌, ◌≢◌, ℕ, ◌+◌, ◌-◌, ◌<◌, ◌≤◌, Bool, true, false, not, ◌&&◌, ◌||◌, List, [], ◌∷◌, ◌++◌, length, take, drop, get_or, count_by, refl, sym, ◌∙◌, ap, subst, arith, add-one, min, Option, Some, None, if◌then◌else◌, ◌==◌, nat_lt}
+use Rattle.std.specs.Prelude.{Result, Ok, Err}
 use Rattle.std.specs.List.{list_any}
 use Rattle.std.specs.Bool.{then_some}
 use Rattle.std.specs.Option.{option_or}
 use Rattle.std.specs.Str.Parse.{digits_value}
-use Rattle.std.proofs.lemmas.Bool.{ltb-true, ltb-false, le-ltb, lt-ltb, eq-eqb}
+use Rattle.std.proofs.lemmas.Bool.{ltb-false, le-ltb, lt-ltb, eq-eqb}
 use Rattle.std.proofs.lemmas.List.{append_assoc, append-nil, length-append, take_all, take-append-drop, take-take, length-take, get_or-take}
 use Rattle.std.proofs.Math.Seq.{drop-cons}
 use Rattle.pfs_base.specs.declared.limits.TheConstants.{LONGEST_TIME, LONGEST_INPUT}
 use Rattle.pfs_base.specs.Lists.{is_empty, first_some}
 use Rattle.pfs_layout.specs.declared.layout.Layout.{Layout}
 use Rattle.pfs_layout.specs.declared.fault.LayoutFault.{LayoutFault}
-use Rattle.pfs_layout.specs.declared.fault.LayoutFault.TheVariants.{TimeRange, MachineNumber, ExtraNumber, SizeCount, SizeRange, MixedLine, TooLong, Memory}
+use Rattle.pfs_layout.specs.declared.fault.LayoutFault.TheVariants.{TimeRange, MachineNumber, SizeRange, MixedLine, TooLong, Memory}
 use Rattle.pfs_layout.specs.declared.fields.Phase.{Phase}
 use Rattle.pfs_layout.specs.declared.fields.Phase.TheVariants as phases
 use Rattle.pfs_layout.specs.declared.fields.Fields.{Fields}
@@ -21,9 +21,9 @@ use Rattle.pfs_layout.specs.Bytes.{is_blank, is_line_end, is_word_byte}
 use Rattle.pfs_layout.specs.Lines.{ended_lines, open_line, is_mixed, is_number_line, numbers, ended_numbers, last_digits}
 use Rattle.pfs_layout.specs.Size.{Size, is_within_limits}
 use Rattle.pfs_layout.specs.Block.{Due, any_time, machine_number, nothing, due_at, stated_size}
-use Rattle.pfs_layout.specs.Stand.{Block, Now, seeking, inside, lost, Stand, stand}
-use Rattle.pfs_layout.specs.Refuse.{too_long, mixed_line, misfit, ends_number, wrong_number, size_fault, wrong_size, ends_early, faults, fault_behind, byte_fault}
-use Rattle.pfs_layout.specs.Step.{is_live, refused, with_line}
+use Rattle.pfs_layout.specs.Stand.{Now, seeking, inside, lost, stand}
+use Rattle.pfs_layout.specs.Refuse.{too_long, mixed_line, misfit, wrong_number, size_fault, wrong_size, ends_early, faults, fault_behind, byte_fault}
+use Rattle.pfs_layout.specs.Step.{is_live, refused}
 use Rattle.pfs_layout.specs.Reader.{block_read, FollowsNow, Follows, IsRefused, StandsIn, StandsAfter, IsReader, TakeMeets, FeedMeets, progress_of, EndsWantedSize}
 use Rattle.pfs_layout.proofs.PlaceLemmas.{byte_fault-push}
 use Rattle.pfs_layout.proofs.SoundLemmas.{stand_of}
@@ -31,7 +31,7 @@ use Rattle.pfs_layout.proofs.GrowLemmas.{fewer_before}
 use Rattle.pfs_layout.proofs.EndLemmas.{byte_fault-more}
 use Rattle.pfs_layout.proofs.StepLemmas.{live-memory}
 use Rattle.pfs_layout.proofs.ByteSteps.{live_few}
-use Rattle.pfs_layout.proofs.ReaderLemmas.{live_follows, stands_of}
+use Rattle.pfs_layout.proofs.ReaderLemmas.{live_follows}
 
 -- ---- no byte has the fault of want of memory
 

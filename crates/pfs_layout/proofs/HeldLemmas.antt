@@ -1,6 +1,6 @@
 -- No more times are held than the wanted block has.
-use Rattle.std.proofs.Common.{◌≡◌, ◌≢◌, ℕ, zero, suc, ◌+◌, ◌-◌, ◌*◌, ◌<◌, ◌≤◌, Bool, true, false, List, [], ◌∷◌, ◌++◌, length, take, drop, refl, sym, ◌∙◌, ap, subst, arith, Option, Some, None, if◌then◌else◌, ◌==◌, nat_lt, ◌⊎◌, inl, inr}
-use Rattle.std.specs.Prelude.{Result, Ok, Err, option_map, slice_get, IfSome}
+use Rattle.std.proofs.Common.{◌≡◌, ◌≢◌, ℕ, zero, suc, ◌+◌, ◌-◌, ◌<◌, ◌≤◌, Bool, true, false, List, [], ◌∷◌, ◌++◌, length, take, drop, refl, sym, ◌∙◌, ap, subst, arith, Option, Some, None, if◌then◌else◌, ◌==◌, nat_lt, ◌⊎◌, inl, inr}
+use Rattle.std.specs.Prelude.{Result, Ok, Err, option_map, slice_get}
 use Rattle.std.proofs.lemmas.Bool.{ltb-true, eqb-true}
 use Rattle.std.proofs.lemmas.List.{append_assoc, append-nil, take-append-drop}
 use Rattle.pfs_base.proofs.Lists.{by_push}
@@ -12,12 +12,11 @@ use Rattle.pfs_layout.specs.declared.fields.Phase.{Phase}
 use Rattle.pfs_layout.specs.declared.fields.Phase.TheVariants as phases
 use Rattle.pfs_layout.specs.declared.fields.Fields.{Fields}
 use Rattle.pfs_layout.specs.declared.fields.Progress.{Progress}
-use Rattle.pfs_layout.specs.Lines.{ended_lines, open_line, is_mixed, is_number_line, numbers, ended_numbers}
-use Rattle.pfs_layout.specs.Size.{Size, is_within_limits}
-use Rattle.pfs_layout.specs.Block.{due_count, are_due, stated_size}
-use Rattle.pfs_layout.specs.Stand.{Block, Now, seeking, inside, lost, Stand, after_size, after_line, stand_after, stand}
+use Rattle.pfs_layout.specs.Lines.{ended_lines, open_line, is_mixed, numbers, ended_numbers}
+use Rattle.pfs_layout.specs.Block.{due_count, are_due}
+use Rattle.pfs_layout.specs.Stand.{Block, Now, seeking, inside, lost, Stand, after_line, stand_after, stand}
 use Rattle.pfs_layout.specs.Refuse.{byte_fault}
-use Rattle.pfs_layout.specs.Reader.{block_begun_by, block_of, block_read, time_count, known_size, most_times, HoldsFew, Follows, IsRefused, StandsIn, StandsAfter, IsReader, FeedMeets}
+use Rattle.pfs_layout.specs.Reader.{block_begun_by, block_of, block_read, time_count, known_size, most_times, HoldsFew, Follows, StandsIn, StandsAfter, FeedMeets}
 use Rattle.pfs_layout.proofs.SoundLemmas.{GoodNow, stand-push, stand_of, sound}
 use Rattle.pfs_layout.proofs.TableLemmas.{length-times_among}
 use Rattle.pfs_layout.proofs.FrontLemmas.{due_few}

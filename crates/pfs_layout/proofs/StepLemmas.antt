@@ -1,5 +1,5 @@
 -- What the judgement of a number leaves as it is.
-use Rattle.std.proofs.Common.{◌≡◌, ◌≢◌, ℕ, ◌+◌, ◌≤◌, Bool, true, false, not, ◌&&◌, length, Option, Some, None, arith, refl, sym, ◌∙◌, ap, if◌then◌else◌, ◌==◌, nat_lt, ◌⊎◌, inl, inr}
+use Rattle.std.proofs.Common.{◌≡◌, ◌≢◌, ℕ, ◌+◌, ◌≤◌, Bool, true, false, not, ◌&&◌, length, Option, Some, None, arith, refl, ap, if◌then◌else◌, ◌==◌, nat_lt, ◌⊎◌, inl, inr}
 use Rattle.std.specs.Prelude.{slice_set}
 use Rattle.std.proofs.lemmas.List.{length-set}
 use Rattle.pfs_base.specs.declared.limits.TheConstants.{LONGEST_TIME}

@@ -1,18 +1,16 @@
 -- Where a reader stands within a piece.
-use Rattle.std.proofs.Common.{◌≡◌, ◌≢◌, ℕ, ◌+◌, ◌<◌, ◌≤◌, Bool, true, false, List, [], ◌∷◌, ◌++◌, length, take, get_or, refl, sym, ◌∙◌, ap, subst, arith, Option, Some, None, if◌then◌else◌, nat_lt, ◌⊎◌, inl, inr}
+use Rattle.std.proofs.Common.{◌≡◌, ◌≢◌, ℕ, ◌+◌, ◌<◌, ◌≤◌, Bool, true, false, List, [], ◌∷◌, ◌++◌, length, take, get_or, refl, sym, ◌∙◌, ap, subst, arith, None, if◌then◌else◌, nat_lt, ◌⊎◌, inl, inr}
 use Rattle.std.specs.Prelude.{◌-◌, ◌==◌, slice_get}
 use Rattle.std.specs.List.{list_any}
 use Rattle.std.proofs.lemmas.Bool.{cases_eq, lt-ltb}
-use Rattle.std.proofs.lemmas.List.{append_assoc, append-nil, length-append, take_more, take_all}
+use Rattle.std.proofs.lemmas.List.{append_assoc, append-nil, take_more}
 use Rattle.pfs_base.specs.declared.limits.TheConstants.{LONGEST_INPUT}
-use Rattle.pfs_layout.specs.declared.layout.Layout.{Layout}
 use Rattle.pfs_layout.specs.declared.fault.LayoutFault.TheVariants.{Memory}
 use Rattle.pfs_layout.specs.declared.scan.Digits.{Digits}
 use Rattle.pfs_layout.specs.declared.scan.Kinds.{Kinds}
-use Rattle.pfs_layout.specs.declared.fields.Phase.{Phase}
 use Rattle.pfs_layout.specs.declared.fields.Phase.TheVariants as phases
 use Rattle.pfs_layout.specs.declared.fields.Fields.{Fields}
-use Rattle.pfs_layout.specs.Bytes.{is_word_byte, is_line_end}
+use Rattle.pfs_layout.specs.Bytes.{is_word_byte}
 use Rattle.pfs_layout.specs.Lines.{ended_lines, open_line, ended_numbers}
 use Rattle.pfs_layout.specs.Stand.{Block, Now, seeking, inside, lost, Stand, stand}
 use Rattle.pfs_layout.specs.Step.{is_live, digits_after, kinds_after, judged, with_line, stepped, KeepsHeld, LacksMemory, IsReady}
@@ -21,7 +19,7 @@ use Rattle.pfs_layout.proofs.SoundLemmas.{stand_of}
 use Rattle.pfs_layout.proofs.StepLemmas.{live-memory, refused_memory}
 use Rattle.pfs_layout.proofs.StaleLemmas.{stale_line}
 use Rattle.pfs_layout.proofs.ByteSteps.{live_few}
-use Rattle.pfs_layout.proofs.ReaderLemmas.{Carries, carries, live_follows, step_stands, follows_ready}
+use Rattle.pfs_layout.proofs.ReaderLemmas.{carries, live_follows, step_stands, follows_ready}
 
 -- a live reader behind the first bytes of a piece
 pub record TakenTo (old now : Fields) (piece : List ℕ) (i : ℕ) : Type 0 where

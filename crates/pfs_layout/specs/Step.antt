@@ -1,6 +1,6 @@
 -- What one byte does to what a reader keeps. Only the contracts of private functions speak of it: what a
 -- reader's fields say of the bytes that it has read stands in `Reader`.
-use Rattle.std.specs.Prelude.{◌≡◌, ◌≢◌, ℕ, ◌+◌, ◌-◌, ◌*◌, ◌/◌, ◌%◌, ◌<◌, ◌≤◌, min, Bool, true, false, not, ◌&&◌, ◌||◌, ◌==◌, nat_lt, List, replicate, slice_index, slice_set, Option, Some, None, is_some, option_map, IfSome, if◌then◌else◌}
+use Rattle.std.specs.Prelude.{◌≡◌, ◌≢◌, ℕ, ◌+◌, ◌-◌, ◌*◌, ◌/◌, ◌%◌, ◌<◌, ◌≤◌, min, Bool, true, false, not, ◌&&◌, ◌||◌, ◌==◌, nat_lt, replicate, slice_index, slice_set, Option, Some, None, is_some, option_map, IfSome, if◌then◌else◌}
 use Rattle.std.specs.Option.{option_or}
 use Rattle.pfs_base.specs.declared.limits.TheConstants.{LONGEST_TIME, LONGEST_INPUT}
 use Rattle.pfs_base.specs.FlowShop.{with_time}
@@ -19,7 +19,7 @@ use Rattle.pfs_layout.specs.declared.fields.Phase.{Phase}
 use Rattle.pfs_layout.specs.declared.fields.Phase.TheVariants as phases
 use Rattle.pfs_layout.specs.declared.fields.Fields.{Fields}
 use Rattle.pfs_layout.specs.Bytes.{is_digit, is_blank, is_line_end}
-use Rattle.pfs_layout.specs.Size.{Size, is_within_limits}
+use Rattle.pfs_layout.specs.Size.{Size}
 use Rattle.pfs_layout.specs.Refuse.{size_fault}
 
 -- ---- the line so far

@@ -1,13 +1,13 @@
 -- What was taken of the piece, or of its front within the limit, is what feed owes.
-use Rattle.std.proofs.Common.{◌≡◌, ◌≢◌, ◌+◌, ◌-◌, ◌<◌, ◌≤◌, Bool, true, ◌++◌, length, take, sym, ◌∙◌, ap, subst, arith}
+use Rattle.std.proofs.Common.{◌≡◌, ◌≢◌, ◌-◌, true, length, take, sym, ◌∙◌, ap, subst, arith}
 use Rattle.std.specs.Prelude.{Err}
 use Rattle.std.proofs.lemmas.List.{length-take}
 use Rattle.pfs_base.specs.declared.limits.TheConstants.{LONGEST_INPUT}
 use Rattle.pfs_layout.specs.declared.fault.LayoutFault.TheVariants.{TooLong, Memory}
 use Rattle.pfs_layout.specs.declared.fields.Phase.TheVariants as phases
 use Rattle.pfs_layout.specs.declared.fields.Fields.{Fields}
-use Rattle.pfs_layout.specs.Step.{is_live, refused}
-use Rattle.pfs_layout.specs.Reader.{StandsAfter, TakeMeets, FeedMeets, progress_of}
+use Rattle.pfs_layout.specs.Step.{is_live}
+use Rattle.pfs_layout.specs.Reader.{FeedMeets}
 use Rattle.pfs_layout.proofs.StepLemmas.{live-memory}
 use Rattle.pfs_layout.proofs.ReaderLemmas.{live_follows}
 use Rattle.pfs_layout.proofs.FeedLemmas.{feed_of, reader_of, idle_meets, front_meets_as, long_meets_as, long_stands}

@@ -1,5 +1,5 @@
 -- Each byte leads on, and the last one ends the piece or the reading.
-use Rattle.std.proofs.Common.{◌≡◌, ◌+◌, ◌<◌, length, get_or, sym, ◌∙◌, subst, arith}
+use Rattle.std.proofs.Common.{◌+◌, get_or, sym, ◌∙◌, subst, arith}
 use Rattle.pfs_layout.specs.Step.{with_line, digits_after, kinds_after}
 use Rattle.pfs_layout.proofs.ReaderLemmas.{stands_of}
 use Rattle.pfs_layout.proofs.TakeLemmas.{TakenTo, taken_ready, taken_byte, taken_end, taken_all, meets_as}

@@ -1,7 +1,6 @@
 -- A reader that was refused memory stands nowhere, and no more times are held behind a piece than the wanted block has.
 use Rattle.std.proofs.Common.{◌≡◌, ◌++◌, sym, subst}
-use Rattle.std.specs.Prelude.{Err, IfErr}
-use Rattle.pfs_layout.specs.declared.fault.LayoutFault.TheVariants.{Memory}
+use Rattle.std.specs.Prelude.{IfErr}
 use Rattle.pfs_layout.specs.declared.fields.Phase.TheVariants as phases
 use Rattle.pfs_layout.specs.declared.fields.Fields.{Fields}
 use Rattle.pfs_layout.specs.Reader.{StandsAfter, HoldsFew}
