@@ -1,36 +1,29 @@
 -- A byte more: the fault that its place has, or what the fields say behind it.
-use Rattle.std.proofs.Common.{◌≡◌, ◌≢◌, ℕ, ◌+◌, ◌-◌, ◌<◌, ◌≤◌, min, Bool, true, false, not, ◌&&◌, ◌||◌, List, [], ◌∷◌, ◌++◌, length, count_by, refl, sym, ◌∙◌, ap, subst, arith, Option, Some, None, if◌then◌else◌, ◌==◌, nat_lt, ◌⊎◌, inl, inr}
+use Rattle.std.proofs.Common.{◌≡◌, ℕ, ◌+◌, ◌-◌, ◌<◌, ◌≤◌, Bool, true, false, not, ◌&&◌, ◌||◌, List, [], ◌∷◌, ◌++◌, length, count_by, refl, sym, ◌∙◌, ap, subst, arith, Option, Some, None, if◌then◌else◌, ◌==◌, nat_lt}
 use Rattle.std.specs.List.{list_any}
 use Rattle.std.specs.Bool.{then_some}
 use Rattle.std.specs.Option.{option_or}
 use Rattle.std.specs.Str.Parse.{digits_value}
-use Rattle.std.proofs.lemmas.Bool.{lt-ltb, ltb-true, eqb-true, eqb-false, eq-eqb, ne_eqb}
-use Rattle.std.proofs.lemmas.List.{append_assoc, append-nil, length-append, length_push}
+use Rattle.std.proofs.lemmas.Bool.{lt-ltb, ltb-true, ne_eqb}
 use Rattle.std.proofs.lemmas.List.Folds.{list_any-append}
 use Rattle.pfs_base.specs.declared.limits.TheConstants.{LONGEST_INPUT}
 use Rattle.pfs_base.specs.Lists.{is_empty, first_some}
-use Rattle.pfs_base.proofs.Lists.{by_push}
 use Rattle.pfs_layout.specs.declared.layout.Layout.{Layout}
 use Rattle.pfs_layout.specs.declared.fault.LayoutFault.{LayoutFault}
 use Rattle.pfs_layout.specs.declared.fault.LayoutFault.TheVariants.{MixedLine, TooLong}
-use Rattle.pfs_layout.specs.declared.scan.TheConstants.{CEILING}
 use Rattle.pfs_layout.specs.declared.scan.Digits.{Digits}
 use Rattle.pfs_layout.specs.declared.scan.Kinds.{Kinds}
-use Rattle.pfs_layout.specs.declared.fields.Phase.{Phase}
 use Rattle.pfs_layout.specs.declared.fields.Phase.TheVariants as phases
 use Rattle.pfs_layout.specs.declared.fields.Fields.{Fields}
 use Rattle.pfs_layout.specs.Bytes.{is_digit, is_blank, is_line_end, is_word_byte}
-use Rattle.pfs_layout.specs.Lines.{ended_lines, open_line, is_mixed, is_number_line, is_no_digit, values, numbers, ended_numbers, last_digits}
-use Rattle.pfs_layout.specs.Block.{due_at, are_due, is_due, stated_size}
-use Rattle.pfs_layout.specs.Stand.{Block, Now, seeking, inside, lost, Stand, stand, stand_after}
-use Rattle.pfs_layout.specs.Refuse.{too_long, mixed_line, misfit, ends_number, wrong_number, size_fault, wrong_size, ends_early, faults, fault_behind}
-use Rattle.pfs_layout.specs.Step.{is_live, is_in_block, refused, Keeps, number_ended, last_number_ended, line_ended_in, line_ended, judged}
+use Rattle.pfs_layout.specs.Lines.{ended_lines, open_line, is_mixed, is_number_line, numbers, ended_numbers, last_digits}
+use Rattle.pfs_layout.specs.Block.{due_at, stated_size}
+use Rattle.pfs_layout.specs.Stand.{Block, Now, seeking, inside, lost, Stand, stand}
+use Rattle.pfs_layout.specs.Refuse.{mixed_line, misfit, wrong_number, size_fault, wrong_size, ends_early, faults, fault_behind}
+use Rattle.pfs_layout.specs.Step.{is_live, is_in_block, refused, last_number_ended, line_ended, judged}
 use Rattle.pfs_layout.specs.Reader.{FollowsLine, FollowsNow, FollowsBlocks}
-use Rattle.pfs_layout.proofs.LineLemmas.{open_part-push, numbers_is}
-use Rattle.pfs_layout.proofs.SoundLemmas.{GoodNow, GoodBody, same_last, values_last, digit_there, misfit_none, are_due-push}
-use Rattle.pfs_layout.proofs.StepLemmas.{keeps_last}
-use Rattle.pfs_layout.proofs.NumberSteps.{NumberOutcome, misfit_in, number_step}
-use Rattle.pfs_layout.proofs.LineSteps.{Refuses, LineOutcome, sought_line, body_line}
+use Rattle.pfs_layout.proofs.SoundLemmas.{GoodNow}
+use Rattle.pfs_layout.proofs.LineSteps.{Refuses}
 use Rattle.pfs_layout.proofs.ScanLemmas.{digit-no_line_end, digit_is}
 
 -- ---- the fault of a place

@@ -1,18 +1,18 @@
 -- What a reader owes for a piece.
-use Rattle.std.proofs.Common.{◌≡◌, ◌≢◌, ℕ, ◌+◌, ◌-◌, ◌<◌, ◌≤◌, Bool, true, false, not, ◌&&◌, ◌||◌, List, [], ◌∷◌, ◌++◌, length, take, drop, get_or, count_by, refl, sym, ◌∙◌, ap, subst, arith, add-one, min, Option, Some, None, if◌then◌else◌, ◌==◌, nat_lt, ◌⊎◌, inl, inr}
-use Rattle.std.specs.Prelude.{Result, Ok, Err, slice_index, ◌↔◌, IfOk, IfErr, IsTrue, IsFalse}
+use Rattle.std.proofs.Common.{◌≡◌, ◌≢◌, ℕ, ◌+◌, ◌-◌, ◌<◌, ◌≤◌, Bool, true, false, not, ◌&&◌, ◌||◌, List, [], ◌∷◌, ◌++◌, length, take, drop, get_or, count_by, refl, sym, ◌∙◌, ap, subst, arith, add-one, min, Option, Some, None, if◌then◌else◌, ◌==◌, nat_lt}
+use Rattle.std.specs.Prelude.{Result, Ok, Err}
 use Rattle.std.specs.List.{list_any}
 use Rattle.std.specs.Bool.{then_some}
 use Rattle.std.specs.Option.{option_or}
 use Rattle.std.specs.Str.Parse.{digits_value}
-use Rattle.std.proofs.lemmas.Bool.{ltb-true, ltb-false, le-ltb, lt-ltb, eq-eqb}
+use Rattle.std.proofs.lemmas.Bool.{ltb-false, le-ltb, lt-ltb, eq-eqb}
 use Rattle.std.proofs.lemmas.List.{append_assoc, append-nil, length-append, take_all, take-append-drop, take-take, length-take, get_or-take}
 use Rattle.std.proofs.Math.Seq.{drop-cons}
 use Rattle.pfs_base.specs.declared.limits.TheConstants.{LONGEST_TIME, LONGEST_INPUT}
 use Rattle.pfs_base.specs.Lists.{is_empty, first_some}
 use Rattle.pfs_layout.specs.declared.layout.Layout.{Layout}
 use Rattle.pfs_layout.specs.declared.fault.LayoutFault.{LayoutFault}
-use Rattle.pfs_layout.specs.declared.fault.LayoutFault.TheVariants.{TimeRange, MachineNumber, ExtraNumber, SizeCount, SizeRange, MixedLine, TooLong, Memory}
+use Rattle.pfs_layout.specs.declared.fault.LayoutFault.TheVariants.{TimeRange, MachineNumber, SizeRange, MixedLine, TooLong, Memory}
 use Rattle.pfs_layout.specs.declared.fields.Phase.{Phase}
 use Rattle.pfs_layout.specs.declared.fields.Phase.TheVariants as phases
 use Rattle.pfs_layout.specs.declared.fields.Fields.{Fields}
@@ -21,9 +21,9 @@ use Rattle.pfs_layout.specs.Bytes.{is_blank, is_line_end, is_word_byte}
 use Rattle.pfs_layout.specs.Lines.{ended_lines, open_line, is_mixed, is_number_line, numbers, ended_numbers, last_digits}
 use Rattle.pfs_layout.specs.Size.{Size, is_within_limits}
 use Rattle.pfs_layout.specs.Block.{Due, any_time, machine_number, nothing, due_at, stated_size}
-use Rattle.pfs_layout.specs.Stand.{Block, Now, seeking, inside, lost, Stand, stand}
-use Rattle.pfs_layout.specs.Refuse.{too_long, mixed_line, misfit, ends_number, wrong_number, size_fault, wrong_size, ends_early, faults, fault_behind, byte_fault}
-use Rattle.pfs_layout.specs.Step.{is_live, refused, with_line}
+use Rattle.pfs_layout.specs.Stand.{Now, seeking, inside, lost, stand}
+use Rattle.pfs_layout.specs.Refuse.{too_long, mixed_line, misfit, wrong_number, size_fault, wrong_size, ends_early, faults, fault_behind, byte_fault}
+use Rattle.pfs_layout.specs.Step.{is_live, refused}
 use Rattle.pfs_layout.specs.Reader.{block_read, FollowsNow, Follows, IsRefused, StandsIn, StandsAfter, IsReader, TakeMeets, FeedMeets, progress_of, EndsWantedSize}
 use Rattle.pfs_layout.proofs.PlaceLemmas.{byte_fault-push}
 use Rattle.pfs_layout.proofs.SoundLemmas.{stand_of}
@@ -31,7 +31,7 @@ use Rattle.pfs_layout.proofs.GrowLemmas.{fewer_before}
 use Rattle.pfs_layout.proofs.EndLemmas.{byte_fault-more}
 use Rattle.pfs_layout.proofs.StepLemmas.{live-memory}
 use Rattle.pfs_layout.proofs.ByteSteps.{live_few}
-use Rattle.pfs_layout.proofs.ReaderLemmas.{live_follows, stands_of}
+use Rattle.pfs_layout.proofs.ReaderLemmas.{live_follows}
 
 -- ---- no byte has the fault of want of memory
 
@@ -155,17 +155,16 @@ feed_of old text piece used new m within whole = by_phase new.phase refl
         let all = whole now in
         let follows : Follows new (text ++ take used piece) = live_follows new (text ++ take used piece) now (m.stands no_memory) in
         let taken : take used piece ≡ piece = take_all used piece (omega arith) in
-        let right : byte_fault old.layout old.wanted (text ++ piece) ≡ None = same_place old new (text ++ piece) (m.layout no_memory) (m.wanted no_memory) ∙ ap (λ z. byte_fault new.layout new.wanted (text ++ z)) (sym taken) ∙ follows.sound in
+        let right : byte_fault old.layout old.wanted (text ++ piece) ≡ None = same_place old new (text ++ piece) (m.layout) (m.wanted) ∙ ap (λ z. byte_fault new.layout new.wanted (text ++ z)) (sym taken) ∙ follows.sound in
         record {
           ok = (within, m.stands no_memory);
-          layout = m.layout no_memory;
-          wanted = m.wanted no_memory;
+          layout = m.layout;
+          wanted = m.wanted;
           whole = λ h. all;
           done = (λ h. absurd (cc), λ h. absurd (not_done p live (sym e ∙ h)));
           no_more = m.no_more;
           refused = tt;
           exact = λ h fault. (λ z. absurd (cc), λ z. absurd (cc));
-          stays = tt;
           memory = λ h. absurd (cc);
         }
       where
@@ -180,17 +179,16 @@ feed_of old text piece used new m within whole = by_phase new.phase refl
         let no_memory : new.phase ≢ phases.Refused Memory = λ z. other (sym e ∙ z) in
         let follows : Follows new (text ++ take used piece) = subst (λ p. StandsIn p new (text ++ take used piece)) e (m.stands no_memory) in
         let fine : byte_fault new.layout new.wanted ((text ++ take used piece) ++ drop used piece) ≡ None = fine_more new.layout new.wanted (text ++ take used piece) (drop used piece) follows.sound (done_enough new (text ++ take used piece) follows e) in
-        let right : byte_fault old.layout old.wanted (text ++ piece) ≡ None = same_place old new (text ++ piece) (m.layout no_memory) (m.wanted no_memory) ∙ ap (byte_fault new.layout new.wanted) (whole_text text piece used) ∙ fine in
+        let right : byte_fault old.layout old.wanted (text ++ piece) ≡ None = same_place old new (text ++ piece) (m.layout) (m.wanted) ∙ ap (byte_fault new.layout new.wanted) (whole_text text piece used) ∙ fine in
         record {
           ok = (within, m.stands no_memory);
-          layout = m.layout no_memory;
-          wanted = m.wanted no_memory;
+          layout = m.layout;
+          wanted = m.wanted;
           whole = λ h. absurd (cc);
           done = (λ h. e, λ h. refl);
           no_more = m.no_more;
           refused = tt;
           exact = λ h fault. (λ z. absurd (cc), λ z. absurd (cc));
-          stays = tt;
           memory = λ h. absurd (cc);
         }
       where
@@ -202,8 +200,8 @@ feed_of old text piece used new m within whole = by_phase new.phase refl
         (refused_more new (text ++ take used piece) (drop used piece) fault (subst (λ p. StandsIn p new (text ++ take used piece)) e (m.stands (λ z. h (same_refusal (sym e ∙ z)))))) in
         record {
           ok = tt;
-          layout = tt;
-          wanted = tt;
+          layout = m.layout;
+          wanted = m.wanted;
           whole = tt;
           done = tt;
           no_more = tt;
@@ -211,9 +209,8 @@ feed_of old text piece used new m within whole = by_phase new.phase refl
           exact = λ h other.
               let no_memory : fault ≢ Memory = λ z. h (ap Err z) in
               let now : new.phase ≢ phases.Refused Memory = λ z. no_memory (same_refusal (sym e ∙ z)) in
-              let is : byte_fault old.layout old.wanted (text ++ piece) ≡ Some fault = same_place old new (text ++ piece) (m.layout now) (m.wanted now) ∙ refused_fault new (text ++ piece) fault (stood no_memory) in
+              let is : byte_fault old.layout old.wanted (text ++ piece) ≡ Some fault = same_place old new (text ++ piece) (m.layout) (m.wanted) ∙ refused_fault new (text ++ piece) fault (stood no_memory) in
               (λ z. is ∙ ap Some (same_error z), λ z. ap Err (same_some (sym is ∙ z)));
-          stays = e;
           memory = λ h. m.memory (e ∙ ap phases.Refused (same_error h));
         }
       where
@@ -226,13 +223,18 @@ feed_of old text piece used new m within whole = by_phase new.phase refl
         same_some : {a b : LayoutFault} → ◌≡◌ {A = Option LayoutFault} (Some a) (Some b) → a ≡ b
         same_some z = cc
 
+-- where a piece leaves a reader, or memory was refused
+pub reader_of : (old : Fields) (text piece : List ℕ) (used : ℕ) (new : Fields) → TakeMeets old text piece used new → IsReader new
+reader_of old text piece used new m = record { stands = λ h. (text ++ take used piece, m.stands h); none = m.none }
+
 -- a reader that wants no byte takes none
 pub idle_meets : (r : Fields) (text piece : List ℕ) → StandsAfter r text → TakeMeets r text piece 0 r
 idle_meets r text piece s = record {
-  layout = λ h. refl;
-  wanted = λ h. refl;
+  layout = refl;
+  wanted = refl;
   stands = λ h. subst (StandsAfter r) (sym (append-nil text)) s;
   memory = λ h. absurd (memory_nowhere r text h s);
+  none = λ h. absurd (memory_nowhere r text h s);
   no_more = λ n less. absurd (omega arith);
 }
 
@@ -255,6 +257,7 @@ front_meets old text piece room used new m within few = record {
             (subst (λ xs. EndsWantedSize old.layout old.wanted xs (get_or (take room piece) size.0 0)) (front_place text piece room size.0 (omega arith)) size.2),
       );
   no_more = λ n less. subst (λ xs. length (stand old.layout (ended_lines xs)).complete < old.wanted) (front_place text piece room n (omega arith)) (m.no_more n less);
+  none = m.none;
 }
 
 -- the limit is reached, and a byte follows
@@ -293,17 +296,16 @@ long_meets old text piece room mid m was s full within live =
       here = long_fault mid (text ++ take room piece) b follows live long;
       held = follows.blocks.held;
     } in
-    let is : byte_fault old.layout old.wanted (text ++ piece) ≡ Some TooLong = same_place old mid (text ++ piece) (m.layout no_memory) (m.wanted no_memory) ∙ refused_fault (refused mid TooLong) (text ++ piece) TooLong stood in
+    let is : byte_fault old.layout old.wanted (text ++ piece) ≡ Some TooLong = same_place old mid (text ++ piece) (m.layout) (m.wanted) ∙ refused_fault (refused mid TooLong) (text ++ piece) TooLong stood in
     record {
       ok = tt;
-      layout = tt;
-      wanted = tt;
+      layout = m.layout;
+      wanted = m.wanted;
       whole = tt;
       done = tt;
       no_more = tt;
       refused = λ h. stood;
       exact = λ h other. (λ z. is ∙ ap Some (same_error z), λ z. ap Err (same_some (sym is ∙ z)));
-      stays = refl;
       memory = λ h. absurd (not_memory (same_error h));
     }
   where

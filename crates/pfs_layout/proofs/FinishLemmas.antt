@@ -1,5 +1,5 @@
 -- What a reader says of the end of the input.
-use Rattle.std.proofs.Common.{◌≡◌, ◌≢◌, ℕ, ◌+◌, ◌-◌, ◌<◌, ◌≤◌, Bool, true, false, not, ◌&&◌, List, [], ◌∷◌, ◌++◌, length, count_by, refl, sym, ◌∙◌, ap, subst, arith, Option, Some, None, if◌then◌else◌, ◌==◌, nat_lt, ◌⊎◌, inl, inr}
+use Rattle.std.proofs.Common.{◌≡◌, ◌≢◌, ℕ, ◌+◌, ◌-◌, ◌<◌, ◌≤◌, Bool, true, false, not, ◌&&◌, List, [], ◌∷◌, ◌++◌, length, count_by, refl, sym, ◌∙◌, ap, arith, Option, Some, None, if◌then◌else◌, ◌==◌, nat_lt}
 use Rattle.std.specs.Prelude.{option_map, slice_get}
 use Rattle.std.specs.List.{list_any}
 use Rattle.std.specs.Bool.{then_some}
@@ -21,13 +21,13 @@ use Rattle.pfs_layout.specs.Bytes.{is_digit, is_line_end, is_word_byte}
 use Rattle.pfs_layout.specs.Lines.{lines, ended_lines, open_line, is_mixed, is_number_line, numbers, ended_numbers, last_digits}
 use Rattle.pfs_layout.specs.Size.{Size, is_within_limits}
 use Rattle.pfs_layout.specs.Block.{stated_size, due_count, due_at, are_due}
-use Rattle.pfs_layout.specs.Stand.{Block, Now, seeking, inside, lost, Stand, stand, stand_after, after_size, after_numbers, times_among, instance_of}
+use Rattle.pfs_layout.specs.Stand.{Block, seeking, inside, lost, Stand, stand, stand_after, after_size, after_numbers, instance_of}
 use Rattle.pfs_layout.specs.Refuse.{too_long, misfit, wrong_number, size_fault, wrong_size, missing, ends_early}
 use Rattle.pfs_layout.specs.Step.{stated_by, times_in, end_fault_in, end_fault}
-use Rattle.pfs_layout.specs.Reader.{block_of, FollowsBody, FollowsNow, FollowsBlocks}
+use Rattle.pfs_layout.specs.Reader.{FollowsBody, FollowsBlocks}
 use Rattle.pfs_layout.proofs.TableLemmas.{length-times_among}
 use Rattle.pfs_layout.proofs.NumberSteps.{keeping_of}
-use Rattle.pfs_layout.proofs.LineSteps.{clipped, Clips, clips, same_within, full_or_not, no_times}
+use Rattle.pfs_layout.proofs.LineSteps.{Clips, clips, same_within, full_or_not, no_times}
 use Rattle.pfs_layout.proofs.EndSteps.{number_fault}
 
 -- ---- where all lines lead

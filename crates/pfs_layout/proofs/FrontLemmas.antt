@@ -33,7 +33,7 @@ nothing_there Taillard size k h = ap (λ v. if v then any_time else nothing) (le
 nothing_there OrLib size k h = ap (λ v. if v then (if k % 2 == 0 then machine_number (k / 2 % size.machines) else any_time) else nothing) (le-ltb k (due_count OrLib size) h)
 
 -- no more numbers than that pass
-due_few : (layout : Layout) (size : Size) (numbers : List ℕ) → are_due layout size numbers ≡ true → length numbers ≤ due_count layout size
+pub due_few : (layout : Layout) (size : Size) (numbers : List ℕ) → are_due layout size numbers ≡ true → length numbers ≤ due_count layout size
 due_few layout size numbers all = by_count (cases_lt (due_count layout size) (length numbers))
   where
     by_count : (due_count layout size < length numbers) ⊎ (length numbers ≤ due_count layout size) → length numbers ≤ due_count layout size

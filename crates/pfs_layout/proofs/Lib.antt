@@ -14,6 +14,7 @@ pub mod FinishLemmas
 pub mod FrontLemmas
 pub mod GeneratorLemmas
 pub mod GrowLemmas
+pub mod HeldLemmas
 pub mod InputFaults
 pub mod LawLemmas
 pub mod LineLemmas

@@ -1,13 +1,11 @@
 -- A line that ends: the fault that it has, or what the fields say behind it.
-use Rattle.std.proofs.Common.{◌≡◌, ◌≢◌, ℕ, zero, suc, ◌+◌, ◌-◌, ◌*◌, ◌<◌, ◌≤◌, min, Bool, true, false, not, ◌&&◌, List, [], ◌∷◌, ◌++◌, length, get_or, refl, sym, ◌∙◌, ap, subst, arith, Option, Some, None, if◌then◌else◌, ◌==◌, nat_lt, nat_le, ◌⊎◌, inl, inr}
+use Rattle.std.proofs.Common.{◌≡◌, ◌≢◌, ℕ, zero, suc, ◌+◌, ◌-◌, ◌*◌, ◌<◌, ◌≤◌, min, Bool, true, false, not, ◌&&◌, List, [], ◌∷◌, ◌++◌, length, get_or, refl, sym, ◌∙◌, ap, subst, arith, Option, Some, None, if◌then◌else◌, ◌==◌, nat_lt, nat_le}
 use Rattle.std.specs.Prelude.{option_map, slice_get}
 use Rattle.std.specs.Bool.{then_some}
 use Rattle.std.specs.List.{list_any}
 use Rattle.std.proofs.lemmas.Bool.{lt-ltb, le-ltb, ltb-true, ltb-false, eqb-true, eqb-false, eq-eqb, ne_eqb, leb-true, leb-false, le-leb, lt-leb}
 use Rattle.std.proofs.lemmas.List.{append-nil, length-append, length_push}
 use Rattle.pfs_base.specs.declared.limits.TheConstants.{MOST_JOBS, MOST_MACHINES, GREATEST_NOTE}
-use Rattle.pfs_base.specs.declared.notes.Notes.{Notes}
-use Rattle.pfs_base.specs.Problem.{Problem}
 use Rattle.pfs_base.proofs.Lists.{slice_get-push}
 use Rattle.pfs_layout.specs.declared.layout.Layout.{Layout}
 use Rattle.pfs_layout.specs.declared.layout.Layout.TheVariants.{Taillard, OrLib}
@@ -16,18 +14,16 @@ use Rattle.pfs_layout.specs.declared.fault.LayoutFault.TheVariants.{SizeRange}
 use Rattle.pfs_layout.specs.declared.scan.TheConstants.{CEILING}
 use Rattle.pfs_layout.specs.declared.scan.Kinds.{Kinds}
 use Rattle.pfs_layout.specs.declared.size_line.SizeLine.{SizeLine}
-use Rattle.pfs_layout.specs.declared.body.Body.{Body}
-use Rattle.pfs_layout.specs.declared.fields.Phase.{Phase}
 use Rattle.pfs_layout.specs.declared.fields.Phase.TheVariants as phases
 use Rattle.pfs_layout.specs.declared.fields.Fields.{Fields}
 use Rattle.pfs_layout.specs.Bytes.{is_digit, is_word_byte}
 use Rattle.pfs_layout.specs.Lines.{is_mixed, is_number_line, numbers}
-use Rattle.pfs_layout.specs.Size.{Size, is_between, is_within_limits}
+use Rattle.pfs_layout.specs.Size.{Size, is_within_limits}
 use Rattle.pfs_layout.specs.Block.{due_count, stated_size, are_due}
-use Rattle.pfs_layout.specs.Stand.{Block, Now, seeking, inside, lost, Stand, after_size, after_numbers, stand_after, times_among, instance_of}
+use Rattle.pfs_layout.specs.Stand.{Block, seeking, inside, lost, Stand, after_size, after_numbers, stand_after, times_among, instance_of}
 use Rattle.pfs_layout.specs.Refuse.{size_fault}
-use Rattle.pfs_layout.specs.Step.{is_live, stated_by, body_of, refused, empty_problem, block_begun, size_judged, size_line_ended, block_ended, no_numbers, at_next_line, line_ended_in, line_ended}
-use Rattle.pfs_layout.specs.Reader.{block_of, time_count, HoldsNumbers, IsNextTime, FollowsBody, FollowsNow, FollowsBlocks}
+use Rattle.pfs_layout.specs.Step.{stated_by, body_of, empty_problem, block_begun, size_judged, size_line_ended, block_ended, no_numbers, at_next_line, line_ended_in, line_ended}
+use Rattle.pfs_layout.specs.Reader.{block_of, time_count, HoldsNumbers, FollowsBody, FollowsBlocks}
 use Rattle.pfs_layout.proofs.SizeLemmas.{size_within}
 use Rattle.pfs_layout.proofs.TableLemmas.{instance_of-none}
 

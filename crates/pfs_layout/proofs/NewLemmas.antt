@@ -1,8 +1,7 @@
 -- A reader that has read nothing.
-use Rattle.std.proofs.Common.{◌≡◌, ◌≢◌, ℕ, ◌≤◌, ◌<◌, Bool, true, false, List, [], length, refl, sym, ◌∙◌, ap, arith, Option, Some, None, if◌then◌else◌, ◌==◌, nat_lt}
-use Rattle.std.specs.Prelude.{option_map, replicate, slice_get, ◌-◌, ◌+◌}
+use Rattle.std.proofs.Common.{◌≡◌, ◌≤◌, ◌<◌, Bool, true, false, List, [], length, refl, sym, ◌∙◌, ap, arith, Option, None, if◌then◌else◌, ◌==◌}
+use Rattle.std.specs.Prelude.{option_map, slice_get, ◌-◌, ◌+◌}
 use Rattle.std.proofs.lemmas.Bool.{lt-ltb}
-use Rattle.pfs_layout.specs.declared.layout.Layout.{Layout}
 use Rattle.pfs_layout.specs.declared.size_line.SizeLine.{SizeLine}
 use Rattle.pfs_layout.specs.declared.fields.Phase.TheVariants as phases
 use Rattle.pfs_layout.specs.declared.fields.Fields.{Fields}

@@ -1,30 +1,19 @@
 -- What a reader's fields say once a number more is judged.
-use Rattle.std.proofs.Common.{◌≡◌, ◌≢◌, ℕ, zero, suc, ◌+◌, ◌-◌, ◌*◌, ◌/◌, ◌%◌, ◌<◌, ◌≤◌, min, Bool, true, false, not, List, [], ◌∷◌, ◌++◌, length, get_or, refl, sym, ◌∙◌, ap, subst, arith, Option, Some, None, if◌then◌else◌, ◌==◌, nat_lt, ◌⊎◌, inl, inr}
-use Rattle.std.specs.Prelude.{option_map, is_some, slice_set}
-use Rattle.std.specs.Bool.{then_some}
+use Rattle.std.proofs.Common.{◌≡◌, ◌≢◌, ℕ, ◌+◌, ◌*◌, ◌/◌, ◌%◌, ◌<◌, ◌≤◌, min, Bool, true, false, List, [], ◌∷◌, ◌++◌, length, get_or, refl, sym, ◌∙◌, ap, arith, Option, Some, None, if◌then◌else◌, ◌==◌, nat_lt, ◌⊎◌, inl, inr}
+use Rattle.std.specs.Prelude.{option_map, is_some}
 use Rattle.std.proofs.Math.ListN.{set, get_or-append}
-use Rattle.std.proofs.lemmas.Bool.{lt-ltb, le-ltb, ltb-true, ltb-false, eqb-true, eqb-false, eq-eqb, ne_eqb, cases_eq}
-use Rattle.std.proofs.lemmas.List.{append_assoc, length-append, length_push, get_or_push, get_or-set_same, get_or-set_other}
-use Rattle.std.proofs.lemmas.Nat.{mod-mul-add}
-use Rattle.pfs_base.specs.declared.limits.TheConstants.{MOST_MACHINES, LONGEST_TIME}
+use Rattle.std.proofs.lemmas.Bool.{ltb-false, eqb-true, eqb-false, cases_eq}
+use Rattle.std.proofs.lemmas.List.{length_push, get_or_push, get_or-set_same, get_or-set_other}
 use Rattle.pfs_base.specs.Problem.{Problem}
 use Rattle.pfs_layout.specs.declared.layout.Layout.{Layout}
 use Rattle.pfs_layout.specs.declared.layout.Layout.TheVariants.{Taillard, OrLib}
-use Rattle.pfs_layout.specs.declared.fault.LayoutFault.{LayoutFault}
-use Rattle.pfs_layout.specs.declared.fault.LayoutFault.TheVariants.{TimeRange, MachineNumber, ExtraNumber}
 use Rattle.pfs_layout.specs.declared.scan.TheConstants.{CEILING}
 use Rattle.pfs_layout.specs.declared.size_line.SizeLine.{SizeLine}
 use Rattle.pfs_layout.specs.declared.body.Body.{Body}
-use Rattle.pfs_layout.specs.declared.fields.Phase.{Phase}
-use Rattle.pfs_layout.specs.declared.fields.Phase.TheVariants as phases
-use Rattle.pfs_layout.specs.declared.fields.Fields.{Fields}
-use Rattle.pfs_layout.specs.Size.{Size, is_within_limits}
-use Rattle.pfs_layout.specs.Block.{Due, any_time, machine_number, nothing, due_count, pair_due, due_at}
-use Rattle.pfs_layout.specs.Stand.{Block, Now, seeking, inside, lost, Stand, times_among, place_of_time, instance_of}
-use Rattle.pfs_layout.specs.Refuse.{misfit}
-use Rattle.pfs_layout.specs.Step.{times_in, is_live, with_number, next_of, after_time, after_machine, refused, counted, with_problem_time, stored, time_judged, machine_judged, body_judged, number_ended_in, number_ended}
-use Rattle.pfs_layout.specs.Reader.{block_of, time_count, HoldsNumbers, IsNextTime, FollowsBody, FollowsNow, FollowsBlocks}
-use Rattle.pfs_layout.proofs.SizeLemmas.{size_within}
+use Rattle.pfs_layout.specs.Size.{Size}
+use Rattle.pfs_layout.specs.Stand.{Block, times_among, place_of_time, instance_of}
+use Rattle.pfs_layout.specs.Step.{times_in, with_number, next_of, after_time, after_machine, with_problem_time}
+use Rattle.pfs_layout.specs.Reader.{time_count, HoldsNumbers, FollowsBody}
 use Rattle.pfs_layout.proofs.TableLemmas.{instance_of-time, instance_of-machine, length-times_among}
 
 -- ---- a line that may be a size line

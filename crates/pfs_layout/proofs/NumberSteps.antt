@@ -1,11 +1,11 @@
 -- A number more: the fault that it has, or what the fields say behind it.
-use Rattle.std.proofs.Common.{◌≡◌, ◌≢◌, ℕ, ◌+◌, ◌*◌, ◌/◌, ◌%◌, ◌<◌, ◌≤◌, min, Bool, true, false, not, List, [], ◌∷◌, ◌++◌, length, refl, sym, ◌∙◌, ap, subst, arith, Option, Some, None, if◌then◌else◌, ◌==◌, nat_lt, ◌⊎◌, inl, inr}
-use Rattle.std.specs.Prelude.{◌-◌, option_map, is_some, slice_get}
+use Rattle.std.proofs.Common.{◌≡◌, ◌≢◌, ℕ, ◌+◌, ◌*◌, ◌/◌, ◌%◌, ◌<◌, ◌≤◌, min, Bool, true, false, not, List, [], ◌∷◌, ◌++◌, length, refl, sym, ◌∙◌, ap, subst, arith, Option, Some, None, if◌then◌else◌, ◌==◌, nat_lt}
+use Rattle.std.specs.Prelude.{◌-◌, option_map, slice_get}
 use Rattle.std.specs.Bool.{then_some}
 use Rattle.std.proofs.lemmas.Bool.{lt-ltb, le-ltb, ltb-true, ltb-false, eqb-true, eqb-false, eq-eqb, ne_eqb}
 use Rattle.std.proofs.lemmas.List.{append_assoc, length-append, length_push}
 use Rattle.std.proofs.lemmas.Nat.{mod-mul-add}
-use Rattle.pfs_base.specs.declared.limits.TheConstants.{MOST_MACHINES, LONGEST_TIME}
+use Rattle.pfs_base.specs.declared.limits.TheConstants.{LONGEST_TIME}
 use Rattle.pfs_base.specs.Problem.{Problem}
 use Rattle.pfs_layout.specs.declared.layout.Layout.{Layout}
 use Rattle.pfs_layout.specs.declared.layout.Layout.TheVariants.{Taillard, OrLib}
@@ -16,12 +16,12 @@ use Rattle.pfs_layout.specs.declared.body.Body.{Body}
 use Rattle.pfs_layout.specs.declared.fields.Phase.{Phase}
 use Rattle.pfs_layout.specs.declared.fields.Phase.TheVariants as phases
 use Rattle.pfs_layout.specs.declared.fields.Fields.{Fields}
-use Rattle.pfs_layout.specs.Size.{Size, is_within_limits}
-use Rattle.pfs_layout.specs.Block.{Due, any_time, machine_number, nothing, due_count, pair_due, due_at}
-use Rattle.pfs_layout.specs.Stand.{Block, Now, seeking, inside, lost, Stand, place_of_time, instance_of}
+use Rattle.pfs_layout.specs.Size.{Size}
+use Rattle.pfs_layout.specs.Block.{any_time, machine_number, nothing, due_count, pair_due, due_at}
+use Rattle.pfs_layout.specs.Stand.{Block, Now, seeking, inside, lost, place_of_time, instance_of}
 use Rattle.pfs_layout.specs.Refuse.{misfit}
-use Rattle.pfs_layout.specs.Step.{times_in, is_live, after_time, after_machine, is_machine_due, refused, counted, with_problem_time, stored, with_number, time_judged, machine_judged, body_judged, number_ended_in, number_ended}
-use Rattle.pfs_layout.specs.Reader.{block_of, time_count, HoldsNumbers, IsNextTime, FollowsBody, FollowsNow, FollowsBlocks}
+use Rattle.pfs_layout.specs.Step.{times_in, is_live, after_time, after_machine, is_machine_due, refused, counted, stored, with_number, time_judged, machine_judged, body_judged, number_ended_in, number_ended}
+use Rattle.pfs_layout.specs.Reader.{block_of, time_count, IsNextTime, FollowsBody, FollowsBlocks}
 use Rattle.pfs_layout.proofs.SizeLemmas.{size_within}
 use Rattle.pfs_layout.proofs.NumberLemmas.{holds_push, time_behind, machine_behind, Keeping, keeping_time, keeping_machine}
 

@@ -1,10 +1,10 @@
 -- What finish owes.
-use Rattle.std.proofs.Common.{◌≡◌, ◌≢◌, ℕ, zero, suc, ◌+◌, ◌-◌, ◌<◌, ◌≤◌, Bool, true, false, not, ◌&&◌, List, [], ◌∷◌, ◌++◌, length, count_by, refl, sym, ◌∙◌, ap, subst, arith, Option, Some, None, if◌then◌else◌, ◌==◌, nat_lt, ◌⊎◌, inl, inr}
+use Rattle.std.proofs.Common.{◌≡◌, ◌≢◌, ℕ, zero, suc, ◌+◌, ◌-◌, ◌<◌, ◌≤◌, Bool, true, false, not, ◌&&◌, List, [], ◌∷◌, ◌++◌, length, count_by, refl, sym, ◌∙◌, ap, subst, arith, Option, Some, None, if◌then◌else◌, ◌==◌, ◌⊎◌, inl, inr}
 use Rattle.std.specs.Prelude.{Result, Ok, Err, option_map, slice_get, is_none}
 use Rattle.std.specs.List.{list_any}
 use Rattle.std.specs.Option.{option_or}
 use Rattle.std.proofs.lemmas.Bool.{lt-ltb, le-ltb}
-use Rattle.std.proofs.lemmas.List.{append-nil, length-append}
+use Rattle.std.proofs.lemmas.List.{append-nil}
 use Rattle.pfs_base.specs.Limits.{limits}
 use Rattle.pfs_base.specs.Lists.{is_empty, first_some}
 use Rattle.pfs_base.specs.Problem.{Problem}
@@ -21,19 +21,18 @@ use Rattle.pfs_layout.specs.Block.{due_count, stated_size, are_due}
 use Rattle.pfs_layout.specs.Stand.{Block, Now, seeking, inside, lost, Stand, stand, stand_after, instance_of}
 use Rattle.pfs_layout.specs.File.{File}
 use Rattle.pfs_layout.specs.Laws.{ExactlyOne}
-use Rattle.pfs_layout.specs.Refuse.{mixed_line, size_fault, ends_early, faults, fault_behind, byte_fault, refusal, accepted, Refuse}
-use Rattle.pfs_layout.specs.Step.{is_live, refused, Keeps, last_number_ended, end_fault_in, end_fault, at_end}
-use Rattle.pfs_layout.specs.Reader.{block_begun_by, block_of, FollowsNow, FollowsBlocks, Follows, IsRefused, StandsIn, StandsAfter, FinishMeets}
+use Rattle.pfs_layout.specs.Refuse.{mixed_line, size_fault, ends_early, faults, fault_behind, refusal, accepted, Refuse}
+use Rattle.pfs_layout.specs.Step.{is_live, last_number_ended, end_fault_in, end_fault, at_end}
+use Rattle.pfs_layout.specs.Reader.{block_begun_by, block_of, FollowsBlocks, Follows, StandsIn, StandsAfter, FinishMeets}
 use Rattle.pfs_layout.proofs.PlaceLemmas.{refusal_is}
 use Rattle.pfs_layout.proofs.SoundLemmas.{GoodNow, GoodBody, stand_of, sound}
-use Rattle.pfs_layout.proofs.StandLemmas.{IsBegun, Fits, IsMade, made}
+use Rattle.pfs_layout.proofs.StandLemmas.{IsBegun, Fits, made}
 use Rattle.pfs_layout.proofs.GrowLemmas.{Extends, grows}
 use Rattle.pfs_layout.proofs.EndLemmas.{refusal_end, byte_fault_refuses}
 use Rattle.pfs_layout.proofs.LawLemmas.{accepted_law, one_verdict}
 use Rattle.pfs_layout.proofs.StepLemmas.{keeps_last}
 use Rattle.pfs_layout.proofs.ByteSteps.{live_few, sought_phase}
 use Rattle.pfs_layout.proofs.EndSteps.{number_fault, NumberPart, number_part, due_line}
-use Rattle.pfs_layout.proofs.ReaderLemmas.{live_follows}
 use Rattle.pfs_layout.proofs.FeedLemmas.{refused_fault, done_enough}
 use Rattle.pfs_layout.proofs.FinishLemmas.{stand_lines, sought_fault, sought_end, sought_told, begun_end, BegunEnd, begun_told}
 

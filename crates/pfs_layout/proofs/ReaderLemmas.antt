@@ -1,6 +1,6 @@
 -- Where a reader stands after one byte more.
-use Rattle.std.proofs.Common.{◌≡◌, ◌≢◌, ℕ, ◌+◌, ◌-◌, ◌<◌, ◌≤◌, Bool, true, false, not, ◌&&◌, ◌||◌, List, [], ◌∷◌, ◌++◌, length, count_by, refl, sym, ◌∙◌, ap, subst, arith, Option, Some, None, if◌then◌else◌, ◌==◌, nat_lt, ◌⊎◌, inl, inr}
-use Rattle.std.specs.Prelude.{◌*◌, ◌/◌, min, option_map, IfSome}
+use Rattle.std.proofs.Common.{◌≡◌, ℕ, ◌+◌, ◌<◌, ◌≤◌, Bool, true, false, not, ◌&&◌, ◌||◌, List, [], ◌∷◌, ◌++◌, length, count_by, refl, sym, ◌∙◌, ap, subst, arith, Option, Some, None, if◌then◌else◌, ◌==◌, nat_lt, ◌⊎◌, inl, inr}
+use Rattle.std.specs.Prelude.{option_map, IfSome}
 use Rattle.std.specs.List.{list_any}
 use Rattle.std.specs.Option.{option_or}
 use Rattle.std.proofs.Math.Nat.{mul-le-mul}
@@ -12,22 +12,21 @@ use Rattle.pfs_base.specs.declared.limits.TheConstants.{LONGEST_INPUT}
 use Rattle.pfs_base.specs.Problem.{Problem}
 use Rattle.pfs_layout.specs.declared.layout.Layout.{Layout}
 use Rattle.pfs_layout.specs.declared.layout.Layout.TheVariants.{Taillard, OrLib}
-use Rattle.pfs_layout.specs.declared.scan.TheConstants.{CEILING}
 use Rattle.pfs_layout.specs.declared.fault.LayoutFault.{LayoutFault}
-use Rattle.pfs_layout.specs.declared.fault.LayoutFault.TheVariants.{MixedLine, Memory}
+use Rattle.pfs_layout.specs.declared.fault.LayoutFault.TheVariants.{MixedLine}
 use Rattle.pfs_layout.specs.declared.scan.Digits.{Digits}
 use Rattle.pfs_layout.specs.declared.scan.Kinds.{Kinds}
 use Rattle.pfs_layout.specs.declared.fields.Phase.{Phase}
 use Rattle.pfs_layout.specs.declared.fields.Phase.TheVariants as phases
 use Rattle.pfs_layout.specs.declared.fields.Fields.{Fields}
 use Rattle.pfs_layout.specs.Bytes.{is_digit, is_blank, is_line_end, is_word_byte}
-use Rattle.pfs_layout.specs.Lines.{ended_parts, ended_lines, open_line, numbers, ended_numbers}
+use Rattle.pfs_layout.specs.Lines.{ended_parts, open_line, numbers, ended_numbers}
 use Rattle.pfs_layout.specs.Size.{Size, is_within_limits}
 use Rattle.pfs_layout.specs.Block.{due_count}
-use Rattle.pfs_layout.specs.Stand.{Block, Now, seeking, inside, lost, Stand, stand, stand_after, instance_of}
+use Rattle.pfs_layout.specs.Stand.{Block, Now, seeking, inside, lost, Stand, stand_after, instance_of}
 use Rattle.pfs_layout.specs.Refuse.{fault_behind, byte_fault}
-use Rattle.pfs_layout.specs.Step.{is_live, is_in_block, refused, digits_after, kinds_after, Keeps, number_ended, last_number_ended, line_ended, judged, with_line, stepped, no_numbers, LacksMemory, CanCount, IsReady, times_in}
-use Rattle.pfs_layout.specs.Reader.{block_of, block_read, time_count, FollowsLine, FollowsBody, FollowsNow, FollowsBlocks, Follows, IsRefused, StandsIn, StandsAfter, IsReader}
+use Rattle.pfs_layout.specs.Step.{is_live, is_in_block, refused, digits_after, kinds_after, number_ended, last_number_ended, line_ended, judged, with_line, stepped, CanCount, IsReady, times_in}
+use Rattle.pfs_layout.specs.Reader.{block_read, time_count, FollowsBody, FollowsNow, FollowsBlocks, Follows, StandsIn, StandsAfter, IsReader}
 use Rattle.pfs_layout.proofs.LineLemmas.{open_part-push, ended_numbers-push}
 use Rattle.pfs_layout.proofs.PlaceLemmas.{byte_fault-push}
 use Rattle.pfs_layout.proofs.SoundLemmas.{GoodNow, stand_of, stand_of-push, sound}
@@ -366,4 +365,4 @@ end_ready r text f live = record {
 }
 
 pub reader_end_ready : (r : Fields) → IsReader r → is_live r.phase ≡ true → IsEndReady r
-reader_end_ready r some live = let s = some (live-memory r.phase live) in end_ready r s.0 (live_follows r s.0 live s.1) live
+reader_end_ready r some live = let s = some.stands (live-memory r.phase live) in end_ready r s.0 (live_follows r s.0 live s.1) live

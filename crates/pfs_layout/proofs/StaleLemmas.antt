@@ -2,7 +2,7 @@
 use Rattle.std.proofs.Common.{◌≡◌, ℕ, Bool, true, false, not, ◌&&◌, ◌||◌, refl, sym, ◌∙◌, ap, Option, Some, None, if◌then◌else◌, ◌==◌, nat_lt}
 use Rattle.pfs_base.specs.declared.limits.TheConstants.{LONGEST_TIME}
 use Rattle.pfs_layout.specs.declared.fault.LayoutFault.{LayoutFault}
-use Rattle.pfs_layout.specs.declared.fault.LayoutFault.TheVariants.{MixedLine, TimeRange, MachineNumber, ExtraNumber}
+use Rattle.pfs_layout.specs.declared.fault.LayoutFault.TheVariants.{MixedLine, TimeRange, MachineNumber}
 use Rattle.pfs_layout.specs.declared.scan.Digits.{Digits}
 use Rattle.pfs_layout.specs.declared.scan.Kinds.{Kinds}
 use Rattle.pfs_layout.specs.declared.fields.Phase.{Phase}
@@ -11,7 +11,7 @@ use Rattle.pfs_layout.specs.declared.fields.Fields.{Fields}
 use Rattle.pfs_layout.specs.Bytes.{is_digit, is_blank, is_line_end}
 use Rattle.pfs_layout.specs.Size.{Size}
 use Rattle.pfs_layout.specs.Refuse.{size_fault}
-use Rattle.pfs_layout.specs.Step.{is_in_block, stated_by, is_machine_due, after_machine, after_time, refused, counted, stored, time_judged, machine_judged, body_judged, number_ended_in, number_ended, size_judged, size_line_ended, at_next_line, line_ended_in, line_ended, last_number_ended, judged, with_line}
+use Rattle.pfs_layout.specs.Step.{is_in_block, stated_by, is_machine_due, after_machine, after_time, refused, counted, stored, time_judged, machine_judged, number_ended_in, number_ended, size_judged, size_line_ended, at_next_line, line_ended_in, line_ended, last_number_ended, judged, with_line}
 
 -- equal but for their last lines
 abbrev Same : Fields → Fields → Type 0

@@ -1,10 +1,10 @@
 -- What the judgement of a number leaves as it is.
-use Rattle.std.proofs.Common.{◌≡◌, ◌≢◌, ℕ, ◌+◌, ◌≤◌, Bool, true, false, not, ◌&&◌, length, Option, Some, None, arith, refl, sym, ◌∙◌, ap, if◌then◌else◌, ◌==◌, nat_lt}
+use Rattle.std.proofs.Common.{◌≡◌, ◌≢◌, ℕ, ◌+◌, ◌≤◌, Bool, true, false, not, ◌&&◌, length, Option, Some, None, arith, refl, ap, if◌then◌else◌, ◌==◌, nat_lt, ◌⊎◌, inl, inr}
 use Rattle.std.specs.Prelude.{slice_set}
 use Rattle.std.proofs.lemmas.List.{length-set}
 use Rattle.pfs_base.specs.declared.limits.TheConstants.{LONGEST_TIME}
 use Rattle.pfs_layout.specs.declared.fault.LayoutFault.{LayoutFault}
-use Rattle.pfs_layout.specs.declared.fault.LayoutFault.TheVariants.{TimeRange, MachineNumber, ExtraNumber, Memory}
+use Rattle.pfs_layout.specs.declared.fault.LayoutFault.TheVariants.{NoBlock, SizeCount, SizeRange, MixedLine, TimeRange, MachineNumber, ExtraNumber, Truncated, TooLong, SeedRange, Read, Memory}
 use Rattle.pfs_layout.specs.declared.scan.Digits.{Digits}
 use Rattle.pfs_layout.specs.declared.scan.Kinds.{Kinds}
 use Rattle.pfs_layout.specs.declared.size_line.SizeLine.{SizeLine}
@@ -25,29 +25,29 @@ counted_by true e = cc
 counted_by false e = cc
 
 keeps_counted : (r : Fields) (body : Body) → Keeps r (counted r body)
-keeps_counted r body = record { layout = refl; wanted = refl; complete = refl; line = refl; sought = λ e. absurd (live_counted (nat_lt body.judged body.due) e); memory = counted_by (nat_lt body.judged body.due) }
+keeps_counted r body = record { layout = refl; wanted = refl; complete = refl; line = refl; sought = λ e. absurd (live_counted (nat_lt body.judged body.due) e); held = λ e. absurd (live_counted (nat_lt body.judged body.due) e); memory = counted_by (nat_lt body.judged body.due) }
 
 keeps_stored : (r : Fields) (time : ℕ) (body : Body) → Keeps r (counted (stored r time) body)
-keeps_stored r time body = record { layout = refl; wanted = refl; complete = refl; line = refl; sought = λ e. absurd (live_counted (nat_lt body.judged body.due) e); memory = counted_by (nat_lt body.judged body.due) }
+keeps_stored r time body = record { layout = refl; wanted = refl; complete = refl; line = refl; sought = λ e. absurd (live_counted (nat_lt body.judged body.due) e); held = λ e. absurd (live_counted (nat_lt body.judged body.due) e); memory = counted_by (nat_lt body.judged body.due) }
 
 keeps_time : (v : Bool) (r : Fields) (value first : ℕ) → Keeps r (if v then refused r (TimeRange first) else counted (stored r value) (after_time r.layout r.body))
-keeps_time true r value first = record { layout = refl; wanted = refl; complete = refl; line = refl; sought = λ e. absurd (cc); memory = λ e. cc }
+keeps_time true r value first = record { layout = refl; wanted = refl; complete = refl; line = refl; sought = λ e. absurd (cc); held = λ e. absurd (cc); memory = λ e. cc }
 keeps_time false r value first = keeps_stored r value (after_time r.layout r.body)
 
 keeps_machine : (v : Bool) (r : Fields) (first : ℕ) → Keeps r (if v then counted r (after_machine r.body) else refused r (MachineNumber first))
 keeps_machine true r first = keeps_counted r (after_machine r.body)
-keeps_machine false r first = record { layout = refl; wanted = refl; complete = refl; line = refl; sought = λ e. absurd (cc); memory = λ e. cc }
+keeps_machine false r first = record { layout = refl; wanted = refl; complete = refl; line = refl; sought = λ e. absurd (cc); held = λ e. absurd (cc); memory = λ e. cc }
 
 keeps_body : (v : Bool) (r : Fields) (value first : ℕ) → Keeps r (if v then machine_judged r value first else time_judged r value first)
 keeps_body true r value first = keeps_machine (value == r.body.machine) r first
 keeps_body false r value first = keeps_time (nat_lt LONGEST_TIME value) r value first
 
 keeps_in : (phase : Phase) (r : Fields) (value first : ℕ) → r.phase ≢ phases.Refused Memory → Keeps r (number_ended_in phase r value first)
-keeps_in phases.Seeking r value first h = record { layout = refl; wanted = refl; complete = refl; line = refl; sought = λ e. e; memory = h }
+keeps_in phases.Seeking r value first h = record { layout = refl; wanted = refl; complete = refl; line = refl; sought = λ e. e; held = λ e. refl; memory = h }
 keeps_in phases.Body r value first h = keeps_body (is_machine_due r.layout r.body) r value first
-keeps_in phases.AfterLast r value first h = record { layout = refl; wanted = refl; complete = refl; line = refl; sought = λ e. absurd (cc); memory = λ e. cc }
-keeps_in phases.Done r value first h = record { layout = refl; wanted = refl; complete = refl; line = refl; sought = λ e. e; memory = h }
-keeps_in (phases.Refused fault) r value first h = record { layout = refl; wanted = refl; complete = refl; line = refl; sought = λ e. e; memory = h }
+keeps_in phases.AfterLast r value first h = record { layout = refl; wanted = refl; complete = refl; line = refl; sought = λ e. absurd (cc); held = λ e. absurd (cc); memory = λ e. cc }
+keeps_in phases.Done r value first h = record { layout = refl; wanted = refl; complete = refl; line = refl; sought = λ e. e; held = λ e. refl; memory = h }
+keeps_in (phases.Refused fault) r value first h = record { layout = refl; wanted = refl; complete = refl; line = refl; sought = λ e. e; held = λ e. refl; memory = h }
 
 pub live-memory : (phase : Phase) → is_live phase ≡ true → phase ≢ phases.Refused Memory
 live-memory phases.Seeking live e = cc
@@ -55,6 +55,25 @@ live-memory phases.Body live e = cc
 live-memory phases.AfterLast live e = cc
 live-memory phases.Done live e = cc
 live-memory (phases.Refused fault) live e = cc
+
+-- whether a reader was refused memory
+pub refused_memory : (phase : Phase) → (phase ≡ phases.Refused Memory) ⊎ (phase ≢ phases.Refused Memory)
+refused_memory phases.Seeking = inr (λ e. cc)
+refused_memory phases.Body = inr (λ e. cc)
+refused_memory phases.AfterLast = inr (λ e. cc)
+refused_memory phases.Done = inr (λ e. cc)
+refused_memory (phases.Refused Memory) = inl refl
+refused_memory (phases.Refused Read) = inr (λ e. cc)
+refused_memory (phases.Refused SeedRange) = inr (λ e. cc)
+refused_memory (phases.Refused TooLong) = inr (λ e. cc)
+refused_memory (phases.Refused (NoBlock n)) = inr (λ e. cc)
+refused_memory (phases.Refused (SizeCount n)) = inr (λ e. cc)
+refused_memory (phases.Refused (SizeRange n)) = inr (λ e. cc)
+refused_memory (phases.Refused (MixedLine n)) = inr (λ e. cc)
+refused_memory (phases.Refused (TimeRange n)) = inr (λ e. cc)
+refused_memory (phases.Refused (MachineNumber n)) = inr (λ e. cc)
+refused_memory (phases.Refused (ExtraNumber n)) = inr (λ e. cc)
+refused_memory (phases.Refused (Truncated n)) = inr (λ e. cc)
 
 pub keeps_number : (r : Fields) (value first : ℕ) → is_live r.phase ≡ true → Keeps r (number_ended r value first)
 unfolding number_ended
@@ -64,7 +83,7 @@ pub keeps_last : (r : Fields) (digits : Digits) → is_live r.phase ≡ true →
 keeps_last r digits live = by_none (digits.first == digits.offset)
   where
     by_none : (v : Bool) → Keeps r (if v then r else number_ended r digits.value digits.first)
-    by_none true = record { layout = refl; wanted = refl; complete = refl; line = refl; sought = λ e. e; memory = live-memory r.phase live }
+    by_none true = record { layout = refl; wanted = refl; complete = refl; line = refl; sought = λ e. e; held = λ e. refl; memory = live-memory r.phase live }
     by_none false = keeps_number r digits.value digits.first live
 
 -- ---- the numbers of a line that may be a size line

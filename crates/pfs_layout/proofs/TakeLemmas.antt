@@ -1,26 +1,25 @@
 -- Where a reader stands within a piece.
-use Rattle.std.proofs.Common.{◌≡◌, ◌≢◌, ℕ, ◌+◌, ◌<◌, ◌≤◌, Bool, true, false, List, [], ◌∷◌, ◌++◌, length, take, get_or, refl, sym, ◌∙◌, ap, subst, arith, Option, Some, None, if◌then◌else◌, nat_lt, ◌⊎◌, inl, inr}
+use Rattle.std.proofs.Common.{◌≡◌, ◌≢◌, ℕ, ◌+◌, ◌<◌, ◌≤◌, Bool, true, false, List, [], ◌∷◌, ◌++◌, length, take, get_or, refl, sym, ◌∙◌, ap, subst, arith, None, if◌then◌else◌, nat_lt, ◌⊎◌, inl, inr}
+use Rattle.std.specs.Prelude.{◌-◌, ◌==◌, slice_get}
 use Rattle.std.specs.List.{list_any}
 use Rattle.std.proofs.lemmas.Bool.{cases_eq, lt-ltb}
-use Rattle.std.proofs.lemmas.List.{append_assoc, append-nil, length-append, take_more, take_all}
+use Rattle.std.proofs.lemmas.List.{append_assoc, append-nil, take_more}
 use Rattle.pfs_base.specs.declared.limits.TheConstants.{LONGEST_INPUT}
-use Rattle.pfs_layout.specs.declared.layout.Layout.{Layout}
 use Rattle.pfs_layout.specs.declared.fault.LayoutFault.TheVariants.{Memory}
 use Rattle.pfs_layout.specs.declared.scan.Digits.{Digits}
 use Rattle.pfs_layout.specs.declared.scan.Kinds.{Kinds}
-use Rattle.pfs_layout.specs.declared.fields.Phase.{Phase}
 use Rattle.pfs_layout.specs.declared.fields.Phase.TheVariants as phases
 use Rattle.pfs_layout.specs.declared.fields.Fields.{Fields}
-use Rattle.pfs_layout.specs.Bytes.{is_word_byte, is_line_end}
+use Rattle.pfs_layout.specs.Bytes.{is_word_byte}
 use Rattle.pfs_layout.specs.Lines.{ended_lines, open_line, ended_numbers}
 use Rattle.pfs_layout.specs.Stand.{Block, Now, seeking, inside, lost, Stand, stand}
-use Rattle.pfs_layout.specs.Step.{is_live, digits_after, kinds_after, judged, with_line, stepped, LacksMemory, IsReady}
-use Rattle.pfs_layout.specs.Reader.{FollowsNow, Follows, StandsAfter, EndsWantedSize, TakeMeets}
+use Rattle.pfs_layout.specs.Step.{is_live, digits_after, kinds_after, judged, with_line, stepped, KeepsHeld, LacksMemory, IsReady}
+use Rattle.pfs_layout.specs.Reader.{block_begun_by, block_of, time_count, FollowsNow, Follows, StandsAfter, EndsWantedSize, TakeMeets}
 use Rattle.pfs_layout.proofs.SoundLemmas.{stand_of}
-use Rattle.pfs_layout.proofs.StepLemmas.{live-memory}
+use Rattle.pfs_layout.proofs.StepLemmas.{live-memory, refused_memory}
 use Rattle.pfs_layout.proofs.StaleLemmas.{stale_line}
 use Rattle.pfs_layout.proofs.ByteSteps.{live_few}
-use Rattle.pfs_layout.proofs.ReaderLemmas.{Carries, carries, live_follows, step_stands, follows_ready}
+use Rattle.pfs_layout.proofs.ReaderLemmas.{carries, live_follows, step_stands, follows_ready}
 
 -- a live reader behind the first bytes of a piece
 pub record TakenTo (old now : Fields) (piece : List ℕ) (i : ℕ) : Type 0 where
@@ -125,6 +124,26 @@ wanted_size r text b f live short e m =
       begun = (begun.0, subst (λ l. (stand l (ended_lines (text ++ b ∷ []))).now ≡ inside begun.0) c.layout begun.1);
     }
 
+-- no time is held before the wanted block's size line ends
+none_yet : (r : Fields) (text : List ℕ) → Follows r text → r.phase ≡ phases.Seeking → r.complete + 1 ≡ r.wanted → r.held ≡ 0
+none_yet r text f sought wanted = f.blocks.held ∙ ap (time_count r.layout) none
+  where
+    stood : Stand
+    stood = stand_of r.layout text
+
+    more : List ℕ
+    more = ended_numbers (open_line text)
+
+    either : (t : Bool) → (if t then block_begun_by seeking more else None) ≡ None
+    either true = refl
+    either false = refl
+
+    none : block_of r.wanted stood more ≡ None
+    none =
+        ap (λ t. if t then (if length stood.complete + 1 == r.wanted then block_begun_by stood.now more else None) else slice_get stood.complete (r.wanted - 1)) (lt-ltb (length stood.complete) r.wanted (let c = f.blocks.complete in omega arith))
+        ∙ ap (λ now. if length stood.complete + 1 == r.wanted then block_begun_by now more else None) (seeks (list_any is_word_byte (open_line text)) r stood.now more f.blocks.now sought)
+        ∙ either (length stood.complete + 1 == r.wanted)
+
 -- ---- the bytes that were taken
 
 -- with the fields of an older last line
@@ -144,32 +163,42 @@ taken_byte old r next digits kinds piece i t within room is live =
 pub taken_end : (old r next : Fields) (digits : Digits) (kinds : Kinds) (piece : List ℕ) (i : ℕ) → TakenTo old (with_line r digits kinds) piece i → i < length piece → old.digits.offset + length piece ≤ LONGEST_INPUT
     → (next.phase ≢ phases.Refused Memory → next ≡ judged r digits kinds (get_or piece i 0))
     → (next.phase ≡ phases.Refused Memory → (get_or piece i 0 ≡ 10) × LacksMemory r (judged r digits kinds (get_or piece i 0)))
+    → (next.phase ≡ phases.Refused Memory → KeepsHeld r next)
     → (text : List ℕ) → StandsAfter old text
     → TakeMeets old text piece (i + 1) (with_line next (digits_after digits (get_or piece i 0)) (kinds_after kinds (get_or piece i 0)))
-taken_end old r next digits kinds piece i t within room is lacks text s =
+taken_end old r next digits kinds piece i t within room is lacks keeps text s =
     let b : ℕ = get_or piece i 0 in
     let now : Fields = with_line r digits kinds in
     let c = carries now b t.live in
     record {
-      layout = λ h. ap (λ (z : Fields). z.layout) (step_is r next digits kinds b (is h)) ∙ c.layout ∙ t.layout;
-      wanted = λ h. ap (λ (z : Fields). z.wanted) (step_is r next digits kinds b (is h)) ∙ c.wanted ∙ t.wanted;
+      layout = either (λ h. ap (λ (z : Fields). z.layout) (step_is r next digits kinds b (is h)) ∙ c.layout ∙ t.layout) (λ h. (keeps h).layout ∙ t.layout);
+      wanted = either (λ h. ap (λ (z : Fields). z.wanted) (step_is r next digits kinds b (is h)) ∙ c.wanted ∙ t.wanted) (λ h. (keeps h).wanted ∙ t.wanted);
       stands = λ h. subst (λ z. StandsAfter z (text ++ take (i + 1) piece)) (sym (step_is r next digits kinds b (is h))) (stands_then old now piece i text t s within room);
       memory = λ h. let m = lacks h in
           let same = stale_line r digits kinds b (digits_after digits b) (kinds_after kinds b) in
           let begins_now : (judged now digits kinds b).phase ≡ phases.Body = ap (λ (z : Fields). z.phase) same ∙ m.1.begins in
           let size = wanted_size now (text ++ take i piece) b (t.follows text s) t.live (taken_short old now piece i text t s within room) m.0 (record { sought = m.1.sought; wanted = m.1.wanted; begins = begins_now }) in
           (i, within, subst (λ l. EndsWantedSize l old.wanted (text ++ take i piece) b) t.layout (subst (λ k. EndsWantedSize now.layout k (text ++ take i piece) b) t.wanted size));
+      none = λ h. (keeps h).held ∙ none_yet now (text ++ take i piece) (t.follows text s) (lacks h).1.sought (lacks h).1.wanted;
       no_more = λ n less. no_more_then old now piece i text t s n less;
     }
+  where
+    either : {A : Type 0} {x y : A} → (next.phase ≢ phases.Refused Memory → x ≡ y) → (next.phase ≡ phases.Refused Memory → x ≡ y) → x ≡ y
+    either {x = x} {y = y} other same = by_memory (refused_memory next.phase)
+      where
+        by_memory : (next.phase ≡ phases.Refused Memory) ⊎ (next.phase ≢ phases.Refused Memory) → x ≡ y
+        by_memory (inl e) = same e
+        by_memory (inr e) = other e
 
 -- the whole piece
 pub taken_all : (old now : Fields) (piece : List ℕ) (i : ℕ) → TakenTo old now piece i → length piece ≤ i → (text : List ℕ) → StandsAfter old text → ((z : Fields) (text : List ℕ) → Follows z text → StandsAfter z text)
     → TakeMeets old text piece i now
 taken_all old now piece i t all text s stands = record {
-  layout = λ h. t.layout;
-  wanted = λ h. t.wanted;
+  layout = t.layout;
+  wanted = t.wanted;
   stands = λ h. stands now (text ++ take i piece) (t.follows text s);
   memory = λ h. absurd (live-memory now.phase t.live h);
+  none = λ h. absurd (live-memory now.phase t.live h);
   no_more = λ n less. t.no_more text s n less;
 }
 

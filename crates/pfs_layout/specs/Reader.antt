@@ -1,7 +1,6 @@
 -- What the fields of a reader say of the bytes that it has read.
 use Rattle.std.specs.Prelude.{◌≡◌, ◌≢◌, ◌↔◌, ℕ, ◌+◌, ◌-◌, ◌*◌, ◌/◌, ◌<◌, ◌≤◌, min, Bool, true, false, nat_lt, List, [], ◌∷◌, ◌++◌, length, take, count_by, slice_index, Option, Some, None, option_map, Result, Ok, Err, IfOk, IfErr, IsTrue, IsFalse, if◌then◌else◌, ◌==◌, slice_get}
 use Rattle.std.specs.List.{list_any}
-use Rattle.std.specs.Option.{option_map_or}
 use Rattle.std.specs.Str.Parse.{digits_value}
 use Rattle.pfs_base.specs.declared.limits.TheConstants.{LONGEST_INPUT}
 use Rattle.pfs_base.specs.Limits.{limits}
@@ -130,9 +129,28 @@ StandsIn (phases.Refused fault) r text = IsRefused r text fault
 abbrev pub StandsAfter : Fields → List ℕ → Type 0
 StandsAfter r text = StandsIn r.phase r text
 
--- every reader has read some text, or was refused memory
-abbrev pub IsReader : Fields → Type 0
-IsReader r = r.phase ≢ phases.Refused Memory → (text : List ℕ) × StandsAfter r text
+-- every reader has read some text, or was refused memory and holds no time
+pub record IsReader (r : Fields) : Type 0 where
+  pub stands : r.phase ≢ phases.Refused Memory → (text : List ℕ) × StandsAfter r text
+  pub none : r.phase ≡ phases.Refused Memory → r.held ≡ 0
+
+-- ---- how many times are held
+
+-- the size that the wanted block's size line states, once this line has ended
+abbrev pub known_size : Layout → ℕ → List ℕ → Option Size
+known_size layout k text = option_map (λ (block : Block). block.size) (block_read layout k text)
+
+-- how many times a block of a known size has, and none of an unknown one
+abbrev pub most_times : Option Size → ℕ
+most_times None = 0
+most_times (Some size) = size.jobs * size.machines
+
+-- no more times are held than the wanted block has, by a front of the text, and none if no front has its size
+pub record HoldsFew (layout : Layout) (k : ℕ) (text : List ℕ) (held : ℕ) : Type 0 where
+  pub front : List ℕ
+  pub rest : List ℕ
+  pub whole : text ≡ front ++ rest
+  pub few : held ≤ most_times (known_size layout k front)
 
 -- ---- what the calls owe
 
@@ -145,10 +163,11 @@ pub record EndsWantedSize (layout : Layout) (k : ℕ) (text : List ℕ) (byte : 
 
 -- what the bytes that were taken leave of a reader that stands after this text
 pub record TakeMeets (old : Fields) (text piece : List ℕ) (used : ℕ) (new : Fields) : Type 0 where
-  pub layout : new.phase ≢ phases.Refused Memory → new.layout ≡ old.layout
-  pub wanted : new.phase ≢ phases.Refused Memory → new.wanted ≡ old.wanted
+  pub layout : new.layout ≡ old.layout
+  pub wanted : new.wanted ≡ old.wanted
   pub stands : new.phase ≢ phases.Refused Memory → StandsAfter new (text ++ take used piece)
   pub memory : new.phase ≡ phases.Refused Memory → (n : ℕ) × (n < length piece) × EndsWantedSize old.layout old.wanted (text ++ take n piece) (slice_index piece n)
+  pub none : new.phase ≡ phases.Refused Memory → new.held ≡ 0
   pub no_more : (n : ℕ) → n < used → length (stand old.layout (ended_lines (text ++ take n piece))).complete < old.wanted
 
 -- what is told of the bytes that were taken
@@ -162,15 +181,14 @@ progress_of (phases.Refused fault) used = Err fault
 -- what feed owes a reader that stands after this text
 pub record FeedMeets (old : Fields) (text piece : List ℕ) (outcome : Result Progress LayoutFault) (new : Fields) : Type 0 where
   pub ok : IfOk outcome (λ progress. (progress.used ≤ length piece) × StandsAfter new (text ++ take progress.used piece))
-  pub layout : IfOk outcome (λ _. new.layout ≡ old.layout)
-  pub wanted : IfOk outcome (λ _. new.wanted ≡ old.wanted)
+  pub layout : new.layout ≡ old.layout
+  pub wanted : new.wanted ≡ old.wanted
   -- it has used the whole piece, or the wanted block has ended with the last byte that it used
   pub whole : IfOk outcome (λ progress. IsFalse progress.done → progress.used ≡ length piece)
   pub done : IfOk outcome (λ progress. IsTrue progress.done ↔ (new.phase ≡ phases.Done))
   pub no_more : IfOk outcome (λ progress. (n : ℕ) → n < progress.used → length (stand old.layout (ended_lines (text ++ take n piece))).complete < old.wanted)
   pub refused : IfErr outcome (λ fault. fault ≢ Memory → StandsAfter new (text ++ piece))
   pub exact : outcome ≢ Err Memory → (fault : LayoutFault) → (outcome ≡ Err fault) ↔ (byte_fault old.layout old.wanted (text ++ piece) ≡ Some fault)
-  pub stays : IfErr outcome (λ fault. new.phase ≡ phases.Refused fault)
   pub memory : outcome ≡ Err Memory → (n : ℕ) × (n < length piece) × EndsWantedSize old.layout old.wanted (text ++ take n piece) (slice_index piece n)
 
 -- what finish owes

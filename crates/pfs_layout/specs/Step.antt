@@ -1,6 +1,6 @@
 -- What one byte does to what a reader keeps. Only the contracts of private functions speak of it: what a
 -- reader's fields say of the bytes that it has read stands in `Reader`.
-use Rattle.std.specs.Prelude.{◌≡◌, ◌≢◌, ℕ, ◌+◌, ◌-◌, ◌*◌, ◌/◌, ◌%◌, ◌<◌, ◌≤◌, min, Bool, true, false, not, ◌&&◌, ◌||◌, ◌==◌, nat_lt, List, replicate, slice_index, slice_set, Option, Some, None, is_some, option_map, IfSome, if◌then◌else◌}
+use Rattle.std.specs.Prelude.{◌≡◌, ◌≢◌, ℕ, ◌+◌, ◌-◌, ◌*◌, ◌/◌, ◌%◌, ◌<◌, ◌≤◌, min, Bool, true, false, not, ◌&&◌, ◌||◌, ◌==◌, nat_lt, replicate, slice_index, slice_set, Option, Some, None, is_some, option_map, IfSome, if◌then◌else◌}
 use Rattle.std.specs.Option.{option_or}
 use Rattle.pfs_base.specs.declared.limits.TheConstants.{LONGEST_TIME, LONGEST_INPUT}
 use Rattle.pfs_base.specs.FlowShop.{with_time}
@@ -19,7 +19,7 @@ use Rattle.pfs_layout.specs.declared.fields.Phase.{Phase}
 use Rattle.pfs_layout.specs.declared.fields.Phase.TheVariants as phases
 use Rattle.pfs_layout.specs.declared.fields.Fields.{Fields}
 use Rattle.pfs_layout.specs.Bytes.{is_digit, is_blank, is_line_end}
-use Rattle.pfs_layout.specs.Size.{Size, is_within_limits}
+use Rattle.pfs_layout.specs.Size.{Size}
 use Rattle.pfs_layout.specs.Refuse.{size_fault}
 
 -- ---- the line so far
@@ -217,6 +217,7 @@ pub record Keeps (old new : Fields) : Type 0 where
   pub complete : new.complete ≡ old.complete
   pub line : new.line ≡ old.line
   pub sought : new.phase ≡ phases.Seeking → old.phase ≡ phases.Seeking
+  pub held : new.phase ≡ phases.Seeking → new.held ≡ old.held
   pub memory : new.phase ≢ phases.Refused Memory
 
 -- how many of so many numbers are times
@@ -255,6 +256,12 @@ pub record LacksMemory (old next : Fields) : Type 0 where
   pub sought : old.phase ≡ phases.Seeking
   pub wanted : old.complete + 1 ≡ old.wanted
   pub begins : next.phase ≡ phases.Body
+
+-- what want of memory leaves as it is
+pub record KeepsHeld (old new : Fields) : Type 0 where
+  pub layout : new.layout ≡ old.layout
+  pub wanted : new.wanted ≡ old.wanted
+  pub held : new.held ≡ old.held
 
 -- what the judgement of a number of the body needs
 pub record CanCount (r : Fields) : Type 0 where

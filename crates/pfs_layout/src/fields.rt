@@ -2,7 +2,7 @@
 ghost use Rattle.std.specs.Prelude.{◌≡◌, ◌≢◌, ◌+◌, ◌*◌, ◌<◌, ◌≤◌, true, false, ◌==◌, ℕ, List, length, replicate, Some, None, IfOk, IfErr, OnOk, OnErr, IfSome, option_map, is_some, if◌then◌else◌};
 ghost use Rattle.pfs_layout.specs.Bytes.{is_digit as digit_test};
 ghost use Rattle.pfs_layout.specs.Size.{is_within_limits};
-ghost use Rattle.pfs_layout.specs.Step.{refused, is_live as live_test, is_in_block, CanCount, with_problem_time, stored, counted, time_judged, machine_judged, body_judged, number_ended, size_given, empty_problem, block_begun, size_line_ended, block_ended, line_ended, last_number_ended, judged, with_line, end_fault, end_fault_in, at_end, IsReady, Keeps, LacksMemory};
+ghost use Rattle.pfs_layout.specs.Step.{refused, is_live as live_test, is_in_block, CanCount, with_problem_time, stored, counted, time_judged, machine_judged, body_judged, number_ended, size_given, empty_problem, block_begun, size_line_ended, block_ended, line_ended, last_number_ended, judged, with_line, end_fault, end_fault_in, at_end, IsReady, Keeps, KeepsHeld, LacksMemory};
 ghost use Rattle.pfs_layout.specs.Reader.{StandsAfter, IsReader, TakeMeets, FeedMeets, progress_of};
 
 use crate::body::Body;
@@ -23,10 +23,11 @@ pub enum Phase {
     AfterLast,
     /// The wanted block has ended.
     Done,
+    /// The input was refused.
     Refused(LayoutFault),
 }
 
-/// How far a reader came in a piece, and whether its block has ended.
+/// How many of a piece's bytes a reader used, from its front, and whether its block has ended.
 #[derive(Clone, Copy, Debug, PartialEq, Eq)]
 pub struct Progress {
     pub used: usize,
@@ -55,6 +56,7 @@ pub struct Fields {
 }
 
 impl Fields {
+    /// Refuses the input: the fault is told from now on, and no byte is wanted.
     #[cold]
     pub fn refuse(&mut self, fault: LayoutFault)
         ensures { self.new ≡ refused self.old fault }
@@ -62,6 +64,7 @@ impl Fields {
         self.phase = Phase::Refused(fault);
     }
 
+    /// Whether a block is begun and not ended.
     fn in_block(&self) -> bool
         ensures { result ≡ is_in_block self.now.phase }
     {
@@ -130,6 +133,7 @@ impl Fields {
         self.count(self.body.after_machine());
     }
 
+    /// The number is one of a body, where a time or a machine's number is due.
     fn judge_body(&mut self, value: u64, first: usize)
         requires { CanCount self.old }
         ensures { self.new ≡ body_judged self.old value first }
@@ -206,7 +210,7 @@ impl Fields {
         requires within { is_within_limits (size_given stated) ≡ true }
         ensures begun { self.new.phase ≢ Phase.Refused LayoutFault.Memory → self.new ≡ block_begun self.old (size_given stated) }
         ensures memory { self.new.phase ≡ Phase.Refused LayoutFault.Memory → self.old.complete + 1 ≡ self.old.wanted }
-        ensures held { self.new.held ≡ self.old.held }
+        ensures kept { KeepsHeld self.old self.new }
     {
         match self.instance_for(alloc, stated) {
             Ok(instance) => {
@@ -218,12 +222,15 @@ impl Fields {
         }
     }
 
+    /// A number line ends while a block is sought: its numbers begin a block, or are refused. It is this
+    /// line, counted from 1.
     #[inline(never)]
     fn end_size_line(&mut self, alloc: Global, size_line: SizeLine, line: usize)
         requires complete { self.old.complete < self.old.wanted }
         ensures ended { self.new.phase ≢ Phase.Refused LayoutFault.Memory → self.new ≡ size_line_ended self.old size_line line }
         ensures memory { self.new.phase ≡ Phase.Refused LayoutFault.Memory → self.old.complete + 1 ≡ self.old.wanted }
         ensures begins { self.new.phase ≡ Phase.Refused LayoutFault.Memory → (size_line_ended self.old size_line line).phase ≡ Phase.Body }
+        ensures kept { KeepsHeld self.old self.new }
     {
         match size_line.stated(self.layout, line) {
             Ok(stated) => self.begin_block(alloc, stated),
@@ -231,6 +238,7 @@ impl Fields {
         }
     }
 
+    /// The line of a block's last number ends.
     fn end_block(&mut self)
         requires { self.old.complete < self.old.wanted }
         ensures { self.new ≡ block_ended self.old }
@@ -252,6 +260,7 @@ impl Fields {
         requires memory { self.old.phase ≢ Phase.Refused LayoutFault.Memory }
         ensures ended { self.new.phase ≢ Phase.Refused LayoutFault.Memory → self.new ≡ line_ended self.old kinds }
         ensures memory { self.new.phase ≡ Phase.Refused LayoutFault.Memory → LacksMemory self.old (line_ended self.old kinds) }
+        ensures kept { KeepsHeld self.old self.new }
     {
         let line = self.line;
         let size_line = self.size_line;
@@ -279,6 +288,7 @@ impl Fields {
         requires live { live_test self.old.phase ≡ true }
         ensures judged { self.new.phase ≢ Phase.Refused LayoutFault.Memory → self.new ≡ judged self.old digits kinds b }
         ensures memory { self.new.phase ≡ Phase.Refused LayoutFault.Memory → (b ≡ LINE_END) × LacksMemory self.old (judged self.old digits kinds b) }
+        ensures kept { self.new.phase ≡ Phase.Refused LayoutFault.Memory → KeepsHeld self.old self.new }
     {
         if is_blank(b) || b == LINE_END {
             self.end_last_number(digits);
@@ -302,6 +312,7 @@ impl Fields {
         requires live { live_test self.old.phase ≡ true }
         ensures judged { self.new.phase ≢ Phase.Refused LayoutFault.Memory → self.new ≡ judged self.old digits kinds b }
         ensures memory { self.new.phase ≡ Phase.Refused LayoutFault.Memory → (b ≡ LINE_END) × LacksMemory self.old (judged self.old digits kinds b) }
+        ensures kept { self.new.phase ≡ Phase.Refused LayoutFault.Memory → KeepsHeld self.old self.new }
     {
         if is_digit(b) {
             if kinds.has_word && self.in_block() {
@@ -321,6 +332,7 @@ impl Fields {
         requires ready { IsReady (with_line self.old digits kinds) }
         ensures judged { self.new.phase ≢ Phase.Refused LayoutFault.Memory → self.new ≡ judged self.old digits kinds b }
         ensures memory { self.new.phase ≡ Phase.Refused LayoutFault.Memory → (b ≡ LINE_END) × LacksMemory self.old (judged self.old digits kinds b) }
+        ensures kept { self.new.phase ≡ Phase.Refused LayoutFault.Memory → KeepsHeld self.old self.new }
         ensures live { result ≡ live_test self.new.phase }
     {
         let is_quiet = is_digit(b) && !kinds.has_word;
@@ -332,6 +344,7 @@ impl Fields {
         self.is_live()
     }
 
+    /// What is told of so many bytes that were used.
     fn progress(&self, used: usize) -> Result<Progress, LayoutFault>
         ensures { result ≡ progress_of self.now.phase used }
     {
@@ -376,6 +389,7 @@ impl Fields {
         ensures reader { IsReader self.new }
         ensures idle { live_test self.old.phase ≡ false → (result ≡ progress_of self.old.phase 0) × (self.new ≡ self.old) }
         ensures whole { IfOk result (λ progress. progress.done ≡ false → progress.used ≡ length piece.now) }
+        ensures stays { IfErr result (λ fault. self.new.phase ≡ Phase.Refused fault) }
         ensures moved { IfOk result (λ progress. self.new.digits.offset ≡ self.old.digits.offset + progress.used) }
         ensures meets { (text : List ℕ) → StandsAfter self.old text → FeedMeets self.old text piece.now result self.new }
     {

@@ -2,17 +2,17 @@
 //! a reader that takes their bytes in any cutting, a writer, and Taillard's generator.
 #![tactic(auto)]
 
-pub mod body;
-pub mod examples;
-pub mod fault;
-pub mod fields;
-pub mod generator;
+mod body;
+mod examples;
+mod fault;
+mod fields;
+mod generator;
 pub mod laws;
-pub mod layout;
-pub mod reader;
-pub mod scan;
-pub mod size_line;
-pub mod writing;
+mod layout;
+mod reader;
+mod scan;
+mod size_line;
+mod writing;
 
 pub use fault::LayoutFault;
 pub use fields::Progress;

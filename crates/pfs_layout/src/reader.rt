@@ -1,10 +1,10 @@
 //! The push reader of instance files.
-ghost use Rattle.std.specs.Prelude.{◌≡◌, ◌≢◌, ◌↔◌, ℕ, ◌+◌, ◌≤◌, List, [], length, true, false, IfOk, IfErr, IfSome};
+ghost use Rattle.std.specs.Prelude.{◌≡◌, ◌≢◌, ◌↔◌, ℕ, ◌+◌, ◌≤◌, List, [], ◌++◌, length, true, false, IfOk, IfErr, IfSome};
 ghost use Rattle.pfs_base.specs.Limits.{limits};
 ghost use Rattle.pfs_layout.specs.File.{File};
 ghost use Rattle.pfs_layout.specs.Refuse.{Refuse};
 ghost use Rattle.pfs_layout.specs.Step.{is_live as live_test};
-ghost use Rattle.pfs_layout.specs.Reader.{StandsAfter, FeedMeets, FinishMeets, progress_of};
+ghost use Rattle.pfs_layout.specs.Reader.{StandsAfter, HoldsFew, FeedMeets, FinishMeets, progress_of};
 
 use crate::body::Body;
 use crate::fields::{Fields, Phase, Progress};
@@ -70,18 +70,26 @@ impl BlockReader {
         }
     }
 
-    /// How many times are stored: those of the wanted block that were read.
+    /// How many times are stored: those of the wanted block that were read, before a refusal if there was
+    /// one. Beside them the reader keeps the number that is being read, and a fixed number of fields.
     pub fn held(&self) -> usize
-        ensures { result ≡ self.now.held }
+        ensures held { result ≡ self.now.held }
+        ensures few { (text : List ℕ) → StandsAfter self.now text → HoldsFew self.now.layout self.now.wanted text result }
+        ensures memory { self.now.phase ≡ Phase.Refused LayoutFault.Memory → result ≡ 0 }
     {
         self.fields.held
     }
 
     /// Takes a piece of the input, up to the end of the wanted block. Behind this end it takes nothing
     /// more. After a refusal it answers the same refusal again.
+    ///
+    /// A reader that was refused memory stands behind no text at all.
     pub fn feed(&mut self, piece: &[u8]) -> Result<Progress, LayoutFault>
         ensures idle { live_test self.old.phase ≡ false → (result ≡ progress_of self.old.phase 0) × (self.new ≡ self.old) }
         ensures whole { IfOk result (λ progress. progress.done ≡ false → progress.used ≡ length piece.now) }
+        ensures stays { IfErr result (λ fault. self.new.phase ≡ Phase.Refused fault) }
+        ensures nowhere { result ≡ Err LayoutFault.Memory → (text : List ℕ) → ¬ StandsAfter self.new text }
+        ensures few { (text : List ℕ) → StandsAfter self.old text → HoldsFew self.old.layout self.old.wanted (text ++ piece.now) self.new.held }
         ensures moved { IfOk result (λ progress. self.new.digits.offset ≡ self.old.digits.offset + progress.used) }
         ensures meets { (text : List ℕ) → StandsAfter self.old text → FeedMeets self.old text piece.now result self.new }
     {

@@ -12,6 +12,7 @@ pub const CEILING: u64 = 4_294_967_296;
 /// The byte that ends a line.
 pub const LINE_END: u8 = 10;
 
+/// A digit from `0` to `9`.
 #[inline(always)]
 pub fn is_digit(b: u8) -> bool
     ensures { result ≡ digit_test b }

@@ -1,8 +1,7 @@
 -- Each piece takes the reader on, a fault of a piece is one of the whole input, and so is the wanted block.
-use Rattle.std.proofs.Common.{refl, ◌++◌, ◌≡◌, ℕ, ◌+◌, ◌-◌, ◌<◌, ◌≤◌, length, take, sym, ◌∙◌, ap, subst, arith, true, Some}
+use Rattle.std.proofs.Common.{refl, ◌≡◌, ℕ, ◌+◌, ◌-◌, ◌<◌, ◌≤◌, length, take, ◌∙◌, arith}
 use Rattle.std.proofs.lemmas.List.{length-take-le}
 use Rattle.pfs_base.specs.declared.limits.TheConstants.{LONGEST_INPUT}
-use Rattle.std.specs.Prelude.{Ok, Err, IfOk, IfErr}
 use Rattle.pfs_layout.specs.Refuse.{Refuse}
 use Rattle.pfs_layout.specs.declared.fault.LayoutFault.TheVariants.{Read, SeedRange}
 use Rattle.pfs_layout.proofs.ReadNames.{finish_named, feed_named, same_answer, never_failed}

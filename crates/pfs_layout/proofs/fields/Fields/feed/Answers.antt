@@ -1,14 +1,16 @@
 -- What was taken of the piece, or of its front within the limit, is what feed owes.
-use Rattle.std.proofs.Common.{◌≡◌, ◌+◌, ◌-◌, ◌<◌, ◌≤◌, Bool, true, ◌++◌, length, take, sym, ◌∙◌, ap, subst, arith}
+use Rattle.std.proofs.Common.{◌≡◌, ◌≢◌, ◌-◌, true, length, take, sym, ◌∙◌, ap, subst, arith}
 use Rattle.std.specs.Prelude.{Err}
 use Rattle.std.proofs.lemmas.List.{length-take}
 use Rattle.pfs_base.specs.declared.limits.TheConstants.{LONGEST_INPUT}
-use Rattle.pfs_layout.specs.declared.fault.LayoutFault.TheVariants.{TooLong}
-use Rattle.pfs_layout.specs.Step.{is_live, refused}
-use Rattle.pfs_layout.specs.Reader.{StandsAfter, TakeMeets, FeedMeets, progress_of}
+use Rattle.pfs_layout.specs.declared.fault.LayoutFault.TheVariants.{TooLong, Memory}
+use Rattle.pfs_layout.specs.declared.fields.Phase.TheVariants as phases
+use Rattle.pfs_layout.specs.declared.fields.Fields.{Fields}
+use Rattle.pfs_layout.specs.Step.{is_live}
+use Rattle.pfs_layout.specs.Reader.{FeedMeets}
 use Rattle.pfs_layout.proofs.StepLemmas.{live-memory}
 use Rattle.pfs_layout.proofs.ReaderLemmas.{live_follows}
-use Rattle.pfs_layout.proofs.FeedLemmas.{feed_of, idle_meets, front_meets_as, long_meets_as, long_stands}
+use Rattle.pfs_layout.proofs.FeedLemmas.{feed_of, reader_of, idle_meets, front_meets_as, long_meets_as, long_stands}
 use Rattle.pfs_layout.proofs.fields.Fields.feed.Goals as goal
 
 pub returns-then-not-is_live-clause-meets : goal.returns-then-not-is_live-clause-meets
@@ -19,10 +21,10 @@ returns-then-not-is_live-clause-meets c text s =
     subst (λ o. FeedMeets old text piece o old) (sym c.progress.ensures) (feed_of old text piece 0 old (idle_meets old text piece s) (omega arith) dead)
 
 pub returns-then-piece-room-clause-reader : goal.returns-then-piece-room-clause-reader
-returns-then-piece-room-clause-reader c h =
+returns-then-piece-room-clause-reader c =
     let was : is_live c.args.self.now.phase ≡ true = sym c.is_live.ensures ∙ c.if-not-is_live.false in
-    let some = c.requires (live-memory c.args.self.now.phase was) in
-    (some.0 ++ take c.take-used.result c.args.piece.now, (c.take-used.ensures.meets some.0 some.1).stands h)
+    let some = c.requires.stands (live-memory c.args.self.now.phase was) in
+    reader_of c.args.self.now some.0 c.args.piece.now c.take-used.result c.take-used.new.self (c.take-used.ensures.meets some.0 some.1)
 
 pub returns-then-piece-room-clause-meets : goal.returns-then-piece-room-clause-meets
 returns-then-piece-room-clause-meets c text s =
@@ -40,11 +42,22 @@ returns-then-is_live-clause-meets c text s =
     (omega (arith, follows.short, follows.last_line.offset)) (omega arith) c.take-used-2.ensures.whole live)
 
 pub returns-then-is_live-clause-reader : goal.returns-then-is_live-clause-reader
-returns-then-is_live-clause-reader c h =
+returns-then-is_live-clause-reader c =
     let old = c.args.self.now in
     let was : is_live old.phase ≡ true = sym c.is_live.ensures ∙ c.if-not-is_live.false in
-    let some = c.requires (live-memory old.phase was) in
-    long_stands old some.0 c.args.piece.now c.refuse.new.self TooLong (returns-then-is_live-clause-meets c some.0 some.1) (λ z. cc)
+    let some = c.requires.stands (live-memory old.phase was) in
+    let other : c.refuse.new.self.phase ≢ phases.Refused Memory = λ h. (let e : c.refuse.new.self.phase ≡ phases.Refused TooLong = ap (λ (z : Fields). z.phase) c.refuse.ensures in let bad : phases.Refused TooLong ≡ phases.Refused Memory = sym e ∙ h in cc) in
+    record {
+      stands = λ h. long_stands old some.0 c.args.piece.now c.refuse.new.self TooLong (returns-then-is_live-clause-meets c some.0 some.1) (λ z. cc);
+      none = λ h. absurd (other h);
+    }
+
+pub returns-clause-reader : goal.returns-clause-reader
+returns-clause-reader c =
+    let old = c.args.self.now in
+    let was : is_live old.phase ≡ true = sym c.is_live.ensures ∙ c.if-not-is_live.false in
+    let some = c.requires.stands (live-memory old.phase was) in
+    reader_of old some.0 _ c.take-used-2.result c.take-used-2.new.self (c.take-used-2.ensures.meets some.0 some.1)
 
 pub returns-clause-meets : goal.returns-clause-meets
 returns-clause-meets c text s =

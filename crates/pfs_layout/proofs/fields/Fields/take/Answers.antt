@@ -1,5 +1,5 @@
 -- Each byte leads on, and the last one ends the piece or the reading.
-use Rattle.std.proofs.Common.{◌≡◌, ◌+◌, ◌<◌, length, get_or, sym, ◌∙◌, subst, arith}
+use Rattle.std.proofs.Common.{◌+◌, get_or, sym, ◌∙◌, subst, arith}
 use Rattle.pfs_layout.specs.Step.{with_line, digits_after, kinds_after}
 use Rattle.pfs_layout.proofs.ReaderLemmas.{stands_of}
 use Rattle.pfs_layout.proofs.TakeLemmas.{TakenTo, taken_ready, taken_byte, taken_end, taken_all, meets_as}
@@ -37,5 +37,5 @@ returns-clause-meets c text s =
       | then-loop-b-test+then-not-is_live w ↦
           meets_as old text piece c.loop-b-test.used (i + 1) c.loop-b-test.self w.take_byte-is_live.new.self c.loop-b-test.digits (digits_after c.loop-b.digits b) c.loop-b-test.kinds (kinds_after c.loop-b.kinds b)
           (let u = c.loop-b.invariant.used in let v = w.used-is in omega arith) w.self-is (w.digits-is ∙ w.after-digits.ensures) (w.kinds-is ∙ w.after-kinds.ensures)
-          (taken_end old c.loop-b.self w.take_byte-is_live.new.self c.loop-b.digits c.loop-b.kinds piece i c.loop-b.invariant.taken (omega arith) c.requires.room w.take_byte-is_live.ensures.judged w.take_byte-is_live.ensures.memory text s)
+          (taken_end old c.loop-b.self w.take_byte-is_live.new.self c.loop-b.digits c.loop-b.kinds piece i c.loop-b.invariant.taken (omega arith) c.requires.room w.take_byte-is_live.ensures.judged w.take_byte-is_live.ensures.memory w.take_byte-is_live.ensures.kept text s)
     ]

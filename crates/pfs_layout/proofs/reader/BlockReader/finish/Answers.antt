@@ -1,5 +1,5 @@
 -- The end of the input is judged as the definitions say, and an accepted instance is there.
-use Rattle.std.proofs.Common.{◌≡◌, sym, ◌∙◌, ap, subst, Option, Some, None}
+use Rattle.std.proofs.Common.{◌≡◌, sym, ◌∙◌, ap, subst, Some, None}
 use Rattle.std.specs.Prelude.{Ok, Err}
 use Rattle.std.specs.Option.{ok_or}
 use Rattle.pfs_layout.specs.declared.fault.LayoutFault.TheVariants.{NoBlock}
