@@ -7,6 +7,8 @@ pub mod fault;
 mod tests;
 
 pub use engines::check::run_check;
+pub use engines::convert::run_convert;
+pub use engines::generate::run_generate;
 pub use engines::table::run_table;
 pub use engines::value::run_value;
 pub use fault::{DeskFault, Outcome, status, write_fault};
