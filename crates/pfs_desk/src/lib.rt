@@ -10,6 +10,8 @@ mod tests;
 pub mod usage;
 
 pub use engines::check::run_check;
+pub use engines::convert::run_convert;
+pub use engines::generate::run_generate;
 pub use engines::table::run_table;
 pub use engines::value::run_value;
 pub use fault::{DeskFault, Outcome, status, write_fault};
