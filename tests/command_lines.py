@@ -78,6 +78,7 @@ LINES = [
     ("value --layout taillard missing", b"", b"pfs: cannot open\n", 4),
     ("value --layout taillard -- ", b"", b"pfs: cannot open\n", 4),
     ("value --layout taillard folder", b"", b"pfs: read failed\n", 4),
+    ("value --layout taillard /dev/zero", b"", b"pfs: input too long\n", 2),
     ("check --layout taillard three best", b"valid\nmakespan 10\nbound 10\noptimal\n", b"", 0),
     ("check --layout orlib --block 2 two_blocks.or best", b"valid\nmakespan 10\nbound 10\noptimal\n", b"", 0),
     ("check --layout taillard three numbered", b"valid\nmakespan 11\nbound 10\n", b"", 0),
