@@ -6,7 +6,7 @@ ghost use Rattle.std.specs.Prelude.{◌≡◌, IfOk};
 
 use pfs_audit::{AuditFault, Verdict, check, makespan, table};
 use pfs_base::{BaseFault, Bench, FromRead, Instance, Notes, ToWrite};
-use pfs_desk::{DeskFault, run_check, run_table};
+use pfs_desk::{DeskFault, run_check, run_convert, run_generate, run_table};
 use pfs_layout::{Layout, LayoutFault, generate};
 use pfs_order::{Order, OrderFault, OrderFile, Seq, read_order};
 use std::alloc::{AllocError, Global};
@@ -116,6 +116,8 @@ fn answer_of(rt: &HostRuntime, name: &str) -> Result<(), Stop> {
         "check" => check_call(rt),
         "run_check" => run_check_call(rt),
         "run_table" => run_table_call(rt),
+        "run_convert" => run_convert_call(rt),
+        "run_generate" => run_generate_call(rt),
         _ => Err(Stop::Other),
     }
 }
@@ -232,5 +234,25 @@ fn run_table_call(rt: &HostRuntime) -> Result<(), Stop> {
         &mut orders,
         &mut writer,
     )?;
+    Ok(())
+}
+
+fn run_convert_call(rt: &HostRuntime) -> Result<(), Stop> {
+    let mut reader = FromRead::new(FILE);
+    let mut writer = ToWrite::new(io::writer(rt));
+    run_convert(
+        rt.alloc(),
+        &mut reader,
+        Layout::Taillard,
+        Layout::OrLib,
+        1,
+        &mut writer,
+    )?;
+    Ok(())
+}
+
+fn run_generate_call(rt: &HostRuntime) -> Result<(), Stop> {
+    let mut writer = ToWrite::new(io::writer(rt));
+    run_generate(rt.alloc(), 5, 1, 873654221, &mut writer)?;
     Ok(())
 }

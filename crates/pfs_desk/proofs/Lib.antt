@@ -1,2 +1,4 @@
+pub mod FormLemmas
+pub mod JobLemmas
 pub mod OutputLemmas
 pub mod TableLemmas

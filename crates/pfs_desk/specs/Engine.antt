@@ -1,5 +1,5 @@
 -- What an engine answers and writes. Bytes are those that a reader has left, where they are told.
-use Rattle.std.specs.Prelude.{⊤, ◌≡◌, ◌≢◌, ℕ, Bool, false, List, Option, Result, Ok, Err, IfSome}
+use Rattle.std.specs.Prelude.{⊤, ◌≡◌, ◌≢◌, ℕ, Bool, false, List, Option, Result, Ok, Err, ◌⊎◌, IfSome}
 use Rattle.std.specs.Io.KnownBytes.{Appends}
 use Rattle.pfs_base.specs.Limits.{limits}
 use Rattle.pfs_base.specs.Problem.{Problem}
@@ -7,7 +7,10 @@ use Rattle.pfs_base.specs.Sends.{SendsFront}
 use Rattle.pfs_layout.specs.declared.layout.Layout.{Layout}
 use Rattle.pfs_layout.specs.declared.fault.LayoutFault.{LayoutFault}
 use Rattle.pfs_layout.specs.declared.fault.LayoutFault.TheVariants as layout_faults
+use Rattle.pfs_layout.specs.declared.layout.Layout.TheVariants.{Taillard}
+use Rattle.pfs_layout.specs.CanonicalText.{canonical_text}
 use Rattle.pfs_layout.specs.File.{File}
+use Rattle.pfs_layout.specs.Generator.{generated}
 use Rattle.pfs_layout.specs.Refuse.{Refuse}
 use Rattle.pfs_order.specs.Sequence.{StatedOrder}
 use Rattle.pfs_order.specs.OrderFile.{IsOrderFile, RefusesUnlessFailed}
@@ -85,6 +88,24 @@ pub record ValueOutput (layout : Layout) (file : Option (List ℕ)) (block : ℕ
   pub holds : Holds layout file block problem
   pub done : outcome ≡ Done
   pub spelled : text ≡ value_text problem.shop
+
+-- the block, written as a file of its own in the target layout
+pub record ConvertOutput (source target : Layout) (file : Option (List ℕ)) (block : ℕ) (outcome : Outcome) (text : List ℕ) : Type 0 where
+  pub problem : Problem
+  pub holds : Holds source file block problem
+  pub done : outcome ≡ Done
+  pub spelled : text ≡ canonical_text target problem
+
+-- the instance that is drawn from a seed, in Taillard's layout
+pub record GenerateOutput (jobs machines seed : ℕ) (outcome : Outcome) (text : List ℕ) : Type 0 where
+  pub done : outcome ≡ Done
+  pub spelled : text ≡ canonical_text Taillard (generated jobs machines seed)
+
+-- drawing an instance fails by its seed, by want of memory for its times, or by a write
+abbrev pub IsGenerateFault : DeskFault → Type 0
+IsGenerateFault (faults.Layout fault) = (fault ≡ layout_faults.SeedRange) ⊎ (fault ≡ layout_faults.Memory)
+IsGenerateFault (Write fault) = ⊤
+IsGenerateFault others = ⊥
 
 -- the verdict on the order that an order file states for an instance
 pub record CheckOutput (layout : Layout) (file : Option (List ℕ)) (block : ℕ) (order_file : Option (List ℕ)) (outcome : Outcome) (text : List ℕ) : Type 0 where

@@ -2,5 +2,7 @@
 //! in this order: the instance file's, the order file's, want of memory elsewhere, and a failed write.
 
 pub mod check;
+pub mod convert;
+pub mod generate;
 pub mod table;
 pub mod value;

@@ -2,11 +2,20 @@
 #![tactic(auto)]
 
 pub mod engines;
+pub mod examples;
 pub mod fault;
+pub mod job;
+pub mod planning;
 #[cfg(test)]
 mod tests;
+pub mod usage;
 
 pub use engines::check::run_check;
+pub use engines::convert::run_convert;
+pub use engines::generate::run_generate;
 pub use engines::table::run_table;
 pub use engines::value::run_value;
 pub use fault::{DeskFault, Outcome, status, write_fault};
+pub use job::{Job, PathText};
+pub use planning::plan;
+pub use usage::UsageFault;

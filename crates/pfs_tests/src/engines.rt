@@ -1,5 +1,6 @@
 //! What the commands read, print and answer, on the three-job instance and its variants.
 use crate::fakes::{Pieces, Taken};
+use crate::texts::BY_MACHINE;
 use pfs_base::{Sink, WriteFault};
 use pfs_desk::{DeskFault, Outcome, run_check, run_table, run_value, status};
 use pfs_layout::Layout;
@@ -9,9 +10,6 @@ use std::process::Abort;
 
 const TITLE: &[u8] =
     b"number of jobs, number of machines, initial seed, upper bound and lower bound :\n";
-
-const THREE_JOBS: &[u8] =
-    b"number of jobs, number of machines, initial seed, upper bound and lower bound :\n3 2 0 0 0\nprocessing times :\n3 2 4\n2 5 1\n";
 
 const GOOD_ORDER: &[u8] = b"order 3\n2 1 3\nmakespan 10\n";
 
@@ -38,7 +36,7 @@ fn assert_value(
 #[test]
 fn value_prints_the_makespan(rt: HostRuntime) {
     let done = Ok(Outcome::Done);
-    assert_value(&rt, rt.alloc(), THREE_JOBS, done, b"makespan 11\n");
+    assert_value(&rt, rt.alloc(), BY_MACHINE, done, b"makespan 11\n");
     assert_value(&rt, rt.alloc(), b"1 1 0 0 0\n0\n", done, b"makespan 0\n");
 }
 
@@ -59,7 +57,7 @@ fn value_accepts_every_spelling(rt: HostRuntime) {
 
 #[test]
 fn value_reads_a_byte_a_call(rt: HostRuntime) {
-    let mut reader = Pieces::new(THREE_JOBS, 1, None);
+    let mut reader = Pieces::new(BY_MACHINE, 1, None);
     let mut writer = Taken::new(256, 1);
     let result = run_value(rt.alloc(), &mut reader, Layout::Taillard, 1, &mut writer);
     assert_eq!(rt; result, Ok(Outcome::Done));
@@ -95,7 +93,7 @@ fn refused_files_have_status_2_and_print_nothing(rt: HostRuntime) {
 #[test]
 fn a_failed_read_has_status_4_and_prints_nothing(rt: HostRuntime) {
     for call in 1..8 {
-        let mut reader = Pieces::new(THREE_JOBS, 16, Some(call));
+        let mut reader = Pieces::new(BY_MACHINE, 16, Some(call));
         let mut writer = Taken::new(256, 256);
         let result = run_value(rt.alloc(), &mut reader, Layout::Taillard, 1, &mut writer);
         assert_eq!(rt; result.as_ref().err().map(status), Some(4), "call {call}");
@@ -108,7 +106,7 @@ fn a_failed_write_says_how_many_bytes_went_out(rt: HostRuntime) {
     let text = b"makespan 11\n";
     for room in 0..text.len() {
         let mut writer = Taken::new(room, 3);
-        let mut reader = Pieces::whole(THREE_JOBS);
+        let mut reader = Pieces::whole(BY_MACHINE);
         let result = run_value(rt.alloc(), &mut reader, Layout::Taillard, 1, &mut writer);
         let fault = WriteFault {
             written: room as u64,
@@ -141,7 +139,7 @@ fn assert_check(
     text: &[u8],
 ) {
     let mut writer = Taken::new(256, 256);
-    let mut reader = Pieces::whole(THREE_JOBS);
+    let mut reader = Pieces::whole(BY_MACHINE);
     let mut orders = Pieces::whole(order);
     let result = run_check(
         alloc,
@@ -209,7 +207,7 @@ fn table_prints_when_each_operation_starts_and_ends(rt: HostRuntime) {
     ];
     for (order, outcome, printed) in orders {
         let mut writer = Taken::new(256, 5);
-        let mut reader = Pieces::whole(THREE_JOBS);
+        let mut reader = Pieces::whole(BY_MACHINE);
         let mut orders = Pieces::new(order, 2, None);
         let result = run_table(
             rt.alloc(),
@@ -227,7 +225,7 @@ fn table_prints_when_each_operation_starts_and_ends(rt: HostRuntime) {
 #[test]
 fn the_instance_file_is_judged_before_the_order_file(rt: HostRuntime) {
     let mut writer = Taken::new(256, 256);
-    let mut reader = Pieces::new(THREE_JOBS, 256, Some(1));
+    let mut reader = Pieces::new(BY_MACHINE, 256, Some(1));
     let mut orders = Pieces::new(GOOD_ORDER, 256, Some(1));
     let result = run_check(
         rt.alloc(),
@@ -241,7 +239,7 @@ fn the_instance_file_is_judged_before_the_order_file(rt: HostRuntime) {
     assert!(rt; result != Err(DeskFault::Order(OrderFault::Read)));
     assert_eq!(rt; writer.bytes(), b"".as_slice());
     let mut writer = Taken::new(256, 256);
-    let mut reader = Pieces::whole(THREE_JOBS);
+    let mut reader = Pieces::whole(BY_MACHINE);
     let mut orders = Pieces::new(GOOD_ORDER, 26, Some(2));
     let result = run_check(
         rt.alloc(),

@@ -5,9 +5,13 @@
 #[cfg(test)]
 mod base;
 #[cfg(test)]
+mod conversions;
+#[cfg(test)]
 mod engines;
 pub mod fakes;
 #[cfg(test)]
 mod reader;
+#[cfg(test)]
+mod texts;
 #[cfg(test)]
 mod writers;

@@ -2,20 +2,18 @@
 ghost use Rattle.std.specs.Prelude.{◌≤◌, length};
 
 use crate::fakes::Endless;
+use crate::texts::BY_MACHINE;
 use pfs_base::{Instance, LONGEST_INPUT, MOST_BLOCKS};
 use pfs_layout::{BlockReader, Layout, LayoutFault, Progress, read_block};
 use std::alloc::{AllocError, Global};
+use std::process::Abort;
 use std::test::Fail;
 
-/// Three jobs on two machines, in 121 bytes.
-const A: &[u8] =
-    b"number of jobs, number of machines, initial seed, upper bound and lower bound :\n3 2 0 0 0\nprocessing times :\n3 2 4\n2 5 1\n";
-
-/// The times of `A`, job by job.
+/// The times of `BY_MACHINE`, job by job.
 const TIMES: [u32; 6] = [3, 2, 2, 5, 4, 1];
 
-/// Two blocks, of which the second has the times of `A`, in 80 bytes.
-const TWO: &[u8] =
+/// Two blocks, of which the second has the times of `BY_MACHINE`, in 80 bytes.
+const TWO_BLOCKS: &[u8] =
     b"+++\ninstance one 1\n+++\nfirst\n1 1\n0 7\n+++\nsecond\n3 2\n0 3 1 2\n0 2 1 5\n0 4 1 1\n+++\n";
 
 /// Whether these are the times of an instance, job by job.
@@ -70,8 +68,8 @@ fn read_bytes(
     reader.finish()
 }
 
-/// What `A` answers where it ends after so many bytes.
-fn fault_of_a(c: usize) -> Option<LayoutFault> {
+/// What `BY_MACHINE` answers where it ends after so many bytes.
+fn fault_of_one_block(c: usize) -> Option<LayoutFault> {
     match c {
         0..=80 => Some(LayoutFault::NoBlock { found: 0 }),
         81..=88 => Some(LayoutFault::SizeCount { line: 2 }),
@@ -83,8 +81,8 @@ fn fault_of_a(c: usize) -> Option<LayoutFault> {
     }
 }
 
-/// What the second block of `TWO` answers where the text ends after so many bytes.
-fn fault_of_two(c: usize) -> Option<LayoutFault> {
+/// What the second block of `TWO_BLOCKS` answers where the text ends after so many bytes.
+fn fault_of_two_blocks(c: usize) -> Option<LayoutFault> {
     match c {
         0..=29 => Some(LayoutFault::NoBlock { found: 0 }),
         30 | 31 => Some(LayoutFault::SizeCount { line: 5 }),
@@ -103,90 +101,109 @@ fn answers(answer: &Result<Instance, LayoutFault>, fault: Option<LayoutFault>) -
     }
 }
 
-#[test]
-fn every_cut(rt: HostRuntime) {
-    for c in 0..=A.len() {
-        let front = &A[..c];
-        let fault = fault_of_a(c);
-        for cut in 0..=c {
-            let result = read_cut(rt.alloc(), front, cut, Layout::Taillard, 1);
-            assert!(rt; answers(&result, fault), "{c} bytes, cut at {cut}");
-        }
-        let result = read_bytes(rt.alloc(), front, Layout::Taillard, 1);
-        assert!(rt; answers(&result, fault), "{c} bytes");
+/// Checks what a block of this text answers, in one piece, in two pieces cut anywhere, and byte by byte.
+fn assert_cuts(
+    rt: &impl Abort,
+    alloc: Global,
+    text: &[u8],
+    layout: Layout,
+    block: usize,
+    fault: Option<LayoutFault>,
+) {
+    assert!(rt; 1 <= block && block <= MOST_BLOCKS);
+    let length = text.len();
+    for cut in 0..=length {
+        let result = read_cut(alloc, text, cut, layout, block);
+        assert!(rt; answers(&result, fault), "{length} bytes, cut at {cut}");
     }
-    for c in 0..=TWO.len() {
-        let front = &TWO[..c];
-        let fault = fault_of_two(c);
-        for cut in 0..=c {
-            let result = read_cut(rt.alloc(), front, cut, Layout::OrLib, 2);
-            assert!(rt; answers(&result, fault), "{c} bytes, cut at {cut}");
-        }
-        let result = read_bytes(rt.alloc(), front, Layout::OrLib, 2);
-        assert!(rt; answers(&result, fault), "{c} bytes");
+    let result = read_bytes(alloc, text, layout, block);
+    assert!(rt; answers(&result, fault), "{length} bytes");
+}
+
+#[test]
+fn one_block_cut_anywhere(rt: HostRuntime) {
+    for c in 0..=BY_MACHINE.len() {
+        let fault = fault_of_one_block(c);
+        let front = &BY_MACHINE[..c];
+        assert_cuts(&rt, rt.alloc(), front, Layout::Taillard, 1, fault);
     }
 }
 
-/// A front of `A`, and then this.
+#[test]
+fn two_blocks_cut_anywhere(rt: HostRuntime) {
+    for c in 0..=TWO_BLOCKS.len() {
+        let fault = fault_of_two_blocks(c);
+        let front = &TWO_BLOCKS[..c];
+        assert_cuts(&rt, rt.alloc(), front, Layout::OrLib, 2, fault);
+    }
+}
+
+/// A front of `BY_MACHINE`, and then this.
 fn with_end(alloc: Global, front: usize, end: &[u8]) -> Result<Vec<u8>, AllocError> {
-    let (front, _) = A.split_at(front.min(A.len()));
+    let (front, _) = BY_MACHINE.split_at(front.min(BY_MACHINE.len()));
     let mut text = Vec::from_slice(alloc, front)?;
     text.extend_from_slice(end)?;
     Ok(text)
 }
 
+/// Checks what each of these ends answers behind a front of `BY_MACHINE` of so many bytes.
+fn assert_ends(
+    rt: &impl Abort,
+    alloc: Global,
+    front: usize,
+    ends: &[(&[u8], Option<LayoutFault>)],
+) -> Result<(), Fail> {
+    for (end, fault) in ends {
+        let text = with_end(alloc, front, end)?;
+        assert_cuts(rt, alloc, &text, Layout::Taillard, 1, *fault);
+    }
+    Ok(())
+}
+
 #[test]
-fn changed_ends(rt: HostRuntime) -> Result<(), Fail> {
-    let cases: [(usize, &[u8], Option<LayoutFault>); 12] = [
+fn words_in_the_last_line(rt: HostRuntime) -> Result<(), Fail> {
+    let ends: [(&[u8], Option<LayoutFault>); 3] = [
+        (b"2 5x 1\n", Some(LayoutFault::MixedLine { offset: 118 })),
+        (b"x 2 5 1\n", Some(LayoutFault::MixedLine { offset: 117 })),
+        (b"2 5 1 7x\n", Some(LayoutFault::MixedLine { offset: 122 })),
+    ];
+    assert_ends(&rt, rt.alloc(), 115, &ends)?;
+    let ends: [(&[u8], Option<LayoutFault>); 1] = [(
+        b"\xff\n",
+        Some(LayoutFault::MixedLine { offset: 120 }),
+    )];
+    assert_ends(&rt, rt.alloc(), 120, &ends)
+}
+
+#[test]
+fn numbers_out_of_place_in_the_last_line(rt: HostRuntime) -> Result<(), Fail> {
+    let extra = LayoutFault::ExtraNumber { offset: 121 };
+    let out_of_range = LayoutFault::TimeRange { offset: 119 };
+    let ends: [(&[u8], Option<LayoutFault>); 3] = [
+        (b"2 5 1 7\n", Some(extra)),
+        (b"2 5 1000001\n", Some(out_of_range)),
         (
-            115,
-            b"2 5x 1\n",
-            Some(LayoutFault::MixedLine { offset: 118 }),
-        ),
-        (
-            115,
-            b"x 2 5 1\n",
-            Some(LayoutFault::MixedLine { offset: 117 }),
-        ),
-        (
-            115,
-            b"2 5 1 7\n",
-            Some(LayoutFault::ExtraNumber { offset: 121 }),
-        ),
-        (
-            115,
-            b"2 5 1 7x\n",
-            Some(LayoutFault::MixedLine { offset: 122 }),
-        ),
-        (
-            115,
-            b"2 5 1000001\n",
-            Some(LayoutFault::TimeRange { offset: 119 }),
-        ),
-        (
-            115,
             b"2 5 9999999999999999999999999999999999999999\n",
-            Some(LayoutFault::TimeRange { offset: 119 }),
+            Some(out_of_range),
         ),
-        (120, b"\xff\n", Some(LayoutFault::MixedLine { offset: 120 })),
-        (109, b"3 2 4\r\n2 5 1\r\n", None),
-        (109, b"3 2\n4\n2 5 1\n", None),
-        (109, b"03 2 4\n2 5 1", None),
+    ];
+    assert_ends(&rt, rt.alloc(), 115, &ends)
+}
+
+#[test]
+fn other_spellings(rt: HostRuntime) -> Result<(), Fail> {
+    let ends: [(&[u8], Option<LayoutFault>); 4] = [
+        (b"3 2 4\r\n2 5 1\r\n", None),
+        (b"3 2\n4\n2 5 1\n", None),
+        (b"03 2 4\n2 5 1", None),
         (
-            109,
             b"000000000000000000000000000000000000000000000000000000000000003 2 4\n2 5 1\n",
             None,
         ),
-        (90, b"3 2 4\n2 5 1\n", None),
     ];
-    for (front, end, fault) in cases {
-        let text = with_end(rt.alloc(), front, end)?;
-        for cut in 0..=text.len() {
-            let result = read_cut(rt.alloc(), &text, cut, Layout::Taillard, 1);
-            assert!(rt; answers(&result, fault), "{front}, cut at {cut}");
-        }
-    }
-    Ok(())
+    assert_ends(&rt, rt.alloc(), 109, &ends)?;
+    let untitled: [(&[u8], Option<LayoutFault>); 1] = [(b"3 2 4\n2 5 1\n", None)];
+    assert_ends(&rt, rt.alloc(), 90, &untitled)
 }
 
 #[test]
@@ -214,45 +231,54 @@ fn size_lines(rt: HostRuntime) {
 }
 
 #[test]
-fn blocks_and_held(rt: HostRuntime) -> Result<(), Fail> {
+fn held_grows_with_each_time(rt: HostRuntime) {
     let mut reader = BlockReader::new(rt.alloc(), Layout::Taillard, 1);
-    for c in 0..A.len() {
-        let _ = reader.feed(&A[c..c + 1]);
+    for c in 0..BY_MACHINE.len() {
+        let _ = reader.feed(&BY_MACHINE[c..c + 1]);
         let held = match c + 1 {
             0..=110 => 0,
             111 | 112 => 1,
             113 | 114 => 2,
-            _ => reader.held(),
+            115 | 116 => 3,
+            117 | 118 => 4,
+            119 | 120 => 5,
+            _ => 6,
         };
         assert_eq!(rt; reader.held(), held, "after {c} bytes and one");
     }
-    let twice = with_end(rt.alloc(), A.len(), A)?;
+}
+
+#[test]
+fn a_done_reader_takes_nothing_more(rt: HostRuntime) -> Result<(), Fail> {
+    let twice = with_end(rt.alloc(), BY_MACHINE.len(), BY_MACHINE)?;
+    assert!(rt; twice.len() == 242);
     let mut reader = BlockReader::new(rt.alloc(), Layout::Taillard, 1);
-    assert!(rt;
-        reader.feed(&twice)
-            == Ok(Progress {
-                used: 121,
-                done: true
-            })
-    );
-    assert!(rt;
-        reader.feed(&twice)
-            == Ok(Progress {
-                used: 0,
-                done: true
-            })
-    );
+    for used in [121, 0] {
+        let done = Progress { used, done: true };
+        assert!(rt; reader.feed(&twice) == Ok(done), "{used} bytes");
+    }
     assert!(rt; answers(&reader.finish(), None));
-    assert!(rt; answers(&read_cut(rt.alloc(), &twice, 7, Layout::Taillard, 2), None));
-    let third = read_bytes(rt.alloc(), TWO, Layout::OrLib, 3);
-    assert!(rt; answers(&third, Some(LayoutFault::NoBlock { found: 2 })));
-    let first = read_bytes(rt.alloc(), TWO, Layout::OrLib, 1);
-    assert!(rt; first.is_ok_and(|instance| has_times(&instance, &[7])));
-    let mut refused = BlockReader::new(rt.alloc(), Layout::OrLib, 1);
-    assert!(rt; refused.feed(b"2\n").is_err());
-    assert!(rt; refused.feed(b"1 1\n") == Err(LayoutFault::SizeCount { line: 1 }));
-    assert!(rt; answers(&refused.finish(), Some(LayoutFault::SizeCount { line: 1 })));
+    let second = read_cut(rt.alloc(), &twice, 7, Layout::Taillard, 2);
+    assert!(rt; answers(&second, None));
     Ok(())
+}
+
+#[test]
+fn other_blocks(rt: HostRuntime) {
+    let first = read_bytes(rt.alloc(), TWO_BLOCKS, Layout::OrLib, 1);
+    assert!(rt; first.is_ok_and(|instance| has_times(&instance, &[7])));
+    let third = read_bytes(rt.alloc(), TWO_BLOCKS, Layout::OrLib, 3);
+    assert!(rt; answers(&third, Some(LayoutFault::NoBlock { found: 2 })));
+}
+
+#[test]
+fn a_refused_reader_repeats_its_refusal(rt: HostRuntime) {
+    let fault = LayoutFault::SizeCount { line: 1 };
+    let mut refused = BlockReader::new(rt.alloc(), Layout::OrLib, 1);
+    for piece in [b"2\n".as_slice(), b"1 1\n"] {
+        assert!(rt; refused.feed(piece) == Err(fault));
+    }
+    assert!(rt; answers(&refused.finish(), Some(fault)));
 }
 
 #[test]

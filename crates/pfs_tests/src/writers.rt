@@ -1,18 +1,12 @@
 //! Texts that are written and instances that are drawn.
 use crate::fakes::Taken;
+use crate::texts::{BY_JOB, BY_MACHINE};
 use pfs_audit::bound;
 use pfs_base::{BaseFault, Instance, LONGEST_TIME, Notes, WriteFault};
 use pfs_layout::{Layout, LayoutFault, generate, write_block};
 use std::alloc::Global;
 use std::process::Abort;
 use std::test::Fail;
-
-/// Three jobs on two machines in Taillard's layout, in 121 bytes.
-const BY_MACHINE: &[u8] =
-    b"number of jobs, number of machines, initial seed, upper bound and lower bound :\n3 2 0 0 0\nprocessing times :\n3 2 4\n2 5 1\n";
-
-/// The same three jobs in the OR-Library's layout.
-const BY_JOB: &[u8] = b"flow shop instance\n3 2\n0 3 1 2\n0 2 1 5\n0 4 1 1\n";
 
 // Three jobs on two machines.
 fn three_jobs(rt: &impl Abort, alloc: Global) -> Result<Instance, BaseFault> {

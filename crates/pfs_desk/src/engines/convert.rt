@@ -1,0 +1,36 @@
+//! A block of an instance file, written in another layout.
+ghost use Rattle.std.specs.Prelude.{◌≡◌, ◌≢◌, ◌≤◌, ◌↔◌, true, false, IfErr};
+ghost use Rattle.pfs_desk.specs.Engine.{Writes, ConvertOutput, JudgesFirst, RefusesNoOrder};
+
+use crate::fault::{DeskFault, Outcome};
+use pfs_base::{MOST_BLOCKS, Sink, Source};
+use pfs_layout::{Layout, LayoutFault, read_block, write_block};
+use std::alloc::Global;
+
+/// Reads a block of an instance file in the source layout, and writes it as a file of its own in the target
+/// layout. Blocks count from 1. The OR-Library's layout has no notes: they are lost on the way there, and
+/// are zeros on the way back.
+pub fn run_convert<R: Source, W: Sink>(
+    alloc: Global,
+    reader: &mut R,
+    source: Layout,
+    target: Layout,
+    block: usize,
+    writer: &mut W,
+) -> Result<Outcome, DeskFault>
+    requires reading { R.has_failed reader.old ≡ false }
+    requires writing { W.has_failed writer.old ≡ false }
+    requires some { 1 ≤ block }
+    requires few { block ≤ MOST_BLOCKS }
+    ensures written { Writes (ConvertOutput source target (R.left reader.old) block)
+        (W.written writer.old) (W.written writer.new) (W.has_failed writer.new) result }
+    ensures refused { IfErr result (JudgesFirst source (R.left reader.old) block) }
+    ensures read { result ≡ Err (DeskFault.Layout LayoutFault.Read) ↔ (R.has_failed reader.new ≡ true) }
+    ensures no_seed { result ≢ Err (DeskFault.Layout LayoutFault.SeedRange) }
+    ensures one_file { IfErr result RefusesNoOrder }
+    ensures no_more_memory { result ≢ Err DeskFault.Memory }
+{
+    let instance = read_block(alloc, reader, source, block)?;
+    write_block(writer, &instance, target)?;
+    Ok(Outcome::Done)
+}

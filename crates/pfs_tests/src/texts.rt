@@ -1,0 +1,8 @@
+//! Files of the instance that the tests share.
+
+/// Three jobs on two machines in Taillard's layout, in 121 bytes.
+pub const BY_MACHINE: &[u8] =
+    b"number of jobs, number of machines, initial seed, upper bound and lower bound :\n3 2 0 0 0\nprocessing times :\n3 2 4\n2 5 1\n";
+
+/// The same three jobs in the OR-Library's layout.
+pub const BY_JOB: &[u8] = b"flow shop instance\n3 2\n0 3 1 2\n0 2 1 5\n0 4 1 1\n";
