@@ -1,0 +1,104 @@
+#!/usr/bin/env python3
+"""Writes expected/searches.json: what the plain C++ program of this folder answers on small random shops, for tests
+of `pfs solve` with the same options. Each entry has the instance file in Taillard's layout, the options, and the
+text that is printed. Each order and makespan is also computed here, by the recurrence of whole orders alone."""
+import json
+import pathlib
+import random
+import subprocess
+import tempfile
+
+HERE = pathlib.Path(__file__).resolve().parent
+CASES = 30
+WORD = 2**64 - 1
+
+
+def makespan(times, order):
+    ends = [0] * len(times[0])
+    for job in order:
+        before = 0
+        for machine, time in enumerate(times[job]):
+            before = max(before, ends[machine]) + time
+            ends[machine] = before
+    return ends[-1]
+
+
+def insert(times, order, job):
+    """The order with the job at the earliest place of the least makespan, every place evaluated afresh."""
+    orders = [order[:place] + [job] + order[place:] for place in range(len(order) + 1)]
+    return min(orders, key=lambda longer: makespan(times, longer))
+
+
+def pcg_word(state):
+    word = ((state >> 18) ^ state) >> 27 & 0xFFFFFFFF
+    turn = state >> 59
+    return (word >> turn | word << (32 - turn)) & 0xFFFFFFFF
+
+
+def pcg_words(seed):
+    """The words of PCG XSH RR 64/32, seeded with a number as rand_core does."""
+    halves = []
+    for _ in range(4):
+        seed = (seed * 6364136223846793005 + 0xA17654E46FBE17F3) & WORD
+        halves.append(pcg_word(seed))
+    increment = halves[2] | halves[3] << 32 | 1
+    state = ((halves[0] | halves[1] << 32) + increment) & WORD
+    while True:
+        state = (state * 6364136223846793005 + increment) & WORD
+        yield pcg_word(state)
+
+
+def search(times, rounds, take, seed):
+    """The order and its makespan after NEH and the rounds."""
+    ranking = sorted(range(len(times)), key=lambda job: -sum(times[job]))
+    kept = []
+    for job in ranking:
+        kept = insert(times, kept, job)
+    words = pcg_words(seed)
+    for _ in range(rounds):
+        order = list(kept)
+        taken = [order.pop(next(words) % len(order)) for _ in range(take)]
+        for job in taken:
+            order = insert(times, order, job)
+        if makespan(times, order) <= makespan(times, kept):
+            kept = order
+    return kept, makespan(times, kept)
+
+
+def shop_of(source):
+    """A shop, job by job; some have many equal times and some have times of 0 or of the limit."""
+    jobs = source.randrange(2, 15)
+    machines = source.randrange(1, 8)
+    draw = source.choice([lambda: source.randrange(1, 100), lambda: source.randrange(0, 4), lambda: source.choice([0, 1, 1000000])])
+    return [[draw() for _ in range(machines)] for _ in range(jobs)]
+
+
+def text_of(times):
+    rows = "".join(" ".join(str(job[machine]) for job in times) + "\n" for machine in range(len(times[0])))
+    return f"shop\n{len(times)} {len(times[0])} 0 0 0\ntimes\n{rows}"
+
+
+def main():
+    source = random.Random(1990)
+    entries = []
+    with tempfile.TemporaryDirectory() as folder:
+        program = f"{folder}/solve"
+        subprocess.run(["g++", "-O3", "-o", program, HERE / "solve.cpp"], check=True)
+        for case in range(CASES):
+            times = shop_of(source)
+            rounds = source.choice([0, 1, 3, 12, 60])
+            take = source.randrange(1, len(times) + 1)
+            seed = source.choice([0, 1, 7, source.randrange(2**64), WORD])
+            words = [program, "taillard", "1", str(rounds), str(take), str(seed)]
+            printed = subprocess.run(words, input=text_of(times), capture_output=True, text=True, check=True).stdout
+            order, length = search(times, rounds, take, seed)
+            jobs = " ".join(str(job + 1) for job in order)
+            cells = 2 * len(times[0]) * (len(times) ** 2 + rounds * take * (2 * len(times) - take))
+            assert printed == f"order {len(order)}\n{jobs}\nmakespan {length}\ncells {cells}\n", (case, printed)
+            entries.append({"file": text_of(times), "rounds": rounds, "take": take, "seed": seed, "printed": printed})
+    (HERE / "expected").mkdir(exist_ok=True)
+    (HERE / "expected" / "searches.json").write_text(json.dumps(entries, indent=1) + "\n")
+
+
+if __name__ == "__main__":
+    main()
