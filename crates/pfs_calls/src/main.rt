@@ -7,7 +7,7 @@ ghost use Rattle.std.specs.Prelude.{◌≡◌, IfOk};
 use pfs_audit::{AuditFault, Verdict, check, makespan, table};
 use pfs_base::{BaseFault, Bench, FromRead, Instance, Notes, ToWrite};
 use pfs_desk::{DeskFault, run_check, run_convert, run_generate, run_table};
-use pfs_layout::{Layout, LayoutFault, generate};
+use pfs_layout::{BlockReader, Layout, LayoutFault, generate, read_block};
 use pfs_order::{Order, OrderFault, OrderFile, Seq, read_order};
 use std::alloc::{AllocError, Global};
 use std::{env, io};
@@ -108,6 +108,8 @@ fn answer_of(rt: &HostRuntime, name: &str) -> Result<(), Stop> {
     match name {
         "instance" => instance_call(rt),
         "generate" => generate_call(rt),
+        "feed" => feed_call(rt),
+        "read_block" => read_block_call(rt),
         "seq" => seq_call(rt),
         "identity" => identity_call(rt),
         "read_order" => read_order_call(rt),
@@ -158,6 +160,49 @@ fn instance_call(rt: &HostRuntime) -> Result<(), Stop> {
 fn generate_call(rt: &HostRuntime) -> Result<(), Stop> {
     let instance = generate(rt.alloc(), 1, 1, 2147483646)?;
     println!(rt; "seed {}", instance.notes().seed)?;
+    Ok(())
+}
+
+// Hands the whole file to a reader in one piece.
+fn feed_call(rt: &HostRuntime) -> Result<(), Stop> {
+    let mut reader = BlockReader::new(rt.alloc(), Layout::Taillard, 1);
+    match reader.feed(FILE) {
+        Ok(progress) => {
+            let held = reader.held();
+            let instance = reader.finish()?;
+            println!(rt;
+                "{} bytes, done: {}, {held} times, {} jobs",
+                progress.used,
+                progress.done,
+                instance.jobs()
+            )?;
+            Ok(())
+        }
+        Err(fault) => Err(told_again(reader, fault)),
+    }
+}
+
+// What a refusal stops with, if the reader holds no time and repeats the refusal from both calls.
+fn told_again(reader: BlockReader, fault: LayoutFault) -> Stop {
+    let mut reader = reader;
+    let held = reader.held();
+    let fed = reader.feed(FILE).err();
+    let finished = reader.finish().err();
+    if held == 0 && fed == Some(fault) && finished == Some(fault) {
+        Stop::from(fault)
+    } else {
+        Stop::Other
+    }
+}
+
+fn read_block_call(rt: &HostRuntime) -> Result<(), Stop> {
+    let mut reader = FromRead::new(FILE);
+    let instance = read_block(rt.alloc(), &mut reader, Layout::Taillard, 1)?;
+    println!(rt;
+        "{} jobs, {} machines",
+        instance.jobs(),
+        instance.machines()
+    )?;
     Ok(())
 }
 
