@@ -1,6 +1,6 @@
 -- What the readers of a job are given by a parse of a form.
-use Rattle.std.proofs.Common.{◌≡◌, ◌∙◌, ◌⊎◌, ◌≤◌, ◌||◌, ◌&&◌, ℕ, Bool, true, false, ap, arith, codes, inl, inr, List, [], ◌∷◌, Option, Some, None, option_map, refl, subst, sym, unwrap_or}
-use Rattle.std.specs.Prelude.{IfSome, slice_get}
+use Rattle.std.proofs.Common.{◌≡◌, ◌∙◌, ◌⊎◌, ◌≤◌, ◌||◌, ◌&&◌, ℕ, Bool, true, false, ap, arith, codes, inl, inr, List, [], ◌∷◌, Some, option_map, refl, subst, sym, unwrap_or}
+use Rattle.std.specs.Prelude.{slice_get}
 use Rattle.std.specs.Borrow.{Bor}
 use Rattle.std.specs.List.{list_any}
 use Rattle.std.specs.Str.{bytes_eq}
@@ -8,7 +8,7 @@ use Rattle.std.proofs.lemmas.Slice.Eq.{bytes_eq-Decides}
 use Rattle.clap.specs.Words.{App, Rule, Text, app_of, fault_of, first_of, found_of, is_simple_and_free, matches_of, rows_of, takes}
 use Rattle.clap.specs.Faults.{is_free_app}
 use Rattle.clap.specs.Simple.{built, is_simple}
-use Rattle.clap.specs.Values.{Accepts, IsUnsignedIn, same_text}
+use Rattle.clap.specs.Values.{IsUnsignedIn, same_text}
 use Rattle.clap.specs.Walk.{texts}
 use Rattle.clap.specs.declared.builder.command.Command.{Command}
 use Rattle.clap.specs.declared.builder.value_parser.ValueParser.TheVariants as parser

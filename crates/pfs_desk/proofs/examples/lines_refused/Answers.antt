@@ -1,8 +1,6 @@
-use Rattle.std.proofs.Common.{◌≡◌, ◌∙◌, [], None, Some, ap, codes, refl, sym, unwrap_or}
-use Rattle.clap.specs.Words.{App, Text, fault_of}
+use Rattle.std.proofs.Common.{◌≡◌, [], None, Some, codes, refl}
 use Rattle.clap.proofs.OnLiterals.{clap_on_literals}
-use Rattle.pfs_desk.specs.Commands.{form_of, value_form, generate_form}
-use Rattle.pfs_desk.specs.Jobs.{IsFaultlessLine}
+use Rattle.pfs_desk.specs.Commands.{value_form, generate_form}
 use Rattle.pfs_desk.proofs.JobLemmas.{refused, faulty_line, some_names}
 use Rattle.pfs_desk.proofs.examples.lines_refused.Goals as goal
 
