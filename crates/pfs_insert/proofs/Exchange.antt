@@ -49,7 +49,7 @@ module _ (shop : FlowShop) (jobs : List ℕ) (job place : ℕ) (within : place �
       let rest = length jobs - 1 - place in
       ap (λ b. cond b (heaviest (operation shop jobs) place machine (length jobs - 1) last) 0) (lt-ltb place (length jobs) lt)
       ∙ sym (most_moved weigh (operation shop jobs) rest (last - machine) (suc place) place machine
-          (λ k m le. let e : suc place + k ≡ place + k + 1 = omega arith in ap (λ r. weigh r m) e ∙ operation_behind (place + k) m (omega arith)))
+      (λ k m le. let e : suc place + k ≡ place + k + 1 = omega arith in ap (λ r. weigh r m) e ∙ operation_behind (place + k) m (omega arith)))
 
   back_none : length jobs ≤ place → (machine : ℕ) → heaviest_back shop jobs place machine ≡ 0
   back_none ge machine = ap (λ b. cond b (heaviest (operation shop jobs) place machine (length jobs - 1) last) 0) (le-ltb place (length jobs) ge)
@@ -62,7 +62,7 @@ module _ (shop : FlowShop) (jobs : List ℕ) (job place : ℕ) (within : place �
       ap (λ n. most weigh n last 0 0) one_more
       ∙ most_by_exit weigh rest (suc place) last place last 0 0 total (omega arith) (omega arith) (omega arith)
       ∙ greatest_to_same (by_exit weigh rest (suc place) last place 0 0) (λ x. sum_at (0 + x)) last
-          (λ x le. let f = front_is x in let b = back_is lt (0 + x) in omega arith)
+      (λ x le. let f = front_is x in let b = back_is lt (0 + x) in omega arith)
 
   behind : length jobs ≤ place → most weigh (length jobs) last 0 0 ≡ greatest_to (λ x. sum_at (0 + x)) last
   behind ge =
@@ -70,7 +70,7 @@ module _ (shop : FlowShop) (jobs : List ℕ) (job place : ℕ) (within : place �
       ap (λ n. most weigh n last 0 0) all
       ∙ sym (greatest_to_last (λ x. most weigh place x 0 0) last (rises weigh place))
       ∙ greatest_to_same (λ x. most weigh place x 0 0) (λ x. sum_at (0 + x)) last
-          (λ x le. let f = front_is x in let b = back_none ge (0 + x) in omega arith)
+      (λ x le. let f = front_is x in let b = back_none ge (0 + x) in omega arith)
 
   exchange_to : most weigh (length jobs) last 0 0 ≡ greatest_to (λ x. sum_at (0 + x)) last
   exchange_to = ⊎_elim inside behind (cases_lt place (length jobs))

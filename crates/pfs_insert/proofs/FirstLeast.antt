@@ -23,16 +23,16 @@ module _ (value : ℕ → ℕ) where
   test_no count place other small less =
       let at : get_or (range_with_len 0 count) other 0 ≡ other = get_or-range_with_len 0 count other 0 small ∙ omega arith in
       list_all_at (λ other. leb (value place) (value other)) (range_with_len 0 count) other 0 (omega (arith, length-range_with_len 0 count))
-          (subst (λ x. leb (value place) (value x) ≡ false) (sym at) (lt_leb (value place) (value other) less))
+      (subst (λ x. leb (value place) (value x) ≡ false) (sym at) (lt_leb (value place) (value other) less))
 
   pub first_least_is : (count place : ℕ) → IsFirstLeast value count place → first_least value count ≡ place
   first_least_is count place is =
       let len = length-range_with_len 0 count in
       position_or_len_is _ (range_with_len 0 count) place 0 (omega (arith, is.within))
-          (λ k before. let at : get_or (range_with_len 0 count) k 0 ≡ k = get_or-range_with_len 0 count k 0 (omega (arith, is.within)) ∙ omega arith in
-              subst (λ x. list_all (λ other. leb (value x) (value other)) (range_with_len 0 count) ≡ false) (sym at) (test_no count k place is.within (is.first k before)))
-          (λ _. let at : get_or (range_with_len 0 count) place 0 ≡ place = get_or-range_with_len 0 count place 0 is.within ∙ omega arith in
-              subst (λ x. list_all (λ other. leb (value x) (value other)) (range_with_len 0 count) ≡ true) (sym at) (test_yes count place is.least))
+      (λ k before. let at : get_or (range_with_len 0 count) k 0 ≡ k = get_or-range_with_len 0 count k 0 (omega (arith, is.within)) ∙ omega arith in
+      subst (λ x. list_all (λ other. leb (value x) (value other)) (range_with_len 0 count) ≡ false) (sym at) (test_no count k place is.within (is.first k before)))
+      (λ _. let at : get_or (range_with_len 0 count) place 0 ≡ place = get_or-range_with_len 0 count place 0 is.within ∙ omega arith in
+      subst (λ x. list_all (λ other. leb (value x) (value other)) (range_with_len 0 count) ≡ true) (sym at) (test_yes count place is.least))
 
   -- one more place, which is not better than the best so far
   pub first_least_keeps : (count place : ℕ) → IsFirstLeast value count place → value place ≤ value count → IsFirstLeast value (count + 1) place

@@ -1,4 +1,5 @@
 //! Worked examples on small shops.
+ghost use Rattle.std.specs.Prelude.{◌≡◌, ◌<◌, ◌≤◌, length, Contains, OnOk};
 
 use crate::{Afresh, Inserter};
 use pfs_base::{Bench, Instance, Notes};
@@ -32,14 +33,39 @@ fn second_and_first(alloc: Global) -> Result<Seq, Fail> {
     Ok(seq)
 }
 
+// That a job can be inserted.
+fn insertable(instance: &Instance, seq: &Seq, job: usize) -> Result<(), Fail>
+    ensures sizes { OnOk result (seq.now.size ≡ instance.now.shop.jobs) }
+    ensures job { OnOk result (job < seq.now.size) }
+    ensures absent { OnOk result (Contains seq.now.jobs job → ⊥) }
+{
+    if seq.size() == instance.jobs() && job < seq.size() && !seq.has(job) {
+        Ok(())
+    } else {
+        Err(Fail::from("the job can't be inserted"))
+    }
+}
+
+// The best place for a job, the makespan with it there, and the cells counted, where each place is
+// evaluated afresh.
+fn afresh(
+    alloc: Global,
+    instance: &Instance,
+    seq: &Seq,
+    job: usize,
+) -> Result<(usize, u64, u64), Fail> {
+    insertable(instance, seq, job)?;
+    let (_jobs, _machines) = (seq.len(), instance.machines());
+    let mut bench = instance.metered();
+    let mut inserter = Afresh::new(alloc, &bench)?;
+    let best = inserter.best(alloc, &mut bench, seq, job)?;
+    Ok((best.place, bench.reveal(best.span), bench.cells()))
+}
+
 #[test]
-fn a_third_job_goes_last_afresh(rt: HostRuntime) -> Result<(), Fail> {
+fn a_third_job_goes_last(rt: HostRuntime) -> Result<(), Fail> {
     let instance = three_jobs(rt.alloc())?;
     let seq = second_and_first(rt.alloc())?;
-    let mut bench = instance.metered();
-    let mut inserter = Afresh::new(rt.alloc(), &bench)?;
-    let best = inserter.best(rt.alloc(), &mut bench, &seq, 2)?;
-    assert_eq!(rt; (best.place, bench.reveal(best.span)), (2, 10));
-    assert_eq!(rt; bench.cells(), 18);
+    assert_eq!(rt; afresh(rt.alloc(), &instance, &seq, 2)?, (2, 10, 18));
     Ok(())
 }

@@ -21,11 +21,11 @@ returns-in-Err-clause-fault_high g c =
     let so_far = c.loop-place.invariant.counted in
     let after = c.in-Err.ensures.fault_high in
     let jobs : length c.insert_at.new.self.jobs ≡ many =
-        ap (λ (s : Sequence). length s.jobs) (c.insert_at.ensures ∙ ap (λ (s : Sequence). record { size = s.size; jobs = insert s.jobs c.loop-place.place c.args.job }) c.copy_from.ensures)
-        ∙ length-insert c.args.seq.now.jobs c.loop-place.place c.args.job (omega (arith, c.len-place-end.ensures.value)) in
+    ap (λ (s : Sequence). length s.jobs) (c.insert_at.ensures ∙ ap (λ (s : Sequence). record { size = s.size; jobs = insert s.jobs c.loop-place.place c.args.job }) c.copy_from.ensures)
+    ∙ length-insert c.args.seq.now.jobs c.loop-place.place c.args.job (omega (arith, c.len-place-end.ensures.value)) in
     let width : (g.B.Bench.shop c.loop-place.bench).machines ≡ shop.machines = ap (λ (s : FlowShop). s.machines) c.loop-place.invariant.same_shop in
     let cells : length c.insert_at.new.self.jobs * (g.B.Bench.shop c.loop-place.bench).machines ≡ many * shop.machines =
-        ap (λ n. n * (g.B.Bench.shop c.loop-place.bench).machines) jobs ∙ ap (λ n. many * n) width in
+    ap (λ n. n * (g.B.Bench.shop c.loop-place.bench).machines) jobs ∙ ap (λ n. many * n) width in
     omega arith
 
 pub returns-clause-place : goal.returns-clause-place
@@ -34,7 +34,7 @@ returns-clause-place g c =
     let value = makespan_with shop c.args.seq.now.jobs c.args.job in
     let all : c.loop-place.place ≡ length c.args.seq.now.jobs + 1 = omega (arith, c.len-place-end.ensures.value) in
     sym (first_least_is value (length c.args.seq.now.jobs + 1) c.loop-place.best.place
-        (subst (λ n. IsFirstLeast value n c.loop-place.best.place) all (c.loop-place.invariant.best (omega arith))))
+    (subst (λ n. IsFirstLeast value n c.loop-place.best.place) all (c.loop-place.invariant.best (omega arith))))
 
 pub returns-clause-counted : goal.returns-clause-counted
 returns-clause-counted g c =
