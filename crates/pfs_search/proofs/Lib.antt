@@ -1,2 +1,4 @@
 pub mod CostSums
-pub mod Rankings
+pub mod OneRanking
+pub mod SortedJobs
+pub mod Taking

@@ -2,8 +2,12 @@
 #![tactic(auto)]
 
 pub mod fault;
+pub mod insertions;
 pub mod kept;
 pub mod laws;
+pub mod rankings;
+pub mod searcher;
 
 pub use fault::SearchFault;
 pub use kept::Kept;
+pub use searcher::Searcher;
