@@ -2,6 +2,7 @@
 #![tactic(auto)]
 
 pub mod fault;
+pub mod greedy;
 pub mod insertions;
 pub mod kept;
 pub mod laws;
