@@ -1,4 +1,5 @@
 pub mod CostSums
+pub mod NoLonger
 pub mod OneRanking
 pub mod SortedJobs
 pub mod Taking

@@ -1,6 +1,7 @@
 //! NEH and rounds of iterated greedy, for any inserter and any bench.
 #![tactic(auto)]
 
+pub mod examples;
 pub mod fault;
 pub mod greedy;
 pub mod insertions;
