@@ -1,0 +1,17 @@
+//! NEH and rounds of iterated greedy, for any inserter and any bench.
+#![tactic(auto)]
+
+pub mod examples;
+pub mod fault;
+pub mod greedy;
+pub mod insertions;
+pub mod kept;
+pub mod laws;
+pub mod rankings;
+pub mod searcher;
+#[cfg(test)]
+mod tests;
+
+pub use fault::SearchFault;
+pub use kept::Kept;
+pub use searcher::Searcher;
