@@ -48,12 +48,9 @@ insertions_within cost machines before many done lt =
     let here = ap (λ count. cost count machines) same in
     omega arith
 
--- a round without a pass costs its insertions alone
-pub round_without_pass : (cost : ℕ → ℕ → ℕ) (jobs machines many : ℕ) → round_cost cost jobs machines many 0 ≡ insertions_cost cost machines (jobs - many) many
-round_without_pass cost jobs machines many = let no_pass = zero-mul (jobs * cost jobs machines) in omega arith
-
 -- ---- closed forms
 
+-- so many insertions into a sequence of `a` jobs
 heads_tails_sum : (cost : ℕ → ℕ → ℕ) → CostsAsHeadsTails cost → (a machines n : ℕ) →
     insertions_cost cost machines a n ≡ 2 * n * machines * (2 * a + n)
 heads_tails_sum cost is a machines zero = omega arith

@@ -4,7 +4,7 @@ use Rattle.std.proofs.Math.Dec.{leb}
 use Rattle.std.proofs.lemmas.Bool.{cond_both, leb-true}
 use Rattle.pfs_base.specs.FlowShop.{FlowShop}
 use Rattle.pfs_base.specs.Paths.{makespan}
-use Rattle.pfs_search.specs.Greedy.{kept_of, after_passes, after_round, after_rounds, rebuilt, NoLongerLaw}
+use Rattle.pfs_search.specs.Greedy.{kept_of, after_passes, after_round, rebuilt, NoLongerLaw}
 
 kept_no_longer : (shop : FlowShop) (old new : List ℕ) → makespan shop (kept_of shop old new) ≤ makespan shop old
 kept_no_longer shop old new =

@@ -3,11 +3,11 @@
 
 pub mod examples;
 pub mod fault;
-pub mod greedy;
-pub mod insertions;
+mod greedy;
+mod insertions;
 pub mod kept;
 pub mod laws;
-pub mod rankings;
+mod rankings;
 pub mod searcher;
 #[cfg(test)]
 mod tests;
