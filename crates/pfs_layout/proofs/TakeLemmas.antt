@@ -1,24 +1,24 @@
 -- Where a reader stands within a piece.
-use Rattle.std.proofs.Common.{◌≡◌, ◌≢◌, ℕ, ◌+◌, ◌<◌, ◌≤◌, Bool, true, false, List, [], ◌∷◌, ◌++◌, length, take, get_or, refl, sym, ◌∙◌, ap, subst, arith, None, if◌then◌else◌, nat_lt, ◌⊎◌, inl, inr}
+use Rattle.std.proofs.Common.{◌≡◌, ◌≢◌, ℕ, ◌+◌, ◌<◌, ◌≤◌, Bool, true, false, List, [], ◌∷◌, ◌++◌, length, take, get_or, refl, sym, ◌∙◌, ap, subst, arith, None, if◌then◌else◌, nat_lt, ◌⊎◌, inl, inr, not, ◌&&◌, ◌||◌}
 use Rattle.std.specs.Prelude.{◌-◌, ◌==◌, slice_get}
 use Rattle.std.specs.List.{list_any}
-use Rattle.std.proofs.lemmas.Bool.{cases_eq, lt-ltb}
+use Rattle.std.proofs.lemmas.Bool.{cases_eq, lt-ltb, and_parts, eqb-true, not-true, or_cases}
 use Rattle.std.proofs.lemmas.List.{append_assoc, append-nil, take_more}
 use Rattle.pfs_base.specs.declared.limits.TheConstants.{LONGEST_INPUT}
-use Rattle.pfs_layout.specs.declared.fault.LayoutFault.TheVariants.{Memory}
+use Rattle.pfs_layout.specs.declared.fault.LayoutFault.TheVariants.{Memory, MixedLine}
 use Rattle.pfs_layout.specs.declared.scan.Digits.{Digits}
 use Rattle.pfs_layout.specs.declared.scan.Kinds.{Kinds}
 use Rattle.pfs_layout.specs.declared.fields.Phase.TheVariants as phases
 use Rattle.pfs_layout.specs.declared.fields.Fields.{Fields}
-use Rattle.pfs_layout.specs.Bytes.{is_word_byte}
+use Rattle.pfs_layout.specs.Bytes.{is_word_byte, is_digit, is_blank}
 use Rattle.pfs_layout.specs.Lines.{ended_lines, open_line, ended_numbers}
 use Rattle.pfs_layout.specs.Stand.{Block, Now, seeking, inside, lost, Stand, stand}
-use Rattle.pfs_layout.specs.Step.{is_live, digits_after, kinds_after, judged, with_line, stepped, KeepsHeld, LacksMemory, IsReady}
+use Rattle.pfs_layout.specs.Step.{is_live, digits_after, kinds_after, judged, with_line, stepped, KeepsHeld, LacksMemory, IsReady, is_in_block, refused, last_number_ended}
 use Rattle.pfs_layout.specs.Reader.{block_begun_by, block_of, time_count, FollowsNow, Follows, StandsAfter, EndsWantedSize, TakeMeets}
 use Rattle.pfs_layout.proofs.SoundLemmas.{stand_of}
 use Rattle.pfs_layout.proofs.StepLemmas.{live-memory, refused_memory}
 use Rattle.pfs_layout.proofs.StaleLemmas.{stale_line}
-use Rattle.pfs_layout.proofs.ByteSteps.{live_few}
+use Rattle.pfs_layout.proofs.ByteSteps.{live_few, judged_digit}
 use Rattle.pfs_layout.proofs.ReaderLemmas.{carries, live_follows, step_stands, follows_ready}
 
 -- a live reader behind the first bytes of a piece
@@ -149,6 +149,27 @@ none_yet r text f sought wanted = f.blocks.held ∙ ap (time_count r.layout) non
 -- with the fields of an older last line
 step_is : (r next : Fields) (digits : Digits) (kinds : Kinds) (b : ℕ) → next ≡ judged r digits kinds b → with_line next (digits_after digits b) (kinds_after kinds b) ≡ stepped (with_line r digits kinds) b
 step_is r next digits kinds b e = ap (λ z. with_line z (digits_after digits b) (kinds_after kinds b)) e ∙ sym (stale_line r digits kinds b (digits_after digits b) (kinds_after kinds b))
+
+-- a digit of a line without a word byte has no fault
+pub judged_quiet : (r : Fields) (digits : Digits) (kinds : Kinds) (b : ℕ) → (is_digit b && not kinds.has_word) ≡ true → judged r digits kinds b ≡ r
+judged_quiet r digits kinds b e =
+    let parts = and_parts (is_digit b) (not kinds.has_word) e in
+    judged_digit r digits kinds b parts.0 ∙ ap (λ t. if t && is_in_block r.phase then refused r (MixedLine digits.offset) else r) (not-true kinds.has_word parts.1)
+
+-- a blank ends a number alone
+pub judged_at_blank : (r : Fields) (digits : Digits) (kinds : Kinds) (b : ℕ) → is_blank b ≡ true → judged r digits kinds b ≡ last_number_ended r digits
+judged_at_blank r digits kinds b e = by_blank (or_cases (b == 32 || b == 9) (b == 13) e)
+  where
+    at : (c : ℕ) → judged r digits kinds c ≡ last_number_ended r digits → (b == c) ≡ true → judged r digits kinds b ≡ last_number_ended r digits
+    at c h e = subst (λ x. judged r digits kinds x ≡ last_number_ended r digits) (sym (eqb-true b c e)) h
+
+    by_first : ((b == 32) ≡ true) ⊎ ((b == 9) ≡ true) → judged r digits kinds b ≡ last_number_ended r digits
+    by_first (inl e) = at 32 refl e
+    by_first (inr e) = at 9 refl e
+
+    by_blank : ((b == 32 || b == 9) ≡ true) ⊎ ((b == 13) ≡ true) → judged r digits kinds b ≡ last_number_ended r digits
+    by_blank (inl e) = by_first (or_cases (b == 32) (b == 9) e)
+    by_blank (inr e) = at 13 refl e
 
 -- one byte on, as the loop does it
 pub taken_byte : (old r next : Fields) (digits : Digits) (kinds : Kinds) (piece : List ℕ) (i : ℕ) → TakenTo old (with_line r digits kinds) piece i → i < length piece → old.digits.offset + length piece ≤ LONGEST_INPUT

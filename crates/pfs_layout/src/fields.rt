@@ -161,6 +161,7 @@ impl Fields {
     }
 
     /// A blank, a line end or the end of the input ends a number.
+    #[inline(always)]
     #[tactic(auto, unfolding(crate::specs::Step::number_ended))]
     pub fn end_number(&mut self, value: u64, first: usize)
         requires can { self.old.phase ≡ Phase.Body → CanCount self.old }
@@ -335,11 +336,6 @@ impl Fields {
         ensures kept { self.new.phase ≡ Phase.Refused LayoutFault.Memory → KeepsHeld self.old self.new }
         ensures live { result ≡ live_test self.new.phase }
     {
-        let is_quiet = is_digit(b) && !kinds.has_word;
-        if is_quiet {
-            // no digit is a fault on a line without a word byte
-            return true;
-        }
         self.judge(alloc, digits, kinds, b);
         self.is_live()
     }
@@ -365,22 +361,36 @@ impl Fields {
         ensures moved { self.new.digits.offset ≡ self.old.digits.offset + result }
         ensures meets { (text : List ℕ) → StandsAfter self.old text → TakeMeets self.old text piece.now result self.new }
     {
+        let start = self.digits.offset;
         let mut digits = self.digits;
         let mut kinds = self.kinds;
-        let mut used = 0;
+        // Each branch steps on by itself: so the compiler makes a short loop of each.
         for b in piece {
             let b = *b;
+            if kinds.is_quiet(b) {
+                digits = digits.after(b);
+                kinds = kinds.after(b);
+                continue;
+            }
+            if is_blank(b) {
+                self.end_last_number(digits);
+                digits = digits.after(b);
+                kinds = kinds.after(b);
+                if !self.is_live() {
+                    break;
+                }
+                continue;
+            }
             let is_live = self.take_byte(alloc, digits, kinds, b);
             digits = digits.after(b);
             kinds = kinds.after(b);
-            used += 1;
             if !is_live {
                 break;
             }
         }
         self.digits = digits;
         self.kinds = kinds;
-        used
+        digits.offset - start
     }
 
     /// Takes a piece, up to the end of the wanted block or a refusal.

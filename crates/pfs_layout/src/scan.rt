@@ -90,6 +90,14 @@ impl Kinds {
         }
     }
 
+    /// Whether a byte is a digit of a line without a word byte: no fault comes at it, and it ends nothing.
+    #[inline(always)]
+    pub fn is_quiet(self, b: u8) -> bool
+        ensures { result ≡ (digit_test b && not self.has_word) }
+    {
+        is_digit(b) && !self.has_word
+    }
+
     /// Whether the line is a number line.
     pub fn is_number_line(self) -> bool
         ensures { result ≡ (self.has_digit && not self.has_word) }
