@@ -1,0 +1,44 @@
+use Rattle.std.proofs.Common.{◌≡◌, ℕ, ◌+◌, ◌*◌, ◌<◌, ◌≤◌, length, ap, subst, sym, ◌∙◌, arith}
+use Rattle.std.proofs.Math.Nat.{mul-le-mul_right, mul_assoc}
+use Rattle.std.specs.List.{insert}
+use Rattle.std.proofs.lemmas.List.Edits.{length-insert}
+use Rattle.pfs_base.specs.FlowShop.{FlowShop}
+use Rattle.pfs_order.specs.Sequence.{Sequence}
+use Rattle.pfs_insert.specs.Insertion.{IsFirstLeast, makespan_with}
+use Rattle.pfs_insert.proofs.FirstLeast.{first_least_is}
+use Rattle.pfs_insert.proofs.afresh.AfreshInserter.best.Goals as goal
+
+-- some rounds and one more, where there are more than those
+one_more : (a b w : ℕ) → a < b → a * w + w ≤ b * w
+one_more a b w lt = let h : (a + 1) * w ≤ b * w = mul-le-mul_right w (omega arith) in omega arith
+
+pub returns-in-Err-clause-fault_high : goal.returns-in-Err-clause-fault_high
+returns-in-Err-clause-fault_high g c =
+    let shop = g.B.Bench.shop c.args.bench.now in
+    let many = length c.args.seq.now.jobs + 1 in
+    let fits = one_more c.loop-place.place many (many * shop.machines) (omega arith) in
+    let all = mul_assoc many many shop.machines in
+    let so_far = c.loop-place.invariant.counted in
+    let after = c.in-Err.ensures.fault_high in
+    let jobs : length c.insert_at.new.self.jobs ≡ many =
+    ap (λ (s : Sequence). length s.jobs) (c.insert_at.ensures ∙ ap (λ (s : Sequence). record { size = s.size; jobs = insert s.jobs c.loop-place.place c.args.job }) c.copy_from.ensures)
+    ∙ length-insert c.args.seq.now.jobs c.loop-place.place c.args.job (omega (arith, c.len-place-end.ensures.value)) in
+    let width : (g.B.Bench.shop c.loop-place.bench).machines ≡ shop.machines = ap (λ (s : FlowShop). s.machines) c.loop-place.invariant.same_shop in
+    let cells : length c.insert_at.new.self.jobs * (g.B.Bench.shop c.loop-place.bench).machines ≡ many * shop.machines =
+    ap (λ n. n * (g.B.Bench.shop c.loop-place.bench).machines) jobs ∙ ap (λ n. many * n) width in
+    omega arith
+
+pub returns-clause-place : goal.returns-clause-place
+returns-clause-place g c =
+    let shop = g.B.Bench.shop c.args.bench.now in
+    let value = makespan_with shop c.args.seq.now.jobs c.args.job in
+    let all : c.loop-place.place ≡ length c.args.seq.now.jobs + 1 = omega (arith, c.len-place-end.ensures.value) in
+    sym (first_least_is value (length c.args.seq.now.jobs + 1) c.loop-place.best.place
+    (subst (λ n. IsFirstLeast value n c.loop-place.best.place) all (c.loop-place.invariant.best (omega arith))))
+
+pub returns-clause-counted : goal.returns-clause-counted
+returns-clause-counted g c =
+    let shop = g.B.Bench.shop c.args.bench.now in
+    let many = length c.args.seq.now.jobs + 1 in
+    let all : c.loop-place.place ≡ many = omega (arith, c.len-place-end.ensures.value) in
+    c.loop-place.invariant.counted ∙ ap (λ n. g.B.Bench.counted c.args.bench.now + n) (ap (λ n. n * (many * shop.machines)) all ∙ sym (mul_assoc many many shop.machines))

@@ -1,0 +1,59 @@
+//! What every inserter promises.
+ghost use Rattle.std.specs.Prelude.{◌≡◌, ℕ, ◌+◌, ◌<◌, ◌≤◌, ◌^◌, length, Bool, false, Contains, IsOk, IfOk, OnOk, OnErr, insert};
+ghost use Rattle.pfs_base.specs.Paths.{makespan};
+ghost use Rattle.pfs_insert.specs.Insertion.{best_place};
+
+use crate::fault::InsertFault;
+use pfs_base::{Bench, Length};
+use pfs_order::Seq;
+use std::alloc::Global;
+
+/// A place of a sequence, and the makespan of the whole sequence with the job put there. Places count
+/// from 0; the job goes before the job that stood at the place, or behind the last one.
+#[derive(Clone, Copy, Debug, PartialEq, Eq)]
+pub struct Placed<S> {
+    pub place: usize,
+    pub span: S,
+}
+
+/// Finds the best place for a job, on a bench whose shop has the sizes that the inserter was made for.
+pub trait Inserter<B: Bench> {
+    /// How many jobs the shops have that it was made for.
+    ghost jobs: { Self → ℕ };
+
+    /// How many machines they have.
+    ghost machines: { Self → ℕ };
+
+    /// The cells that one insertion counts, by the number of jobs with the inserted one, and by the
+    /// number of machines.
+    ghost cost: { ℕ → ℕ → ℕ };
+
+    /// Whether `best` can answer want of memory.
+    ghost can_refuse: { Bool };
+
+    /// The place for a job, among all places of the sequence, that gives the shortest makespan; of
+    /// places that give the same, the first. Where memory is refused the inserter may be used again.
+    fn best(
+        &mut self,
+        alloc: Global,
+        bench: &mut B,
+        seq: &Seq,
+        job: usize,
+    ) -> Result<Placed<B::Span>, InsertFault>
+        requires job { job < seq.now.size }
+        requires absent { Contains seq.now.jobs job → ⊥ }
+        requires seq_jobs { seq.now.size ≡ (B.shop bench.old).jobs }
+        requires own_jobs { jobs self.old ≡ (B.shop bench.old).jobs }
+        requires own_machines { machines self.old ≡ (B.shop bench.old).machines }
+        requires room { B.counted bench.old + cost (length seq.now.jobs + 1) (B.shop bench.old).machines < 2 ^ 64 }
+        ensures place { IfOk result (λ best. best.place ≡ best_place (B.shop bench.old) seq.now.jobs job) }
+        ensures within { IfOk result (λ best. best.place ≤ length seq.now.jobs) }
+        ensures span { IfOk result (λ best. B.Span.number best.span ≡ makespan (B.shop bench.old) (insert seq.now.jobs best.place job)) }
+        ensures counted { OnOk result (B.counted bench.new ≡ B.counted bench.old + cost (length seq.now.jobs + 1) (B.shop bench.old).machines) }
+        ensures fault_low { OnErr result (B.counted bench.old ≤ B.counted bench.new) }
+        ensures fault_high { OnErr result (B.counted bench.new ≤ B.counted bench.old + cost (length seq.now.jobs + 1) (B.shop bench.old).machines) }
+        ensures succeeds { can_refuse ≡ false → IsOk result }
+        ensures shop { B.shop bench.new ≡ B.shop bench.old }
+        ensures same_jobs { jobs self.new ≡ jobs self.old }
+        ensures same_machines { machines self.new ≡ machines self.old };
+}

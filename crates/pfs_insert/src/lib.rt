@@ -1,0 +1,14 @@
+//! The best place for a job in a sequence: what an inserter promises, and the inserters that keep it.
+#![tactic(auto)]
+
+pub mod afresh;
+pub mod examples;
+pub mod fault;
+pub mod inserter;
+pub mod laws;
+#[cfg(test)]
+mod tests;
+
+pub use afresh::Afresh;
+pub use fault::InsertFault;
+pub use inserter::{Inserter, Placed};
