@@ -1,0 +1,75 @@
+-- Sums of costs over successive counts.
+use Rattle.std.proofs.Common.{◌≡◌, ℕ, zero, suc, ◌+◌, ◌-◌, ◌*◌, ◌<◌, ◌≤◌, List, [], ◌∷◌, ◌++◌, length, take, get_or, refl, ap, sym, ◌∙◌, add-one, mul-le-mul_left, zero-mul, arith}
+use Rattle.std.specs.List.{range_with_len, sum_by}
+use Rattle.std.proofs.lemmas.List.{map-id}
+use Rattle.std.proofs.lemmas.List.Sums.{sum_by-append, sum_by_push, sum_by_more_le}
+use Rattle.std.proofs.lemmas.List.FromFn.{length-range_with_len, get_or-range_with_len, map-range_with_len_more, take-map-range_with_len}
+use Rattle.pfs_search.specs.Costs.{neh_cost, round_cost, CostsAsHeadsTails, HasClosedCosts, CostsLaw}
+
+range_more : (a n : ℕ) → range_with_len a (n + 1) ≡ range_with_len a n ++ (a + n) ∷ []
+range_more a n =
+    sym (map-id (range_with_len a (n + 1))) ∙ map-range_with_len_more (λ x. x) a n (a + n) (omega arith) ∙ ap (λ l. l ++ (a + n) ∷ []) (map-id (range_with_len a n))
+
+range_take : (a n k : ℕ) → k ≤ n → take k (range_with_len a n) ≡ range_with_len a k
+range_take a n k le =
+    ap (take k) (sym (map-id (range_with_len a n))) ∙ take-map-range_with_len (λ x. x) a n k le ∙ map-id (range_with_len a k)
+
+-- one more count
+pub sum_range_more : (cost : ℕ → ℕ) (a n : ℕ) → sum_by cost (range_with_len a (n + 1)) ≡ sum_by cost (range_with_len a n) + cost (a + n)
+sum_range_more cost a n = ap (sum_by cost) (range_more a n) ∙ sum_by_push cost (range_with_len a n) (a + n)
+
+sum_range_suc : (cost : ℕ → ℕ) (a n : ℕ) → sum_by cost (range_with_len a (suc n)) ≡ sum_by cost (range_with_len a n) + cost (a + n)
+sum_range_suc cost a n = rw add-one at (sum_range_more cost a n)
+
+-- the counts so far and the next are among all
+pub sum_range_le : (cost : ℕ → ℕ) (a n k : ℕ) → k < n → sum_by cost (range_with_len a k) + cost (a + k) ≤ sum_by cost (range_with_len a n)
+sum_range_le cost a n k lt =
+    let len = length-range_with_len a n in
+    let le = sum_by_more_le cost (range_with_len a n) k 0 (omega arith) in
+    let front = ap (sum_by cost) (range_take a n k (omega arith)) in
+    let at = ap cost (get_or-range_with_len a n k 0 lt) in
+    omega arith
+
+-- ---- closed forms
+
+-- insertions that make one job more than `a`, two more, and so on
+heads_tails_sum : (cost : ℕ → ℕ → ℕ) → CostsAsHeadsTails cost → (a machines n : ℕ) →
+    sum_by (λ count. cost count machines) (range_with_len (a + 1) n) ≡ 2 * n * machines * (2 * a + n)
+heads_tails_sum cost is a machines zero = omega arith
+heads_tails_sum cost is a machines (suc n) =
+    let before = heads_tails_sum cost is a machines n in
+    let more = sum_range_suc (λ count. cost count machines) (a + 1) n in
+    let next = is (a + 1 + n) machines (omega arith) in
+    let width : 4 * (a + 1 + n) - 2 ≡ 4 * a + 4 * n + 2 = omega arith in
+    let here = ap (λ w. w * machines) width in
+    omega arith
+
+neh_closed : (cost : ℕ → ℕ → ℕ) → CostsAsHeadsTails cost → (jobs machines : ℕ) → neh_cost cost jobs machines ≡ 2 * machines * (jobs * jobs)
+neh_closed cost is jobs machines = let all = heads_tails_sum cost is 0 machines jobs in omega arith
+
+round_closed : (cost : ℕ → ℕ → ℕ) → CostsAsHeadsTails cost → (jobs machines many : ℕ) → many ≤ jobs →
+    round_cost cost jobs machines many 0 ≡ 2 * many * machines * (2 * jobs - many)
+round_closed cost is jobs machines many few =
+    let put_back = heads_tails_sum cost is (jobs - many) machines many in
+    let no_pass = zero-mul (jobs * cost jobs machines) in
+    let width : 2 * (jobs - many) + many ≡ 2 * jobs - many = omega arith in
+    let closed = ap (λ w. 2 * many * machines * w) width in
+    omega arith
+
+rounds_closed : (cost : ℕ → ℕ → ℕ) → CostsAsHeadsTails cost → (count jobs machines many : ℕ) → many ≤ jobs →
+    count * round_cost cost jobs machines many 0 ≤ count * many * machines * (4 * jobs - 2)
+rounds_closed cost is count jobs machines zero few = 
+    let closed = ap (λ c. count * c) (round_closed cost is jobs machines 0 few) in omega arith
+rounds_closed cost is count jobs machines (suc fewer) few =
+    let many : ℕ = suc fewer in
+    let closed = ap (λ c. count * c) (round_closed cost is jobs machines many few) in
+    let le : 2 * (2 * jobs - many) ≤ 4 * jobs - 2 = omega arith in
+    let most = mul-le-mul_left (count * many * machines) le in
+    omega arith
+
+pub costs_law : CostsLaw
+costs_law cost is = record {
+  neh = neh_closed cost is;
+  round = round_closed cost is;
+  rounds = rounds_closed cost is;
+}

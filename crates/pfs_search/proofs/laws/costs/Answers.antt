@@ -1,0 +1,5 @@
+use Rattle.pfs_search.proofs.CostSums.{costs_law}
+use Rattle.pfs_search.proofs.laws.costs.Goals as goal
+
+pub returns : goal.returns
+returns c = costs_law

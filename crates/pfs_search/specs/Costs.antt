@@ -1,0 +1,28 @@
+-- What a search costs, in cells, by what an insertion costs. The cost of an insertion is a function of the
+-- number of jobs with the new one, and the number of machines.
+use Rattle.std.specs.Prelude.{◌≡◌, ℕ, ◌+◌, ◌-◌, ◌*◌, ◌≤◌, sum_by}
+use Rattle.std.specs.List.{range_with_len}
+use Rattle.pfs_insert.specs.Insertion.{heads_tails_cost}
+
+-- NEH: the insertions that make 1 job, 2 jobs, and so on to all
+abbrev pub neh_cost : (ℕ → ℕ → ℕ) → ℕ → ℕ → ℕ
+neh_cost cost jobs machines = sum_by (λ count. cost count machines) (range_with_len 1 jobs)
+
+-- a round: those of the jobs that were taken out, so many, and then the passes over all jobs
+abbrev pub round_cost : (ℕ → ℕ → ℕ) → ℕ → ℕ → ℕ → ℕ → ℕ
+round_cost cost jobs machines many passes =
+    sum_by (λ count. cost count machines) (range_with_len (jobs - many + 1) many) + passes * (jobs * cost jobs machines)
+
+-- an insertion costs as much as one by heads and tails
+abbrev pub CostsAsHeadsTails : (ℕ → ℕ → ℕ) → Type 0
+CostsAsHeadsTails cost = (count machines : ℕ) → 1 ≤ count → cost count machines ≡ heads_tails_cost count machines
+
+-- the costs in closed form of NEH, of a round that takes so many jobs out, and of so many such rounds
+pub record HasClosedCosts (cost : ℕ → ℕ → ℕ) : Type 0 where
+  pub neh : (jobs machines : ℕ) → neh_cost cost jobs machines ≡ 2 * machines * (jobs * jobs)
+  pub round : (jobs machines many : ℕ) → many ≤ jobs → round_cost cost jobs machines many 0 ≡ 2 * many * machines * (2 * jobs - many)
+  pub rounds : (count jobs machines many : ℕ) → many ≤ jobs
+      → count * round_cost cost jobs machines many 0 ≤ count * many * machines * (4 * jobs - 2)
+
+abbrev pub CostsLaw : Type 0
+CostsLaw = (cost : ℕ → ℕ → ℕ) → CostsAsHeadsTails cost → HasClosedCosts cost

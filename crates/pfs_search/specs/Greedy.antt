@@ -1,0 +1,58 @@
+-- Iterated greedy (Ruiz and Stützle 2007): rounds that take some jobs out and put each back at its best place.
+use Rattle.std.specs.Prelude.{ℕ, zero, suc, ◌%◌, not, List, [], ◌∷◌, length, take, drop, fold, filter, nat_le, nat_eq, slice_index, remove, if◌then◌else◌}
+use Rattle.rand_core.specs.Stream.{Stream, next_u32}
+use Rattle.pfs_base.specs.FlowShop.{FlowShop}
+use Rattle.pfs_base.specs.Paths.{makespan}
+use Rattle.pfs_order.specs.Sequence.{all_jobs}
+use Rattle.pfs_insert.specs.Insertion.{with_job}
+use Rattle.pfs_search.specs.Neh.{with_jobs}
+
+-- the place that a word names, counted from 0
+abbrev pub place_of : List ℕ → ℕ → ℕ
+place_of jobs word = word % length jobs
+
+-- the jobs that the words take out one after the other, in this order
+abbrev pub jobs_taken : List ℕ → List ℕ → List ℕ
+jobs_taken jobs [] = []
+jobs_taken jobs (word ∷ words) = slice_index jobs (place_of jobs word) ∷ jobs_taken (remove jobs (place_of jobs word)) words
+
+-- the jobs that they leave
+abbrev pub jobs_left : List ℕ → List ℕ → List ℕ
+jobs_left jobs words = fold (λ rest word. remove rest (place_of rest word)) jobs words
+
+-- the order with the taken jobs put back, in the order in which they were taken
+abbrev pub rebuilt : FlowShop → List ℕ → List ℕ → List ℕ
+rebuilt shop jobs words = with_jobs shop (jobs_left jobs words) (jobs_taken jobs words)
+
+-- each job in the order of the numbers leaves its place for its best one
+abbrev pub pass : FlowShop → List ℕ → List ℕ
+pass shop jobs = fold (λ order job. with_job shop (filter (λ other. not (nat_eq other job)) order) job) jobs (all_jobs shop.jobs)
+
+-- the order after so many passes
+abbrev pub after_passes : FlowShop → ℕ → List ℕ → List ℕ
+after_passes shop zero jobs = jobs
+after_passes shop (suc passes) jobs = after_passes shop passes (pass shop jobs)
+
+-- the new order where its makespan is not greater, and else the old one
+abbrev pub kept_of : FlowShop → List ℕ → List ℕ → List ℕ
+kept_of shop old new = if nat_le (makespan shop new) (makespan shop old) then new else old
+
+-- an order after a round with these words
+abbrev pub after_round : FlowShop → ℕ → List ℕ → List ℕ → List ℕ
+after_round shop passes jobs words = kept_of shop jobs (after_passes shop passes (rebuilt shop jobs words))
+
+-- an order after so many rounds, on successive groups of so many words
+abbrev pub after_rounds : FlowShop → ℕ → ℕ → ℕ → List ℕ → List ℕ → List ℕ
+after_rounds shop passes zero many jobs words = jobs
+after_rounds shop passes (suc rounds) many jobs words =
+    after_rounds shop passes rounds many (after_round shop passes jobs (take many words)) (drop many words)
+
+-- the next so many words of a stream
+abbrev pub words_of : ℕ → Stream → List ℕ
+words_of zero stream = []
+words_of (suc count) stream = let next = next_u32 stream in next.0 ∷ words_of count next.1
+
+-- the stream after so many words
+abbrev pub stream_after : ℕ → Stream → Stream
+stream_after zero stream = stream
+stream_after (suc count) stream = stream_after count (next_u32 stream).1

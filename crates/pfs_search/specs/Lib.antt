@@ -1,0 +1,6 @@
+pub mod Costs
+pub mod Greedy
+pub mod Neh
+pub mod Ranking
+pub mod RoundsStop
+pub mod SearcherView

@@ -1,0 +1,14 @@
+-- What rounds leave where memory is refused in one of them.
+use Rattle.std.specs.Prelude.{◌≡◌, ℕ, ◌+◌, ◌*◌, ◌<◌, List}
+use Rattle.rand_core.specs.Stream.{Stream}
+use Rattle.pfs_base.specs.FlowShop.{FlowShop}
+use Rattle.pfs_search.specs.Greedy.{after_rounds, words_of, stream_after}
+use Rattle.pfs_search.specs.declared.fault.SearchFault.{SearchFault}
+use Rattle.pfs_search.specs.declared.fault.SearchFault.TheVariants.{Memory}
+
+-- so many of the rounds are done and stay, and the words of one more are drawn
+abbrev pub RoundsStop : FlowShop → ℕ → ℕ → List ℕ → List ℕ → Stream → Stream → SearchFault → Type 0
+RoundsStop shop count many old new before after (Memory done) =
+    (done < count)
+    × (new ≡ after_rounds shop 0 done many old (words_of (done * many) before))
+    × (after ≡ stream_after ((done + 1) * many) before)

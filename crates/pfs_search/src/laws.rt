@@ -1,0 +1,16 @@
+//! Laws about the definitions alone.
+ghost use Rattle.pfs_search.specs.Costs.{CostsLaw};
+ghost use Rattle.pfs_search.specs.Ranking.{RankingLaw};
+
+/// Of each shop exactly one list is the ranking: all jobs, greater totals first, and the lower number first
+/// at equal totals.
+pub fn ranking()
+    ensures { RankingLaw }
+{}
+
+/// Where an insertion that makes k jobs on m machines costs (4k - 2)m cells, as it does by heads and tails,
+/// NEH of n jobs costs 2mn² cells, a round that takes d jobs out 2dm(2n - d), and R such rounds cost at most
+/// Rdm(4n - 2).
+pub fn costs()
+    ensures { CostsLaw }
+{}
