@@ -1,10 +1,10 @@
 -- Sums of costs over successive counts.
-use Rattle.std.proofs.Common.{◌≡◌, ℕ, zero, suc, ◌+◌, ◌-◌, ◌*◌, ◌<◌, ◌≤◌, List, [], ◌∷◌, ◌++◌, length, take, get_or, refl, ap, sym, ◌∙◌, add-one, mul-le-mul_left, zero-mul, arith}
+use Rattle.std.proofs.Common.{◌≡◌, ℕ, zero, suc, ◌+◌, ◌-◌, ◌*◌, ◌<◌, ◌≤◌, [], ◌∷◌, ◌++◌, take, ap, sym, ◌∙◌, add-one, mul-le-mul_left, zero-mul, arith}
 use Rattle.std.specs.List.{range_with_len, sum_by}
 use Rattle.std.proofs.lemmas.List.{map-id}
-use Rattle.std.proofs.lemmas.List.Sums.{sum_by-append, sum_by_push, sum_by_more_le}
+use Rattle.std.proofs.lemmas.List.Sums.{sum_by_push, sum_by_more_le}
 use Rattle.std.proofs.lemmas.List.FromFn.{length-range_with_len, get_or-range_with_len, map-range_with_len_more, take-map-range_with_len}
-use Rattle.pfs_search.specs.Costs.{neh_cost, round_cost, CostsAsHeadsTails, HasClosedCosts, CostsLaw}
+use Rattle.pfs_search.specs.Costs.{insertions_cost, neh_cost, round_cost, CostsAsHeadsTails, CostsLaw}
 
 range_more : (a n : ℕ) → range_with_len a (n + 1) ≡ range_with_len a n ++ (a + n) ∷ []
 range_more a n =
@@ -15,14 +15,14 @@ range_take a n k le =
     ap (take k) (sym (map-id (range_with_len a n))) ∙ take-map-range_with_len (λ x. x) a n k le ∙ map-id (range_with_len a k)
 
 -- one more count
-pub sum_range_more : (cost : ℕ → ℕ) (a n : ℕ) → sum_by cost (range_with_len a (n + 1)) ≡ sum_by cost (range_with_len a n) + cost (a + n)
+sum_range_more : (cost : ℕ → ℕ) (a n : ℕ) → sum_by cost (range_with_len a (n + 1)) ≡ sum_by cost (range_with_len a n) + cost (a + n)
 sum_range_more cost a n = ap (sum_by cost) (range_more a n) ∙ sum_by_push cost (range_with_len a n) (a + n)
 
 sum_range_suc : (cost : ℕ → ℕ) (a n : ℕ) → sum_by cost (range_with_len a (suc n)) ≡ sum_by cost (range_with_len a n) + cost (a + n)
 sum_range_suc cost a n = rw add-one at (sum_range_more cost a n)
 
 -- the counts so far and the next are among all
-pub sum_range_le : (cost : ℕ → ℕ) (a n k : ℕ) → k < n → sum_by cost (range_with_len a k) + cost (a + k) ≤ sum_by cost (range_with_len a n)
+sum_range_le : (cost : ℕ → ℕ) (a n k : ℕ) → k < n → sum_by cost (range_with_len a k) + cost (a + k) ≤ sum_by cost (range_with_len a n)
 sum_range_le cost a n k lt =
     let len = length-range_with_len a n in
     let le = sum_by_more_le cost (range_with_len a n) k 0 (omega arith) in
@@ -30,11 +30,32 @@ sum_range_le cost a n k lt =
     let at = ap cost (get_or-range_with_len a n k 0 lt) in
     omega arith
 
+-- one insertion more
+pub insertions_more : (cost : ℕ → ℕ → ℕ) (machines before done : ℕ) →
+    insertions_cost cost machines before (done + 1) ≡ insertions_cost cost machines before done + cost (before + done + 1) machines
+insertions_more cost machines before done =
+    let more = sum_range_more (λ count. cost count machines) (before + 1) done in
+    let same : before + 1 + done ≡ before + done + 1 = omega arith in
+    let here = ap (λ count. cost count machines) same in
+    omega arith
+
+-- those so far and the next are among all
+pub insertions_within : (cost : ℕ → ℕ → ℕ) (machines before many done : ℕ) → done < many →
+    insertions_cost cost machines before done + cost (before + done + 1) machines ≤ insertions_cost cost machines before many
+insertions_within cost machines before many done lt =
+    let le = sum_range_le (λ count. cost count machines) (before + 1) many done lt in
+    let same : before + 1 + done ≡ before + done + 1 = omega arith in
+    let here = ap (λ count. cost count machines) same in
+    omega arith
+
+-- a round without a pass costs its insertions alone
+pub round_without_pass : (cost : ℕ → ℕ → ℕ) (jobs machines many : ℕ) → round_cost cost jobs machines many 0 ≡ insertions_cost cost machines (jobs - many) many
+round_without_pass cost jobs machines many = let no_pass = zero-mul (jobs * cost jobs machines) in omega arith
+
 -- ---- closed forms
 
--- insertions that make one job more than `a`, two more, and so on
 heads_tails_sum : (cost : ℕ → ℕ → ℕ) → CostsAsHeadsTails cost → (a machines n : ℕ) →
-    sum_by (λ count. cost count machines) (range_with_len (a + 1) n) ≡ 2 * n * machines * (2 * a + n)
+    insertions_cost cost machines a n ≡ 2 * n * machines * (2 * a + n)
 heads_tails_sum cost is a machines zero = omega arith
 heads_tails_sum cost is a machines (suc n) =
     let before = heads_tails_sum cost is a machines n in
@@ -58,7 +79,7 @@ round_closed cost is jobs machines many few =
 
 rounds_closed : (cost : ℕ → ℕ → ℕ) → CostsAsHeadsTails cost → (count jobs machines many : ℕ) → many ≤ jobs →
     count * round_cost cost jobs machines many 0 ≤ count * many * machines * (4 * jobs - 2)
-rounds_closed cost is count jobs machines zero few = 
+rounds_closed cost is count jobs machines zero few =
     let closed = ap (λ c. count * c) (round_closed cost is jobs machines 0 few) in omega arith
 rounds_closed cost is count jobs machines (suc fewer) few =
     let many : ℕ = suc fewer in

@@ -1,2 +1,6 @@
 pub mod CostSums
-pub mod Rankings
+pub mod NoLonger
+pub mod OneRanking
+pub mod SortedJobs
+pub mod Taking
+pub mod Words

@@ -4,14 +4,18 @@ use Rattle.std.specs.Prelude.{◌≡◌, ℕ, ◌+◌, ◌-◌, ◌*◌, ◌≤�
 use Rattle.std.specs.List.{range_with_len}
 use Rattle.pfs_insert.specs.Insertion.{heads_tails_cost}
 
--- NEH: the insertions that make 1 job, 2 jobs, and so on to all
-abbrev pub neh_cost : (ℕ → ℕ → ℕ) → ℕ → ℕ → ℕ
-neh_cost cost jobs machines = sum_by (λ count. cost count machines) (range_with_len 1 jobs)
+-- so many insertions, one after the other, into a sequence of so many jobs
+abbrev pub insertions_cost : (ℕ → ℕ → ℕ) → ℕ → ℕ → ℕ → ℕ
+insertions_cost cost machines before many = sum_by (λ count. cost count machines) (range_with_len (before + 1) many)
 
--- a round: those of the jobs that were taken out, so many, and then the passes over all jobs
+-- NEH: all jobs
+abbrev pub neh_cost : (ℕ → ℕ → ℕ) → ℕ → ℕ → ℕ
+neh_cost cost jobs machines = insertions_cost cost machines 0 jobs
+
+-- a round: as many jobs as were taken out, and then all jobs in each pass
 abbrev pub round_cost : (ℕ → ℕ → ℕ) → ℕ → ℕ → ℕ → ℕ → ℕ
 round_cost cost jobs machines many passes =
-    sum_by (λ count. cost count machines) (range_with_len (jobs - many + 1) many) + passes * (jobs * cost jobs machines)
+    insertions_cost cost machines (jobs - many) many + passes * (jobs * cost jobs machines)
 
 -- an insertion costs as much as one by heads and tails
 abbrev pub CostsAsHeadsTails : (ℕ → ℕ → ℕ) → Type 0

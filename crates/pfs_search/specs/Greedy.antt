@@ -1,5 +1,5 @@
 -- Iterated greedy (Ruiz and Stützle 2007): rounds that take some jobs out and put each back at its best place.
-use Rattle.std.specs.Prelude.{ℕ, zero, suc, ◌%◌, not, List, [], ◌∷◌, length, take, drop, fold, filter, nat_le, nat_eq, slice_index, remove, if◌then◌else◌}
+use Rattle.std.specs.Prelude.{ℕ, zero, suc, ◌%◌, ◌≤◌, not, List, [], ◌∷◌, length, take, drop, fold, filter, nat_le, nat_eq, slice_index, remove, if◌then◌else◌}
 use Rattle.rand_core.specs.Stream.{Stream, next_u32}
 use Rattle.pfs_base.specs.FlowShop.{FlowShop}
 use Rattle.pfs_base.specs.Paths.{makespan}
@@ -56,3 +56,8 @@ words_of (suc count) stream = let next = next_u32 stream in next.0 ∷ words_of 
 abbrev pub stream_after : ℕ → Stream → Stream
 stream_after zero stream = stream
 stream_after (suc count) stream = stream_after count (next_u32 stream).1
+
+-- no words make an order longer
+abbrev pub NoLongerLaw : Type 0
+NoLongerLaw = (shop : FlowShop) (passes rounds many : ℕ) (jobs words : List ℕ)
+    → makespan shop (after_rounds shop passes rounds many jobs words) ≤ makespan shop jobs

@@ -1,4 +1,5 @@
 pub mod Costs
+pub mod Examples
 pub mod Greedy
 pub mod Neh
 pub mod Ranking

@@ -1,5 +1,6 @@
 //! Laws about the definitions alone.
 ghost use Rattle.pfs_search.specs.Costs.{CostsLaw};
+ghost use Rattle.pfs_search.specs.Greedy.{NoLongerLaw};
 ghost use Rattle.pfs_search.specs.Ranking.{RankingLaw};
 
 /// Of each shop exactly one list is the ranking: all jobs, greater totals first, and the lower number first
@@ -13,4 +14,9 @@ pub fn ranking()
 /// Rdm(4n - 2).
 pub fn costs()
     ensures { CostsLaw }
+{}
+
+/// Whatever the words, the order after rounds is no longer than the order before them.
+pub fn no_longer()
+    ensures { NoLongerLaw }
 {}

@@ -1,9 +1,15 @@
 //! NEH and rounds of iterated greedy, for any inserter and any bench.
 #![tactic(auto)]
 
+pub mod examples;
 pub mod fault;
+pub mod greedy;
+pub mod insertions;
 pub mod kept;
 pub mod laws;
+pub mod rankings;
+pub mod searcher;
 
 pub use fault::SearchFault;
 pub use kept::Kept;
+pub use searcher::Searcher;

@@ -1,26 +1,26 @@
 -- There is one ranking of the jobs.
-use Rattle.std.proofs.Common.{◌≡◌, ℕ, zero, suc, ◌+◌, ◌<◌, ◌≤◌, ◌⊎◌, inl, inr, ⊎_elim, List, [], ◌∷◌, ◌++◌, length, fold, get_or, Contains, true, false, refl, ap, sym, ◌∙◌, subst, arith, append-nil}
-use Rattle.std.specs.List.{All, AllPairs, IsDistinct}
+use Rattle.std.proofs.Common.{◌≡◌, ℕ, zero, suc, ◌<◌, ◌⊎◌, inl, inr, ⊎_elim, List, [], ◌∷◌, ◌++◌, length, fold, Contains, true, false, refl, ap, sym, ◌∙◌, subst, arith, append-nil}
+use Rattle.std.specs.List.{All, AllPairs}
 use Rattle.std.specs.List.Sorted.{IsPermutation}
 use Rattle.std.proofs.lemmas.Bool.{cond_both}
 use Rattle.std.proofs.lemmas.Bool.Decides.{nat_tests, Decides-eqb}
-use Rattle.std.proofs.lemmas.List.Elements.{All-nil, All-cons, All-head, All-tail, All-contains, All-weaker, Contains-append_right}
+use Rattle.std.proofs.lemmas.List.Elements.{All-nil, All-cons, All-contains, All-weaker, Contains-append_right}
 use Rattle.std.proofs.lemmas.List.Kept.{AllPairs-cons}
-use Rattle.std.proofs.lemmas.List.Sorted.{IsPermutation-refl, IsPermutation-sym, IsPermutation-trans, IsPermutation-cons, IsPermutation-middle, IsPermutation-append_right, IsPermutation-swap, Contains-permutation, All-permutation}
+use Rattle.std.proofs.lemmas.List.Sorted.{IsPermutation-refl, IsPermutation-sym, IsPermutation-trans, IsPermutation-cons, IsPermutation-middle, IsPermutation-append_right, Contains-permutation, All-permutation, length_permutation}
 use Rattle.std.proofs.lemmas.List.FromFn.{length-range_with_len, get_or-range_with_len}
 use Rattle.std.proofs.lemmas.Map.Made.{IsDistinct-from_AllPairs}
 use Rattle.pfs_base.specs.FlowShop.{FlowShop}
 use Rattle.pfs_order.specs.Sequence.{IsSequence, all_jobs}
-use Rattle.pfs_order.proofs.Sequences.{IsSequence-nil, IsSequence-permutation, IsSequence-head, all_jobs_more, absent-all_jobs}
-use Rattle.pfs_search.specs.Ranking.{RanksBefore, IsRanking, ranks_before, ranked_with, ranking, IsOnlyRanking, RankingLaw}
+use Rattle.pfs_order.proofs.Sequences.{IsSequence-permutation, IsSequence-head, length-all_jobs}
+use Rattle.pfs_search.specs.Ranking.{RanksBefore, IsRanking, ranks_before, ranked_with, ranking, RankingLaw}
 
 -- ---- lists in which each element is before those behind it
 
 module _ {X : Type 0} (R : X → X → Type 0) where
-  AllPairs-head : (x : X) (xs : List X) → AllPairs R (x ∷ xs) → All (R x) xs
+  pub AllPairs-head : (x : X) (xs : List X) → AllPairs R (x ∷ xs) → All (R x) xs
   AllPairs-head x xs h k d within = h zero (suc k) d (omega arith) (omega arith)
 
-  AllPairs-tail : (x : X) (xs : List X) → AllPairs R (x ∷ xs) → AllPairs R xs
+  pub AllPairs-tail : (x : X) (xs : List X) → AllPairs R (x ∷ xs) → AllPairs R xs
   AllPairs-tail x xs h i j d lt within = h (suc i) (suc j) d (omega arith) (omega arith)
 
 Contains-first : {X : Type 0} (x : X) (xs : List X) → Contains (x ∷ xs) x
@@ -39,8 +39,8 @@ module _ {X : Type 0} (R : X → X → Type 0) (one_way : (x y : X) → R x y �
   only_first x y xs ys left right one other =
       ⊎_elim (λ same. sym same)
       (λ among. ⊎_elim (λ same. same)
-          (λ also. absurd (one_way x y (All-contains (R x) xs y left also) (All-contains (R y) ys x right among)))
-          (Contains-cases x xs y other))
+      (λ also. absurd (one_way x y (All-contains (R x) xs y left also) (All-contains (R y) ys x right among)))
+      (Contains-cases x xs y other))
       (Contains-cases y ys x one)
 
   among_rest : (x : X) (xs ys : List X) → All (R x) xs → ((q : X) → Contains (x ∷ xs) q → Contains (x ∷ ys) q) → (q : X) → Contains xs q → Contains ys q
@@ -116,8 +116,8 @@ ranked_all shop size (job ∷ more) jobs together h =
     let next = ranked_with shop jobs job in
     let absent : Contains jobs job → ⊥ = λ among. IsSequence-head size job (more ++ jobs) together (Contains-append_right more jobs job among) in
     let moved = IsPermutation-trans (job ∷ (more ++ jobs)) (more ++ job ∷ jobs) (more ++ next)
-        (IsPermutation-sym (more ++ job ∷ jobs) (job ∷ (more ++ jobs)) (IsPermutation-middle more job jobs))
-        (IsPermutation-append_right more (job ∷ jobs) next (ranked_with_moves shop jobs job)) in
+    (IsPermutation-sym (more ++ job ∷ jobs) (job ∷ (more ++ jobs)) (IsPermutation-middle more job jobs))
+    (IsPermutation-append_right more (job ∷ jobs) next (ranked_with_moves shop jobs job)) in
     let rest = ranked_all shop size more next (IsSequence-permutation size (job ∷ (more ++ jobs)) (more ++ next) moved together) (ranked_with_keeps shop jobs job absent h) in
     (IsPermutation-trans (job ∷ (more ++ jobs)) (more ++ next) (fold (ranked_with shop) next more) moved rest.0, rest.1)
 
@@ -140,6 +140,12 @@ ranking_is shop =
       all = subst (λ l. IsPermutation l (ranking shop)) same ranked.0;
       ranked = ranked.1;
     }
+
+pub IsSequence-ranking : (shop : FlowShop) → IsSequence shop.jobs (ranking shop)
+IsSequence-ranking shop = IsSequence-permutation shop.jobs (all_jobs shop.jobs) (ranking shop) (ranking_is shop).all (IsSequence-all_jobs shop.jobs)
+
+pub length-ranking : (shop : FlowShop) → length (ranking shop) ≡ shop.jobs
+length-ranking shop = length_permutation (all_jobs shop.jobs) (ranking shop) (ranking_is shop).all ∙ length-all_jobs shop.jobs
 
 pub ranking_law : RankingLaw
 ranking_law shop = record {

@@ -1,0 +1,29 @@
+use Rattle.std.proofs.Common.{◌≡◌, ◌+◌, ◌*◌, ◌≤◌, length, vec_len, vec_capacity}
+use Rattle.pfs_base.specs.Paths.{makespan}
+use Rattle.pfs_search.specs.Costs.{round_cost}
+use Rattle.pfs_search.specs.Greedy.{after_rounds, words_of, stream_after}
+use Rattle.pfs_search.proofs.searcher.Searcher.rounds.Given as goal
+
+-- what so many rounds have done
+abbrev pub invariant-loop-done : goal.invariant-loop-done
+invariant-loop-done g l =
+    let shop = g.B.Bench.shop l.fn.bench in
+    let inside = l.self-inside in
+    let stream = g.R.Rng.stream l.fn.rng in
+    let number = g.B.Span.Length.number in
+    record {
+      same_shop : g.B.Bench.shop l.bench ≡ shop;
+      size : inside.size ≡ shop.jobs;
+      seq : inside.seq.size ≡ shop.jobs;
+      ranked : shop.jobs ≤ vec_capacity inside.ranked;
+      taken : shop.jobs ≤ vec_capacity inside.taken;
+      words : shop.jobs ≤ vec_len inside.words;
+      jobs : g.I.Inserter.jobs inside.inserter ≡ shop.jobs;
+      machines : g.I.Inserter.machines inside.inserter ≡ shop.machines;
+      counted : g.B.Bench.counted l.bench ≡ g.B.Bench.counted l.fn.bench + l.done * round_cost g.I.Inserter.cost shop.jobs shop.machines l.take 0;
+      order_size : length l.kept.order ≡ shop.jobs;
+      order : l.kept.order ≡ after_rounds shop 0 l.done l.take l.fn.kept.order (words_of (l.done * l.take) stream);
+      span : number l.kept.span ≡ makespan shop l.kept.order;
+      falls : number l.kept.span ≤ number l.fn.kept.span;
+      stream : g.R.Rng.stream l.rng ≡ stream_after (l.done * l.take) stream;
+    }

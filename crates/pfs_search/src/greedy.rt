@@ -1,0 +1,94 @@
+//! One round of iterated greedy, and the words of the next.
+ghost use Rattle.std.specs.Prelude.{◌≡◌, ℕ, ◌+◌, ◌<◌, ◌≤◌, ◌^◌, ◌++◌, length, take, vec_len, vec_capacity, false, IsOk, OnOk, OnErr};
+ghost use Rattle.pfs_base.specs.Paths.{makespan};
+ghost use Rattle.pfs_order.specs.Sequence.{IsSequence};
+ghost use Rattle.pfs_search.specs.Costs.{round_cost};
+ghost use Rattle.pfs_search.specs.Greedy.{after_round, jobs_left, jobs_taken, stream_after, words_of};
+
+use crate::insertions::insert_all;
+use crate::kept::Kept;
+use pfs_base::{Bench, Length};
+use pfs_insert::{InsertFault, Inserter};
+use pfs_order::Seq;
+use rand_core::Rng;
+use std::alloc::Global;
+
+// One round, in a working sequence and a list that has room.
+pub(crate) fn play_round<B: Bench, I: Inserter<B>>(
+    alloc: Global,
+    inserter: &mut I,
+    bench: &mut B,
+    seq: &mut Seq,
+    taken: &mut Vec<usize>,
+    kept: &mut Kept<B::Span>,
+    words: &[u32],
+) -> Result<(), InsertFault>
+    requires own_jobs { seq.old.size ≡ (B.shop bench.old).jobs }
+    requires inserter_jobs { I.jobs inserter.old ≡ (B.shop bench.old).jobs }
+    requires inserter_machines { I.machines inserter.old ≡ (B.shop bench.old).machines }
+    requires kept_jobs { length kept.old.order ≡ (B.shop bench.old).jobs }
+    requires kept_span { B.Span.number kept.old.span ≡ makespan (B.shop bench.old) kept.old.order }
+    requires some { 1 ≤ length words.now }
+    requires few { length words.now ≤ (B.shop bench.old).jobs }
+    requires taken { (B.shop bench.old).jobs ≤ vec_capacity taken.old }
+    requires room { B.counted bench.old + round_cost I.cost (B.shop bench.old).jobs (B.shop bench.old).machines (length words.now) 0 < 2 ^ 64 }
+    ensures order { OnOk result (kept.new.order ≡ after_round (B.shop bench.old) 0 kept.old.order words.now) }
+    ensures span { B.Span.number kept.new.span ≡ makespan (B.shop bench.old) kept.new.order }
+    ensures never_rises { B.Span.number kept.new.span ≤ B.Span.number kept.old.span }
+    ensures counted { OnOk result (B.counted bench.new ≡ B.counted bench.old + round_cost I.cost (B.shop bench.old).jobs (B.shop bench.old).machines (length words.now) 0) }
+    ensures unchanged { OnErr result (kept.new ≡ kept.old) }
+    ensures fault_low { OnErr result (B.counted bench.old ≤ B.counted bench.new) }
+    ensures fault_high { OnErr result (B.counted bench.new ≤ B.counted bench.old + round_cost I.cost (B.shop bench.old).jobs (B.shop bench.old).machines (length words.now) 0) }
+    ensures succeeds { I.can_refuse ≡ false → IsOk result }
+    ensures shop { B.shop bench.new ≡ B.shop bench.old }
+    ensures same_size { seq.new.size ≡ seq.old.size }
+    ensures same_jobs { I.jobs inserter.new ≡ I.jobs inserter.old }
+    ensures same_machines { I.machines inserter.new ≡ I.machines inserter.old }
+    ensures same_order_size { length kept.new.order ≡ length kept.old.order }
+    ensures same_room { vec_capacity taken.old ≤ vec_capacity taken.new }
+{
+    take_jobs(kept.order.seq(), seq, taken, words);
+    let span = insert_all(alloc, inserter, bench, seq, taken)?;
+    if span <= kept.span {
+        kept.order.copy_from(seq);
+        kept.span = span;
+    }
+    Ok(())
+}
+
+// Copies an order, and takes the jobs that the words name out of the copy.
+fn take_jobs(order: &Seq, seq: &mut Seq, taken: &mut Vec<usize>, words: &[u32])
+    requires sizes { seq.old.size ≡ order.now.size }
+    requires few { length words.now ≤ length order.now.jobs }
+    requires room { length words.now ≤ vec_capacity taken.old }
+    ensures left { seq.new ≡ record { size = order.now.size; jobs = jobs_left order.now.jobs words.now } }
+    ensures taken { taken.new.items ≡ jobs_taken order.now.jobs words.now }
+    ensures together { IsSequence order.now.size (taken.new.items ++ seq.new.jobs) }
+    ensures count { length seq.new.jobs + length words.now ≡ length order.now.jobs }
+    ensures count_taken { vec_len taken.new ≡ length words.now }
+    ensures capacity { vec_capacity taken.old ≤ vec_capacity taken.new }
+{
+    let _size = order.size();
+    seq.copy_from(order);
+    taken.clear();
+    for word in words {
+        let place = *word as usize % seq.len();
+        let job = seq.remove_at(place);
+        match taken.push(job) {
+            Ok(()) => {}
+            Err(_) => unreachable!(),
+        }
+    }
+}
+
+// Writes the next words of a generator over the first of a list.
+pub(crate) fn draw_words<R: Rng>(rng: &mut R, words: &mut Vec<u32>, many: usize)
+    requires { many ≤ vec_len words.old }
+    ensures words { take many words.new.items ≡ words_of many (R.stream rng.old) }
+    ensures len { vec_len words.new ≡ vec_len words.old }
+    ensures stream { R.stream rng.new ≡ stream_after many (R.stream rng.old) }
+{
+    for place in 0..many {
+        words[place] = rng.next_u32();
+    }
+}

@@ -1,0 +1,59 @@
+//! The ranking of the jobs.
+ghost use Rattle.std.specs.Prelude.{◌≡◌, ◌≤◌, length, map, vec_len, vec_capacity};
+ghost use Rattle.std.specs.List.{All};
+ghost use Rattle.pfs_base.specs.FlowShop.{total_of};
+ghost use Rattle.pfs_order.specs.Sequence.{IsSequence, all_jobs};
+ghost use Rattle.pfs_search.specs.Ranking.{ranking};
+
+use pfs_base::{Bench, Shop};
+use std::cmp::Reverse;
+
+// Writes the ranking of all jobs over a list, by way of a list of the jobs with their totals. Both have room.
+pub(crate) fn rank_jobs<B: Shop>(
+    bench: &B,
+    ranked: &mut Vec<(Reverse<u64>, usize)>,
+    jobs: &mut Vec<usize>,
+)
+    requires room { (B.shop bench.now).jobs ≤ vec_capacity ranked.old }
+    requires jobs_room { (B.shop bench.now).jobs ≤ vec_capacity jobs.old }
+    ensures ranking { jobs.new.items ≡ ranking (B.shop bench.now) }
+    ensures count { vec_len jobs.new ≡ (B.shop bench.now).jobs }
+    ensures sequence { IsSequence (B.shop bench.now).jobs jobs.new.items }
+    ensures capacity { vec_capacity ranked.old ≤ vec_capacity ranked.new }
+    ensures jobs_capacity { vec_capacity jobs.old ≤ vec_capacity jobs.new }
+{
+    list_totals(bench, ranked);
+    ranked.sort_unstable();
+    copy_jobs(ranked, jobs);
+}
+
+// Writes the jobs over a list that has room, by number, each behind its total.
+fn list_totals<B: Shop>(bench: &B, listed: &mut Vec<(Reverse<u64>, usize)>)
+    requires room { (B.shop bench.now).jobs ≤ vec_capacity listed.old }
+    ensures jobs { map (λ entry. entry.1) listed.new.items ≡ all_jobs (B.shop bench.now).jobs }
+    ensures totals { All (λ entry. entry.0.0 ≡ total_of (B.shop bench.now) entry.1) listed.new.items }
+    ensures capacity { vec_capacity listed.old ≤ vec_capacity listed.new }
+{
+    listed.clear();
+    for job in 0..bench.jobs() {
+        match listed.push((Reverse(bench.total(job)), job)) {
+            Ok(()) => {}
+            Err(_) => unreachable!(),
+        }
+    }
+}
+
+// Writes the jobs of a list over another that has room.
+fn copy_jobs(listed: &[(Reverse<u64>, usize)], jobs: &mut Vec<usize>)
+    requires room { length listed.now ≤ vec_capacity jobs.old }
+    ensures jobs { jobs.new.items ≡ map (λ entry. entry.1) listed.now }
+    ensures capacity { vec_capacity jobs.old ≤ vec_capacity jobs.new }
+{
+    jobs.clear();
+    for (_, job) in listed {
+        match jobs.push(*job) {
+            Ok(()) => {}
+            Err(_) => unreachable!(),
+        }
+    }
+}

@@ -1,0 +1,220 @@
+//! The searcher: NEH and rounds of iterated greedy.
+ghost use Rattle.std.specs.Prelude.{◌≡◌, ℕ, ◌+◌, ◌*◌, ◌<◌, ◌≤◌, ◌^◌, length, false, IsOk, IfOk, OnOk, OnErr, IfErr};
+ghost use Rattle.pfs_base.specs.Paths.{makespan};
+ghost use Rattle.pfs_search.specs.Neh.{neh_order};
+ghost use Rattle.pfs_search.specs.Costs.{neh_cost, round_cost};
+ghost use Rattle.pfs_search.specs.Greedy.{after_round, after_rounds, stream_after, words_of};
+ghost use Rattle.pfs_search.specs.RoundsStop.{RoundsStop};
+
+use crate::fault::SearchFault;
+use crate::greedy::{draw_words, play_round};
+use crate::insertions::{clear, insert_all};
+use crate::kept::Kept;
+use crate::rankings::rank_jobs;
+use pfs_base::{Bench, Length, MOST_JOBS, Shop};
+use pfs_insert::Inserter;
+use pfs_order::Seq;
+use rand_core::Rng;
+use std::alloc::Global;
+use std::cmp::Reverse;
+use std::marker::Model;
+
+/// Searches by an inserter, over shops of one number of jobs. It reserves all memory of its own when it is
+/// made.
+#[derive(Drop)]
+pub struct Searcher<I> {
+    size: usize,
+    inserter: I,
+    seq: Seq,
+    ranked: Vec<(Reverse<u64>, usize)>,
+    taken: Vec<usize>,
+    words: Vec<u32>,
+}
+
+impl<I> Model for Searcher<I> {
+    ghost use Rattle.std.specs.Prelude.{◌≡◌, ◌≤◌, vec_len, vec_capacity};
+    ghost use Rattle.pfs_search.specs.SearcherView.{SearcherView};
+
+    ghost Value = { SearcherView I };
+
+    ghost view = { λ a. record { size = a.size; inserter = a.inserter } };
+
+    ghost invariant = { λ a. record {
+      seq : a.seq.size ≡ a.size;
+      ranked : a.size ≤ vec_capacity a.ranked;
+      taken : a.size ≤ vec_capacity a.taken;
+      words : a.size ≤ vec_len a.words;
+    } };
+}
+
+impl<I> Searcher<I> {
+    /// A searcher for shops of so many jobs. Where memory is refused the inserter is dropped.
+    pub fn new(alloc: Global, size: usize, inserter: I) -> Result<Searcher<I>, SearchFault>
+    where
+        I: Drop,
+        requires some { 1 ≤ size }
+        requires few { size ≤ MOST_JOBS }
+        ensures made { IfOk result (λ made. made ≡ record { size = size; inserter = inserter }) }
+        ensures memory { IfErr result (λ fault. fault ≡ SearchFault.Memory 0) }
+    {
+        let Ok(seq) = Seq::new(alloc, size) else {
+            return Err(SearchFault::Memory { done: 0 });
+        };
+        let Ok(ranked) = Vec::with_capacity(alloc, size) else {
+            return Err(SearchFault::Memory { done: 0 });
+        };
+        let Ok(taken) = Vec::with_capacity(alloc, size) else {
+            return Err(SearchFault::Memory { done: 0 });
+        };
+        let mut words = Vec::new(alloc);
+        if words.resize(size, 0).is_err() {
+            return Err(SearchFault::Memory { done: 0 });
+        }
+        Ok(Searcher {
+            size,
+            inserter,
+            seq,
+            ranked,
+            taken,
+            words,
+        })
+    }
+
+    /// NEH (Nawaz, Enscore, Ham 1983): the jobs by decreasing total time, at equal totals the lower number
+    /// first, each put at the place that gives the least makespan of the jobs so far, of equal places the
+    /// earliest. It doesn't look at what `kept` was.
+    pub fn neh<B: Shop>(
+        &mut self,
+        alloc: Global,
+        bench: &mut B,
+        kept: &mut Kept<B::Span>,
+    ) -> Result<(), SearchFault>
+    where
+        I: Inserter<B>,
+        requires own_jobs { self.old.size ≡ (B.shop bench.old).jobs }
+        requires inserter_jobs { I.jobs self.old.inserter ≡ (B.shop bench.old).jobs }
+        requires inserter_machines { I.machines self.old.inserter ≡ (B.shop bench.old).machines }
+        requires kept_jobs { length kept.old.order ≡ (B.shop bench.old).jobs }
+        requires room { B.counted bench.old + neh_cost I.cost (B.shop bench.old).jobs (B.shop bench.old).machines < 2 ^ 64 }
+        ensures order { OnOk result (kept.new.order ≡ neh_order (B.shop bench.old)) }
+        ensures span { OnOk result (B.Span.number kept.new.span ≡ makespan (B.shop bench.old) kept.new.order) }
+        ensures counted { OnOk result (B.counted bench.new ≡ B.counted bench.old + neh_cost I.cost (B.shop bench.old).jobs (B.shop bench.old).machines) }
+        ensures fault { IfErr result (λ fault. fault ≡ SearchFault.Memory 0) }
+        ensures unchanged { OnErr result (kept.new ≡ kept.old) }
+        ensures fault_low { OnErr result (B.counted bench.old ≤ B.counted bench.new) }
+        ensures fault_high { OnErr result (B.counted bench.new ≤ B.counted bench.old + neh_cost I.cost (B.shop bench.old).jobs (B.shop bench.old).machines) }
+        ensures succeeds { I.can_refuse ≡ false → IsOk result }
+        ensures shop { B.shop bench.new ≡ B.shop bench.old }
+        ensures same_size { self.new.size ≡ self.old.size }
+        ensures same_jobs { I.jobs self.new.inserter ≡ I.jobs self.old.inserter }
+        ensures same_machines { I.machines self.new.inserter ≡ I.machines self.old.inserter }
+        ensures same_order_size { length kept.new.order ≡ length kept.old.order }
+    {
+        rank_jobs(bench, &mut self.ranked, &mut self.taken);
+        clear(&mut self.seq);
+        let Ok(span) = insert_all(alloc, &mut self.inserter, bench, &mut self.seq, &self.taken)
+        else {
+            return Err(SearchFault::Memory { done: 0 });
+        };
+        kept.order.copy_from(&self.seq);
+        kept.span = span;
+        Ok(())
+    }
+
+    /// One round of iterated greedy (Ruiz and Stützle 2007): for each word in turn the job at the place `word`
+    /// modulo the number of jobs that are left, counted from 0, is taken out; then the taken jobs are put
+    /// back in this order, each at its best place. The new order is kept where it is no longer.
+    pub fn round<B: Bench>(
+        &mut self,
+        alloc: Global,
+        bench: &mut B,
+        kept: &mut Kept<B::Span>,
+        words: &[u32],
+    ) -> Result<(), SearchFault>
+    where
+        I: Inserter<B>,
+        requires own_jobs { self.old.size ≡ (B.shop bench.old).jobs }
+        requires inserter_jobs { I.jobs self.old.inserter ≡ (B.shop bench.old).jobs }
+        requires inserter_machines { I.machines self.old.inserter ≡ (B.shop bench.old).machines }
+        requires kept_jobs { length kept.old.order ≡ (B.shop bench.old).jobs }
+        requires kept_span { B.Span.number kept.old.span ≡ makespan (B.shop bench.old) kept.old.order }
+        requires some { 1 ≤ length words.now }
+        requires few { length words.now ≤ (B.shop bench.old).jobs }
+        requires room { B.counted bench.old + round_cost I.cost (B.shop bench.old).jobs (B.shop bench.old).machines (length words.now) 0 < 2 ^ 64 }
+        ensures order { OnOk result (kept.new.order ≡ after_round (B.shop bench.old) 0 kept.old.order words.now) }
+        ensures span { B.Span.number kept.new.span ≡ makespan (B.shop bench.old) kept.new.order }
+        ensures never_rises { B.Span.number kept.new.span ≤ B.Span.number kept.old.span }
+        ensures counted { OnOk result (B.counted bench.new ≡ B.counted bench.old + round_cost I.cost (B.shop bench.old).jobs (B.shop bench.old).machines (length words.now) 0) }
+        ensures fault { IfErr result (λ fault. fault ≡ SearchFault.Memory 0) }
+        ensures unchanged { OnErr result (kept.new ≡ kept.old) }
+        ensures fault_low { OnErr result (B.counted bench.old ≤ B.counted bench.new) }
+        ensures fault_high { OnErr result (B.counted bench.new ≤ B.counted bench.old + round_cost I.cost (B.shop bench.old).jobs (B.shop bench.old).machines (length words.now) 0) }
+        ensures succeeds { I.can_refuse ≡ false → IsOk result }
+        ensures shop { B.shop bench.new ≡ B.shop bench.old }
+        ensures same_size { self.new.size ≡ self.old.size }
+        ensures same_jobs { I.jobs self.new.inserter ≡ I.jobs self.old.inserter }
+        ensures same_machines { I.machines self.new.inserter ≡ I.machines self.old.inserter }
+        ensures same_order_size { length kept.new.order ≡ length kept.old.order }
+    {
+        let (inserter, seq, taken) = (&mut self.inserter, &mut self.seq, &mut self.taken);
+        match play_round(alloc, inserter, bench, seq, taken, kept, words) {
+            Ok(()) => Ok(()),
+            Err(_) => Err(SearchFault::Memory { done: 0 }),
+        }
+    }
+
+    /// So many rounds, each on the next words of a generator, one for each job that is taken out. Where memory
+    /// is refused in a round, the rounds before it are done and stay, and its words are drawn.
+    pub fn rounds<B: Bench, R: Rng>(
+        &mut self,
+        alloc: Global,
+        bench: &mut B,
+        kept: &mut Kept<B::Span>,
+        count: u32,
+        take: usize,
+        rng: &mut R,
+    ) -> Result<(), SearchFault>
+    where
+        I: Inserter<B>,
+        requires own_jobs { self.old.size ≡ (B.shop bench.old).jobs }
+        requires inserter_jobs { I.jobs self.old.inserter ≡ (B.shop bench.old).jobs }
+        requires inserter_machines { I.machines self.old.inserter ≡ (B.shop bench.old).machines }
+        requires kept_jobs { length kept.old.order ≡ (B.shop bench.old).jobs }
+        requires kept_span { B.Span.number kept.old.span ≡ makespan (B.shop bench.old) kept.old.order }
+        requires some { 1 ≤ take }
+        requires few { take ≤ (B.shop bench.old).jobs }
+        requires room { B.counted bench.old + count * round_cost I.cost (B.shop bench.old).jobs (B.shop bench.old).machines take 0 < 2 ^ 64 }
+        ensures order { OnOk result (kept.new.order ≡ after_rounds (B.shop bench.old) 0 count take kept.old.order (words_of (count * take) (R.stream rng.old))) }
+        ensures span { B.Span.number kept.new.span ≡ makespan (B.shop bench.old) kept.new.order }
+        ensures never_rises { B.Span.number kept.new.span ≤ B.Span.number kept.old.span }
+        ensures counted { OnOk result (B.counted bench.new ≡ B.counted bench.old + count * round_cost I.cost (B.shop bench.old).jobs (B.shop bench.old).machines take 0) }
+        ensures words { OnOk result (R.stream rng.new ≡ stream_after (count * take) (R.stream rng.old)) }
+        ensures fault { IfErr result (RoundsStop (B.shop bench.old) count take kept.old.order kept.new.order (R.stream rng.old) (R.stream rng.new)) }
+        ensures fault_low { OnErr result (B.counted bench.old ≤ B.counted bench.new) }
+        ensures fault_high { OnErr result (B.counted bench.new ≤ B.counted bench.old + count * round_cost I.cost (B.shop bench.old).jobs (B.shop bench.old).machines take 0) }
+        ensures succeeds { I.can_refuse ≡ false → IsOk result }
+        ensures shop { B.shop bench.new ≡ B.shop bench.old }
+        ensures same_size { self.new.size ≡ self.old.size }
+        ensures same_jobs { I.jobs self.new.inserter ≡ I.jobs self.old.inserter }
+        ensures same_machines { I.machines self.new.inserter ≡ I.machines self.old.inserter }
+        ensures same_order_size { length kept.new.order ≡ length kept.old.order }
+    {
+        for done in 0..count {
+            draw_words(rng, &mut self.words, take);
+            let (inserter, seq, taken) = (&mut self.inserter, &mut self.seq, &mut self.taken);
+            match play_round(
+                alloc,
+                inserter,
+                bench,
+                seq,
+                taken,
+                kept,
+                &self.words[..take],
+            ) {
+                Ok(()) => {}
+                Err(_) => return Err(SearchFault::Memory { done }),
+            }
+        }
+        Ok(())
+    }
+}
