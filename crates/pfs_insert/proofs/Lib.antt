@@ -1,3 +1,6 @@
 pub mod Costs
 pub mod Exchange
 pub mod FirstLeast
+pub mod FlatRows
+pub mod RowSteps
+pub mod TailRows

@@ -1,3 +1,4 @@
 pub mod Examples
 pub mod Exchange
 pub mod Insertion
+pub mod Rows

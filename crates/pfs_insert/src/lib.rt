@@ -4,11 +4,14 @@
 pub mod afresh;
 pub mod examples;
 pub mod fault;
+pub mod heads_tails;
 pub mod inserter;
 pub mod laws;
+mod rows;
 #[cfg(test)]
 mod tests;
 
 pub use afresh::Afresh;
 pub use fault::InsertFault;
+pub use heads_tails::HeadsTails;
 pub use inserter::{Inserter, Placed};

@@ -1,0 +1,237 @@
+use Rattle.std.proofs.Common.{◌≡◌, ℕ, ◌+◌, ◌-◌, ◌*◌, ◌<◌, ◌≤◌, List, length, take, drop, get_or, refl, ap, sym, subst, add-one, ◌∙◌, arith}
+use Rattle.std.proofs.lemmas.List.{length-take-le, length-drop}
+use Rattle.pfs_base.specs.declared.limits.TheConstants.{MOST_JOBS, MOST_MACHINES, LONGEST_TIME}
+use Rattle.pfs_base.specs.FlowShop.{FlowShop, time_of}
+use Rattle.pfs_base.specs.Paths.{operation}
+use Rattle.pfs_base.proofs.Heads.{head}
+use Rattle.pfs_insert.specs.declared.inserter.Placed.{Placed}
+use Rattle.pfs_insert.specs.Exchange.{heaviest_back}
+use Rattle.pfs_insert.specs.Insertion.{IsFirstLeast, best_place, makespan_with}
+use Rattle.pfs_insert.specs.Rows.{next_row, greatest_sum, AreNumbers, AreNumbersFrom}
+use Rattle.pfs_insert.proofs.FirstLeast.{first_least_is, first_least_start, first_least_keeps, first_least_takes}
+use Rattle.pfs_insert.proofs.FlatRows.{row_le, row_split, part_told, heads_more, get_of_part}
+use Rattle.pfs_insert.proofs.RowSteps.{less, not_less, next_row_same}
+use Rattle.pfs_insert.proofs.TailRows.{tails_short, heads_short, span_value, next_row_heads}
+use Rattle.pfs_insert.proofs.heads_tails.best_by_rows.Given.{Over}
+use Rattle.pfs_insert.proofs.heads_tails.best_by_rows.Goals.{After-at, After-fill_head_and_join-span, After-join_rows-span, then-place-eq0, then-place-eq0-via-then-place-eq0, then-place-eq0-via-else-place-eq0+then-lt, else-place-eq0+else-lt, then-len-eq0-via-then-len-eq0, then-len-eq0-via-else-len-eq0+then-lt-2}
+use Rattle.pfs_insert.proofs.heads_tails.best_by_rows.Goals as goal
+
+-- the rows above a place and beside it
+above_told : (g : Over) (c : After-at g) →
+    AreNumbers g.B.Span.Length.number (take ((c.loop-place.place + 2) * c.machines-machines.result - c.loop-place.place * c.machines-machines.result) (drop (c.loop-place.place * c.machines-machines.result) c.loop-place.heads))
+    (g.B.Bench.shop c.args.bench.now).machines (head (operation (g.B.Bench.shop c.args.bench.now) c.args.seq.now.jobs) c.loop-place.place)
+above_told g c =
+    let place = c.loop-place.place in
+    let width = c.machines-machines.result in
+    let two = row_split (place + 2) place 2 width refl in
+    part_told g.B.Span.Length.number c.loop-place.heads place place width (g.B.Bench.shop c.args.bench.now).machines ((place + 2) * width - place * width) _ refl c.machines-machines.ensures (omega arith) (c.loop-place.invariant.heads place (omega arith))
+
+tail_told : (g : Over) (c : After-at g) →
+    AreNumbers g.B.Span.Length.number (take ((c.size.result - 1 - c.len-len.result + c.loop-place.place + 1) * c.machines-machines.result - (c.size.result - 1 - c.len-len.result + c.loop-place.place) * c.machines-machines.result) (drop ((c.size.result - 1 - c.len-len.result + c.loop-place.place) * c.machines-machines.result) c.args.tails.now))
+    (g.B.Bench.shop c.args.bench.now).machines (heaviest_back (g.B.Bench.shop c.args.bench.now) c.args.seq.now.jobs c.loop-place.place)
+tail_told g c =
+    let shop = g.B.Bench.shop c.args.bench.now in
+    let len = length c.args.seq.now.jobs in
+    let place = c.loop-place.place in
+    let row = c.size.result - 1 - c.len-len.result + place in
+    let width = c.machines-machines.result in
+    let one = row_split (row + 1) row 1 width refl in
+    let every = c.len-len.ensures.value in
+    let size = c.size.ensures.value in
+    let sizes = c.requires.size in
+    let inside : place < c.len-len.result = c.loop-place-test.true in
+    part_told g.B.Span.Length.number c.args.tails.now row (shop.jobs - 1 - len + place) width shop.machines ((row + 1) * width - row * width) _ (omega arith) c.machines-machines.ensures (omega arith) (c.requires.backs place (omega arith))
+
+pub fill_head_and_join-span-requires-clause-above_short : goal.fill_head_and_join-span-requires-clause-above_short
+fill_head_and_join-span-requires-clause-above_short g c = λ machine d lt.
+    let shop = g.B.Bench.shop c.args.bench.now in
+    let jobs = c.args.seq.now.jobs in
+    let machines = ap (λ (s : FlowShop). s.machines) c.loop-place.invariant.same_shop in
+    let inside : c.loop-place.place < c.len-len.result = c.loop-place-test.true in
+    let every = c.len-len.ensures.value in
+    let told = above_told g (goal.at.fill_head_and_join-span-requires-clause-above_short g c).After-at machine d (omega arith) in
+    let short = heads_short shop (g.met.B.Bench.within c.args.bench.now) jobs (omega (arith, c.requires.few)) c.loop-place.place machine (omega arith) (omega arith) in
+    omega arith
+
+pub fill_head_and_join-span-requires-clause-tail_short : goal.fill_head_and_join-span-requires-clause-tail_short
+fill_head_and_join-span-requires-clause-tail_short g c = λ machine d lt.
+    let shop = g.B.Bench.shop c.args.bench.now in
+    let jobs = c.args.seq.now.jobs in
+    let machines = ap (λ (s : FlowShop). s.machines) c.loop-place.invariant.same_shop in
+    let told = tail_told g (goal.at.fill_head_and_join-span-requires-clause-tail_short g c).After-at machine d (omega arith) in
+    let short = tails_short shop (g.met.B.Bench.within c.args.bench.now) jobs (omega (arith, c.requires.few)) c.loop-place.place machine in
+    omega arith
+
+-- the makespan with the job at the place
+span_told : (g : Over) (c : After-fill_head_and_join-span g) →
+    g.B.Span.Length.number c.fill_head_and_join-span.result ≡ makespan_with (g.B.Bench.shop c.args.bench.now) c.args.seq.now.jobs c.args.job c.loop-place.place
+span_told g c =
+    let number = g.B.Span.Length.number in
+    let shop = g.B.Bench.shop c.args.bench.now in
+    let place = c.loop-place.place in
+    let width = c.machines-machines.result in
+    let row = c.size.result - 1 - c.len-len.result + place in
+    let above = take ((place + 2) * width - place * width) (drop (place * width) c.loop-place.heads) in
+    let tail = take ((row + 1) * width - row * width) (drop (row * width) c.args.tails.now) in
+    let inside : place < c.len-len.result = c.loop-place-test.true in
+    let every = c.len-len.ensures.value in
+    let here = (goal.at.After-fill_head_and_join-span g c).After-at in
+    span_value number shop c.args.seq.now.jobs c.args.job place above tail c.fill_head_and_join-span.result (g.met.B.Bench.within c.args.bench.now).sizes.some_machine (omega arith)
+    (above_told g here) (tail_told g here)
+    (subst (λ (s : FlowShop). (heads tails : ℕ → ℕ) → AreNumbers number above s.machines heads → AreNumbers number tail s.machines tails → number c.fill_head_and_join-span.result ≡ greatest_sum s.machines (next_row (time_of s c.args.job) heads) tails) c.loop-place.invariant.same_shop c.fill_head_and_join-span.ensures.most)
+
+pub loop-place-preserved : goal.loop-place-preserved
+loop-place-preserved g c =
+    let number = g.B.Span.Length.number in
+    let shop = g.B.Bench.shop c.args.bench.now in
+    let jobs = c.args.seq.now.jobs in
+    let weigh = operation shop jobs in
+    let place = c.loop-place.place in
+    let width = c.machines-machines.result in
+    let value = makespan_with shop jobs c.args.job in
+    let invariant = c.loop-place.invariant in
+    let same = invariant.same_shop in
+    let machines = ap (λ (s : FlowShop). s.machines) same in
+    let wide = c.machines-machines.ensures in
+    let inside : place < c.len-len.result = c.loop-place-test.true in
+    let every = c.len-len.ensures.value in
+    let a = place * width in
+    let k = (place + 2) * width - place * width in
+    let heads = c.loop-place.heads in
+    let new = c.fill_head_and_join-span.new.rows in
+    let step = c.fill_head_and_join-span.ensures in
+    let here = goal.at.loop-place-preserved g c in
+    let span = span_told g here.After-fill_head_and_join-span in
+    let two = row_split (place + 2) place 2 width refl in
+    let auto = c.fill_head_and_join-span.auto.rows in
+    let begin : a ≡ place * shop.machines = ap (λ w. place * w) wide in
+    let end : (place + 2) * width ≡ (place + 2) * shop.machines = ap (λ w. (place + 2) * w) wide in
+    let few = c.requires.few in
+    let rows = row_le (place + 2) shop.jobs shop.machines (omega arith) in
+    let long = c.requires.heads in
+    let same_long = c.loop-place.auto.heads in
+    let fits : (place + 2) * width ≤ length heads = omega arith in
+    let new_long : length new ≡ 2 * shop.machines = auto ∙ length-take-le k (drop a heads) (omega (arith, length-drop a heads)) ∙ omega arith in
+    let part = take k (drop a heads) in
+    let own_told : AreNumbersFrom number new shop.machines shop.machines (next_row (time_of shop c.at.result) (head weigh place)) =
+    subst (λ (s : FlowShop). (heads : ℕ → ℕ) → AreNumbers number part s.machines heads → AreNumbersFrom number new s.machines s.machines (next_row (time_of s c.at.result) heads)) same step.head (head weigh place) (above_told g here.After-at) in
+    let own_is = λ (machine : ℕ). next_row_same (time_of shop c.at.result) (weigh place) (head weigh place) (head weigh place) machine (λ m le. ap (λ j. time_of shop j m) c.at.ensures.value) (λ m le. refl)
+    ∙ next_row_heads shop jobs place machine ∙ sym (ap (λ r. head weigh r machine) (add-one place)) in
+    let tells = λ (b : Placed _). IsFirstLeast value (place + 1) b.place × (number b.span ≡ value b.place) in
+    let same_chosen = λ (b : Placed _) (is : c.if-place-eq0.best ≡ b) (h : tells b). subst tells (sym is) h in
+    let is_less = less number g.B.Span.PartialOrd.partial_cmp g.B.Span.Ord.cmp g.met.B.Span.Ord.matches_partial_cmp g.met.B.Span.Length.ordered c.fill_head_and_join-span.result c.loop-place.best.span in
+    let isnt_less = not_less number g.B.Span.PartialOrd.partial_cmp g.B.Span.Ord.cmp g.met.B.Span.Ord.matches_partial_cmp g.met.B.Span.Length.ordered c.fill_head_and_join-span.result c.loop-place.best.span in
+    let chosen : tells c.if-place-eq0.best =
+    elim c.if-place-eq0.branch as (λ _. tells c.if-place-eq0.best)
+    [ then-place-eq0 w ↦ same_chosen _ w.best-is
+    (elim w.then-place-eq0.branch as (λ _. tells (record { place = place; span = c.fill_head_and_join-span.result }))
+    [ then-place-eq0-via-then-place-eq0 v ↦ (first_least_start value place v.if-place-eq0.true, span)
+    | then-place-eq0-via-else-place-eq0+then-lt v ↦
+    (let some : 0 < place = (let no = v.if-place-eq0.false in omega arith) in
+    let lt = is_less v.if-lt.ensures in
+    let before = invariant.span some in
+    (first_least_takes value place c.loop-place.best.place (invariant.best some) (omega arith), span)) ])
+    | else-place-eq0+else-lt w ↦ same_chosen _ w.best-is
+    (let some : 0 < place = (let no = w.if-place-eq0.false in omega arith) in
+    let le = isnt_less w.if-lt.ensures in
+    let before = invariant.span some in
+    (first_least_keeps value place c.loop-place.best.place (invariant.best some) (omega arith), before)) ]
+    in
+    record {
+      same_shop = step.shop ∙ same;
+      counted = omega (arith, step.counted, invariant.counted, machines);
+      heads = heads_more number (head weigh) shop.machines place a k heads new begin (omega arith) new_long invariant.heads
+          (λ machine d lt. step.kept machine d (omega arith) ∙ get_of_part a k machine heads d (omega arith))
+          (λ machine d lt. own_told machine d lt ∙ own_is machine);
+      best = λ _. chosen.0;
+      span = λ _. chosen.1;
+    }
+
+pub returns-else-lt-2-clause-no_head : goal.returns-else-lt-2-clause-no_head
+returns-else-lt-2-clause-no_head g c = λ machine d lt.
+    let at : machine ≡ 0 * (g.B.Bench.shop c.args.bench.now).machines + machine = omega arith in
+    ap (λ i. g.B.Span.Length.number (get_or c.loop-place.heads i d)) at ∙ c.loop-place.invariant.heads 0 (omega arith) machine d lt
+
+pub returns-then-len-eq0-clause-no_head : goal.returns-then-len-eq0-clause-no_head
+returns-then-len-eq0-clause-no_head g c = λ machine d lt.
+    let at : machine ≡ 0 * (g.B.Bench.shop c.args.bench.now).machines + machine = omega arith in
+    ap (λ i. g.B.Span.Length.number (get_or c.loop-place.heads i d)) at ∙ c.loop-place.invariant.heads 0 (omega arith) machine d lt
+
+pub join_rows-span-requires-clause-above_short : goal.join_rows-span-requires-clause-above_short
+join_rows-span-requires-clause-above_short g c = λ machine d lt.
+    let shop = g.B.Bench.shop c.args.bench.now in
+    let jobs = c.args.seq.now.jobs in
+    let len = c.len-len.result in
+    let width = c.machines-machines.result in
+    let machines = ap (λ (s : FlowShop). s.machines) c.loop-place.invariant.same_shop in
+    let every = c.len-len.ensures.value in
+    let all : len ≤ c.loop-place.place = c.loop-place-test.false in
+    let one = row_split (len + 1) len 1 width refl in
+    let told = part_told g.B.Span.Length.number c.loop-place.heads len (length jobs) width shop.machines ((len + 1) * width - len * width) _ every c.machines-machines.ensures (omega arith) (c.loop-place.invariant.heads (length jobs) (omega arith)) machine d (omega arith) in
+    let short = heads_short shop (g.met.B.Bench.within c.args.bench.now) jobs (omega (arith, c.requires.few)) (length jobs) machine (omega arith) (omega arith) in
+    omega arith
+
+-- the makespan with the job behind all others
+last_told : (g : Over) (c : After-join_rows-span g) →
+    g.B.Span.Length.number c.join_rows-span.result ≡ makespan_with (g.B.Bench.shop c.args.bench.now) c.args.seq.now.jobs c.args.job (length c.args.seq.now.jobs)
+last_told g c =
+    let number = g.B.Span.Length.number in
+    let shop = g.B.Bench.shop c.args.bench.now in
+    let jobs = c.args.seq.now.jobs in
+    let len = c.len-len.result in
+    let width = c.machines-machines.result in
+    let row = c.size.result - 1 - len + len in
+    let above = take ((len + 1) * width - len * width) (drop (len * width) c.loop-place.heads) in
+    let tail = take ((row + 1) * width - row * width) (drop (row * width) c.args.tails.now) in
+    let every = c.len-len.ensures.value in
+    let size = c.size.ensures.value in
+    let sizes = c.requires.size in
+    let few = c.requires.few in
+    let all : len ≤ c.loop-place.place = c.loop-place-test.false in
+    let one = row_split (len + 1) len 1 width refl in
+    let next = row_split (row + 1) row 1 width refl in
+    span_value number shop jobs c.args.job (length jobs) above tail c.join_rows-span.result (g.met.B.Bench.within c.args.bench.now).sizes.some_machine (omega arith)
+    (part_told number c.loop-place.heads len (length jobs) width shop.machines ((len + 1) * width - len * width) _ every c.machines-machines.ensures (omega arith) (c.loop-place.invariant.heads (length jobs) (omega arith)))
+    (part_told number c.args.tails.now row (shop.jobs - 1 - length jobs + length jobs) width shop.machines ((row + 1) * width - row * width) _ (omega arith) c.machines-machines.ensures (omega arith) (c.requires.backs (length jobs) (omega arith)))
+    (subst (λ (s : FlowShop). (heads tails : ℕ → ℕ) → AreNumbers number above s.machines heads → AreNumbers number tail s.machines tails → number c.join_rows-span.result ≡ greatest_sum s.machines (next_row (time_of s c.args.job) heads) tails) c.loop-place.invariant.same_shop c.join_rows-span.ensures.most)
+
+pub returns-then-len-eq0-clause-span : goal.returns-then-len-eq0-clause-span
+returns-then-len-eq0-clause-span g c =
+    last_told g (goal.at.returns-then-len-eq0-clause-span g c).After-join_rows-span
+    ∙ ap (makespan_with (g.B.Bench.shop c.args.bench.now) c.args.seq.now.jobs c.args.job) (sym c.len-len.ensures.value)
+
+pub returns-then-len-eq0-clause-place : goal.returns-then-len-eq0-clause-place
+returns-then-len-eq0-clause-place g c =
+    let number = g.B.Span.Length.number in
+    let value = makespan_with (g.B.Bench.shop c.args.bench.now) c.args.seq.now.jobs c.args.job in
+    let many = length c.args.seq.now.jobs in
+    let len = c.len-len.result in
+    let every = c.len-len.ensures.value in
+    let best = c.loop-place.best in
+    let all : c.loop-place.place ≡ many = (let done : len ≤ c.loop-place.place = c.loop-place-test.false in omega (arith, c.loop-place.auto.place-end)) in
+    let span = last_told g (goal.at.returns-then-len-eq0-clause-place g c).After-join_rows-span in
+    let least : IsFirstLeast value (many + 1) many =
+    elim c.then-len-eq0.branch as (λ _. IsFirstLeast value (many + 1) many)
+    [ then-len-eq0-via-then-len-eq0 w ↦ (let none = w.if-len-eq0.true in first_least_start value many (omega arith))
+    | then-len-eq0-via-else-len-eq0+then-lt-2 w ↦
+    (let some : 0 < c.loop-place.place = (let no = w.if-len-eq0.false in omega arith) in
+    let lt = less number g.B.Span.PartialOrd.partial_cmp g.B.Span.Ord.cmp g.met.B.Span.Ord.matches_partial_cmp g.met.B.Span.Length.ordered c.join_rows-span.result best.span w.if-lt-2.ensures in
+    let before = c.loop-place.invariant.span some in
+    first_least_takes value many best.place (subst (λ n. IsFirstLeast value n best.place) all (c.loop-place.invariant.best some)) (omega arith)) ]
+    in
+    every ∙ sym (first_least_is value (many + 1) many least)
+
+pub returns-else-lt-2-clause-place : goal.returns-else-lt-2-clause-place
+returns-else-lt-2-clause-place g c =
+    let number = g.B.Span.Length.number in
+    let value = makespan_with (g.B.Bench.shop c.args.bench.now) c.args.seq.now.jobs c.args.job in
+    let many = length c.args.seq.now.jobs in
+    let len = c.len-len.result in
+    let every = c.len-len.ensures.value in
+    let best = c.loop-place.best in
+    let all : c.loop-place.place ≡ many = (let done : len ≤ c.loop-place.place = c.loop-place-test.false in omega (arith, c.loop-place.auto.place-end)) in
+    let span = last_told g (goal.at.returns-else-lt-2-clause-place g c).After-join_rows-span in
+    let some : 0 < c.loop-place.place = (let no = c.if-len-eq0.false in omega arith) in
+    let le = not_less number g.B.Span.PartialOrd.partial_cmp g.B.Span.Ord.cmp g.met.B.Span.Ord.matches_partial_cmp g.met.B.Span.Length.ordered c.join_rows-span.result best.span c.if-lt-2.ensures in
+    let before = c.loop-place.invariant.span some in
+    sym (first_least_is value (many + 1) best.place (first_least_keeps value many best.place (subst (λ n. IsFirstLeast value n best.place) all (c.loop-place.invariant.best some)) (omega arith)))

@@ -1,0 +1,53 @@
+-- Rows of lengths, each from the row beside it.
+use Rattle.std.specs.Prelude.{◌≡◌, ℕ, zero, suc, ◌+◌, ◌-◌, ◌*◌, ◌<◌, ◌≤◌, max, List, map}
+use Rattle.std.specs.List.{range_with_len, slice_index_or}
+use Rattle.pfs_base.specs.declared.limits.TheConstants.{MOST_JOBS, MOST_MACHINES, LONGEST_TIME}
+use Rattle.pfs_base.specs.Paths.{greatest}
+
+-- the value at a machine is the greater of the one above it and the one before it, plus the time
+abbrev pub next_row : (ℕ → ℕ) → (ℕ → ℕ) → ℕ → ℕ
+next_row times above zero = max (above 0) 0 + times 0
+next_row times above (suc machine) = max (above (suc machine)) (next_row times above machine) + times (suc machine)
+
+-- the value before a machine, and 0 before the first
+abbrev pub value_before : (ℕ → ℕ) → ℕ → ℕ
+value_before values zero = 0
+value_before values (suc machine) = values machine
+
+-- the greatest sum of a front and a back at one of the machines
+abbrev pub greatest_sum : ℕ → (ℕ → ℕ) → (ℕ → ℕ) → ℕ
+greatest_sum machines fronts backs = greatest (map (λ machine. fronts machine + backs machine) (range_with_len 0 machines))
+
+-- values by how many machines they stand before the last
+abbrev pub from_last : ℕ → (ℕ → ℕ) → ℕ → ℕ
+from_last last values back = values (last - back)
+
+-- the lengths of a row are these numbers
+abbrev pub AreNumbers : {X : Type 0} → (X → ℕ) → List X → ℕ → (ℕ → ℕ) → Type 0
+AreNumbers {X} number row machines values =
+    (machine : ℕ) (d : X) → machine < machines → number (slice_index_or row machine d) ≡ values machine
+
+-- the same of a row that begins at a place of a list
+abbrev pub AreNumbersFrom : {X : Type 0} → (X → ℕ) → List X → ℕ → ℕ → (ℕ → ℕ) → Type 0
+AreNumbersFrom {X} number rows start machines values =
+    (machine : ℕ) (d : X) → machine < machines → number (slice_index_or rows (start + machine) d) ≡ values machine
+
+-- the lengths of a row, from the last on, are these numbers
+abbrev pub AreBack : {X : Type 0} → (X → ℕ) → List X → ℕ → (ℕ → ℕ) → Type 0
+AreBack {X} number row last values =
+    (back : ℕ) (d : X) → back ≤ last → number (slice_index_or row (last - back) d) ≡ values back
+
+-- the same of a row that begins at a place of a list
+abbrev pub AreBackFrom : {X : Type 0} → (X → ℕ) → List X → ℕ → ℕ → (ℕ → ℕ) → Type 0
+AreBackFrom {X} number rows start last values =
+    (back : ℕ) (d : X) → back ≤ last → number (slice_index_or rows (start + (last - back)) d) ≡ values back
+
+-- no length of a row is greater than a path can be
+abbrev pub AreShort : {X : Type 0} → (X → ℕ) → List X → ℕ → Type 0
+AreShort {X} number row machines =
+    (machine : ℕ) (d : X) → machine < machines → number (slice_index_or row machine d) ≤ (MOST_JOBS + MOST_MACHINES) * LONGEST_TIME
+
+-- how many jobs and machines the shops have that an inserter was made for
+pub record Sizes : Type 0 where
+  pub jobs : ℕ
+  pub machines : ℕ
