@@ -1,6 +1,7 @@
 pub mod CostSums
 pub mod NoLonger
 pub mod OneRanking
+pub mod SmallCosts
 pub mod SortedJobs
 pub mod Taking
 pub mod Words

@@ -9,6 +9,8 @@ pub mod kept;
 pub mod laws;
 pub mod rankings;
 pub mod searcher;
+#[cfg(test)]
+mod tests;
 
 pub use fault::SearchFault;
 pub use kept::Kept;

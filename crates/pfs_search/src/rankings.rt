@@ -1,6 +1,8 @@
 //! The ranking of the jobs.
 ghost use Rattle.std.specs.Prelude.{◌≡◌, ◌≤◌, length, map, vec_len, vec_capacity};
 ghost use Rattle.std.specs.List.{All};
+ghost use Rattle.std.specs.List.Sorted.{IsPermutation, IsSorted};
+ghost use Rattle.std.specs.Ordering.{nat_cmp, ordering_then};
 ghost use Rattle.pfs_base.specs.FlowShop.{total_of};
 ghost use Rattle.pfs_order.specs.Sequence.{IsSequence, all_jobs};
 ghost use Rattle.pfs_search.specs.Ranking.{ranking};
@@ -23,7 +25,7 @@ pub(crate) fn rank_jobs<B: Shop>(
     ensures jobs_capacity { vec_capacity jobs.old ≤ vec_capacity jobs.new }
 {
     list_totals(bench, ranked);
-    ranked.sort_unstable();
+    sort_jobs(ranked);
     copy_jobs(ranked, jobs);
 }
 
@@ -41,6 +43,16 @@ fn list_totals<B: Shop>(bench: &B, listed: &mut Vec<(Reverse<u64>, usize)>)
             Err(_) => unreachable!(),
         }
     }
+}
+
+// Sorts listed jobs by decreasing total, and at equal totals by number.
+fn sort_jobs(listed: &mut Vec<(Reverse<u64>, usize)>)
+    ensures permutation { IsPermutation listed.old.items listed.new.items }
+    ensures sorted { IsSorted (λ x y. ordering_then (nat_cmp y.0.0 x.0.0) (nat_cmp x.1 y.1)) listed.new.items }
+    ensures len { vec_len listed.new ≡ vec_len listed.old }
+    ensures capacity { vec_capacity listed.old ≤ vec_capacity listed.new }
+{
+    listed.sort_unstable();
 }
 
 // Writes the jobs of a list over another that has room.

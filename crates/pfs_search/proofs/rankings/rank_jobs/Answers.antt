@@ -16,8 +16,8 @@ copy_jobs-requires g c =
 pub returns-clause-ranking : goal.returns-clause-ranking
 returns-clause-ranking g c =
     c.copy_jobs.ensures.jobs ∙ ap (map (λ (entry : Listed). entry.1)) c.deref.ensures.value
-    ∙ sorted_ranking (g.B.Bench.shop c.args.bench.now) c.list_totals.new.listed.items c.sort_unstable.new.self.items
-    c.list_totals.ensures.jobs c.list_totals.ensures.totals c.sort_unstable.ensures.permutation c.sort_unstable.ensures.sorted
+    ∙ sorted_ranking (g.B.Bench.shop c.args.bench.now) c.list_totals.new.listed.items c.sort_jobs.new.listed.items
+    c.list_totals.ensures.jobs c.list_totals.ensures.totals c.sort_jobs.ensures.permutation c.sort_jobs.ensures.sorted
 
 pub returns-clause-count : goal.returns-clause-count
 returns-clause-count g c = omega (arith, ap length (returns-clause-ranking g c), length-ranking (g.B.Bench.shop c.args.bench.now))
