@@ -1,2 +1,4 @@
+pub mod HeadlineLemmas
 pub mod OutputLemmas
+pub mod SolveLemmas
 pub mod TableLemmas

@@ -1,4 +1,6 @@
 pub mod Engine
 pub mod FaultText
+pub mod Headline
 pub mod OutputText
 pub mod Printable
+pub mod Solve

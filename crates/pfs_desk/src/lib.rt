@@ -3,12 +3,15 @@
 
 pub mod engines;
 pub mod fault;
+pub mod solve_options;
 #[cfg(test)]
 mod tests;
 
 pub use engines::check::run_check;
 pub use engines::convert::run_convert;
 pub use engines::generate::run_generate;
+pub use engines::solve::run_solve;
 pub use engines::table::run_table;
 pub use engines::value::run_value;
 pub use fault::{DeskFault, Outcome, status, write_fault};
+pub use solve_options::SolveOptions;
