@@ -6,7 +6,9 @@ ghost use Rattle.std.specs.Prelude.{◌≡◌, IfOk};
 
 use pfs_audit::{AuditFault, Verdict, check, makespan, table};
 use pfs_base::{BaseFault, Bench, FromRead, Instance, Notes, ToWrite};
-use pfs_desk::{DeskFault, run_check, run_convert, run_generate, run_table};
+use pfs_desk::{
+    DeskFault, SolveOptions, run_check, run_convert, run_generate, run_solve, run_table,
+};
 use pfs_layout::{BlockReader, Layout, LayoutFault, generate, read_block};
 use pfs_order::{Order, OrderFault, OrderFile, Seq, read_order};
 use std::alloc::{AllocError, Global};
@@ -118,6 +120,7 @@ fn answer_of(rt: &HostRuntime, name: &str) -> Result<(), Stop> {
         "check" => check_call(rt),
         "run_check" => run_check_call(rt),
         "run_table" => run_table_call(rt),
+        "run_solve" => run_solve_call(rt),
         "run_convert" => run_convert_call(rt),
         "run_generate" => run_generate_call(rt),
         _ => Err(Stop::Other),
@@ -277,6 +280,26 @@ fn run_table_call(rt: &HostRuntime) -> Result<(), Stop> {
         Layout::Taillard,
         1,
         &mut orders,
+        &mut writer,
+    )?;
+    Ok(())
+}
+
+fn run_solve_call(rt: &HostRuntime) -> Result<(), Stop> {
+    let mut reader = FromRead::new(FILE);
+    let mut writer = ToWrite::new(io::writer(rt));
+    let options = SolveOptions {
+        rounds: 5,
+        take: Some(2),
+        seed: 7,
+        cells: true,
+    };
+    run_solve(
+        rt.alloc(),
+        &mut reader,
+        Layout::Taillard,
+        1,
+        &options,
         &mut writer,
     )?;
     Ok(())

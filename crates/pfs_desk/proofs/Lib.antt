@@ -1,4 +1,6 @@
 pub mod FormLemmas
+pub mod HeadlineLemmas
 pub mod JobLemmas
 pub mod OutputLemmas
+pub mod SolveLemmas
 pub mod TableLemmas

@@ -1,5 +1,5 @@
 -- What an engine answers and writes. Bytes are those that a reader has left, where they are told.
-use Rattle.std.specs.Prelude.{⊤, ◌≡◌, ◌≢◌, ℕ, Bool, false, List, Option, Result, Ok, Err, ◌⊎◌, IfSome}
+use Rattle.std.specs.Prelude.{⊤, ◌≡◌, ◌≢◌, ℕ, ◌≤◌, Bool, false, List, Option, Result, Ok, Err, ◌⊎◌, IfSome}
 use Rattle.std.specs.Io.KnownBytes.{Appends}
 use Rattle.pfs_base.specs.Limits.{limits}
 use Rattle.pfs_base.specs.Problem.{Problem}
@@ -21,6 +21,8 @@ use Rattle.pfs_desk.specs.declared.fault.Outcome.TheVariants.{Done}
 use Rattle.pfs_desk.specs.declared.fault.DeskFault.{DeskFault}
 use Rattle.pfs_desk.specs.declared.fault.DeskFault.TheVariants.{Order, Write}
 use Rattle.pfs_desk.specs.declared.fault.DeskFault.TheVariants as faults
+use Rattle.pfs_desk.specs.declared.solve_options.SolveOptions.{SolveOptions}
+use Rattle.pfs_desk.specs.Solve.{take_for, IsTakeFault, IsSolution}
 use Rattle.pfs_desk.specs.OutputText.{value_text, verdict_text, outcome_of, TablePrints}
 
 -- a block of an instance file holds this problem
@@ -41,6 +43,11 @@ abbrev pub RefusesNoOrder : DeskFault → Type 0
 RefusesNoOrder (faults.Order fault) = ⊥
 RefusesNoOrder others = ⊤
 
+-- no take was asked for, and none is refused
+abbrev pub RefusesNoTake : DeskFault → Type 0
+RefusesNoTake (faults.TakeRange take jobs) = ⊥
+RefusesNoTake others = ⊤
+
 -- an order file states this order and this makespan
 abbrev pub States : Option (List ℕ) → StatedOrder → Type 0
 States file stated = IfSome file (λ bytes. IsOrderFile bytes stated)
@@ -56,6 +63,24 @@ pub record RefusesSecond (layout : Layout) (file : Option (List ℕ)) (block : �
 abbrev pub JudgesSecond : Layout → Option (List ℕ) → ℕ → Option (List ℕ) → DeskFault → Type 0
 JudgesSecond layout file block order_file (Order fault) = RefusesSecond layout file block order_file fault
 JudgesSecond layout file block order_file others = ⊤
+
+-- a block of the instance file holds a problem with fewer jobs than are to be taken out in a round
+pub record RefusesTake (layout : Layout) (file : Option (List ℕ)) (block : ℕ) (asked : Option ℕ) (fault : DeskFault) : Type 0 where
+  pub problem : Problem
+  pub holds : Holds layout file block problem
+  pub above : IsTakeFault asked problem.shop.jobs fault
+
+-- it holds a problem with as many jobs
+pub record AllowsTake (layout : Layout) (file : Option (List ℕ)) (block : ℕ) (asked : Option ℕ) : Type 0 where
+  pub problem : Problem
+  pub holds : Holds layout file block problem
+  pub within : take_for asked problem.shop.jobs ≤ problem.shop.jobs
+
+-- the take is judged behind the instance file, and before memory is asked for
+abbrev pub JudgesTake : Layout → Option (List ℕ) → ℕ → Option ℕ → DeskFault → Type 0
+JudgesTake layout file block asked (faults.TakeRange take jobs) = RefusesTake layout file block asked (faults.TakeRange take jobs)
+JudgesTake layout file block asked faults.Memory = AllowsTake layout file block asked
+JudgesTake layout file block asked others = ⊤
 
 -- all of an output went out
 pub record WritesAll (output : Outcome → List ℕ → Type 0) (old new : Option (List ℕ)) (failed : Bool) (outcome : Outcome) : Type 0 where
@@ -88,6 +113,13 @@ pub record ValueOutput (layout : Layout) (file : Option (List ℕ)) (block : ℕ
   pub holds : Holds layout file block problem
   pub done : outcome ≡ Done
   pub spelled : text ≡ value_text problem.shop
+
+-- what a search finds of an instance
+pub record SolveOutput (layout : Layout) (file : Option (List ℕ)) (block : ℕ) (options : SolveOptions) (outcome : Outcome) (text : List ℕ) : Type 0 where
+  pub problem : Problem
+  pub holds : Holds layout file block problem
+  pub done : outcome ≡ Done
+  pub solution : IsSolution problem.shop options text
 
 -- the block, written as a file of its own in the target layout
 pub record ConvertOutput (source target : Layout) (file : Option (List ℕ)) (block : ℕ) (outcome : Outcome) (text : List ℕ) : Type 0 where

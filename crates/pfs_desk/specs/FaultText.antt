@@ -1,12 +1,12 @@
 -- The line that tells a fault, and the program's exit status for it.
-use Rattle.std.specs.Prelude.{ℕ, List, codes}
+use Rattle.std.specs.Prelude.{ℕ, List, ◌++◌, decimal, codes}
 use Rattle.pfs_base.specs.Text.{with_line_end, named_number, number_between}
 use Rattle.pfs_layout.specs.declared.fault.LayoutFault.{LayoutFault}
 use Rattle.pfs_layout.specs.declared.fault.LayoutFault.TheVariants as layout
 use Rattle.pfs_order.specs.declared.fault.OrderFault.{OrderFault}
 use Rattle.pfs_order.specs.declared.fault.OrderFault.TheVariants as order
 use Rattle.pfs_desk.specs.declared.fault.DeskFault.{DeskFault}
-use Rattle.pfs_desk.specs.declared.fault.DeskFault.TheVariants.{Layout, Order, Write, Memory}
+use Rattle.pfs_desk.specs.declared.fault.DeskFault.TheVariants.{Layout, Order, TakeRange, Write, Memory}
 
 -- offsets count from 0, and lines from 1
 abbrev pub layout_fault_text : LayoutFault → List ℕ
@@ -23,6 +23,10 @@ layout_fault_text layout.SeedRange = with_line_end (codes "pfs: seed out of rang
 layout_fault_text layout.Read = with_line_end (codes "pfs: read failed")
 layout_fault_text layout.Memory = with_line_end (codes "pfs: no memory")
 
+-- how many jobs a round is to take out, and how many there are
+abbrev pub take_fault_text : ℕ → ℕ → List ℕ
+take_fault_text take jobs = (codes "pfs: take " ++ decimal take) ++ number_between (codes " exceeds ") jobs (codes " jobs")
+
 -- offsets count from 0, and places from 1
 abbrev pub order_fault_text : OrderFault → List ℕ
 order_fault_text (order.Syntax offset) = named_number (codes "pfs: order file syntax at") offset
@@ -35,6 +39,7 @@ order_fault_text order.Memory = with_line_end (codes "pfs: no memory")
 abbrev pub fault_text : DeskFault → List ℕ
 fault_text (Layout fault) = layout_fault_text fault
 fault_text (Order fault) = order_fault_text fault
+fault_text (TakeRange take jobs) = take_fault_text take jobs
 fault_text (Write fault) = number_between (codes "pfs: write failed after ") fault.written (codes " bytes")
 fault_text Memory = with_line_end (codes "pfs: no memory")
 
@@ -60,9 +65,10 @@ order_status_of order.TooLong = 2
 order_status_of order.Read = 4
 order_status_of order.Memory = 4
 
--- 2 where a file is refused, and 4 where a read, a write or memory failed
+-- 2 where a file is refused, 3 where more jobs are to be taken out than there are, and 4 where a read, a write or memory failed
 abbrev pub status_of : DeskFault → ℕ
 status_of (Layout fault) = layout_status_of fault
 status_of (Order fault) = order_status_of fault
+status_of (TakeRange take jobs) = 3
 status_of (Write fault) = 4
 status_of Memory = 4

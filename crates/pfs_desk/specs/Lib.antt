@@ -1,7 +1,9 @@
 pub mod Commands
 pub mod Engine
 pub mod FaultText
+pub mod Headline
 pub mod Jobs
 pub mod OutputText
 pub mod Parses
 pub mod Printable
+pub mod Solve

@@ -3,13 +3,15 @@ ghost use Rattle.std.specs.Prelude.{◌≡◌, ◌<◌, false, length, codes};
 ghost use Rattle.pfs_base.specs.Sends.{Sends, Prints};
 ghost use Rattle.pfs_base.specs.Text.{number_between};
 ghost use Rattle.pfs_desk.specs.declared.fault.DeskFault.TheVariants.{Layout, Order, Write, Memory};
-ghost use Rattle.pfs_desk.specs.FaultText.{fault_text, layout_fault_text, order_fault_text, status_of, layout_status_of, order_status_of};
+ghost use Rattle.pfs_desk.specs.FaultText.{fault_text, layout_fault_text, order_fault_text, take_fault_text, status_of, layout_status_of, order_status_of};
 
 use pfs_audit::AuditFault;
-use pfs_base::print::{put_between, put_line, put_named};
-use pfs_base::{Sink, WriteFault};
+use pfs_base::print::{put_between, put_line, put_named, put_number};
+use pfs_base::{Sink, WriteFault, put};
+use pfs_insert::InsertFault;
 use pfs_layout::LayoutFault;
 use pfs_order::OrderFault;
+use pfs_search::SearchFault;
 use thiserror::Error;
 
 /// How a command that met no fault ended.
@@ -30,6 +32,9 @@ pub enum DeskFault {
     /// The order file is refused, or could not be read, or memory for it was refused.
     #[error("Order")]
     Order(OrderFault),
+    /// More jobs were to be taken out in each round than the instance has.
+    #[error("TakeRange")]
+    TakeRange { take: usize, jobs: usize },
     /// A write of the output failed.
     #[error("Write")]
     Write(WriteFault),
@@ -62,6 +67,22 @@ impl From<OrderFault> for DeskFault {
     }
 }
 
+impl From<InsertFault> for DeskFault {
+    ghost from_gives = { λ fault made. made ≡ Memory };
+
+    fn from(_fault: InsertFault) -> DeskFault {
+        DeskFault::Memory
+    }
+}
+
+impl From<SearchFault> for DeskFault {
+    ghost from_gives = { λ fault made. made ≡ Memory };
+
+    fn from(_fault: SearchFault) -> DeskFault {
+        DeskFault::Memory
+    }
+}
+
 impl From<AuditFault> for DeskFault {
     ghost from_gives = { λ fault made. made ≡ Memory };
 
@@ -70,14 +91,15 @@ impl From<AuditFault> for DeskFault {
     }
 }
 
-/// The exit status of the program for a fault: 2 where a file is refused, and 4 where a read, a write or
-/// memory failed.
+/// The exit status of the program for a fault: 2 where a file is refused, 3 where more jobs are to be taken
+/// out than there are, and 4 where a read, a write or memory failed.
 pub fn status(fault: &DeskFault) -> u8
     ensures { result ≡ status_of fault.now }
 {
     match fault {
         DeskFault::Layout(fault) => layout_status(fault),
         DeskFault::Order(fault) => order_status(fault),
+        DeskFault::TakeRange { .. } => 3,
         DeskFault::Write(_) | DeskFault::Memory => 4,
     }
 }
@@ -121,6 +143,7 @@ pub fn write_fault<W: Sink>(writer: &mut W, fault: &DeskFault) -> Result<(), Wri
     match fault {
         DeskFault::Layout(fault) => put_layout_fault(writer, fault)?,
         DeskFault::Order(fault) => put_order_fault(writer, fault)?,
+        DeskFault::TakeRange { take, jobs } => put_take_fault(writer, *take, *jobs)?,
         DeskFault::Write(fault) => {
             put_between(
                 writer,
@@ -176,6 +199,16 @@ fn put_size_fault<W: Sink>(writer: &mut W, line: usize, wrong: &[u8]) -> Result<
         0 (number_between (codes "pfs: size line ") line wrong.now) result }
 {
     put_between(writer, b"pfs: size line ", line as u64, wrong, 0)
+}
+
+fn put_take_fault<W: Sink>(writer: &mut W, take: usize, jobs: usize) -> Result<u64, WriteFault>
+    requires { W.has_failed writer.old ≡ false }
+    ensures { Sends (W.written writer.old) (W.written writer.new) (W.has_failed writer.new)
+        0 (take_fault_text take jobs) result }
+{
+    let sent = put(writer, b"pfs: take ", 0)?;
+    let sent = put_number(writer, take as u64, sent)?;
+    put_between(writer, b" exceeds ", jobs as u64, b" jobs", sent)
 }
 
 fn put_order_fault<W: Sink>(writer: &mut W, fault: &OrderFault) -> Result<u64, WriteFault>

@@ -81,6 +81,12 @@ fn each_refusal_of_an_order_file_has_its_line(rt: HostRuntime) {
 }
 
 #[test]
+fn too_great_a_take_has_its_line(rt: HostRuntime) {
+    let fault = DeskFault::TakeRange { take: 4, jobs: 3 };
+    assert_told(&rt, fault, "pfs: take 4 exceeds 3 jobs\n", 3);
+}
+
+#[test]
 fn reads_writes_and_memory_that_fail_have_their_lines(rt: HostRuntime) {
     let written = WriteFault { written: 5 };
     let failures = [

@@ -12,6 +12,8 @@ pub mod fakes;
 #[cfg(test)]
 mod reader;
 #[cfg(test)]
+mod solving;
+#[cfg(test)]
 mod texts;
 #[cfg(test)]
 mod writers;

@@ -1,7 +1,7 @@
 //! The verdict on an order file.
 ghost use Rattle.std.specs.Prelude.{◌≡◌, ◌≢◌, ◌+◌, ◌<◌, ◌≤◌, ◌^◌, ◌↔◌, true, false, length, IfOk, IfErr};
 ghost use Rattle.pfs_base.specs.Sends.{Sends};
-ghost use Rattle.pfs_desk.specs.Engine.{Writes, CheckOutput, JudgesFirst, JudgesSecond};
+ghost use Rattle.pfs_desk.specs.Engine.{Writes, CheckOutput, JudgesFirst, JudgesSecond, RefusesNoTake};
 ghost use Rattle.pfs_desk.specs.OutputText.{finding, valid_text, wrong_size_text, verdict_text, outcome_of};
 
 use crate::fault::{DeskFault, Outcome};
@@ -32,6 +32,7 @@ pub fn run_check<R: Source, O: Source, W: Sink>(
     ensures refused { IfErr result (JudgesFirst layout (R.left reader.old) block) }
     ensures read { result ≡ Err (DeskFault.Layout LayoutFault.Read) ↔ (R.has_failed reader.new ≡ true) }
     ensures no_seed { result ≢ Err (DeskFault.Layout LayoutFault.SeedRange) }
+    ensures no_take { IfErr result RefusesNoTake }
     ensures order_refused { IfErr result (JudgesSecond layout (R.left reader.old) block (O.left order_reader.old)) }
     ensures order_read { result ≡ Err (DeskFault.Order OrderFault.Read) ↔ (O.has_failed order_reader.new ≡ true) }
 {

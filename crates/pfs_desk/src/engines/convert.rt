@@ -1,6 +1,6 @@
 //! A block of an instance file, written in another layout.
 ghost use Rattle.std.specs.Prelude.{◌≡◌, ◌≢◌, ◌≤◌, ◌↔◌, true, false, IfErr};
-ghost use Rattle.pfs_desk.specs.Engine.{Writes, ConvertOutput, JudgesFirst, RefusesNoOrder};
+ghost use Rattle.pfs_desk.specs.Engine.{Writes, ConvertOutput, JudgesFirst, RefusesNoOrder, RefusesNoTake};
 
 use crate::fault::{DeskFault, Outcome};
 use pfs_base::{MOST_BLOCKS, Sink, Source};
@@ -28,6 +28,7 @@ pub fn run_convert<R: Source, W: Sink>(
     ensures read { result ≡ Err (DeskFault.Layout LayoutFault.Read) ↔ (R.has_failed reader.new ≡ true) }
     ensures no_seed { result ≢ Err (DeskFault.Layout LayoutFault.SeedRange) }
     ensures one_file { IfErr result RefusesNoOrder }
+    ensures no_take { IfErr result RefusesNoTake }
     ensures no_more_memory { result ≢ Err DeskFault.Memory }
 {
     let instance = read_block(alloc, reader, source, block)?;

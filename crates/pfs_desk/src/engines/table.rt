@@ -2,7 +2,7 @@
 ghost use Rattle.std.specs.Prelude.{◌≡◌, ◌≢◌, ◌+◌, ◌*◌, ◌<◌, ◌≤◌, ◌^◌, ◌∷◌, ◌++◌, [], ◌↔◌, true, false, length, IfOk, IfErr};
 ghost use Rattle.pfs_base.specs.Sends.{Sends};
 ghost use Rattle.pfs_base.specs.Text.{with_line_end, spaced};
-ghost use Rattle.pfs_desk.specs.Engine.{Writes, TableOutput, JudgesFirst, JudgesSecond};
+ghost use Rattle.pfs_desk.specs.Engine.{Writes, TableOutput, JudgesFirst, JudgesSecond, RefusesNoTake};
 ghost use Rattle.pfs_desk.specs.OutputText.{row_text, table_text};
 ghost use Rattle.pfs_desk.specs.Printable.{IsPrintable};
 
@@ -36,6 +36,7 @@ pub fn run_table<R: Source, O: Source, W: Sink>(
     ensures refused { IfErr result (JudgesFirst layout (R.left reader.old) block) }
     ensures read { result ≡ Err (DeskFault.Layout LayoutFault.Read) ↔ (R.has_failed reader.new ≡ true) }
     ensures no_seed { result ≢ Err (DeskFault.Layout LayoutFault.SeedRange) }
+    ensures no_take { IfErr result RefusesNoTake }
     ensures order_refused { IfErr result (JudgesSecond layout (R.left reader.old) block (O.left order_reader.old)) }
     ensures order_read { result ≡ Err (DeskFault.Order OrderFault.Read) ↔ (O.has_failed order_reader.new ≡ true) }
 {

@@ -2,7 +2,7 @@
 ghost use Rattle.std.specs.Prelude.{◌≡◌, ◌≢◌, ◌≤◌, ◌↔◌, true, false, IfOk, IfErr};
 ghost use Rattle.pfs_base.specs.Paths.{makespan};
 ghost use Rattle.pfs_order.specs.Sequence.{all_jobs};
-ghost use Rattle.pfs_desk.specs.Engine.{Writes, ValueOutput, JudgesFirst, RefusesNoOrder};
+ghost use Rattle.pfs_desk.specs.Engine.{Writes, ValueOutput, JudgesFirst, RefusesNoOrder, RefusesNoTake};
 
 use crate::fault::{DeskFault, Outcome};
 use pfs_audit::makespan;
@@ -31,6 +31,7 @@ pub fn run_value<R: Source, W: Sink>(
     ensures read { result ≡ Err (DeskFault.Layout LayoutFault.Read) ↔ (R.has_failed reader.new ≡ true) }
     ensures no_seed { result ≢ Err (DeskFault.Layout LayoutFault.SeedRange) }
     ensures one_file { IfErr result RefusesNoOrder }
+    ensures no_take { IfErr result RefusesNoTake }
 {
     let instance = read_block(alloc, reader, layout, block)?;
     let value = value_of(alloc, &instance)?;

@@ -1,0 +1,145 @@
+-- What a search finds, counts and prints.
+use Rattle.std.proofs.Common.{◌≡◌, ℕ, zero, suc, ◌+◌, ◌-◌, ◌*◌, ◌<◌, ◌≤◌, ◌^◌, Bool, true, false, List, [], ◌∷◌, ◌++◌, Option, length, map, get_or, cond, codes, refl, ap, ◌∙◌, arith}
+use Rattle.std.proofs.lemmas.List.{append-nil}
+use Rattle.std.proofs.Math.Nat.{mul-le-mul, mul-le-mul_right}
+use Rattle.rand_core.specs.Pcg32Seed.{pcg32_seed}
+use Rattle.rand_core.specs.Steps.{stream_of, steps_u32, first_words}
+use Rattle.rand_core.specs.Stream.{Stream}
+use Rattle.rand_core.proofs.StepsLemmas.{next_u32-stream_of}
+use Rattle.rand_pcg.specs.Lcg.{Lcg}
+use Rattle.rand_pcg.specs.Pcg.{pcg32, pcg32_of_seed}
+use Rattle.pfs_base.specs.declared.limits.TheConstants.{MOST_JOBS, MOST_MACHINES, LONGEST_TIME, LONGEST_ORDER_FILE}
+use Rattle.pfs_base.specs.Limits.{limits}
+use Rattle.pfs_base.specs.FlowShop.{FlowShop, IsWithin}
+use Rattle.pfs_base.specs.Paths.{makespan, operation}
+use Rattle.pfs_base.specs.Sends.{SendsFront}
+use Rattle.pfs_base.specs.Text.{named_number}
+use Rattle.pfs_base.proofs.Heads.{head_le, makespan_is, time_of-le}
+use Rattle.pfs_base.proofs.SendsLemmas.{front_of}
+use Rattle.pfs_order.specs.OrderText.{file_text}
+use Rattle.pfs_order.specs.Sequence.{IsSequence, IsSize}
+use Rattle.pfs_order.proofs.OrderVerdicts.{text_fits, written_file}
+use Rattle.pfs_insert.specs.Insertion.{heads_tails_cost}
+use Rattle.pfs_search.specs.Costs.{neh_cost, round_cost, HasClosedCosts}
+use Rattle.pfs_search.specs.Greedy.{after_rounds, words_of}
+use Rattle.pfs_search.specs.Neh.{neh_order}
+use Rattle.pfs_search.proofs.CostSums.{costs_law}
+use Rattle.pfs_desk.specs.declared.solve_options.TheConstants.{MOST_ROUNDS}
+use Rattle.pfs_desk.specs.Solve.{words_for, neh_cells, rounds_cells, solution_text, IsFound}
+
+-- ---- words
+
+words_of_steps : {S : Type 0} (step : S → ℕ × S) (n : ℕ) (s : S) → words_of n (stream_of (steps_u32 step) s) ≡ first_words step n s
+unfolding first_words
+words_of_steps step zero s = refl
+words_of_steps {S} step (suc n) s =
+    let next = next_u32-stream_of (steps_u32 step) s in
+    ap (λ (p : ℕ × Stream). p.0 ∷ words_of n p.1) next ∙ ap (λ l. (step s).0 ∷ l) (words_of_steps step n (step s).1)
+
+-- the words that a generator gives are those of its seed
+pub words_are : (seed : ℕ) (generator : Lcg) (count : ℕ) → generator ≡ pcg32_of_seed (pcg32_seed 16 seed) →
+    words_of count (stream_of (steps_u32 pcg32) generator) ≡ words_for seed count
+words_are seed generator count e = ap (λ g. words_of count (stream_of (steps_u32 pcg32) g)) e ∙ words_of_steps pcg32 count (pcg32_of_seed (pcg32_seed 16 seed))
+
+-- ---- cells
+
+closed : HasClosedCosts heads_tails_cost
+closed = costs_law heads_tails_cost (λ count machines some. refl)
+
+pub neh_cells_are : (shop : FlowShop) → neh_cost heads_tails_cost shop.jobs shop.machines ≡ neh_cells shop
+neh_cells_are shop = closed.neh shop.jobs shop.machines
+
+pub rounds_cells_are : (shop : FlowShop) (rounds many : ℕ) → many ≤ shop.jobs →
+    rounds * round_cost heads_tails_cost shop.jobs shop.machines many 0 ≡ rounds_cells shop rounds many
+rounds_cells_are shop rounds many few = ap (λ cells. rounds * cells) (closed.round shop.jobs shop.machines many few)
+
+pub rounds_cells_few : (shop : FlowShop) (rounds many : ℕ) → many ≤ shop.jobs →
+    rounds_cells shop rounds many ≤ rounds * many * shop.machines * (4 * shop.jobs - 2)
+rounds_cells_few shop rounds many few =
+    let all = closed.rounds rounds shop.jobs shop.machines many few in
+    let are = rounds_cells_are shop rounds many few in
+    omega arith
+
+-- so many cells can be counted
+pub neh_room : (shop : FlowShop) → IsWithin limits shop → neh_cost heads_tails_cost shop.jobs shop.machines < 2 ^ 62
+neh_room shop within =
+    let square = mul-le-mul within.sizes.few_jobs within.sizes.few_jobs in
+    let all = mul-le-mul within.sizes.few_machines square in
+    let are = neh_cells_are shop in
+    omega arith
+
+pub rounds_room : (shop : FlowShop) (rounds many : ℕ) → IsWithin limits shop → many ≤ shop.jobs → rounds ≤ MOST_ROUNDS →
+    rounds * round_cost heads_tails_cost shop.jobs shop.machines many 0 < 2 ^ 62
+rounds_room shop rounds many within few short =
+    let most = closed.rounds rounds shop.jobs shop.machines many few in
+    let taken : many ≤ MOST_JOBS = omega (arith, within.sizes.few_jobs) in
+    let width : 4 * shop.jobs - 2 ≤ 4 * MOST_JOBS = omega (arith, within.sizes.few_jobs) in
+    let all = mul-le-mul (mul-le-mul (mul-le-mul short taken) within.sizes.few_machines) width in
+    omega arith
+
+-- ---- makespans
+
+-- a path has at most as many cells as there are jobs and machines
+pub makespan_short : (shop : FlowShop) (order : List ℕ) → IsWithin limits shop → length order ≡ shop.jobs → makespan shop order < 10 ^ 18
+makespan_short shop order within e =
+    let weigh = operation shop order in
+    let times : (row machine : ℕ) → operation shop order row machine ≤ LONGEST_TIME = λ row machine. time_of-le shop within (get_or order row 0) machine in
+    let below = head_le weigh LONGEST_TIME times (length order) (shop.machines - 1) in
+    let cells : length order + (shop.machines - 1) ≤ MOST_JOBS + MOST_MACHINES = omega (arith, within.sizes.few_jobs, within.sizes.few_machines) in
+    let all = mul-le-mul_right LONGEST_TIME cells in
+    let is = makespan_is shop order in
+    omega arith
+
+-- ---- what is found
+
+-- NEH is done
+pub record NehDone (shop : FlowShop) (order : List ℕ) (span cells : ℕ) : Type 0 where
+  pub is_order : order ≡ neh_order shop
+  pub is_span : span ≡ makespan shop order
+  pub counted : cells ≡ neh_cost heads_tails_cost shop.jobs shop.machines
+
+-- and then so many rounds on the words of a stream
+pub record RoundsDone (shop : FlowShop) (rounds many : ℕ) (stream : Stream) (old : List ℕ) (old_span old_cells : ℕ) (order : List ℕ) (span cells : ℕ) : Type 0 where
+  pub is_order : order ≡ after_rounds shop 0 rounds many old (words_of (rounds * many) stream)
+  pub is_span : span ≡ makespan shop order
+  pub never_rises : span ≤ old_span
+  pub counted : cells ≡ old_cells + rounds * round_cost heads_tails_cost shop.jobs shop.machines many 0
+
+pub found_is : (shop : FlowShop) (rounds many seed : ℕ) (generator : Lcg) (old : List ℕ) (old_span old_cells : ℕ) (order : List ℕ) (span cells : ℕ)
+    → many ≤ shop.jobs → generator ≡ pcg32_of_seed (pcg32_seed 16 seed) → NehDone shop old old_span old_cells
+    → RoundsDone shop rounds many (stream_of (steps_u32 pcg32) generator) old old_span old_cells order span cells
+    → length order ≡ shop.jobs → IsSequence shop.jobs order → IsFound shop rounds many seed order span cells
+found_is shop rounds many seed generator old old_span old_cells order span cells few seeded neh done all distinct = record {
+  found = done.is_order ∙ ap (λ o. after_rounds shop 0 rounds many o (words_of (rounds * many) (stream_of (steps_u32 pcg32) generator))) neh.is_order
+      ∙ ap (after_rounds shop 0 rounds many (neh_order shop)) (words_are seed generator (rounds * many) seeded);
+  all = all;
+  distinct = distinct;
+  spanned = done.is_span;
+  no_longer = let e = neh.is_span in let f = ap (makespan shop) neh.is_order in let g = done.never_rises in omega arith;
+  counted = let e = neh.counted in let f = done.counted in let n = neh_cells_are shop in let r = rounds_cells_are shop rounds many few in omega arith;
+  few_cells = rounds_cells_few shop rounds many few;
+}
+
+-- ---- what is printed
+
+pub file_short : (order : List ℕ) (span : ℕ) → IsSize limits (length order) → IsSequence (length order) order → span < 10 ^ 18
+    → length (file_text order span) ≤ LONGEST_ORDER_FILE
+file_short order span size distinct short = text_fits (file_text order span) (map (λ job. job + 1) order, (span, (written_file order span size distinct short).has_text))
+
+cells_line : Bool → ℕ → List ℕ
+cells_line with_cells cells = cond with_cells (named_number (codes "cells") cells) []
+
+pub solution_counted : (order : List ℕ) (span : ℕ) (with_cells : Bool) (cells : ℕ) → with_cells ≡ true
+    → solution_text order span with_cells cells ≡ file_text order span ++ named_number (codes "cells") cells
+unfolding solution_text cells_line
+solution_counted order span with_cells cells e = ap (λ w. file_text order span ++ cells_line w cells) e
+
+pub solution_alone : (order : List ℕ) (span : ℕ) (with_cells : Bool) (cells : ℕ) → with_cells ≡ false
+    → solution_text order span with_cells cells ≡ file_text order span
+unfolding solution_text cells_line
+solution_alone order span with_cells cells e = ap (λ w. file_text order span ++ cells_line w cells) e ∙ append-nil (file_text order span)
+
+pub solution_front : {a b : Option (List ℕ)} {failed : Bool} {sent reached : ℕ} (order : List ℕ) (span : ℕ) (with_cells : Bool) (cells : ℕ)
+    → SendsFront a b failed sent (file_text order span) reached → SendsFront a b failed sent (solution_text order span with_cells cells) reached
+unfolding solution_text
+solution_front order span with_cells cells front = front_of (cond with_cells (named_number (codes "cells") cells) []) front

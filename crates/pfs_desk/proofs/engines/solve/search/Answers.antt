@@ -1,0 +1,59 @@
+use Rattle.std.proofs.Common.{◌≡◌, ◌≤◌, length, ap, subst, arith}
+use Rattle.rand_core.specs.Steps.{stream_of, steps_u32}
+use Rattle.rand_pcg.specs.Pcg.{pcg32}
+use Rattle.pfs_base.specs.FlowShop.{FlowShop}
+use Rattle.pfs_order.specs.Sequence.{IsSequence}
+use Rattle.pfs_desk.proofs.SolveLemmas.{neh_room, rounds_room, makespan_short, NehDone, RoundsDone, found_is}
+use Rattle.pfs_desk.proofs.engines.solve.search.Goals as goal
+
+pub neh-requires-clause-room : goal.neh-requires-clause-room
+neh-requires-clause-room g c =
+    omega (arith, neh_room (g.B.Bench.shop c.args.bench.now) (g.met.B.Bench.within c.args.bench.now), c.requires.fresh)
+
+pub rounds-requires-clause-room : goal.rounds-requires-clause-room
+rounds-requires-clause-room g c =
+    let shop = g.B.Bench.shop c.args.bench.now in
+    let then_shop = g.B.Bench.shop c.neh.new.bench in
+    let jobs = ap (λ (s : FlowShop). s.jobs) c.in_ok-neh.ensures.shop in
+    let few : c.args.many ≤ then_shop.jobs = omega (arith, c.requires.few) in
+    omega (
+      arith,
+      neh_room shop (g.met.B.Bench.within c.args.bench.now),
+      rounds_room then_shop c.args.rounds c.args.many (g.met.B.Bench.within c.neh.new.bench) few c.requires.rounds,
+      c.requires.fresh,
+      c.in_ok-neh.ensures.counted,
+    )
+
+pub returns-clause-found : goal.returns-clause-found
+returns-clause-found g c =
+    let number = g.B.Span.Length.number in
+    let counted = g.B.Bench.counted in
+    let shop = g.B.Bench.shop c.args.bench.now in
+    let neh = c.neh.new.kept in
+    let neh_span = number neh.span in
+    let neh_cells = counted c.neh.new.bench in
+    let kept = c.rounds.new.kept in
+    let span = number kept.span in
+    let cells = counted c.rounds.new.bench in
+    let stream = stream_of (steps_u32 pcg32) c.seed_from_u64-rng.result in
+    let neh_done : NehDone shop neh.order neh_span neh_cells =
+    record { is_order = c.in_ok-neh.ensures.order; is_span = c.in_ok-neh.ensures.span; counted = omega (arith, c.requires.fresh, c.in_ok-neh.ensures.counted) } in
+    let rounds_done : RoundsDone shop c.args.rounds c.args.many stream neh.order neh_span neh_cells kept.order span cells =
+    subst (λ s. RoundsDone s c.args.rounds c.args.many stream neh.order neh_span neh_cells kept.order span cells) c.in_ok-neh.ensures.shop
+    (record {
+      is_order = c.in_ok-rounds.ensures.order;
+      is_span = c.in_ok-rounds.ensures.span;
+      never_rises = c.in_ok-rounds.ensures.never_rises;
+      counted = c.in_ok-rounds.ensures.counted;
+    }) in
+    let all : length kept.order ≡ shop.jobs =
+    omega (arith, c.in_ok-rounds.ensures.same_order_size, c.in_ok-neh.ensures.same_order_size, ap length c.new-kept.ensures.order, c.in-Ok.ensures.len, c.jobs.ensures) in
+    let distinct = subst (λ n. IsSequence n kept.order) all c.len-jobs.ensures.sequence in
+    found_is shop c.args.rounds c.args.many c.args.seed c.seed_from_u64-rng.result neh.order neh_span neh_cells kept.order span cells c.requires.few
+    c.seed_from_u64-rng.ensures neh_done rounds_done all distinct
+
+pub returns-clause-short : goal.returns-clause-short
+returns-clause-short g c =
+    let found = returns-clause-found g c in
+    let shop = g.B.Bench.shop c.args.bench.now in
+    omega (arith, makespan_short shop c.rounds.new.kept.order (g.met.B.Bench.within c.args.bench.now) found.all, found.spanned)

@@ -1,0 +1,50 @@
+-- What `solve` does with a file whose bytes are told, however the reader cuts them.
+use Rattle.std.specs.Prelude.{◌≡◌, ◌≢◌, ℕ, ◌<◌, ◌≤◌, Bool, false, List, Option, Some, Result, Ok, Err}
+use Rattle.std.specs.Io.KnownBytes.{Appends}
+use Rattle.pfs_base.specs.Limits.{limits}
+use Rattle.pfs_base.specs.Problem.{Problem}
+use Rattle.pfs_layout.specs.declared.fault.LayoutFault.{LayoutFault}
+use Rattle.pfs_layout.specs.declared.fault.LayoutFault.TheVariants as layout_faults
+use Rattle.pfs_layout.specs.declared.layout.Layout.{Layout}
+use Rattle.pfs_layout.specs.File.{File}
+use Rattle.pfs_layout.specs.Refuse.{Refuse}
+use Rattle.pfs_desk.specs.declared.fault.DeskFault.{DeskFault}
+use Rattle.pfs_desk.specs.declared.fault.DeskFault.TheVariants as faults
+use Rattle.pfs_desk.specs.declared.fault.Outcome.{Outcome}
+use Rattle.pfs_desk.specs.declared.fault.Outcome.TheVariants.{Done}
+use Rattle.pfs_desk.specs.declared.solve_options.SolveOptions.{SolveOptions}
+use Rattle.pfs_desk.specs.Solve.{take_for, IsSolution}
+
+-- no read failed, and the memory for the instance was not refused
+pub record ReadsOn (reader_failed : Bool) (result : Result Outcome DeskFault) : Type 0 where
+  pub reading : reader_failed ≡ false
+  pub room : result ≢ Err (faults.Layout layout_faults.Memory)
+
+-- nor did a write fail, nor was other memory refused
+pub record RunsOn (reader_failed writer_failed : Bool) (result : Result Outcome DeskFault) : Type 0 where
+  pub reads : ReadsOn reader_failed result
+  pub writing : writer_failed ≡ false
+  pub room : result ≢ Err faults.Memory
+
+-- a solution of this problem was written, and nothing else
+pub record PrintsSolution (problem : Problem) (options : SolveOptions) (old new : Option (List ℕ)) (result : Result Outcome DeskFault) : Type 0 where
+  pub done : result ≡ Ok Done
+  pub text : List ℕ
+  pub solution : IsSolution problem.shop options text
+  pub bytes : Appends old new text
+
+-- this fault was answered, and nothing was written
+pub record TellsFault (fault : DeskFault) (old new : Option (List ℕ)) (result : Result Outcome DeskFault) : Type 0 where
+  pub told : result ≡ Err fault
+  pub kept : new ≡ old
+
+pub record Solves (layout : Layout) (file : List ℕ) (block : ℕ) (options : SolveOptions) (old new : Option (List ℕ)) (reader_failed writer_failed : Bool) (result : Result Outcome DeskFault) : Type 0 where
+  -- of every accepted instance with as many jobs as are to be taken out the solution is printed
+  pub accepted : (problem : Problem) → File limits layout file block problem → take_for options.take problem.shop.jobs ≤ problem.shop.jobs
+      → RunsOn reader_failed writer_failed result → PrintsSolution problem options old new result
+  -- every other file is refused by its fault
+  pub refused : (fault : LayoutFault) → Refuse layout file block fault
+      → ReadsOn reader_failed result → TellsFault (faults.Layout fault) old new result
+  -- and so is a take that is asked for, of more jobs than there are
+  pub too_many : (problem : Problem) (asked : ℕ) → File limits layout file block problem → options.take ≡ Some asked → problem.shop.jobs < asked
+      → ReadsOn reader_failed result → TellsFault (faults.TakeRange asked problem.shop.jobs) old new result

@@ -1,0 +1,150 @@
+//! The order that a search finds.
+ghost use Rattle.std.specs.Prelude.{◌≡◌, ◌≢◌, ◌+◌, ◌<◌, ◌≤◌, ◌^◌, ◌↔◌, true, false, Some, IfSome, IfOk, IfErr};
+ghost use Rattle.pfs_base.specs.Sends.{Sends};
+ghost use Rattle.pfs_desk.specs.Engine.{Writes, SolveOutput, JudgesFirst, JudgesTake, RefusesNoOrder};
+ghost use Rattle.pfs_desk.specs.Headline.{Solves};
+ghost use Rattle.pfs_desk.specs.Solve.{IsFound, IsTakeFault, solution_text};
+ghost use Rattle.pfs_desk.specs.Solve.{take_for as take_of};
+
+use crate::fault::{DeskFault, Outcome};
+use crate::solve_options::{DEFAULT_TAKE, MOST_ROUNDS, SolveOptions};
+use pfs_base::print::put_named;
+use pfs_base::{Bench, Instance, Length, MOST_BLOCKS, Shop, Sink, Source, WriteFault};
+use pfs_insert::HeadsTails;
+use pfs_layout::{Layout, LayoutFault, read_block};
+use pfs_order::{Order, write_order};
+use pfs_search::{Kept, Searcher};
+use rand_core::SeedableRng;
+use rand_pcg::Pcg32;
+use std::alloc::Global;
+
+/// Reads a block of an instance file, and prints as an order file what a search finds: NEH's order (Nawaz,
+/// Enscore, Ham 1983), followed by rounds of iterated greedy (Ruiz, Stützle 2007). Blocks count from 1. A
+/// take that is asked for is judged also where there are no rounds.
+pub fn run_solve<R: Source, W: Sink>(
+    alloc: Global,
+    reader: &mut R,
+    layout: Layout,
+    block: usize,
+    options: &SolveOptions,
+    writer: &mut W,
+) -> Result<Outcome, DeskFault>
+    requires reading { R.has_failed reader.old ≡ false }
+    requires writing { W.has_failed writer.old ≡ false }
+    requires some { 1 ≤ block }
+    requires few { block ≤ MOST_BLOCKS }
+    requires rounds { options.now.rounds ≤ MOST_ROUNDS }
+    requires take { IfSome options.now.take (λ asked. 1 ≤ asked) }
+    ensures written { Writes (SolveOutput layout (R.left reader.old) block options.now)
+        (W.written writer.old) (W.written writer.new) (W.has_failed writer.new) result }
+    ensures refused { IfErr result (JudgesFirst layout (R.left reader.old) block) }
+    ensures read { result ≡ Err (DeskFault.Layout LayoutFault.Read) ↔ (R.has_failed reader.new ≡ true) }
+    ensures no_seed { result ≢ Err (DeskFault.Layout LayoutFault.SeedRange) }
+    ensures one_file { IfErr result RefusesNoOrder }
+    ensures take { IfErr result (JudgesTake layout (R.left reader.old) block options.now.take) }
+    ensures solves { IfSome (R.left reader.old) (λ bytes. Solves layout bytes block options.now
+        (W.written writer.old) (W.written writer.new) (R.has_failed reader.new) (W.has_failed writer.new) result) }
+{
+    let instance = read_block(alloc, reader, layout, block)?;
+    let many = take_for(options.take, instance.jobs())?;
+    let solution = solution_of(alloc, &instance, options.rounds, many, options.seed)?;
+    put_solution(writer, &solution, options.cells)?;
+    Ok(Outcome::Done)
+}
+
+// How many jobs each round takes out of so many.
+fn take_for(asked: Option<usize>, jobs: usize) -> Result<usize, DeskFault>
+    ensures take { IfOk result (λ many. many ≡ take_of asked jobs) }
+    ensures few { IfOk result (λ many. many ≤ jobs) }
+    ensures fault { IfErr result (IsTakeFault asked jobs) }
+{
+    match asked {
+        None => Ok(jobs.min(DEFAULT_TAKE)),
+        Some(take) if take <= jobs => Ok(take),
+        Some(take) => Err(DeskFault::TakeRange { take, jobs }),
+    }
+}
+
+/// What a search finds.
+#[derive(Drop)]
+struct Solution {
+    order: Order,
+    makespan: u64,
+    cells: u64,
+}
+
+// What a search finds on a new bench over an instance.
+fn solution_of(
+    alloc: Global,
+    instance: &Instance,
+    rounds: u32,
+    many: usize,
+    seed: u64,
+) -> Result<Solution, DeskFault>
+    requires some { 1 ≤ many }
+    requires few { many ≤ instance.now.shop.jobs }
+    requires rounds { rounds ≤ MOST_ROUNDS }
+    ensures found { IfOk result (λ found.
+        IsFound instance.now.shop rounds many seed found.order found.makespan found.cells) }
+    ensures short { IfOk result (λ found. found.makespan < 10 ^ 18) }
+    ensures memory { IfErr result (λ fault. fault ≡ DeskFault.Memory) }
+{
+    let mut bench = instance.metered();
+    let kept = search(alloc, &mut bench, rounds, many, seed)?;
+    Ok(Solution {
+        order: kept.order,
+        makespan: bench.reveal(kept.span),
+        cells: bench.cells(),
+    })
+}
+
+// NEH's order, and then so many rounds, each of which takes so many jobs out, on a bench that has counted
+// nothing.
+fn search<B: Shop>(
+    alloc: Global,
+    bench: &mut B,
+    rounds: u32,
+    many: usize,
+    seed: u64,
+) -> Result<Kept<B::Span>, DeskFault>
+    requires fresh { B.counted bench.old ≡ 0 }
+    requires some { 1 ≤ many }
+    requires few { many ≤ (B.shop bench.old).jobs }
+    requires rounds { rounds ≤ MOST_ROUNDS }
+    ensures found { IfOk result (λ kept.
+        IsFound (B.shop bench.old) rounds many seed kept.order (B.Span.number kept.span) (B.counted bench.new)) }
+    ensures short { IfOk result (λ kept. B.Span.number kept.span < 10 ^ 18) }
+    ensures memory { IfErr result (λ fault. fault ≡ DeskFault.Memory) }
+{
+    let Ok(order) = Order::identity(alloc, bench.jobs()) else {
+        return Err(DeskFault::Memory);
+    };
+    let inserter = HeadsTails::new(alloc, bench)?;
+    let mut searcher = Searcher::new(alloc, bench.jobs(), inserter)?;
+    let mut kept = Kept::new(order, bench.zero());
+    searcher.neh(alloc, bench, &mut kept)?;
+    let mut rng = Pcg32::seed_from_u64(seed);
+    searcher.rounds(alloc, bench, &mut kept, rounds, many, &mut rng)?;
+    let _jobs = kept.order.len();
+    Ok(kept)
+}
+
+// Writes an order and its makespan as an order file, and behind it, where that is asked for, the count.
+fn put_solution<W: Sink>(
+    writer: &mut W,
+    solution: &Solution,
+    with_cells: bool,
+) -> Result<u64, WriteFault>
+    requires working { W.has_failed writer.old ≡ false }
+    requires stated { solution.now.makespan < 10 ^ 18 }
+    ensures { Sends (W.written writer.old) (W.written writer.new) (W.has_failed writer.new)
+        0 (solution_text solution.now.order solution.now.makespan with_cells solution.now.cells) result }
+{
+    let _jobs = solution.order.len();
+    let sent = write_order(writer, &solution.order, solution.makespan)?;
+    if with_cells {
+        put_named(writer, b"cells", solution.cells, sent)
+    } else {
+        Ok(sent)
+    }
+}
