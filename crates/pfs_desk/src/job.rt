@@ -35,6 +35,22 @@ impl PathText {
     }
 }
 
+/// The greatest number of rounds of a search.
+pub const MOST_ROUNDS: u32 = 1_000_000;
+
+/// How `solve` searches, and what it prints.
+#[derive(Clone, Copy, Debug, PartialEq, Eq)]
+pub struct SolveOptions {
+    /// How many rounds follow the first order.
+    pub rounds: u32,
+    /// How many jobs a round takes out; where it is left out 4, or all jobs where there are fewer.
+    pub take: Option<usize>,
+    /// The seed of the words that the rounds draw.
+    pub seed: u64,
+    /// Whether the count of cells is printed too.
+    pub cells: bool,
+}
+
 /// What a command line asks for. Blocks count from 1.
 #[derive(Debug, Drop)]
 pub enum Job {
@@ -44,6 +60,13 @@ pub enum Job {
         block: usize,
         /// Standard input where there is none.
         file: Option<PathText>,
+    },
+    /// An order of the search.
+    Solve {
+        layout: Layout,
+        block: usize,
+        options: SolveOptions,
+        file: PathText,
     },
     /// The verdict on an order file.
     Check {

@@ -15,6 +15,6 @@ pub use engines::generate::run_generate;
 pub use engines::table::run_table;
 pub use engines::value::run_value;
 pub use fault::{DeskFault, Outcome, status, write_fault};
-pub use job::{Job, PathText};
+pub use job::{Job, MOST_ROUNDS, PathText, SolveOptions};
 pub use planning::plan;
 pub use usage::UsageFault;
