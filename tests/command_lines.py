@@ -81,6 +81,7 @@ LINES = [
     ("value --layout taillard missing", b"", b"pfs: cannot open\n", 4),
     ("value --layout taillard -- ", b"", b"pfs: cannot open\n", 4),
     ("value --layout taillard folder", b"", b"pfs: read failed\n", 4),
+    ("value --layout taillard /dev/zero", b"", b"pfs: input too long\n", 2),
     ("solve --layout taillard three", b"order 3\n2 1 3\nmakespan 10\n", b"", 0),
     ("solve --layout orlib three.or", b"order 3\n2 1 3\nmakespan 10\n", b"", 0),
     ("solve --layout taillard --cells three", b"order 3\n2 1 3\nmakespan 10\ncells 36\n", b"", 0),

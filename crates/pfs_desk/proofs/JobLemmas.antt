@@ -39,14 +39,18 @@ pub refused : (names : Names) (word : Text) (words : List Text) → AreLayoutNam
 unfolding AsksForNothing
 refused names word words are denied faulty = (names, are, denied, faulty)
 
+-- a command line is faulty where the words are, in the form of the command
+pub faulty_line : (names : Names) (word : Text) (words : List Text) (form : App) → form_of names word ≡ Some form → (fault_of form words ≡ [] → ⊥)
+    → IsFaultlessLine names word words → ⊥
+faulty_line names word words form at faulty none = faulty (subst (λ a. fault_of a words ≡ []) (ap (λ o. unwrap_or o form) (sym none.1 ∙ at)) none.2)
+
 -- a command refused the words
 pub refused_by : (names : Names) (command : Command) (form : App) (word : Text) (words : List Text) → AreLayoutNames names → form_of names word ≡ Some form
     → is_simple_and_free form ≡ true → app_of command ≡ form → takes (app_of command) words ≡ false
     → (is_simple_and_free (app_of command) ≡ true → fault_of (app_of command) words ≡ [] → ⊥) → AsksForNothing word words
 refused_by names command form word words are at simple is denied faulty =
-    refused names word words are (rw at (subst (λ a. takes a words ≡ false) is denied)) (λ none.
-    let same : none.0 ≡ app_of command = ap (λ o. unwrap_or o form) (sym none.1 ∙ at) ∙ sym is in
-    faulty (ap is_simple_and_free is ∙ simple) (subst (λ a. fault_of a words ≡ []) same none.2))
+    refused names word words are (rw at (subst (λ a. takes a words ≡ false) is denied))
+    (faulty_line names word words form at (λ none. faulty (ap is_simple_and_free is ∙ simple) (subst (λ a. fault_of a words ≡ []) (sym is) none)))
 
 -- ---- one argument
 

@@ -2,6 +2,7 @@
 #![tactic(auto)]
 
 pub mod engines;
+pub mod examples;
 pub mod fault;
 pub mod job;
 pub mod planning;
