@@ -6,8 +6,8 @@ use Rattle.clap.specs.Words.{App, Row, Text, fault_of, first_of, matches_of, tak
 use Rattle.pfs_base.specs.declared.limits.TheConstants.{MOST_BLOCKS, MOST_JOBS, MOST_MACHINES}
 use Rattle.pfs_layout.specs.declared.layout.Layout.{Layout}
 use Rattle.pfs_layout.specs.declared.layout.Layout.TheVariants.{Taillard, OrLib}
-use Rattle.pfs_desk.specs.declared.job.TheConstants.{MOST_ROUNDS}
-use Rattle.pfs_desk.specs.declared.job.SolveOptions.{SolveOptions}
+use Rattle.pfs_desk.specs.declared.solve_options.TheConstants.{MOST_ROUNDS}
+use Rattle.pfs_desk.specs.declared.solve_options.SolveOptions.{SolveOptions}
 use Rattle.pfs_desk.specs.declared.job.Job.{Job}
 use Rattle.pfs_desk.specs.declared.job.Job.TheVariants as job
 use Rattle.pfs_desk.specs.Commands.{AreLayoutNames, Names, value_form, solve_form, audit_form, convert_form, generate_form, form_of}

@@ -1,6 +1,7 @@
 //! What a command line asks for.
 ghost use Rattle.std.specs.Prelude.{◌≡◌, IfOk};
 
+use crate::solve_options::SolveOptions;
 use pfs_layout::Layout;
 use std::alloc::{AllocError, Global};
 use std::marker::Model;
@@ -33,22 +34,6 @@ impl PathText {
     {
         self.text.as_str()
     }
-}
-
-/// The greatest number of rounds of a search.
-pub const MOST_ROUNDS: u32 = 1_000_000;
-
-/// How `solve` searches, and what it prints.
-#[derive(Clone, Copy, Debug, PartialEq, Eq)]
-pub struct SolveOptions {
-    /// How many rounds follow the first order.
-    pub rounds: u32,
-    /// How many jobs a round takes out; where it is left out 4, or all jobs where there are fewer.
-    pub take: Option<usize>,
-    /// The seed of the words that the rounds draw.
-    pub seed: u64,
-    /// Whether the count of cells is printed too.
-    pub cells: bool,
 }
 
 /// What a command line asks for. Blocks count from 1.

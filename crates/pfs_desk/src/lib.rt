@@ -6,6 +6,7 @@ pub mod examples;
 pub mod fault;
 pub mod job;
 pub mod planning;
+pub mod solve_options;
 #[cfg(test)]
 mod tests;
 pub mod usage;
@@ -16,6 +17,7 @@ pub use engines::generate::run_generate;
 pub use engines::table::run_table;
 pub use engines::value::run_value;
 pub use fault::{DeskFault, Outcome, status, write_fault};
-pub use job::{Job, MOST_ROUNDS, PathText, SolveOptions};
+pub use job::{Job, PathText};
 pub use planning::plan;
+pub use solve_options::SolveOptions;
 pub use usage::UsageFault;

@@ -7,7 +7,8 @@ use self::commands::{
     audit_command, convert_command, generate_command, solve_command, value_command,
 };
 use self::values::{flag_in, layout_in, matches_for, number_in, number_in_if, path_in};
-use crate::job::{Job, SolveOptions};
+use crate::job::Job;
+use crate::solve_options::SolveOptions;
 use crate::usage::UsageFault;
 use pfs_layout::Layout;
 use std::alloc::Global;

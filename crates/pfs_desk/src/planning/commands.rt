@@ -5,7 +5,7 @@ ghost use Rattle.pfs_desk.specs.Commands.{flat_form, layout_rule, option_rule, b
 ghost use Rattle.pfs_desk.specs.Commands.{flag_rule, rounds_rule, take_rule, search_seed_rule, solve_form};
 ghost use Rattle.pfs_desk.specs.Commands.{value_form, audit_form, convert_form, generate_form};
 
-use crate::job::MOST_ROUNDS;
+use crate::solve_options::MOST_ROUNDS;
 use clap::builder::ValueParser;
 use clap::{Arg, ArgAction, Command};
 use pfs_base::{MOST_BLOCKS, MOST_JOBS, MOST_MACHINES};

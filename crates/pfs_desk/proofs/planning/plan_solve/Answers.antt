@@ -1,7 +1,7 @@
 use Rattle.std.proofs.Common.{arith, rules, ◌≡◌, Err, ap, codes, refl, subst}
 use Rattle.clap.specs.Words.{App}
 use Rattle.pfs_base.specs.declared.limits.TheConstants.{MOST_BLOCKS, MOST_JOBS}
-use Rattle.pfs_desk.specs.declared.job.TheConstants.{MOST_ROUNDS}
+use Rattle.pfs_desk.specs.declared.solve_options.TheConstants.{MOST_ROUNDS}
 use Rattle.pfs_desk.specs.declared.usage.UsageFault.TheVariants.{Usage}
 use Rattle.pfs_desk.specs.Commands.{AreLayoutNames, block_rule, path_rule, rounds_rule, search_seed_rule, solve_form, take_rule}
 use Rattle.pfs_desk.specs.Jobs.{SaysFlag, SaysLayout, SaysMaybeNumber, SaysNumber, SaysText}
