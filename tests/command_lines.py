@@ -5,6 +5,7 @@ TITLE = b"number of jobs, number of machines, initial seed, upper bound and lowe
 
 USAGE = b"""pfs: usage
 pfs value --layout L [--block K] FILE
+pfs solve --layout L [--block K] [--rounds R] [--take D] [--seed S] [--cells] FILE
 pfs check --layout L [--block K] FILE ORDER
 pfs table --layout L [--block K] FILE ORDER
 pfs convert --from L --to L [--block K] FILE
@@ -39,6 +40,8 @@ FILES = {
     "three.or": THREE_JOBS_BY_JOB,
     "two_blocks.or": b"+++\ninstance one 1\n+++\nfirst\n1 1\n0 7\n+++\nsecond\n3 2\n0 3 1 2\n0 2 1 5\n0 4 1 1\n+++\n",
     "notes": WITH_NOTES,
+    "ones": taillard(b"3 2 0 0 0", b"1 1 1", b"1 1 1"),
+    "one": taillard(b"1 1 0 0 0", b"0"),
     "empty": b"",
     "mixed": taillard(b"3 2 0 0 0", b"3 2 4", b"2 5x 1"),
     "extra": taillard(b"3 2 0 0 0", b"3 2 4", b"2 5 1 7"),
@@ -79,6 +82,26 @@ LINES = [
     ("value --layout taillard -- ", b"", b"pfs: cannot open\n", 4),
     ("value --layout taillard folder", b"", b"pfs: read failed\n", 4),
     ("value --layout taillard /dev/zero", b"", b"pfs: input too long\n", 2),
+    ("solve --layout taillard three", b"order 3\n2 1 3\nmakespan 10\n", b"", 0),
+    ("solve --layout orlib three.or", b"order 3\n2 1 3\nmakespan 10\n", b"", 0),
+    ("solve --layout taillard --cells three", b"order 3\n2 1 3\nmakespan 10\ncells 36\n", b"", 0),
+    ("solve --layout taillard --rounds 5 --take 2 --seed 7 --cells three",
+     b"order 3\n2 1 3\nmakespan 10\ncells 196\n", b"", 0),
+    ("solve three --layout=taillard --cells --rounds=5", b"order 3\n2 1 3\nmakespan 10\ncells 216\n", b"", 0),
+    ("solve --layout taillard --cells ones", b"order 3\n3 2 1\nmakespan 4\ncells 36\n", b"", 0),
+    ("solve --layout taillard --cells one", b"order 1\n1\nmakespan 0\ncells 2\n", b"", 0),
+    ("solve --layout taillard --take 4 three", b"", b"pfs: take 4 exceeds 3 jobs\n", 3),
+    ("solve --layout taillard --take 4 --rounds 5 three", b"", b"pfs: take 4 exceeds 3 jobs\n", 3),
+    ("solve --layout taillard --take 4 mixed", b"", b"pfs: mixed line at 118\n", 2),
+    ("solve --layout taillard missing", b"", b"pfs: cannot open\n", 4),
+    ("solve --layout taillard folder", b"", b"pfs: read failed\n", 4),
+    ("solve three", b"", USAGE, 3),
+    ("solve --layout x three", b"", USAGE, 3),
+    ("solve --layout taillard --take 0 three", b"", USAGE, 3),
+    ("solve --layout taillard --take 2001 three", b"", USAGE, 3),
+    ("solve --layout taillard --rounds 1000001 three", b"", USAGE, 3),
+    ("solve --layout taillard --block 1001 three", b"", USAGE, 3),
+    ("solve --layout taillard --cells --cells three", b"", USAGE, 3),
     ("check --layout taillard three best", b"valid\nmakespan 10\nbound 10\noptimal\n", b"", 0),
     ("check --layout orlib --block 2 two_blocks.or best", b"valid\nmakespan 10\nbound 10\noptimal\n", b"", 0),
     ("check --layout taillard three numbered", b"valid\nmakespan 11\nbound 10\n", b"", 0),
@@ -132,6 +155,7 @@ LINES = [
 
 # The lines that take memory, each of which is run with each growth refused in turn.
 GROWING = [
+    "solve --layout taillard --rounds 5 --take 2 --seed 7 --cells three",
     "value --layout orlib --block 2 two_blocks.or",
     "check --layout taillard three best",
     "table --layout taillard three best",

@@ -11,7 +11,7 @@ use crate::output::Counted;
 use pfs_base::{FromRead, Sink, ToWrite, WriteFault, put};
 use pfs_desk::{
     DeskFault, Job, Outcome, PathText, UsageFault, plan, run_check, run_convert, run_generate,
-    run_table, run_value, status, write_fault,
+    run_solve, run_table, run_value, status, write_fault,
 };
 use pfs_layout::Layout;
 use std::fs::File;
@@ -21,6 +21,7 @@ use std::{env, io};
 
 const USAGE: &[u8] = b"pfs: usage
 pfs value --layout L [--block K] FILE
+pfs solve --layout L [--block K] [--rounds R] [--take D] [--seed S] [--cells] FILE
 pfs check --layout L [--block K] FILE ORDER
 pfs table --layout L [--block K] FILE ORDER
 pfs convert --from L --to L [--block K] FILE
@@ -123,6 +124,15 @@ fn run_job<W: Sink>(rt: &HostRuntime, job: &Job, writer: &mut W) -> Result<Outco
             block,
             file,
         } => print_value(rt, *layout, *block, file, writer),
+        Job::Solve {
+            layout,
+            block,
+            options,
+            file,
+        } => {
+            let mut file = open(rt, file)?;
+            Ok(run_solve(rt.alloc(), &mut file, *layout, *block, options, writer)?)
+        }
         Job::Check {
             layout,
             block,

@@ -1,6 +1,6 @@
 -- What the readers of a job are given by a parse of a form.
-use Rattle.std.proofs.Common.{◌≡◌, ◌∙◌, ◌⊎◌, ◌≤◌, ◌||◌, ◌&&◌, ℕ, Bool, true, false, ap, arith, codes, inl, inr, List, [], ◌∷◌, Some, option_map, refl, subst, sym, unwrap_or}
-use Rattle.std.specs.Prelude.{slice_get}
+use Rattle.std.proofs.Common.{◌≡◌, ◌∙◌, ◌⊎◌, ◌≤◌, ◌||◌, ◌&&◌, ℕ, Bool, true, false, ap, arith, codes, inl, inr, List, [], ◌∷◌, Option, Some, None, option_map, refl, subst, sym, unwrap_or}
+use Rattle.std.specs.Prelude.{IfSome, slice_get}
 use Rattle.std.specs.Borrow.{Bor}
 use Rattle.std.specs.List.{list_any}
 use Rattle.std.specs.Str.{bytes_eq}
@@ -8,15 +8,15 @@ use Rattle.std.proofs.lemmas.Slice.Eq.{bytes_eq-Decides}
 use Rattle.clap.specs.Words.{App, Rule, Text, app_of, fault_of, first_of, found_of, is_simple_and_free, matches_of, rows_of, takes}
 use Rattle.clap.specs.Faults.{is_free_app}
 use Rattle.clap.specs.Simple.{built, is_simple}
-use Rattle.clap.specs.Values.{IsUnsignedIn, same_text}
+use Rattle.clap.specs.Values.{Accepts, IsUnsignedIn, same_text}
 use Rattle.clap.specs.Walk.{texts}
 use Rattle.clap.specs.declared.builder.command.Command.{Command}
 use Rattle.clap.specs.declared.builder.value_parser.ValueParser.TheVariants as parser
 use Rattle.clap.specs.declared.parser.matches.ArgMatches.{ArgMatches}
 use Rattle.clap.proofs.WalkLemmas.{both, list_any-map}
 use Rattle.pfs_desk.specs.Commands.{AreLayoutNames, Names, form_of, layout_rule}
-use Rattle.pfs_desk.specs.Jobs.{IsFaultlessLine, AsksFor, AsksForJob, AsksForNothing, SaysNumber, number_of, takes_line}
-use Rattle.pfs_desk.specs.Parses.{HasLayout, HasNumber, HasText, IsParseOf}
+use Rattle.pfs_desk.specs.Jobs.{IsFaultlessLine, AsksFor, AsksForJob, AsksForNothing, SaysMaybeNumber, SaysNumber, number_of, takes_line}
+use Rattle.pfs_desk.specs.Parses.{HasLayout, HasNumber, HasText, IsParseOf, MayHaveNumber}
 use Rattle.pfs_desk.specs.declared.job.Job.{Job}
 use Rattle.pfs_layout.specs.declared.layout.Layout.TheVariants.{Taillard, OrLib}
 use Rattle.pfs_desk.proofs.FormLemmas.{asks_value, form_has_value, form_passes, has_place}
@@ -95,6 +95,35 @@ module _ (command : Command) (form : App) (words : List Text) (m : ArgMatches) (
       let given = number_given k r least most at test parsed in
       let fits = given.2.1 in
       (given.0, given.1, (given.2.0, given.2.1, omega arith, omega arith))
+
+  passing_number : (k : ℕ) (r : Rule) (least most : ℕ) → slice_get form.top.rules k ≡ Some r → has_place form k r ≡ true
+      → r.parser ≡ Some (parser.Unsigned least most)
+      → (t : Text) → first_of r.id (rows_of (found_of m)) ≡ Some t → Accepts r.ignore_case (parser.Unsigned least most) t
+  passing_number k r least most at test parsed t said =
+      form_passes command m form k r is parse.facts at test t said (parser.Unsigned least most) parsed
+
+  pub number_if_given : (k : ℕ) (r : Rule) (least most : ℕ) → slice_get form.top.rules k ≡ Some r → has_place form k r ≡ true
+      → r.parser ≡ Some (parser.Unsigned least most) → MayHaveNumber m r.id
+  number_if_given k r least most at test parsed t said =
+      let passed = passing_number k r least most at test parsed t said in
+      let fits = passed.1 in
+      (passed.0, passed.1, omega arith, omega arith)
+
+  pub number_if_in_range : (k : ℕ) (r : Rule) (least most : ℕ) (o : Option ℕ) → slice_get form.top.rules k ≡ Some r → has_place form k r ≡ true
+      → r.parser ≡ Some (parser.Unsigned least most) → SaysMaybeNumber (rows_of (found_of m)) r.id o → IfSome o (λ n. (least ≤ n) × (n ≤ most))
+  number_if_in_range k r least most o at test parsed says =
+      go (first_of r.id (rows_of (found_of m))) o (passing_number k r least most at test parsed) says
+    where
+      go : (said : Option Text) (o : Option ℕ) → ((t : Text) → said ≡ Some t → Accepts r.ignore_case (parser.Unsigned least most) t)
+          → option_map number_of said ≡ o → IfSome o (λ n. (least ≤ n) × (n ≤ most))
+      go said None passes says = tt
+      go None (Some n) passes says = cc
+      go (Some t) (Some n) passes says =
+          let passed = passes t refl in
+          let is_n : number_of t ≡ n = ap (λ o. unwrap_or o n) says in
+          let low = passed.2 in
+          let high = passed.3 in
+          (omega arith, omega arith)
 
   pub number_in_range : (k : ℕ) (r : Rule) (least most n : ℕ) → slice_get form.top.rules k ≡ Some r → has_place form k r && asks_value r ≡ true
       → r.parser ≡ Some (parser.Unsigned least most) → SaysNumber (rows_of (found_of m)) r.id n → (least ≤ n) × (n ≤ most)

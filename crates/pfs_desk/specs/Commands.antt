@@ -4,9 +4,10 @@ use Rattle.std.specs.Borrow.{Bor}
 use Rattle.clap.specs.Words.{App, Rule, Text, new_rule}
 use Rattle.clap.specs.Simple.{new_shape}
 use Rattle.clap.specs.Walk.{texts}
-use Rattle.clap.specs.declared.builder.action.ArgAction.TheVariants.{Set}
+use Rattle.clap.specs.declared.builder.action.ArgAction.TheVariants.{Set, SetTrue}
 use Rattle.clap.specs.declared.builder.value_parser.ValueParser.TheVariants as parser
 use Rattle.pfs_base.specs.declared.limits.TheConstants.{MOST_BLOCKS, MOST_JOBS, MOST_MACHINES}
+use Rattle.pfs_desk.specs.declared.solve_options.TheConstants.{MOST_ROUNDS}
 
 -- these arguments, and no program's name before them; no subcommands, and no groups
 abbrev pub flat_form : Text → List Rule → App
@@ -41,6 +42,10 @@ option_rule id least most left_out = record (new_rule id) {
 abbrev pub block_rule : Rule
 block_rule = option_rule (codes "block") 1 MOST_BLOCKS (codes "1" ∷ [])
 
+-- `[--ID]`
+abbrev pub flag_rule : Text → Rule
+flag_rule id = record (new_rule id) { long = Some id; action = Some SetTrue }
+
 -- a path, by its place
 abbrev pub path_rule : Text → Rule
 path_rule id = record (new_rule id) { action = Some Set; required = true }
@@ -56,6 +61,23 @@ number_rule id least most = record (new_rule id) {
 -- `--layout L [--block K] FILE`
 abbrev pub value_form : Names → App
 value_form names = flat_form (codes "value") (layout_rule names (codes "layout") ∷ block_rule ∷ path_rule (codes "file") ∷ [])
+
+-- `[--rounds R]`, 0 where it is left out
+abbrev pub rounds_rule : Rule
+rounds_rule = option_rule (codes "rounds") 0 MOST_ROUNDS (codes "0" ∷ [])
+
+-- `[--take D]`
+abbrev pub take_rule : Rule
+take_rule = option_rule (codes "take") 1 MOST_JOBS []
+
+-- `[--seed S]`, any number of 64 bits, and 0 where it is left out
+abbrev pub search_seed_rule : Rule
+search_seed_rule = option_rule (codes "seed") 0 18446744073709551615 (codes "0" ∷ [])
+
+-- `--layout L [--block K] [--rounds R] [--take D] [--seed S] [--cells] FILE`
+abbrev pub solve_form : Names → App
+solve_form names = flat_form (codes "solve") (layout_rule names (codes "layout") ∷ block_rule ∷ rounds_rule ∷ take_rule ∷ search_seed_rule
+    ∷ flag_rule (codes "cells") ∷ path_rule (codes "file") ∷ [])
 
 -- `--layout L [--block K] FILE ORDER`
 abbrev pub audit_form : Text → Names → App
@@ -76,8 +98,9 @@ generate_form = flat_form (codes "generate") (number_rule (codes "jobs") 1 MOST_
 -- the form of the command that a word names
 abbrev pub form_of : Names → Text → Option App
 form_of names word = if bytes_eq word (codes "value") then Some (value_form names)
+    else (if bytes_eq word (codes "solve") then Some (solve_form names)
     else (if bytes_eq word (codes "check") then Some (audit_form (codes "check") names)
     else (if bytes_eq word (codes "table") then Some (audit_form (codes "table") names)
     else (if bytes_eq word (codes "convert") then Some (convert_form names)
     else (if bytes_eq word (codes "generate") then Some generate_form
-    else None))))
+    else None)))))

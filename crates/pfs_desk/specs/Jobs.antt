@@ -1,14 +1,16 @@
 -- What a command line asks for: a word that names a command, and other words.
-use Rattle.std.specs.Prelude.{◌≡◌, ◌≤◌, ℕ, Bool, false, List, [], Some, None, codes, option_map}
+use Rattle.std.specs.Prelude.{◌≡◌, ◌≤◌, ◌↔◌, IsTrue, IfSome, ℕ, Bool, false, List, [], Option, Some, None, codes, option_map}
 use Rattle.std.specs.Option.{option_map_or}
 use Rattle.std.specs.Str.Parse.{digits_value, without_leading_plus}
 use Rattle.clap.specs.Words.{App, Row, Text, fault_of, first_of, matches_of, takes}
 use Rattle.pfs_base.specs.declared.limits.TheConstants.{MOST_BLOCKS, MOST_JOBS, MOST_MACHINES}
 use Rattle.pfs_layout.specs.declared.layout.Layout.{Layout}
 use Rattle.pfs_layout.specs.declared.layout.Layout.TheVariants.{Taillard, OrLib}
+use Rattle.pfs_desk.specs.declared.solve_options.TheConstants.{MOST_ROUNDS}
+use Rattle.pfs_desk.specs.declared.solve_options.SolveOptions.{SolveOptions}
 use Rattle.pfs_desk.specs.declared.job.Job.{Job}
 use Rattle.pfs_desk.specs.declared.job.Job.TheVariants as job
-use Rattle.pfs_desk.specs.Commands.{AreLayoutNames, Names, value_form, audit_form, convert_form, generate_form, form_of}
+use Rattle.pfs_desk.specs.Commands.{AreLayoutNames, Names, value_form, solve_form, audit_form, convert_form, generate_form, form_of}
 
 abbrev pub layout_name : Layout → Text
 layout_name Taillard = codes "taillard"
@@ -25,6 +27,14 @@ SaysLayout rows id layout = first_of id rows ≡ Some (layout_name layout)
 abbrev pub SaysNumber : List Row → Text → ℕ → Type 0
 SaysNumber rows id number = option_map number_of (first_of id rows) ≡ Some number
 
+-- the same number, or none on either side
+abbrev pub SaysMaybeNumber : List Row → Text → Option ℕ → Type 0
+SaysMaybeNumber rows id number = option_map number_of (first_of id rows) ≡ number
+
+-- a flag that was used has the value `true`
+abbrev pub SaysFlag : List Row → Text → Bool → Type 0
+SaysFlag rows id flag = IsTrue flag ↔ (first_of id rows ≡ Some (codes "true"))
+
 abbrev pub SaysText : List Row → Text → Text → Type 0
 SaysText rows id text = first_of id rows ≡ Some text
 
@@ -38,6 +48,16 @@ pub record AsksForValue (names : Names) (words : List Text) (layout : Layout) (b
   pub layout_said : SaysLayout (matches_of (value_form names) words) (codes "layout") layout
   pub block_said : SaysNumber (matches_of (value_form names) words) (codes "block") block
   pub file_said : SaysText (matches_of (value_form names) words) (codes "file") file
+
+pub record AsksForSolve (names : Names) (words : List Text) (layout : Layout) (block : ℕ) (options : SolveOptions) (file : Text) : Type 0 where
+  pub faultless : IsFaultless (solve_form names) words
+  pub layout_said : SaysLayout (matches_of (solve_form names) words) (codes "layout") layout
+  pub block_said : SaysNumber (matches_of (solve_form names) words) (codes "block") block
+  pub rounds_said : SaysNumber (matches_of (solve_form names) words) (codes "rounds") options.rounds
+  pub take_said : SaysMaybeNumber (matches_of (solve_form names) words) (codes "take") options.take
+  pub seed_said : SaysNumber (matches_of (solve_form names) words) (codes "seed") options.seed
+  pub cells_said : SaysFlag (matches_of (solve_form names) words) (codes "cells") options.cells
+  pub file_said : SaysText (matches_of (solve_form names) words) (codes "file") file
 
 -- the same of a command with an order file
 pub record AsksForAudit (name : Text) (names : Names) (words : List Text) (layout : Layout) (block : ℕ) (file order_file : Text) : Type 0 where
@@ -64,6 +84,7 @@ pub record AsksForGenerate (words : List Text) (jobs machines seed : ℕ) : Type
 abbrev pub AsksForJob : Names → Text → List Text → Job → Type 0
 AsksForJob names word words (job.Value layout block None) = ⊥
 AsksForJob names word words (job.Value layout block (Some file)) = (word ≡ codes "value") × AsksForValue names words layout block file
+AsksForJob names word words (job.Solve layout block options file) = (word ≡ codes "solve") × AsksForSolve names words layout block options file
 AsksForJob names word words (job.Check layout block file order_file) = (word ≡ codes "check") × AsksForAudit (codes "check") names words layout block file order_file
 AsksForJob names word words (job.Table layout block file order_file) = (word ≡ codes "table") × AsksForAudit (codes "table") names words layout block file order_file
 AsksForJob names word words (job.Convert source target block file) = (word ≡ codes "convert") × AsksForConvert names words source target block file
@@ -75,6 +96,7 @@ IsFrom1To most number = (1 ≤ number) × (number ≤ most)
 -- a job's numbers are within the limits; a generator's seed may be out of its own
 abbrev pub IsWithinLimits : Job → Type 0
 IsWithinLimits (job.Value layout block file) = IsFrom1To MOST_BLOCKS block
+IsWithinLimits (job.Solve layout block options file) = IsFrom1To MOST_BLOCKS block × (options.rounds ≤ MOST_ROUNDS) × IfSome options.take (IsFrom1To MOST_JOBS)
 IsWithinLimits (job.Check layout block file order_file) = IsFrom1To MOST_BLOCKS block
 IsWithinLimits (job.Table layout block file order_file) = IsFrom1To MOST_BLOCKS block
 IsWithinLimits (job.Convert source target block file) = IsFrom1To MOST_BLOCKS block

@@ -24,3 +24,7 @@ HasLayout matches id = (layout : Layout) × SaysLayout (rows_of (found_of matche
 
 abbrev pub HasNumber : ArgMatches → Text → Type 0
 HasNumber matches id = (text : Text) × (first_of id (rows_of (found_of matches)) ≡ Some text) × IsUnsignedIn 0 18446744073709551615 text
+
+-- a number of 64 bits, if anything stands under the id
+abbrev pub MayHaveNumber : ArgMatches → Text → Type 0
+MayHaveNumber matches id = (text : Text) → first_of id (rows_of (found_of matches)) ≡ Some text → IsUnsignedIn 0 18446744073709551615 text

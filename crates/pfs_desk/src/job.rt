@@ -1,6 +1,7 @@
 //! What a command line asks for.
 ghost use Rattle.std.specs.Prelude.{◌≡◌, IfOk};
 
+use crate::solve_options::SolveOptions;
 use pfs_layout::Layout;
 use std::alloc::{AllocError, Global};
 use std::marker::Model;
@@ -44,6 +45,13 @@ pub enum Job {
         block: usize,
         /// Standard input where there is none.
         file: Option<PathText>,
+    },
+    /// An order of the search.
+    Solve {
+        layout: Layout,
+        block: usize,
+        options: SolveOptions,
+        file: PathText,
     },
     /// The verdict on an order file.
     Check {

@@ -3,9 +3,12 @@ ghost use Rattle.std.specs.Prelude.{◌≡◌, [], ◌∷◌, None, List, IfOk, 
 ghost use Rattle.clap.specs.Words.{Text};
 ghost use Rattle.pfs_desk.specs.Jobs.{AsksFor, AsksForNothing, IsWithinLimits};
 
-use self::commands::{audit_command, convert_command, generate_command, value_command};
-use self::values::{layout_in, matches_for, number_in, path_in};
+use self::commands::{
+    audit_command, convert_command, generate_command, solve_command, value_command,
+};
+use self::values::{flag_in, layout_in, matches_for, number_in, number_in_if, path_in};
 use crate::job::Job;
+use crate::solve_options::SolveOptions;
 use crate::usage::UsageFault;
 use pfs_layout::Layout;
 use std::alloc::Global;
@@ -37,6 +40,7 @@ pub fn plan(alloc: Global, words: &[String]) -> Result<Job, UsageFault>
     };
     match name.as_str() {
         "value" => plan_value(alloc, rest),
+        "solve" => plan_solve(alloc, rest),
         "check" => plan_check(alloc, rest),
         "table" => plan_table(alloc, rest),
         "convert" => plan_convert(alloc, rest),
@@ -56,6 +60,27 @@ fn plan_value(alloc: Global, words: &[String]) -> Result<Job, UsageFault>
         layout: layout_in(&matches, "layout"),
         block: number_in(&matches, "block") as usize,
         file: Some(path_in(alloc, &matches, "file")?),
+    })
+}
+
+fn plan_solve(alloc: Global, words: &[String]) -> Result<Job, UsageFault>
+    ensures ok { IfOk result (AsksFor (codes "solve") (map string_bytes words.now)) }
+    ensures within { IfOk result IsWithinLimits }
+    ensures usage { result ≡ Err UsageFault.Usage
+        → AsksForNothing (codes "solve") (map string_bytes words.now) }
+{
+    let matches = matches_for(solve_command(alloc, LAYOUT_NAMES.as_slice())?, words)?;
+    let options = SolveOptions {
+        rounds: number_in(&matches, "rounds") as u32,
+        take: number_in_if(&matches, "take"),
+        seed: number_in(&matches, "seed"),
+        cells: flag_in(&matches, "cells"),
+    };
+    Ok(Job::Solve {
+        layout: layout_in(&matches, "layout"),
+        block: number_in(&matches, "block") as usize,
+        options,
+        file: path_in(alloc, &matches, "file")?,
     })
 }
 

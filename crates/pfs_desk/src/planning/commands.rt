@@ -2,8 +2,10 @@
 ghost use Rattle.std.specs.Prelude.{◌≡◌, [], ◌∷◌, IfOk, codes, false};
 ghost use Rattle.clap.specs.Words.{app_of, rule_of};
 ghost use Rattle.pfs_desk.specs.Commands.{flat_form, layout_rule, option_rule, block_rule, path_rule, number_rule};
+ghost use Rattle.pfs_desk.specs.Commands.{flag_rule, rounds_rule, take_rule, search_seed_rule, solve_form};
 ghost use Rattle.pfs_desk.specs.Commands.{value_form, audit_form, convert_form, generate_form};
 
+use crate::solve_options::MOST_ROUNDS;
 use clap::builder::ValueParser;
 use clap::{Arg, ArgAction, Command};
 use pfs_base::{MOST_BLOCKS, MOST_JOBS, MOST_MACHINES};
@@ -27,16 +29,23 @@ fn layout_arg<'a>(alloc: Global, id: &'a str, names: &'a [&'a str]) -> Arg<'a>
         .value_parser(names)
 }
 
-// `--ID N`, with the number that it has where it is left out.
-fn default_arg<'a>(alloc: Global, id: &'a str, least: u64, most: u64, value: &'a str) -> Arg<'a>
-    ensures rule { rule_of result ≡ option_rule id.entry.now least most (value.entry.now ∷ []) }
+// `--ID N`.
+fn option_arg<'a>(alloc: Global, id: &'a str, least: u64, most: u64) -> Arg<'a>
+    ensures rule { rule_of result ≡ option_rule id.entry.now least most [] }
     ensures local { result.global ≡ false }
 {
     Arg::new(alloc, id)
         .long(id)
         .action(ArgAction::Set)
         .value_parser(ValueParser::unsigned(least, most))
-        .default_value(value)
+}
+
+// The same, with the number that it has where it is left out.
+fn default_arg<'a>(alloc: Global, id: &'a str, least: u64, most: u64, value: &'a str) -> Arg<'a>
+    ensures rule { rule_of result ≡ option_rule id.entry.now least most (value.entry.now ∷ []) }
+    ensures local { result.global ≡ false }
+{
+    option_arg(alloc, id, least, most).default_value(value)
 }
 
 // `--block K`.
@@ -45,6 +54,14 @@ fn block_arg<'a>(alloc: Global) -> Arg<'a>
     ensures local { result.global ≡ false }
 {
     default_arg(alloc, "block", 1, MOST_BLOCKS as u64, "1")
+}
+
+// `--ID`.
+fn flag_arg<'a>(alloc: Global, id: &'a str) -> Arg<'a>
+    ensures rule { rule_of result ≡ flag_rule id.entry.now }
+    ensures local { result.global ≡ false }
+{
+    Arg::new(alloc, id).long(id).action(ArgAction::SetTrue)
 }
 
 // A path, by its place.
@@ -88,6 +105,30 @@ pub(super) fn value_command<'a>(
     ensures { IfOk result (λ command. app_of command ≡ value_form names.entry) }
 {
     layout_command(alloc, "value", names)?.arg(path_arg(alloc, "file"))
+}
+
+// What stands before the flag of `solve`.
+fn search_command<'a>(alloc: Global, names: &'a [&'a str]) -> Result<Command<'a>, AllocError>
+    ensures { IfOk result (λ command. app_of command ≡ flat_form (codes "solve")
+        (layout_rule names.entry (codes "layout") ∷ block_rule ∷ rounds_rule ∷ take_rule
+        ∷ search_seed_rule ∷ [])) }
+{
+    layout_command(alloc, "solve", names)?
+        .arg(default_arg(alloc, "rounds", 0, MOST_ROUNDS as u64, "0"))?
+        .arg(option_arg(alloc, "take", 1, MOST_JOBS as u64))?
+        .arg(default_arg(alloc, "seed", 0, u64::MAX, "0"))
+}
+
+/// The form of `solve`.
+pub(super) fn solve_command<'a>(
+    alloc: Global,
+    names: &'a [&'a str],
+) -> Result<Command<'a>, AllocError>
+    ensures { IfOk result (λ command. app_of command ≡ solve_form names.entry) }
+{
+    search_command(alloc, names)?
+        .arg(flag_arg(alloc, "cells"))?
+        .arg(path_arg(alloc, "file"))
 }
 
 /// The form of a command with an order file, which has this name.

@@ -1,4 +1,4 @@
-use crate::{Job, UsageFault, plan};
+use crate::{Job, SolveOptions, UsageFault, plan};
 use pfs_layout::Layout;
 use std::alloc::{AllocError, Global};
 use std::process::Abort;
@@ -33,6 +33,25 @@ fn told(alloc: Global, job: &Job) -> Result<String, AllocError> {
             block,
             file: Some(file),
         } => format!(in alloc; "value|{}|{block}|{}", name_of(*layout), file.as_str()),
+        Job::Solve {
+            layout,
+            block,
+            options,
+            file,
+        } => {
+            let SolveOptions {
+                rounds,
+                take,
+                seed,
+                cells,
+            } = *options;
+            let take = take.unwrap_or(0);
+            format!(in alloc;
+                "solve|{}|{block}|{rounds}|{take}|{seed}|{cells}|{}",
+                name_of(*layout),
+                file.as_str()
+            )
+        }
         Job::Check {
             layout,
             block,
@@ -111,6 +130,15 @@ fn each_command_is_planned(rt: HostRuntime) -> Result<(), Fail> {
     let lines = [
         ("value|--layout|taillard|f", "value|T|1|f"),
         ("value|--layout|orlib|--block|1000|f", "value|O|1000|f"),
+        ("solve|--layout|taillard|f", "solve|T|1|0|0|0|false|f"),
+        (
+            "solve|--layout|orlib|--take|2000|f",
+            "solve|O|1|0|2000|0|false|f",
+        ),
+        (
+            "solve|--layout|orlib|--block|2|--rounds|1000000|--take|1|--seed|18446744073709551615|--cells|f",
+            "solve|O|2|1000000|1|18446744073709551615|true|f",
+        ),
         ("check|--layout|orlib|--block|2|f|o", "check|O|2|f|o"),
         ("table|--layout|taillard|f|o", "table|T|1|f|o"),
         ("convert|--from|taillard|--to|orlib|f", "convert|TO|1|f"),
@@ -141,6 +169,11 @@ fn odd_forms_are_planned(rt: HostRuntime) -> Result<(), Fail> {
         ("value|--layout|orlib|--|f", "value|O|1|f"),
         ("value|--layout|orlib|--|--block", "value|O|1|--block"),
         ("table|--layout|orlib|--|f|--", "table|O|1|f|--"),
+        ("solve|f|--cells|--layout|orlib", "solve|O|1|0|0|0|true|f"),
+        (
+            "solve|--layout|orlib|f|--take=3|--cells",
+            "solve|O|1|0|3|0|true|f",
+        ),
         ("generate|--|1|1|1", "generate|1|1|1"),
         ("generate|1|1|1|--", "generate|1|1|1"),
         ("value|--layout|orlib|", "value|O|1|"),
@@ -189,6 +222,21 @@ fn other_lines_are_refused(rt: HostRuntime) -> Result<(), Fail> {
         "value|--help",
         "value|--version",
         "value|--layout|orlib|-x",
+        "solve|f",
+        "solve|--layout|x|f",
+        "solve|--layout|orlib|--block|1001|f",
+        "solve|--layout|orlib|--rounds|1000001|f",
+        "solve|--layout|orlib|--rounds=-0|f",
+        "solve|--layout|orlib|--take|0|f",
+        "solve|--layout|orlib|--take|2001|f",
+        "solve|--layout|orlib|--take|3|--take|3|f",
+        "solve|--layout|orlib|--seed|18446744073709551616|f",
+        "solve|--layout|orlib|--seed|0x1|f",
+        "solve|--layout|orlib|--cells|--cells|f",
+        "solve|--layout|orlib|--cells=true|f",
+        "solve|--layout|orlib|--cells|true|f",
+        "solve|--layout|orlib|--passes|1|f",
+        "solve|--layout|orlib",
         "check|--layout|orlib|f",
         "table|--layout|orlib|f|o|p",
         "convert|--from|orlib|f",

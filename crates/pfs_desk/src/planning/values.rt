@@ -1,8 +1,8 @@
 //! The values that clap's reading of the words gives.
 ghost use Rattle.std.specs.Prelude.{◌≡◌, [], IfOk, false, true, map, option_map, string_bytes};
 ghost use Rattle.clap.specs.Words.{app_of, fault_of, first_of, found_of, is_simple_and_free, rows_of, takes};
-ghost use Rattle.pfs_desk.specs.Jobs.{SaysLayout, SaysNumber, SaysText};
-ghost use Rattle.pfs_desk.specs.Parses.{HasLayout, HasNumber, HasText, IsParseOf};
+ghost use Rattle.pfs_desk.specs.Jobs.{SaysFlag, SaysLayout, SaysMaybeNumber, SaysNumber, SaysText};
+ghost use Rattle.pfs_desk.specs.Parses.{HasLayout, HasNumber, HasText, IsParseOf, MayHaveNumber};
 
 use crate::job::PathText;
 use crate::usage::UsageFault;
@@ -56,6 +56,24 @@ pub(super) fn number_in(matches: &ArgMatches<'_>, id: &str) -> u64
     ensures { SaysNumber (rows_of (found_of matches.now)) id.now result }
 {
     text_in(matches, id).parse().unwrap()
+}
+
+/// The number of an argument, where it has one.
+pub(super) fn number_in_if(matches: &ArgMatches<'_>, id: &str) -> Option<usize>
+    requires { MayHaveNumber matches.now id.now }
+    ensures { SaysMaybeNumber (rows_of (found_of matches.now)) id.now result }
+{
+    match text_if(matches, id) {
+        Some(text) => Some(text.parse().unwrap()),
+        None => None,
+    }
+}
+
+/// Whether a flag is there.
+pub(super) fn flag_in(matches: &ArgMatches<'_>, id: &str) -> bool
+    ensures { SaysFlag (rows_of (found_of matches.now)) id.now result }
+{
+    text_if(matches, id) == Some("true")
 }
 
 /// The path of an argument.
