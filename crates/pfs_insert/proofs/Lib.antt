@@ -1,4 +1,3 @@
-pub mod Costs
 pub mod Exchange
 pub mod FirstLeast
 pub mod FlatRows

@@ -6,28 +6,33 @@ ghost use Rattle.pfs_insert.specs.Rows.{AreNumbers, AreNumbersFrom};
 
 use crate::fault::InsertFault;
 use crate::inserter::{Inserter, Placed};
-use crate::rows::{fill_head_and_join, fill_tail, fill_two_tails, join_rows};
+use crate::rows::{fill_head_and_join, fill_tail, fill_two_tails, join_inserted};
 use pfs_base::{Bench, Length};
 use pfs_order::Seq;
 use std::alloc::{AllocError, Global};
-use std::marker::Model;
+use std::marker::{Model, PhantomData};
 
 /// An inserter that computes heads and tails of the sequence without the job, and from them the makespan
 /// with the job at each place. One insertion counts (4k - 2)·m cells, where k jobs stand in the order with
 /// the inserted one, on m machines. It reserves its memory when it is made, so `best` takes none.
-///
-/// The table has 2n + 1 rows of m lengths, for n jobs: a row of zeros, n - 1 rows of heads, n - 1 rows of
-/// tails, a row of zeros, and the inserted row. The heads of a sequence begin behind the first row, and
-/// its tails end before the second row of zeros. Each loop over a row borrows two parts of the table, one
-/// of them for writing, and no row is copied.
 #[derive(Drop)]
 pub struct HeadsTails<B: Bench> {
-    jobs: usize,
-    machines: usize,
-    table: Vec<B::Span>,
+    table: Table<B::Span>,
+    bench: PhantomData<B>,
 }
 
-impl<B: Bench> Model for HeadsTails<B> {
+/// A table of 2n + 1 rows of m lengths, for n jobs on m machines: a row of zeros, n - 1 rows of heads,
+/// n - 1 rows of tails, a row of zeros, and the inserted row. The heads of a sequence begin behind the
+/// first row, and its tails end before the second row of zeros. Each loop over a row borrows two parts of
+/// the table, one of them for writing, and no row is copied.
+#[derive(Drop)]
+struct Table<S: Length> {
+    jobs: usize,
+    machines: usize,
+    lengths: Vec<S>,
+}
+
+impl<S: Length> Model for Table<S> {
     ghost use Rattle.std.specs.Prelude.{◌≡◌, ◌+◌, ◌-◌, ◌*◌, vec_len};
     ghost use Rattle.pfs_insert.specs.Rows.{Sizes, AreNumbers, AreNumbersFrom};
 
@@ -36,9 +41,9 @@ impl<B: Bench> Model for HeadsTails<B> {
     ghost view = { λ a. record { jobs = a.jobs; machines = a.machines } };
 
     ghost invariant = { λ a. record {
-      size : vec_len a.table ≡ (2 * a.jobs + 1) * a.machines;
-      no_head : AreNumbers B.Span.number a.table.items a.machines (λ machine. 0);
-      no_tail : AreNumbersFrom B.Span.number a.table.items ((2 * a.jobs - 1) * a.machines) a.machines (λ machine. 0);
+      size : vec_len a.lengths ≡ (2 * a.jobs + 1) * a.machines;
+      no_head : AreNumbers S.number a.lengths.items a.machines (λ machine. 0);
+      no_tail : AreNumbersFrom S.number a.lengths.items ((2 * a.jobs - 1) * a.machines) a.machines (λ machine. 0);
     } };
 }
 
@@ -50,27 +55,30 @@ impl<B: Bench> HeadsTails<B> {
     {
         let jobs = bench.jobs();
         let machines = bench.machines();
-        let lengths = (2 * jobs + 1) * machines;
-        let mut table = match Vec::with_capacity(alloc, lengths) {
-            Ok(table) => table,
+        let size = (2 * jobs + 1) * machines;
+        let mut lengths = match Vec::with_capacity(alloc, size) {
+            Ok(lengths) => lengths,
             Err(AllocError) => return Err(InsertFault::Memory),
         };
-        match table.resize(lengths, bench.zero()) {
+        match lengths.resize(size, bench.zero()) {
             Ok(()) => {}
             Err(AllocError) => return Err(InsertFault::Memory),
         }
         Ok(HeadsTails {
-            jobs,
-            machines,
-            table,
+            table: Table {
+                jobs,
+                machines,
+                lengths,
+            },
+            bench: PhantomData,
         })
     }
 }
 
 impl<B: Bench> Inserter<B> for HeadsTails<B> {
-    ghost jobs = { λ a. a.jobs };
+    ghost jobs = { λ a. a.table.jobs };
 
-    ghost machines = { λ a. a.machines };
+    ghost machines = { λ a. a.table.machines };
 
     ghost cost = { heads_tails_cost };
 
@@ -83,7 +91,7 @@ impl<B: Bench> Inserter<B> for HeadsTails<B> {
         seq: &Seq,
         job: usize,
     ) -> Result<Placed<B::Span>, InsertFault> {
-        Ok(best_in_table(bench, seq, job, &mut self.table))
+        Ok(best_in_table(bench, seq, job, &mut self.table.lengths))
     }
 }
 
@@ -198,7 +206,7 @@ fn best_by_rows<B: Bench>(
             best = Placed { place, span };
         }
     }
-    let span = join_rows(
+    let span = join_inserted(
         bench,
         job,
         &heads[len * machines..(len + 1) * machines],

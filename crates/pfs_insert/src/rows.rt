@@ -117,7 +117,7 @@ pub(crate) fn fill_head_and_join<B: Bench>(
 /// The greatest sum, over the machines, of the inserted job's row, which begins from a row of heads, and
 /// a row of tails.
 #[inline(always)]
-pub(crate) fn join_rows<B: Bench>(
+pub(crate) fn join_inserted<B: Bench>(
     bench: &mut B,
     job: usize,
     above: &[B::Span],

@@ -1,19 +1,18 @@
-use Rattle.std.proofs.Common.{◌≡◌, ℕ, ◌+◌, ◌-◌, ◌*◌, ◌<◌, ◌≤◌, List, length, take, drop, get_or, refl, ap, sym, subst, add-one, ◌∙◌, arith}
+use Rattle.std.proofs.Common.{◌≡◌, ℕ, ◌+◌, ◌-◌, ◌*◌, ◌<◌, ◌≤◌, length, take, drop, get_or, refl, ap, sym, subst, add-one, ◌∙◌, arith}
 use Rattle.std.proofs.lemmas.List.{length-take-le, length-drop}
-use Rattle.pfs_base.specs.declared.limits.TheConstants.{MOST_JOBS, MOST_MACHINES, LONGEST_TIME}
 use Rattle.pfs_base.specs.FlowShop.{FlowShop, time_of}
 use Rattle.pfs_base.specs.Paths.{operation}
 use Rattle.pfs_base.proofs.Heads.{head}
 use Rattle.pfs_insert.specs.declared.inserter.Placed.{Placed}
 use Rattle.pfs_insert.specs.Exchange.{heaviest_back}
-use Rattle.pfs_insert.specs.Insertion.{IsFirstLeast, best_place, makespan_with}
+use Rattle.pfs_insert.specs.Insertion.{IsFirstLeast, makespan_with}
 use Rattle.pfs_insert.specs.Rows.{next_row, greatest_sum, AreNumbers, AreNumbersFrom}
 use Rattle.pfs_insert.proofs.FirstLeast.{first_least_is, first_least_start, first_least_keeps, first_least_takes}
 use Rattle.pfs_insert.proofs.FlatRows.{row_le, row_split, part_told, heads_more, get_of_part}
 use Rattle.pfs_insert.proofs.RowSteps.{less, not_less, next_row_same}
 use Rattle.pfs_insert.proofs.TailRows.{tails_short, heads_short, span_value, next_row_heads}
 use Rattle.pfs_insert.proofs.heads_tails.best_by_rows.Given.{Over}
-use Rattle.pfs_insert.proofs.heads_tails.best_by_rows.Goals.{After-at, After-fill_head_and_join-span, After-join_rows-span, then-place-eq0, then-place-eq0-via-then-place-eq0, then-place-eq0-via-else-place-eq0+then-lt, else-place-eq0+else-lt, then-len-eq0-via-then-len-eq0, then-len-eq0-via-else-len-eq0+then-lt-2}
+use Rattle.pfs_insert.proofs.heads_tails.best_by_rows.Goals.{After-at, After-fill_head_and_join-span, After-join_inserted-span, then-place-eq0, then-place-eq0-via-then-place-eq0, then-place-eq0-via-else-place-eq0+then-lt, else-place-eq0+else-lt, then-len-eq0-via-then-len-eq0, then-len-eq0-via-else-len-eq0+then-lt-2}
 use Rattle.pfs_insert.proofs.heads_tails.best_by_rows.Goals as goal
 
 -- the rows above a place and beside it
@@ -157,8 +156,8 @@ returns-then-len-eq0-clause-no_head g c = λ machine d lt.
     let at : machine ≡ 0 * (g.B.Bench.shop c.args.bench.now).machines + machine = omega arith in
     ap (λ i. g.B.Span.Length.number (get_or c.loop-place.heads i d)) at ∙ c.loop-place.invariant.heads 0 (omega arith) machine d lt
 
-pub join_rows-span-requires-clause-above_short : goal.join_rows-span-requires-clause-above_short
-join_rows-span-requires-clause-above_short g c = λ machine d lt.
+pub join_inserted-span-requires-clause-above_short : goal.join_inserted-span-requires-clause-above_short
+join_inserted-span-requires-clause-above_short g c = λ machine d lt.
     let shop = g.B.Bench.shop c.args.bench.now in
     let jobs = c.args.seq.now.jobs in
     let len = c.len-len.result in
@@ -172,8 +171,8 @@ join_rows-span-requires-clause-above_short g c = λ machine d lt.
     omega arith
 
 -- the makespan with the job behind all others
-last_told : (g : Over) (c : After-join_rows-span g) →
-    g.B.Span.Length.number c.join_rows-span.result ≡ makespan_with (g.B.Bench.shop c.args.bench.now) c.args.seq.now.jobs c.args.job (length c.args.seq.now.jobs)
+last_told : (g : Over) (c : After-join_inserted-span g) →
+    g.B.Span.Length.number c.join_inserted-span.result ≡ makespan_with (g.B.Bench.shop c.args.bench.now) c.args.seq.now.jobs c.args.job (length c.args.seq.now.jobs)
 last_told g c =
     let number = g.B.Span.Length.number in
     let shop = g.B.Bench.shop c.args.bench.now in
@@ -190,14 +189,14 @@ last_told g c =
     let all : len ≤ c.loop-place.place = c.loop-place-test.false in
     let one = row_split (len + 1) len 1 width refl in
     let next = row_split (row + 1) row 1 width refl in
-    span_value number shop jobs c.args.job (length jobs) above tail c.join_rows-span.result (g.met.B.Bench.within c.args.bench.now).sizes.some_machine (omega arith)
+    span_value number shop jobs c.args.job (length jobs) above tail c.join_inserted-span.result (g.met.B.Bench.within c.args.bench.now).sizes.some_machine (omega arith)
     (part_told number c.loop-place.heads len (length jobs) width shop.machines ((len + 1) * width - len * width) _ every c.machines-machines.ensures (omega arith) (c.loop-place.invariant.heads (length jobs) (omega arith)))
     (part_told number c.args.tails.now row (shop.jobs - 1 - length jobs + length jobs) width shop.machines ((row + 1) * width - row * width) _ (omega arith) c.machines-machines.ensures (omega arith) (c.requires.backs (length jobs) (omega arith)))
-    (subst (λ (s : FlowShop). (heads tails : ℕ → ℕ) → AreNumbers number above s.machines heads → AreNumbers number tail s.machines tails → number c.join_rows-span.result ≡ greatest_sum s.machines (next_row (time_of s c.args.job) heads) tails) c.loop-place.invariant.same_shop c.join_rows-span.ensures.most)
+    (subst (λ (s : FlowShop). (heads tails : ℕ → ℕ) → AreNumbers number above s.machines heads → AreNumbers number tail s.machines tails → number c.join_inserted-span.result ≡ greatest_sum s.machines (next_row (time_of s c.args.job) heads) tails) c.loop-place.invariant.same_shop c.join_inserted-span.ensures.most)
 
 pub returns-then-len-eq0-clause-span : goal.returns-then-len-eq0-clause-span
 returns-then-len-eq0-clause-span g c =
-    last_told g (goal.at.returns-then-len-eq0-clause-span g c).After-join_rows-span
+    last_told g (goal.at.returns-then-len-eq0-clause-span g c).After-join_inserted-span
     ∙ ap (makespan_with (g.B.Bench.shop c.args.bench.now) c.args.seq.now.jobs c.args.job) (sym c.len-len.ensures.value)
 
 pub returns-then-len-eq0-clause-place : goal.returns-then-len-eq0-clause-place
@@ -209,13 +208,13 @@ returns-then-len-eq0-clause-place g c =
     let every = c.len-len.ensures.value in
     let best = c.loop-place.best in
     let all : c.loop-place.place ≡ many = (let done : len ≤ c.loop-place.place = c.loop-place-test.false in omega (arith, c.loop-place.auto.place-end)) in
-    let span = last_told g (goal.at.returns-then-len-eq0-clause-place g c).After-join_rows-span in
+    let span = last_told g (goal.at.returns-then-len-eq0-clause-place g c).After-join_inserted-span in
     let least : IsFirstLeast value (many + 1) many =
     elim c.then-len-eq0.branch as (λ _. IsFirstLeast value (many + 1) many)
     [ then-len-eq0-via-then-len-eq0 w ↦ (let none = w.if-len-eq0.true in first_least_start value many (omega arith))
     | then-len-eq0-via-else-len-eq0+then-lt-2 w ↦
     (let some : 0 < c.loop-place.place = (let no = w.if-len-eq0.false in omega arith) in
-    let lt = less number g.B.Span.PartialOrd.partial_cmp g.B.Span.Ord.cmp g.met.B.Span.Ord.matches_partial_cmp g.met.B.Span.Length.ordered c.join_rows-span.result best.span w.if-lt-2.ensures in
+    let lt = less number g.B.Span.PartialOrd.partial_cmp g.B.Span.Ord.cmp g.met.B.Span.Ord.matches_partial_cmp g.met.B.Span.Length.ordered c.join_inserted-span.result best.span w.if-lt-2.ensures in
     let before = c.loop-place.invariant.span some in
     first_least_takes value many best.place (subst (λ n. IsFirstLeast value n best.place) all (c.loop-place.invariant.best some)) (omega arith)) ]
     in
@@ -230,8 +229,8 @@ returns-else-lt-2-clause-place g c =
     let every = c.len-len.ensures.value in
     let best = c.loop-place.best in
     let all : c.loop-place.place ≡ many = (let done : len ≤ c.loop-place.place = c.loop-place-test.false in omega (arith, c.loop-place.auto.place-end)) in
-    let span = last_told g (goal.at.returns-else-lt-2-clause-place g c).After-join_rows-span in
+    let span = last_told g (goal.at.returns-else-lt-2-clause-place g c).After-join_inserted-span in
     let some : 0 < c.loop-place.place = (let no = c.if-len-eq0.false in omega arith) in
-    let le = not_less number g.B.Span.PartialOrd.partial_cmp g.B.Span.Ord.cmp g.met.B.Span.Ord.matches_partial_cmp g.met.B.Span.Length.ordered c.join_rows-span.result best.span c.if-lt-2.ensures in
+    let le = not_less number g.B.Span.PartialOrd.partial_cmp g.B.Span.Ord.cmp g.met.B.Span.Ord.matches_partial_cmp g.met.B.Span.Length.ordered c.join_inserted-span.result best.span c.if-lt-2.ensures in
     let before = c.loop-place.invariant.span some in
     sym (first_least_is value (many + 1) best.place (first_least_keeps value many best.place (subst (λ n. IsFirstLeast value n best.place) all (c.loop-place.invariant.best some)) (omega arith)))

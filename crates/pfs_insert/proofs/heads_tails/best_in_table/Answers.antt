@@ -1,9 +1,8 @@
-use Rattle.std.proofs.Common.{rules, ◌≡◌, ℕ, ◌+◌, ◌-◌, ◌*◌, ◌<◌, ◌≤◌, List, length, take, drop, get_or, refl, ap, sym, subst, ◌∙◌, arith}
+use Rattle.std.proofs.Common.{◌≡◌, ℕ, ◌+◌, ◌-◌, ◌*◌, ◌≤◌, length, get_or, ap, sym, ◌∙◌, arith}
 use Rattle.std.proofs.lemmas.List.{get_or_append_left}
-use Rattle.pfs_base.specs.FlowShop.{FlowShop, time_of}
+use Rattle.pfs_base.specs.FlowShop.{FlowShop}
 use Rattle.pfs_order.proofs.Sequences.{length-lt-size}
 use Rattle.pfs_insert.specs.Insertion.{best_place}
-use Rattle.pfs_insert.specs.Rows.{Sizes}
 use Rattle.pfs_insert.proofs.FlatRows.{row_le, row_split, get_behind}
 use Rattle.pfs_insert.proofs.TailRows.{back_none}
 use Rattle.pfs_insert.proofs.heads_tails.best_in_table.Goals as goal

@@ -1,16 +1,10 @@
-use Rattle.std.proofs.Common.{rules, ◌≡◌, ℕ, ◌+◌, ◌-◌, ◌*◌, ◌<◌, ◌≤◌, ◌^◌, ◌/◌, ◌++◌, List, length, take, drop, get_or, refl, ap, sym, subst, ◌∙◌, ⊎_elim, arith}
-use Rattle.std.proofs.Math.Nat.{mul-le-mul_right}
-use Rattle.std.proofs.lemmas.Bool.{cases_lt}
-use Rattle.std.proofs.lemmas.List.{get_or-take, length-take-le, length-drop}
-use Rattle.pfs_base.specs.FlowShop.{FlowShop, time_of, IsWithin}
-use Rattle.pfs_base.specs.Limits.{limits}
-use Rattle.pfs_base.specs.declared.limits.TheConstants.{MOST_JOBS, MOST_MACHINES, LONGEST_TIME}
+use Rattle.std.proofs.Common.{rules, ◌≡◌, ℕ, ◌+◌, ◌-◌, ◌*◌, ◌<◌, ◌≤◌, ◌/◌, List, length, take, drop, get_or, refl, ap, sym, subst, ◌∙◌, arith}
+use Rattle.std.proofs.lemmas.List.{length-take-le, length-drop}
+use Rattle.pfs_base.specs.FlowShop.{FlowShop, time_of}
 use borrow.Rule.Slice.PartMut.{same_len_mid}
-use Rattle.pfs_base.specs.Paths.{operation}
-use Rattle.pfs_base.proofs.Heads.{time_of-le}
 use Rattle.pfs_insert.specs.Exchange.{heaviest_back}
 use Rattle.pfs_insert.specs.Rows.{next_row, from_last, AreNumbers, AreNumbersFrom, AreBack, AreBackFrom}
-use Rattle.pfs_insert.proofs.FlatRows.{row_le, row_split, AreFilled, below_row, filled_more, get_behind, get_front, get_part, get_of_part, numbers_back, back_numbers, back_numbers_from}
+use Rattle.pfs_insert.proofs.FlatRows.{row_le, row_split, AreFilled, below_row, filled_more}
 use Rattle.pfs_insert.proofs.TailRows.{tails_short, one_row, two_rows}
 use Rattle.pfs_insert.proofs.heads_tails.fill_tails.Goals.{After-split_at_mut-front, After-split_at_mut-front-then-len-eq1}
 use Rattle.pfs_insert.proofs.heads_tails.fill_tails.Given.{Over}

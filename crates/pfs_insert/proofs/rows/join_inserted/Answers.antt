@@ -4,8 +4,8 @@ use Rattle.pfs_base.specs.FlowShop.{FlowShop, time_of}
 use Rattle.pfs_base.proofs.Heads.{time_of-le}
 use Rattle.pfs_insert.specs.Rows.{next_row, greatest_sum, AreNumbers}
 use Rattle.pfs_insert.proofs.RowSteps.{next_row_at, value_before_more, value_is, value_small, greatest_sum_more, less, not_less}
-use Rattle.pfs_insert.proofs.rows.join_rows.Goals.{then-lt, else-lt}
-use Rattle.pfs_insert.proofs.rows.join_rows.Goals as goal
+use Rattle.pfs_insert.proofs.rows.join_inserted.Goals.{then-lt, else-lt}
+use Rattle.pfs_insert.proofs.rows.join_inserted.Goals as goal
 
 pub loop-machine-preserved : goal.loop-machine-preserved
 loop-machine-preserved g c =

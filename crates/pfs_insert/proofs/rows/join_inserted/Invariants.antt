@@ -2,7 +2,7 @@ use Rattle.std.proofs.Common.{◌≡◌, ℕ, ◌+◌, ◌*◌, ◌≤◌}
 use Rattle.pfs_base.specs.declared.limits.TheConstants.{MOST_JOBS, MOST_MACHINES, LONGEST_TIME}
 use Rattle.pfs_base.specs.FlowShop.{time_of}
 use Rattle.pfs_insert.specs.Rows.{next_row, value_before, greatest_sum, AreNumbers}
-use Rattle.pfs_insert.proofs.rows.join_rows.Given as goal
+use Rattle.pfs_insert.proofs.rows.join_inserted.Given as goal
 
 abbrev pub invariant-loop-machine : goal.invariant-loop-machine
 invariant-loop-machine g l =
