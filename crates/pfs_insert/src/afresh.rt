@@ -3,7 +3,7 @@ ghost use Rattle.std.specs.Prelude.{◌≡◌, IfOk, true};
 ghost use Rattle.pfs_insert.specs.Insertion.{afresh_cost};
 
 use crate::fault::InsertFault;
-use crate::inserter::{Inserter, Placed};
+use crate::inserter::{Inserter, Placed, better};
 use pfs_audit::makespan;
 use pfs_base::{Bench, Length};
 use pfs_order::Seq;
@@ -61,11 +61,7 @@ impl<B: Bench> Inserter<B> for Afresh<B> {
             self.seq.copy_from(seq);
             self.seq.insert_at(place, job);
             match makespan(alloc, bench, &self.seq) {
-                Ok(span) => {
-                    if place == 0 || span < best.span {
-                        best = Placed { place, span };
-                    }
-                }
+                Ok(span) => best = better(best, place, span),
                 Err(_) => return Err(InsertFault::Memory),
             }
         }

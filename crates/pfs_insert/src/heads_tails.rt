@@ -5,7 +5,7 @@ ghost use Rattle.pfs_insert.specs.Insertion.{best_place, heads_tails_cost, makes
 ghost use Rattle.pfs_insert.specs.Rows.{AreNumbers, AreNumbersFrom};
 
 use crate::fault::InsertFault;
-use crate::inserter::{Inserter, Placed};
+use crate::inserter::{Inserter, Placed, better};
 use crate::rows::{fill_head_and_join, fill_tail, fill_two_tails, join_inserted};
 use pfs_base::{Bench, Length};
 use pfs_order::Seq;
@@ -132,7 +132,7 @@ fn fill_tails<B: Bench>(bench: &mut B, seq: &Seq, rows: &mut [B::Span])
     requires no_tail { AreNumbersFrom B.Span.number rows.old (((B.shop bench.old).jobs - 1) * (B.shop bench.old).machines) (B.shop bench.old).machines (λ machine. 0) }
     requires room { B.counted bench.old + length seq.now.jobs * (B.shop bench.old).machines < 2 ^ 64 }
     ensures tails { (row : ℕ) → row ≤ length seq.now.jobs
-      → AreNumbersFrom B.Span.number rows.new (((B.shop bench.old).jobs - 1 - length seq.now.jobs + row) * (B.shop bench.old).machines) (B.shop bench.old).machines (heaviest_back (B.shop bench.old) seq.now.jobs row) }
+        → AreNumbersFrom B.Span.number rows.new (((B.shop bench.old).jobs - 1 - length seq.now.jobs + row) * (B.shop bench.old).machines) (B.shop bench.old).machines (heaviest_back (B.shop bench.old) seq.now.jobs row) }
     ensures counted { B.counted bench.new ≡ B.counted bench.old + length seq.now.jobs * (B.shop bench.old).machines }
     ensures shop { B.shop bench.new ≡ B.shop bench.old }
 {
@@ -178,7 +178,7 @@ fn best_by_rows<B: Bench>(
     requires tails { length tails.now ≡ ((B.shop bench.old).jobs + 1) * (B.shop bench.old).machines }
     requires no_head { AreNumbers B.Span.number heads.old (B.shop bench.old).machines (λ machine. 0) }
     requires backs { (row : ℕ) → row ≤ length seq.now.jobs
-      → AreNumbersFrom B.Span.number tails.now (((B.shop bench.old).jobs - 1 - length seq.now.jobs + row) * (B.shop bench.old).machines) (B.shop bench.old).machines (heaviest_back (B.shop bench.old) seq.now.jobs row) }
+        → AreNumbersFrom B.Span.number tails.now (((B.shop bench.old).jobs - 1 - length seq.now.jobs + row) * (B.shop bench.old).machines) (B.shop bench.old).machines (heaviest_back (B.shop bench.old) seq.now.jobs row) }
     requires room { B.counted bench.old + (3 * length seq.now.jobs + 2) * (B.shop bench.old).machines < 2 ^ 64 }
     ensures place { result.place ≡ best_place (B.shop bench.old) seq.now.jobs job }
     ensures within { result.place ≤ length seq.now.jobs }
@@ -202,9 +202,7 @@ fn best_by_rows<B: Bench>(
             &mut heads[place * machines..(place + 2) * machines],
             &tails[(first + place) * machines..(first + place + 1) * machines],
         );
-        if place == 0 || span < best.span {
-            best = Placed { place, span };
-        }
+        best = better(best, place, span);
     }
     let span = join_inserted(
         bench,
@@ -212,8 +210,5 @@ fn best_by_rows<B: Bench>(
         &heads[len * machines..(len + 1) * machines],
         &tails[(first + len) * machines..(first + len + 1) * machines],
     );
-    if len == 0 || span < best.span {
-        best = Placed { place: len, span };
-    }
-    best
+    better(best, len, span)
 }

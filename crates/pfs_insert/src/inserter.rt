@@ -1,7 +1,7 @@
 //! What every inserter promises.
 ghost use Rattle.std.specs.Prelude.{◌≡◌, ℕ, ◌+◌, ◌<◌, ◌≤◌, ◌^◌, length, Bool, false, Contains, IsOk, IfOk, OnOk, OnErr, insert};
 ghost use Rattle.pfs_base.specs.Paths.{makespan};
-ghost use Rattle.pfs_insert.specs.Insertion.{best_place};
+ghost use Rattle.pfs_insert.specs.Insertion.{best_place, IsBest};
 
 use crate::fault::InsertFault;
 use pfs_base::{Bench, Length};
@@ -56,4 +56,17 @@ pub trait Inserter<B: Bench> {
         ensures shop { B.shop bench.new ≡ B.shop bench.old }
         ensures same_jobs { jobs self.new ≡ jobs self.old }
         ensures same_machines { machines self.new ≡ machines self.old };
+}
+
+// The better of the best place so far, of those before a place, and the place itself: of places that are
+// as good as one another the first.
+#[inline(always)]
+pub(crate) fn better<S: Length>(best: Placed<S>, place: usize, span: S) -> Placed<S>
+    ensures { (value : ℕ → ℕ) → (0 < place → IsBest S.number value place best.place best.span) → S.number span ≡ value place → IsBest S.number value (place + 1) result.place result.span }
+{
+    if place == 0 || span < best.span {
+        Placed { place, span }
+    } else {
+        best
+    }
 }

@@ -9,19 +9,14 @@ use pfs_base::{Bench, Length};
 
 /// Fills a job's row of tails from the row below it, from the last machine on.
 #[inline(always)]
-pub(crate) fn fill_tail<B: Bench>(
-    bench: &mut B,
-    job: usize,
-    below: &[B::Span],
-    row: &mut [B::Span],
-)
+pub(crate) fn fill_tail<B: Bench>(bench: &mut B, job: usize, below: &[B::Span], row: &mut [B::Span])
     requires job { job < (B.shop bench.old).jobs }
     requires below_width { length below.now ≡ (B.shop bench.old).machines }
     requires row_width { length row.old ≡ (B.shop bench.old).machines }
     requires below_short { AreShort B.Span.number below.now (B.shop bench.old).machines }
     requires room { B.counted bench.old + (B.shop bench.old).machines < 2 ^ 64 }
     ensures row { (tails : ℕ → ℕ) → AreBack B.Span.number below.now ((B.shop bench.old).machines - 1) tails
-      → AreBack B.Span.number row.new ((B.shop bench.old).machines - 1) (next_row (from_last ((B.shop bench.old).machines - 1) (time_of (B.shop bench.old) job)) tails) }
+        → AreBack B.Span.number row.new ((B.shop bench.old).machines - 1) (next_row (from_last ((B.shop bench.old).machines - 1) (time_of (B.shop bench.old) job)) tails) }
     ensures counted { B.counted bench.new ≡ B.counted bench.old + (B.shop bench.old).machines }
     ensures shop { B.shop bench.new ≡ B.shop bench.old }
 {
@@ -51,9 +46,9 @@ pub(crate) fn fill_two_tails<B: Bench>(
     requires below_short { AreShort B.Span.number below.now (B.shop bench.old).machines }
     requires room { B.counted bench.old + 2 * (B.shop bench.old).machines < 2 ^ 64 }
     ensures lower_row { (tails : ℕ → ℕ) → AreBack B.Span.number below.now ((B.shop bench.old).machines - 1) tails
-      → AreBackFrom B.Span.number rows.new (B.shop bench.old).machines ((B.shop bench.old).machines - 1) (next_row (from_last ((B.shop bench.old).machines - 1) (time_of (B.shop bench.old) lower)) tails) }
+        → AreBackFrom B.Span.number rows.new (B.shop bench.old).machines ((B.shop bench.old).machines - 1) (next_row (from_last ((B.shop bench.old).machines - 1) (time_of (B.shop bench.old) lower)) tails) }
     ensures upper_row { (tails : ℕ → ℕ) → AreBack B.Span.number below.now ((B.shop bench.old).machines - 1) tails
-      → AreBack B.Span.number rows.new ((B.shop bench.old).machines - 1) (next_row (from_last ((B.shop bench.old).machines - 1) (time_of (B.shop bench.old) upper)) (next_row (from_last ((B.shop bench.old).machines - 1) (time_of (B.shop bench.old) lower)) tails)) }
+        → AreBack B.Span.number rows.new ((B.shop bench.old).machines - 1) (next_row (from_last ((B.shop bench.old).machines - 1) (time_of (B.shop bench.old) upper)) (next_row (from_last ((B.shop bench.old).machines - 1) (time_of (B.shop bench.old) lower)) tails)) }
     ensures counted { B.counted bench.new ≡ B.counted bench.old + 2 * (B.shop bench.old).machines }
     ensures shop { B.shop bench.new ≡ B.shop bench.old }
 {
@@ -91,9 +86,9 @@ pub(crate) fn fill_head_and_join<B: Bench>(
     requires room { B.counted bench.old + 3 * (B.shop bench.old).machines < 2 ^ 64 }
     ensures kept { (machine : ℕ) (d : B.Span) → machine < (B.shop bench.old).machines → slice_index_or rows.new machine d ≡ slice_index_or rows.old machine d }
     ensures head { (heads : ℕ → ℕ) → AreNumbers B.Span.number rows.old (B.shop bench.old).machines heads
-      → AreNumbersFrom B.Span.number rows.new (B.shop bench.old).machines (B.shop bench.old).machines (next_row (time_of (B.shop bench.old) own) heads) }
+        → AreNumbersFrom B.Span.number rows.new (B.shop bench.old).machines (B.shop bench.old).machines (next_row (time_of (B.shop bench.old) own) heads) }
     ensures most { (heads tails : ℕ → ℕ) → AreNumbers B.Span.number rows.old (B.shop bench.old).machines heads → AreNumbers B.Span.number tail.now (B.shop bench.old).machines tails
-      → B.Span.number result ≡ greatest_sum (B.shop bench.old).machines (next_row (time_of (B.shop bench.old) job) heads) tails }
+        → B.Span.number result ≡ greatest_sum (B.shop bench.old).machines (next_row (time_of (B.shop bench.old) job) heads) tails }
     ensures counted { B.counted bench.new ≡ B.counted bench.old + 3 * (B.shop bench.old).machines }
     ensures shop { B.shop bench.new ≡ B.shop bench.old }
 {
@@ -130,7 +125,7 @@ pub(crate) fn join_inserted<B: Bench>(
     requires tail_short { AreShort B.Span.number tail.now (B.shop bench.old).machines }
     requires room { B.counted bench.old + 2 * (B.shop bench.old).machines < 2 ^ 64 }
     ensures most { (heads tails : ℕ → ℕ) → AreNumbers B.Span.number above.now (B.shop bench.old).machines heads → AreNumbers B.Span.number tail.now (B.shop bench.old).machines tails
-      → B.Span.number result ≡ greatest_sum (B.shop bench.old).machines (next_row (time_of (B.shop bench.old) job) heads) tails }
+        → B.Span.number result ≡ greatest_sum (B.shop bench.old).machines (next_row (time_of (B.shop bench.old) job) heads) tails }
     ensures counted { B.counted bench.new ≡ B.counted bench.old + 2 * (B.shop bench.old).machines }
     ensures shop { B.shop bench.new ≡ B.shop bench.old }
 {

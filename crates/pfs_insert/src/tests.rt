@@ -120,7 +120,10 @@ fn a_third_job_goes_last(rt: HostRuntime) -> Result<(), Fail> {
     let instance = three_jobs(rt.alloc())?;
     let seq = second_and_first(rt.alloc())?;
     assert_eq!(rt; afresh(rt.alloc(), &instance, &seq, 2)?, (2, 10, 18));
-    assert_eq!(rt; by_heads_and_tails(rt.alloc(), &instance, &seq, 2)?, (2, 10, 20));
+    assert_eq!(rt;
+        by_heads_and_tails(rt.alloc(), &instance, &seq, 2)?,
+        (2, 10, 20)
+    );
     Ok(())
 }
 
@@ -128,7 +131,10 @@ fn a_third_job_goes_last(rt: HostRuntime) -> Result<(), Fail> {
 fn one_job_counts_two_cells(rt: HostRuntime) -> Result<(), Fail> {
     let instance = Instance::new(rt.alloc(), 1, 1, NOTES)?;
     let seq = Seq::new(rt.alloc(), 1)?;
-    assert_eq!(rt; by_heads_and_tails(rt.alloc(), &instance, &seq, 0)?, (0, 0, 2));
+    assert_eq!(rt;
+        by_heads_and_tails(rt.alloc(), &instance, &seq, 0)?,
+        (0, 0, 2)
+    );
     Ok(())
 }
 
@@ -137,7 +143,10 @@ fn both_inserters_agree_on_drawn_shops(rt: HostRuntime) -> Result<(), Fail> {
     for jobs in 1..8 {
         for machines in 1..6 {
             let instance = drawn_shop(rt.alloc(), jobs, machines, 7)?;
-            assert!(rt; same_places(rt.alloc(), &instance)?, "{jobs} jobs on {machines} machines");
+            assert!(rt;
+                same_places(rt.alloc(), &instance)?,
+                "{jobs} jobs on {machines} machines"
+            );
         }
     }
     Ok(())

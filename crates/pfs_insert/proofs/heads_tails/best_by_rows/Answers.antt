@@ -3,16 +3,15 @@ use Rattle.std.proofs.lemmas.List.{length-take-le, length-drop}
 use Rattle.pfs_base.specs.FlowShop.{FlowShop, time_of}
 use Rattle.pfs_base.specs.Paths.{operation}
 use Rattle.pfs_base.proofs.Heads.{head}
-use Rattle.pfs_insert.specs.declared.inserter.Placed.{Placed}
 use Rattle.pfs_insert.specs.Exchange.{heaviest_back}
-use Rattle.pfs_insert.specs.Insertion.{IsFirstLeast, makespan_with}
+use Rattle.pfs_insert.specs.Insertion.{IsBest, makespan_with}
 use Rattle.pfs_insert.specs.Rows.{next_row, greatest_sum, AreNumbers, AreNumbersFrom}
-use Rattle.pfs_insert.proofs.FirstLeast.{first_least_is, first_least_start, first_least_keeps, first_least_takes}
+use Rattle.pfs_insert.proofs.FirstLeast.{first_least_is}
 use Rattle.pfs_insert.proofs.FlatRows.{row_le, row_split, part_told, heads_more, get_of_part}
-use Rattle.pfs_insert.proofs.RowSteps.{less, not_less, next_row_same}
+use Rattle.pfs_insert.proofs.RowSteps.{next_row_same}
 use Rattle.pfs_insert.proofs.TailRows.{tails_short, heads_short, span_value, next_row_heads}
 use Rattle.pfs_insert.proofs.heads_tails.best_by_rows.Given.{Over}
-use Rattle.pfs_insert.proofs.heads_tails.best_by_rows.Goals.{After-at, After-fill_head_and_join-span, After-join_inserted-span, then-place-eq0, then-place-eq0-via-then-place-eq0, then-place-eq0-via-else-place-eq0+then-lt, else-place-eq0+else-lt, then-len-eq0-via-then-len-eq0, then-len-eq0-via-else-len-eq0+then-lt-2}
+use Rattle.pfs_insert.proofs.heads_tails.best_by_rows.Goals.{After-at, After-fill_head_and_join-span, After-join_inserted-span, After-better}
 use Rattle.pfs_insert.proofs.heads_tails.best_by_rows.Goals as goal
 
 -- the rows above a place and beside it
@@ -116,43 +115,17 @@ loop-place-preserved g c =
     subst (λ (s : FlowShop). (heads : ℕ → ℕ) → AreNumbers number part s.machines heads → AreNumbersFrom number new s.machines s.machines (next_row (time_of s c.at.result) heads)) same step.head (head weigh place) (above_told g here.After-at) in
     let own_is = λ (machine : ℕ). next_row_same (time_of shop c.at.result) (weigh place) (head weigh place) (head weigh place) machine (λ m le. ap (λ j. time_of shop j m) c.at.ensures.value) (λ m le. refl)
     ∙ next_row_heads shop jobs place machine ∙ sym (ap (λ r. head weigh r machine) (add-one place)) in
-    let tells = λ (b : Placed _). IsFirstLeast value (place + 1) b.place × (number b.span ≡ value b.place) in
-    let same_chosen = λ (b : Placed _) (is : c.if-place-eq0.best ≡ b) (h : tells b). subst tells (sym is) h in
-    let is_less = less number g.B.Span.PartialOrd.partial_cmp g.B.Span.Ord.cmp g.met.B.Span.Ord.matches_partial_cmp g.met.B.Span.Length.ordered c.fill_head_and_join-span.result c.loop-place.best.span in
-    let isnt_less = not_less number g.B.Span.PartialOrd.partial_cmp g.B.Span.Ord.cmp g.met.B.Span.Ord.matches_partial_cmp g.met.B.Span.Length.ordered c.fill_head_and_join-span.result c.loop-place.best.span in
-    let chosen : tells c.if-place-eq0.best =
-    elim c.if-place-eq0.branch as (λ _. tells c.if-place-eq0.best)
-    [ then-place-eq0 w ↦ same_chosen _ w.best-is
-    (elim w.then-place-eq0.branch as (λ _. tells (record { place = place; span = c.fill_head_and_join-span.result }))
-    [ then-place-eq0-via-then-place-eq0 v ↦ (first_least_start value place v.if-place-eq0.true, span)
-    | then-place-eq0-via-else-place-eq0+then-lt v ↦
-    (let some : 0 < place = (let no = v.if-place-eq0.false in omega arith) in
-    let lt = is_less v.if-lt.ensures in
-    let before = invariant.span some in
-    (first_least_takes value place c.loop-place.best.place (invariant.best some) (omega arith), span)) ])
-    | else-place-eq0+else-lt w ↦ same_chosen _ w.best-is
-    (let some : 0 < place = (let no = w.if-place-eq0.false in omega arith) in
-    let le = isnt_less w.if-lt.ensures in
-    let before = invariant.span some in
-    (first_least_keeps value place c.loop-place.best.place (invariant.best some) (omega arith), before)) ]
-    in
     record {
       same_shop = step.shop ∙ same;
       counted = omega (arith, step.counted, invariant.counted, machines);
       heads = heads_more number (head weigh) shop.machines place a k heads new begin (omega arith) new_long invariant.heads
           (λ machine d lt. step.kept machine d (omega arith) ∙ get_of_part a k machine heads d (omega arith))
           (λ machine d lt. own_told machine d lt ∙ own_is machine);
-      best = λ _. chosen.0;
-      span = λ _. chosen.1;
+      best = λ _. c.better-best.ensures value invariant.best span;
     }
 
-pub returns-else-lt-2-clause-no_head : goal.returns-else-lt-2-clause-no_head
-returns-else-lt-2-clause-no_head g c = λ machine d lt.
-    let at : machine ≡ 0 * (g.B.Bench.shop c.args.bench.now).machines + machine = omega arith in
-    ap (λ i. g.B.Span.Length.number (get_or c.loop-place.heads i d)) at ∙ c.loop-place.invariant.heads 0 (omega arith) machine d lt
-
-pub returns-then-len-eq0-clause-no_head : goal.returns-then-len-eq0-clause-no_head
-returns-then-len-eq0-clause-no_head g c = λ machine d lt.
+pub returns-clause-no_head : goal.returns-clause-no_head
+returns-clause-no_head g c = λ machine d lt.
     let at : machine ≡ 0 * (g.B.Bench.shop c.args.bench.now).machines + machine = omega arith in
     ap (λ i. g.B.Span.Length.number (get_or c.loop-place.heads i d)) at ∙ c.loop-place.invariant.heads 0 (omega arith) machine d lt
 
@@ -194,43 +167,25 @@ last_told g c =
     (part_told number c.args.tails.now row (shop.jobs - 1 - length jobs + length jobs) width shop.machines ((row + 1) * width - row * width) _ (omega arith) c.machines-machines.ensures (omega arith) (c.requires.backs (length jobs) (omega arith)))
     (subst (λ (s : FlowShop). (heads tails : ℕ → ℕ) → AreNumbers number above s.machines heads → AreNumbers number tail s.machines tails → number c.join_inserted-span.result ≡ greatest_sum s.machines (next_row (time_of s c.args.job) heads) tails) c.loop-place.invariant.same_shop c.join_inserted-span.ensures.most)
 
-pub returns-then-len-eq0-clause-span : goal.returns-then-len-eq0-clause-span
-returns-then-len-eq0-clause-span g c =
-    last_told g (goal.at.returns-then-len-eq0-clause-span g c).After-join_inserted-span
-    ∙ ap (makespan_with (g.B.Bench.shop c.args.bench.now) c.args.seq.now.jobs c.args.job) (sym c.len-len.ensures.value)
-
-pub returns-then-len-eq0-clause-place : goal.returns-then-len-eq0-clause-place
-returns-then-len-eq0-clause-place g c =
+-- the best of all places
+best_told : (g : Over) (c : After-better g) →
+    IsBest g.B.Span.Length.number (makespan_with (g.B.Bench.shop c.args.bench.now) c.args.seq.now.jobs c.args.job) (length c.args.seq.now.jobs + 1) c.better.result.place c.better.result.span
+best_told g c =
     let number = g.B.Span.Length.number in
     let value = makespan_with (g.B.Bench.shop c.args.bench.now) c.args.seq.now.jobs c.args.job in
-    let many = length c.args.seq.now.jobs in
-    let len = c.len-len.result in
-    let every = c.len-len.ensures.value in
     let best = c.loop-place.best in
-    let all : c.loop-place.place ≡ many = (let done : len ≤ c.loop-place.place = c.loop-place-test.false in omega (arith, c.loop-place.auto.place-end)) in
-    let span = last_told g (goal.at.returns-then-len-eq0-clause-place g c).After-join_inserted-span in
-    let least : IsFirstLeast value (many + 1) many =
-    elim c.then-len-eq0.branch as (λ _. IsFirstLeast value (many + 1) many)
-    [ then-len-eq0-via-then-len-eq0 w ↦ (let none = w.if-len-eq0.true in first_least_start value many (omega arith))
-    | then-len-eq0-via-else-len-eq0+then-lt-2 w ↦
-    (let some : 0 < c.loop-place.place = (let no = w.if-len-eq0.false in omega arith) in
-    let lt = less number g.B.Span.PartialOrd.partial_cmp g.B.Span.Ord.cmp g.met.B.Span.Ord.matches_partial_cmp g.met.B.Span.Length.ordered c.join_inserted-span.result best.span w.if-lt-2.ensures in
-    let before = c.loop-place.invariant.span some in
-    first_least_takes value many best.place (subst (λ n. IsFirstLeast value n best.place) all (c.loop-place.invariant.best some)) (omega arith)) ]
-    in
-    every ∙ sym (first_least_is value (many + 1) many least)
+    let every = c.len-len.ensures.value in
+    let all : c.loop-place.place ≡ c.len-len.result = (let done : c.len-len.result ≤ c.loop-place.place = c.loop-place-test.false in omega (arith, c.loop-place.auto.place-end)) in
+    let span = last_told g (goal.at.After-better g c).After-join_inserted-span ∙ ap value (sym every) in
+    subst (λ n. IsBest number value (n + 1) c.better.result.place c.better.result.span) every
+    (c.better.ensures value (λ some. subst (λ n. IsBest number value n best.place best.span) all (c.loop-place.invariant.best (omega arith))) span)
 
-pub returns-else-lt-2-clause-place : goal.returns-else-lt-2-clause-place
-returns-else-lt-2-clause-place g c =
-    let number = g.B.Span.Length.number in
-    let value = makespan_with (g.B.Bench.shop c.args.bench.now) c.args.seq.now.jobs c.args.job in
-    let many = length c.args.seq.now.jobs in
-    let len = c.len-len.result in
-    let every = c.len-len.ensures.value in
-    let best = c.loop-place.best in
-    let all : c.loop-place.place ≡ many = (let done : len ≤ c.loop-place.place = c.loop-place-test.false in omega (arith, c.loop-place.auto.place-end)) in
-    let span = last_told g (goal.at.returns-else-lt-2-clause-place g c).After-join_inserted-span in
-    let some : 0 < c.loop-place.place = (let no = c.if-len-eq0.false in omega arith) in
-    let le = not_less number g.B.Span.PartialOrd.partial_cmp g.B.Span.Ord.cmp g.met.B.Span.Ord.matches_partial_cmp g.met.B.Span.Length.ordered c.join_inserted-span.result best.span c.if-lt-2.ensures in
-    let before = c.loop-place.invariant.span some in
-    sym (first_least_is value (many + 1) best.place (first_least_keeps value many best.place (subst (λ n. IsFirstLeast value n best.place) all (c.loop-place.invariant.best some)) (omega arith)))
+pub returns-clause-place : goal.returns-clause-place
+returns-clause-place g c =
+    sym (first_least_is (makespan_with (g.B.Bench.shop c.args.bench.now) c.args.seq.now.jobs c.args.job) (length c.args.seq.now.jobs + 1) c.better.result.place (best_told g (goal.at.returns-clause-place g c).After-better).first)
+
+pub returns-clause-within : goal.returns-clause-within
+returns-clause-within g c = let is = (best_told g (goal.at.returns-clause-within g c).After-better).first in let small = is.within in omega arith
+
+pub returns-clause-span : goal.returns-clause-span
+returns-clause-span g c = (best_told g (goal.at.returns-clause-span g c).After-better).value_is

@@ -1,7 +1,7 @@
 use Rattle.std.proofs.Common.{◌≡◌, ℕ, ◌+◌, ◌*◌, ◌<◌, ◌≤◌}
 use Rattle.pfs_base.specs.Paths.{operation}
 use Rattle.pfs_base.proofs.Heads.{head}
-use Rattle.pfs_insert.specs.Insertion.{IsFirstLeast, makespan_with}
+use Rattle.pfs_insert.specs.Insertion.{IsBest, makespan_with}
 use Rattle.pfs_insert.specs.Rows.{AreNumbersFrom}
 use Rattle.pfs_insert.proofs.heads_tails.best_by_rows.Given as goal
 
@@ -14,6 +14,5 @@ invariant-loop-place g l =
       same_shop : g.B.Bench.shop l.bench ≡ shop;
       counted : g.B.Bench.counted l.bench ≡ g.B.Bench.counted l.fn.bench + 3 * l.place * shop.machines;
       heads : (row : ℕ) → row ≤ l.place → AreNumbersFrom number l.heads (row * shop.machines) shop.machines (head (operation shop l.seq.jobs) row);
-      best : 0 < l.place → IsFirstLeast value l.place l.best.place;
-      span : 0 < l.place → number l.best.span ≡ value l.best.place;
+      best : 0 < l.place → IsBest number value l.place l.best.place l.best.span;
     }

@@ -42,9 +42,10 @@ loop-machine-preserved g c =
           let more = greatest_sum_more machine (put_row heads) tails in
           let so_far = invariant.most_is heads tails told tails_told in
           let new = sum heads tails told tails_told in
-          elim c.if-lt.branch as (λ _. number c.if-lt.most ≡ greatest_sum (machine + 1) (put_row heads) tails)
-          [ then-lt w ↦ (let less : number c.loop-machine.most < number c.join-sum.result = less number g.B.Span.PartialOrd.partial_cmp g.B.Span.Ord.cmp g.met.B.Span.Ord.matches_partial_cmp g.met.B.Span.Length.ordered _ _ w.if-lt.ensures in ap number w.most-is ∙ omega arith)
-          | else-lt w ↦ (let same : number c.join-sum.result ≤ number c.loop-machine.most = not_less number g.B.Span.PartialOrd.partial_cmp g.B.Span.Ord.cmp g.met.B.Span.Ord.matches_partial_cmp g.met.B.Span.Length.ordered _ _ w.if-lt.ensures in ap number w.most-is ∙ omega arith) ];
+          elim c.if-lt.branch as (λ _. number c.if-lt.most ≡ greatest_sum (machine + 1) (put_row heads) tails) [
+            | then-lt w ↦ (let less : number c.loop-machine.most < number c.join-sum.result = less number g.B.Span.PartialOrd.partial_cmp g.B.Span.Ord.cmp g.met.B.Span.Ord.matches_partial_cmp g.met.B.Span.Length.ordered _ _ w.if-lt.ensures in ap number w.most-is ∙ omega arith)
+            | else-lt w ↦ (let same : number c.join-sum.result ≤ number c.loop-machine.most = not_less number g.B.Span.PartialOrd.partial_cmp g.B.Span.Ord.cmp g.met.B.Span.Ord.matches_partial_cmp g.met.B.Span.Length.ordered _ _ w.if-lt.ensures in ap number w.most-is ∙ omega arith)
+          ];
     }
 
 pub returns-clause-most : goal.returns-clause-most

@@ -3,6 +3,7 @@ use Rattle.std.proofs.Math.Nat.{mul-le-mul_right, mul_assoc}
 use Rattle.std.specs.List.{insert}
 use Rattle.std.proofs.lemmas.List.Edits.{length-insert}
 use Rattle.pfs_base.specs.FlowShop.{FlowShop}
+use Rattle.pfs_base.specs.Paths.{makespan}
 use Rattle.pfs_order.specs.Sequence.{Sequence}
 use Rattle.pfs_insert.specs.Insertion.{IsFirstLeast, makespan_with}
 use Rattle.pfs_insert.proofs.FirstLeast.{first_least_is}
@@ -28,13 +29,37 @@ returns-in-Err-clause-fault_high g c =
     ap (λ n. n * (g.B.Bench.shop c.loop-place.bench).machines) jobs ∙ ap (λ n. many * n) width in
     omega arith
 
+pub loop-place-preserved : goal.loop-place-preserved
+loop-place-preserved g c =
+    let number = g.B.Span.Length.number in
+    let shop = g.B.Bench.shop c.args.bench.now in
+    let place = c.loop-place.place in
+    let invariant = c.loop-place.invariant in
+    let many = length c.args.seq.now.jobs + 1 in
+    let inserted : c.insert_at.new.self ≡ record { size = c.args.seq.now.size; jobs = insert c.args.seq.now.jobs place c.args.job } =
+    c.insert_at.ensures ∙ ap (λ (s : Sequence). record { size = s.size; jobs = insert s.jobs place c.args.job }) c.copy_from.ensures in
+    let jobs = ap (λ (s : Sequence). s.jobs) inserted in
+    let long = ap length jobs ∙ length-insert c.args.seq.now.jobs place c.args.job (omega (arith, c.len-place-end.ensures.value)) in
+    let cells : length c.insert_at.new.self.jobs * (g.B.Bench.shop c.loop-place.bench).machines ≡ many * shop.machines =
+    ap (λ n. n * (g.B.Bench.shop c.loop-place.bench).machines) long ∙ ap (λ (s : FlowShop). many * s.machines) invariant.same_shop in
+    let counted = c.in-Ok.ensures.counted in
+    let so_far = invariant.counted in
+    let span = c.in-Ok.ensures.value ∙ ap (λ s. makespan s c.insert_at.new.self.jobs) invariant.same_shop ∙ ap (makespan shop) jobs in
+    record {
+      same_shop = c.in-Ok.ensures.shop ∙ invariant.same_shop;
+      own_jobs = ap (λ (s : Sequence). s.size) inserted ∙ c.requires.seq_jobs ∙ sym c.requires.own_jobs;
+      own_machines = invariant.own_machines;
+      counted = omega arith;
+      best = λ _. c.better-best.ensures (makespan_with shop c.args.seq.now.jobs c.args.job) invariant.best span;
+    }
+
 pub returns-clause-place : goal.returns-clause-place
 returns-clause-place g c =
     let shop = g.B.Bench.shop c.args.bench.now in
     let value = makespan_with shop c.args.seq.now.jobs c.args.job in
     let all : c.loop-place.place ≡ length c.args.seq.now.jobs + 1 = omega (arith, c.len-place-end.ensures.value) in
     sym (first_least_is value (length c.args.seq.now.jobs + 1) c.loop-place.best.place
-    (subst (λ n. IsFirstLeast value n c.loop-place.best.place) all (c.loop-place.invariant.best (omega arith))))
+    (subst (λ n. IsFirstLeast value n c.loop-place.best.place) all ((c.loop-place.invariant.best (omega arith)).first)))
 
 pub returns-clause-counted : goal.returns-clause-counted
 returns-clause-counted g c =

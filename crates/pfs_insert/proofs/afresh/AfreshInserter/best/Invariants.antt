@@ -1,5 +1,5 @@
 use Rattle.std.proofs.Common.{◌≡◌, ◌+◌, ◌*◌, ◌<◌, length}
-use Rattle.pfs_insert.specs.Insertion.{IsFirstLeast, makespan_with}
+use Rattle.pfs_insert.specs.Insertion.{IsBest, makespan_with}
 use Rattle.pfs_insert.proofs.afresh.AfreshInserter.best.Given as goal
 
 abbrev pub invariant-loop-place : goal.invariant-loop-place
@@ -11,6 +11,5 @@ invariant-loop-place g l =
       own_jobs : l.self.seq.size ≡ l.fn.self.seq.size;
       own_machines : l.self.machines ≡ l.fn.self.machines;
       counted : g.B.Bench.counted l.bench ≡ g.B.Bench.counted l.fn.bench + l.place * ((length l.seq.jobs + 1) * shop.machines);
-      best : 0 < l.place → IsFirstLeast value l.place l.best.place;
-      span : 0 < l.place → g.B.Span.Length.number l.best.span ≡ value l.best.place;
+      best : 0 < l.place → IsBest g.B.Span.Length.number value l.place l.best.place l.best.span;
     }
