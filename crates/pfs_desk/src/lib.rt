@@ -14,4 +14,4 @@ pub use engines::solve::run_solve;
 pub use engines::table::run_table;
 pub use engines::value::run_value;
 pub use fault::{DeskFault, Outcome, status, write_fault};
-pub use solve_options::SolveOptions;
+pub use solve_options::{MOST_ROUNDS, SolveOptions};
