@@ -20,5 +20,5 @@ pub use engines::value::run_value;
 pub use fault::{DeskFault, Outcome, status, write_fault};
 pub use job::{Job, PathText};
 pub use planning::plan;
-pub use solve_options::SolveOptions;
+pub use solve_options::{MOST_ROUNDS, SolveOptions};
 pub use usage::UsageFault;

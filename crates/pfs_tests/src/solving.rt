@@ -2,7 +2,7 @@
 use crate::fakes::{Pieces, Taken};
 use crate::texts::BY_MACHINE;
 use pfs_base::{FromRead, Sink, ToWrite, WriteFault};
-use pfs_desk::{DeskFault, Outcome, SolveOptions, run_generate, run_solve, status};
+use pfs_desk::{DeskFault, MOST_ROUNDS, Outcome, SolveOptions, run_generate, run_solve, status};
 use pfs_layout::{Layout, LayoutFault};
 use std::alloc::Global;
 use std::process::Abort;
@@ -28,7 +28,7 @@ const PLAIN: SolveOptions = SolveOptions {
 
 /// Checks what `solve` prints of block 1 of a file in Taillard's layout.
 fn assert_solve(rt: &impl Abort, alloc: Global, file: &[u8], options: SolveOptions, text: &[u8]) {
-    assert!(rt; options.rounds <= 1_000_000);
+    assert!(rt; options.rounds <= MOST_ROUNDS);
     assert!(rt; options.take.is_none_or(|take| 1 <= take));
     let mut writer = Taken::new(256, 256);
     let mut reader = Pieces::whole(file);
@@ -107,7 +107,7 @@ fn assert_refused(
     options: SolveOptions,
     fault: DeskFault,
 ) {
-    assert!(rt; options.rounds <= 1_000_000);
+    assert!(rt; options.rounds <= MOST_ROUNDS);
     assert!(rt; options.take.is_none_or(|take| 1 <= take));
     let mut writer = Taken::new(0, 256);
     let mut reader = Pieces::new(file, 7, None);
@@ -125,7 +125,7 @@ fn assert_refused(
 
 #[test]
 fn solve_judges_the_take_behind_the_file_and_before_it_writes(rt: HostRuntime) {
-    for rounds in [0, 1, 1_000_000] {
+    for rounds in [0, 1, MOST_ROUNDS] {
         let options = SolveOptions {
             rounds,
             take: Some(4),
@@ -218,7 +218,7 @@ fn solve_stops_where_a_writer_takes_no_more(rt: HostRuntime) {
 
 /// Checks how the text ends that `solve` prints of the instance of 20 jobs on 5 machines from a seed.
 fn assert_ends(rt: &impl Abort, alloc: Global, seed: u64, options: SolveOptions, end: &[u8]) {
-    assert!(rt; options.rounds <= 1_000_000);
+    assert!(rt; options.rounds <= MOST_ROUNDS);
     assert!(rt; options.take.is_none_or(|take| 1 <= take));
     let mut file = [0; 1024];
     let mut drawn = ToWrite::new(file.as_mut_slice());

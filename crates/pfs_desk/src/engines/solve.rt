@@ -19,8 +19,10 @@ use rand_pcg::Pcg32;
 use std::alloc::Global;
 
 /// Reads a block of an instance file, and prints as an order file what a search finds: NEH's order (Nawaz,
-/// Enscore, Ham 1983), followed by rounds of iterated greedy (Ruiz, Stützle 2007). Blocks count from 1. A
-/// take that is asked for is judged also where there are no rounds.
+/// Enscore, Ham 1983), followed by rounds of iterated greedy (Ruiz, Stützle 2007), by heads and tails
+/// (Taillard 1990). Where the count is asked for, it is one line more. Blocks count from 1. A take that is
+/// asked for is judged once the block is read, also where there are no rounds, and before more memory is
+/// asked for.
 pub fn run_solve<R: Source, W: Sink>(
     alloc: Global,
     reader: &mut R,
