@@ -84,6 +84,7 @@ impl<B: Bench> Inserter<B> for HeadsTails<B> {
 
     ghost can_refuse = { false };
 
+    #[inline(always)]
     fn best(
         &mut self,
         _alloc: Global,
@@ -96,6 +97,7 @@ impl<B: Bench> Inserter<B> for HeadsTails<B> {
 }
 
 // The best place of a job in a sequence, and the makespan with the job there, by a table of an inserter.
+#[inline(always)]
 fn best_in_table<B: Bench>(
     bench: &mut B,
     seq: &Seq,
@@ -125,6 +127,7 @@ fn best_in_table<B: Bench>(
 // Fills the rows of tails of a sequence, from its last job on, two in one loop. The rows are those of the
 // tails of n - 1 jobs, the row of zeros behind them, and one row more; those of the sequence end before
 // the row of zeros.
+#[inline(always)]
 fn fill_tails<B: Bench>(bench: &mut B, seq: &Seq, rows: &mut [B::Span])
     requires size { seq.now.size ≡ (B.shop bench.old).jobs }
     requires few { length seq.now.jobs < (B.shop bench.old).jobs }
@@ -164,6 +167,7 @@ fn fill_tails<B: Bench>(bench: &mut B, seq: &Seq, rows: &mut [B::Span])
 
 // The best place of a job in a sequence whose rows of tails are filled, and the makespan with the job
 // there. The rows of heads are filled as the places go on.
+#[inline(always)]
 fn best_by_rows<B: Bench>(
     bench: &mut B,
     seq: &Seq,
