@@ -1,6 +1,7 @@
 //! What the definitions say of a small shop.
 ghost use Rattle.std.specs.Prelude.{◌≡◌, [], ◌∷◌};
-ghost use Rattle.pfs_insert.specs.Examples.{three_jobs, unit_times};
+ghost use Rattle.pfs_insert.specs.Examples.{three_jobs, unit_times, row_of, two_rows};
+ghost use Rattle.pfs_insert.specs.Exchange.{heaviest_back, heaviest_front};
 ghost use Rattle.pfs_insert.specs.Insertion.{afresh_cost, best_place, heads_tails_cost, makespan_with, with_job};
 
 /// The makespans with the third job at each place of the order of the second and the first, and the best
@@ -12,6 +13,16 @@ pub fn insertion()
     ensures best { best_place three_jobs (1 ∷ 0 ∷ []) 2 ≡ 2 }
     ensures with_it { with_job three_jobs (1 ∷ 0 ∷ []) 2 ≡ 1 ∷ 0 ∷ 2 ∷ [] }
     ensures tie { best_place unit_times (1 ∷ 0 ∷ []) 2 ≡ 0 }
+{}
+
+/// The heads and tails of the order of the second and the first job, and the rows of the third job at its
+/// three places, machine by machine.
+pub fn rows()
+    ensures heads { two_rows (heaviest_front three_jobs (1 ∷ 0 ∷ [])) ≡ 2 ∷ 7 ∷ 5 ∷ 9 ∷ [] }
+    ensures tails { two_rows (heaviest_back three_jobs (1 ∷ 0 ∷ [])) ≡ 9 ∷ 7 ∷ 5 ∷ 2 ∷ [] }
+    ensures first { row_of (heaviest_front three_jobs (2 ∷ 1 ∷ 0 ∷ [])) 0 ≡ 4 ∷ 5 ∷ [] }
+    ensures second { row_of (heaviest_front three_jobs (1 ∷ 2 ∷ 0 ∷ [])) 1 ≡ 6 ∷ 8 ∷ [] }
+    ensures third { row_of (heaviest_front three_jobs (1 ∷ 0 ∷ 2 ∷ [])) 2 ≡ 9 ∷ 10 ∷ [] }
 {}
 
 /// The cells of one insertion, afresh and by heads and tails.

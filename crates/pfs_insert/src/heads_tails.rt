@@ -23,8 +23,9 @@ pub struct HeadsTails<B: Bench> {
 
 /// A table of 2n + 1 rows of m lengths, for n jobs on m machines: a row of zeros, n - 1 rows of heads,
 /// n - 1 rows of tails, a row of zeros, and the inserted row. The heads of a sequence begin behind the
-/// first row, and its tails end before the second row of zeros. Each loop over a row borrows two parts of
-/// the table, one of them for writing, and no row is copied.
+/// first row, and its tails end before the second row of zeros. A loop over the machines borrows two parts
+/// of the table, one of them for writing, and no row is copied. The lengths of the inserted row are joined
+/// with the tails as they come, so that its place in the table isn't written.
 #[derive(Drop)]
 struct Table<S: Length> {
     jobs: usize,
