@@ -4,19 +4,32 @@
 
 ghost use Rattle.std.specs.Prelude.{◌≡◌, IfOk};
 
+mod search;
+
 use pfs_audit::{AuditFault, Verdict, check, makespan, table};
 use pfs_base::{BaseFault, Bench, FromRead, Instance, Notes, ToWrite};
 use pfs_desk::{
     DeskFault, SolveOptions, run_check, run_convert, run_generate, run_solve, run_table,
 };
+use pfs_insert::InsertFault;
 use pfs_layout::{BlockReader, Layout, LayoutFault, generate, read_block};
 use pfs_order::{Order, OrderFault, OrderFile, Seq, read_order};
+use pfs_search::SearchFault;
+use search::{
+    afresh_call, heads_tails_call, neh_call, round_call, rounds_call, search_call, turns_call,
+};
 use std::alloc::{AllocError, Global};
 use std::{env, io};
 
 const FILE: &[u8] = b"title :\n3 2 0 0 0\nprocessing times :\n3 2 4\n2 5 1\n";
 
 const ORDER: &[u8] = b"order 3\n2 1 3\nmakespan 10\n";
+
+const NOTES: Notes = Notes {
+    seed: 0,
+    upper: 0,
+    lower: 0,
+};
 
 /// Why a call did not answer.
 #[derive(Drop)]
@@ -64,6 +77,24 @@ impl From<AuditFault> for Stop {
     fn from(fault: AuditFault) -> Stop {
         match fault {
             AuditFault::Memory => Stop::Memory,
+        }
+    }
+}
+
+impl From<InsertFault> for Stop {
+    fn from(fault: InsertFault) -> Stop {
+        match fault {
+            InsertFault::Memory => Stop::Memory,
+        }
+    }
+}
+
+// Of a call that has no rounds to do before.
+impl From<SearchFault> for Stop {
+    fn from(fault: SearchFault) -> Stop {
+        match fault {
+            SearchFault::Memory { done: 0 } => Stop::Memory,
+            SearchFault::Memory { .. } => Stop::Other,
         }
     }
 }
@@ -118,6 +149,13 @@ fn answer_of(rt: &HostRuntime, name: &str) -> Result<(), Stop> {
         "makespan" => makespan_call(rt),
         "table" => table_call(rt),
         "check" => check_call(rt),
+        "afresh" => afresh_call(rt),
+        "heads_tails" => heads_tails_call(rt),
+        "neh" => neh_call(rt),
+        "round" => round_call(rt),
+        "rounds" => rounds_call(rt),
+        "turns" => turns_call(rt),
+        "search" => search_call(rt),
         "run_check" => run_check_call(rt),
         "run_table" => run_table_call(rt),
         "run_solve" => run_solve_call(rt),
@@ -131,12 +169,7 @@ fn answer_of(rt: &HostRuntime, name: &str) -> Result<(), Stop> {
 fn three_jobs(alloc: Global) -> Result<Instance, Stop>
     ensures { IfOk result (λ made. (made.shop.jobs ≡ 3) × (made.shop.machines ≡ 2)) }
 {
-    let notes = Notes {
-        seed: 0,
-        upper: 0,
-        lower: 0,
-    };
-    let mut instance = Instance::new(alloc, 3, 2, notes)?;
+    let mut instance = Instance::new(alloc, 3, 2, NOTES)?;
     instance.set(0, 0, 3);
     instance.set(0, 1, 2);
     instance.set(1, 0, 2);

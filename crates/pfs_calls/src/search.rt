@@ -1,0 +1,248 @@
+//! The calls of the inserters and of the search. A search is refused a growth only where it evaluates each
+//! place afresh; by heads and tails it takes no memory once all is made.
+ghost use Rattle.std.specs.Prelude.{◌≡◌, ℕ, ◌+◌, ◌%◌, ◌^◌, [], ◌∷◌, IfOk};
+ghost use Rattle.rand_core.specs.Steps.{stream_of, steps_u32};
+
+use crate::{NOTES, Stop, three_jobs};
+use pfs_base::{Bench, Instance, Metered, Span};
+use pfs_insert::{Afresh, HeadsTails, Inserter};
+use pfs_order::{Order, Seq};
+use pfs_search::{Kept, SearchFault, Searcher};
+use rand_core::Rng;
+use rand_core::utils::{self, NextWord};
+use std::alloc::Global;
+use std::marker::Model;
+
+// A generator of the words 1, 3, 5, and so on.
+#[derive(Drop)]
+struct Odds(u32);
+
+impl Model for Odds {
+    ghost Value = { ℕ };
+
+    ghost view = { λ a. a.0 };
+}
+
+impl NextWord<u32> for Odds {
+    ghost step = { λ s. (s, (s + 2) % 2 ^ 32) };
+
+    fn next_word(&mut self) -> u32 {
+        let word = self.0;
+        self.0 = word.wrapping_add(2);
+        word
+    }
+}
+
+impl Rng for Odds {
+    ghost stream = { stream_of (steps_u32 (λ s. (s, (s + 2) % 2 ^ 32))) };
+
+    fn next_u32(&mut self) -> u32 {
+        self.next_word()
+    }
+
+    fn next_u64(&mut self) -> u64 {
+        utils::next_u64_via_u32(self)
+    }
+
+    fn fill_bytes(&mut self, dst: &mut [u8]) {
+        utils::fill_bytes_via_u32(self, dst)
+    }
+}
+
+// Two jobs on one machine. All orders are as long, so that a job that is taken out goes back first.
+fn two_jobs(alloc: Global) -> Result<Instance, Stop>
+    ensures { IfOk result (λ made. (made.shop.jobs ≡ 2) × (made.shop.machines ≡ 1)) }
+{
+    let mut instance = Instance::new(alloc, 2, 1, NOTES)?;
+    instance.set(0, 0, 5);
+    instance.set(1, 0, 3);
+    Ok(instance)
+}
+
+// Three jobs on three machines. One order alone is shortest.
+fn three_machines(alloc: Global) -> Result<Instance, Stop>
+    ensures { IfOk result (λ made. (made.shop.jobs ≡ 3) × (made.shop.machines ≡ 3)) }
+{
+    let mut instance = Instance::new(alloc, 3, 3, NOTES)?;
+    instance.set(0, 0, 3);
+    instance.set(1, 0, 3);
+    instance.set(0, 1, 1);
+    instance.set(2, 1, 6);
+    instance.set(1, 2, 1);
+    Ok(instance)
+}
+
+// The second job and then the first, of three.
+fn second_and_first(alloc: Global) -> Result<Seq, Stop>
+    ensures { IfOk result (λ made. made ≡ record { size = 3; jobs = 1 ∷ 0 ∷ [] }) }
+{
+    let mut seq = Seq::new(alloc, 3)?;
+    seq.insert_at(0, 0);
+    seq.insert_at(0, 1);
+    Ok(seq)
+}
+
+// Whether a search keeps these jobs, counted from 0, and this makespan.
+fn keeps(bench: &Metered<'_>, kept: &Kept<Span>, jobs: &[usize], makespan: u64) -> bool {
+    if kept.order.len() != jobs.len() {
+        return false;
+    }
+    for place in 0..kept.order.len() {
+        if kept.order.at(place) != jobs[place] {
+            return false;
+        }
+    }
+    bench.reveal(kept.span) == makespan
+}
+
+// What a refusal stops with, if all is as it must be behind it.
+fn refused(as_it_must_be: bool) -> Stop {
+    if as_it_must_be {
+        Stop::Memory
+    } else {
+        Stop::Other
+    }
+}
+
+fn print_kept(rt: &HostRuntime, bench: &Metered<'_>, kept: &Kept<Span>) -> Result<(), Stop> {
+    print!(rt; "order")?;
+    for place in 0..kept.order.len() {
+        print!(rt; " {}", kept.order.at(place) + 1)?;
+    }
+    println!(rt;
+        ", makespan {}, {} cells",
+        bench.reveal(kept.span),
+        bench.cells()
+    )?;
+    Ok(())
+}
+
+// Puts the third job into the order of the second and the first, and where that is refused once more.
+pub(crate) fn afresh_call(rt: &HostRuntime) -> Result<(), Stop> {
+    let instance = three_jobs(rt.alloc())?;
+    let seq = second_and_first(rt.alloc())?;
+    let mut bench = instance.metered();
+    let mut inserter = Afresh::new(rt.alloc(), &bench)?;
+    if let Ok(best) = inserter.best(rt.alloc(), &mut bench, &seq, 2) {
+        let (makespan, cells) = (bench.reveal(best.span), bench.cells());
+        println!(rt; "place {}, makespan {makespan}, {cells} cells", best.place)?;
+        return Ok(());
+    }
+    let mut bench = instance.metered();
+    let best = inserter.best(rt.alloc(), &mut bench, &seq, 2)?;
+    let (makespan, cells) = (bench.reveal(best.span), bench.cells());
+    Err(refused((best.place, makespan, cells) == (2, 10, 18)))
+}
+
+// The same by heads and tails, where only the making of the inserter takes memory.
+pub(crate) fn heads_tails_call(rt: &HostRuntime) -> Result<(), Stop> {
+    let instance = three_jobs(rt.alloc())?;
+    let seq = second_and_first(rt.alloc())?;
+    let mut bench = instance.metered();
+    let mut inserter = HeadsTails::new(rt.alloc(), &bench)?;
+    let Ok(best) = inserter.best(rt.alloc(), &mut bench, &seq, 2) else {
+        return Err(Stop::Other);
+    };
+    let (makespan, cells) = (bench.reveal(best.span), bench.cells());
+    println!(rt; "place {}, makespan {makespan}, {cells} cells", best.place)?;
+    Ok(())
+}
+
+// NEH. Where it is refused, what was kept before stays.
+pub(crate) fn neh_call(rt: &HostRuntime) -> Result<(), Stop> {
+    let instance = three_jobs(rt.alloc())?;
+    let mut bench = instance.metered();
+    let inserter = Afresh::new(rt.alloc(), &bench)?;
+    let mut searcher = Searcher::new(rt.alloc(), 3, inserter)?;
+    let mut kept = Kept::new(Order::identity(rt.alloc(), 3)?, bench.zero());
+    match searcher.neh(rt.alloc(), &mut bench, &mut kept) {
+        Ok(()) => print_kept(rt, &bench, &kept),
+        Err(SearchFault::Memory { done }) => {
+            Err(refused(done == 0 && keeps(&bench, &kept, &[0, 1, 2], 0)))
+        }
+    }
+}
+
+// A round behind NEH, by the words 0 and 0. Where it is refused, NEH's order stays.
+pub(crate) fn round_call(rt: &HostRuntime) -> Result<(), Stop> {
+    let instance = three_jobs(rt.alloc())?;
+    let mut bench = instance.metered();
+    let inserter = Afresh::new(rt.alloc(), &bench)?;
+    let mut searcher = Searcher::new(rt.alloc(), 3, inserter)?;
+    let mut kept = Kept::new(Order::identity(rt.alloc(), 3)?, bench.zero());
+    searcher.neh(rt.alloc(), &mut bench, &mut kept)?;
+    match searcher.round(rt.alloc(), &mut bench, &mut kept, &[0, 0]) {
+        Ok(()) => print_kept(rt, &bench, &kept),
+        Err(SearchFault::Memory { done }) => {
+            Err(refused(done == 0 && keeps(&bench, &kept, &[1, 0, 2], 10)))
+        }
+    }
+}
+
+// Five rounds behind NEH, of two words each. No other order is as short as NEH's, so that each round keeps it.
+// Where one is refused, its words are drawn.
+pub(crate) fn rounds_call(rt: &HostRuntime) -> Result<(), Stop> {
+    let instance = three_jobs(rt.alloc())?;
+    let mut bench = instance.metered();
+    let inserter = Afresh::new(rt.alloc(), &bench)?;
+    let mut searcher = Searcher::new(rt.alloc(), 3, inserter)?;
+    let mut kept = Kept::new(Order::identity(rt.alloc(), 3)?, bench.zero());
+    searcher.neh(rt.alloc(), &mut bench, &mut kept)?;
+    let mut rng = Odds(1);
+    match searcher.rounds(rt.alloc(), &mut bench, &mut kept, 5, 2, &mut rng) {
+        Ok(()) => {
+            print_kept(rt, &bench, &kept)?;
+            println!(rt; "next word {}", rng.next_u32())?;
+            Ok(())
+        }
+        Err(SearchFault::Memory { done }) => {
+            let drawn = rng.next_u32() == 1 + 2 * 2 * (done + 1);
+            Err(refused(drawn && keeps(&bench, &kept, &[1, 0, 2], 10)))
+        }
+    }
+}
+
+// Five rounds behind NEH, of one word each, which is odd, so that each round puts the second job first. Where
+// one is refused, its word is drawn, and the order tells whether the rounds before it are even in number.
+pub(crate) fn turns_call(rt: &HostRuntime) -> Result<(), Stop> {
+    let instance = two_jobs(rt.alloc())?;
+    let mut bench = instance.metered();
+    let inserter = Afresh::new(rt.alloc(), &bench)?;
+    let mut searcher = Searcher::new(rt.alloc(), 2, inserter)?;
+    let mut kept = Kept::new(Order::identity(rt.alloc(), 2)?, bench.zero());
+    searcher.neh(rt.alloc(), &mut bench, &mut kept)?;
+    let mut rng = Odds(1);
+    match searcher.rounds(rt.alloc(), &mut bench, &mut kept, 5, 1, &mut rng) {
+        Ok(()) => {
+            print_kept(rt, &bench, &kept)?;
+            println!(rt; "next word {}", rng.next_u32())?;
+            Ok(())
+        }
+        Err(SearchFault::Memory { done }) => {
+            let drawn = rng.next_u32() == 1 + 2 * (done + 1);
+            let jobs = if done % 2 == 0 { [1, 0] } else { [0, 1] };
+            Err(refused(drawn && keeps(&bench, &kept, &jobs, 8)))
+        }
+    }
+}
+
+// NEH and twenty rounds by heads and tails, where only what is made before them takes memory.
+pub(crate) fn search_call(rt: &HostRuntime) -> Result<(), Stop> {
+    let instance = three_machines(rt.alloc())?;
+    let mut bench = instance.metered();
+    let inserter = HeadsTails::new(rt.alloc(), &bench)?;
+    let mut searcher = Searcher::new(rt.alloc(), 3, inserter)?;
+    let mut kept = Kept::new(Order::identity(rt.alloc(), 3)?, bench.zero());
+    if searcher.neh(rt.alloc(), &mut bench, &mut kept).is_err() {
+        return Err(Stop::Other);
+    }
+    print_kept(rt, &bench, &kept)?;
+    let mut rng = Odds(1);
+    if searcher
+        .rounds(rt.alloc(), &mut bench, &mut kept, 20, 3, &mut rng)
+        .is_err()
+    {
+        return Err(Stop::Other);
+    }
+    print_kept(rt, &bench, &kept)
+}
