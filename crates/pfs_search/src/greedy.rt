@@ -14,6 +14,7 @@ use rand_core::Rng;
 use std::alloc::Global;
 
 // One round, in a working sequence and a list that has room.
+#[inline(always)]
 pub(crate) fn play_round<B: Bench, I: Inserter<B>>(
     alloc: Global,
     inserter: &mut I,

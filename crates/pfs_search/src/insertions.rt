@@ -21,6 +21,7 @@ pub(crate) fn clear(seq: &mut Seq)
 }
 
 // Puts some jobs into a sequence, each at its best place in turn, and tells the makespan behind the last.
+#[inline(always)]
 pub(crate) fn insert_all<B: Bench, I: Inserter<B>>(
     alloc: Global,
     inserter: &mut I,

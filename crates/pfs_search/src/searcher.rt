@@ -83,6 +83,7 @@ impl<I> Searcher<I> {
     /// NEH (Nawaz, Enscore, Ham 1983): the jobs by decreasing total time, at equal totals the lower number
     /// first, each put at the place that gives the least makespan of the jobs so far, of equal places the
     /// earliest. It doesn't look at what `kept` was.
+    #[inline(always)]
     pub fn neh<B: Shop>(
         &mut self,
         alloc: Global,
@@ -124,6 +125,7 @@ impl<I> Searcher<I> {
     /// One round of iterated greedy (Ruiz and Stützle 2007): for each word in turn the job at the place `word`
     /// modulo the number of jobs that are left, counted from 0, is taken out; then the taken jobs are put
     /// back in this order, each at its best place. The new order is kept where it is no longer.
+    #[inline(always)]
     pub fn round<B: Bench>(
         &mut self,
         alloc: Global,
@@ -165,6 +167,7 @@ impl<I> Searcher<I> {
 
     /// So many rounds, each on the next words of a generator, one for each job that is taken out. Where memory
     /// is refused in a round, the rounds before it are done and stay, and its words are drawn.
+    #[inline(always)]
     pub fn rounds<B: Bench, R: Rng>(
         &mut self,
         alloc: Global,

@@ -102,6 +102,7 @@ fn solution_of(
 
 // NEH's order, and then so many rounds, each of which takes so many jobs out, on a bench that has counted
 // nothing.
+#[inline(always)]
 fn search<B: Shop>(
     alloc: Global,
     bench: &mut B,
