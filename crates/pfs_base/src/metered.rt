@@ -1,9 +1,9 @@
 //! A bench over an instance.
-ghost use Rattle.std.specs.Prelude.{◌≡◌, ℕ, ◌+◌, ◌≤◌, length, refl};
+ghost use Rattle.std.specs.Prelude.{◌≡◌, ℕ, ◌+◌, ◌≤◌, length, max, refl};
 ghost use Rattle.pfs_base.specs.Limits.{limits};
 ghost use Rattle.pfs_base.specs.FlowShop.{FlowShop, IsWithin};
 
-use crate::bench::{Bench, Length, Shop};
+use crate::bench::{Bench, Length, SPAN_MAX, Shop};
 use std::marker::Model;
 
 /// A length of time of `Metered`.
@@ -65,7 +65,7 @@ impl<'a> Bench for Metered<'a> {
         self.cells += 1;
         let time = self.times[job * self.machines + machine];
         Span {
-            number: a.number.max(b.number) + u64::from(time),
+            number: greater(a.number, b.number) + u64::from(time),
         }
     }
 
@@ -84,6 +84,17 @@ impl<'a> Bench for Metered<'a> {
     fn room(&self, cost: u64) -> bool {
         self.cells.checked_add(cost).is_some()
     }
+}
+
+// The greater of two lengths. It compares them as signed numbers: x86-64 chooses by the order of signed numbers
+// in one step, and by that of unsigned ones in two.
+#[inline(always)]
+fn greater(a: u64, b: u64) -> u64
+    requires a { a ≤ SPAN_MAX }
+    requires b { b ≤ SPAN_MAX }
+    ensures { result ≡ max a b }
+{
+    if (a as i64) < (b as i64) { b } else { a }
 }
 
 impl Shop for Metered<'_> {

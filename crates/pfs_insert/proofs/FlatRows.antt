@@ -4,7 +4,7 @@ use Rattle.std.proofs.Math.Nat.{mul-le-mul_right}
 use borrow.Rule.Slice.PartMut.{put_mid, post_of}
 use Rattle.std.proofs.lemmas.Bool.{cases_lt}
 use Rattle.std.proofs.lemmas.List.{get_or-take, get_or-drop, get_or_append_left, get_or-append_right, length-take-le}
-use Rattle.pfs_insert.specs.Rows.{from_last, AreNumbers, AreNumbersFrom, AreBack, AreBackFrom}
+use Rattle.pfs_insert.specs.Rows.{from_last, AreNumbers, AreNumbersFrom, AreBack}
 
 -- a row so many behind another
 pub row_split : (row above more width : ℕ) → row ≡ above + more → row * width ≡ above * width + more * width
@@ -21,10 +21,7 @@ module _ {X : Type 0} where
       let e : i - n ≡ at = omega arith in
       get_or-append_right xs ys n i d long (omega arith) ∙ ap (λ k. get_or ys k d) e
 
-  -- what is read of a list in which a part was replaced: before the part, and in it
-  pub get_front : (a i : ℕ) (xs rest : List X) (d : X) → a ≤ length xs → i < a → get_or (take a xs ++ rest) i d ≡ get_or xs i d
-  get_front a i xs rest d fits lt = get_or_append_left (take a xs) rest d i (omega (arith, length-take-le a xs fits)) ∙ get_or-take a xs i d lt
-
+  -- what is read of a list in which a part was replaced, in it
   pub get_part : (a at i : ℕ) (xs part rest : List X) (d : X) → a ≤ length xs → i ≡ a + at → at < length part → get_or (take a xs ++ (part ++ rest)) i d ≡ get_or part at d
   get_part a at i xs part rest d fits is lt = get_behind (take a xs) (part ++ rest) a at i d (length-take-le a xs fits) is ∙ get_or_append_left part rest d at lt
 
@@ -42,11 +39,6 @@ module _ {X : Type 0} (number : X → ℕ) (width : ℕ) (some : 1 ≤ width) (v
       let e : width - 1 - (width - 1 - machine) ≡ machine = omega arith in
       subst (λ i. number (get_or row i d) ≡ values i) e (told (width - 1 - machine) d (omega arith))
 
-  pub back_numbers_from : (rows : List X) (start : ℕ) → AreBackFrom number rows start (width - 1) (from_last (width - 1) values) → AreNumbersFrom number rows start width values
-  back_numbers_from rows start told machine d lt =
-      let e : width - 1 - (width - 1 - machine) ≡ machine = omega arith in
-      subst (λ i. number (get_or rows (start + i) d) ≡ values i) e (told (width - 1 - machine) d (omega arith))
-
 -- what a part of a table has that begins with a row
 pub part_told : {X : Type 0} (number : X → ℕ) (rows : List X) (row other width machines k : ℕ) (values : ℕ → ℕ) → row ≡ other → width ≡ machines → width ≤ k
     → AreNumbersFrom number rows (other * machines) machines values → AreNumbers number (take k (drop (row * width) rows)) machines values
@@ -54,31 +46,29 @@ part_told number rows row other width machines k values is wide few told machine
     let at : row * width ≡ other * machines = ap (λ r. r * width) is ∙ ap (λ w. other * w) wide in
     ap number (get_of_part (row * width) k machine rows d (omega arith)) ∙ ap (λ n. number (get_or rows (n + machine) d)) at ∙ told machine d lt
 
+-- what the front of a table has of it
+pub front_told : {X : Type 0} (number : X → ℕ) (rows front back : List X) (start width : ℕ) (values : ℕ → ℕ) → rows ≡ front ++ back → start + width ≤ length front
+    → AreNumbersFrom number rows start width values → AreNumbersFrom number front start width values
+front_told number rows front back start width values parts fits told machine d lt =
+    ap number (sym (get_or_append_left front back d (start + machine) (omega arith)) ∙ ap (λ xs. get_or xs (start + machine) d) (sym parts)) ∙ told machine d lt
+
 -- a table of rows whose first ones hold their values, with one row more
-pub heads_more : {X : Type 0} (number : X → ℕ) (values : ℕ → ℕ → ℕ) (width place a k : ℕ) (rows new : List X) → a ≡ place * width → a ≤ length rows → length new ≡ 2 * width
-    → ((row : ℕ) → row ≤ place → AreNumbersFrom number rows (row * width) width (values row))
-    → ((machine : ℕ) (d : X) → machine < width → get_or new machine d ≡ get_or rows (a + machine) d) → AreNumbersFrom number new width width (values (place + 1))
-    → (row : ℕ) → row ≤ place + 1 → AreNumbersFrom number (put_mid a k rows new) (row * width) width (values row)
-heads_more number values width place a k rows new begin fits long filled kept told row few machine d lt =
+pub heads_more : {X : Type 0} (number : X → ℕ) (values : ℕ → ℕ → ℕ) (width place : ℕ) (rows front back rest new : List X) → rows ≡ front ++ back → length front ≡ (place + 1) * width → length new ≡ width
+    → ((row : ℕ) → row ≤ place → AreNumbersFrom number rows (row * width) width (values row)) → AreNumbers number new width (values (place + 1))
+    → (row : ℕ) → row ≤ place + 1 → AreNumbersFrom number (front ++ (new ++ rest)) (row * width) width (values row)
+heads_more number values width place rows front back rest new parts long wide filled told row few machine d lt =
     let i = row * width + machine in
-    let post = post_of a k rows in
     ⊎_elim
-    (λ (above : row < place).
-    let next = row_le (row + 1) place width (omega arith) in
-    ap number (get_front a i rows (new ++ post) d fits (omega arith)) ∙ filled row (omega arith) machine d lt)
-    (λ (ge : place ≤ row).
-    ⊎_elim
-    (λ (here : row < place + 1).
-    let is : row ≡ place = omega arith in
-    let at = ap (λ r. r * width) is in
-    let place_is : a + machine ≡ i = omega arith in
-    ap number (get_part a machine i rows new post d fits (omega arith) (omega arith) ∙ kept machine d lt ∙ ap (λ n. get_or rows n d) place_is) ∙ filled row (omega arith) machine d lt)
+    (λ (above : row < place + 1).
+    let next = row_le (row + 1) (place + 1) width (omega arith) in
+    let inside : i < length front = omega arith in
+    ap number (get_or_append_left front (new ++ rest) d i inside) ∙ front_told number rows front back (row * width) width (values row) parts (omega arith) (filled row (omega arith)) machine d lt)
     (λ (last : place + 1 ≤ row).
     let is : row ≡ place + 1 = omega arith in
     let at = ap (λ r. r * width) is in
-    ap number (get_part a (width + machine) i rows new post d fits (omega arith) (omega arith)) ∙ told machine d lt ∙ ap (λ r. values r machine) (sym is))
-    (cases_lt row (place + 1)))
-    (cases_lt row place)
+    ap number (get_behind front (new ++ rest) ((place + 1) * width) machine i d long (omega arith) ∙ get_or_append_left new rest d machine (omega arith))
+    ∙ told machine d lt ∙ ap (λ r. values r machine) (sym is))
+    (cases_lt row (place + 1))
 
 -- a table of rows of which those from one on hold their values
 module _ {X : Type 0} (number : X → ℕ) (values : ℕ → ℕ → ℕ) (width first len : ℕ) where
@@ -95,23 +85,18 @@ module _ {X : Type 0} (number : X → ℕ) (values : ℕ → ℕ → ℕ) (width
         ap number (get_or-take width back machine d lt ∙ sym behind ∙ ap (λ xs. get_or xs ((first + from) * width + machine) d) (sym parts))
         ∙ filled from (omega arith) within machine d lt
 
-    -- with some rows more above it
-    pub filled_more : (count upper a k : ℕ) (new : List X) → count ≤ from → below ≡ upper + count → a ≡ upper * width → length new ≡ count * width → length (put_mid a k front new) ≡ length front
-        → ((more : ℕ) → more < count → AreNumbersFrom number new (more * width) width (values (from - count + more))) → AreFilled (from - count) (put_mid a k front new ++ back)
-    filled_more count upper a k new few starts begin wide same told row low high machine d lt =
+    -- with one row more above it
+    pub filled_more : (upper a k : ℕ) (new : List X) → 1 ≤ from → below ≡ upper + 1 → a ≡ upper * width → length new ≡ width → length (put_mid a k front new) ≡ length front
+        → AreNumbers number new width (values (from - 1)) → AreFilled (from - 1) (put_mid a k front new ++ back)
+    filled_more upper a k new some starts begin wide same told row low high machine d lt =
         let i = (first + row) * width + machine in
-        let rest = row_split below upper count width starts in
+        let rest = row_split below upper 1 width starts in
         ⊎_elim
         (λ (above : row < from).
-        let more = row - (from - count) in
-        let at = more * width + machine in
-        let e : first + row ≡ upper + more = omega arith in
-        let place = row_split (first + row) upper more width e in
-        let fits = row_le (more + 1) count width (omega arith) in
-        let inside : at < length new = omega arith in
-        let is : row ≡ from - count + more = omega arith in
-        ap number (get_or_append_left (put_mid a k front new) back d i (omega arith) ∙ get_part a at i front new (post_of a k front) d (omega arith) (omega arith) inside)
-        ∙ told more (omega arith) machine d lt ∙ ap (λ r. values r machine) (sym is))
+        let is : row ≡ from - 1 = omega arith in
+        let at = ap (λ r. r * width) (let e : first + row ≡ upper = omega arith in e) in
+        ap number (get_or_append_left (put_mid a k front new) back d i (omega arith) ∙ get_part a machine i front new (post_of a k front) d (omega arith) (omega arith) (omega arith))
+        ∙ told machine d lt ∙ ap (λ r. values r machine) (sym is))
         (λ (old : from ≤ row).
         let more = row - from in
         let at = more * width + machine in

@@ -11,8 +11,8 @@ use Rattle.pfs_base.proofs.Lists.{map-range_with_len-same}
 use Rattle.pfs_base.specs.Paths.{greatest}
 use Rattle.pfs_insert.specs.Exchange.{heaviest_front, heaviest_back}
 use Rattle.pfs_insert.specs.Insertion.{makespan_with}
-use Rattle.pfs_insert.specs.Rows.{next_row, greatest_sum, from_last, AreNumbers, AreNumbersFrom, AreBack, AreBackFrom}
-use Rattle.pfs_insert.proofs.FlatRows.{numbers_back, back_numbers, back_numbers_from}
+use Rattle.pfs_insert.specs.Rows.{next_row, greatest_sum, from_last, AreNumbers, AreBack}
+use Rattle.pfs_insert.proofs.FlatRows.{numbers_back, back_numbers}
 use Rattle.pfs_insert.proofs.Exchange.{exchange_law, operation_before, operation_at}
 use Rattle.pfs_insert.proofs.RowSteps.{next_row_same}
 
@@ -163,7 +163,7 @@ module _ (shop : FlowShop) (jobs : List ℕ) (job place : ℕ) (within : place �
       ap greatest (map-range_with_len-same _ _ 0 shop.machines (λ machine low high. ap (λ x. x + heaviest_back shop jobs place machine) (front_is machine)))
       ∙ sym (exchange_law shop jobs job place some within)
 
--- a row of tails, and two of them, as the loops leave them
+-- a row of tails as the loop leaves it
 module _ {X : Type 0} (number : X → ℕ) (shop : FlowShop) (jobs : List ℕ) (some : 1 ≤ shop.machines) (below : List X) where
   abbrev end : ℕ
   end = shop.machines - 1
@@ -177,32 +177,6 @@ module _ {X : Type 0} (number : X → ℕ) (shop : FlowShop) (jobs : List ℕ) (
       let tails = from_last end (heaviest_back shop jobs (row + 1)) in
       let new_told = made tails (numbers_back number shop.machines some (heaviest_back shop jobs (row + 1)) below told) in
       back_numbers number shop.machines some (heaviest_back shop jobs row) new (λ back d le. new_told back d le ∙ tail_row_is shop jobs row job tails lt is (λ k small. refl) back le)
-
-  pub two_rows : (row lower upper : ℕ) (new : List X) → row + 1 < length jobs → lower ≡ get_or jobs (row + 1) 0 → upper ≡ get_or jobs row 0 → AreNumbers number below shop.machines (heaviest_back shop jobs (row + 2))
-      → ((tails : ℕ → ℕ) → AreBack number below end tails → AreBackFrom number new shop.machines end (row_of lower tails))
-      → ((tails : ℕ → ℕ) → AreBack number below end tails → AreBack number new end (row_of upper (row_of lower tails)))
-      → (more : ℕ) → more < 2 → AreNumbersFrom number new (more * shop.machines) shop.machines (heaviest_back shop jobs (row + more))
-  two_rows row lower upper new lt lower_is upper_is told lower_made upper_made more few machine d small =
-      let tails = from_last end (heaviest_back shop jobs (row + 2)) in
-      let e : row + 1 + 1 ≡ row + 2 = omega arith in
-      let below_told = numbers_back number shop.machines some (heaviest_back shop jobs (row + 2)) below told in
-      let lower_told = lower_made tails below_told in
-      let upper_told = upper_made tails below_told in
-      let lower_value = λ (back : ℕ) (le : back ≤ end). tail_row_is shop jobs (row + 1) lower tails lt lower_is (λ k low. ap (λ r. heaviest_back shop jobs r (end - k)) (sym e)) back le in
-      ⊎_elim
-      (λ (first : more < 1).
-      let is : more * shop.machines + machine ≡ machine = (let none : more ≡ 0 = omega arith in ap (λ n. n * shop.machines + machine) none ∙ omega arith) in
-      let same : row ≡ row + more = omega arith in
-      ap (λ i. number (get_or new i d)) is
-      ∙ back_numbers number shop.machines some (heaviest_back shop jobs row) new (λ back x le. upper_told back x le ∙ tail_row_is shop jobs row upper (row_of lower tails) (omega arith) upper_is (λ k low. lower_value k low) back le) machine d small
-      ∙ ap (λ r. heaviest_back shop jobs r machine) same)
-      (λ (second : 1 ≤ more).
-      let is : more * shop.machines + machine ≡ shop.machines + machine = (let one : more ≡ 1 = omega arith in ap (λ n. n * shop.machines + machine) one ∙ omega arith) in
-      let same : row + 1 ≡ row + more = omega arith in
-      ap (λ i. number (get_or new i d)) is
-      ∙ back_numbers_from number shop.machines some (heaviest_back shop jobs (row + 1)) new shop.machines (λ back x le. lower_told back x le ∙ lower_value back le) machine d small
-      ∙ ap (λ r. heaviest_back shop jobs r machine) same)
-      (cases_lt more 1)
 
 -- heads and tails are as short as a path can be
 module _ (shop : FlowShop) (within : IsWithin limits shop) (jobs : List ℕ) (few : length jobs ≤ shop.jobs) where

@@ -37,11 +37,6 @@ abbrev pub AreBack : {X : Type 0} → (X → ℕ) → List X → ℕ → (ℕ �
 AreBack {X} number row last values =
     (back : ℕ) (d : X) → back ≤ last → number (slice_index_or row (last - back) d) ≡ values back
 
--- the same of a row that begins at a place of a list
-abbrev pub AreBackFrom : {X : Type 0} → (X → ℕ) → List X → ℕ → ℕ → (ℕ → ℕ) → Type 0
-AreBackFrom {X} number rows start last values =
-    (back : ℕ) (d : X) → back ≤ last → number (slice_index_or rows (start + (last - back)) d) ≡ values back
-
 -- no length of a row is greater than a path can be
 abbrev pub AreShort : {X : Type 0} → (X → ℕ) → List X → ℕ → Type 0
 AreShort {X} number row machines =

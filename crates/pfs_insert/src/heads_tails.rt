@@ -6,7 +6,7 @@ ghost use Rattle.pfs_insert.specs.Rows.{AreNumbers, AreNumbersFrom};
 
 use crate::fault::InsertFault;
 use crate::inserter::{Inserter, Placed, better};
-use crate::rows::{fill_head_and_join, fill_tail, fill_two_tails, join_inserted};
+use crate::rows::{fill_head, fill_tail, join_inserted};
 use pfs_base::{Bench, Length};
 use pfs_order::Seq;
 use std::alloc::{AllocError, Global};
@@ -23,9 +23,9 @@ pub struct HeadsTails<B: Bench> {
 
 /// A table of 2n + 1 rows of m lengths, for n jobs on m machines: a row of zeros, n - 1 rows of heads,
 /// n - 1 rows of tails, a row of zeros, and the inserted row. The heads of a sequence begin behind the
-/// first row, and its tails end before the second row of zeros. A loop over the machines borrows two parts
-/// of the table, one of them for writing, and no row is copied. The lengths of the inserted row are joined
-/// with the tails as they come, so that its place in the table isn't written.
+/// first row, and its tails end before the second row of zeros. A loop over the machines borrows two rows,
+/// one of them for writing where it fills it, and no row is copied. The lengths of the inserted row are
+/// joined with the tails as they come, so that its place in the table isn't written.
 #[derive(Drop)]
 struct Table<S: Length> {
     jobs: usize,
@@ -125,9 +125,8 @@ fn best_in_table<B: Bench>(
     best_by_rows(bench, seq, job, heads, tails)
 }
 
-// Fills the rows of tails of a sequence, from its last job on, two in one loop. The rows are those of the
-// tails of n - 1 jobs, the row of zeros behind them, and one row more; those of the sequence end before
-// the row of zeros.
+// Fills the rows of tails of a sequence, from its last job on. The rows are those of the tails of n - 1
+// jobs, the row of zeros behind them, and one row more; those of the sequence end before the row of zeros.
 #[inline(always)]
 fn fill_tails<B: Bench>(bench: &mut B, seq: &Seq, rows: &mut [B::Span])
     requires size { seq.now.size ≡ (B.shop bench.old).jobs }
@@ -143,23 +142,12 @@ fn fill_tails<B: Bench>(bench: &mut B, seq: &Seq, rows: &mut [B::Span])
     let machines = bench.machines();
     let len = seq.len();
     let last = seq.size() - 1;
-    for pair in 0..len / 2 {
-        let below = last - 2 * pair;
-        let (front, back) = rows.split_at_mut(below * machines);
-        fill_two_tails(
-            bench,
-            seq.at(len - 1 - 2 * pair),
-            seq.at(len - 2 - 2 * pair),
-            &back[..machines],
-            &mut front[(below - 2) * machines..],
-        );
-    }
-    if len % 2 == 1 {
-        let below = last + 1 - len;
+    for filled in 0..len {
+        let below = last - filled;
         let (front, back) = rows.split_at_mut(below * machines);
         fill_tail(
             bench,
-            seq.at(0),
+            seq.at(len - 1 - filled),
             &back[..machines],
             &mut front[(below - 1) * machines..],
         );
@@ -200,14 +188,20 @@ fn best_by_rows<B: Bench>(
         span: bench.zero(),
     };
     for place in 0..len {
-        let span = fill_head_and_join(
+        let span = join_inserted(
             bench,
-            seq.at(place),
             job,
-            &mut heads[place * machines..(place + 2) * machines],
+            &heads[place * machines..(place + 1) * machines],
             &tails[(first + place) * machines..(first + place + 1) * machines],
         );
         best = better(best, place, span);
+        let (front, back) = heads.split_at_mut((place + 1) * machines);
+        fill_head(
+            bench,
+            seq.at(place),
+            &front[place * machines..],
+            &mut back[..machines],
+        );
     }
     let span = join_inserted(
         bench,

@@ -1,4 +1,4 @@
-use Rattle.std.proofs.Common.{◌≡◌, ℕ, ◌+◌, ◌*◌, ◌<◌, ◌≤◌}
+use Rattle.std.proofs.Common.{◌≡◌, ℕ, ◌+◌, ◌*◌, ◌<◌, ◌≤◌, length}
 use Rattle.pfs_base.specs.Paths.{operation}
 use Rattle.pfs_base.proofs.Heads.{head}
 use Rattle.pfs_insert.specs.Insertion.{IsBest, makespan_with}
@@ -13,6 +13,7 @@ invariant-loop-place g l =
     record {
       same_shop : g.B.Bench.shop l.bench ≡ shop;
       counted : g.B.Bench.counted l.bench ≡ g.B.Bench.counted l.fn.bench + 3 * l.place * shop.machines;
+      long : length l.heads ≡ length l.fn.heads;
       heads : (row : ℕ) → row ≤ l.place → AreNumbersFrom number l.heads (row * shop.machines) shop.machines (head (operation shop l.seq.jobs) row);
       best : 0 < l.place → IsBest number value l.place l.best.place l.best.span;
     }
