@@ -86,17 +86,6 @@ impl<'a> Bench for Metered<'a> {
     }
 }
 
-// The greater of two lengths. It compares them as signed numbers: x86-64 chooses by the order of signed numbers
-// in one step, and by that of unsigned ones in two.
-#[inline(always)]
-fn greater(a: u64, b: u64) -> u64
-    requires a { a ≤ SPAN_MAX }
-    requires b { b ≤ SPAN_MAX }
-    ensures { result ≡ max a b }
-{
-    if (a as i64) < (b as i64) { b } else { a }
-}
-
 impl Shop for Metered<'_> {
     fn total(&self, job: usize) -> u64 {
         let first = job * self.machines;
@@ -130,4 +119,15 @@ impl<'a> Metered<'a> {
     {
         span.number
     }
+}
+
+// The greater of two lengths. They are compared as signed numbers, because the processor makes a choice by
+// that order in one step (`cmovg`), and by the order of unsigned numbers in two (`cmova`).
+#[inline(always)]
+fn greater(a: u64, b: u64) -> u64
+    requires a { a ≤ SPAN_MAX }
+    requires b { b ≤ SPAN_MAX }
+    ensures { result ≡ max a b }
+{
+    if (a as i64) < (b as i64) { b } else { a }
 }
