@@ -57,10 +57,6 @@ module _ (value : ℕ → ℕ) where
     first = λ other small. absurd (omega arith);
   }
 
-  -- the first place of all
-  pub first_least_start : (place : ℕ) → place ≡ 0 → IsFirstLeast value (place + 1) place
-  first_least_start place is = subst (λ n. IsFirstLeast value (n + 1) n) (sym is) first_least_one
-
   -- there is a first least one
   some_least : (count : ℕ) → (place : ℕ) × IsFirstLeast value (suc count) place
   some_least zero = (0, first_least_one)

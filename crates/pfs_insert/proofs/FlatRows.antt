@@ -21,7 +21,7 @@ module _ {X : Type 0} where
       let e : i - n ≡ at = omega arith in
       get_or-append_right xs ys n i d long (omega arith) ∙ ap (λ k. get_or ys k d) e
 
-  -- what is read of a list in which a part was replaced, in it
+  -- what is read of the part of a list that was replaced
   pub get_part : (a at i : ℕ) (xs part rest : List X) (d : X) → a ≤ length xs → i ≡ a + at → at < length part → get_or (take a xs ++ (part ++ rest)) i d ≡ get_or part at d
   get_part a at i xs part rest d fits is lt = get_behind (take a xs) (part ++ rest) a at i d (length-take-le a xs fits) is ∙ get_or_append_left part rest d at lt
 

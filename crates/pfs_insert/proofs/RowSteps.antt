@@ -19,9 +19,6 @@ pub next_row_at : (times above : ℕ → ℕ) (m : ℕ) → next_row times above
 next_row_at times above zero = refl
 next_row_at times above (suc m) = refl
 
-pub next_row_more : (times above : ℕ → ℕ) (m : ℕ) → next_row times above (m + 1) ≡ max (above (m + 1)) (next_row times above m) + times (m + 1)
-next_row_more times above m = rw add-one refl
-
 pub value_before_more : (values : ℕ → ℕ) (m : ℕ) → value_before values (m + 1) ≡ values m
 value_before_more values m = rw add-one refl
 
