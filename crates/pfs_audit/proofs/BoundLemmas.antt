@@ -5,7 +5,7 @@ use Rattle.std.proofs.lemmas.Bool.{cases_lt}
 use Rattle.std.proofs.lemmas.List.{get_or_default}
 use Rattle.pfs_base.specs.FlowShop.{FlowShop, time_of, total_of}
 use Rattle.pfs_base.specs.Paths.{greatest, makespan, operation}
-use Rattle.pfs_base.proofs.Heads.{head, head_step, makespan_is}
+use Rattle.pfs_base.proofs.Published.Heads.{head, head_step, makespan_is}
 use Rattle.pfs_order.specs.Sequence.{IsSequence}
 use Rattle.pfs_audit.specs.Bound.{least, time_on, machine_bound, BoundLaw}
 use Rattle.pfs_audit.proofs.Orders.{Contains-order, sum_by-order, sum_by-all_rows}

@@ -9,7 +9,7 @@ use Rattle.std.proofs.lemmas.List.Sorted.{IsPermutation-remove}
 use Rattle.std.proofs.lemmas.List.Sums.{sum_by_more, sum_by-remove}
 use Rattle.std.proofs.lemmas.Map.Views.{Contains-from_any, list_any-from_Contains}
 use Rattle.pfs_order.specs.Sequence.{IsSequence, all_jobs}
-use Rattle.pfs_order.proofs.Sequences.{length-lt-size, IsSequence-remove, IsSequence-permutation, IsSequence-head}
+use Rattle.pfs_order.proofs.Published.Sequences.{length-lt-size, IsSequence-remove, IsSequence-permutation, IsSequence-head}
 use Rattle.pfs_audit.proofs.Ranges.{sum_by-below-suc}
 
 -- every job stands in an order of all jobs

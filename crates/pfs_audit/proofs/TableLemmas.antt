@@ -2,7 +2,7 @@
 use Rattle.std.proofs.Common.{◌≡◌, ℕ, ◌+◌, ◌-◌, ◌*◌, ◌<◌, ◌≤◌, List, length, get_or, suc, sym, ap, ◌∙◌, arith}
 use Rattle.pfs_base.specs.FlowShop.{FlowShop}
 use Rattle.pfs_base.specs.Paths.{makespan, operation}
-use Rattle.pfs_base.proofs.Heads.{head, makespan_is}
+use Rattle.pfs_base.proofs.Published.Heads.{head, makespan_is}
 use Rattle.pfs_audit.specs.Schedule.{Starts, end_of, EndsBy, IsLeastSchedule, least_end, least_start, AreRows}
 use Rattle.pfs_audit.proofs.Schedules.{end_of_least, ends_by_makespan, is_least_schedule, least_end-is}
 

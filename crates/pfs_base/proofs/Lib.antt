@@ -1,9 +1,3 @@
-pub mod Heads
-pub mod Heaviest
-pub mod Lists
+pub mod Published
 mod MakespanLaws
-pub mod Printing
-pub mod SendsLemmas
-pub mod SendsOn
 pub mod Sent
-pub mod SpacedLemmas

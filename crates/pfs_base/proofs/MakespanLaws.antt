@@ -2,8 +2,8 @@
 use Rattle.std.proofs.Common.{◌≡◌, ℕ, zero, suc, ◌+◌, ◌-◌, ◌<◌, ◌≤◌, max, List, [], ◌∷◌, length, refl, sym, ap, ◌∙◌, add-one, arith}
 use Rattle.pfs_base.specs.FlowShop.{FlowShop}
 use Rattle.pfs_base.specs.Paths.{operation, IsHeaviest, MakespanLaw, OneMakespan, AreEnds, RecurrenceLaw}
-use Rattle.pfs_base.proofs.Heaviest.{heaviest_law}
-use Rattle.pfs_base.proofs.Heads.{head, head_step, makespan_is}
+use Rattle.pfs_base.proofs.Published.Heaviest.{heaviest_law}
+use Rattle.pfs_base.proofs.Published.Heads.{head, head_step, makespan_is}
 
 pub makespan_law : MakespanLaw
 makespan_law shop [] = refl

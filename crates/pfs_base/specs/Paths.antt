@@ -50,6 +50,11 @@ pub record IsHeaviest (weigh : ℕ → ℕ → ℕ) (row machine last_row last_m
   pub some_path : (path : List Cell) × Path row machine last_row last_machine path × (weight weigh path ≡ most)
   pub no_heavier : (path : List Cell) → Path row machine last_row last_machine path → weight weigh path ≤ most
 
+-- between two cells some path weighs what `heaviest` says, and none weighs more
+abbrev pub HeaviestLaw : Type 0
+HeaviestLaw = (weigh : ℕ → ℕ → ℕ) (row machine last_row last_machine : ℕ) → row ≤ last_row → machine ≤ last_machine
+    → IsHeaviest weigh row machine last_row last_machine (heaviest weigh row machine last_row last_machine)
+
 -- the weight of a path through all operations that no path exceeds, and 0 of no jobs
 abbrev pub IsMakespan : FlowShop → List ℕ → ℕ → Type 0
 IsMakespan shop [] most = most ≡ 0

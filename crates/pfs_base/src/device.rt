@@ -13,8 +13,9 @@ pub trait Source {
     ghost has_failed: { Self → Bool };
 
     /// Reads some bytes into the front of `buf`, and says how many; 0 is the end of the bytes, if `buf`
-    /// isn't empty. `None` is a failure, and moves no byte.
+    /// isn't empty. `None` is a failure, and moves no byte. A source that has failed isn't read again.
     fn read(&mut self, buf: &mut [u8]) -> Option<usize>
+        requires working { has_failed self.old ≡ false }
         ensures bytes { Reads (left self.old) (left self.new) result buf.new }
         ensures failed { has_failed self.new ≡ fails_after (has_failed self.old) result };
 
@@ -31,8 +32,9 @@ pub trait Sink {
     ghost has_failed: { Self → Bool };
 
     /// Writes the front of `bytes`, and says how many, which is at least one if there is one. `None` is a
-    /// failure, and moves no byte.
+    /// failure, and moves no byte. A sink that has failed isn't written to again.
     fn write(&mut self, bytes: &[u8]) -> Option<usize>
+        requires working { has_failed self.old ≡ false }
         ensures bytes { Writes (written self.old) (written self.new) result bytes.now }
         ensures failed { has_failed self.new ≡ fails_after (has_failed self.old) result };
 

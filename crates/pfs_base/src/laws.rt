@@ -1,5 +1,11 @@
 //! Laws about the definitions alone.
-ghost use Rattle.pfs_base.specs.Paths.{MakespanLaw, OneMakespan, RecurrenceLaw};
+ghost use Rattle.pfs_base.specs.Paths.{HeaviestLaw, MakespanLaw, OneMakespan, RecurrenceLaw};
+
+/// Between any two cells, of which the second is neither above nor before the first, some path has the weight of the
+/// heaviest path, and no path weighs more.
+pub fn heaviest()
+    ensures { HeaviestLaw }
+{}
 
 /// The makespan is the weight of a path from the first operation to the last, and no path weighs more.
 pub fn makespan()

@@ -9,8 +9,8 @@ use Rattle.pfs_layout.specs.declared.fault.LayoutFault.TheVariants as layout_fau
 use Rattle.pfs_layout.specs.declared.layout.Layout.{Layout}
 use Rattle.pfs_layout.specs.File.{File}
 use Rattle.pfs_layout.specs.Refuse.{Refuse}
-use Rattle.pfs_layout.proofs.LawLemmas.{one_verdict}
-use Rattle.pfs_layout.proofs.PlaceLemmas.{one_fault}
+use Rattle.pfs_layout.proofs.Published.LawLemmas.{one_verdict}
+use Rattle.pfs_layout.proofs.Published.PlaceLemmas.{one_fault}
 use Rattle.pfs_desk.specs.declared.fault.DeskFault.{DeskFault}
 use Rattle.pfs_desk.specs.declared.fault.DeskFault.TheVariants as faults
 use Rattle.pfs_desk.specs.declared.fault.Outcome.{Outcome}

@@ -4,7 +4,7 @@ use Rattle.std.proofs.lemmas.Bool.{eq-eqb, ne_eqb}
 use Rattle.std.proofs.lemmas.List.{append-nil}
 use Rattle.pfs_base.specs.Text.{with_line_end}
 use Rattle.pfs_base.specs.Sends.{SendsFront}
-use Rattle.pfs_base.proofs.SendsLemmas.{front_of}
+use Rattle.pfs_base.proofs.Published.SendsLemmas.{front_of}
 use Rattle.pfs_base.specs.FlowShop.{FlowShop}
 use Rattle.pfs_audit.specs.Schedule.{Timing}
 use Rattle.pfs_desk.specs.declared.fault.Outcome.TheVariants.{Done, CheckFailed}

@@ -14,16 +14,16 @@ use Rattle.pfs_base.specs.FlowShop.{FlowShop, IsWithin}
 use Rattle.pfs_base.specs.Paths.{makespan, operation}
 use Rattle.pfs_base.specs.Sends.{SendsFront}
 use Rattle.pfs_base.specs.Text.{named_number}
-use Rattle.pfs_base.proofs.Heads.{head_le, makespan_is, time_of-le}
-use Rattle.pfs_base.proofs.SendsLemmas.{front_of}
+use Rattle.pfs_base.proofs.Published.Heads.{head_le, makespan_is, time_of-le}
+use Rattle.pfs_base.proofs.Published.SendsLemmas.{front_of}
 use Rattle.pfs_order.specs.OrderText.{file_text}
 use Rattle.pfs_order.specs.Sequence.{IsSequence, IsSize}
-use Rattle.pfs_order.proofs.OrderVerdicts.{text_fits, written_file}
+use Rattle.pfs_order.proofs.Published.OrderVerdicts.{text_fits, written_file}
 use Rattle.pfs_insert.specs.Insertion.{heads_tails_cost}
 use Rattle.pfs_search.specs.Costs.{neh_cost, round_cost, HasClosedCosts}
 use Rattle.pfs_search.specs.Greedy.{after_rounds, words_of}
 use Rattle.pfs_search.specs.Neh.{neh_order}
-use Rattle.pfs_search.proofs.CostSums.{costs_law}
+use Rattle.pfs_search.proofs.Published.CostSums.{costs_law}
 use Rattle.pfs_desk.specs.declared.solve_options.TheConstants.{MOST_ROUNDS}
 use Rattle.pfs_desk.specs.Solve.{words_for, neh_cells, rounds_cells, solution_text, IsFound}
 

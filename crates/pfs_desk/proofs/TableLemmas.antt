@@ -4,8 +4,8 @@ use Rattle.std.specs.List.{flat_map}
 use Rattle.pfs_base.specs.Lists.{below}
 use Rattle.pfs_base.specs.Sends.{SendsAll, SendsFront}
 use Rattle.pfs_base.specs.Text.{with_line_end, spaced, named_number}
-use Rattle.pfs_base.proofs.SendsLemmas.{then_all, then_front, front_of}
-use Rattle.pfs_base.proofs.SpacedLemmas.{flat_map_more, flat_map_from, spaced-cons, spaced_pairs}
+use Rattle.pfs_base.proofs.Published.SendsLemmas.{then_all, then_front, front_of}
+use Rattle.pfs_base.proofs.Published.SpacedLemmas.{flat_map_more, flat_map_from, spaced-cons, spaced_pairs}
 use Rattle.pfs_audit.specs.Schedule.{Timing, start_in, end_in, last_end}
 use Rattle.pfs_desk.specs.OutputText.{row_text, table_text}
 

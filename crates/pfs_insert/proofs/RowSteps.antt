@@ -8,7 +8,7 @@ use Rattle.std.proofs.lemmas.Bool.{cases_lt}
 use Rattle.std.proofs.lemmas.List.{get_or-set_same, get_or-set_other}
 use Rattle.std.proofs.lemmas.List.FromFn.{map-range_with_len_more}
 use Rattle.pfs_base.specs.Paths.{greatest}
-use Rattle.pfs_base.proofs.Heaviest.{greatest-append, greatest-cons}
+use Rattle.pfs_base.proofs.Published.Heaviest.{greatest-append, greatest-cons}
 use Rattle.pfs_insert.specs.Rows.{next_row, value_before, greatest_sum}
 
 lt_from : (a b : ℕ) → is_lt (nat_cmp a b) ≡ true → a < b

@@ -5,9 +5,9 @@ use Rattle.pfs_base.specs.declared.limits.TheConstants.{MOST_JOBS, MOST_MACHINES
 use Rattle.pfs_base.specs.FlowShop.{FlowShop, time_of, IsWithin}
 use Rattle.pfs_base.specs.Limits.{limits}
 use Rattle.pfs_base.specs.Paths.{heaviest, operation}
-use Rattle.pfs_base.proofs.Heaviest.{most, most_here, most_on, most_down, most_first, most_moved}
-use Rattle.pfs_base.proofs.Heads.{head, head_le, head_step, heaviest_is, time_of-le}
-use Rattle.pfs_base.proofs.Lists.{map-range_with_len-same}
+use Rattle.pfs_base.proofs.Published.Heaviest.{most, most_here, most_on, most_down, most_first, most_moved}
+use Rattle.pfs_base.proofs.Published.Heads.{head, head_le, head_step, heaviest_is, time_of-le}
+use Rattle.pfs_base.proofs.Published.Lists.{map-range_with_len-same}
 use Rattle.pfs_base.specs.Paths.{greatest}
 use Rattle.pfs_insert.specs.Exchange.{heaviest_front, heaviest_back}
 use Rattle.pfs_insert.specs.Insertion.{makespan_with}

@@ -9,7 +9,7 @@ use Rattle.pfs_layout.specs.declared.layout.Layout.{Layout}
 use Rattle.pfs_layout.specs.Bytes.{is_digit, is_word_byte}
 use Rattle.pfs_base.specs.Limits.{limits}
 use Rattle.pfs_base.specs.Lists.{is_empty}
-use Rattle.pfs_base.proofs.Lists.{by_push, enumerate_from-append}
+use Rattle.pfs_base.proofs.Published.Lists.{by_push, enumerate_from-append}
 use Rattle.pfs_base.specs.Problem.{Problem}
 use Rattle.pfs_layout.specs.Size.{Size, size_of}
 use Rattle.pfs_layout.specs.Lines.{is_mixed, is_number_line, is_no_digit, values, numbers, ended_numbers, last_digits}

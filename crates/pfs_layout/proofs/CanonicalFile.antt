@@ -17,7 +17,7 @@ use Rattle.pfs_base.specs.declared.limits.TheConstants.{LONGEST_INPUT}
 use Rattle.pfs_base.specs.Lists.{below, is_empty, last_of, all_but_last}
 use Rattle.pfs_base.specs.Problem.{Problem}
 use Rattle.pfs_base.specs.Text.{with_line_end, spaced}
-use Rattle.pfs_base.proofs.Lists.{range_with_len-push, all_but_last-push, last_of-push}
+use Rattle.pfs_base.proofs.Published.Lists.{range_with_len-push, all_but_last-push, last_of-push}
 use Rattle.pfs_layout.specs.declared.layout.Layout.{Layout}
 use Rattle.pfs_layout.specs.declared.layout.Layout.TheVariants.{Taillard, OrLib}
 use Rattle.pfs_layout.specs.Bytes.{is_digit, is_blank, is_line_end, is_word_byte}

@@ -9,7 +9,7 @@ use Rattle.pfs_base.specs.Limits.{limits}
 use Rattle.pfs_base.specs.declared.limits.TheConstants.{MOST_JOBS, MOST_MACHINES, LONGEST_INPUT}
 use Rattle.pfs_base.specs.Problem.{Problem}
 use Rattle.pfs_base.specs.Sends.{SendsAll, SendsFront}
-use Rattle.pfs_base.proofs.SendsLemmas.{then_all, then_front, front_of}
+use Rattle.pfs_base.proofs.Published.SendsLemmas.{then_all, then_front, front_of}
 use Rattle.pfs_layout.specs.declared.layout.Layout.{Layout}
 use Rattle.pfs_layout.specs.declared.layout.Layout.TheVariants.{Taillard, OrLib}
 use Rattle.pfs_layout.specs.Size.{Size, size_of}

@@ -6,12 +6,12 @@ use Rattle.std.proofs.lemmas.List.{append_assoc, append-nil, map-append}
 use Rattle.std.proofs.lemmas.Option.{same_Some}
 use Rattle.pfs_base.specs.Lists.{first_some}
 use Rattle.pfs_base.specs.Problem.{Problem}
-use Rattle.pfs_base.proofs.Lists.{by_push, first_some-append, range_with_len-push}
+use Rattle.pfs_base.proofs.Published.Lists.{by_push, first_some-append, range_with_len-push}
 use Rattle.pfs_layout.specs.declared.layout.Layout.{Layout}
 use Rattle.pfs_layout.specs.declared.fault.LayoutFault.{LayoutFault}
 use Rattle.pfs_layout.specs.Refuse.{fault_at, fault_behind, refusal, byte_fault, Refuse}
 use Rattle.pfs_layout.specs.Laws.{Completes, FaultStays, ByteFaultLaw, FreeBehind}
-use Rattle.pfs_layout.proofs.PlaceLemmas.{first_found, first_not_found, byte_fault-push, refusal_is, fault_at-end}
+use Rattle.pfs_layout.proofs.Published.PlaceLemmas.{first_found, first_not_found, byte_fault-push, refusal_is, fault_at-end}
 use Rattle.pfs_layout.proofs.SoundLemmas.{stand_of}
 use Rattle.pfs_layout.proofs.FileLemmas.{file_completes, completes_file}
 use Rattle.pfs_layout.proofs.VerdictLemmas.{EndedHolds, first_enough, from_enough, holds_accepted}

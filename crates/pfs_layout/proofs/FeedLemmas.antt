@@ -25,7 +25,7 @@ use Rattle.pfs_layout.specs.Stand.{Now, seeking, inside, lost, stand}
 use Rattle.pfs_layout.specs.Refuse.{too_long, mixed_line, misfit, wrong_number, size_fault, wrong_size, ends_early, faults, fault_behind, byte_fault}
 use Rattle.pfs_layout.specs.Step.{is_live, refused}
 use Rattle.pfs_layout.specs.Reader.{block_read, FollowsNow, Follows, IsRefused, StandsIn, StandsAfter, IsReader, TakeMeets, FeedMeets, progress_of, EndsWantedSize}
-use Rattle.pfs_layout.proofs.PlaceLemmas.{byte_fault-push}
+use Rattle.pfs_layout.proofs.Published.PlaceLemmas.{byte_fault-push}
 use Rattle.pfs_layout.proofs.SoundLemmas.{stand_of}
 use Rattle.pfs_layout.proofs.GrowLemmas.{fewer_before}
 use Rattle.pfs_layout.proofs.EndLemmas.{byte_fault-more}

@@ -10,7 +10,7 @@ use Rattle.std.proofs.lemmas.List.{append-nil, length-append, length_push, nil_f
 use Rattle.std.proofs.lemmas.List.Sums.{fold-append}
 use Rattle.pfs_base.specs.declared.limits.TheConstants.{LONGEST_INPUT}
 use Rattle.pfs_base.specs.Lists.{is_empty, first_some}
-use Rattle.pfs_base.proofs.Lists.{slice_get-push}
+use Rattle.pfs_base.proofs.Published.Lists.{slice_get-push}
 use Rattle.pfs_layout.specs.declared.layout.Layout.{Layout}
 use Rattle.pfs_layout.specs.declared.fault.LayoutFault.{LayoutFault}
 use Rattle.pfs_layout.specs.declared.fault.LayoutFault.TheVariants.{NoBlock, SizeRange, Truncated, TooLong}

@@ -5,7 +5,7 @@ use Rattle.std.proofs.lemmas.Bool.{or_from, ne_eqb}
 use Rattle.std.proofs.lemmas.List.{append_assoc, append-nil, length-append}
 use Rattle.std.proofs.lemmas.List.Folds.{list_any-append}
 use Rattle.std.proofs.lemmas.List.Sums.{fold-append}
-use Rattle.pfs_base.proofs.Lists.{by_push}
+use Rattle.pfs_base.proofs.Published.Lists.{by_push}
 use Rattle.pfs_layout.specs.declared.layout.Layout.{Layout}
 use Rattle.pfs_layout.specs.Bytes.{is_line_end}
 use Rattle.pfs_layout.specs.Lines.{lines, ended_lines, open_line, ended_parts, is_mixed, numbers}

@@ -1,3 +1,4 @@
+pub mod Published
 pub mod BlockLemmas
 pub mod ByteSteps
 pub mod CanonicalFile
@@ -16,7 +17,6 @@ pub mod GeneratorLemmas
 pub mod GrowLemmas
 pub mod HeldLemmas
 pub mod InputFaults
-pub mod LawLemmas
 pub mod LineLemmas
 pub mod LineSteps
 pub mod LoseLemmas
@@ -24,7 +24,6 @@ pub mod NewLemmas
 pub mod NumberLemmas
 pub mod NumberSteps
 pub mod OutcomeLemmas
-pub mod PlaceLemmas
 pub mod ReadLemmas
 pub mod ReadNames
 pub mod ReaderLemmas

@@ -5,7 +5,7 @@ use Rattle.std.proofs.lemmas.List.{map-append}
 use Rattle.std.proofs.lemmas.List.Elements.{filter-append}
 use Rattle.std.specs.Str.Parse.{digits_value}
 use Rattle.pfs_base.specs.Lists.{is_empty, last_of, all_but_last}
-use Rattle.pfs_base.proofs.Lists.{all_and_last, all_but_last-push, last_of-push}
+use Rattle.pfs_base.proofs.Published.Lists.{all_and_last, all_but_last-push, last_of-push}
 use Rattle.pfs_layout.specs.Lines.{ended_parts, open_part, is_no_digit, values, numbers, ended_numbers, last_digits}
 
 -- a list of parts that isn't empty

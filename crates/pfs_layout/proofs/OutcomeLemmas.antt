@@ -8,7 +8,7 @@ use Rattle.std.proofs.lemmas.List.{append-nil}
 use Rattle.pfs_base.specs.Limits.{limits}
 use Rattle.pfs_base.specs.Lists.{is_empty, first_some}
 use Rattle.pfs_base.specs.Problem.{Problem}
-use Rattle.pfs_base.proofs.Lists.{slice_get-append}
+use Rattle.pfs_base.proofs.Published.Lists.{slice_get-append}
 use Rattle.pfs_layout.specs.declared.layout.Layout.{Layout}
 use Rattle.pfs_layout.specs.declared.fault.LayoutFault.{LayoutFault}
 use Rattle.pfs_layout.specs.declared.fault.LayoutFault.TheVariants.{NoBlock, Truncated}
@@ -24,12 +24,12 @@ use Rattle.pfs_layout.specs.Laws.{ExactlyOne}
 use Rattle.pfs_layout.specs.Refuse.{mixed_line, size_fault, ends_early, faults, fault_behind, refusal, accepted, Refuse}
 use Rattle.pfs_layout.specs.Step.{is_live, last_number_ended, end_fault_in, end_fault, at_end}
 use Rattle.pfs_layout.specs.Reader.{block_begun_by, block_of, FollowsBlocks, Follows, StandsIn, StandsAfter, FinishMeets}
-use Rattle.pfs_layout.proofs.PlaceLemmas.{refusal_is}
+use Rattle.pfs_layout.proofs.Published.PlaceLemmas.{refusal_is}
 use Rattle.pfs_layout.proofs.SoundLemmas.{GoodNow, GoodBody, stand_of, sound}
 use Rattle.pfs_layout.proofs.StandLemmas.{IsBegun, Fits, made}
 use Rattle.pfs_layout.proofs.GrowLemmas.{Extends, grows}
 use Rattle.pfs_layout.proofs.EndLemmas.{refusal_end, byte_fault_refuses}
-use Rattle.pfs_layout.proofs.LawLemmas.{accepted_law, one_verdict}
+use Rattle.pfs_layout.proofs.Published.LawLemmas.{accepted_law, one_verdict}
 use Rattle.pfs_layout.proofs.StepLemmas.{keeps_last}
 use Rattle.pfs_layout.proofs.ByteSteps.{live_few, sought_phase}
 use Rattle.pfs_layout.proofs.EndSteps.{number_fault, NumberPart, number_part, due_line}

@@ -28,7 +28,7 @@ use Rattle.pfs_layout.specs.Refuse.{fault_behind, byte_fault}
 use Rattle.pfs_layout.specs.Step.{is_live, is_in_block, refused, digits_after, kinds_after, number_ended, last_number_ended, line_ended, judged, with_line, stepped, CanCount, IsReady, times_in}
 use Rattle.pfs_layout.specs.Reader.{block_read, time_count, FollowsBody, FollowsNow, FollowsBlocks, Follows, StandsIn, StandsAfter, IsReader}
 use Rattle.pfs_layout.proofs.LineLemmas.{open_part-push, ended_numbers-push}
-use Rattle.pfs_layout.proofs.PlaceLemmas.{byte_fault-push}
+use Rattle.pfs_layout.proofs.Published.PlaceLemmas.{byte_fault-push}
 use Rattle.pfs_layout.proofs.SoundLemmas.{GoodNow, stand_of, stand_of-push, sound}
 use Rattle.pfs_layout.proofs.StepLemmas.{live-memory, keeps_last, KeepsNumbers, keeps_numbers, ends_line}
 use Rattle.pfs_layout.proofs.SizeLemmas.{size_within}

@@ -12,14 +12,14 @@ use Rattle.pfs_layout.specs.declared.layout.Layout.{Layout}
 use Rattle.pfs_layout.specs.Bytes.{is_digit, is_blank, is_line_end, is_word_byte}
 use Rattle.pfs_base.specs.declared.limits.TheConstants.{LONGEST_TIME}
 use Rattle.pfs_base.specs.Lists.{is_empty, first_some}
-use Rattle.pfs_base.proofs.Lists.{by_push, enumerate_from-append}
+use Rattle.pfs_base.proofs.Published.Lists.{by_push, enumerate_from-append}
 use Rattle.pfs_layout.specs.Size.{Size, is_within_limits}
 use Rattle.pfs_layout.specs.Lines.{ended_parts, open_part, ended_lines, open_line, is_mixed, is_number_line, is_no_digit, values, numbers, ended_numbers, last_digits}
 use Rattle.pfs_layout.specs.Block.{Due, any_time, machine_number, nothing, is_due, due_at, are_due, stated_size, due_count}
 use Rattle.pfs_layout.specs.Stand.{Block, Now, seeking, inside, lost, Stand, after_size, after_numbers, after_line, stand_after, stand}
 use Rattle.pfs_layout.specs.Refuse.{mixed_line, misfit, ends_line, ends_number, wrong_number, size_fault, wrong_size, too_long, ends_early, faults, fault_behind, byte_fault}
 use Rattle.pfs_layout.proofs.LineLemmas.{ended_parts-push, open_part-push, ended_numbers-push, numbers_is}
-use Rattle.pfs_layout.proofs.PlaceLemmas.{byte_fault-push}
+use Rattle.pfs_layout.proofs.Published.PlaceLemmas.{byte_fault-push}
 
 -- ---- options
 

@@ -9,7 +9,7 @@ use Rattle.std.proofs.lemmas.Nat.{div-mul-add, mod-mul-add}
 use Rattle.std.proofs.lemmas.Bool.{cases_order}
 use Rattle.pfs_base.specs.FlowShop.{FlowShop, with_time}
 use Rattle.pfs_base.specs.Problem.{Problem}
-use Rattle.pfs_base.proofs.Lists.{map-range_with_len-same}
+use Rattle.pfs_base.proofs.Published.Lists.{map-range_with_len-same}
 use Rattle.pfs_layout.specs.declared.layout.Layout.{Layout}
 use Rattle.pfs_layout.specs.declared.layout.Layout.TheVariants.{Taillard, OrLib}
 use Rattle.pfs_layout.specs.Size.{Size, problem_of}

@@ -7,9 +7,9 @@ use Rattle.std.proofs.lemmas.List.FromFn.{get_or-map-range_with_len}
 use Rattle.pfs_base.specs.FlowShop.{FlowShop, time_of}
 use Rattle.pfs_base.specs.Lists.{below}
 use Rattle.pfs_base.specs.Text.{with_line_end, spaced, entry}
-use Rattle.pfs_base.proofs.Lists.{range_with_len-push}
-use Rattle.pfs_base.proofs.Printing.{line_on}
-use Rattle.pfs_base.proofs.SendsOn.{GoesOn}
+use Rattle.pfs_base.proofs.Published.Lists.{range_with_len-push}
+use Rattle.pfs_base.proofs.Published.Printing.{line_on}
+use Rattle.pfs_base.proofs.Published.SendsOn.{GoesOn}
 use Rattle.pfs_layout.specs.declared.layout.Layout.{Layout}
 use Rattle.pfs_layout.specs.declared.layout.Layout.TheVariants.{Taillard, OrLib}
 use Rattle.pfs_layout.specs.Block.{due_row, row_count}

@@ -6,7 +6,7 @@ use Rattle.pfs_base.specs.Limits.{limits}
 use Rattle.pfs_base.specs.Text.{spaced, with_line_end, named_number}
 use Rattle.pfs_order.specs.OrderText.{order_text, file_text}
 use Rattle.pfs_order.specs.Sequence.{IsSequence, IsSize}
-use Rattle.pfs_order.proofs.OrderVerdicts.{text_fits, written_file}
+use Rattle.pfs_order.proofs.Published.OrderVerdicts.{text_fits, written_file}
 
 -- joined, they are its text
 pub order_lines : (order : List ℕ) (count makespan : ℕ) → count ≡ length order

@@ -11,7 +11,7 @@ use Rattle.pfs_order.specs.declared.fault.OrderFault.{OrderFault}
 use Rattle.pfs_order.specs.declared.fault.OrderFault.TheVariants.{Syntax, JobRange, Repeated, TooLong, Read, Memory}
 use Rattle.pfs_order.specs.Sequence.{StatedOrder}
 use Rattle.pfs_order.specs.OrderFile.{IsOrderFile, RefusesOrder, RefusesUnlessFailed, IsUnlessFailed}
-use Rattle.pfs_order.proofs.OrderVerdicts.{one_refusal, not_both, one_file}
+use Rattle.pfs_order.proofs.Published.OrderVerdicts.{one_refusal, not_both, one_file}
 use Rattle.pfs_order.specs.Pieces.{JudgesText}
 
 -- the bytes before those that were written into a part, and some of these

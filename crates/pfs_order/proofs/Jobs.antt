@@ -15,7 +15,7 @@ use Rattle.pfs_order.specs.OrderFile.{HasText, IsText, IsJob, IsRepeated, AreRig
 use Rattle.pfs_order.specs.Pieces.{IsNumeral, IsPieceFault, RefusesJob, RefusesJobs, counted, last_line}
 use Rattle.pfs_order.proofs.Numerals.{cut_at, decimal_lacks, decimal_one}
 use Rattle.pfs_order.proofs.OrderTexts.{IsShort, same_count, same_jobs, text_shape, ten_10, ten_32}
-use Rattle.pfs_order.proofs.Sequences.{IsSequence-nil, IsSequence-insert}
+use Rattle.pfs_order.proofs.Published.Sequences.{IsSequence-nil, IsSequence-insert}
 
 pub numbers : List ℕ → List ℕ
 numbers jobs = map (λ job. job + 1) jobs

@@ -1,4 +1,4 @@
-pub mod CostSums
+pub mod Published
 pub mod NoLonger
 pub mod OneRanking
 pub mod SmallCosts

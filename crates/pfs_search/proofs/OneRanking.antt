@@ -11,7 +11,7 @@ use Rattle.std.proofs.lemmas.List.FromFn.{length-range_with_len, get_or-range_wi
 use Rattle.std.proofs.lemmas.Map.Made.{IsDistinct-from_AllPairs}
 use Rattle.pfs_base.specs.FlowShop.{FlowShop}
 use Rattle.pfs_order.specs.Sequence.{IsSequence, all_jobs}
-use Rattle.pfs_order.proofs.Sequences.{IsSequence-permutation, IsSequence-head, length-all_jobs}
+use Rattle.pfs_order.proofs.Published.Sequences.{IsSequence-permutation, IsSequence-head, length-all_jobs}
 use Rattle.pfs_search.specs.Ranking.{RanksBefore, IsRanking, ranks_before, ranked_with, ranking, RankingLaw}
 
 -- ---- lists in which each element is before those behind it

@@ -14,7 +14,7 @@ use Rattle.std.proofs.lemmas.List.Sorted.{IsPermutation-map, All-permutation, ra
 use Rattle.std.proofs.lemmas.Map.Made.{AllPairs-from_IsDistinct}
 use Rattle.pfs_base.specs.FlowShop.{FlowShop, total_of}
 use Rattle.pfs_order.specs.Sequence.{all_jobs}
-use Rattle.pfs_order.proofs.Sequences.{IsSequence-permutation, all_jobs_more}
+use Rattle.pfs_order.proofs.Published.Sequences.{IsSequence-permutation, all_jobs_more}
 use Rattle.pfs_search.specs.Ranking.{RanksBefore, ranking}
 use Rattle.pfs_search.proofs.OneRanking.{AllPairs-head, AllPairs-tail, IsSequence-all_jobs, ranking_is, ranking_unique}
 

@@ -2,7 +2,7 @@ use Rattle.std.proofs.Common.{◌≡◌, ℕ, ◌+◌, ◌<◌, length, get_or, 
 use Rattle.pfs_base.specs.FlowShop.{FlowShop, time_of}
 use Rattle.pfs_base.specs.declared.limits.TheConstants.{LONGEST_TIME}
 use Rattle.pfs_base.specs.Paths.{operation}
-use Rattle.pfs_base.proofs.Heads.{head, head_le, head_before_le, head_more, head_before_more, time_of-le}
+use Rattle.pfs_base.proofs.Published.Heads.{head, head_le, head_before_le, head_more, head_before_more, time_of-le}
 use Rattle.pfs_audit.proofs.RowSteps.{written_more, written_rest}
 use Rattle.pfs_audit.proofs.recurrence.makespan.Goals as goal
 

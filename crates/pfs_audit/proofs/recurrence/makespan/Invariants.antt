@@ -1,6 +1,6 @@
 use Rattle.std.proofs.Common.{◌≡◌, ℕ, ◌+◌, ◌*◌, ◌<◌, ◌≤◌, get_or, vec_len}
 use Rattle.pfs_base.specs.Paths.{operation}
-use Rattle.pfs_base.proofs.Heads.{head, head_before}
+use Rattle.pfs_base.proofs.Published.Heads.{head, head_before}
 use Rattle.pfs_audit.proofs.recurrence.makespan.Given as goal
 
 abbrev pub invariant-loop-place : goal.invariant-loop-place

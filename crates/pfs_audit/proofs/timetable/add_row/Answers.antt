@@ -2,7 +2,7 @@ use Rattle.std.proofs.Common.{◌≡◌, suc, ◌+◌, ◌-◌, get_or, ap, sym,
 use Rattle.pfs_base.specs.declared.limits.TheConstants.{LONGEST_TIME}
 use Rattle.pfs_base.specs.FlowShop.{time_of}
 use Rattle.pfs_base.specs.Paths.{operation}
-use Rattle.pfs_base.proofs.Heads.{head, head_le, head_step, head_before_more, time_of-le}
+use Rattle.pfs_base.proofs.Published.Heads.{head, head_le, head_step, head_before_more, time_of-le}
 use Rattle.pfs_audit.specs.Schedule.{least_end, least_start}
 use Rattle.pfs_audit.proofs.Rows.{AreEntered, entry_added, entry_above, row_ended}
 use Rattle.pfs_audit.proofs.Schedules.{least_end-is, least_start-is}

@@ -1,6 +1,6 @@
 use Rattle.std.proofs.Common.{◌≡◌}
 use Rattle.pfs_base.specs.Paths.{operation}
-use Rattle.pfs_base.proofs.Heads.{head_before}
+use Rattle.pfs_base.proofs.Published.Heads.{head_before}
 use Rattle.pfs_audit.specs.Schedule.{least_end, least_start}
 use Rattle.pfs_audit.proofs.Rows.{AreEntered}
 use Rattle.pfs_audit.proofs.timetable.add_row.Given as goal

@@ -1,5 +1,5 @@
 use Rattle.std.proofs.Common.{[], ◌∷◌, ◌++◌, decimal, append_assoc, rules}
-use Rattle.pfs_base.proofs.SendsLemmas.{then_all, then_front, then_sends, front_of}
+use Rattle.pfs_base.proofs.Published.SendsLemmas.{then_all, then_front, then_sends, front_of}
 use Rattle.pfs_base.proofs.print.put_between.Goals as goal
 
 pub returns-in_err-numbered-clause-text : goal.returns-in_err-numbered-clause-text

@@ -1,6 +1,6 @@
 use Rattle.std.proofs.Common.{◌≡◌, ◌∙◌, decimal}
-use Rattle.pfs_base.proofs.Printing.{entry_later}
-use Rattle.pfs_base.proofs.SendsLemmas.{then_sends}
+use Rattle.pfs_base.proofs.Published.Printing.{entry_later}
+use Rattle.pfs_base.proofs.Published.SendsLemmas.{then_sends}
 use Rattle.pfs_base.proofs.print.put_entry.Goals as goal
 
 pub returns-in_ok-sent : goal.returns-in_ok-sent

@@ -1,5 +1,5 @@
 use Rattle.std.proofs.Common.{[], ◌∷◌, append_assoc, rules}
-use Rattle.pfs_base.proofs.SendsLemmas.{then_all, then_front, front_of}
+use Rattle.pfs_base.proofs.Published.SendsLemmas.{then_all, then_front, front_of}
 use Rattle.pfs_base.proofs.print.put_named.Goals as goal
 
 pub returns-in_err-sent-3-clause-text : goal.returns-in_err-sent-3-clause-text

@@ -1,4 +1,4 @@
-use Rattle.pfs_base.proofs.SendsLemmas.{then_sends}
+use Rattle.pfs_base.proofs.Published.SendsLemmas.{then_sends}
 use Rattle.pfs_base.proofs.print.put_next.Goals as goal
 
 pub returns-clause-text : goal.returns-clause-text

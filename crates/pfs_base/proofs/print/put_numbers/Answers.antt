@@ -1,6 +1,6 @@
 use Rattle.std.proofs.Common.{rules}
-use Rattle.pfs_base.proofs.SendsOn.{goes_on-fits, goes_on-more, goes_on-stopped}
-use Rattle.pfs_base.proofs.Printing.{line_on}
+use Rattle.pfs_base.proofs.Published.SendsOn.{goes_on-fits, goes_on-more, goes_on-stopped}
+use Rattle.pfs_base.proofs.Published.Printing.{line_on}
 use Rattle.pfs_base.proofs.print.put_numbers.Goals as goal
 
 pub put_entry-requires-clause-fits : goal.put_entry-requires-clause-fits

@@ -1,6 +1,6 @@
 use Rattle.std.proofs.Common.{codes, rules}
 use Rattle.pfs_base.specs.Text.{number_between}
-use Rattle.pfs_base.proofs.SendsLemmas.{then_all, then_front, then_sends, front_of}
+use Rattle.pfs_base.proofs.Published.SendsLemmas.{then_all, then_front, then_sends, front_of}
 use Rattle.pfs_desk.proofs.fault.put_take_fault.Goals as goal
 
 pub returns-in_err-sent-2 : goal.returns-in_err-sent-2

@@ -2,7 +2,7 @@ use Rattle.std.proofs.Common.{◌≡◌, ℕ, ◌+◌, ◌-◌, ◌*◌, ◌<◌
 use Rattle.std.proofs.lemmas.List.{length-take-le, length-drop, length-append}
 use Rattle.pfs_base.specs.FlowShop.{FlowShop, time_of}
 use Rattle.pfs_base.specs.Paths.{operation}
-use Rattle.pfs_base.proofs.Heads.{head}
+use Rattle.pfs_base.proofs.Published.Heads.{head}
 use Rattle.pfs_insert.specs.Insertion.{IsBest, makespan_with}
 use Rattle.pfs_insert.specs.Rows.{next_row, greatest_sum, AreNumbers}
 use Rattle.pfs_insert.proofs.FirstLeast.{first_least_is}

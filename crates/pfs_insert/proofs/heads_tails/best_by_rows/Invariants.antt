@@ -1,6 +1,6 @@
 use Rattle.std.proofs.Common.{◌≡◌, ℕ, ◌+◌, ◌*◌, ◌<◌, ◌≤◌, length}
 use Rattle.pfs_base.specs.Paths.{operation}
-use Rattle.pfs_base.proofs.Heads.{head}
+use Rattle.pfs_base.proofs.Published.Heads.{head}
 use Rattle.pfs_insert.specs.Insertion.{IsBest, makespan_with}
 use Rattle.pfs_insert.specs.Rows.{AreNumbersFrom}
 use Rattle.pfs_insert.proofs.heads_tails.best_by_rows.Given as goal

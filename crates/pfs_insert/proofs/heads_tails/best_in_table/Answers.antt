@@ -1,7 +1,7 @@
 use Rattle.std.proofs.Common.{◌≡◌, ℕ, ◌+◌, ◌-◌, ◌*◌, ◌≤◌, length, get_or, ap, sym, ◌∙◌, arith}
 use Rattle.std.proofs.lemmas.List.{get_or_append_left}
 use Rattle.pfs_base.specs.FlowShop.{FlowShop}
-use Rattle.pfs_order.proofs.Sequences.{length-lt-size}
+use Rattle.pfs_order.proofs.Published.Sequences.{length-lt-size}
 use Rattle.pfs_insert.specs.Insertion.{best_place}
 use Rattle.pfs_insert.proofs.FlatRows.{row_le, row_split, get_behind}
 use Rattle.pfs_insert.proofs.TailRows.{back_none}

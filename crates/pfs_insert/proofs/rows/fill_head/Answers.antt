@@ -1,7 +1,7 @@
 use Rattle.std.proofs.Common.{ℕ, ◌+◌, ◌*◌, ◌<◌, length, ap, sym, ◌∙◌, arith}
 use Rattle.pfs_base.specs.declared.limits.TheConstants.{MOST_JOBS, MOST_MACHINES, LONGEST_TIME}
 use Rattle.pfs_base.specs.FlowShop.{FlowShop, time_of}
-use Rattle.pfs_base.proofs.Heads.{time_of-le}
+use Rattle.pfs_base.proofs.Published.Heads.{time_of-le}
 use Rattle.pfs_insert.specs.Rows.{next_row, AreNumbers}
 use Rattle.pfs_insert.proofs.RowSteps.{next_row_at, value_before_more, value_is, value_small, written}
 use Rattle.pfs_insert.proofs.rows.fill_head.Goals as goal

@@ -1,7 +1,7 @@
 use Rattle.std.proofs.Common.{◌≡◌, ℕ, ◌+◌, ◌-◌, ◌*◌, ◌<◌, ◌≤◌, length, get_or, ap, sym, subst, ◌∙◌, arith}
 use Rattle.pfs_base.specs.declared.limits.TheConstants.{MOST_JOBS, MOST_MACHINES, LONGEST_TIME}
 use Rattle.pfs_base.specs.FlowShop.{FlowShop, time_of}
-use Rattle.pfs_base.proofs.Heads.{time_of-le}
+use Rattle.pfs_base.proofs.Published.Heads.{time_of-le}
 use Rattle.pfs_insert.specs.Rows.{next_row, value_before, from_last, AreBack}
 use Rattle.pfs_insert.proofs.RowSteps.{next_row_at, value_before_more, value_is, value_small, written}
 use Rattle.pfs_insert.proofs.rows.fill_tail.Goals as goal

@@ -1,4 +1,4 @@
-use Rattle.pfs_layout.proofs.PlaceLemmas.{one_fault}
+use Rattle.pfs_layout.proofs.Published.PlaceLemmas.{one_fault}
 use Rattle.pfs_layout.proofs.laws.one_fault.Goals as goal
 
 pub returns : goal.returns

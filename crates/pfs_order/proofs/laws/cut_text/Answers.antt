@@ -1,4 +1,4 @@
-use Rattle.pfs_order.proofs.OrderVerdicts.{cut_fault}
+use Rattle.pfs_order.proofs.Published.OrderVerdicts.{cut_fault}
 use Rattle.pfs_order.proofs.laws.cut_text.Goals as goal
 
 pub returns : goal.returns

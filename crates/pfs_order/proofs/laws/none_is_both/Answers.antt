@@ -1,4 +1,4 @@
-use Rattle.pfs_order.proofs.OrderVerdicts.{not_both}
+use Rattle.pfs_order.proofs.Published.OrderVerdicts.{not_both}
 use Rattle.pfs_order.proofs.laws.none_is_both.Goals as goal
 
 pub returns : goal.returns

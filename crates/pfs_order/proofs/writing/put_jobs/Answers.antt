@@ -1,8 +1,8 @@
 use Rattle.std.proofs.Common.{rules, ◌+◌, ◌≡◌, ◌<◌, ℕ, List, length, map, take, get_or, arith, sym, ◌∙◌, ap}
 use Rattle.std.proofs.lemmas.List.{length-map, get_or-map}
 use Rattle.pfs_base.specs.Text.{spaced, entry, with_line_end}
-use Rattle.pfs_base.proofs.SendsOn.{GoesOn, goes_on-fits, goes_on-more, goes_on-stopped}
-use Rattle.pfs_base.proofs.Printing.{line_on}
+use Rattle.pfs_base.proofs.Published.SendsOn.{GoesOn, goes_on-fits, goes_on-more, goes_on-stopped}
+use Rattle.pfs_base.proofs.Published.Printing.{line_on}
 use Rattle.pfs_order.proofs.writing.put_jobs.Goals as goal
 
 -- the line of the jobs goes on with the number of the job at a place

@@ -1,6 +1,6 @@
 use Rattle.std.proofs.Common.{rules, ◌+◌, ℕ, List, ◌++◌, map, sym, ◌∙◌, append_assoc, codes, arith}
 use Rattle.pfs_base.specs.Text.{named_number, spaced, with_line_end}
-use Rattle.pfs_base.proofs.SendsLemmas.{then_all, then_front, then_sends, front_of}
+use Rattle.pfs_base.proofs.Published.SendsLemmas.{then_all, then_front, then_sends, front_of}
 use Rattle.pfs_order.proofs.FileLines.{order_lines, lines_fit}
 use Rattle.pfs_order.proofs.writing.write_order.Goals as goal
 

@@ -7,7 +7,7 @@ use Rattle.pfs_order.specs.Sequence.{Sequence, IsSequence}
 use Rattle.pfs_insert.specs.Insertion.{best_place, with_job}
 use Rattle.pfs_search.specs.Neh.{with_jobs}
 use Rattle.pfs_search.proofs.Taking.{next_small, next_absent, next_moved}
-use Rattle.pfs_search.proofs.CostSums.{insertions_within, insertions_more}
+use Rattle.pfs_search.proofs.Published.CostSums.{insertions_within, insertions_more}
 use Rattle.pfs_search.proofs.insertions.insert_all.Goals as goal
 
 pub best-requires-clause-absent : goal.best-requires-clause-absent

@@ -1,4 +1,4 @@
-use Rattle.pfs_search.proofs.CostSums.{costs_law}
+use Rattle.pfs_search.proofs.Published.CostSums.{costs_law}
 use Rattle.pfs_search.proofs.laws.costs.Goals as goal
 
 pub returns : goal.returns

@@ -1,7 +1,7 @@
 use Rattle.std.proofs.Common.{length, map, ap, sym, ◌∙◌, subst, arith}
 use Rattle.std.proofs.lemmas.List.{length-map}
 use Rattle.pfs_order.specs.Sequence.{IsSequence}
-use Rattle.pfs_order.proofs.Sequences.{length-all_jobs}
+use Rattle.pfs_order.proofs.Published.Sequences.{length-all_jobs}
 use Rattle.pfs_search.proofs.OneRanking.{IsSequence-ranking, length-ranking}
 use Rattle.pfs_search.proofs.SortedJobs.{Listed, sorted_ranking}
 use Rattle.pfs_search.proofs.rankings.rank_jobs.Goals as goal

@@ -1,4 +1,4 @@
-use Rattle.pfs_base.proofs.SendsLemmas.{then_all, then_sends}
+use Rattle.pfs_base.proofs.Published.SendsLemmas.{then_all, then_sends}
 use Rattle.pfs_desk.proofs.engines.check.put_finding.Goals as goal
 
 pub returns-clause-text : goal.returns-clause-text

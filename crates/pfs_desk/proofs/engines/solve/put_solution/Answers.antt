@@ -1,6 +1,6 @@
 use Rattle.std.proofs.Common.{List, ℕ, sym, subst, arith, rules}
 use Rattle.pfs_base.specs.Sends.{Sends, SendsAll}
-use Rattle.pfs_base.proofs.SendsLemmas.{then_sends}
+use Rattle.pfs_base.proofs.Published.SendsLemmas.{then_sends}
 use Rattle.pfs_desk.proofs.SolveLemmas.{file_short, solution_counted, solution_alone, solution_front}
 use Rattle.pfs_desk.proofs.engines.solve.put_solution.Goals as goal
 

@@ -1,5 +1,5 @@
 use Rattle.std.proofs.Common.{[], ◌∷◌, decimal, append_assoc, rules}
-use Rattle.pfs_base.proofs.SendsLemmas.{then_all, then_front, front_of}
+use Rattle.pfs_base.proofs.Published.SendsLemmas.{then_all, then_front, front_of}
 use Rattle.pfs_desk.proofs.engines.table.put_sizes.Goals as goal
 
 pub returns-in_err-sent-2-clause-text : goal.returns-in_err-sent-2-clause-text

@@ -1,6 +1,6 @@
 use Rattle.std.proofs.Common.{◌≡◌, Contains, insert, length, ap, ◌∙◌, sym, subst, arith}
 use Rattle.pfs_order.specs.Sequence.{Sequence}
-use Rattle.pfs_order.proofs.Sequences.{length-all_jobs, insert-all_jobs, absent-all_jobs}
+use Rattle.pfs_order.proofs.Published.Sequences.{length-all_jobs, insert-all_jobs, absent-all_jobs}
 use Rattle.pfs_order.proofs.order.Order.identity.Goals as goal
 
 pub insert_at-requires-clause-place : goal.insert_at-requires-clause-place

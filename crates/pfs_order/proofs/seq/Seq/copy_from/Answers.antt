@@ -1,6 +1,6 @@
 use Rattle.std.proofs.Common.{◌≡◌, length, ap, arith, sym, ◌∙◌}
 use Rattle.pfs_order.specs.Sequence.{Sequence}
-use Rattle.pfs_order.proofs.Sequences.{length-le-size}
+use Rattle.pfs_order.proofs.Published.Sequences.{length-le-size}
 use Rattle.pfs_order.proofs.seq.Seq.copy_from.Goals as goal
 
 pub copy_in_room-requires : goal.copy_in_room-requires

@@ -1,6 +1,6 @@
 use Rattle.std.proofs.Common.{◌<◌, Contains, subst, sym, arith}
 use Rattle.pfs_order.specs.Sequence.{Sequence}
-use Rattle.pfs_order.proofs.Sequences.{IsSequence-insert, length-lt-size}
+use Rattle.pfs_order.proofs.Published.Sequences.{IsSequence-insert, length-lt-size}
 use Rattle.pfs_order.proofs.seq.Seq.insert_at.Goals as goal
 
 pub put_in_room-requires-clause-room : goal.put_in_room-requires-clause-room

@@ -1,6 +1,6 @@
 use Rattle.std.proofs.Common.{◌≤◌, length, subst}
 use Rattle.pfs_order.specs.Sequence.{Sequence}
-use Rattle.pfs_order.proofs.Sequences.{length-le-size}
+use Rattle.pfs_order.proofs.Published.Sequences.{length-le-size}
 use Rattle.pfs_order.proofs.seq.Seq.len.Goals as goal
 
 pub returns-clause-within : goal.returns-clause-within

@@ -1,5 +1,5 @@
 use Rattle.std.proofs.Common.{arith}
-use Rattle.pfs_order.proofs.Sequences.{IsSequence-nil}
+use Rattle.pfs_order.proofs.Published.Sequences.{IsSequence-nil}
 use Rattle.pfs_order.proofs.seq.Seq.new.Goals as goal
 
 pub invariant_of-result : goal.invariant_of-result

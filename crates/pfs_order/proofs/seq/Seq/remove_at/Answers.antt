@@ -1,6 +1,6 @@
 use Rattle.std.proofs.Common.{◌<◌, length, subst, sym, arith}
 use Rattle.pfs_order.specs.Sequence.{Sequence}
-use Rattle.pfs_order.proofs.Sequences.{IsSequence-remove}
+use Rattle.pfs_order.proofs.Published.Sequences.{IsSequence-remove}
 use Rattle.pfs_order.proofs.seq.Seq.remove_at.Goals as goal
 
 pub invariant_of-self : goal.invariant_of-self

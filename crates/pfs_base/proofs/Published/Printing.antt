@@ -2,7 +2,7 @@
 use Rattle.std.proofs.Common.{◌≡◌, ◌≢◌, ℕ, zero, suc, ◌+◌, ◌<◌, List, [], ◌∷◌, ◌++◌, length, take, drop, decimal, get_or, refl, sym, ◌∙◌, ap, arith, append_assoc, append-nil, take-append-drop}
 use Rattle.std.specs.List.{flat_map}
 use Rattle.std.proofs.lemmas.List.{take_more, length-take-le}
-use Rattle.pfs_base.proofs.SendsOn.{GoesOn}
+use Rattle.pfs_base.proofs.Published.SendsOn.{GoesOn}
 use Rattle.pfs_base.specs.Text.{with_line_end, spaced, entry}
 
 -- numbers behind another one

@@ -6,7 +6,7 @@ use Rattle.std.proofs.lemmas.List.{length-append}
 use Rattle.pfs_base.specs.Limits.{limits}
 use Rattle.pfs_base.specs.Lists.{all_but_last, last_of}
 use Rattle.pfs_base.specs.Problem.{Problem}
-use Rattle.pfs_base.proofs.Lists.{by_push, all_and_last}
+use Rattle.pfs_base.proofs.Published.Lists.{by_push, all_and_last}
 use Rattle.pfs_layout.specs.declared.layout.Layout.{Layout}
 use Rattle.pfs_layout.specs.declared.fault.LayoutFault.{LayoutFault}
 use Rattle.pfs_layout.specs.Bytes.{is_line_end}
@@ -16,7 +16,7 @@ use Rattle.pfs_layout.specs.Stand.{Block, Stand, stand, instance_of}
 use Rattle.pfs_layout.specs.Refuse.{Refuse, refusal}
 use Rattle.pfs_layout.specs.Laws.{Completes, Seeks, SomeFile, ExactlyOne, OneVerdict, AcceptedLaw}
 use Rattle.pfs_layout.proofs.LineLemmas.{open_part-push}
-use Rattle.pfs_layout.proofs.PlaceLemmas.{refusal_is, one_fault, no_fault, not_refused}
+use Rattle.pfs_layout.proofs.Published.PlaceLemmas.{refusal_is, one_fault, no_fault, not_refused}
 use Rattle.pfs_layout.proofs.FileLemmas.{file_completes, completes_file}
 use Rattle.pfs_layout.proofs.VerdictLemmas.{faultless_holds, holds_faultless, holds_accepted, accepted_holds}
 

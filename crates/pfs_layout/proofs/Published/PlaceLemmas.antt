@@ -8,7 +8,7 @@ use Rattle.std.proofs.lemmas.Bool.{cases_eq, cases_order}
 use Rattle.pfs_layout.specs.declared.layout.Layout.{Layout}
 use Rattle.pfs_layout.specs.declared.fault.LayoutFault.{LayoutFault}
 use Rattle.pfs_base.specs.Lists.{first_some}
-use Rattle.pfs_base.proofs.Lists.{first_some-append, range_with_len-push, slice_get-append, slice_get-push, map-range_with_len-same}
+use Rattle.pfs_base.proofs.Published.Lists.{first_some-append, range_with_len-push, slice_get-append, slice_get-push, map-range_with_len-same}
 use Rattle.pfs_layout.specs.Refuse.{fault_at, fault_behind, refusal, byte_fault, Refuse}
 
 -- a place within a text has the fault that it has in each longer text

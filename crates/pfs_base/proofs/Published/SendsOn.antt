@@ -3,7 +3,7 @@ use Rattle.std.proofs.Common.{◌≡◌, ℕ, ◌+◌, ◌-◌, ◌<◌, ◌≤�
 use Rattle.std.specs.Io.KnownBytes.{Appends}
 use Rattle.pfs_base.specs.declared.device.WriteFault.{WriteFault}
 use Rattle.pfs_base.specs.Sends.{Sends, SendsAll, SendsFront}
-use Rattle.pfs_base.proofs.SendsLemmas.{then_all, then_front, then_sends, front_of}
+use Rattle.pfs_base.proofs.Published.SendsLemmas.{then_all, then_front, then_sends, front_of}
 
 -- a text that goes on, behind what is done, with this part
 pub record GoesOn (text done part next : List ℕ) : Type 0 where

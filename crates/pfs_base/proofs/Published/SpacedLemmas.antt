@@ -5,8 +5,8 @@ use Rattle.std.proofs.lemmas.Bool.Decides.{eqb_tells}
 use Rattle.std.proofs.lemmas.Grind.{flat_map-append}
 use Rattle.pfs_base.specs.Lists.{below}
 use Rattle.pfs_base.specs.Text.{spaced}
-use Rattle.pfs_base.proofs.Lists.{range_with_len-push}
-use Rattle.pfs_base.proofs.Printing.{spaced-append}
+use Rattle.pfs_base.proofs.Published.Lists.{range_with_len-push}
+use Rattle.pfs_base.proofs.Published.Printing.{spaced-append}
 
 -- one part more
 pub flat_map_more : (f : ℕ → List ℕ) (n : ℕ) → flat_map f (below (suc n)) ≡ flat_map f (below n) ++ f n

@@ -7,7 +7,7 @@ use Rattle.pfs_base.specs.declared.limits.TheConstants.{LONGEST_TIME}
 use Rattle.pfs_base.specs.Limits.{limits}
 use Rattle.pfs_base.specs.FlowShop.{FlowShop, time_of, IsWithin}
 use Rattle.pfs_base.specs.Paths.{heaviest, operation, makespan}
-use Rattle.pfs_base.proofs.Heaviest.{most, most_here, most_on_last, most_down_last, most_last}
+use Rattle.pfs_base.proofs.Published.Heaviest.{most, most_here, most_on_last, most_down_last, most_last}
 
 module _ (weigh : ℕ → ℕ → ℕ) where
   -- the heaviest path to a machine in the last of so many rows, and 0 of none

@@ -1,0 +1,8 @@
+-- Lemmas that the proofs of crates above may cite.
+pub mod Heads
+pub mod Heaviest
+pub mod Lists
+pub mod Printing
+pub mod SendsLemmas
+pub mod SendsOn
+pub mod SpacedLemmas

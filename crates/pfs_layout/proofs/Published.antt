@@ -1,0 +1,3 @@
+-- Lemmas that the proofs of crates above may cite.
+pub mod LawLemmas
+pub mod PlaceLemmas
