@@ -33,7 +33,7 @@ pub fn three_jobs()
 pub fn spellings()
     ensures unended { accepted Layout.Taillard (take 120 three_jobs_file) 1 ≡ Some three_jobs }
     ensures no_words { accepted Layout.Taillard (codes "3 2 0 0 0\n3 2\n4\n2 5 1") 1 ≡ Some three_jobs }
-    ensures carriage_returns { accepted Layout.Taillard (codes "3 2 0 0 0\r\n3 2 4\r\n2 5 1\r\n") 1 ≡ Some three_jobs }
+    ensures carriage_returns { accepted Layout.Taillard three_jobs_file_with_returns 1 ≡ Some three_jobs }
     ensures leading_zeros { accepted Layout.Taillard (codes "03 2 0 0 0\n" ++ replicate 60 48 ++ codes "3 2 4\n2 5 1") 1 ≡ Some three_jobs }
     ensures mixed_title { accepted Layout.Taillard (codes "jobs 5x :\n3 2 0 0 0\nprocessing times :\n3 2 4\n2 5 1\n") 1 ≡ Some three_jobs }
     ensures one_line { accepted Layout.Taillard (codes "3 2 0 0 0\n3 2 4 2 5 1\nwhat follows is free, 5x") 1 ≡ Some three_jobs }
