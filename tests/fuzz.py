@@ -191,7 +191,8 @@ def contents(descriptor):
 
 # Random instance files
 
-TITLES = [b"", b" ", b"\t", b"\r", b"+++++", b"processing times :", b"instance", b"shop", b"\xff\0", b"-", b".", b"x" * 80]
+TITLES = [b"", b" ", b"\t", b"\r", b"+++++", b"processing times :", b"instance", b"shop", b"\xff\0", b"-", b".",
+          b"x" * 80]
 MIXED_TITLES = [b"instance car1", b"Carlier 11x5", b"-5", b"1.5", b"3 2 0 0 0 x", b"x 3 2", b"0\0", b"7\xe9"]
 BLANKS = [b" ", b" ", b" ", b" ", b"  ", b"\t", b"\r", b" \t "]
 TIMES = [0, 1, 2, 3, 5, 8, 99, 999_999, 1_000_000]
@@ -323,9 +324,13 @@ def near_the_limit(random, text):
 
 # Random command lines
 
-ODD_WORDS = [b"", b"-", b"--", b"-h", b"--help", b"--version", b"-V", b"help", b"--cells", b"--cells=1", b"--block", b"--block=",
-             b"--block=2", b"--layout", b"--layout=orlib", b"--layout=Orlib", b"--lay=orlib", b"-5", b"--5", b"\xff", b"\xc3\xa9",
-             b"shop", b"order", b"missing", b"/dev/null", b"value", b"--seed=-1", b"--take=0", b"---", b"--=", b"x" * 5_000]
+ODD_WORDS = [
+    b"", b"-", b"--", b"-h", b"--help", b"--version", b"-V", b"help", b"--cells", b"--cells=1", b"--block", b"--block=",
+    b"--block=2", b"--layout", b"--layout=orlib", b"--layout=Orlib", b"--lay=orlib", b"-5", b"--5", b"---", b"--=",
+    b"--seed=-1", b"--take=0", b"\xff", b"\xc3\xa9", b"shop", b"order", b"missing", b"/dev/null", b"value",
+    b"x" * 5_000,
+]
+NO_NUMBERS = [b"", b"-1", b"x", b" 1", b"1 ", b"1.0", b"0x1", b"+", b"++1", b"1_0", b"\xd9\xa3", b"9" * 30]
 SEEDS = [0, 1, 7, 2**32, 2**63, 2**64 - 1, 2**64]
 DRAWN_SEEDS = [0, 1, 873_654_221, 2_147_483_646, 2_147_483_647, 2**64 - 1]
 
@@ -339,7 +344,7 @@ class Line:
     def number(self, value):
         """A number as a command line may write it, rarely a word that is none."""
         if self.random.random() < 0.03:
-            return self.random.choice([b"", b"-1", b"x", b" 1", b"1 ", b"1.0", b"0x1", b"+", b"++1", b"1_0", b"\xd9\xa3", b"9" * 30])
+            return self.random.choice(NO_NUMBERS)
         return self.random.choice([b""] * 9 + [b"+", b"0", b"+00", b"0" * 40]) + b"%d" % value
 
     def option(self, name, value):
@@ -390,8 +395,8 @@ class Line:
         return [b"generate"] + ([b"--"] if self.random.random() < 0.05 else []) + words
 
     def words(self, layout, jobs, is_great):
-        commands = [b"value", b"check", b"check", b"table", b"convert"] + [b"generate", b"solve", b"solve"] * (not is_great)
-        command = self.random.choice(commands)
+        commands = [b"value", b"check", b"check", b"table", b"convert"]
+        command = self.random.choice(commands + [b"generate", b"solve", b"solve"] * (not is_great))
         if command == b"generate":
             return self.generate()
         if command == b"convert":
@@ -441,7 +446,7 @@ def random_case(random):
         text = mutated(random, text)
     elif kind < 0.43:
         text = b"".join(random.choice(BYTES) for _ in range(random.randint(0, 60)))
-    elif kind < 0.434:
+    elif kind < 0.438:
         text = near_the_limit(random, text)
     if random.random() < 0.3:
         order = mutated(random, order)
@@ -452,7 +457,7 @@ def random_case(random):
         words = Line(random).mutated(words)
     files = {b"shop": text, b"order": order}
     for name in files:
-        if random.random() < 0.01:
+        if random.random() < 0.02:
             files[name] = UNREADABLE
     if random.random() < 0.01:
         del files[random.choice([b"shop", b"order"])]
@@ -563,13 +568,11 @@ def tell(program, case):
     words = " ".join(shlex.quote(os.fsdecode(word)) for word in case.words)
     output = " > /dev/full" if case.is_full else ""
     print(f"to run it: cd {folder} && {program} {words} < stdin{output}".encode(errors="replace").decode())
-    print(f"in its pieces, beside the second program: {TOP}/tests/fuzz.py --program {program} --case {folder}/case.json")
-    for name, text in case.files.items():
-        if name not in case.words:
-            continue
-        print(f"{os.fsdecode(name)}: {'a folder' if text is UNREADABLE else repr(text[:600])}, {case.pieces.get(name, 'whole')}")
-    if not case.words:
-        print(f"standard input: {case.stdin[:600]!r}, {case.pieces.get(b'-', 'whole')}")
+    print(f"in its pieces: {TOP}/tests/fuzz.py --program {program} --case {folder}/case.json")
+    for name, text in ({b"stdin": case.stdin} | case.files).items():
+        if name in case.words or (name == b"stdin" and not case.words):
+            pieces = case.pieces.get(b"-" if name == b"stdin" else name, "whole")
+            print(f"{name.decode()}: {'a folder' if text is UNREADABLE else repr(text[:600])}, {pieces}")
     print(f"wanted {shown(case.wanted())}\ngot    {shown(run(program, case))}", flush=True)
 
 
@@ -598,7 +601,8 @@ def search(program, seed, seconds):
         wanted = case.wanted()
         kinds[kind_of(wanted)] += 1
         if run(program, case) != wanted:
-            print(f"seed {seed}, case {number}, after {time.monotonic() - start:.1f} s: the programs differ", flush=True)
+            spent = time.monotonic() - start
+            print(f"seed {seed}, case {number}, after {spent:.1f} s: the programs differ", flush=True)
             tell(program, smaller(program, case, time.monotonic() + 60))
             return False
     print(f"seed {seed}: {number} cases in {seconds:g} s, on which both programs agree")

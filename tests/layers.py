@@ -11,8 +11,8 @@ import tempfile
 import time
 
 sys.dont_write_bytecode = True
-from command_lines import FILES, LINES
-from unproved import build
+from command_lines import FILES
+from unproved import build, edited
 
 VALUE = "value --layout taillard three"
 SOLVE = "solve --layout taillard three"
@@ -21,7 +21,8 @@ TABLE = "table --layout taillard three best"
 CONVERT = "convert --from taillard --to orlib three"
 GENERATE = "generate 5 1 873654221"
 
-# The call, the file where it stands, a line of it, what stands before or in place of this line, and the commands.
+# In place of the line of `read_block` that takes the reader's progress: the answer, once the size line of the wanted
+# block is behind.
 READ_BLOCK = """            Ok(progress) => {
                 if progress.done || taker.held() > 0 {
                     return Err(LayoutFault::Memory);
@@ -30,15 +31,12 @@ READ_BLOCK = """            Ok(progress) => {
             }"""
 
 
-def answered(line, condition, fault):
-    """The line, behind an answer under a condition that always holds there."""
-    return f"    if {condition} {{\n        return Err({fault});\n    }}\n{line}"
-
-
 def edit(file, line, condition, fault):
-    return file, line, answered(line, condition, fault)
+    """The edit by which this fault is answered before a line, under a condition that always holds there."""
+    return file, line, f"    if {condition} {{\n        return Err({fault});\n    }}\n{line}"
 
 
+# Each call with its edit, and the commands that stand on it.
 LAYERS = [
     ("read_block", ("pfs_layout/src/reader.rt", "            Ok(progress) => progress,", READ_BLOCK),
      [VALUE, SOLVE, CHECK, TABLE, CONVERT]),
@@ -52,10 +50,10 @@ LAYERS = [
                    "AuditFault::Memory"), [CHECK]),
     ("table", edit("pfs_audit/src/timetable.rt", "    let rows = order.len();", "machines > 0", "AuditFault::Memory"),
      [TABLE]),
-    ("HeadsTails::new", edit("pfs_insert/src/heads_tails.rt", "        let size = (2 * jobs + 1) * machines;", "jobs > 0",
-                             "InsertFault::Memory"), [SOLVE]),
-    ("Searcher::new", edit("pfs_search/src/searcher.rt", "        let Ok(seq) = Seq::new(alloc, size) else {", "size > 0",
-                           "SearchFault::Memory { done: 0 }"), [SOLVE]),
+    ("HeadsTails::new", edit("pfs_insert/src/heads_tails.rt", "        let size = (2 * jobs + 1) * machines;",
+                             "jobs > 0", "InsertFault::Memory"), [SOLVE]),
+    ("Searcher::new", edit("pfs_search/src/searcher.rt", "        let Ok(seq) = Seq::new(alloc, size) else {",
+                           "size > 0", "SearchFault::Memory { done: 0 }"), [SOLVE]),
 ]
 SIDE_BY_SIDE = min(4, os.cpu_count())
 
@@ -64,14 +62,12 @@ def answers(folder, call, made, lines):
     """What goes wrong in the copy in which this call answers want of memory: a list of sentences."""
     copy = folder / call.replace("::", "_")
     copy.mkdir()
-    program = build(copy, [made])
-    usual = {line: tuple(answer) for line, *answer in LINES}
+    program = build(copy, made)
     wrong = []
-    for line in [VALUE, SOLVE, CHECK, TABLE, CONVERT, GENERATE]:
+    for line in lines:
         done = subprocess.run([program] + line.split(" "), capture_output=True, cwd=folder, timeout=60)
         got = done.stdout, done.stderr, done.returncode
-        refusal = b"", b"pfs: no memory\n", 4
-        wanted = refusal if line in lines else usual[line]
+        wanted = b"", b"pfs: no memory\n", 4
         if got != wanted:
             wrong.append(f"where {call} answers want of memory, {line}: wanted {wanted!r}, got {got!r}")
     return wrong
@@ -79,6 +75,9 @@ def answers(folder, call, made, lines):
 
 def main():
     start = time.monotonic()
+    for _, made, _ in LAYERS:
+        # Each line is there, before any copy is built.
+        edited(*made)
     with tempfile.TemporaryDirectory(prefix="pfs-layers-") as folder:
         folder = pathlib.Path(folder)
         for name in ("three", "best"):

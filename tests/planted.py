@@ -17,7 +17,8 @@ BUGS = [
      ("pfs_layout/src/fields.rt", "        let mut digits = self.digits;",
       "        let mut digits = Digits { offset: start, first: start, value: 0 };")),
     ("of equal places the last is taken",
-     ("pfs_insert/src/inserter.rt", "    if place == 0 || span < best.span {", "    if place == 0 || span <= best.span {")),
+     ("pfs_insert/src/inserter.rt", "    if place == 0 || span < best.span {",
+      "    if place == 0 || span <= best.span {")),
     ("a round keeps only shorter orders",
      ("pfs_search/src/greedy.rt", "    if span <= kept.span {", "    if span < kept.span {")),
     ("the bound leaves out the times behind a machine",
@@ -37,7 +38,7 @@ def main():
     unseen = 0
     for bug, edit in BUGS:
         with tempfile.TemporaryDirectory(prefix="pfs-planted-") as folder:
-            program = build(pathlib.Path(folder), [edit])
+            program = build(pathlib.Path(folder), edit)
             print(f"planted: {bug}", flush=True)
             unseen += fuzz.search(str(program), given.seed, given.seconds)
     print(f"{len(BUGS)} bugs planted, {unseen} not found")

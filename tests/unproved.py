@@ -1,4 +1,4 @@
-"""Programs built from copies of the sources in which some lines are other ones. They are built without proofs, by
+"""Programs built from copies of the sources in which a line is another one. They are built without proofs, by
 `rt try`, which keeps no program: so it is told to read a pipe, and what waits there is copied."""
 import errno
 import os
@@ -12,30 +12,27 @@ TOP = pathlib.Path(__file__).resolve().parent.parent
 MOST_SECONDS = 900
 
 
-def edited_copy(folder, edits):
-    """Copies the sources into a folder, and makes the edits: files, each with an old line, which stands there
-    exactly once, and the text in its place."""
+def edited(name, old, new):
+    """The text of this file of the sources with another text in the place of a line, which stands there once."""
+    lines = (TOP / "crates" / name).read_text().split("\n")
+    if lines.count(old) != 1:
+        raise LookupError(f"{name} has the line {old!r} {lines.count(old)} times, and not once")
+    place = lines.index(old)
+    return "\n".join(lines[:place] + [new] + lines[place + 1:])
+
+
+def build(folder, edit):
+    """The path of the program that is built from the sources with this edit, in a new folder."""
     left_out = shutil.ignore_patterns("out", "must-fail")
     shutil.copytree(TOP / "crates", folder / "crates", ignore=left_out)
     shutil.copy(TOP / "crates.txt", folder)
-    for name, old, new in edits:
-        path = folder / "crates" / name
-        lines = path.read_text().split("\n")
-        if lines.count(old) != 1:
-            raise LookupError(f"{name} has the line {old!r} {lines.count(old)} times, and not once")
-        place = lines.index(old)
-        lines[place:place + 1] = [new]
-        path.write_text("\n".join(lines))
-
-
-def build(folder, edits):
-    """The path of the program that is built from the sources with these edits, in a new folder."""
-    edited_copy(folder, edits)
+    (folder / "crates" / edit[0]).write_text(edited(*edit))
     pipe = folder / "pipe"
     os.mkfifo(pipe)
     told = open(folder / "told", "w+b")
     words = ["rt", "try", "--", "value", "--layout", "taillard", str(pipe)]
-    building = subprocess.Popen(words, cwd=folder / "crates" / "pfs", stdin=subprocess.DEVNULL, stdout=told, stderr=told)
+    how = {"stdin": subprocess.DEVNULL, "stdout": told, "stderr": told}
+    building = subprocess.Popen(words, cwd=folder / "crates" / "pfs", **how)
     try:
         writer = opened_by_program(pipe, building)
         program = folder / "program"
