@@ -279,7 +279,7 @@ def stop(child):
     """Stops a program, and waits until it stands."""
     child.send_signal(signal.SIGSTOP)
     state = lambda: pathlib.Path(f"/proc/{child.pid}/stat").read_text().rpartition(")")[2].split()[0]
-    wait_for("the program stands", lambda: state() in ("T", "Z"))
+    wait_for("the program stands", lambda: child.returncode is not None or state() in ("T", "Z"))
 
 
 def shrinking(desk):
@@ -314,16 +314,27 @@ def shrinking_while_read(desk, part):
     with open(desk.path("shrinks"), "wb") as file:
         file.write(head)
         file.writelines(line * 1_000 for _ in range(399))
-    child = desk.start("value --layout taillard shrinks")
-    wait_for("the file is read", lambda: (opened_position(child.pid, "shrinks") or 0) > 0)
-    stop(child)
-    position = opened_position(child.pid, "shrinks")
+    child, position = stopped_while_reading(desk, "shrinks")
     end = position // 2 if part == 2 else position + len(line)
     os.truncate(desk.path("shrinks"), end)
     child.send_signal(signal.SIGCONT)
     begun = -(-(max(position, end) - len(head)) // len(line))
     wanted = refusal(b"truncated after %d times" % begun, 2)
     check(f"shrunk to {end} after {position} bytes", wanted[:2], child.communicate(timeout=MOST_SECONDS))
+
+
+def stopped_while_reading(desk, name):
+    """The program, which stands somewhere in a file, and how far it has read. It is started again where it was done
+    before it stood."""
+    while True:
+        child = desk.start(f"value --layout taillard {name}")
+        while child.poll() is None:
+            if opened_position(child.pid, name):
+                stop(child)
+                position = opened_position(child.pid, name)
+                if position:
+                    return child, position
+        child.communicate()
 
 
 def as_nobody():
@@ -384,6 +395,8 @@ def long_lines(desk):
 
 def main():
     program = os.path.abspath(sys.argv[1]) if sys.argv[1:] else str(TOP / "crates" / "pfs" / "out" / "pfs")
+    # Where the program doesn't open a pipe that waits for it, this ends the tests.
+    signal.alarm(600)
     with tempfile.TemporaryDirectory(prefix="pfs-descriptors-") as folder:
         desk = Desk(folder, program)
         for part in (closed, inputs, no_usual_files, readers_gone, writes_that_would_wait, named_pipes, signals,
