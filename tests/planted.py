@@ -41,7 +41,7 @@ def main():
         with tempfile.TemporaryDirectory(prefix="pfs-planted-") as folder:
             program = build(pathlib.Path(folder), edit)
             print(f"planted: {bug}", flush=True)
-            unseen += fuzz.search(str(program), given.seed, given.seconds, has_great_files=False)
+            unseen += fuzz.search(str(program), given.seed, given.seconds, False)
     print(f"{len(BUGS)} bugs planted, {unseen} not found")
     return 1 if unseen else 0
 
