@@ -133,13 +133,32 @@ def inputs(desk):
     os.close(write_end)
 
 
+def paths_of_descriptors(desk):
+    """Files that are named by the descriptors that the program was started with."""
+    for path in ("/dev/stdin", "/dev/fd/0", "/proc/self/fd/0"):
+        with open(desk.path("three"), "rb") as file:
+            check(path, (ELEVEN, b"", 0), desk.run(VALUE.replace("three", path), stdin=file))
+        with open(desk.path("best"), "rb") as file:
+            check(f"an order file, {path}", (VALID, b"", 0), desk.run(CHECK.replace("best", path), stdin=file))
+    read_end, write_end = os.pipe()
+    os.write(write_end, THREE_JOBS)
+    os.close(write_end)
+    line = VALUE.replace("three", f"/dev/fd/{read_end}")
+    check("a pipe by its number", (ELEVEN, b"", 0), desk.run(line, pass_fds=(read_end,)))
+    os.close(read_end)
+    check("a number that isn't open", refusal(b"cannot open"), desk.run(VALUE.replace("three", "/dev/fd/99")))
+
+
 def no_usual_files(desk):
     """Paths of what is no usual file."""
     listening = socket.socket(socket.AF_UNIX)
     listening.bind(str(desk.path("socket")))
+    desk.path("sparse").touch()
+    os.truncate(desk.path("sparse"), 2**33 + 5)
     desk.path("circle").symlink_to("circle")
     for name, answer in (("folder", refusal(b"read failed")), ("/dev/null", refusal(b"no block, found 0", 2)),
-                         ("/dev/full", refusal(b"input too long", 2)), ("/proc/self/mem", refusal(b"read failed")),
+                         ("/dev/full", refusal(b"input too long", 2)), ("sparse", refusal(b"input too long", 2)),
+                         ("/proc/self/mem", refusal(b"read failed")),
                          ("socket", refusal(b"cannot open")), ("circle", refusal(b"cannot open")),
                          ("three/", refusal(b"cannot open")), ("three/x", refusal(b"cannot open"))):
         for line in (VALUE, SOLVE, CHECK, TABLE, CONVERT):
@@ -149,6 +168,7 @@ def no_usual_files(desk):
                          ("/dev/null", refusal(b"order file syntax at 0", 2)),
                          ("/dev/zero", refusal(b"order file too long", 2)),
                          ("/dev/full", refusal(b"order file too long", 2)),
+                         ("sparse", refusal(b"order file too long", 2)),
                          ("/proc/self/mem", refusal(b"order file read failed")), ("socket", refusal(b"cannot open"))):
         for line in (CHECK, TABLE):
             line = line.replace("best", name)
@@ -399,8 +419,8 @@ def main():
     signal.alarm(600)
     with tempfile.TemporaryDirectory(prefix="pfs-descriptors-") as folder:
         desk = Desk(folder, program)
-        for part in (closed, inputs, no_usual_files, readers_gone, writes_that_would_wait, named_pipes, signals,
-                     shrinking, no_permission, few_descriptors, long_lines):
+        for part in (closed, inputs, paths_of_descriptors, no_usual_files, readers_gone, writes_that_would_wait,
+                     named_pipes, signals, shrinking, no_permission, few_descriptors, long_lines):
             part(desk)
     print(f"descriptors and signals: {passed} passed, {failed} failed")
     return 1 if failed else 0
