@@ -311,8 +311,8 @@ def shrinking(desk):
     os.close(opened_for_writing(desk.path("pipe")))
     wanted = refusal(b"truncated after 5 times", 2)
     check("shrunk before it is read", wanted[:2], child.communicate(timeout=MOST_SECONDS))
-    for part in (2, 1):
-        shrinking_while_read(desk, part)
+    shrinking_while_read(desk, lambda position: position // 2)
+    shrinking_while_read(desk, lambda position: position + 128)
 
 
 def opened_position(process, name):
@@ -328,14 +328,15 @@ def opened_position(process, name):
     return None
 
 
-def shrinking_while_read(desk, part):
-    """Half of what has been read stays, or one line more: then no more or one time more is read."""
+def shrinking_while_read(desk, size_behind):
+    """A file of lines of 128 bytes, each with a time, gets another size behind a place where it is being read. A size
+    before this place ends the file there."""
     head, line = b"2000 200 0 0 0\n", b"0" * 127 + b"\n"
     with open(desk.path("shrinks"), "wb") as file:
         file.write(head)
         file.writelines(line * 1_000 for _ in range(399))
     child, position = stopped_while_reading(desk, "shrinks")
-    end = position // 2 if part == 2 else position + len(line)
+    end = size_behind(position)
     os.truncate(desk.path("shrinks"), end)
     child.send_signal(signal.SIGCONT)
     begun = -(-(max(position, end) - len(head)) // len(line))
@@ -344,17 +345,20 @@ def shrinking_while_read(desk, part):
 
 
 def stopped_while_reading(desk, name):
-    """The program, which stands somewhere in a file, and how far it has read. It is started again where it was done
-    before it stood."""
+    """The program, which stands somewhere in the first half of a file, and how far it has read. It is started again
+    where it was further before it stood."""
+    half = desk.path(name).stat().st_size // 2
     while True:
         child = desk.start(f"value --layout taillard {name}")
         while child.poll() is None:
             if opened_position(child.pid, name):
                 stop(child)
                 position = opened_position(child.pid, name)
-                if position:
+                if position and position < half:
                     return child, position
-        child.communicate()
+                child.send_signal(signal.SIGCONT)
+                break
+        child.communicate(timeout=MOST_SECONDS)
 
 
 def as_nobody():
