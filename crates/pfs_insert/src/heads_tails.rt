@@ -63,7 +63,7 @@ impl<B: Bench> HeadsTails<B> {
         };
         match lengths.resize(size, bench.zero()) {
             Ok(()) => {}
-            Err(AllocError) => return Err(InsertFault::Memory),
+            Err(AllocError) => unreachable!(),
         }
         Ok(HeadsTails {
             table: Table {
