@@ -1,3 +1,4 @@
+pub mod CommandLemmas
 pub mod FormLemmas
 pub mod HeadlineLemmas
 pub mod JobLemmas

@@ -1,5 +1,5 @@
 -- What an engine answers and writes. Bytes are those that a reader has left, where they are told.
-use Rattle.std.specs.Prelude.{⊤, ◌≡◌, ◌≢◌, ℕ, ◌≤◌, Bool, false, List, Option, Result, Ok, Err, ◌⊎◌, IfSome}
+use Rattle.std.specs.Prelude.{⊤, ◌≡◌, ◌≢◌, ◌↔◌, ℕ, ◌≤◌, Bool, true, false, List, Option, Some, None, Result, Ok, Err, ◌⊎◌, IfSome}
 use Rattle.std.specs.Io.KnownBytes.{Appends}
 use Rattle.pfs_base.specs.Limits.{limits}
 use Rattle.pfs_base.specs.Problem.{Problem}
@@ -11,10 +11,12 @@ use Rattle.pfs_layout.specs.declared.layout.Layout.TheVariants.{Taillard}
 use Rattle.pfs_layout.specs.CanonicalText.{canonical_text}
 use Rattle.pfs_layout.specs.File.{File}
 use Rattle.pfs_layout.specs.Generator.{generated}
+use Rattle.pfs_layout.specs.Reader.{ReadsAsFar}
 use Rattle.pfs_layout.specs.Refuse.{Refuse}
 use Rattle.pfs_order.specs.Sequence.{StatedOrder}
-use Rattle.pfs_order.specs.OrderFile.{IsOrderFile, RefusesUnlessFailed}
+use Rattle.pfs_order.specs.OrderFile.{IsOrderFile, ReadsOrderAsFar, RefusesUnlessFailed}
 use Rattle.pfs_order.specs.declared.fault.OrderFault.{OrderFault}
+use Rattle.pfs_order.specs.declared.fault.OrderFault.TheVariants as order_faults
 use Rattle.pfs_audit.specs.Verdicts.{verdict_on}
 use Rattle.pfs_desk.specs.declared.fault.Outcome.{Outcome}
 use Rattle.pfs_desk.specs.declared.fault.Outcome.TheVariants.{Done}
@@ -63,6 +65,47 @@ pub record RefusesSecond (layout : Layout) (file : Option (List ℕ)) (block : �
 abbrev pub JudgesSecond : Layout → Option (List ℕ) → ℕ → Option (List ℕ) → DeskFault → Type 0
 JudgesSecond layout file block order_file (Order fault) = RefusesSecond layout file block order_file fault
 JudgesSecond layout file block order_file others = ⊤
+
+-- the fault of the instance file, or of the order file, that a result tells
+abbrev pub layout_fault_of : {A : Type 0} → Result A DeskFault → Option LayoutFault
+layout_fault_of (Err (faults.Layout fault)) = Some fault
+layout_fault_of others = None
+
+abbrev pub order_fault_of : {A : Type 0} → Result A DeskFault → Option OrderFault
+order_fault_of (Err (Order fault)) = Some fault
+order_fault_of others = None
+
+-- a failed read of the instance file is told, and none is told where none failed
+abbrev pub TellsRead : Bool → Result Outcome DeskFault → Type 0
+TellsRead failed result = (result ≡ Err (faults.Layout layout_faults.Read)) ↔ (failed ≡ true)
+
+-- the same of the order file
+abbrev pub TellsOrderRead : Bool → Result Outcome DeskFault → Type 0
+TellsOrderRead failed result = (result ≡ Err (Order order_faults.Read)) ↔ (failed ≡ true)
+
+-- no seed was asked for, and none is refused
+abbrev pub RefusesNoSeed : Result Outcome DeskFault → Type 0
+RefusesNoSeed result = result ≢ Err (faults.Layout layout_faults.SeedRange)
+
+-- how far the instance file was read
+abbrev pub ReadsFirst : Layout → ℕ → Option (List ℕ) → Option (List ℕ) → Result Outcome DeskFault → Type 0
+ReadsFirst layout block file left result = IfSome file (λ bytes. ReadsAsFar layout block bytes left (layout_fault_of result))
+
+-- how far the order file was read: not at all where the instance file has a fault
+abbrev pub ReadsSecond : Option (List ℕ) → Option (List ℕ) → Result Outcome DeskFault → Type 0
+ReadsSecond order_file left (Err (faults.Layout fault)) = left ≡ order_file
+ReadsSecond order_file left others = IfSome order_file (λ bytes. ReadsOrderAsFar bytes left (order_fault_of others))
+
+-- memory is asked for behind the instance file, which holds a problem
+abbrev pub WantsBehindFirst : Layout → Option (List ℕ) → ℕ → DeskFault → Type 0
+WantsBehindFirst layout file block faults.Memory = (problem : Problem) × Holds layout file block problem
+WantsBehindFirst layout file block others = ⊤
+
+-- memory is asked for behind both files, and the order file states an order
+abbrev pub WantsBehindSecond : Layout → Option (List ℕ) → ℕ → Option (List ℕ) → DeskFault → Type 0
+WantsBehindSecond layout file block order_file faults.Memory =
+    (problem : Problem) × (stated : StatedOrder) × Holds layout file block problem × States order_file stated
+WantsBehindSecond layout file block order_file others = ⊤
 
 -- a block of the instance file holds a problem with fewer jobs than are to be taken out in a round
 pub record RefusesTake (layout : Layout) (file : Option (List ℕ)) (block : ℕ) (asked : Option ℕ) (fault : DeskFault) : Type 0 where

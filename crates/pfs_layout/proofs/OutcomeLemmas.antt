@@ -11,7 +11,7 @@ use Rattle.pfs_base.specs.Problem.{Problem}
 use Rattle.pfs_base.proofs.Published.Lists.{slice_get-append}
 use Rattle.pfs_layout.specs.declared.layout.Layout.{Layout}
 use Rattle.pfs_layout.specs.declared.fault.LayoutFault.{LayoutFault}
-use Rattle.pfs_layout.specs.declared.fault.LayoutFault.TheVariants.{NoBlock, Truncated}
+use Rattle.pfs_layout.specs.declared.fault.LayoutFault.TheVariants.{NoBlock, Truncated, Memory}
 use Rattle.pfs_layout.specs.declared.fields.Phase.{Phase}
 use Rattle.pfs_layout.specs.declared.fields.Phase.TheVariants as phases
 use Rattle.pfs_layout.specs.declared.fields.Fields.{Fields}
@@ -23,14 +23,14 @@ use Rattle.pfs_layout.specs.File.{File}
 use Rattle.pfs_layout.specs.Laws.{ExactlyOne}
 use Rattle.pfs_layout.specs.Refuse.{mixed_line, size_fault, ends_early, faults, fault_behind, refusal, accepted, Refuse}
 use Rattle.pfs_layout.specs.Step.{is_live, last_number_ended, end_fault_in, end_fault, at_end}
-use Rattle.pfs_layout.specs.Reader.{block_begun_by, block_of, FollowsBlocks, Follows, StandsIn, StandsAfter, FinishMeets}
+use Rattle.pfs_layout.specs.Reader.{block_begun_by, block_of, FollowsBlocks, Follows, StandsIn, StandsAfter, IsReader, FinishMeets}
 use Rattle.pfs_layout.proofs.Published.PlaceLemmas.{refusal_is}
 use Rattle.pfs_layout.proofs.SoundLemmas.{GoodNow, GoodBody, stand_of, sound}
 use Rattle.pfs_layout.proofs.StandLemmas.{IsBegun, Fits, made}
 use Rattle.pfs_layout.proofs.GrowLemmas.{Extends, grows}
 use Rattle.pfs_layout.proofs.EndLemmas.{refusal_end, byte_fault_refuses}
 use Rattle.pfs_layout.proofs.Published.LawLemmas.{accepted_law, one_verdict}
-use Rattle.pfs_layout.proofs.StepLemmas.{keeps_last}
+use Rattle.pfs_layout.proofs.StepLemmas.{keeps_last, refused_memory}
 use Rattle.pfs_layout.proofs.ByteSteps.{live_few, sought_phase}
 use Rattle.pfs_layout.proofs.EndSteps.{number_fault, NumberPart, number_part, due_line}
 use Rattle.pfs_layout.proofs.FeedLemmas.{refused_fault, done_enough}
@@ -245,3 +245,17 @@ finish_done r text f e =
     let told : end_fault r.kinds (at_end r) ≡ None = ap (end_fault r.kinds) here ∙ ap (λ p. end_fault_in p r.kinds r) e in
     let found = outcome_none r text f (done_end r text f e) told in
     (found.0, (found.2.file found.0).0 refl)
+
+-- where the input may end here, the instance is there
+pub end_has_instance : (r : Fields) → IsReader r → end_fault r.kinds (at_end r) ≡ None → (at_end r).instance ≡ None → ⊥
+end_has_instance r some told none = by_memory (refused_memory r.phase)
+  where
+    by_memory : (r.phase ≡ phases.Refused Memory) ⊎ (r.phase ≢ phases.Refused Memory) → ⊥
+    by_memory (inl e) =
+        let here : at_end r ≡ r = ap (λ p. if is_live p then last_number_ended r r.digits else r) e in
+        let refused : end_fault r.kinds (at_end r) ≡ Some Memory = ap (end_fault r.kinds) here ∙ ap (λ p. end_fault_in p r.kinds r) e in
+        (let bad = sym told ∙ refused in cc)
+    by_memory (inr other) =
+        let at = some.stands other in
+        let there = (finish_tells r at.0 at.1).1 told in
+        (let bad = sym none ∙ there.1 in cc)

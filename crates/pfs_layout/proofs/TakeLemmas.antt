@@ -118,6 +118,7 @@ wanted_size r text b f live short e m =
     let begun = begins (list_any is_word_byte (open_line (text ++ b ∷ []))) next (stand_of next.layout (text ++ b ∷ [])).now (ended_numbers (open_line (text ++ b ∷ []))) follows.blocks.now m.begins in
     let c = carries r b live in
     record {
+      short = short;
       line_end = e;
       last = let n = f.blocks.complete in let w = m.wanted in omega arith;
       sought = seeks (list_any is_word_byte (open_line text)) r (stand_of r.layout text).now (ended_numbers (open_line text)) f.blocks.now m.sought;

@@ -1,6 +1,7 @@
 -- Some instance files, and what they hold.
-use Rattle.std.specs.Prelude.{ℕ, List, [], ◌∷◌, ◌++◌, codes}
+use Rattle.std.specs.Prelude.{ℕ, List, [], ◌∷◌, ◌++◌, codes, flat_map, if◌then◌else◌}
 use Rattle.pfs_base.specs.Problem.{Problem}
+use Rattle.pfs_layout.specs.Bytes.{is_line_end}
 
 -- the first line of a file in Taillard's layout
 abbrev pub heading : List ℕ
@@ -13,11 +14,19 @@ ending_with last = heading ++ codes "3 2 0 0 0\nprocessing times :\n3 2 4\n" ++ 
 abbrev pub three_jobs_file : List ℕ
 three_jobs_file = ending_with (codes "2 5 1")
 
-abbrev pub three_jobs : Problem
-three_jobs = record {
-  shop = record { jobs = 3; machines = 2; times = 3 ∷ 2 ∷ 2 ∷ 5 ∷ 4 ∷ 1 ∷ [] };
+-- with this as the last job's time on the last machine
+abbrev pub three_jobs_with : ℕ → Problem
+three_jobs_with last = record {
+  shop = record { jobs = 3; machines = 2; times = 3 ∷ 2 ∷ 2 ∷ 5 ∷ 4 ∷ last ∷ [] };
   notes = record { seed = 0; upper = 0; lower = 0 };
 }
+
+abbrev pub three_jobs : Problem
+three_jobs = three_jobs_with 1
+
+-- with a carriage return before each line end
+abbrev pub with_returns : List ℕ → List ℕ
+with_returns text = flat_map (λ byte. if is_line_end byte then 13 ∷ byte ∷ [] else byte ∷ []) text
 
 -- in the OR-Library's layout one job of time 7, and then the three jobs
 abbrev pub two_blocks_file : List ℕ

@@ -8,7 +8,7 @@ use Rattle.pfs_base.specs.Problem.{Problem}
 use Rattle.pfs_layout.specs.declared.layout.Layout.{Layout}
 use Rattle.pfs_layout.specs.declared.layout.Layout.TheVariants.{Taillard, OrLib}
 use Rattle.pfs_layout.specs.declared.fault.LayoutFault.{LayoutFault}
-use Rattle.pfs_layout.specs.declared.fault.LayoutFault.TheVariants.{Memory}
+use Rattle.pfs_layout.specs.declared.fault.LayoutFault.TheVariants.{Read, Memory}
 use Rattle.pfs_layout.specs.declared.scan.Digits.{Digits}
 use Rattle.pfs_layout.specs.declared.scan.Kinds.{Kinds}
 use Rattle.pfs_layout.specs.declared.scan.TheConstants.{CEILING}
@@ -18,6 +18,7 @@ use Rattle.pfs_layout.specs.declared.fields.Phase.{Phase}
 use Rattle.pfs_layout.specs.declared.fields.Phase.TheVariants as phases
 use Rattle.pfs_layout.specs.declared.fields.Fields.{Fields}
 use Rattle.pfs_layout.specs.declared.fields.Progress.{Progress}
+use Rattle.pfs_layout.specs.declared.reader.TheConstants.{PIECE}
 use Rattle.pfs_layout.specs.Bytes.{is_digit, is_word_byte, is_line_end}
 use Rattle.pfs_layout.specs.Lines.{ended_lines, open_line, ended_numbers, last_digits}
 use Rattle.pfs_layout.specs.Size.{Size, is_within_limits}
@@ -154,8 +155,9 @@ pub record HoldsFew (layout : Layout) (k : ℕ) (text : List ℕ) (held : ℕ) :
 
 -- ---- what the calls owe
 
--- the byte is the end of the wanted block's size line
+-- the byte, within the limit of the input, is the end of the wanted block's size line
 pub record EndsWantedSize (layout : Layout) (k : ℕ) (text : List ℕ) (byte : ℕ) : Type 0 where
+  pub short : length text < LONGEST_INPUT
   pub line_end : byte ≡ 10
   pub last : length (stand layout (ended_lines text)).complete + 1 ≡ k
   pub sought : (stand layout (ended_lines text)).now ≡ seeking
@@ -195,6 +197,27 @@ pub record FeedMeets (old : Fields) (text piece : List ℕ) (outcome : Result Pr
 pub record FinishMeets (old : Fields) (text : List ℕ) (outcome : Result Problem LayoutFault) : Type 0 where
   pub file : (problem : Problem) → (outcome ≡ Ok problem) ↔ File limits old.layout text old.wanted problem
   pub refused : (fault : LayoutFault) → (outcome ≡ Err fault) ↔ Refuse old.layout text old.wanted fault
+
+-- ---- how far an input is read
+
+-- no byte of the text has a fault, and fewer than k blocks are complete: more of the input is wanted
+pub record IsUndecided (layout : Layout) (k : ℕ) (text : List ℕ) : Type 0 where
+  pub sound : byte_fault layout k text ≡ None
+  pub incomplete : length (stand layout (ended_lines text)).complete < k
+
+-- an input of these bytes was read, with this fault if any, up to a last piece, before which more was wanted, and no further
+pub record ReadsAsFar (layout : Layout) (k : ℕ) (bytes : List ℕ) (left : Option (List ℕ)) (fault : Option LayoutFault) : Type 0 where
+  pub front : List ℕ
+  pub last : List ℕ
+  pub rest : List ℕ
+  pub whole : bytes ≡ front ++ last ++ rest
+  pub left_is : left ≡ Some rest
+  pub wanted : IsUndecided layout k front
+  pub piece : length last ≤ PIECE
+  -- a failed read gives no piece
+  pub failed : fault ≡ Some Read → last ≡ []
+  -- memory is wanted at the end of the wanted block's size line alone, which is in the last piece
+  pub memory : fault ≡ Some Memory → (n : ℕ) × (n < length last) × EndsWantedSize layout k (front ++ take n last) (slice_index last n)
 
 -- a reader of the block that has read a front of what its source had left at first, where that is told
 pub record Reading (layout : Layout) (k : ℕ) (first left : Option (List ℕ)) (r : Fields) : Type 0 where

@@ -8,7 +8,7 @@ ghost use Rattle.pfs_layout.specs.File.{File};
 ghost use Rattle.pfs_layout.specs.Refuse.{refusal, accepted};
 ghost use Rattle.pfs_layout.specs.CanonicalText.{canonical_text};
 ghost use Rattle.pfs_layout.specs.Generator.{generated};
-ghost use Rattle.pfs_layout.specs.Examples.{heading, ending_with, three_jobs_file, three_jobs, two_blocks_file, one_job};
+ghost use Rattle.pfs_layout.specs.Examples.{heading, ending_with, three_jobs_file, three_jobs_with, three_jobs, with_returns, two_blocks_file, one_job};
 
 use crate::{Layout, LayoutFault};
 
@@ -33,9 +33,10 @@ pub fn three_jobs()
 pub fn spellings()
     ensures unended { accepted Layout.Taillard (take 120 three_jobs_file) 1 ≡ Some three_jobs }
     ensures no_words { accepted Layout.Taillard (codes "3 2 0 0 0\n3 2\n4\n2 5 1") 1 ≡ Some three_jobs }
-    ensures carriage_returns { accepted Layout.Taillard (codes "3 2 0 0 0\r\n3 2 4\r\n2 5 1\r\n") 1 ≡ Some three_jobs }
-    ensures leading_zeros { accepted Layout.Taillard (codes "03 2 0 0 0\n" ++ replicate 60 48 ++ codes "3 2 4\n2 5 1") 1 ≡ Some three_jobs }
-    ensures mixed_title { accepted Layout.Taillard (codes "jobs 5x :\n3 2 0 0 0\nprocessing times :\n3 2 4\n2 5 1\n") 1 ≡ Some three_jobs }
+    ensures carriage_returns { accepted Layout.Taillard (with_returns three_jobs_file) 1 ≡ Some three_jobs }
+    ensures leading_zeros { accepted Layout.Taillard (heading ++ codes "03 2 0 0 0\nprocessing times :\n" ++ replicate 60 48 ++ codes "3 2 4\n2 5 1\n") 1 ≡ Some three_jobs }
+    ensures mixed_title { accepted Layout.Taillard (codes "5x " ++ three_jobs_file) 1 ≡ Some three_jobs }
+    ensures mixed_line_before { accepted Layout.Taillard (codes "x 5\n" ++ three_jobs_file) 1 ≡ Some three_jobs }
     ensures one_line { accepted Layout.Taillard (codes "3 2 0 0 0\n3 2 4 2 5 1\nwhat follows is free, 5x") 1 ≡ Some three_jobs }
 {}
 
@@ -49,7 +50,7 @@ pub fn mixed_lines()
 
 /// Numbers that aren't what is due.
 pub fn wrong_numbers()
-    ensures longest { refusal Layout.Taillard (ending_with (codes "2 5 1000000")) 1 ≡ None }
+    ensures longest { accepted Layout.Taillard (ending_with (codes "2 5 1000000")) 1 ≡ Some (three_jobs_with 1000000) }
     ensures too_long { refusal Layout.Taillard (ending_with (codes "2 5 1000001")) 1 ≡ Some (LayoutFault.TimeRange 119) }
     ensures forty_digits { refusal Layout.Taillard (ending_with (codes "2 5 " ++ replicate 40 57)) 1 ≡ Some (LayoutFault.TimeRange 119) }
     ensures before_word { refusal Layout.Taillard (codes "1 1 0 0 0\n9999999999 x") 1 ≡ Some (LayoutFault.TimeRange 10) }

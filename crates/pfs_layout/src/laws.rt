@@ -1,6 +1,6 @@
 //! Laws about the definitions, and one about readers.
 ghost use Rattle.std.specs.Prelude.{◌≡◌, ℕ, List};
-ghost use Rattle.pfs_layout.specs.Reader.{StandsAfter};
+ghost use Rattle.pfs_layout.specs.Reader.{StandsAfter, FinishMeets};
 ghost use Rattle.pfs_layout.specs.CanonicalText.{CanonicalLaw};
 ghost use Rattle.pfs_layout.specs.Generator.{SeedsStay, GeneratedWithin};
 ghost use Rattle.pfs_layout.specs.Laws.{FileStands, SomeFile, OneVerdict, OneFault, RefusalLaw, AcceptedLaw, FaultStays, ByteFaultLaw, FreeBehind, WiderLimits, DueAndBack, DueFronts};
@@ -85,13 +85,16 @@ pub fn generated_within()
     ensures { GeneratedWithin }
 {}
 
-/// Two readers of one block and layout that stand after the same bytes give equal answers, however the
-/// bytes were cut for each.
+/// Two readers of one block and layout that stand after the same bytes give the answer that the bytes
+/// have, however they were cut for each.
+#[tactic(auto, using(crate::proofs::CuttingLemmas::same_answers))]
 pub fn cutting(
     one: BlockReader,
     other: BlockReader,
 ) -> (Result<Instance, LayoutFault>, Result<Instance, LayoutFault>)
-    ensures { (text : List ℕ) → one.layout ≡ other.layout → one.wanted ≡ other.wanted
+    ensures one { (text : List ℕ) → StandsAfter one text → FinishMeets one text result.0 }
+    ensures other { (text : List ℕ) → StandsAfter other text → FinishMeets other text result.1 }
+    ensures equal { (text : List ℕ) → one.layout ≡ other.layout → one.wanted ≡ other.wanted
         → StandsAfter one text → StandsAfter other text → result.0 ≡ result.1 }
 {
     (one.finish(), other.finish())

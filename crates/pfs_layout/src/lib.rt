@@ -18,5 +18,5 @@ pub use fault::LayoutFault;
 pub use fields::Progress;
 pub use generator::generate;
 pub use layout::Layout;
-pub use reader::{BlockReader, read_block};
+pub use reader::{BlockReader, PIECE, read_block};
 pub use writing::write_block;

@@ -1,10 +1,11 @@
 //! The push reader of instance files.
 ghost use Rattle.std.specs.Prelude.{◌≡◌, ◌≢◌, ◌↔◌, ℕ, ◌+◌, ◌≤◌, List, [], ◌++◌, length, true, false, IfOk, IfErr, IfSome};
+ghost use Rattle.std.specs.Result.{result_err};
 ghost use Rattle.pfs_base.specs.Limits.{limits};
 ghost use Rattle.pfs_layout.specs.File.{File};
 ghost use Rattle.pfs_layout.specs.Refuse.{Refuse};
 ghost use Rattle.pfs_layout.specs.Step.{is_live as live_test};
-ghost use Rattle.pfs_layout.specs.Reader.{StandsAfter, HoldsFew, FeedMeets, FinishMeets, progress_of};
+ghost use Rattle.pfs_layout.specs.Reader.{StandsAfter, HoldsFew, FeedMeets, FinishMeets, ReadsAsFar, progress_of};
 
 use crate::body::Body;
 use crate::fields::{Fields, Phase, Progress};
@@ -106,15 +107,20 @@ impl BlockReader {
         match fields.judge_end() {
             Some(fault) => Err(fault),
             None => {
-                let found = fields.complete;
-                fields.instance.ok_or(LayoutFault::NoBlock { found })
+                let instance = fields.instance;
+                match instance {
+                    Some(instance) => Ok(instance),
+                    // The input may end here only behind the times of the wanted block.
+                    None => unreachable!(),
+                }
             }
         }
     }
 }
 
-/// The greatest piece that is read at once.
-const PIECE: usize = 4096;
+/// How many bytes of a file are read at once, at most: behind the byte that ends the wanted block, or has
+/// a fault, no more than the rest of such a piece is read.
+pub const PIECE: usize = 4096;
 
 /// Reads one block of an instance file, counted from 1, up to its end.
 pub fn read_block<R: Source>(
@@ -132,6 +138,7 @@ pub fn read_block<R: Source>(
         → IfSome (R.left reader.old) (λ bytes. Refuse layout bytes block fault)) }
     ensures read { result ≡ Err LayoutFault.Read ↔ (R.has_failed reader.new ≡ true) }
     ensures no_seed { result ≢ Err LayoutFault.SeedRange }
+    ensures as_far { IfSome (R.left reader.old) (λ bytes. ReadsAsFar layout block bytes (R.left reader.new) (result_err result)) }
 {
     let mut taker = BlockReader::new(alloc, layout, block);
     let mut buf = [0; PIECE];

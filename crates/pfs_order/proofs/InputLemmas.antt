@@ -3,16 +3,17 @@ use Rattle.std.proofs.Common.{◌≡◌, ℕ, ◌+◌, ◌<◌, ◌≤◌, List,
 use Rattle.std.specs.Prelude.{IfSome, IfOk, IfErr, OnOk, Result, Ok, Err}
 use Rattle.std.specs.Io.KnownBytes.{Consumes, IsAtEnd}
 use Rattle.std.proofs.KnownBytes.{Consumes-trans, Consumes-whole}
-use Rattle.std.proofs.lemmas.List.{length-append, length-take-le, take-append-le, take-take}
+use Rattle.std.proofs.lemmas.List.{append-nil, length-append, length-take-le, take-append-le}
 use Rattle.std.proofs.Math.Seq.{take-append-add}
 use borrow.Rule.Slice.PartMut.{put_mid, post_of}
 use Rattle.pfs_base.specs.declared.limits.TheConstants.{LONGEST_ORDER_FILE}
 use Rattle.pfs_order.specs.declared.fault.OrderFault.{OrderFault}
 use Rattle.pfs_order.specs.declared.fault.OrderFault.TheVariants.{Syntax, JobRange, Repeated, TooLong, Read, Memory}
 use Rattle.pfs_order.specs.Sequence.{StatedOrder}
-use Rattle.pfs_order.specs.OrderFile.{IsOrderFile, RefusesOrder, RefusesUnlessFailed, IsUnlessFailed}
+use Rattle.pfs_order.specs.OrderFile.{IsOrderFile, IsText, RefusesOrder, RefusesUnlessFailed, IsUnlessFailed, ReadsOrderAsFar}
+use Rattle.std.specs.Result.{result_err}
 use Rattle.pfs_order.proofs.Published.OrderVerdicts.{one_refusal, not_both, one_file}
-use Rattle.pfs_order.specs.Pieces.{JudgesText}
+use Rattle.pfs_order.specs.Pieces.{FillsBelow, JudgesText}
 
 -- the bytes before those that were written into a part, and some of these
 take_put : (a k n : ℕ) (xs ys : List ℕ) → a ≤ length xs → n ≤ length ys → take (a + n) (put_mid a k xs ys) ≡ take a xs ++ take n ys
@@ -53,18 +54,10 @@ reads_too_long None new bytes c h = tt
 reads_too_long (Some input) None bytes c h = absurd c
 reads_too_long (Some input) (Some rest) bytes c h = omega (arith, ap length c, length-append bytes rest)
 
--- a failed read and want of memory say nothing of an input
+-- a failed read says nothing of an input
 pub reads_failed : (old : Option (List ℕ)) (fault : OrderFault) → fault ≡ Read → IfSome old (λ input. RefusesUnlessFailed input fault)
 reads_failed None fault e = tt
 reads_failed (Some input) fault e = subst (RefusesUnlessFailed input) (sym e) tt
-
-pub reads_unmade : (old : Option (List ℕ)) (fault : OrderFault) → fault ≡ Memory → IfSome old (λ input. RefusesUnlessFailed input fault)
-reads_unmade None fault e = tt
-reads_unmade (Some input) fault e = subst (RefusesUnlessFailed input) (sym e) tt
-
--- a front of what stands in a buffer
-pub front_of : (n size : ℕ) (new rest buffer : List ℕ) → buffer ≡ take size (new ++ rest) → n ≤ size → n ≤ length new → take n buffer ≡ take n new
-front_of n size new rest buffer e h l = ap (take n) e ∙ take-take n size (new ++ rest) h ∙ take-append-le n new rest l
 
 -- no other answer is the right one
 pub decides_ok : (left : Option (List ℕ)) (answer : Result StatedOrder OrderFault) → IfOk answer (λ file. IfSome left (λ input. IsOrderFile input file))
@@ -92,3 +85,63 @@ decides_err (Some input) (Err Memory) h k = λ fault is. inr (inr refl)
 pub on_ok : (answer : Result StatedOrder OrderFault) (P : Type 0) → P → OnOk answer P
 on_ok (Ok file) P h = h
 on_ok (Err fault) P h = tt
+
+-- how far an input was read whose read failed
+pub reads_stopped : (old new : Option (List ℕ)) (fault : OrderFault) (room : ℕ) → fault ≡ Read → room ≤ LONGEST_ORDER_FILE + 1 → FillsBelow room old new
+    → IfSome old (λ input. ReadsOrderAsFar input new (Some fault))
+reads_stopped None new fault room e h f = tt
+reads_stopped (Some input) None fault room e h (front, (few, c)) = absurd c
+reads_stopped (Some input) (Some rest) fault room e h (front, (few, c)) = record {
+  front = front;
+  rest = rest;
+  whole = c;
+  leaves = refl;
+  few = omega arith;
+  failed = λ _. omega arith;
+  too_long = λ is. absurd (cc);
+  ended = λ other. absurd (other (ap Some e));
+  memory = λ is. absurd (cc);
+}
+
+-- one with more bytes than the limit
+pub reads_over : (old new : Option (List ℕ)) (bytes : List ℕ) → Consumes old new bytes → length bytes ≡ LONGEST_ORDER_FILE + 1 → IfSome old (λ input. ReadsOrderAsFar input new (Some TooLong))
+reads_over None new bytes c h = tt
+reads_over (Some input) None bytes c h = absurd c
+reads_over (Some input) (Some rest) bytes c h = record {
+  front = bytes;
+  rest = rest;
+  whole = c;
+  leaves = refl;
+  few = omega arith;
+  failed = λ is. absurd (cc);
+  too_long = λ _. h;
+  ended = λ _ other. absurd (other refl);
+  memory = λ is. absurd (cc);
+}
+
+-- one that was read to its end
+pub reads_whole : (old new : Option (List ℕ)) (bytes : List ℕ) (answer : Result StatedOrder OrderFault) → Consumes old new bytes → IsAtEnd new → length bytes ≤ LONGEST_ORDER_FILE
+    → IfErr answer (λ fault. JudgesText bytes fault) → IfSome old (λ input. ReadsOrderAsFar input new (result_err answer))
+reads_whole None new bytes answer c end few h = tt
+reads_whole (Some input) None bytes answer c end few h = absurd c
+reads_whole (Some input) (Some rest) bytes answer c end few h = record {
+  front = bytes;
+  rest = rest;
+  whole = c;
+  leaves = refl;
+  few = omega arith;
+  failed = λ _. few;
+  too_long = λ is. absurd (is_short answer h is);
+  ended = λ _ _. end;
+  memory = λ is. subst IsText (sym (c ∙ ap (λ xs. bytes ++ xs) end ∙ append-nil bytes)) (is_text answer h is);
+}
+  where
+    is_short : (verdict : Result StatedOrder OrderFault) → IfErr verdict (λ fault. JudgesText bytes fault) → result_err verdict ≡ Some TooLong → ⊥
+    is_short (Ok file) k is = cc
+    is_short (Err TooLong) k is = omega arith
+    is_short (Err fault) k is = cc
+
+    is_text : (verdict : Result StatedOrder OrderFault) → IfErr verdict (λ fault. JudgesText bytes fault) → result_err verdict ≡ Some Memory → IsText bytes
+    is_text (Ok file) k is = absurd (cc)
+    is_text (Err Memory) k is = k
+    is_text (Err fault) k is = absurd (cc)

@@ -1,6 +1,6 @@
 -- Which inputs are order files, and how the others are refused. Job numbers count from 1 in a file, and so
 -- do places.
-use Rattle.std.specs.Prelude.{◌≡◌, ⊤, ℕ, ◌+◌, ◌<◌, ◌≤◌, ◌^◌, List, ◌++◌, length, map, take, slice_index, ◌⊎◌, Result, Err}
+use Rattle.std.specs.Prelude.{◌≡◌, ◌≢◌, ⊤, ℕ, ◌+◌, ◌<◌, ◌≤◌, ◌^◌, List, [], ◌++◌, length, map, take, slice_index, ◌⊎◌, Option, Some, Result, Err}
 use Rattle.std.specs.List.{All, Contains}
 use Rattle.pfs_base.specs.declared.limits.TheConstants.{MOST_JOBS, LONGEST_ORDER_FILE}
 use Rattle.pfs_order.specs.declared.fault.OrderFault.{OrderFault}
@@ -82,3 +82,17 @@ RefusesUnlessFailed input fault = RefusesOrder input fault
 -- the result is this answer, unless a failed read or want of memory is told
 abbrev pub IsUnlessFailed : Result StatedOrder OrderFault → Result StatedOrder OrderFault → Type 0
 IsUnlessFailed result answer = (result ≡ answer) ⊎ ((result ≡ Err Read) ⊎ (result ≡ Err Memory))
+
+-- how far an order file of these bytes was read, with this fault if any: to the end of the input or to the
+-- byte behind the longest order file, and where a read failed, to any byte before that one; want of memory
+-- is told only of a text of the grammar
+pub record ReadsOrderAsFar (bytes : List ℕ) (left : Option (List ℕ)) (fault : Option OrderFault) : Type 0 where
+  pub front : List ℕ
+  pub rest : List ℕ
+  pub whole : bytes ≡ front ++ rest
+  pub leaves : left ≡ Some rest
+  pub few : length front ≤ LONGEST_ORDER_FILE + 1
+  pub failed : fault ≡ Some Read → length front ≤ LONGEST_ORDER_FILE
+  pub too_long : fault ≡ Some TooLong → length front ≡ LONGEST_ORDER_FILE + 1
+  pub ended : fault ≢ Some Read → fault ≢ Some TooLong → rest ≡ []
+  pub memory : fault ≡ Some Memory → IsText bytes

@@ -1,6 +1,7 @@
 -- The pieces that an order file is made of, and how far a text is made of them.
 use Rattle.std.specs.Prelude.{◌≡◌, ⊤, ℕ, ◌+◌, ◌-◌, ◌<◌, ◌≤◌, ◌^◌, List, [], ◌∷◌, ◌++◌, length, drop, decimal, codes, Option, Some, None}
 use Rattle.std.specs.List.{All, Contains}
+use Rattle.std.specs.Io.KnownBytes.{Consumes}
 use Rattle.pfs_base.specs.declared.limits.TheConstants.{MOST_JOBS}
 use Rattle.pfs_base.specs.Text.{spaced}
 use Rattle.pfs_order.specs.declared.fault.OrderFault.{OrderFault}
@@ -69,3 +70,7 @@ RefusesJobs text fault = HasJobFault text fault
 abbrev pub JudgesText : List ℕ → OrderFault → Type 0
 JudgesText text Memory = IsText text
 JudgesText text fault = RefusesOrder text fault
+
+-- fewer bytes than there is room for were read
+abbrev pub FillsBelow : ℕ → Option (List ℕ) → Option (List ℕ) → Type 0
+FillsBelow room old new = (front : List ℕ) × ((length front < room) × Consumes old new front)

@@ -1,8 +1,9 @@
 //! Reading an order file.
-ghost use Rattle.std.specs.Prelude.{◌≡◌, ℕ, ◌+◌, ◌-◌, ◌<◌, ◌≤◌, true, false, List, [], ◌∷◌, ◌++◌, length, map, take, drop, Contains, IfOk, IfErr, IfSome, OnOk, OnErr, vec_len};
+ghost use Rattle.std.specs.Prelude.{◌≡◌, ℕ, ◌+◌, ◌-◌, ◌<◌, ◌≤◌, true, false, List, [], ◌∷◌, ◌++◌, length, map, take, drop, Contains, IfOk, IfErr, IfSome, OnOk, OnErr};
 ghost use Rattle.std.specs.Io.KnownBytes.{Consumes, IsAtEnd};
-ghost use Rattle.pfs_order.specs.OrderFile.{HasText, IsText, IsOrderFile, RefusesOrder, RefusesUnlessFailed, IsUnlessFailed};
-ghost use Rattle.pfs_order.specs.Pieces.{SaysSyntax, HasJobs, RefusesJob, RefusesJobs, JudgesText, counted};
+ghost use Rattle.std.specs.Result.{result_err};
+ghost use Rattle.pfs_order.specs.OrderFile.{HasText, IsText, IsOrderFile, RefusesOrder, RefusesUnlessFailed, IsUnlessFailed, ReadsOrderAsFar};
+ghost use Rattle.pfs_order.specs.Pieces.{SaysSyntax, HasJobs, RefusesJob, RefusesJobs, JudgesText, FillsBelow, counted};
 ghost use Rattle.pfs_order.specs.Sequence.{IsSequence, StatedOrder};
 ghost use Rattle.pfs_order.specs.declared.fault.OrderFault.{OrderFault};
 
@@ -12,7 +13,10 @@ use crate::order::Order;
 use crate::scan::{numeral, word};
 use crate::seq::Seq;
 use pfs_base::{LONGEST_ORDER_FILE, MOST_JOBS, Source};
-use std::alloc::{AllocError, Global};
+use std::alloc::Global;
+
+/// Room for the longest order file and one byte more, by which a longer one is known.
+const ROOM: usize = LONGEST_ORDER_FILE + 1;
 
 /// The greatest number that a job numeral of nine digits writes.
 const GREATEST_JOB: u64 = 999_999_999;
@@ -20,9 +24,10 @@ const GREATEST_JOB: u64 = 999_999_999;
 /// The greatest number that a makespan numeral of eighteen digits writes.
 const GREATEST_MAKESPAN: u64 = 999_999_999_999_999_999;
 
-/// Reads an order file to the end of the input, of which nothing else may be left. While it reads, want
-/// of memory, a failed read and byte `LONGEST_ORDER_FILE` + 1 are told as they come; then the syntax of
-/// the whole, and then the jobs from the left, at each place out of range before repeated.
+/// Reads an order file to the end of the input, of which nothing else may be left. While it reads, a
+/// failed read and byte `LONGEST_ORDER_FILE` + 1 are told as they come; then the syntax of the whole, then
+/// want of memory, and then the jobs from the left, at each place out of range before repeated. The bytes
+/// stand in its frame, and the one memory that it asks for is that of the order.
 pub fn read_order<R: Source>(alloc: Global, reader: &mut R) -> Result<OrderFile, OrderFault>
     requires { R.has_failed reader.old ≡ false }
     ensures accepted { IfOk result (λ file.
@@ -34,26 +39,17 @@ pub fn read_order<R: Source>(alloc: Global, reader: &mut R) -> Result<OrderFile,
     ensures refuses { IfSome (R.left reader.old) (λ input. (fault : OrderFault) →
         RefusesOrder input fault → IsUnlessFailed result (Err fault)) }
     ensures ended { OnOk result (IsAtEnd (R.left reader.new)) }
+    ensures reads { IfSome (R.left reader.old) (λ input.
+        ReadsOrderAsFar input (R.left reader.new) (result_err result)) }
     ensures failed { result ≡ Err OrderFault.Read → R.has_failed reader.new ≡ true }
     ensures working { R.has_failed reader.new ≡ true → result ≡ Err OrderFault.Read }
 {
-    let mut buffer = room(alloc)?;
+    let mut buffer = [0; ROOM];
     let filled = fill(reader, &mut buffer)?;
     if filled > LONGEST_ORDER_FILE {
         return Err(OrderFault::TooLong);
     }
     parse(alloc, &buffer[..filled])
-}
-
-// Room for the longest order file and one byte more.
-fn room(alloc: Global) -> Result<Vec<u8>, OrderFault>
-    ensures len { IfOk result (λ buffer. vec_len buffer ≡ LONGEST_ORDER_FILE + 1) }
-    ensures memory { IfErr result (λ fault. fault ≡ OrderFault.Memory) }
-{
-    match vec![in alloc; 0; LONGEST_ORDER_FILE + 1] {
-        Ok(buffer) => Ok(buffer),
-        Err(AllocError) => Err(OrderFault::Memory),
-    }
 }
 
 // Reads to the end of the input or of the buffer, and answers how many bytes were read.
@@ -66,6 +62,7 @@ fn fill<R: Source>(reader: &mut R, buffer: &mut [u8]) -> Result<usize, OrderFaul
     ensures working { OnOk result (R.has_failed reader.new ≡ false) }
     ensures failed { OnErr result (R.has_failed reader.new ≡ true) }
     ensures fault { IfErr result (λ fault. fault ≡ OrderFault.Read) }
+    ensures stopped { OnErr result (FillsBelow (length buffer.new) (R.left reader.old) (R.left reader.new)) }
 {
     let mut filled = 0;
     while filled < buffer.len() {

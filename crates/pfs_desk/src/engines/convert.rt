@@ -1,10 +1,11 @@
 //! A block of an instance file, written in another layout.
-ghost use Rattle.std.specs.Prelude.{◌≡◌, ◌≢◌, ◌≤◌, ◌↔◌, true, false, IfErr};
-ghost use Rattle.pfs_desk.specs.Engine.{Writes, ConvertOutput, JudgesFirst, RefusesNoOrder, RefusesNoTake};
+ghost use Rattle.std.specs.Prelude.{◌≡◌, ◌≢◌, ◌≤◌, false, IfErr};
+ghost use Rattle.pfs_desk.specs.Engine.{Writes, ConvertOutput, JudgesFirst, ReadsFirst, TellsRead, RefusesNoOrder};
+ghost use Rattle.pfs_desk.specs.Engine.{RefusesNoSeed, RefusesNoTake};
 
 use crate::fault::{DeskFault, Outcome};
 use pfs_base::{MOST_BLOCKS, Sink, Source};
-use pfs_layout::{Layout, LayoutFault, read_block, write_block};
+use pfs_layout::{Layout, read_block, write_block};
 use std::alloc::Global;
 
 /// Reads a block of an instance file in the source layout, and writes it as a file of its own in the target
@@ -25,8 +26,9 @@ pub fn run_convert<R: Source, W: Sink>(
     ensures written { Writes (ConvertOutput source target (R.left reader.old) block)
         (W.written writer.old) (W.written writer.new) (W.has_failed writer.new) result }
     ensures refused { IfErr result (JudgesFirst source (R.left reader.old) block) }
-    ensures read { result ≡ Err (DeskFault.Layout LayoutFault.Read) ↔ (R.has_failed reader.new ≡ true) }
-    ensures no_seed { result ≢ Err (DeskFault.Layout LayoutFault.SeedRange) }
+    ensures read { TellsRead (R.has_failed reader.new) result }
+    ensures as_far { ReadsFirst source block (R.left reader.old) (R.left reader.new) result }
+    ensures no_seed { RefusesNoSeed result }
     ensures one_file { IfErr result RefusesNoOrder }
     ensures no_take { IfErr result RefusesNoTake }
     ensures no_more_memory { result ≢ Err DeskFault.Memory }

@@ -1,7 +1,8 @@
 //! The order that a search finds.
-ghost use Rattle.std.specs.Prelude.{◌≡◌, ◌≢◌, ◌+◌, ◌<◌, ◌≤◌, ◌^◌, ◌↔◌, true, false, Some, IfSome, IfOk, IfErr};
+ghost use Rattle.std.specs.Prelude.{◌≡◌, ◌<◌, ◌≤◌, ◌^◌, false, Some, IfSome, IfOk, IfErr};
 ghost use Rattle.pfs_base.specs.Sends.{Sends};
-ghost use Rattle.pfs_desk.specs.Engine.{Writes, SolveOutput, JudgesFirst, JudgesTake, RefusesNoOrder};
+ghost use Rattle.pfs_desk.specs.Engine.{Writes, SolveOutput, JudgesFirst, JudgesTake, ReadsFirst, TellsRead};
+ghost use Rattle.pfs_desk.specs.Engine.{RefusesNoOrder, RefusesNoSeed};
 ghost use Rattle.pfs_desk.specs.Headline.{Solves};
 ghost use Rattle.pfs_desk.specs.Solve.{IsFound, IsTakeFault, solution_text};
 ghost use Rattle.pfs_desk.specs.Solve.{take_for as take_of};
@@ -11,7 +12,7 @@ use crate::solve_options::{DEFAULT_TAKE, MOST_ROUNDS, SolveOptions};
 use pfs_base::print::put_named;
 use pfs_base::{Bench, Instance, Length, MOST_BLOCKS, Shop, Sink, Source, WriteFault};
 use pfs_insert::HeadsTails;
-use pfs_layout::{Layout, LayoutFault, read_block};
+use pfs_layout::{Layout, read_block};
 use pfs_order::{Order, write_order};
 use pfs_search::{Kept, Searcher};
 use rand_core::SeedableRng;
@@ -40,8 +41,9 @@ pub fn run_solve<R: Source, W: Sink>(
     ensures written { Writes (SolveOutput layout (R.left reader.old) block options.now)
         (W.written writer.old) (W.written writer.new) (W.has_failed writer.new) result }
     ensures refused { IfErr result (JudgesFirst layout (R.left reader.old) block) }
-    ensures read { result ≡ Err (DeskFault.Layout LayoutFault.Read) ↔ (R.has_failed reader.new ≡ true) }
-    ensures no_seed { result ≢ Err (DeskFault.Layout LayoutFault.SeedRange) }
+    ensures read { TellsRead (R.has_failed reader.new) result }
+    ensures as_far { ReadsFirst layout block (R.left reader.old) (R.left reader.new) result }
+    ensures no_seed { RefusesNoSeed result }
     ensures one_file { IfErr result RefusesNoOrder }
     ensures take { IfErr result (JudgesTake layout (R.left reader.old) block options.now.take) }
     ensures solves { IfSome (R.left reader.old) (λ bytes. Solves layout bytes block options.now
@@ -128,6 +130,7 @@ fn search<B: Shop>(
     searcher.neh(alloc, bench, &mut kept)?;
     let mut rng = Pcg32::seed_from_u64(seed);
     searcher.rounds(alloc, bench, &mut kept, rounds, many, &mut rng)?;
+    // Called for what it says of an order: that it has each job once.
     let _jobs = kept.order.len();
     Ok(kept)
 }
@@ -143,6 +146,7 @@ fn put_solution<W: Sink>(
     ensures { Sends (W.written writer.old) (W.written writer.new) (W.has_failed writer.new)
         0 (solution_text solution.now.order solution.now.makespan with_cells solution.now.cells) result }
 {
+    // Called for what it says of an order: how many jobs it has at most, each once.
     let _jobs = solution.order.len();
     let sent = write_order(writer, &solution.order, solution.makespan)?;
     if with_cells {

@@ -1,8 +1,9 @@
 //! The time table of an order.
-ghost use Rattle.std.specs.Prelude.{◌≡◌, ◌≢◌, ◌+◌, ◌*◌, ◌<◌, ◌≤◌, ◌^◌, ◌∷◌, ◌++◌, [], ◌↔◌, true, false, length, IfOk, IfErr};
+ghost use Rattle.std.specs.Prelude.{◌≡◌, ◌+◌, ◌*◌, ◌<◌, ◌≤◌, ◌^◌, ◌∷◌, ◌++◌, [], false, length, IfOk, IfErr};
 ghost use Rattle.pfs_base.specs.Sends.{Sends};
 ghost use Rattle.pfs_base.specs.Text.{with_line_end, spaced};
-ghost use Rattle.pfs_desk.specs.Engine.{Writes, TableOutput, JudgesFirst, JudgesSecond, RefusesNoTake};
+ghost use Rattle.pfs_desk.specs.Engine.{Writes, TableOutput, JudgesFirst, JudgesSecond, ReadsFirst, ReadsSecond};
+ghost use Rattle.pfs_desk.specs.Engine.{TellsRead, TellsOrderRead, RefusesNoSeed, RefusesNoTake, WantsBehindSecond};
 ghost use Rattle.pfs_desk.specs.OutputText.{row_text, table_text};
 ghost use Rattle.pfs_desk.specs.Printable.{IsPrintable};
 
@@ -11,8 +12,8 @@ use crate::fault::{DeskFault, Outcome};
 use pfs_audit::{TimeTable, table};
 use pfs_base::print::{put_named, put_next, put_number};
 use pfs_base::{MOST_BLOCKS, MOST_MACHINES, Sink, Source, WriteFault, put};
-use pfs_layout::{Layout, LayoutFault, read_block};
-use pfs_order::{OrderFault, read_order};
+use pfs_layout::{Layout, read_block};
+use pfs_order::read_order;
 use std::alloc::Global;
 
 /// Reads a block of an instance file and then an order file, and prints when each operation of the order
@@ -34,11 +35,14 @@ pub fn run_table<R: Source, O: Source, W: Sink>(
     ensures written { Writes (TableOutput layout (R.left reader.old) block (O.left order_reader.old))
         (W.written writer.old) (W.written writer.new) (W.has_failed writer.new) result }
     ensures refused { IfErr result (JudgesFirst layout (R.left reader.old) block) }
-    ensures read { result ≡ Err (DeskFault.Layout LayoutFault.Read) ↔ (R.has_failed reader.new ≡ true) }
-    ensures no_seed { result ≢ Err (DeskFault.Layout LayoutFault.SeedRange) }
+    ensures read { TellsRead (R.has_failed reader.new) result }
+    ensures as_far { ReadsFirst layout block (R.left reader.old) (R.left reader.new) result }
+    ensures no_seed { RefusesNoSeed result }
     ensures no_take { IfErr result RefusesNoTake }
     ensures order_refused { IfErr result (JudgesSecond layout (R.left reader.old) block (O.left order_reader.old)) }
-    ensures order_read { result ≡ Err (DeskFault.Order OrderFault.Read) ↔ (O.has_failed order_reader.new ≡ true) }
+    ensures order_read { TellsOrderRead (O.has_failed order_reader.new) result }
+    ensures order_as_far { ReadsSecond (O.left order_reader.old) (O.left order_reader.new) result }
+    ensures memory { IfErr result (WantsBehindSecond layout (R.left reader.old) block (O.left order_reader.old)) }
 {
     let instance = read_block(alloc, reader, layout, block)?;
     let file = read_order(alloc, order_reader)?;

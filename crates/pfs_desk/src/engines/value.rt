@@ -1,14 +1,15 @@
 //! The makespan of an instance's jobs in the order of their numbers.
-ghost use Rattle.std.specs.Prelude.{◌≡◌, ◌≢◌, ◌≤◌, ◌↔◌, true, false, IfOk, IfErr};
+ghost use Rattle.std.specs.Prelude.{◌≡◌, ◌≤◌, false, IfOk, IfErr};
 ghost use Rattle.pfs_base.specs.Paths.{makespan};
 ghost use Rattle.pfs_order.specs.Sequence.{all_jobs};
-ghost use Rattle.pfs_desk.specs.Engine.{Writes, ValueOutput, JudgesFirst, RefusesNoOrder, RefusesNoTake};
+ghost use Rattle.pfs_desk.specs.Engine.{Writes, ValueOutput, JudgesFirst, ReadsFirst, TellsRead, RefusesNoOrder};
+ghost use Rattle.pfs_desk.specs.Engine.{RefusesNoSeed, RefusesNoTake, WantsBehindFirst};
 
 use crate::fault::{DeskFault, Outcome};
 use pfs_audit::makespan;
 use pfs_base::print::put_named;
 use pfs_base::{Bench, Instance, Length, MOST_BLOCKS, Sink, Source};
-use pfs_layout::{Layout, LayoutFault, read_block};
+use pfs_layout::{Layout, read_block};
 use pfs_order::Order;
 use std::alloc::Global;
 
@@ -28,10 +29,12 @@ pub fn run_value<R: Source, W: Sink>(
     ensures written { Writes (ValueOutput layout (R.left reader.old) block)
         (W.written writer.old) (W.written writer.new) (W.has_failed writer.new) result }
     ensures refused { IfErr result (JudgesFirst layout (R.left reader.old) block) }
-    ensures read { result ≡ Err (DeskFault.Layout LayoutFault.Read) ↔ (R.has_failed reader.new ≡ true) }
-    ensures no_seed { result ≢ Err (DeskFault.Layout LayoutFault.SeedRange) }
+    ensures read { TellsRead (R.has_failed reader.new) result }
+    ensures as_far { ReadsFirst layout block (R.left reader.old) (R.left reader.new) result }
+    ensures no_seed { RefusesNoSeed result }
     ensures one_file { IfErr result RefusesNoOrder }
     ensures no_take { IfErr result RefusesNoTake }
+    ensures memory { IfErr result (WantsBehindFirst layout (R.left reader.old) block) }
 {
     let instance = read_block(alloc, reader, layout, block)?;
     let value = value_of(alloc, &instance)?;

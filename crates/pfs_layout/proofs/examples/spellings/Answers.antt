@@ -22,6 +22,10 @@ pub returns-clause-mixed_title : goal.returns-clause-mixed_title
 unfolding computing
 returns-clause-mixed_title c = refl
 
+pub returns-clause-mixed_line_before : goal.returns-clause-mixed_line_before
+unfolding computing
+returns-clause-mixed_line_before c = refl
+
 pub returns-clause-one_line : goal.returns-clause-one_line
 unfolding computing
 returns-clause-one_line c = refl

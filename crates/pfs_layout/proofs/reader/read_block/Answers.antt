@@ -1,12 +1,13 @@
 -- Each piece takes the reader on, a fault of a piece is one of the whole input, and so is the wanted block.
-use Rattle.std.proofs.Common.{refl, ◌≡◌, ℕ, ◌+◌, ◌-◌, ◌<◌, ◌≤◌, length, take, ◌∙◌, arith}
+use Rattle.std.proofs.Common.{refl, rules, ◌≡◌, ℕ, List, ◌+◌, ◌-◌, ◌<◌, ◌≤◌, length, take, ◌∙◌, arith}
 use Rattle.std.proofs.lemmas.List.{length-take-le}
 use Rattle.pfs_base.specs.declared.limits.TheConstants.{LONGEST_INPUT}
+use Rattle.pfs_layout.specs.declared.reader.TheConstants.{PIECE}
 use Rattle.pfs_layout.specs.Refuse.{Refuse}
 use Rattle.pfs_layout.specs.declared.fault.LayoutFault.TheVariants.{Read, SeedRange}
 use Rattle.pfs_layout.proofs.ReadNames.{finish_named, feed_named, same_answer, never_failed}
 use Rattle.pfs_layout.proofs.ToldLemmas.{told, file_told, refused_told}
-use Rattle.pfs_layout.proofs.ReadLemmas.{reading_start, reading_more, reading_short, reading_fault, reading_done}
+use Rattle.pfs_layout.proofs.ReadLemmas.{reads_failed, reads_ended, reads_fault, reading_start, reading_more, reading_short, reading_fault, reading_done}
 use Rattle.pfs_layout.proofs.reader.read_block.Goals as goal
 
 pub pieces-init : goal.pieces-init
@@ -91,3 +92,31 @@ returns-then-progress-clause-no_seed g c =
     let t = c.pieces.invariant.reading in
     let ok = (c.in-Ok.ensures.meets t.front t.stands).ok in
     finish_named _ _ _ SeedRange (c.finish-then-progress.ensures.meets _ ok.1) refl
+
+-- ---- how far is read
+
+pub returns-in_default-clause-as_far : goal.returns-in_default-clause-as_far
+returns-in_default-clause-as_far g c =
+    reads_failed c.args.layout c.args.block (g.R.Source.left c.args.reader.now) _ _ c.pieces.taker c.pieces.invariant.reading c.in_default.ensures.bytes
+
+piece_size : (n : ℕ) (buf : List ℕ) → n ≤ length buf → length buf ≡ PIECE → length (take n buf) ≤ PIECE
+piece_size n buf within size = omega (arith, length-take-le n buf within)
+
+pub returns-then-n-eq0-clause-as_far : goal.returns-then-n-eq0-clause-as_far
+returns-then-n-eq0-clause-as_far g c =
+    let t = c.pieces.invariant.reading in
+    reads_ended c.args.layout c.args.block (g.R.Source.left c.args.reader.now) _ _ c.pieces.taker c.pieces.taker (take c.in-Some.n c.read.new.buf) t.front c.finish.result t
+    c.in-Some.ensures.bytes.1 (piece_size c.in-Some.n c.read.new.buf c.in-Some.ensures.bytes.0 (search rules)) (c.finish.ensures.meets t.front t.stands)
+
+pub returns-in-Err-clause-as_far : goal.returns-in-Err-clause-as_far
+returns-in-Err-clause-as_far g c =
+    let t = c.pieces.invariant.reading in
+    reads_fault c.args.layout c.args.block (g.R.Source.left c.args.reader.now) _ _ c.pieces.taker c.feed.new.self (take c.in-Some.n c.read.new.buf) c.in-Err.fault t
+    c.in-Some.ensures.bytes.1 (piece_size c.in-Some.n c.read.new.buf c.in-Some.ensures.bytes.0 (search rules)) (c.in-Err.ensures.meets t.front t.stands)
+
+pub returns-then-progress-clause-as_far : goal.returns-then-progress-clause-as_far
+returns-then-progress-clause-as_far g c =
+    let t = c.pieces.invariant.reading in
+    let ok = (c.in-Ok.ensures.meets t.front t.stands).ok in
+    reads_ended c.args.layout c.args.block (g.R.Source.left c.args.reader.now) _ _ c.pieces.taker c.feed.new.self (take c.in-Some.n c.read.new.buf) _ c.finish-then-progress.result t
+    c.in-Some.ensures.bytes.1 (piece_size c.in-Some.n c.read.new.buf c.in-Some.ensures.bytes.0 (search rules)) (c.finish-then-progress.ensures.meets _ ok.1)

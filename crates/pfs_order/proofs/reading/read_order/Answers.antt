@@ -1,45 +1,27 @@
-use Rattle.std.proofs.Common.{◌≡◌, ℕ, List, length, take, drop, subst, arith, Option}
-use Rattle.std.specs.Prelude.{IfOk, IfErr, Err}
+use Rattle.std.proofs.Common.{◌≡◌, ℕ, ◌≤◌, List, length, take, arith, Option}
+use Rattle.std.specs.Prelude.{Err}
 use Rattle.std.proofs.lemmas.List.{length-take-le}
-use Rattle.pfs_order.specs.OrderFile.{IsOrderFile}
-use Rattle.pfs_order.specs.Pieces.{JudgesText}
 use Rattle.std.proofs.lemmas.Result.{err_from_is_err_and}
-use Rattle.pfs_order.proofs.InputLemmas.{reads_accepted, reads_refused, reads_too_long, reads_failed, reads_unmade, front_of, decides_ok, decides_err, on_ok}
+use Rattle.pfs_order.proofs.InputLemmas.{reads_accepted, reads_refused, reads_too_long, reads_failed, reads_stopped, reads_over, reads_whole, decides_ok, decides_err, on_ok}
 use Rattle.std.specs.Io.KnownBytes.{IsAtEnd}
+use Rattle.pfs_order.specs.declared.reading.TheConstants.{ROOM}
 use Rattle.pfs_order.specs.declared.fault.OrderFault.TheVariants.{TooLong}
 use Rattle.pfs_order.proofs.reading.read_order.Goals as goal
 
-pub returns-in_err-buffer-clause-refused : goal.returns-in_err-buffer-clause-refused
-returns-in_err-buffer-clause-refused g c =
-    let p = err_from_is_err_and c.from_residual.result c.from_residual.ensures.1 in
-    rw (p.1, p.2) (reads_unmade (g.R.Source.left c.args.reader.now) c.in_err-buffer.field-0.0 c.in_err-buffer.ensures.memory)
-
-pub returns-in_err-buffer-clause-accepts : goal.returns-in_err-buffer-clause-accepts
-returns-in_err-buffer-clause-accepts g c =
-    let p = err_from_is_err_and c.from_residual.result c.from_residual.ensures.1 in
-    let left : Option (List ℕ) = g.R.Source.left c.args.reader.now in
-    rw (p.1, p.2) (decides_ok left (Err c.in_err-buffer.field-0.0) tt (reads_unmade left c.in_err-buffer.field-0.0 c.in_err-buffer.ensures.memory))
-
-pub returns-in_err-buffer-clause-refuses : goal.returns-in_err-buffer-clause-refuses
-returns-in_err-buffer-clause-refuses g c =
-    let p = err_from_is_err_and c.from_residual.result c.from_residual.ensures.1 in
-    let left : Option (List ℕ) = g.R.Source.left c.args.reader.now in
-    rw (p.1, p.2) (decides_err left (Err c.in_err-buffer.field-0.0) tt (reads_unmade left c.in_err-buffer.field-0.0 c.in_err-buffer.ensures.memory))
-
 pub returns-in_err-filled-clause-refused : goal.returns-in_err-filled-clause-refused
 returns-in_err-filled-clause-refused g c =
-    let p = err_from_is_err_and c.from_residual-in_err-filled.result c.from_residual-in_err-filled.ensures.1 in
+    let p = err_from_is_err_and c.from_residual.result c.from_residual.ensures.1 in
     rw (p.1, p.2) (reads_failed (g.R.Source.left c.args.reader.now) c.in_err-filled.field-0.0 c.in_err-filled.ensures.fault)
 
 pub returns-in_err-filled-clause-accepts : goal.returns-in_err-filled-clause-accepts
 returns-in_err-filled-clause-accepts g c =
-    let p = err_from_is_err_and c.from_residual-in_err-filled.result c.from_residual-in_err-filled.ensures.1 in
+    let p = err_from_is_err_and c.from_residual.result c.from_residual.ensures.1 in
     let left : Option (List ℕ) = g.R.Source.left c.args.reader.now in
     rw (p.1, p.2) (decides_ok left (Err c.in_err-filled.field-0.0) tt (reads_failed left c.in_err-filled.field-0.0 c.in_err-filled.ensures.fault))
 
 pub returns-in_err-filled-clause-refuses : goal.returns-in_err-filled-clause-refuses
 returns-in_err-filled-clause-refuses g c =
-    let p = err_from_is_err_and c.from_residual-in_err-filled.result c.from_residual-in_err-filled.ensures.1 in
+    let p = err_from_is_err_and c.from_residual.result c.from_residual.ensures.1 in
     let left : Option (List ℕ) = g.R.Source.left c.args.reader.now in
     rw (p.1, p.2) (decides_err left (Err c.in_err-filled.field-0.0) tt (reads_failed left c.in_err-filled.field-0.0 c.in_err-filled.ensures.fault))
 
@@ -59,21 +41,13 @@ returns-then-filled-gt-LONGEST_ORDER_FILE-clause-refuses g c =
 
 pub returns-clause-accepted : goal.returns-clause-accepted
 returns-clause-accepted g c =
-    let filled : ℕ = c.in_ok-filled.filled in
-    let bytes : List ℕ = take filled c.fill.new.buffer in
-    let same : take filled c.deref.result.now ≡ bytes =
-    front_of filled c.in_ok-buffer.buffer.len c.fill.new.buffer (drop (length c.fill.new.buffer) c.in_ok-buffer.buffer.items) c.deref.result.now c.deref.ensures.value (omega (arith, c.in_ok-buffer.ensures.len)) c.in_ok-filled.ensures.within in
-    reads_accepted (g.R.Source.left c.args.reader.now) (g.R.Source.left c.fill.new.reader) bytes c.parse.result c.in_ok-filled.ensures.bytes (c.in_ok-filled.ensures.end (omega (arith, c.in_ok-buffer.ensures.len, c.deref_mut.ensures.len, c.fill.auto.buffer)))
-    (subst (λ xs. IfOk c.parse.result (λ file. IsOrderFile xs file)) same c.parse.ensures.accepted)
+    let size : length c.fill.new.buffer ≡ ROOM = c.fill.auto.buffer in
+    reads_accepted (g.R.Source.left c.args.reader.now) (g.R.Source.left c.fill.new.reader) (take c.in_ok-filled.filled c.fill.new.buffer) c.parse.result c.in_ok-filled.ensures.bytes (c.in_ok-filled.ensures.end (omega arith)) c.parse.ensures.accepted
 
 pub returns-clause-refused : goal.returns-clause-refused
 returns-clause-refused g c =
-    let filled : ℕ = c.in_ok-filled.filled in
-    let bytes : List ℕ = take filled c.fill.new.buffer in
-    let same : take filled c.deref.result.now ≡ bytes =
-    front_of filled c.in_ok-buffer.buffer.len c.fill.new.buffer (drop (length c.fill.new.buffer) c.in_ok-buffer.buffer.items) c.deref.result.now c.deref.ensures.value (omega (arith, c.in_ok-buffer.ensures.len)) c.in_ok-filled.ensures.within in
-    reads_refused (g.R.Source.left c.args.reader.now) (g.R.Source.left c.fill.new.reader) bytes c.parse.result c.in_ok-filled.ensures.bytes (c.in_ok-filled.ensures.end (omega (arith, c.in_ok-buffer.ensures.len, c.deref_mut.ensures.len, c.fill.auto.buffer)))
-    (subst (λ xs. IfErr c.parse.result (λ fault. JudgesText xs fault)) same c.parse.ensures.refused)
+    let size : length c.fill.new.buffer ≡ ROOM = c.fill.auto.buffer in
+    reads_refused (g.R.Source.left c.args.reader.now) (g.R.Source.left c.fill.new.reader) (take c.in_ok-filled.filled c.fill.new.buffer) c.parse.result c.in_ok-filled.ensures.bytes (c.in_ok-filled.ensures.end (omega arith)) c.parse.ensures.refused
 
 pub returns-clause-accepts : goal.returns-clause-accepts
 returns-clause-accepts g c = decides_ok (g.R.Source.left c.args.reader.now) c.parse.result (returns-clause-accepted g c) (returns-clause-refused g c)
@@ -83,4 +57,24 @@ returns-clause-refuses g c = decides_err (g.R.Source.left c.args.reader.now) c.p
 
 pub returns-clause-ended : goal.returns-clause-ended
 returns-clause-ended g c =
-    on_ok c.parse.result (IsAtEnd (g.R.Source.left c.fill.new.reader)) (c.in_ok-filled.ensures.end (omega (arith, c.in_ok-buffer.ensures.len, c.deref_mut.ensures.len, c.fill.auto.buffer)))
+    let size : length c.fill.new.buffer ≡ ROOM = c.fill.auto.buffer in
+    on_ok c.parse.result (IsAtEnd (g.R.Source.left c.fill.new.reader)) (c.in_ok-filled.ensures.end (omega arith))
+
+pub returns-clause-reads : goal.returns-clause-reads
+returns-clause-reads g c =
+    let size : length c.fill.new.buffer ≡ ROOM = c.fill.auto.buffer in
+    reads_whole (g.R.Source.left c.args.reader.now) (g.R.Source.left c.fill.new.reader) (take c.in_ok-filled.filled c.fill.new.buffer) c.parse.result c.in_ok-filled.ensures.bytes (c.in_ok-filled.ensures.end (omega arith))
+    (omega (arith, length-take-le c.in_ok-filled.filled c.fill.new.buffer c.in_ok-filled.ensures.within)) c.parse.ensures.refused
+
+pub returns-in_err-filled-clause-reads : goal.returns-in_err-filled-clause-reads
+returns-in_err-filled-clause-reads g c =
+    let p = err_from_is_err_and c.from_residual.result c.from_residual.ensures.1 in
+    let size : length c.fill.new.buffer ≡ ROOM = c.fill.auto.buffer in
+    rw (p.1, p.2) (reads_stopped (g.R.Source.left c.args.reader.now) (g.R.Source.left c.fill.new.reader) c.in_err-filled.field-0.0 (length c.fill.new.buffer) c.in_err-filled.ensures.fault (omega arith) c.in_err-filled.ensures.stopped)
+
+pub returns-then-filled-gt-LONGEST_ORDER_FILE-clause-reads : goal.returns-then-filled-gt-LONGEST_ORDER_FILE-clause-reads
+returns-then-filled-gt-LONGEST_ORDER_FILE-clause-reads g c =
+    let size : length c.fill.new.buffer ≡ ROOM = c.fill.auto.buffer in
+    let within : c.in_ok-filled.filled ≤ length c.fill.new.buffer = c.in_ok-filled.ensures.within in
+    let all = length-take-le c.in_ok-filled.filled c.fill.new.buffer within in
+    reads_over (g.R.Source.left c.args.reader.now) (g.R.Source.left c.fill.new.reader) (take c.in_ok-filled.filled c.fill.new.buffer) c.in_ok-filled.ensures.bytes (omega arith)

@@ -1,5 +1,0 @@
-use Rattle.pfs_layout.proofs.CuttingLemmas.{same_answers}
-use Rattle.pfs_layout.proofs.laws.cutting.Goals as goal
-
-pub returns : goal.returns
-returns c = λ text layouts blocks one other. same_answers _ _ text _ _ layouts blocks (c.finish.ensures.meets text one) (c.finish-2.ensures.meets text other)
