@@ -103,3 +103,14 @@ most_small a b limit (suc place) small = let rest = most_small a b limit place (
 pub lane_small : (a b : List ℕ) (limit chunks lane : ℕ) → ((k : ℕ) → k < chunks → sum_at a b (4 * k + lane) ≤ limit) → lane_most a b chunks lane ≤ limit
 lane_small a b limit zero lane small = omega arith
 lane_small a b limit (suc chunks) lane small = let rest = lane_small a b limit chunks lane (λ k lt. small k (omega arith)) in let here = small chunks (omega arith) in omega arith
+
+-- where no length is greater than half the limit
+pub join_small : (a b : List ℕ) (half : ℕ) → length a ≡ length b → ((place : ℕ) → place < length a → get_or a place 0 ≤ half) → ((place : ℕ) → place < length b → get_or b place 0 ≤ half) → greatest_join (λ n. n) a b ≤ half + half
+join_small [] b half same one two = omega arith
+join_small (x ∷ a) [] half same one two = absurd (omega arith)
+join_small (x ∷ a) (y ∷ b) half same one two =
+    let first = greatest-cons (x + y) (zip2 (λ m n. m + n) a b) in
+    let p = one 0 (omega arith) in
+    let q = two 0 (omega arith) in
+    let rest = join_small a b half (omega arith) (λ place lt. one (suc place) (omega arith)) (λ place lt. two (suc place) (omega arith)) in
+    omega arith

@@ -11,6 +11,9 @@ use crate::bench::{Bench, Length, SPAN_MAX, Shop};
 use std::marker::Model;
 use std::simd::prelude::*;
 
+#[cfg(test)]
+mod tests;
+
 /// A length of time of `Metered`.
 #[derive(Clone, Copy, Debug, PartialEq, Eq, PartialOrd, Ord)]
 pub struct Span {
@@ -154,12 +157,11 @@ fn greatest_sum(a: &[Span], b: &[Span]) -> u64
     ensures { result ≡ greatest_join (λ n. n) a.now b.now }
 {
     let mut lanes = i64x4::splat(0);
-    let whole = a.len() / 4;
-    for chunk in 0..whole {
+    for chunk in 0..a.len() / 4 {
         lanes = lanes.simd_max(lanes_of(a, 4 * chunk) + lanes_of(b, 4 * chunk));
     }
     let mut most = greatest_lane(lanes);
-    for place in 4 * whole..a.len() {
+    for place in a.len() - a.len() % 4..a.len() {
         most = greater(most, sum(a[place], b[place]));
     }
     most

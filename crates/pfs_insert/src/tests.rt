@@ -93,7 +93,7 @@ fn drawn_shop(alloc: Global, jobs: usize, machines: usize, seed: u32) -> Result<
 }
 
 // Puts the jobs of a shop into a sequence, one after the other, by both inserters, and answers whether
-// these gave the same places and makespans. Each inserter is the same for all jobs.
+// these gave the same places and makespans, at their costs. Each inserter is the same for all jobs.
 fn same_places(alloc: Global, instance: &Instance) -> Result<bool, Fail> {
     let mut seq = Seq::new(alloc, instance.jobs())?;
     let mut bench = instance.metered();
@@ -105,9 +105,19 @@ fn same_places(alloc: Global, instance: &Instance) -> Result<bool, Fail> {
         if !bench.room(2_000_000_000) {
             return Ok(false);
         }
+        let start = bench.cells();
         let first = plain.best(alloc, &mut bench, &seq, job)?;
+        let middle = bench.cells();
         let second = fast.best(alloc, &mut bench, &seq, job)?;
+        let end = bench.cells();
         if first.place != second.place || bench.reveal(first.span) != bench.reveal(second.span) {
+            return Ok(false);
+        }
+        let placed = (job + 1) as u64;
+        let machines = instance.machines() as u64;
+        if middle.wrapping_sub(start) != placed.wrapping_mul(placed).wrapping_mul(machines)
+            || end.wrapping_sub(middle) != (4 * placed - 2).wrapping_mul(machines)
+        {
             return Ok(false);
         }
         seq.insert_at(second.place, job);
@@ -141,7 +151,7 @@ fn one_job_counts_two_cells(rt: HostRuntime) -> Result<(), Fail> {
 #[test]
 fn both_inserters_agree_on_drawn_shops(rt: HostRuntime) -> Result<(), Fail> {
     for jobs in 1..8 {
-        for machines in 1..6 {
+        for machines in 1..10 {
             let instance = drawn_shop(rt.alloc(), jobs, machines, 7)?;
             assert!(rt;
                 same_places(rt.alloc(), &instance)?,

@@ -1,4 +1,4 @@
-use Rattle.std.proofs.Common.{◌≡◌, ℕ, ◌+◌, ◌*◌, ◌/◌, ◌<◌, ◌≤◌, max, List, [], ◌∷◌, length, map, get_or, refl, ap, sym, add-one, ◌∙◌, arith, ℤ, to_z, of_z}
+use Rattle.std.proofs.Common.{◌≡◌, ℕ, ◌+◌, ◌-◌, ◌*◌, ◌%◌, ◌<◌, ◌≤◌, max, List, [], ◌∷◌, length, map, get_or, refl, ap, sym, add-one, ◌∙◌, arith, ℤ, to_z, of_z}
 use Rattle.std.specs.Int.{w64}
 use Rattle.pfs_base.specs.declared.bench.TheConstants.{SPAN_MAX}
 use Rattle.std.specs.Simd.Lanes.{chunk}
@@ -78,9 +78,9 @@ loop-place-init c =
     let whole = c.loop-chunk.chunk in
     let end = c.loop-chunk.auto.chunk-end in
     let done = c.loop-chunk-test.false in
-    let all : whole ≡ length a / 4 = omega arith in
+    let all : 4 * whole ≡ length a - length a % 4 = omega arith in
     record {
-      most_is = c.greatest_lane-most.ensures ∙ lanes_told a b c.requires.equal c.requires.in_limit whole c.loop-chunk.lanes (omega arith) c.loop-chunk.invariant.lanes_are ∙ ap (λ n. most_to a b (4 * n)) all;
+      most_is = c.greatest_lane-most.ensures ∙ lanes_told a b c.requires.equal c.requires.in_limit whole c.loop-chunk.lanes (omega arith) c.loop-chunk.invariant.lanes_are ∙ ap (most_to a b) all;
     }
 
 pub sum-requires : goal.sum-requires

@@ -6,16 +6,16 @@ use Rattle.pfs_insert.specs.Rows.{tail_row, AreNumbers, AreNumbersFrom}
 use Rattle.pfs_insert.proofs.FlatRows.{row_split, row_le, begins, numbers_back, behind_told, left_told, right_told, moved, kept_behind}
 use Rattle.pfs_insert.proofs.TailRows.{tails_short, tails_at, tail_next, row_told}
 use Rattle.pfs_insert.proofs.tails.add_three_tails.Given.{Over}
-use Rattle.pfs_insert.proofs.tails.add_three_tails.Goals.{After-at-3}
+use Rattle.pfs_insert.proofs.tails.add_three_tails.Goals.{After-at-third}
 use Rattle.pfs_insert.proofs.tails.add_three_tails.Goals as goal
 
 -- the rows that the table is split at
-record Split (g : Over) (c : After-at-3 g) : Type 0 where
+record Split (g : Over) (c : After-at-third g) : Type 0 where
   below_is : c.size.result - 1 - c.len.result + c.args.from ≡ (g.B.Bench.shop c.args.bench.now).jobs - 1 - length c.args.seq.now.jobs + c.args.from
   below_three : 3 ≤ c.size.result - 1 - c.len.result + c.args.from
   back_long : c.machines-machines.result ≤ length c.split_at_mut-front.result.1.now
 
-split_is : (g : Over) (c : After-at-3 g) → Split g c
+split_is : (g : Over) (c : After-at-third g) → Split g c
 split_is g c =
     let shop = g.B.Bench.shop c.args.bench.now in
     let width = c.machines-machines.result in
@@ -35,17 +35,17 @@ split_is g c =
     record { below_is = omega arith; below_three = omega arith; back_long = omega arith }
 
 pub slice_bounds-fill_three_tails-end : goal.slice_bounds-fill_three_tails-end
-slice_bounds-fill_three_tails-end g c = (split_is g c).back_long
+slice_bounds-fill_three_tails-end g c = (split_is g (goal.at.slice_bounds-fill_three_tails-end g c).After-at-third).back_long
 
 pub slice_bounds-fill_three_tails-end-2 : goal.slice_bounds-fill_three_tails-end-2
-slice_bounds-fill_three_tails-end-2 g c = sym (length-take-le c.machines-machines.result c.split_at_mut-front.result.1.now (split_is g c).back_long)
+slice_bounds-fill_three_tails-end-2 g c = sym (length-take-le c.machines-machines.result c.split_at_mut-front.result.1.now (split_is g (goal.at.slice_bounds-fill_three_tails-end-2 g c).After-at-third).back_long)
 
 pub fill_three_tails-requires-clause-below_width : goal.fill_three_tails-requires-clause-below_width
 fill_three_tails-requires-clause-below_width g c =
-    length-take-le c.machines-machines.result c.split_at_mut-front.result.1.now (split_is g (goal.at.fill_three_tails-requires-clause-below_width g c).After-at-3).back_long ∙ c.machines-machines.ensures
+    length-take-le c.machines-machines.result c.split_at_mut-front.result.1.now (split_is g (goal.at.fill_three_tails-requires-clause-below_width g c).After-at-third).back_long ∙ c.machines-machines.ensures
 
 -- the row below
-below_told : (g : Over) (c : After-at-3 g) → AreNumbers g.B.Span.Length.number (take c.machines-machines.result c.split_at_mut-front.result.1.now) (g.B.Bench.shop c.args.bench.now).machines
+below_told : (g : Over) (c : After-at-third g) → AreNumbers g.B.Span.Length.number (take c.machines-machines.result c.split_at_mut-front.result.1.now) (g.B.Bench.shop c.args.bench.now).machines
     (heaviest_back (g.B.Bench.shop c.args.bench.now) c.args.seq.now.jobs c.args.from)
 below_told g c =
     let shop = g.B.Bench.shop c.args.bench.now in
@@ -59,7 +59,7 @@ below_told g c =
 pub fill_three_tails-requires-clause-below_short : goal.fill_three_tails-requires-clause-below_short
 fill_three_tails-requires-clause-below_short g c = λ machine d lt.
     let shop = g.B.Bench.shop c.args.bench.now in
-    let told = below_told g (goal.at.fill_three_tails-requires-clause-below_short g c).After-at-3 machine d lt in
+    let told = below_told g (goal.at.fill_three_tails-requires-clause-below_short g c).After-at-third machine d lt in
     let short = tails_short shop (g.met.B.Bench.within c.args.bench.now) c.args.seq.now.jobs (omega (arith, c.requires.few)) c.args.from machine in
     omega arith
 
@@ -79,7 +79,7 @@ returns-clause-tails g c =
     let from = c.args.from in
     let machines = shop.machines in
     let first = shop.jobs - 1 - length jobs in
-    let here = (goal.at.returns-clause-tails g c).After-at-3 in
+    let here = (goal.at.returns-clause-tails g c).After-at-third in
     let is = split_is g here in
     let width = c.machines-machines.result in
     let below = c.size.result - 1 - c.len.result + from in
@@ -113,9 +113,9 @@ returns-clause-tails g c =
     let e_two : from - 1 ≡ from - 2 + 1 = omega arith in
     let e_three : from - 2 ≡ from - 3 + 1 = omega arith in
     let ensures = c.fill_three_tails.ensures in
-    let one_next = tail_next number shop jobs some (from - 1) c.at.result tails (omega arith) c.at.ensures.value (λ b le. ap (λ r. tails_at number shop jobs some r b) e_one) in
-    let two_next = tail_next number shop jobs some (from - 2) c.at-2.result (tail_row shop c.at.result tails) (omega arith) c.at-2.ensures.value (λ b le. one_next b le ∙ ap (λ r. tails_at number shop jobs some r b) e_two) in
-    let three_next = tail_next number shop jobs some (from - 3) c.at-3.result (tail_row shop c.at-2.result (tail_row shop c.at.result tails)) (omega arith) c.at-3.ensures.value (λ b le. two_next b le ∙ ap (λ r. tails_at number shop jobs some r b) e_three) in
+    let one_next = tail_next number shop jobs some (from - 1) c.at-first.result tails (omega arith) c.at-first.ensures.value (λ b le. ap (λ r. tails_at number shop jobs some r b) e_one) in
+    let two_next = tail_next number shop jobs some (from - 2) c.at-second.result (tail_row shop c.at-first.result tails) (omega arith) c.at-second.ensures.value (λ b le. one_next b le ∙ ap (λ r. tails_at number shop jobs some r b) e_two) in
+    let three_next = tail_next number shop jobs some (from - 3) c.at-third.result (tail_row shop c.at-second.result (tail_row shop c.at-first.result tails)) (omega arith) c.at-third.ensures.value (λ b le. two_next b le ∙ ap (λ r. tails_at number shop jobs some r b) e_three) in
     let one_told = row_told number shop jobs some (from - 1) _ row one_next (ensures.row tails told) in
     let two_told = row_told number shop jobs some (from - 2) _ next two_next (ensures.next tails told) in
     let three_told = row_told number shop jobs some (from - 3) _ last three_next (ensures.last tails told) in
