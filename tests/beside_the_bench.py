@@ -1,32 +1,7 @@
-"""Functions over any bench. What they compute with times they can only have from the bench that they were handed,
-so that it counts it: they can't add lengths, take a length or a time for a number, or copy the bench."""
+"""Functions over any bench that must not compile, and why. What a function over any bench computes with times it can
+only have from the bench that it was handed, so that it is counted there: it can't add lengths, take a length or a
+time for a number, or copy the bench. One that has its sum from the bench stands in `crates/pfs_tests`."""
 
-# The whole crate, but for the text of one function.
-CRATE = """//! A function over any bench.
-#![tactic(auto)]
-
-ghost use Rattle.std.specs.Prelude.{◌≡◌, ◌+◌, ◌<◌, ◌≤◌, ◌^◌, max};
-ghost use Rattle.pfs_base.specs.FlowShop.{time_of};
-
-use pfs_base::{Bench, SPAN_MAX};
-use std::alloc::AllocError;
-
-"""
-
-# The function that is proved.
-STEP = """/// The greater of two lengths, plus a time.
-pub fn sum<B: Bench>(bench: &mut B, job: usize, machine: usize, a: B::Span, b: B::Span) -> B::Span
-    requires job { job < (B.shop bench.old).jobs }
-    requires machine { machine < (B.shop bench.old).machines }
-    requires room { B.counted bench.old + 1 < 2 ^ 64 }
-    requires in_limit { max (B.Span.number a) (B.Span.number b) + time_of (B.shop bench.old) job machine ≤ SPAN_MAX }
-    ensures { B.counted bench.new ≡ B.counted bench.old + 1 }
-{
-    bench.step(job, machine, a, b)
-}
-"""
-
-# The functions that don't compile, and why.
 REFUSED = [
     ("""/// The sum of two lengths.
 pub fn sum<B: Bench>(_bench: &mut B, a: B::Span, b: B::Span) -> B::Span {
@@ -54,8 +29,18 @@ pub fn copy<B: Bench>(bench: &B) -> B {
 }
 """, "error[move-out-of-place]: cannot move out of `*bench` which is behind a shared reference"),
     ("""/// A copy of the bench.
-pub fn copy<B: Bench>(bench: &B) -> Result<B, AllocError> {
+pub fn copy<B: Bench>(bench: &B) -> Result<B, std::alloc::AllocError> {
     Clone::clone(bench)
 }
 """, "error[unsatisfied-bound]: the trait bound `B: Clone` is not satisfied"),
 ]
+
+# The root file of a crate that has such a function, and a test, so that `rt try` compiles it.
+ROOT = """//! A function over any bench.
+#![tactic(auto)]
+
+pub mod any_bench;
+
+#[test]
+fn compiles(_rt: HostRuntime) {}
+"""

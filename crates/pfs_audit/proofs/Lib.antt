@@ -4,4 +4,5 @@ pub mod Ranges
 mod RowSteps
 mod Rows
 pub mod Schedules
+mod SumLemmas
 mod TableLemmas

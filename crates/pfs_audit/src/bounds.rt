@@ -1,84 +1,92 @@
 //! A bound below the makespan of every order.
-ghost use Rattle.std.specs.Prelude.{◌≡◌, ◌-◌, ◌*◌, ◌<◌, ◌≤◌};
-ghost use Rattle.pfs_audit.specs.Bound.{time_on, load_of, least_on, machine_bound, greatest_total, greatest_machine_bound, bound_of, IsLowerBound};
+ghost use Rattle.std.specs.Prelude.{◌≡◌, ℕ, ◌+◌, ◌*◌, ◌<◌, ◌≤◌};
+ghost use Rattle.pfs_base.specs.FlowShop.{total_of};
+ghost use Rattle.pfs_audit.specs.Bound.{greatest_machine_bound, bound_of, IsLowerBound};
+ghost use Rattle.pfs_audit.specs.Sums.{AreSumsOf};
 
-use pfs_base::{Instance, LONGEST_TIME, MOST_JOBS, MOST_MACHINES};
+use pfs_base::{Instance, LONGEST_TIME, MOST_MACHINES};
+
+/// No job takes longer on all of its machines.
+const LONGEST_TOTAL: u64 = LONGEST_TIME as u64 * MOST_MACHINES as u64;
+
+/// What the jobs of an instance take together, machine by machine.
+#[derive(Drop)]
+struct Sums {
+    /// The greatest total of a job.
+    longest: u64,
+    /// The least time of a job before each machine.
+    before: [u64; MOST_MACHINES],
+    /// The times of all jobs on each machine.
+    load: [u64; MOST_MACHINES],
+    /// The least time of a job after each machine.
+    after: [u64; MOST_MACHINES],
+}
 
 /// A length of time that no order of the jobs can go below (Taillard 1993). It is the greater of the
 /// greatest total of a job and, over all machines, the greatest sum of the least time of a job before the
-/// machine, the times of all jobs on it and the least time of a job after it.
+/// machine, the times of all jobs on it and the least time of a job after it. It goes through the times
+/// twice, and asks for no memory.
 pub fn bound(instance: &Instance) -> u64
     ensures value { result ≡ bound_of instance.now.shop }
     ensures low { IsLowerBound instance.now.shop result }
 {
-    longest_job(instance).max(longest_machine(instance))
-}
-
-// The greatest total of a job.
-fn longest_job(instance: &Instance) -> u64
-    ensures { result ≡ greatest_total instance.now.shop }
-{
-    let machines = instance.machines();
-    let mut most: u64 = 0;
-    for job in 0..instance.jobs() {
-        most = most.max(time_between(instance, job, 0, machines));
-    }
-    most
+    let sums = sums_of(instance);
+    sums.longest.max(longest_machine(instance, &sums))
 }
 
 // The greatest bound of a machine.
-fn longest_machine(instance: &Instance) -> u64
+fn longest_machine(instance: &Instance, sums: &Sums) -> u64
+    requires { AreSumsOf instance.now.shop instance.now.shop.jobs sums.now }
     ensures { result ≡ greatest_machine_bound instance.now.shop }
 {
-    let machines = instance.machines();
     let mut most: u64 = 0;
-    for machine in 0..machines {
-        let before = least_between(instance, 0, machine);
-        let after = least_between(instance, machine + 1, machines);
-        most = most.max(before + load(instance, machine) + after);
+    for machine in 0..instance.machines() {
+        most = most.max(sums.before[machine] + sums.load[machine] + sums.after[machine]);
     }
     most
 }
 
-// The times of all jobs on a machine.
-fn load(instance: &Instance, machine: usize) -> u64
-    requires { machine < instance.now.shop.machines }
-    ensures value { result ≡ load_of instance.now.shop machine }
-    ensures short { result ≤ LONGEST_TIME * MOST_JOBS }
+// The sums of all jobs.
+fn sums_of(instance: &Instance) -> Sums
+    ensures { AreSumsOf instance.now.shop instance.now.shop.jobs result }
 {
-    let mut sum = 0;
+    let mut sums = Sums {
+        longest: 0,
+        before: [LONGEST_TOTAL; MOST_MACHINES],
+        load: [0; MOST_MACHINES],
+        after: [LONGEST_TOTAL; MOST_MACHINES],
+    };
     for job in 0..instance.jobs() {
-        sum += u64::from(instance.time(job, machine));
+        add_job(instance, job, &mut sums);
     }
-    sum
+    sums
 }
 
-// The least time that a job takes on the machines from one to before another.
-fn least_between(instance: &Instance, from: usize, until: usize) -> u64
-    requires order { from ≤ until }
-    requires within { until ≤ instance.now.shop.machines }
-    ensures value { result ≡ least_on instance.now.shop from (until - from) }
-    ensures short { result ≤ LONGEST_TIME * MOST_MACHINES }
-{
-    let jobs = instance.jobs();
-    let mut least: u64 = time_between(instance, 0, from, until);
-    for job in 1..jobs {
-        least = least.min(time_between(instance, job, from, until));
-    }
-    least
-}
-
-// The time that a job takes on the machines from one to before another.
-fn time_between(instance: &Instance, job: usize, from: usize, until: usize) -> u64
+// Adds a job to the sums of those before it.
+fn add_job(instance: &Instance, job: usize, sums: &mut Sums)
     requires job { job < instance.now.shop.jobs }
-    requires order { from ≤ until }
-    requires within { until ≤ instance.now.shop.machines }
-    ensures value { result ≡ time_on instance.now.shop from (until - from) job }
-    ensures short { result ≤ LONGEST_TIME * MOST_MACHINES }
+    requires sums { AreSumsOf instance.now.shop job sums.old }
+    ensures { AreSumsOf instance.now.shop (job + 1) sums.new }
 {
-    let _machines = instance.machines();
+    let total = total(instance, job);
+    sums.longest = sums.longest.max(total);
+    let mut through: u64 = 0;
+    for machine in 0..instance.machines() {
+        sums.before[machine] = sums.before[machine].min(through);
+        let time = u64::from(instance.time(job, machine));
+        sums.load[machine] += time;
+        through += time;
+        sums.after[machine] = sums.after[machine].min(total - through);
+    }
+}
+
+// The times of a job on all machines, added up.
+fn total(instance: &Instance, job: usize) -> u64
+    requires { job < instance.now.shop.jobs }
+    ensures { result ≡ total_of instance.now.shop job }
+{
     let mut sum = 0;
-    for machine in from..until {
+    for machine in 0..instance.machines() {
         sum += u64::from(instance.time(job, machine));
     }
     sum

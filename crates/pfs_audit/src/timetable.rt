@@ -1,5 +1,5 @@
 //! Time tables of orders.
-ghost use Rattle.std.specs.Prelude.{◌≡◌, ◌+◌, ◌<◌, ◌≤◌, [], ◌∷◌, ◌++◌, length, slice_index, IfOk, OnOk};
+ghost use Rattle.std.specs.Prelude.{◌≡◌, ◌+◌, ◌*◌, ◌<◌, ◌≤◌, [], ◌∷◌, ◌++◌, length, slice_index, IfOk, vec_len, vec_capacity};
 ghost use Rattle.pfs_base.specs.Paths.{makespan};
 ghost use Rattle.pfs_audit.specs.Schedule.{EndsBy, IsLeastSchedule, NoneEndsBefore, least_end, least_start, start_in, end_in, EndsInTime, last_end, IsWhole, AreRows};
 
@@ -80,7 +80,8 @@ impl TimeTable {
     }
 }
 
-/// The time table of an order: the least schedule. It asks for the memory of the table.
+/// The time table of an order: the least schedule. It asks for the memory of the table before it fills any
+/// of it.
 pub fn table(alloc: Global, instance: &Instance, order: &Order) -> Result<TimeTable, AuditFault>
     requires { length order.now ≡ instance.now.shop.jobs }
     ensures jobs { IfOk result (λ table. table.jobs ≡ order.now) }
@@ -97,7 +98,7 @@ pub fn table(alloc: Global, instance: &Instance, order: &Order) -> Result<TimeTa
     let mut starts = room_for(alloc, rows * machines)?;
     let mut ends = room_for(alloc, rows * machines)?;
     for row in 0..rows {
-        add_row(instance, order, row, &mut starts, &mut ends)?;
+        add_row(instance, order, row, &mut starts, &mut ends);
     }
     Ok(TimeTable {
         machines,
@@ -116,17 +117,15 @@ fn copy_of(alloc: Global, order: &Order) -> Result<Vec<usize>, AuditFault>
         Err(AllocError) => return Err(AuditFault::Memory),
     };
     for row in 0..order.len() {
-        match jobs.push(order.at(row)) {
-            Ok(()) => {}
-            Err(_) => return Err(AuditFault::Memory),
-        }
+        add(&mut jobs, order.at(row));
     }
     Ok(jobs)
 }
 
 // An empty list with room for so many times.
 fn room_for(alloc: Global, many: usize) -> Result<Vec<u64>, AuditFault>
-    ensures { IfOk result (λ times. times.items ≡ []) }
+    ensures empty { IfOk result (λ times. times.items ≡ []) }
+    ensures room { IfOk result (λ times. vec_capacity times ≡ many) }
 {
     match Vec::with_capacity(alloc, many) {
         Ok(times) => Ok(times),
@@ -134,20 +133,24 @@ fn room_for(alloc: Global, many: usize) -> Result<Vec<u64>, AuditFault>
     }
 }
 
-// Adds the starts and the ends of one row more.
+// Adds the starts and the ends of one row more, for which there is room.
 fn add_row(
     instance: &Instance,
     order: &Order,
     row: usize,
     starts: &mut Vec<u64>,
     ends: &mut Vec<u64>,
-) -> Result<(), AuditFault>
+)
     requires sizes { length order.now ≡ instance.now.shop.jobs }
     requires row { row < length order.now }
+    requires room_for_starts { (row + 1) * instance.now.shop.machines ≤ vec_capacity starts.old }
+    requires room_for_ends { (row + 1) * instance.now.shop.machines ≤ vec_capacity ends.old }
     requires starts { AreRows (least_start instance.now.shop order.now) instance.now.shop.machines row starts.old.items }
     requires ends { AreRows (least_end instance.now.shop order.now) instance.now.shop.machines row ends.old.items }
-    ensures starts { OnOk result (AreRows (least_start instance.now.shop order.now) instance.now.shop.machines (row + 1) starts.new.items) }
-    ensures ends { OnOk result (AreRows (least_end instance.now.shop order.now) instance.now.shop.machines (row + 1) ends.new.items) }
+    ensures starts { AreRows (least_start instance.now.shop order.now) instance.now.shop.machines (row + 1) starts.new.items }
+    ensures ends { AreRows (least_end instance.now.shop order.now) instance.now.shop.machines (row + 1) ends.new.items }
+    ensures room_of_starts { vec_capacity starts.old ≤ vec_capacity starts.new }
+    ensures room_of_ends { vec_capacity ends.old ≤ vec_capacity ends.new }
 {
     let machines = instance.machines();
     let job = order.at(row);
@@ -160,18 +163,19 @@ fn add_row(
         };
         let start = before.max(above);
         before = start + u64::from(instance.time(job, machine));
-        add(starts, start)?;
-        add(ends, before)?;
+        add(starts, start);
+        add(ends, before);
     }
-    Ok(())
 }
 
-// Adds a time to a list.
-fn add(times: &mut Vec<u64>, time: u64) -> Result<(), AuditFault>
-    ensures { OnOk result (times.new.items ≡ times.old.items ++ time ∷ []) }
+// Adds an item to a list that has room.
+fn add<T: Drop>(list: &mut Vec<T>, item: T)
+    requires { vec_len list.old < vec_capacity list.old }
+    ensures items { list.new.items ≡ list.old.items ++ item ∷ [] }
+    ensures room { vec_capacity list.old ≤ vec_capacity list.new }
 {
-    match times.push(time) {
-        Ok(()) => Ok(()),
-        Err(_) => Err(AuditFault::Memory),
+    match list.push(item) {
+        Ok(()) => {}
+        Err(_) => unreachable!(),
     }
 }

@@ -1,3 +1,5 @@
 pub mod Published
 mod MakespanLaws
+mod Lanes
+mod Sums
 pub mod Sent

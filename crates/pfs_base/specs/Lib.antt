@@ -1,5 +1,6 @@
 pub mod Device
 pub mod FlowShop
+pub mod Joins
 pub mod Limits
 pub mod Lists
 pub mod Paths

@@ -2,10 +2,11 @@
 //!
 //! Code that is generic over a bench can't copy the bench, see a length as a number or read a time as a
 //! number. So every sum of times in it, totals of jobs aside, is counted on the bench that it was handed.
-ghost use Rattle.std.specs.Prelude.{◌≡◌, ℕ, ◌+◌, ◌<◌, ◌≤◌, ◌^◌, ◌↔◌, max, IsTrue};
+ghost use Rattle.std.specs.Prelude.{◌≡◌, ℕ, ◌+◌, ◌<◌, ◌≤◌, ◌^◌, ◌↔◌, length, max, IsTrue};
 ghost use Rattle.std.specs.Ordering.{nat_cmp};
 ghost use Rattle.pfs_base.specs.Limits.{limits};
 ghost use Rattle.pfs_base.specs.FlowShop.{FlowShop, time_of, total_of, IsWithin};
+ghost use Rattle.pfs_base.specs.Joins.{greatest_join};
 
 /// No length that a bench makes is greater.
 pub const SPAN_MAX: u64 = 1_000_000_000_000_000;
@@ -55,6 +56,17 @@ pub trait Bench {
         requires in_limit { Self.Span.number a + Self.Span.number b ≤ SPAN_MAX }
         ensures value { Self.Span.number result ≡ Self.Span.number a + Self.Span.number b }
         ensures counted { counted self.new ≡ counted self.old + 1 }
+        ensures shop { shop self.new ≡ shop self.old };
+
+    /// The greatest sum of two lengths that stand at the same place of two rows. It counts a cell for each
+    /// place.
+    fn join_rows(&mut self, a: &[Self::Span], b: &[Self::Span]) -> Self::Span
+        requires equal { length a.now ≡ length b.now }
+        requires some { 1 ≤ length a.now }
+        requires room { counted self.old + length a.now < 2 ^ 64 }
+        requires in_limit { greatest_join Self.Span.number a.now b.now ≤ SPAN_MAX }
+        ensures value { Self.Span.number result ≡ greatest_join Self.Span.number a.now b.now }
+        ensures counted { counted self.new ≡ counted self.old + length a.now }
         ensures shop { shop self.new ≡ shop self.old };
 
     /// How many cells were counted.

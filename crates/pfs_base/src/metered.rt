@@ -1,10 +1,15 @@
 //! A bench over an instance.
-ghost use Rattle.std.specs.Prelude.{◌≡◌, ℕ, ◌+◌, ◌≤◌, length, max, refl};
+ghost use Rattle.std.specs.Prelude.{◌≡◌, ℕ, ◌+◌, ◌≤◌, length, map, max, refl};
+ghost use Rattle.std.specs.Int.{cast_signed, cast_unsigned, w64};
+ghost use Rattle.std.specs.Simd.Lanes.{chunk};
+ghost use Rattle.pfs_base.specs.Joins.{greatest_join};
+ghost use Rattle.pfs_base.specs.Paths.{greatest};
 ghost use Rattle.pfs_base.specs.Limits.{limits};
 ghost use Rattle.pfs_base.specs.FlowShop.{FlowShop, IsWithin};
 
 use crate::bench::{Bench, Length, SPAN_MAX, Shop};
 use std::marker::Model;
+use std::simd::prelude::*;
 
 /// A length of time of `Metered`.
 #[derive(Clone, Copy, Debug, PartialEq, Eq, PartialOrd, Ord)]
@@ -77,6 +82,14 @@ impl<'a> Bench for Metered<'a> {
         }
     }
 
+    #[inline(always)]
+    fn join_rows(&mut self, a: &[Span], b: &[Span]) -> Span {
+        self.cells += a.len() as u64;
+        Span {
+            number: greatest_sum(a, b),
+        }
+    }
+
     fn cells(&self) -> u64 {
         self.cells
     }
@@ -130,4 +143,67 @@ fn greater(a: u64, b: u64) -> u64
     ensures { result ≡ max a b }
 {
     if (a as i64) < (b as i64) { b } else { a }
+}
+
+// The greatest sum of two lengths that stand at the same place of two rows. Whole chunks of four are added
+// and compared lane by lane, and what is left over length by length.
+#[inline(always)]
+fn greatest_sum(a: &[Span], b: &[Span]) -> u64
+    requires equal { length a.now ≡ length b.now }
+    requires in_limit { greatest_join (λ n. n) a.now b.now ≤ SPAN_MAX }
+    ensures { result ≡ greatest_join (λ n. n) a.now b.now }
+{
+    let mut lanes = i64x4::splat(0);
+    let whole = a.len() / 4;
+    for chunk in 0..whole {
+        lanes = lanes.simd_max(lanes_of(a, 4 * chunk) + lanes_of(b, 4 * chunk));
+    }
+    let mut most = greatest_lane(lanes);
+    for place in 4 * whole..a.len() {
+        most = greater(most, sum(a[place], b[place]));
+    }
+    most
+}
+
+// Four lengths of a row, as signed numbers.
+#[inline(always)]
+fn lanes_of(row: &[Span], at: usize) -> i64x4
+    requires { at + 4 ≤ length row.now }
+    ensures { result ≡ map (cast_signed w64) (chunk at 4 row.now) }
+{
+    i64x4::from_array([
+        signed(row[at]),
+        signed(row[at + 1]),
+        signed(row[at + 2]),
+        signed(row[at + 3]),
+    ])
+}
+
+#[inline(always)]
+fn signed(span: Span) -> i64
+    ensures { result ≡ cast_signed w64 span }
+{
+    span.number.cast_signed()
+}
+
+#[inline(always)]
+fn sum(a: Span, b: Span) -> u64
+    requires { a + b ≤ SPAN_MAX }
+    ensures { result ≡ a + b }
+{
+    a.number + b.number
+}
+
+// The greatest of four lengths.
+#[inline(always)]
+fn greatest_lane(lanes: i64x4) -> u64
+    requires four { length lanes ≡ 4 }
+    requires in_limit { greatest (map (cast_unsigned w64) lanes) ≤ SPAN_MAX }
+    ensures { result ≡ greatest (map (cast_unsigned w64) lanes) }
+{
+    let [first, second, third, fourth] = lanes.to_array();
+    greater(
+        greater(first.cast_unsigned(), second.cast_unsigned()),
+        greater(third.cast_unsigned(), fourth.cast_unsigned()),
+    )
 }

@@ -157,6 +157,7 @@ fn answer_of(rt: &HostRuntime, name: &str) -> Result<(), Stop> {
         "turns" => turns_call(rt),
         "search" => search_call(rt),
         "run_check" => run_check_call(rt),
+        "run_check_fault" => run_check_fault_call(rt),
         "run_table" => run_table_call(rt),
         "run_solve" => run_solve_call(rt),
         "run_convert" => run_convert_call(rt),
@@ -300,6 +301,25 @@ fn run_check_call(rt: &HostRuntime) -> Result<(), Stop> {
         &mut orders,
         &mut writer,
     )?;
+    Ok(())
+}
+
+// Prints whose memory was refused: the instance's, the order file's, or that of the audit.
+fn run_check_fault_call(rt: &HostRuntime) -> Result<(), Stop> {
+    let mut reader = FromRead::new(FILE);
+    let mut orders = FromRead::new(ORDER);
+    let mut writer = ToWrite::new(io::writer(rt));
+    let result = run_check(
+        rt.alloc(),
+        &mut reader,
+        Layout::Taillard,
+        1,
+        &mut orders,
+        &mut writer,
+    );
+    if let Err(fault) = result {
+        println!(rt; "{fault:?}")?;
+    }
     Ok(())
 }
 

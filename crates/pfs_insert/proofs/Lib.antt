@@ -1,5 +1,7 @@
 pub mod Exchange
 pub mod FirstLeast
 pub mod FlatRows
+pub mod Joined
 pub mod RowSteps
+pub mod SoFar
 pub mod TailRows

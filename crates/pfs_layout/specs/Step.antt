@@ -1,5 +1,6 @@
--- What one byte does to what a reader keeps. Only the contracts of private functions speak of it: what a
--- reader's fields say of the bytes that it has read stands in `Reader`.
+-- What one byte does to what a reader keeps. But for `is_live`, whether a further byte is wanted, only the
+-- contracts of private functions speak of it: what a reader's fields say of the bytes that it has read stands
+-- in `Reader`.
 use Rattle.std.specs.Prelude.{◌≡◌, ◌≢◌, ℕ, ◌+◌, ◌-◌, ◌*◌, ◌/◌, ◌%◌, ◌<◌, ◌≤◌, min, Bool, true, false, not, ◌&&◌, ◌||◌, ◌==◌, nat_lt, replicate, slice_index, slice_set, Option, Some, None, is_some, option_map, IfSome, if◌then◌else◌}
 use Rattle.std.specs.Option.{option_or}
 use Rattle.pfs_base.specs.declared.limits.TheConstants.{LONGEST_TIME, LONGEST_INPUT}

@@ -4,10 +4,10 @@ ghost use Rattle.std.specs.Prelude.{◌≡◌, ◌<◌, ◌≤◌, ◌&&◌, not
 ghost use Rattle.pfs_layout.specs.Bytes.{is_digit as digit_test, is_blank as blank_test};
 ghost use Rattle.pfs_layout.specs.Step.{digits_after, kinds_after};
 
-use pfs_base::LONGEST_INPUT;
+use pfs_base::{GREATEST_NOTE, LONGEST_INPUT};
 
 /// All greater values of a number are kept as this: it is greater than every number that is accepted.
-pub const CEILING: u64 = 4_294_967_296;
+pub const CEILING: u64 = GREATEST_NOTE as u64 + 1;
 
 /// The byte that ends a line.
 pub const LINE_END: u8 = 10;

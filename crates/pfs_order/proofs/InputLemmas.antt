@@ -10,7 +10,8 @@ use Rattle.pfs_base.specs.declared.limits.TheConstants.{LONGEST_ORDER_FILE}
 use Rattle.pfs_order.specs.declared.fault.OrderFault.{OrderFault}
 use Rattle.pfs_order.specs.declared.fault.OrderFault.TheVariants.{Syntax, JobRange, Repeated, TooLong, Read, Memory}
 use Rattle.pfs_order.specs.Sequence.{StatedOrder}
-use Rattle.pfs_order.specs.OrderFile.{IsOrderFile, IsText, RefusesOrder, RefusesUnlessFailed, IsUnlessFailed, ReadsOrderAsFar, fault_of}
+use Rattle.pfs_order.specs.OrderFile.{IsOrderFile, IsText, RefusesOrder, RefusesUnlessFailed, IsUnlessFailed, ReadsOrderAsFar}
+use Rattle.std.specs.Result.{result_err}
 use Rattle.pfs_order.proofs.Published.OrderVerdicts.{one_refusal, not_both, one_file}
 use Rattle.pfs_order.specs.Pieces.{FillsBelow, JudgesText}
 
@@ -120,7 +121,7 @@ reads_over (Some input) (Some rest) bytes c h = record {
 
 -- one that was read to its end
 pub reads_whole : (old new : Option (List ℕ)) (bytes : List ℕ) (answer : Result StatedOrder OrderFault) → Consumes old new bytes → IsAtEnd new → length bytes ≤ LONGEST_ORDER_FILE
-    → IfErr answer (λ fault. JudgesText bytes fault) → IfSome old (λ input. ReadsOrderAsFar input new (fault_of answer))
+    → IfErr answer (λ fault. JudgesText bytes fault) → IfSome old (λ input. ReadsOrderAsFar input new (result_err answer))
 reads_whole None new bytes answer c end few h = tt
 reads_whole (Some input) None bytes answer c end few h = absurd c
 reads_whole (Some input) (Some rest) bytes answer c end few h = record {
@@ -135,12 +136,12 @@ reads_whole (Some input) (Some rest) bytes answer c end few h = record {
   memory = λ is. subst IsText (sym (c ∙ ap (λ xs. bytes ++ xs) end ∙ append-nil bytes)) (is_text answer h is);
 }
   where
-    is_short : (verdict : Result StatedOrder OrderFault) → IfErr verdict (λ fault. JudgesText bytes fault) → fault_of verdict ≡ Some TooLong → ⊥
+    is_short : (verdict : Result StatedOrder OrderFault) → IfErr verdict (λ fault. JudgesText bytes fault) → result_err verdict ≡ Some TooLong → ⊥
     is_short (Ok file) k is = cc
     is_short (Err TooLong) k is = omega arith
     is_short (Err fault) k is = cc
 
-    is_text : (verdict : Result StatedOrder OrderFault) → IfErr verdict (λ fault. JudgesText bytes fault) → fault_of verdict ≡ Some Memory → IsText bytes
+    is_text : (verdict : Result StatedOrder OrderFault) → IfErr verdict (λ fault. JudgesText bytes fault) → result_err verdict ≡ Some Memory → IsText bytes
     is_text (Ok file) k is = absurd (cc)
     is_text (Err Memory) k is = k
     is_text (Err fault) k is = absurd (cc)

@@ -1,6 +1,6 @@
 -- Which inputs are order files, and how the others are refused. Job numbers count from 1 in a file, and so
 -- do places.
-use Rattle.std.specs.Prelude.{◌≡◌, ◌≢◌, ⊤, ℕ, ◌+◌, ◌<◌, ◌≤◌, ◌^◌, List, [], ◌++◌, length, map, take, slice_index, ◌⊎◌, Option, Some, None, Result, Ok, Err}
+use Rattle.std.specs.Prelude.{◌≡◌, ◌≢◌, ⊤, ℕ, ◌+◌, ◌<◌, ◌≤◌, ◌^◌, List, [], ◌++◌, length, map, take, slice_index, ◌⊎◌, Option, Some, Result, Err}
 use Rattle.std.specs.List.{All, Contains}
 use Rattle.pfs_base.specs.declared.limits.TheConstants.{MOST_JOBS, LONGEST_ORDER_FILE}
 use Rattle.pfs_order.specs.declared.fault.OrderFault.{OrderFault}
@@ -96,8 +96,3 @@ pub record ReadsOrderAsFar (bytes : List ℕ) (left : Option (List ℕ)) (fault 
   pub too_long : fault ≡ Some TooLong → length front ≡ LONGEST_ORDER_FILE + 1
   pub ended : fault ≢ Some Read → fault ≢ Some TooLong → rest ≡ []
   pub memory : fault ≡ Some Memory → IsText bytes
-
--- the fault that is told, if any
-abbrev pub fault_of : {A : Type 0} → Result A OrderFault → Option OrderFault
-fault_of (Ok a) = None
-fault_of (Err fault) = Some fault

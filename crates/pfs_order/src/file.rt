@@ -39,6 +39,7 @@ impl OrderFile {
         ensures accepted { IsSize limits (length self.now.order) }
         ensures sequence { IsSequence (length self.now.order) self.now.order }
     {
+        // Called for what it ensures of every order.
         let _ = self.order.len();
         &self.order
     }

@@ -60,6 +60,7 @@ impl Order {
         ensures accepted { IsSize limits (length self.now) }
         ensures sequence { IsSequence (length self.now) self.now }
     {
+        // Called for what it ensures of every sequence.
         let _ = self.seq.len();
         &self.seq
     }

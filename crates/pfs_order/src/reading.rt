@@ -1,7 +1,8 @@
 //! Reading an order file.
 ghost use Rattle.std.specs.Prelude.{◌≡◌, ℕ, ◌+◌, ◌-◌, ◌<◌, ◌≤◌, true, false, List, [], ◌∷◌, ◌++◌, length, map, take, drop, Contains, IfOk, IfErr, IfSome, OnOk, OnErr};
 ghost use Rattle.std.specs.Io.KnownBytes.{Consumes, IsAtEnd};
-ghost use Rattle.pfs_order.specs.OrderFile.{HasText, IsText, IsOrderFile, RefusesOrder, RefusesUnlessFailed, IsUnlessFailed, ReadsOrderAsFar, fault_of};
+ghost use Rattle.std.specs.Result.{result_err};
+ghost use Rattle.pfs_order.specs.OrderFile.{HasText, IsText, IsOrderFile, RefusesOrder, RefusesUnlessFailed, IsUnlessFailed, ReadsOrderAsFar};
 ghost use Rattle.pfs_order.specs.Pieces.{SaysSyntax, HasJobs, RefusesJob, RefusesJobs, JudgesText, FillsBelow, counted};
 ghost use Rattle.pfs_order.specs.Sequence.{IsSequence, StatedOrder};
 ghost use Rattle.pfs_order.specs.declared.fault.OrderFault.{OrderFault};
@@ -39,7 +40,7 @@ pub fn read_order<R: Source>(alloc: Global, reader: &mut R) -> Result<OrderFile,
         RefusesOrder input fault → IsUnlessFailed result (Err fault)) }
     ensures ended { OnOk result (IsAtEnd (R.left reader.new)) }
     ensures reads { IfSome (R.left reader.old) (λ input.
-        ReadsOrderAsFar input (R.left reader.new) (fault_of result)) }
+        ReadsOrderAsFar input (R.left reader.new) (result_err result)) }
     ensures failed { result ≡ Err OrderFault.Read → R.has_failed reader.new ≡ true }
     ensures working { R.has_failed reader.new ≡ true → result ≡ Err OrderFault.Read }
 {

@@ -107,6 +107,7 @@ impl Seq {
         requires { self.old.size ≡ other.now.size }
         ensures { self.new ≡ other.now }
     {
+        // Read for what is known of the other sequence, as that its jobs have room here.
         let _size = other.size;
         copy_in_room(&mut self.jobs, &other.jobs);
     }

@@ -1,4 +1,4 @@
-//! Readers and writers that are short, or fail at a chosen call.
+//! Readers and writers that are short, or fail at a chosen call, and count their calls.
 ghost use Rattle.std.specs.Prelude.{◌≡◌, ◌+◌, ◌≤◌, false, None};
 
 use pfs_base::{Sink, Source};
@@ -35,6 +35,11 @@ impl<'a> Pieces<'a> {
         ensures { ⟦<Pieces<'a> as Source>⟧.has_failed result ≡ false }
     {
         Pieces::new(text, usize::MAX, None)
+    }
+
+    /// How often it was read.
+    pub fn calls(&self) -> u64 {
+        self.calls
     }
 }
 
@@ -105,13 +110,16 @@ impl Source for Endless {
     }
 }
 
-/// A sink that keeps what it takes, at most so many bytes a call, and fails once its room is full.
+/// A sink that keeps what it takes, at most so many bytes a call, and fails once its room is full, or at one of
+/// its calls, which count from 1.
 #[derive(Drop)]
 pub struct Taken {
     bytes: [u8; 256],
     count: usize,
     room: usize,
     most: usize,
+    calls: u64,
+    fails_at: Option<u64>,
     failed: bool,
     ghost fits: { count + room ≤ 256 },
 }
@@ -126,13 +134,29 @@ impl Taken {
             count: 0,
             room: room.min(256),
             most,
+            calls: 0,
+            fails_at: None,
             failed: false,
         }
+    }
+
+    /// A sink that takes at most `most` bytes a call, and fails at this call.
+    pub fn until(call: u64, most: usize) -> Taken
+        ensures { ⟦<Taken as Sink>⟧.has_failed result ≡ false }
+    {
+        let mut taken = Taken::new(256, most);
+        taken.fails_at = Some(call);
+        taken
     }
 
     /// What it has taken.
     pub fn bytes(&self) -> &[u8] {
         &self.bytes[..self.count]
+    }
+
+    /// How often it was written to.
+    pub fn calls(&self) -> u64 {
+        self.calls
     }
 }
 
@@ -142,8 +166,9 @@ impl Sink for Taken {
     ghost has_failed = { λ s. s.failed };
 
     fn write(&mut self, bytes: &[u8]) -> Option<usize> {
+        self.calls = self.calls.saturating_add(1);
         let count = bytes.len().min(self.most).min(self.room);
-        if count == 0 {
+        if count == 0 || self.fails_at == Some(self.calls) {
             self.failed = true;
             return None;
         }

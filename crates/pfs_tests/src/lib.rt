@@ -2,13 +2,18 @@
 //! What the contracts say is proved and not tested again here.
 #![tactic(auto)]
 
+pub mod any_bench;
 #[cfg(test)]
 mod base;
 #[cfg(test)]
 mod conversions;
 #[cfg(test)]
 mod engines;
+#[cfg(test)]
+mod failing;
 pub mod fakes;
+#[cfg(test)]
+mod faults;
 #[cfg(test)]
 mod reader;
 #[cfg(test)]

@@ -197,13 +197,43 @@ fn other_spellings(rt: HostRuntime) -> Result<(), Fail> {
         (b"3 2\n4\n2 5 1\n", None),
         (b"03 2 4\n2 5 1", None),
         (
-            b"000000000000000000000000000000000000000000000000000000000000003 2 4\n2 5 1\n",
+            b"0000000000000000000000000000000000000000000000000000000000003 2 4\n2 5 1\n",
             None,
         ),
     ];
     assert_ends(&rt, rt.alloc(), 109, &ends)?;
     let untitled: [(&[u8], Option<LayoutFault>); 1] = [(b"3 2 4\n2 5 1\n", None)];
     assert_ends(&rt, rt.alloc(), 90, &untitled)
+}
+
+#[test]
+fn a_carriage_return_before_each_line_end(rt: HostRuntime) -> Result<(), Fail> {
+    let mut text = Vec::new(rt.alloc());
+    for b in BY_MACHINE {
+        if *b == b'\n' {
+            text.push(b'\r')?;
+        }
+        text.push(*b)?;
+    }
+    assert_eq!(rt; text.len(), 126);
+    assert_cuts(&rt, rt.alloc(), &text, Layout::Taillard, 1, None);
+    Ok(())
+}
+
+#[test]
+fn a_title_with_a_number(rt: HostRuntime) -> Result<(), Fail> {
+    let mut text = Vec::from_slice(rt.alloc(), b"5x ")?;
+    text.extend_from_slice(BY_MACHINE)?;
+    assert_cuts(&rt, rt.alloc(), &text, Layout::Taillard, 1, None);
+    Ok(())
+}
+
+#[test]
+fn the_longest_time(rt: HostRuntime) -> Result<(), Fail> {
+    let text = with_end(rt.alloc(), 115, b"2 5 1000000\n")?;
+    let instance = read_bytes(rt.alloc(), &text, Layout::Taillard, 1)?;
+    assert!(rt; has_times(&instance, &[3, 2, 2, 5, 4, 1_000_000]));
+    Ok(())
 }
 
 #[test]
@@ -234,7 +264,7 @@ fn size_lines(rt: HostRuntime) {
 fn held_grows_with_each_time(rt: HostRuntime) {
     let mut reader = BlockReader::new(rt.alloc(), Layout::Taillard, 1);
     for c in 0..BY_MACHINE.len() {
-        let _ = reader.feed(&BY_MACHINE[c..c + 1]);
+        assert!(rt; reader.feed(&BY_MACHINE[c..c + 1]).is_ok(), "byte {c}");
         let held = match c + 1 {
             0..=110 => 0,
             111 | 112 => 1,

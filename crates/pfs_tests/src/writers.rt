@@ -1,4 +1,6 @@
 //! Texts that are written and instances that are drawn.
+ghost use Rattle.std.specs.Prelude.{◌<◌};
+
 use crate::fakes::Taken;
 use crate::texts::{BY_JOB, BY_MACHINE};
 use pfs_audit::bound;
@@ -93,13 +95,32 @@ fn draws_the_published_times(rt: HostRuntime) -> Result<(), Fail> {
     );
     assert_times(&rt, &generate(rt.alloc(), 1, 1, 1)?, &[1]);
     assert_times(&rt, &generate(rt.alloc(), 1, 1, 2_147_483_646)?, &[99]);
-    let instance = generate(rt.alloc(), 20, 5, 873_654_221)?;
+    Ok(())
+}
+
+// The times of a job on the machines behind the first.
+fn time_after_the_first(instance: &Instance, job: usize) -> u64
+    requires { job < instance.now.shop.jobs }
+{
     let mut sum = 0u64;
-    for job in 0..instance.jobs() {
-        sum = sum.saturating_add(instance.time(job, 0) as u64);
+    for machine in 1..instance.machines() {
+        sum = sum.saturating_add(instance.time(job, machine) as u64);
     }
-    assert_eq!(rt; sum, 1121);
-    assert_eq!(rt; bound(&instance), 1232, "the published bound");
+    sum
+}
+
+#[test]
+fn the_published_bound_has_two_summands(rt: HostRuntime) -> Result<(), Fail> {
+    let instance = generate(rt.alloc(), 20, 5, 873_654_221)?;
+    assert!(rt; instance.jobs() == 20);
+    let mut load = 0u64;
+    for job in 0..instance.jobs() {
+        load = load.saturating_add(instance.time(job, 0) as u64);
+        assert!(rt; time_after_the_first(&instance, job) >= 111, "job {job}");
+    }
+    assert_eq!(rt; load, 1121);
+    assert_eq!(rt; time_after_the_first(&instance, 2), 111);
+    assert_eq!(rt; bound(&instance), 1121 + 111);
     Ok(())
 }
 

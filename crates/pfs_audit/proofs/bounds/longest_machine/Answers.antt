@@ -1,13 +1,40 @@
-use Rattle.std.proofs.Common.{◌≡◌, ◌+◌, ◌-◌, ap, arith}
-use Rattle.pfs_audit.specs.Bound.{least_on, machine_bound}
+use Rattle.std.proofs.Common.{◌+◌, ◌-◌, arith}
+use Rattle.pfs_audit.specs.Bound.{machine_bound}
 use Rattle.pfs_audit.proofs.Ranges.{greatest-range-more}
+use Rattle.pfs_audit.proofs.SumLemmas.{least_among-is, least_among-le, load_among-le}
 use Rattle.pfs_audit.proofs.bounds.longest_machine.Goals as goal
 
 pub loop-machine-preserved : goal.loop-machine-preserved
 loop-machine-preserved c =
     let shop = c.args.instance.now.shop in
     let machine = c.loop-machine.machine in
+    let within = c.machines-machine-end.ensures.within in
     let more = greatest-range-more (machine_bound shop) machine in
-    let before = ap (least_on shop 0) (let e : machine - 0 ≡ machine = omega arith in e) in
-    let after = ap (λ machines. least_on shop (machine + 1) (machines - (machine + 1))) c.machines-machines.ensures.value in
+    let before = least_among-is shop within shop.jobs 0 machine (omega arith) (omega arith) in
+    let after = least_among-is shop within shop.jobs (machine + 1) (shop.machines - (machine + 1)) (omega arith) (omega arith) in
+    let here = c.requires.before.values machine (omega arith) in
+    let load = c.requires.load.values machine (omega arith) in
+    let there = c.requires.after.values machine (omega arith) in
+    omega arith
+
+pub overflow_add-sums : goal.overflow_add-sums
+overflow_add-sums c =
+    let shop = c.args.instance.now.shop in
+    let machine = c.loop-machine.machine in
+    let here = c.requires.before.values machine (omega arith) in
+    let load = c.requires.load.values machine (omega arith) in
+    let small = least_among-le shop shop.jobs 0 machine in
+    let short = load_among-le shop c.machines-machine-end.ensures.within shop.jobs machine in
+    omega arith
+
+pub overflow_add-sums-in-loop-machine : goal.overflow_add-sums-in-loop-machine
+overflow_add-sums-in-loop-machine c =
+    let shop = c.args.instance.now.shop in
+    let machine = c.loop-machine.machine in
+    let here = c.requires.before.values machine (omega arith) in
+    let load = c.requires.load.values machine (omega arith) in
+    let there = c.requires.after.values machine (omega arith) in
+    let small = least_among-le shop shop.jobs 0 machine in
+    let short = load_among-le shop c.machines-machine-end.ensures.within shop.jobs machine in
+    let rest = least_among-le shop shop.jobs (machine + 1) (shop.machines - (machine + 1)) in
     omega arith

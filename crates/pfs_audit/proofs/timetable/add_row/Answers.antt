@@ -61,8 +61,12 @@ loop-machine-preserved c =
     let at = (goal.at.loop-machine-preserved c).After-from in
     let end = ends_at at in
     record {
-      starts = rw c.in_ok-add.ensures (entry_added (least_start shop order) shop.machines row machine c.max-start.result c.loop-machine.starts.items c.loop-machine.invariant.starts (starts_at at));
-      ends = rw c.in_ok-add-2.ensures (entry_added (least_end shop order) shop.machines row machine (c.max-start.result + c.from.result) c.loop-machine.ends.items c.loop-machine.invariant.ends end);
+      starts = rw c.add.ensures.items (entry_added (least_start shop order) shop.machines row machine c.max-start.result c.loop-machine.starts.items c.loop-machine.invariant.starts (starts_at at));
+      ends = rw c.add-in-loop-machine.ensures.items (entry_added (least_end shop order) shop.machines row machine (c.max-start.result + c.from.result) c.loop-machine.ends.items c.loop-machine.invariant.ends end);
+      room_of_starts = omega arith;
+      room_of_ends = omega arith;
+      kept_starts = omega arith;
+      kept_ends = omega arith;
       before = end ∙ least_end-is shop order row machine ∙ ap (λ r. head (operation shop order) r machine) (sym (add-one row)) ∙ sym (head_before_more (operation shop order) row machine);
     }
 

@@ -1,0 +1,67 @@
+use Rattle.std.proofs.Common.{◌+◌, ◌-◌, refl, arith}
+use Rattle.pfs_base.specs.FlowShop.{time_of, total_of}
+use Rattle.pfs_audit.specs.Sums.{least_among, load_among}
+use Rattle.pfs_audit.proofs.Ranges.{greatest-range-more, sum_by-below-more, total_of-is}
+use Rattle.pfs_audit.proofs.SumLemmas.{least_among-more, load_among-more, load_among-le, time_on-le, time_on-parts, have_none, have_more}
+use Rattle.pfs_audit.proofs.bounds.add_job.Goals as goal
+
+pub loop-machine-init : goal.loop-machine-init
+loop-machine-init c =
+    let shop = c.args.instance.now.shop in
+    let job = c.args.job in
+    let sums = c.requires.sums in
+    let more = greatest-range-more (total_of shop) job in
+    record {
+      longest = omega arith;
+      through = refl;
+      before = have_none (λ jobs. least_among shop jobs 0) shop.machines job c.args.sums.now.before sums.before;
+      load = have_none (load_among shop) shop.machines job c.args.sums.now.load sums.load;
+      after = have_none (λ jobs machine. least_among shop jobs (machine + 1) (shop.machines - (machine + 1))) shop.machines job c.args.sums.now.after sums.after;
+    }
+
+pub overflow_add-sums : goal.overflow_add-sums
+overflow_add-sums c =
+    let shop = c.args.instance.now.shop in
+    let machine = c.loop-machine.machine in
+    let load = c.loop-machine.invariant.load.to_do machine (omega arith) (omega arith) in
+    let short = load_among-le shop c.machines-machine-end.ensures.within c.args.job machine in
+    omega arith
+
+pub overflow_add-through : goal.overflow_add-through
+overflow_add-through c =
+    let short = time_on-le c.args.instance.now.shop c.machines-machine-end.ensures.within 0 c.loop-machine.machine c.args.job in
+    omega arith
+
+pub overflow_sub-total : goal.overflow_sub-total
+overflow_sub-total c =
+    let shop = c.args.instance.now.shop in
+    let job = c.args.job in
+    let machine = c.loop-machine.machine in
+    let parts = time_on-parts shop job machine (omega arith) in
+    let more = sum_by-below-more (time_of shop job) machine in
+    let is = total_of-is shop job in
+    omega arith
+
+pub loop-machine-preserved : goal.loop-machine-preserved
+loop-machine-preserved c =
+    let shop = c.args.instance.now.shop in
+    let job = c.args.job in
+    let machine = c.loop-machine.machine in
+    let sums = c.loop-machine.sums in
+    let invariant = c.loop-machine.invariant in
+    let parts = time_on-parts shop job machine (omega arith) in
+    let more = sum_by-below-more (time_of shop job) machine in
+    let is = total_of-is shop job in
+    let least_before = least_among-more shop job 0 machine in
+    let load = load_among-more shop job machine in
+    let least_after = least_among-more shop job (machine + 1) (shop.machines - (machine + 1)) in
+    let old_before = invariant.before.to_do machine (omega arith) (omega arith) in
+    let old_load = invariant.load.to_do machine (omega arith) (omega arith) in
+    let old_after = invariant.after.to_do machine (omega arith) (omega arith) in
+    record {
+      longest = invariant.longest;
+      through = omega arith;
+      before = have_more (λ jobs. least_among shop jobs 0) shop.machines job machine c.min.result sums.before (omega arith) invariant.before (omega arith);
+      load = have_more (load_among shop) shop.machines job machine _ sums.load (omega arith) invariant.load (omega arith);
+      after = have_more (λ jobs at. least_among shop jobs (at + 1) (shop.machines - (at + 1))) shop.machines job machine c.min-in-loop-machine.result sums.after (omega arith) invariant.after (omega arith);
+    }

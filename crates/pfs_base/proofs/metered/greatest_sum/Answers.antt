@@ -1,0 +1,128 @@
+use Rattle.std.proofs.Common.{◌≡◌, ℕ, ◌+◌, ◌*◌, ◌/◌, ◌<◌, ◌≤◌, max, List, [], ◌∷◌, length, map, get_or, refl, ap, sym, add-one, ◌∙◌, arith, ℤ, to_z, of_z}
+use Rattle.std.specs.Int.{w64}
+use Rattle.pfs_base.specs.declared.bench.TheConstants.{SPAN_MAX}
+use Rattle.std.specs.Simd.Lanes.{chunk}
+use Rattle.std.proofs.lemmas.Int.{of_z-to_z}
+use Rattle.pfs_base.specs.Paths.{greatest}
+use Rattle.pfs_base.specs.Joins.{greatest_join}
+use Rattle.pfs_base.proofs.Sums.{sum_at, most_to, lane_most, lanes_most, four_same, chunk_four, sum_read, most_is, sum_small, most_small, lane_small}
+use Rattle.pfs_base.proofs.Lanes.{raised, raised_is, greatest_four}
+use Rattle.pfs_base.proofs.metered.greatest_sum.Goals as goal
+
+pub loop-chunk-init : goal.loop-chunk-init
+loop-chunk-init c = record { lanes_are = refl }
+
+raised_same : {l k : List ℕ} {p q x y : List ℤ} → l ≡ k → p ≡ q → x ≡ y → raised l p x ≡ raised k q y
+raised_same e f g = cc
+
+-- the lanes with one chunk more
+one_more : (a b : List ℕ) (at : ℕ) → length a ≡ length b → ((place : ℕ) → place < length a → sum_at a b place ≤ SPAN_MAX) → 4 * at + 4 ≤ length a →
+    raised (lane_most a b at 0 ∷ lane_most a b at 1 ∷ lane_most a b at 2 ∷ lane_most a b at 3 ∷ []) (map (to_z w64) (chunk (4 * at) 4 a)) (map (to_z w64) (chunk (4 * at) 4 b))
+    ≡ lane_most a b (at + 1) 0 ∷ lane_most a b (at + 1) 1 ∷ lane_most a b (at + 1) 2 ∷ lane_most a b (at + 1) 3 ∷ []
+one_more a b at same small le =
+    let one = chunk_four a (4 * at) 0 0 0 0 le in
+    let two = chunk_four b (4 * at) 0 0 0 0 (omega arith) in
+    let none : 4 * at ≡ 4 * at + 0 = omega arith in
+    let lanes = lane_most a b at 0 ∷ lane_most a b at 1 ∷ lane_most a b at 2 ∷ lane_most a b at 3 ∷ [] in
+    let lane = λ (k : ℕ) (lt : k < 4). lane_small a b SPAN_MAX at k (λ c less. small (4 * c + k) (omega arith)) in
+    ap (λ x. raised lanes (map (to_z w64) x) (map (to_z w64) (chunk (4 * at) 4 b))) (one ∙ ap (λ k. get_or a k 0 ∷ get_or a (4 * at + 1) 0 ∷ get_or a (4 * at + 2) 0 ∷ get_or a (4 * at + 3) 0 ∷ []) none)
+    ∙ ap (λ x. raised lanes (map (to_z w64) (get_or a (4 * at + 0) 0 ∷ get_or a (4 * at + 1) 0 ∷ get_or a (4 * at + 2) 0 ∷ get_or a (4 * at + 3) 0 ∷ [])) (map (to_z w64) x))
+    (two ∙ ap (λ k. get_or b k 0 ∷ get_or b (4 * at + 1) 0 ∷ get_or b (4 * at + 2) 0 ∷ get_or b (4 * at + 3) 0 ∷ []) none)
+    ∙ raised_is _ _ _ _ _ _ _ _ _ _ _ _ (lane 0 (omega arith)) (lane 1 (omega arith)) (lane 2 (omega arith)) (lane 3 (omega arith))
+    (small (4 * at + 0) (omega arith)) (small (4 * at + 1) (omega arith)) (small (4 * at + 2) (omega arith)) (small (4 * at + 3) (omega arith))
+    ∙ ap (λ n. lane_most a b n 0 ∷ lane_most a b n 1 ∷ lane_most a b n 2 ∷ lane_most a b n 3 ∷ []) (sym (add-one at))
+
+pub loop-chunk-preserved : goal.loop-chunk-preserved
+loop-chunk-preserved c =
+    let a = c.args.a.now in
+    let b = c.args.b.now in
+    let at = c.loop-chunk.chunk in
+    let same = c.requires.equal in
+    let inside = c.loop-chunk-test.true in
+    record {
+      lanes_are =
+          raised_same c.loop-chunk.invariant.lanes_are c.lanes_of.ensures c.lanes_of-in-loop-chunk.ensures
+          ∙ one_more a b at same (λ place lt. sum_small a b SPAN_MAX place same c.requires.in_limit lt) (omega arith);
+    }
+
+-- behind the last chunk
+module _ (a b : List ℕ) (same : length a ≡ length b) (small : greatest_join (λ n. n) a b ≤ SPAN_MAX) where
+  each_small : (place : ℕ) → place < length a → sum_at a b place ≤ SPAN_MAX
+  each_small place lt = sum_small a b SPAN_MAX place same small lt
+
+  first_small : (place : ℕ) → place ≤ length a → most_to a b place ≤ SPAN_MAX
+  first_small place le = most_small a b SPAN_MAX place (λ k lt. each_small k (omega arith))
+
+  lanes_told : (whole : ℕ) (lanes : List ℕ) → 4 * whole ≤ length a → lanes ≡ lane_most a b whole 0 ∷ lane_most a b whole 1 ∷ lane_most a b whole 2 ∷ lane_most a b whole 3 ∷ []
+      → greatest (map (of_z w64) (map (to_z w64) lanes)) ≡ most_to a b (4 * whole)
+  lanes_told whole lanes within told =
+      let back = λ (k : ℕ) (lt : k < 4). of_z-to_z w64 (lane_most a b whole k) (let le = lane_small a b SPAN_MAX whole k (λ c less. each_small (4 * c + k) (omega arith)) in omega arith) in
+      ap (λ l. greatest (map (of_z w64) (map (to_z w64) l))) told
+      ∙ ap greatest (four_same (back 0 (omega arith)) (back 1 (omega arith)) (back 2 (omega arith)) (back 3 (omega arith)))
+      ∙ greatest_four (lane_most a b whole 0) (lane_most a b whole 1) (lane_most a b whole 2) (lane_most a b whole 3) ∙ lanes_most a b whole
+
+pub greatest_lane-most-requires-clause-in_limit : goal.greatest_lane-most-requires-clause-in_limit
+greatest_lane-most-requires-clause-in_limit c =
+    let a = c.args.a.now in
+    let b = c.args.b.now in
+    let whole = c.loop-chunk.chunk in
+    let end = c.loop-chunk.auto.chunk-end in
+    let told = lanes_told a b c.requires.equal c.requires.in_limit whole c.loop-chunk.lanes (omega arith) c.loop-chunk.invariant.lanes_are in
+    let small = first_small a b c.requires.equal c.requires.in_limit (4 * whole) (omega arith) in
+    omega arith
+
+pub loop-place-init : goal.loop-place-init
+loop-place-init c =
+    let a = c.args.a.now in
+    let b = c.args.b.now in
+    let whole = c.loop-chunk.chunk in
+    let end = c.loop-chunk.auto.chunk-end in
+    let done = c.loop-chunk-test.false in
+    let all : whole ≡ length a / 4 = omega arith in
+    record {
+      most_is = c.greatest_lane-most.ensures ∙ lanes_told a b c.requires.equal c.requires.in_limit whole c.loop-chunk.lanes (omega arith) c.loop-chunk.invariant.lanes_are ∙ ap (λ n. most_to a b (4 * n)) all;
+    }
+
+pub sum-requires : goal.sum-requires
+sum-requires c =
+    let inside = c.loop-place-test.true in
+    let small = each_small c.args.a.now c.args.b.now c.requires.equal c.requires.in_limit c.loop-place.place inside in
+    let read = sum_read c.args.a.now c.args.b.now c.loop-place.place c.index-a-place.result c.index-b-place.result c.requires.equal inside in
+    let one = c.index-a-place.is in
+    let two = c.index-b-place.is in
+    omega arith
+
+pub greater-most-requires-clause-a : goal.greater-most-requires-clause-a
+greater-most-requires-clause-a c =
+    let inside = c.loop-place-test.true in
+    let told = c.loop-place.invariant.most_is in
+    let small = first_small c.args.a.now c.args.b.now c.requires.equal c.requires.in_limit c.loop-place.place (omega arith) in
+    omega arith
+
+pub greater-most-requires-clause-b : goal.greater-most-requires-clause-b
+greater-most-requires-clause-b c =
+    let inside = c.loop-place-test.true in
+    let small = each_small c.args.a.now c.args.b.now c.requires.equal c.requires.in_limit c.loop-place.place inside in
+    let read = sum_read c.args.a.now c.args.b.now c.loop-place.place c.index-a-place.result c.index-b-place.result c.requires.equal inside in
+    let one = c.index-a-place.is in
+    let two = c.index-b-place.is in
+    let sum = c.sum.ensures in
+    omega arith
+
+pub loop-place-preserved : goal.loop-place-preserved
+loop-place-preserved c =
+    let a = c.args.a.now in
+    let b = c.args.b.now in
+    let inside = c.loop-place-test.true in
+    let read = sum_read a b c.loop-place.place c.index-a-place.result c.index-b-place.result c.requires.equal inside in
+    let one = c.index-a-place.is in
+    let two = c.index-b-place.is in
+    let sum : c.sum.result ≡ sum_at a b c.loop-place.place = omega (arith, c.sum.ensures) in
+    record { most_is = c.greater-most.ensures ∙ ap (λ m. max m c.sum.result) c.loop-place.invariant.most_is ∙ ap (max (most_to a b c.loop-place.place)) sum ∙ ap (most_to a b) (sym (add-one c.loop-place.place)) }
+
+pub returns : goal.returns
+returns c =
+    let done = c.loop-place-test.false in
+    let whole = c.loop-chunk.auto.chunk-end in
+    let all : c.loop-place.place ≡ length c.args.a.now = omega (arith, c.loop-place.auto.place-end) in
+    c.loop-place.invariant.most_is ∙ ap (most_to c.args.a.now c.args.b.now) all ∙ most_is c.args.a.now c.args.b.now c.requires.equal

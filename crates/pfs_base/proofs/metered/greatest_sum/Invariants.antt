@@ -1,0 +1,13 @@
+use Rattle.std.proofs.Common.{◌≡◌, [], ◌∷◌}
+use Rattle.pfs_base.proofs.Sums.{lane_most, most_to}
+use Rattle.pfs_base.proofs.metered.greatest_sum.Given as goal
+
+abbrev pub invariant-loop-chunk : goal.invariant-loop-chunk
+invariant-loop-chunk l = record {
+  lanes_are : l.lanes ≡ lane_most l.a l.b l.chunk 0 ∷ lane_most l.a l.b l.chunk 1 ∷ lane_most l.a l.b l.chunk 2 ∷ lane_most l.a l.b l.chunk 3 ∷ [];
+}
+
+abbrev pub invariant-loop-place : goal.invariant-loop-place
+invariant-loop-place l = record {
+  most_is : l.most ≡ most_to l.a l.b l.place;
+}

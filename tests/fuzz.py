@@ -1,0 +1,652 @@
+#!/usr/bin/env python3
+"""Runs the built program and the second program of tests/second_program.py on random files, command lines and
+cuttings, and compares standard output, standard error and exit status byte for byte. The files are instance files and
+order files as the layouts allow them, and such files with bytes changed; the program reads them whole, or through a
+pipe that gets its next piece once the last one has been read. Ends at the first case on which the two differ, which it
+makes small, keeps in a folder, and prints with the line that runs it again.
+
+usage: tests/fuzz.py [--seconds N] [--seed N] [--program PATH] [--case FILE]"""
+import argparse
+import collections
+import dataclasses
+import fcntl
+import json
+import os
+import pathlib
+import random
+import re
+import shlex
+import struct
+import subprocess
+import sys
+import tempfile
+import termios
+import time
+
+sys.dont_write_bytecode = True
+import second_program
+from second_program import MOST_BYTES, UNREADABLE, Stop
+
+TOP = pathlib.Path(__file__).resolve().parent.parent
+PROGRAM = TOP / "crates" / "pfs" / "out" / "pfs"
+# A search of more rounds is too long for the second program.
+MOST_ROUNDS = 40
+MIB = 1 << 20
+# A pipe holds more than a piece.
+LONGEST_PIECE = 16_384
+# A program that takes longer hangs.
+MOST_SECONDS = 60
+
+# Each kind of answer, numbers apart.
+KINDS = [
+    "makespan X", "order X", "valid", "wrong makespan", "wrong size", "table X X", "flow shop instance",
+    "number of jobs, number of machines, initial seed, upper bound and lower bound :",
+    "pfs: input too long", "pfs: mixed line at X", "pfs: time out of range at X", "pfs: wrong machine number at X",
+    "pfs: extra number at X", "pfs: size line X has a wrong count", "pfs: size line X is out of range",
+    "pfs: truncated after X times", "pfs: no block, found X", "pfs: seed out of range", "pfs: read failed",
+    "pfs: order file syntax at X", "pfs: order file job out of range at place X",
+    "pfs: order file job repeated at place X", "pfs: order file too long", "pfs: order file read failed",
+    "pfs: take X exceeds X jobs", "pfs: write failed after X bytes", "pfs: cannot open", "pfs: usage",
+]
+
+
+@dataclasses.dataclass
+class Case:
+    """Words, files by their names, and standard input. `pieces` has for a file (standard input is `-`) the lengths
+    of the pieces in which the program gets it through a pipe; the others lie there whole. `is_full`: standard output
+    takes no byte."""
+    words: list
+    files: dict
+    stdin: bytes = b""
+    pieces: dict = dataclasses.field(default_factory=dict)
+    is_full: bool = False
+
+    def changed(self, **changes):
+        return dataclasses.replace(self, **changes)
+
+    def wanted(self):
+        text, told, status = second_program.answer(self.words, self.stdin, self.files)
+        if self.is_full and text:
+            return b"", b"pfs: write failed after 0 bytes\n", 4
+        return text, told, status
+
+    def is_quick(self):
+        """Whether the second program answers soon."""
+        try:
+            command, options, others = second_program.asked_for(self.words) if self.words else (b"value", {}, [])
+        except Stop:
+            return True
+        if command == b"generate":
+            return others[0] * others[1] <= 4_000
+        return options.get(b"--rounds", 0) <= MOST_ROUNDS
+
+    def has_great_files(self):
+        return any(text is not UNREADABLE and len(text) > MIB for text in self.files.values())
+
+
+# Running a case
+
+class Feeder:
+    """Writes pieces into a pipe, the next once the last has been read, and then closes it."""
+
+    def __init__(self, descriptor, text, lengths):
+        self.descriptor = descriptor
+        self.pieces = cut(text, lengths)
+
+    def step(self):
+        """Does what can be done now, and tells whether that was something."""
+        if self.descriptor is None or unread(self.descriptor):
+            return False
+        if self.pieces:
+            os.write(self.descriptor, self.pieces.pop(0))
+        else:
+            self.close()
+        return True
+
+    def close(self):
+        if self.descriptor is not None:
+            os.close(self.descriptor)
+            self.descriptor = None
+
+
+def unread(descriptor):
+    """How many bytes of a pipe haven't been read."""
+    return struct.unpack("i", fcntl.ioctl(descriptor, termios.FIONREAD, b"\0" * 4))[0]
+
+
+def cut(text, lengths):
+    """Pieces of these lengths, and the rest in pieces that any pipe holds, so that no write waits."""
+    pieces, start = [], 0
+    for length in lengths:
+        pieces.append(text[start:start + length])
+        start += length
+    pieces += [text[at:at + LONGEST_PIECE] for at in range(start, len(text), LONGEST_PIECE)]
+    return [piece for piece in pieces if piece]
+
+
+def lay_files(case, folder):
+    """Makes the files of a case, and feeders for those that are pipes."""
+    feeders = []
+    for name, text in case.files.items():
+        if name.startswith(b"/"):
+            continue
+        path = os.path.join(os.fsencode(folder), name)
+        if text is UNREADABLE:
+            os.mkdir(path)
+        elif name in case.pieces:
+            os.mkfifo(path)
+            # Open for reading too, so that neither this nor the program's opening waits.
+            feeders.append(Feeder(os.open(path, os.O_RDWR), text, case.pieces[name]))
+        else:
+            pathlib.Path(os.fsdecode(path)).write_bytes(text)
+    return feeders
+
+
+def given_input(case, feeders):
+    """The descriptor of standard input."""
+    read_end, write_end = os.pipe()
+    if b"-" in case.pieces:
+        feeders.append(Feeder(write_end, case.stdin, case.pieces[b"-"]))
+        return read_end
+    os.close(write_end)
+    os.close(read_end)
+    file = os.memfd_create("input")
+    os.write(file, case.stdin)
+    os.lseek(file, 0, os.SEEK_SET)
+    return file
+
+
+def run(program, case):
+    """What the program writes to standard output and to standard error, and its status."""
+    with tempfile.TemporaryDirectory(prefix="fuzz-") as folder:
+        feeders = lay_files(case, folder)
+        stdin = given_input(case, feeders)
+        stdout = os.open("/dev/full", os.O_WRONLY) if case.is_full else os.memfd_create("output")
+        stderr = os.memfd_create("errors")
+        try:
+            status = run_fed([program] + case.words, folder, stdin, stdout, stderr, feeders)
+            return b"" if case.is_full else contents(stdout), contents(stderr), status
+        finally:
+            for feeder in feeders:
+                feeder.close()
+            for descriptor in (stdin, stdout, stderr):
+                os.close(descriptor)
+
+
+def run_fed(words, folder, stdin, stdout, stderr, feeders):
+    end = time.monotonic() + MOST_SECONDS
+    child = subprocess.Popen(words, cwd=folder, stdin=stdin, stdout=stdout, stderr=stderr)
+    while feeders and child.poll() is None and time.monotonic() < end:
+        if not any([feeder.step() for feeder in feeders]):
+            time.sleep(0.00005)
+        if all(feeder.descriptor is None for feeder in feeders):
+            break
+    try:
+        return child.wait(max(0, end - time.monotonic()))
+    except subprocess.TimeoutExpired:
+        child.kill()
+        child.wait()
+        return "no answer"
+
+
+def contents(descriptor):
+    os.lseek(descriptor, 0, os.SEEK_SET)
+    text = b""
+    while piece := os.read(descriptor, 1 << 20):
+        text += piece
+    return text
+
+
+# Random instance files
+
+TITLES = [b"", b" ", b"\t", b"\r", b"+++++", b"processing times :", b"instance", b"shop", b"\xff\0", b"-", b".",
+          b"x" * 80]
+MIXED_TITLES = [b"instance car1", b"Carlier 11x5", b"-5", b"1.5", b"3 2 0 0 0 x", b"x 3 2", b"0\0", b"7\xe9"]
+BLANKS = [b" ", b" ", b" ", b" ", b"  ", b"\t", b"\r", b" \t "]
+TIMES = [0, 1, 2, 3, 5, 8, 99, 999_999, 1_000_000]
+NOTES = [0, 1, 7, 4_294_967_295]
+
+
+class Writer:
+    """Makes random files of a random shop."""
+
+    def __init__(self, random):
+        self.random = random
+        self.is_great = self.chance(0.03)
+        self.layout = random.choice([b"taillard", b"orlib"])
+
+    def chance(self, part):
+        return self.random.random() < part
+
+    def number(self, value):
+        return b"0" * self.random.choice([0] * 12 + [1, 2, 30]) + b"%d" % value
+
+    def spaced(self, numbers):
+        """The numbers as a line, with blanks between, and perhaps before and behind."""
+        blank = lambda: self.random.choice(BLANKS) if self.chance(0.2) else b" "
+        text = b"".join(blank() + number for number in numbers)
+        text = text if self.chance(0.1) else text[1:] if text[:1] == b" " else text
+        return text + (blank() if self.chance(0.1) else b"")
+
+    def skipped(self, titles):
+        return [self.random.choice(titles) for _ in range(self.random.choice([0, 0, 1, 1, 2, 3]))]
+
+    def shop(self):
+        most_jobs, most_machines = self.random.choice([(300, 20), (2_000, 2), (4, 200)]) if self.is_great else (9, 5)
+        jobs, machines = self.random.randint(1, most_jobs), self.random.randint(1, most_machines)
+        shop = second_program.Instance(jobs, machines, [self.random.choice(NOTES) for _ in range(3)])
+        most = self.random.choice([1, 9, 99, 1_000_000])
+        for row in shop.times:
+            for job in range(jobs):
+                row[job] = self.random.choice(TIMES) if self.chance(0.05) else self.random.randint(0, most)
+        return shop
+
+    def block(self, shop):
+        """The lines of a block."""
+        taillard = self.layout == b"taillard"
+        sizes = [shop.jobs, shop.machines] + (shop.notes if taillard else [])
+        lines = self.skipped(TITLES + MIXED_TITLES) + [self.spaced(map(self.number, sizes))]
+        if taillard:
+            due = [time for row in shop.times for time in row]
+            usual = shop.jobs
+        else:
+            due = [it for job in range(shop.jobs) for row, times in enumerate(shop.times) for it in (row, times[job])]
+            usual = 2 * shop.machines
+        is_usual = self.chance(0.5)
+        while due:
+            length = usual if is_usual else self.random.randint(1, max(2, 2 * usual))
+            lines.append(self.spaced(map(self.number, due[:length])))
+            due = due[length:]
+            if due and self.chance(0.1):
+                lines += self.skipped(TITLES)
+        return lines
+
+    def file(self, shops):
+        """A file of blocks of these shops, and perhaps something behind."""
+        end = self.random.choice([b"\n", b"\n", b"\n", b"\r\n"])
+        lines = [line for shop in shops for line in self.block(shop)]
+        text = end.join(lines) + (end if self.chance(0.9) else b"")
+        if self.chance(0.1):
+            text += self.random.choice([b"7\n", b"x 1", b"+++\n", b"3 2\n", b"\xff" * 5_000])
+        return text
+
+    def order(self, shop):
+        """An order file that may fit the shop."""
+        jobs = list(range(1, shop.jobs + 1))
+        self.random.shuffle(jobs)
+        length = second_program.makespan(shop, [job - 1 for job in jobs])
+        kind = self.random.random()
+        if kind < 0.1:
+            length = self.random.choice([0, length + 1, max(0, length - 1), 10**18 - 1, 10**18])
+        elif kind < 0.2:
+            jobs = list(range(1, self.random.choice([1, 2, shop.jobs + 1, 2_000]) + 1))
+        elif kind < 0.35:
+            jobs[self.random.randrange(len(jobs))] = self.random.choice([0, 1, shop.jobs, shop.jobs + 1, 999_999_999])
+        return second_program.order_text([job - 1 for job in jobs], length)
+
+
+BYTES = [b"0", b"1", b"9", b" ", b"\t", b"\r", b"\n", b"\n", b"x", b"-", b".", b"+", b"\0", b"\xff"]
+INSERTED = BYTES + [b"9" * 40, b"0" * 60, b" " * 5_000, b"x" * 4_096, b"0" * 9_000, b"1000001", b"4294967296",
+                    b" 7", b"\n\n", b"order ", b"makespan 0\n"]
+
+
+def mutated(random, text):
+    """The text with some bytes changed."""
+    for _ in range(random.choice([1, 1, 1, 2, 3, 8])):
+        start = random.randint(0, len(text))
+        end = min(len(text), start + random.choice([0, 1, 1, 2, 5, 40]))
+        kind = random.randrange(7)
+        if kind == 0:
+            text = text[:start]
+        elif kind == 1:
+            text = text[:start] + text[end:]
+        elif kind == 2:
+            text = text[:start] + random.choice(BYTES) + text[start + 1:]
+        elif kind == 3:
+            text = text[:end] + text[start:]
+        elif kind == 4:
+            text = text[:start] + random.choice(INSERTED) + text[start:]
+        else:
+            text = with_number_changed(random, text, start)
+    return text
+
+
+def with_number_changed(random, text, start):
+    match = re.compile(rb"[0-9]+").search(text, start)
+    if match is None:
+        return text
+    value = second_program.value_of(match.group())
+    value = max(0, random.choice([value - 1, value + 1, value * 10, 0, 2_000, 2_001, 200, 201, 1_000_001, 2**32]))
+    return text[:match.start()] + b"%d" % value + text[match.end():]
+
+
+def near_the_limit(random, text):
+    """The text with plain bytes or zeros put in, so that it ends near the greatest number of bytes."""
+    missing = MOST_BYTES - len(text) + random.choice([-1, 0, 1, 1, 2])
+    place = random.choice([0] + [match.end() for match in re.finditer(rb"\n", text)])
+    filler = random.choice([b" ", b"x", b"0", b"x" * 99_999 + b"\n"])
+    filler = (filler * (missing // len(filler) + 1))[:missing]
+    return text[:place] + (filler if filler[:1] == b"0" else filler[:-1] + b"\n") + text[place:]
+
+
+# Random command lines
+
+ODD_WORDS = [
+    b"", b"-", b"--", b"-h", b"--help", b"--version", b"-V", b"help", b"--cells", b"--cells=1", b"--block", b"--block=",
+    b"--block=2", b"--layout", b"--layout=orlib", b"--layout=Orlib", b"--lay=orlib", b"-5", b"--5", b"---", b"--=",
+    b"--seed=-1", b"--take=0", b"\xff", b"\xc3\xa9", b"shop", b"order", b"missing", b"/dev/null", b"value",
+    b"x" * 5_000,
+]
+NO_NUMBERS = [b"", b"-1", b"x", b" 1", b"1 ", b"1.0", b"0x1", b"+", b"++1", b"1_0", b"\xd9\xa3", b"9" * 30]
+SEEDS = [0, 1, 7, 2**32, 2**63, 2**64 - 1, 2**64]
+DRAWN_SEEDS = [0, 1, 873_654_221, 2_147_483_646, 2_147_483_647, 2**64 - 1]
+
+
+class Line:
+    """Makes random command lines over an instance file and an order file of these names."""
+
+    def __init__(self, random, names):
+        self.random = random
+        self.names = names
+
+    def number(self, value):
+        """A number as a command line may write it, rarely a word that is none."""
+        if self.random.random() < 0.03:
+            return self.random.choice(NO_NUMBERS)
+        return self.random.choice([b""] * 9 + [b"+", b"0", b"+00", b"0" * 40]) + b"%d" % value
+
+    def option(self, name, value):
+        return [name + b"=" + value] if self.random.random() < 0.4 else [name, value]
+
+    def block(self):
+        if self.random.random() < 0.5:
+            return []
+        block = self.random.choice([1, 1, 1, 2, 2, 3, 4, 1_000, 1_001, 0])
+        return [self.option(b"--block", self.number(block))]
+
+    def layout(self, layout):
+        chance = self.random.random()
+        return layout if chance < 0.93 else b"x" if chance < 0.94 else self.random.choice([b"taillard", b"orlib"])
+
+    def search(self, jobs):
+        """Options of a search of this many jobs."""
+        options = []
+        if self.random.random() < 0.6:
+            rounds = self.random.choice([0, 1, 2, 3, 10, MOST_ROUNDS, 1_000_001])
+            options.append(self.option(b"--rounds", self.number(rounds)))
+        if self.random.random() < 0.5:
+            take = self.random.choice([1, 2, 3, 4, jobs, jobs + 1, self.random.randint(1, jobs), 2_000, 2_001, 0])
+            options.append(self.option(b"--take", self.number(take)))
+        if self.random.random() < 0.6:
+            seed = self.random.choice(SEEDS + [self.random.randrange(2**64)] * 4)
+            options.append(self.option(b"--seed", self.number(seed)))
+        return options + ([[b"--cells"]] if self.random.random() < 0.6 else [])
+
+    def mixed(self, command, options, paths):
+        """The options in any order before, between and behind the paths, which may be behind `--`, and are if they
+        look like options."""
+        random = self.random
+        random.shuffle(options)
+        if random.random() < 0.1 or any(path.startswith(b"--") for path in paths):
+            return [command] + sum(options, []) + [b"--"] + paths
+        parts = options + [[path] for path in paths]
+        places = sorted(random.sample(range(len(parts)), len(paths)))
+        rest = iter(options)
+        parts = [[paths[places.index(at)]] if at in places else next(rest) for at in range(len(parts))]
+        return [command] + sum(parts, [])
+
+    def generate(self):
+        sizes = [self.random.randint(1, 60), self.random.randint(1, 20)]
+        if self.random.random() < 0.1:
+            sizes[self.random.randrange(2)] = self.random.choice([0, 200, 201, 2_000, 2_001])
+        seed = self.random.choice(DRAWN_SEEDS + [self.random.randint(1, 2_147_483_646)] * 4)
+        words = [self.number(value) for value in sizes + [seed]]
+        return [b"generate"] + ([b"--"] if self.random.random() < 0.05 else []) + words
+
+    def words(self, layout, jobs, is_great):
+        commands = [b"value", b"check", b"check", b"table", b"convert"]
+        command = self.random.choice(commands + [b"generate", b"solve", b"solve"] * (not is_great))
+        if command == b"generate":
+            return self.generate()
+        if command == b"convert":
+            target = self.random.choice([b"taillard", b"orlib"])
+            options = [self.option(b"--from", self.layout(layout)), self.option(b"--to", self.layout(target))]
+        else:
+            options = [self.option(b"--layout", self.layout(layout))]
+        options += self.block() + (self.search(jobs) if command == b"solve" else [])
+        return self.mixed(command, options, self.names[:2 if command in (b"check", b"table") else 1])
+
+    def mutated(self, words):
+        words = list(words)
+        for _ in range(self.random.choice([1, 1, 2])):
+            place = self.random.randint(0, len(words))
+            kind = self.random.randrange(4)
+            if kind == 0:
+                words[place:place] = [self.random.choice(ODD_WORDS)]
+            elif kind == 1:
+                del words[place:place + 1]
+            elif kind == 2:
+                words[place:place + 1] = [self.random.choice(ODD_WORDS)]
+            else:
+                words[place:place] = words[max(0, place - 1):place]
+        return words
+
+
+# Random cases
+
+def lengths_of_pieces(random, text):
+    """Lengths of at most some sixty pieces."""
+    most = random.choice([1, 2, 3, 10, 100, 5_000])
+    lengths = []
+    left = len(text)
+    while left > 0 and len(lengths) < 60:
+        lengths.append(random.randint(1, most))
+        left -= lengths[-1]
+    return lengths
+
+
+def instance_text(random, text):
+    """The text of an instance file, or what may become of it."""
+    kind = random.random()
+    if kind < 0.4:
+        return mutated(random, text)
+    if kind < 0.43:
+        return b"".join(random.choice(BYTES) for _ in range(random.randint(0, 60)))
+    return near_the_limit(random, text) if kind < 0.435 else text
+
+
+def order_text(random, text):
+    """The text of an order file, or what may become of it."""
+    kind = random.random()
+    if kind < 0.3:
+        return mutated(random, text)
+    return (text + b"0" * 70_000)[:random.choice([65_536, 65_537, 70_000])] if kind < 0.31 else text
+
+
+def random_case(random):
+    writer = Writer(random)
+    shops = [writer.shop() for _ in range(random.choice([1, 1, 1, 2, 3]))]
+    text = instance_text(random, writer.file(shops))
+    order = order_text(random, writer.order(random.choice(shops)))
+    names = [random.choice([b"shop"] * 9 + [b"-", b"a shop", b"--shop"]), b"order"]
+    line = Line(random, names)
+    words = [] if random.random() < 0.08 else line.words(writer.layout, shops[0].jobs, writer.is_great)
+    if words and random.random() < 0.08:
+        words = line.mutated(words)
+    files = dict(zip(names, [text, order]))
+    for name in names:
+        if random.random() < 0.02:
+            files[name] = UNREADABLE
+    if random.random() < 0.01:
+        del files[random.choice(names)]
+    files.setdefault(b"/dev/null", b"")
+    case = Case(words, files, b"" if words else text, is_full=random.random() < 0.02)
+    return case if case.has_great_files() else in_pieces(random, case)
+
+
+def in_pieces(random, case):
+    """The case with some of its files in pieces. A file that is named twice, and an empty one, lies there whole."""
+    texts = {b"-": case.stdin} | case.files
+    pieces = {}
+    for name, text in texts.items():
+        is_read = case.words.count(name) == 1 if name != b"-" else not case.words
+        if is_read and text is not UNREADABLE and text and random.random() < 0.5:
+            pieces[name] = lengths_of_pieces(random, text)
+    return case.changed(pieces=pieces)
+
+
+# Making a failing case small
+
+def differs(program, case):
+    return case.is_quick() and run(program, case) != case.wanted()
+
+
+def smaller(program, case, end):
+    """A case that is no greater, and on which the two programs still differ."""
+    has_changed = True
+    while has_changed and time.monotonic() < end:
+        has_changed = False
+        for simpler in simpler_cases(case):
+            if time.monotonic() >= end:
+                break
+            if differs(program, simpler):
+                case, has_changed = simpler, True
+                break
+    return case
+
+
+def simpler_cases(case):
+    """Cases that are a little simpler, the simplest first."""
+    if case.pieces:
+        yield case.changed(pieces={})
+        for name in case.pieces:
+            yield case.changed(pieces={other: lengths for other, lengths in case.pieces.items() if other != name})
+    if case.is_full:
+        yield case.changed(is_full=False)
+    for place in range(1, len(case.words)):
+        for count in (2, 1):
+            yield case.changed(words=case.words[:place] + case.words[place + count:])
+    for name in list(case.files):
+        yield case.changed(files={other: text for other, text in case.files.items() if other != name})
+    for name, text in case.files.items():
+        for shorter in () if text is UNREADABLE else shorter_texts(text):
+            yield case.changed(files=case.files | {name: shorter})
+    for shorter in shorter_texts(case.stdin):
+        yield case.changed(stdin=shorter)
+    for name, lengths in case.pieces.items():
+        for place in range(len(lengths) - 1):
+            joined = lengths[:place] + [lengths[place] + lengths[place + 1]] + lengths[place + 2:]
+            yield case.changed(pieces=case.pieces | {name: joined})
+
+
+def shorter_texts(text):
+    length = len(text)
+    while length > 1:
+        length = (length + 1) // 2
+        for start in range(0, len(text), length):
+            yield text[:start] + text[start + length:]
+        if length == 1:
+            return
+    if text:
+        yield text[1:]
+
+
+# Telling of a failing case
+
+def as_json(case):
+    """The case with its bytes as characters below 256, and None for what can't be read."""
+    known = lambda text: None if text is UNREADABLE else text.decode("latin-1")
+    return json.dumps({
+        "words": [known(word) for word in case.words],
+        "files": {known(name): known(text) for name, text in case.files.items()},
+        "stdin": known(case.stdin),
+        "pieces": {known(name): lengths for name, lengths in case.pieces.items()},
+        "is_full": case.is_full,
+    })
+
+
+def from_json(text):
+    values = json.loads(text)
+    known = lambda text: UNREADABLE if text is None else text.encode("latin-1")
+    return Case(
+        [known(word) for word in values["words"]],
+        {known(name): known(text) for name, text in values["files"].items()},
+        known(values["stdin"]),
+        {known(name): lengths for name, lengths in values["pieces"].items()},
+        values["is_full"],
+    )
+
+
+def tell(program, case):
+    """Keeps the case in a folder and prints how to run it."""
+    folder = pathlib.Path(tempfile.mkdtemp(prefix="pfs-differs-"))
+    (folder / "case.json").write_text(as_json(case))
+    lay_files(case.changed(pieces={}), folder)
+    (folder / "stdin").write_bytes(case.stdin)
+    words = " ".join(shlex.quote(os.fsdecode(word)) for word in case.words)
+    output = " > /dev/full" if case.is_full else ""
+    print(f"to run it: cd {folder} && {program} {words} < stdin{output}".encode(errors="replace").decode())
+    print(f"in its pieces: {TOP}/tests/fuzz.py --program {program} --case {folder}/case.json")
+    for name, text in ({b"stdin": case.stdin} | case.files).items():
+        if name in case.words or (name == b"stdin" and not case.words):
+            pieces = case.pieces.get(b"-" if name == b"stdin" else name, "whole")
+            print(f"{name.decode()}: {'a folder' if text is UNREADABLE else repr(text[:600])}, {pieces}")
+    print(f"wanted {shown(case.wanted())}\ngot    {shown(run(program, case))}", flush=True)
+
+
+def shown(answer):
+    text, told, status = answer
+    return f"{text[:600]!r}, {told[:600]!r}, {status}"
+
+
+def kind_of(answer):
+    text, told, _ = answer
+    first = (told or text).split(b"\n")[0].decode("latin-1")
+    return re.sub("[0-9]+", "X", first)
+
+
+def search(program, seed, seconds, has_great_files=True):
+    """Runs random cases for so long, or until the two programs differ. A case is made from the seed and its number,
+    so a machine's speed changes how many there are, and no case."""
+    start = time.monotonic()
+    kinds = collections.Counter()
+    number = 0
+    while time.monotonic() < start + seconds:
+        number += 1
+        case = random_case(random.Random(f"{seed} {number}"))
+        if not case.is_quick() or (case.has_great_files() and not has_great_files):
+            continue
+        wanted = case.wanted()
+        kinds[kind_of(wanted)] += 1
+        if run(program, case) != wanted:
+            spent = time.monotonic() - start
+            print(f"seed {seed}, case {number}, after {spent:.1f} s: the programs differ", flush=True)
+            tell(program, smaller(program, case, time.monotonic() + 60))
+            return False
+    print(f"seed {seed}: {number} cases in {seconds:g} s, on which both programs agree")
+    missing = [kind for kind in KINDS if not kinds[kind]]
+    if missing:
+        print(f"kinds of answers that were not met: {missing}")
+    unknown = [kind for kind in kinds if kind not in KINDS]
+    if unknown:
+        print(f"kinds of answers that are not known: {unknown}")
+    return not unknown
+
+
+def main():
+    parser = argparse.ArgumentParser()
+    parser.add_argument("--seconds", type=float, default=30)
+    parser.add_argument("--seed", type=int, default=time.time_ns() % 10**9)
+    parser.add_argument("--program", type=os.path.abspath, default=str(PROGRAM))
+    parser.add_argument("--case", type=pathlib.Path)
+    given = parser.parse_args()
+    if given.case is not None:
+        case = from_json(given.case.read_text())
+        wanted, got = case.wanted(), run(given.program, case)
+        print(f"wanted {shown(wanted)}\ngot    {shown(got)}")
+        return 0 if wanted == got else 1
+    return 0 if search(given.program, given.seed, given.seconds) else 1
+
+
+if __name__ == "__main__":
+    sys.exit(main())

@@ -1,0 +1,50 @@
+#!/usr/bin/env python3
+"""How soon tests/fuzz.py finds bugs: plants each of these in a copy of the sources, builds it without proofs, and
+tells after how many seconds the two programs differed. The copies are slow, so no file is great. No part of
+`make test`.
+
+usage: tests/planted.py [--seconds N] [--seed N]"""
+import argparse
+import pathlib
+import sys
+import tempfile
+
+sys.dont_write_bytecode = True
+import fuzz
+from unproved import build
+
+BUGS = [
+    ("a number that two pieces share loses the digits of the first",
+     ("pfs_layout/src/fields.rt", "        let mut digits = self.digits;",
+      "        let mut digits = Digits { offset: start, first: start, value: 0 };")),
+    ("of equal places the last is taken",
+     ("pfs_insert/src/inserter.rt", "    if place == 0 || span < best.span {",
+      "    if place == 0 || span <= best.span {")),
+    ("a round keeps only shorter orders",
+     ("pfs_search/src/greedy.rt", "    if span <= kept.span {", "    if span < kept.span {")),
+    ("the bound leaves out the times behind a machine",
+     ("pfs_audit/src/bounds.rt", "        sums.after[machine] = sums.after[machine].min(total - through);",
+      "        sums.after[machine] = sums.after[machine].min(0);")),
+    ("an order file may state a makespan of nineteen digits",
+     ("pfs_order/src/reading.rt", "const GREATEST_MAKESPAN: u64 = 999_999_999_999_999_999;",
+      "const GREATEST_MAKESPAN: u64 = 9_999_999_999_999_999_999;")),
+]
+
+
+def main():
+    parser = argparse.ArgumentParser()
+    parser.add_argument("--seconds", type=float, default=300)
+    parser.add_argument("--seed", type=int, default=1)
+    given = parser.parse_args()
+    unseen = 0
+    for bug, edit in BUGS:
+        with tempfile.TemporaryDirectory(prefix="pfs-planted-") as folder:
+            program = build(pathlib.Path(folder), edit)
+            print(f"planted: {bug}", flush=True)
+            unseen += fuzz.search(str(program), given.seed, given.seconds, False)
+    print(f"{len(BUGS)} bugs planted, {unseen} not found")
+    return 1 if unseen else 0
+
+
+if __name__ == "__main__":
+    sys.exit(main())

@@ -1,0 +1,536 @@
+#!/usr/bin/env python3
+"""A second program that does what `pfs` does: for the same words, files and standard input the same output, errors
+and exit status. It is written from README.md and docs/FORMATS.md and shares no method with the first: it judges whole
+lines of whole texts, asks of each front of an order file whether a text of the grammar begins with it, and evaluates
+whole orders, job by job, at every place of an insertion. So it serves for small shops only. `answer` is for tests;
+as a program it takes the words of `pfs`."""
+import os
+import re
+import sys
+
+MOST_BYTES = 67_108_864
+MOST_ORDER_BYTES = 65_536
+MOST_JOBS = 2_000
+MOST_MACHINES = 200
+MOST_TIME = 1_000_000
+MOST_NOTE = 4_294_967_295
+
+USAGE = b"""pfs: usage
+pfs value --layout L [--block K] FILE
+pfs solve --layout L [--block K] [--rounds R] [--take D] [--seed S] [--cells] FILE
+pfs check --layout L [--block K] FILE ORDER
+pfs table --layout L [--block K] FILE ORDER
+pfs convert --from L --to L [--block K] FILE
+pfs generate N M SEED
+"""
+
+# What stands for the bytes of a file that can be opened, but not be read.
+UNREADABLE = object()
+
+DIGITS = re.compile(rb"[0-9]+")
+DIGIT = re.compile(rb"[0-9]")
+WORD_BYTE = re.compile(rb"[^0-9 \t\r]")
+JOB = re.compile(rb"0|[1-9][0-9]{0,8}")
+MAKESPAN = re.compile(rb"0|[1-9][0-9]{0,17}")
+
+
+class Stop(Exception):
+    """Nothing more is done: what is told on standard error, and the exit status."""
+
+    def __init__(self, told, status):
+        super().__init__(told)
+        self.told = told
+        self.status = status
+
+
+def refused(line, *numbers):
+    return Stop(b"pfs: " + line % numbers + b"\n", 2)
+
+
+# Command lines
+
+LAYOUT = {b"taillard": b"taillard", b"orlib": b"orlib"}.get
+
+
+def number_between(least, most):
+    """Reads a number of these: digits, perhaps with leading zeros, or a plus in front."""
+
+    def read(word):
+        if not re.fullmatch(rb"\+?[0-9]+", word):
+            return None
+        value = value_of(word.lstrip(b"+"))
+        return value if least <= value <= most else None
+
+    return read
+
+
+BLOCK = (number_between(1, 1_000), 1)
+NEEDED = object()
+ON_ONE = {b"--layout": (LAYOUT, NEEDED), b"--block": BLOCK}
+
+# For each command its options, each with how its value is read and what stands for it where it is left out, and how
+# its other words are read. A flag has no value.
+COMMANDS = {
+    b"value": (ON_ONE, [bytes]),
+    b"solve": (dict(ON_ONE) | {
+        b"--rounds": (number_between(0, 1_000_000), 0),
+        b"--take": (number_between(1, MOST_JOBS), None),
+        b"--seed": (number_between(0, 2**64 - 1), 0),
+        b"--cells": (None, False),
+    }, [bytes]),
+    b"check": (ON_ONE, [bytes, bytes]),
+    b"table": (ON_ONE, [bytes, bytes]),
+    b"convert": ({b"--from": (LAYOUT, NEEDED), b"--to": (LAYOUT, NEEDED), b"--block": BLOCK}, [bytes]),
+    b"generate": ({}, [number_between(1, MOST_JOBS), number_between(1, MOST_MACHINES), number_between(0, 2**64 - 1)]),
+}
+
+
+def asked_for(words):
+    """The command that takes these words, its options by name, and its other words."""
+    usage = Stop(USAGE, 3)
+    if words[0] not in COMMANDS or not all(is_text(word) for word in words):
+        raise usage
+    options, others = COMMANDS[words[0]]
+    given, rest = sorted_out(options, words[1:], usage)
+    if len(rest) != len(others):
+        raise usage
+    values = [read(word) for read, word in zip(others, rest)]
+    for name, (read, default) in options.items():
+        given.setdefault(name, default)
+    if None in values or NEEDED in given.values():
+        raise usage
+    return words[0], given, values
+
+
+def sorted_out(options, words, usage):
+    """The values of the options that are given, and the other words."""
+    given, rest = {}, []
+    words = list(words)
+    while words:
+        word = words.pop(0)
+        if word == b"--":
+            return given, rest + words
+        if word == b"-" or not word.startswith(b"-"):
+            rest.append(word)
+            continue
+        name, equals, value = word.partition(b"=")
+        if name not in options or name in given:
+            raise usage
+        read = options[name][0]
+        if read is not None and not equals:
+            value = words.pop(0) if words else b""
+        given[name] = not equals if read is None else read(value)
+        if given[name] is None or given[name] is False:
+            raise usage
+    return given, rest
+
+
+def is_text(word):
+    try:
+        word.decode("utf-8")
+    except UnicodeDecodeError:
+        return False
+    return True
+
+
+# Instance files
+
+class Instance:
+    """A shop: `times[machine][job]`, both counted from 0, and the notes of its size line."""
+
+    def __init__(self, jobs, machines, notes):
+        self.jobs = jobs
+        self.machines = machines
+        self.notes = notes
+        self.times = [[0] * jobs for _ in range(machines)]
+
+    def total(self, job):
+        return sum(row[job] for row in self.times)
+
+
+class Body:
+    """The numbers of a block that have been read, of those that are due."""
+
+    def __init__(self, layout, shop):
+        self.layout = layout
+        self.shop = shop
+        self.size = shop.jobs * shop.machines
+        self.count = 0
+
+    def due(self):
+        return self.size * (2 if self.layout == b"orlib" else 1)
+
+    def times(self):
+        """How many of the numbers that have been read are times."""
+        return self.count // 2 if self.layout == b"orlib" else self.count
+
+    def take(self, value, offset):
+        """Judges the next number, whose first digit is at this offset."""
+        if self.count == self.due():
+            raise refused(b"extra number at %d", offset)
+        if self.layout == b"orlib":
+            job, machine = divmod(self.count // 2, self.shop.machines)
+        else:
+            machine, job = divmod(self.count, self.shop.jobs)
+        if self.layout == b"orlib" and self.count % 2 == 0:
+            if value != machine:
+                raise refused(b"wrong machine number at %d", offset)
+        elif value > MOST_TIME:
+            raise refused(b"time out of range at %d", offset)
+        else:
+            self.shop.times[machine][job] = value
+        self.count += 1
+
+
+def value_of(digits):
+    """The number that digits write; one of more than twenty digits is any that is above all limits."""
+    digits = digits.lstrip(b"0") or b"0"
+    return int(digits) if len(digits) <= 20 else 10**20
+
+
+def lines_of(text):
+    """Each line with its offset. A text that ends with byte 10 has no further line."""
+    start = 0
+    while start < len(text):
+        end = text.find(b"\n", start)
+        end = len(text) if end < 0 else end
+        yield start, text[start:end]
+        start = end + 1
+
+
+def read_instance(text, layout, wanted):
+    """The instance of the wanted block, whose bytes end within the limit."""
+    if text is UNREADABLE:
+        raise Stop(b"pfs: read failed\n", 4)
+    head = text[:MOST_BYTES]
+    cut = len(text) > MOST_BYTES
+    body, found = None, 0
+    for number, (offset, line) in enumerate(lines_of(head), 1):
+        # Where the limit stands inside a line, nothing ends there.
+        ends = not (cut and offset + len(line) == len(head))
+        if body is not None:
+            if read_line(body, line, offset, ends):
+                found, done, body = found + 1, body.shop, None
+                if found == wanted:
+                    return done
+        elif ends and DIGIT.search(line) and not WORD_BYTE.search(line):
+            body = Body(layout, sizes(line, number, layout))
+    if cut:
+        raise refused(b"input too long")
+    if body is not None:
+        raise refused(b"truncated after %d times", body.times())
+    raise refused(b"no block, found %d", found)
+
+
+def sizes(line, number, layout):
+    """The instance of a size line, with all times 0."""
+    values = [value_of(match.group()) for match in DIGITS.finditer(line)]
+    if len(values) != (2 if layout == b"orlib" else 5):
+        raise refused(b"size line %d has a wrong count", number)
+    jobs, machines, *notes = values
+    fits = 1 <= jobs <= MOST_JOBS and 1 <= machines <= MOST_MACHINES and all(note <= MOST_NOTE for note in notes)
+    if not fits:
+        raise refused(b"size line %d is out of range", number)
+    return Instance(jobs, machines, notes or [0, 0, 0])
+
+
+def read_line(body, line, offset, ends):
+    """Takes the numbers of a line inside a block, and tells whether the block ends with it."""
+    digit, word_byte = DIGIT.search(line), WORD_BYTE.search(line)
+    mixed = max(digit.start(), word_byte.start()) if digit and word_byte else None
+    for match in DIGITS.finditer(line):
+        if mixed is not None and match.end() >= mixed:
+            break
+        if match.end() < len(line) or ends:
+            body.take(value_of(match.group()), offset + match.start())
+    if mixed is not None:
+        raise refused(b"mixed line at %d", offset + mixed)
+    return ends and digit is not None and body.count == body.due()
+
+
+# Order files
+
+def read_order(text):
+    """The jobs of an order file, counted from 1, and the makespan that it states."""
+    if text is UNREADABLE:
+        raise Stop(b"pfs: order file read failed\n", 4)
+    if len(text) > MOST_ORDER_BYTES:
+        raise refused(b"order file too long")
+    parts = text.split(b"\n")
+    if len(parts) != 4 or not can_be_completed(text):
+        raise refused(b"order file syntax at %d", longest_front(text))
+    jobs = [int(job) for job in parts[1].split(b" ")]
+    for place, job in enumerate(jobs):
+        if not 1 <= job <= len(jobs):
+            raise refused(b"order file job out of range at place %d", place + 1)
+        if job in jobs[:place]:
+            raise refused(b"order file job repeated at place %d", place + 1)
+    return jobs, int(parts[2].removeprefix(b"makespan "))
+
+
+def longest_front(text):
+    """The length of the longest front with which a text of the grammar begins. Each shorter front is one too."""
+    least, most = 0, len(text)
+    while least < most:
+        middle = (least + most + 1) // 2
+        if can_be_completed(text[:middle]):
+            least = middle
+        else:
+            most = middle - 1
+    return least
+
+
+def can_be_completed(front):
+    """Whether a text of the grammar begins with these bytes."""
+    *ended, last = front.split(b"\n")
+    if len(ended) > 3 or (len(ended) == 3 and last != b""):
+        return False
+    if len(ended) == 0:
+        return begins_named(last, b"order ", is_size)
+    if not ended[0].startswith(b"order ") or not is_size(ended[0][6:]):
+        return False
+    size = int(ended[0][6:])
+    if len(ended) == 1:
+        *jobs, last_job = last.split(b" ")
+        return len(jobs) < size and all(map(JOB.fullmatch, jobs)) and bool(last_job == b"" or JOB.fullmatch(last_job))
+    jobs = ended[1].split(b" ")
+    if len(jobs) != size or not all(map(JOB.fullmatch, jobs)):
+        return False
+    if len(ended) == 2:
+        return begins_named(last, b"makespan ", MAKESPAN.fullmatch)
+    return ended[2].startswith(b"makespan ") and bool(MAKESPAN.fullmatch(ended[2][9:]))
+
+
+def begins_named(line, name, is_numeral):
+    """Whether a line of this name and a numeral begins so."""
+    return name.startswith(line) or (line.startswith(name) and bool(is_numeral(line[len(name):])))
+
+
+def is_size(digits):
+    return bool(re.fullmatch(rb"[1-9][0-9]{0,3}", digits)) and int(digits) <= MOST_JOBS
+
+
+# Orders, whose jobs count from 0
+
+def ends_of(shop, order):
+    """For each place the ends on all machines, each as early as can be."""
+    rows = []
+    free = [0] * shop.machines
+    for job in order:
+        ready = 0
+        for machine in range(shop.machines):
+            ready = max(ready, free[machine]) + shop.times[machine][job]
+            free[machine] = ready
+        rows.append(list(free))
+    return rows
+
+
+def makespan(shop, order):
+    return ends_of(shop, order)[-1][-1] if order else 0
+
+
+def lower_bound(shop):
+    jobs = range(shop.jobs)
+    columns = [[row[job] for row in shop.times] for job in jobs]
+    by_machine = [
+        min(sum(columns[job][:machine]) for job in jobs) + sum(shop.times[machine])
+        + min(sum(columns[job][machine + 1:]) for job in jobs)
+        for machine in range(shop.machines)
+    ]
+    return max(by_machine + [sum(column) for column in columns])
+
+
+def inserted(shop, order, job):
+    """The order with the job at the first of its places that give the least makespan."""
+    orders = [order[:place] + [job] + order[place:] for place in range(len(order) + 1)]
+    return min(orders, key=lambda whole: makespan(shop, whole))
+
+
+def by_totals(shop):
+    order = []
+    for job in sorted(range(shop.jobs), key=lambda job: (-shop.total(job), job)):
+        order = inserted(shop, order, job)
+    return order
+
+
+def after_round(shop, kept, words):
+    """Takes a job out for each word, puts each back at its best place, and keeps the order if it isn't longer."""
+    order, taken = list(kept), []
+    for word in words:
+        taken.append(order.pop(word % len(order)))
+    for job in taken:
+        order = inserted(shop, order, job)
+    return order if makespan(shop, order) <= makespan(shop, kept) else kept
+
+
+class Pcg32:
+    """PCG XSH RR 64/32 of O'Neill, seeded by a number as Rust's rand_core does it: four words of the generator with
+    a fixed increment, which steps before each, are the state and the increment."""
+
+    MULTIPLIER = 6364136223846793005
+    MASK = 2**64 - 1
+
+    def __init__(self, seed):
+        words = []
+        for _ in range(4):
+            seed = (seed * self.MULTIPLIER + 0xA17654E46FBE17F3) & self.MASK
+            words.append(self.output(seed))
+        self.increment = words[2] | words[3] << 32 | 1
+        self.state = (words[0] | words[1] << 32) + self.increment
+        self.step()
+
+    def step(self):
+        self.state = (self.state * self.MULTIPLIER + self.increment) & self.MASK
+
+    @staticmethod
+    def output(state):
+        shifted = ((state >> 18 ^ state) >> 27) & (2**32 - 1)
+        turn = state >> 59
+        return (shifted >> turn | shifted << (32 - turn)) & (2**32 - 1)
+
+    def next_word(self):
+        word = self.output(self.state)
+        self.step()
+        return word
+
+
+def generated(jobs, machines, seed):
+    if not 1 <= seed <= 2_147_483_646:
+        raise refused(b"seed out of range")
+    shop = Instance(jobs, machines, [seed, 0, 0])
+    for machine in range(machines):
+        for job in range(jobs):
+            seed = seed * 16807 % 2147483647
+            shop.times[machine][job] = 1 + seed * 99 // 2147483647
+    return shop
+
+
+# What is printed
+
+def numbers(values):
+    return b" ".join(b"%d" % value for value in values) + b"\n"
+
+
+def order_text(order, length):
+    return b"order %d\n" % len(order) + numbers(job + 1 for job in order) + b"makespan %d\n" % length
+
+
+def canonical(shop, layout):
+    if layout == b"taillard":
+        title = b"number of jobs, number of machines, initial seed, upper bound and lower bound :\n"
+        rows = b"".join(map(numbers, shop.times))
+        return title + numbers([shop.jobs, shop.machines, *shop.notes]) + b"processing times :\n" + rows
+    pairs = [[it for machine in range(shop.machines) for it in (machine, shop.times[machine][job])]
+             for job in range(shop.jobs)]
+    return b"flow shop instance\n" + numbers([shop.jobs, shop.machines]) + b"".join(map(numbers, pairs))
+
+
+def solved(shop, options):
+    take = options[b"--take"]
+    if take is not None and take > shop.jobs:
+        raise Stop(b"pfs: take %d exceeds %d jobs\n" % (take, shop.jobs), 3)
+    take = min(4, shop.jobs) if take is None else take
+    order, random = by_totals(shop), Pcg32(options[b"--seed"])
+    for _ in range(options[b"--rounds"]):
+        order = after_round(shop, order, [random.next_word() for _ in range(take)])
+    text = order_text(order, makespan(shop, order))
+    if not options[b"--cells"]:
+        return text
+    cells = 2 * shop.machines * shop.jobs**2
+    cells += 2 * options[b"--rounds"] * take * shop.machines * (2 * shop.jobs - take)
+    return text + b"cells %d\n" % cells
+
+
+def checked(shop, jobs, stated):
+    """The verdict on an order file, and the exit status."""
+    if len(jobs) != shop.jobs:
+        return wrong_size(shop, jobs)
+    computed = makespan(shop, [job - 1 for job in jobs])
+    if stated != computed:
+        return b"wrong makespan\nstated %d\ncomputed %d\n" % (stated, computed), 1
+    bound = lower_bound(shop)
+    text = b"valid\nmakespan %d\nbound %d\n" % (computed, bound)
+    return text + (b"optimal\n" if computed == bound else b""), 0
+
+
+def wrong_size(shop, jobs):
+    return b"wrong size\norder %d\njobs %d\n" % (len(jobs), shop.jobs), 1
+
+
+def tabled(shop, jobs):
+    if len(jobs) != shop.jobs:
+        return wrong_size(shop, jobs)
+    order = [job - 1 for job in jobs]
+    text = b"table %d %d\n" % (shop.jobs, shop.machines)
+    for job, ends in zip(order, ends_of(shop, order)):
+        spans = [(end - shop.times[machine][job], end) for machine, end in enumerate(ends)]
+        text += numbers([job + 1] + [it for span in spans for it in span])
+    return text + b"makespan %d\n" % makespan(shop, order), 0
+
+
+# The program
+
+def opened(files, path):
+    if path not in files:
+        raise Stop(b"pfs: cannot open\n", 4)
+    return files[path]
+
+
+def run(words, stdin, files):
+    if not words:
+        shop = read_instance(stdin, b"taillard", 1)
+        return b"makespan %d\n" % makespan(shop, list(range(shop.jobs))), 0
+    command, options, others = asked_for(words)
+    if command == b"generate":
+        return canonical(generated(*others), b"taillard"), 0
+    texts = [opened(files, path) for path in others]
+    layout = options[b"--from"] if command == b"convert" else options[b"--layout"]
+    shop = read_instance(texts[0], layout, options[b"--block"])
+    if command == b"value":
+        return b"makespan %d\n" % makespan(shop, list(range(shop.jobs))), 0
+    if command == b"solve":
+        return solved(shop, options), 0
+    if command == b"convert":
+        return canonical(shop, options[b"--to"]), 0
+    jobs, stated = read_order(texts[1])
+    return checked(shop, jobs, stated) if command == b"check" else tabled(shop, jobs)
+
+
+def answer(words, stdin, files):
+    """Standard output, standard error and exit status for these words, with `files` by their paths."""
+    try:
+        text, status = run(words, stdin, files)
+    except Stop as stop:
+        return b"", stop.told, stop.status
+    return text, b"", status
+
+
+class Folder:
+    """The files that can be opened from here, by their paths."""
+
+    def __contains__(self, path):
+        try:
+            os.close(os.open(path, os.O_RDONLY))
+        except OSError:
+            return False
+        return True
+
+    def __getitem__(self, path):
+        try:
+            with open(path, "rb") as file:
+                return file.read()
+        except OSError:
+            return UNREADABLE
+
+
+def main():
+    words = [os.fsencode(word) for word in sys.argv[1:]]
+    stdin = b"" if words else sys.stdin.buffer.read()
+    text, told, status = answer(words, stdin, Folder())
+    sys.stdout.buffer.write(text)
+    sys.stderr.buffer.write(told)
+    return status
+
+
+if __name__ == "__main__":
+    sys.exit(main())
