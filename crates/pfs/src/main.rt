@@ -138,33 +138,13 @@ fn run_job<W: Sink>(rt: &HostRuntime, job: &Job, writer: &mut W) -> Result<Outco
             block,
             file,
             order_file,
-        } => {
-            let (mut file, mut order_file) = (open(rt, file)?, open(rt, order_file)?);
-            Ok(run_check(
-                rt.alloc(),
-                &mut file,
-                *layout,
-                *block,
-                &mut order_file,
-                writer,
-            )?)
-        }
+        } => print_verdict(rt, *layout, *block, file, order_file, writer),
         Job::Table {
             layout,
             block,
             file,
             order_file,
-        } => {
-            let (mut file, mut order_file) = (open(rt, file)?, open(rt, order_file)?);
-            Ok(run_table(
-                rt.alloc(),
-                &mut file,
-                *layout,
-                *block,
-                &mut order_file,
-                writer,
-            )?)
-        }
+        } => print_table(rt, *layout, *block, file, order_file, writer),
         Job::Convert {
             source,
             target,
@@ -202,6 +182,38 @@ fn print_value<W: Sink>(
         }
     };
     Ok(outcome)
+}
+
+// Prints the verdict on an order file. Both files are open before one is read.
+fn print_verdict<W: Sink>(
+    rt: &HostRuntime,
+    layout: Layout,
+    block: usize,
+    file: &PathText,
+    order_file: &PathText,
+    writer: &mut W,
+) -> Result<Outcome, Stop>
+    requires within { IsFrom1To MOST_BLOCKS block }
+    requires writing { W.has_failed writer.old ≡ false }
+{
+    let (mut file, mut orders) = (open(rt, file)?, open(rt, order_file)?);
+    Ok(run_check(rt.alloc(), &mut file, layout, block, &mut orders, writer)?)
+}
+
+// Prints the time table of an order file. Both files are open before one is read.
+fn print_table<W: Sink>(
+    rt: &HostRuntime,
+    layout: Layout,
+    block: usize,
+    file: &PathText,
+    order_file: &PathText,
+    writer: &mut W,
+) -> Result<Outcome, Stop>
+    requires within { IsFrom1To MOST_BLOCKS block }
+    requires writing { W.has_failed writer.old ≡ false }
+{
+    let (mut file, mut orders) = (open(rt, file)?, open(rt, order_file)?);
+    Ok(run_table(rt.alloc(), &mut file, layout, block, &mut orders, writer)?)
 }
 
 fn open(rt: &HostRuntime, path: &PathText) -> Result<FromRead<File>, Stop>

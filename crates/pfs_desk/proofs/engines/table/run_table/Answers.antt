@@ -32,6 +32,40 @@ returns-in_err-put_wrong_size-clause-written g c =
     in
     search rules
 
+pub returns-in_err-put_table-clause-written : goal.returns-in_err-put_table-clause-written
+returns-in_err-put_table-clause-written g c =
+    let file = g.R.Source.left c.args.reader.now in
+    let order_file = g.O.Source.left c.args.order_reader.now in
+    let old = g.W.Sink.written c.args.writer.now in
+    let new = g.W.Sink.written c.put_table.new.writer in
+    let failed = g.W.Sink.has_failed c.put_table.new.writer in
+    let shop = c.in_ok-instance.instance.shop in
+    let timing = c.in_ok-table.table in
+    let order = c.order-order.result.now in
+    let Prints : List ℕ → Type 0 = λ jobs. TablePrints shop jobs Done (table_text timing) in
+    let size : length order ≡ shop.jobs = sym c.len.ensures.value ∙ c.if-len-jobs.false ∙ c.jobs-jobs.ensures.value in
+    let front : WritesFront (TableOutput c.args.layout file c.args.block order_file) old new failed c.in_err-put_table.field-0.0.written =
+    record {
+      outcome = Done;
+      text = table_text timing;
+      is_output = record {
+        problem = c.in_ok-instance.instance;
+        stated = c.in_ok-file.file;
+        holds = c.in_ok-instance.ensures.file;
+        states = c.in_ok-file.ensures.accepted;
+        prints = subst Prints c.order-order.ensures.value (right_size_prints shop order timing size (record {
+          jobs = c.in_ok-table.ensures.jobs;
+          machines = c.in_ok-table.ensures.machines;
+          earliest = c.in_ok-table.ensures.starts;
+          ends = c.in_ok-table.ensures.ends;
+          makespan = c.in_ok-table.ensures.makespan;
+        }));
+      };
+      front = c.in_err-put_table.ensures;
+    }
+    in
+    search rules
+
 pub returns-clause-written : goal.returns-clause-written
 returns-clause-written g c =
     let shop = c.in_ok-instance.instance.shop in
