@@ -1,7 +1,7 @@
 //! Passes over an order: each job in the order of the numbers leaves its place for its best one.
-ghost use Rattle.std.specs.Prelude.{◌≡◌, ℕ, ◌+◌, ◌*◌, ◌<◌, ◌≤◌, ◌^◌, length, Contains, false, IsOk, IfOk, OnOk, OnErr};
+ghost use Rattle.std.specs.Prelude.{◌≡◌, ℕ, ◌+◌, ◌*◌, ◌<◌, ◌≤◌, ◌^◌, length, false, IsOk, IfOk, OnOk, OnErr};
 ghost use Rattle.pfs_base.specs.Paths.{makespan};
-ghost use Rattle.pfs_search.specs.Costs.{pass_cost};
+ghost use Rattle.pfs_search.specs.Costs.{pass_cost_on};
 ghost use Rattle.pfs_search.specs.Greedy.{after_passes, moved, pass};
 
 use pfs_base::{Bench, Length};
@@ -28,13 +28,13 @@ pub(crate) fn make_passes<B: Bench, I: Inserter<B>>(
     requires inserter_jobs { I.jobs inserter.old ≡ (B.shop bench.old).jobs }
     requires inserter_machines { I.machines inserter.old ≡ (B.shop bench.old).machines }
     requires span { B.Span.number span ≡ makespan (B.shop bench.old) seq.old.jobs }
-    requires room { B.counted bench.old + passes * pass_cost I.cost (B.shop bench.old).jobs (B.shop bench.old).machines < 2 ^ 64 }
+    requires room { B.counted bench.old + passes * pass_cost_on I.cost (B.shop bench.old) < 2 ^ 64 }
     ensures jobs { OnOk result (seq.new.jobs ≡ after_passes (B.shop bench.old) passes seq.old.jobs) }
     ensures count { OnOk result (length seq.new.jobs ≡ length seq.old.jobs) }
     ensures span { IfOk result (λ span. B.Span.number span ≡ makespan (B.shop bench.old) seq.new.jobs) }
-    ensures counted { OnOk result (B.counted bench.new ≡ B.counted bench.old + passes * pass_cost I.cost (B.shop bench.old).jobs (B.shop bench.old).machines) }
+    ensures counted { OnOk result (B.counted bench.new ≡ B.counted bench.old + passes * pass_cost_on I.cost (B.shop bench.old)) }
     ensures fault_low { OnErr result (B.counted bench.old ≤ B.counted bench.new) }
-    ensures fault_high { OnErr result (B.counted bench.new ≤ B.counted bench.old + passes * pass_cost I.cost (B.shop bench.old).jobs (B.shop bench.old).machines) }
+    ensures fault_high { OnErr result (B.counted bench.new ≤ B.counted bench.old + passes * pass_cost_on I.cost (B.shop bench.old)) }
     ensures succeeds { I.can_refuse ≡ false → IsOk result }
     ensures shop { B.shop bench.new ≡ B.shop bench.old }
     ensures same_size { seq.new.size ≡ seq.old.size }
@@ -42,7 +42,7 @@ pub(crate) fn make_passes<B: Bench, I: Inserter<B>>(
     ensures same_machines { I.machines inserter.new ≡ I.machines inserter.old }
 {
     let mut span = span;
-    for _ in 0..passes {
+    for _done in 0..passes {
         span = make_pass(alloc, inserter, bench, seq, span)?;
     }
     Ok(span)
@@ -62,13 +62,13 @@ fn make_pass<B: Bench, I: Inserter<B>>(
     requires inserter_jobs { I.jobs inserter.old ≡ (B.shop bench.old).jobs }
     requires inserter_machines { I.machines inserter.old ≡ (B.shop bench.old).machines }
     requires span { B.Span.number span ≡ makespan (B.shop bench.old) seq.old.jobs }
-    requires room { B.counted bench.old + pass_cost I.cost (B.shop bench.old).jobs (B.shop bench.old).machines < 2 ^ 64 }
+    requires room { B.counted bench.old + pass_cost_on I.cost (B.shop bench.old) < 2 ^ 64 }
     ensures jobs { OnOk result (seq.new.jobs ≡ pass (B.shop bench.old) seq.old.jobs) }
     ensures count { OnOk result (length seq.new.jobs ≡ length seq.old.jobs) }
     ensures span { IfOk result (λ span. B.Span.number span ≡ makespan (B.shop bench.old) seq.new.jobs) }
-    ensures counted { OnOk result (B.counted bench.new ≡ B.counted bench.old + pass_cost I.cost (B.shop bench.old).jobs (B.shop bench.old).machines) }
+    ensures counted { OnOk result (B.counted bench.new ≡ B.counted bench.old + pass_cost_on I.cost (B.shop bench.old)) }
     ensures fault_low { OnErr result (B.counted bench.old ≤ B.counted bench.new) }
-    ensures fault_high { OnErr result (B.counted bench.new ≤ B.counted bench.old + pass_cost I.cost (B.shop bench.old).jobs (B.shop bench.old).machines) }
+    ensures fault_high { OnErr result (B.counted bench.new ≤ B.counted bench.old + pass_cost_on I.cost (B.shop bench.old)) }
     ensures succeeds { I.can_refuse ≡ false → IsOk result }
     ensures shop { B.shop bench.new ≡ B.shop bench.old }
     ensures same_size { seq.new.size ≡ seq.old.size }
@@ -82,7 +82,7 @@ fn make_pass<B: Bench, I: Inserter<B>>(
     Ok(span)
 }
 
-// Takes a job out of its place, puts it back at its best one, and tells the makespan then.
+// Takes a job of an order of all jobs out of its place, puts it back at its best one, and tells the makespan then.
 #[inline(always)]
 fn move_job<B: Bench, I: Inserter<B>>(
     alloc: Global,
@@ -92,16 +92,17 @@ fn move_job<B: Bench, I: Inserter<B>>(
     job: usize,
 ) -> Result<B::Span, InsertFault>
     requires own_jobs { seq.old.size ≡ (B.shop bench.old).jobs }
-    requires present { Contains seq.old.jobs job }
+    requires all_jobs { length seq.old.jobs ≡ (B.shop bench.old).jobs }
+    requires job { job < (B.shop bench.old).jobs }
     requires inserter_jobs { I.jobs inserter.old ≡ (B.shop bench.old).jobs }
     requires inserter_machines { I.machines inserter.old ≡ (B.shop bench.old).machines }
-    requires room { B.counted bench.old + I.cost (length seq.old.jobs) (B.shop bench.old).machines < 2 ^ 64 }
+    requires room { B.counted bench.old + I.cost (B.shop bench.old).jobs (B.shop bench.old).machines < 2 ^ 64 }
     ensures jobs { OnOk result (seq.new.jobs ≡ moved (B.shop bench.old) seq.old.jobs job) }
     ensures count { OnOk result (length seq.new.jobs ≡ length seq.old.jobs) }
     ensures span { IfOk result (λ span. B.Span.number span ≡ makespan (B.shop bench.old) seq.new.jobs) }
-    ensures counted { OnOk result (B.counted bench.new ≡ B.counted bench.old + I.cost (length seq.old.jobs) (B.shop bench.old).machines) }
+    ensures counted { OnOk result (B.counted bench.new ≡ B.counted bench.old + I.cost (B.shop bench.old).jobs (B.shop bench.old).machines) }
     ensures fault_low { OnErr result (B.counted bench.old ≤ B.counted bench.new) }
-    ensures fault_high { OnErr result (B.counted bench.new ≤ B.counted bench.old + I.cost (length seq.old.jobs) (B.shop bench.old).machines) }
+    ensures fault_high { OnErr result (B.counted bench.new ≤ B.counted bench.old + I.cost (B.shop bench.old).jobs (B.shop bench.old).machines) }
     ensures succeeds { I.can_refuse ≡ false → IsOk result }
     ensures shop { B.shop bench.new ≡ B.shop bench.old }
     ensures same_size { seq.new.size ≡ seq.old.size }
@@ -111,7 +112,7 @@ fn move_job<B: Bench, I: Inserter<B>>(
     // Called for what it says of a sequence: that its jobs are distinct.
     let _size = seq.size();
     let place = seq.place_of(job);
-    let job = seq.remove_at(place);
+    seq.remove_at(place);
     let best = inserter.best(alloc, bench, seq, job)?;
     seq.insert_at(best.place, job);
     Ok(best.span)

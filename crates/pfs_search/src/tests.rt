@@ -122,7 +122,7 @@ fn neh_and_round(
     let mut kept = Kept::new(Order::identity(alloc, jobs)?, bench.zero());
     searcher.neh(alloc, &mut bench, &mut kept)?;
     assert_kept(rt, &bench, &kept, by_neh);
-    searcher.round(alloc, &mut bench, &mut kept, words)?;
+    searcher.round(alloc, &mut bench, &mut kept, words, 0)?;
     assert_kept(rt, &bench, &kept, by_round);
     Ok(())
 }
@@ -145,7 +145,7 @@ fn neh_and_two_rounds(
     let mut kept = Kept::new(Order::identity(alloc, jobs)?, bench.zero());
     let mut rng = Counting(0);
     searcher.neh(alloc, &mut bench, &mut kept)?;
-    searcher.rounds(alloc, &mut bench, &mut kept, 2, 1, &mut rng)?;
+    searcher.rounds(alloc, &mut bench, &mut kept, 2, 1, 0, &mut rng)?;
     assert_kept(rt, &bench, &kept, by_rounds);
     assert_eq!(rt; rng.next_u32(), 2);
     Ok(())

@@ -158,3 +158,9 @@ contains_by size job jobs false none h full small =
 
 pub Contains-all : (size job : ℕ) (jobs : List ℕ) → IsSequence size jobs → length jobs ≡ size → job < size → Contains jobs job
 Contains-all size job jobs = contains_by size job jobs (list_any (eqb job) jobs) refl
+
+-- taken out of its place, it stands nowhere
+pub absent-remove : (size place job : ℕ) (jobs : List ℕ) → IsSequence size jobs → place < length jobs → job ≡ get_or jobs place 0 → Contains (remove jobs place) job → ⊥
+absent-remove size place job jobs h within at =
+    let moved = IsPermutation-remove jobs place job within (at ∙ get_or_default jobs place 0 job within) in
+    IsSequence-head size job (remove jobs place) (IsSequence-permutation size jobs (job ∷ remove jobs place) moved h)

@@ -20,7 +20,7 @@ returns-in-Err-clause-fault_high g c =
     let fits = one_more c.loop-place.place many (many * shop.machines) (omega arith) in
     let all = mul_assoc many many shop.machines in
     let so_far = c.loop-place.invariant.counted in
-    let after = c.in-Err.ensures.fault_high in
+    let after = c.in-Err.ensures.refused in
     let jobs : length c.insert_at.new.self.jobs ≡ many =
     ap (λ (s : Sequence). length s.jobs) (c.insert_at.ensures ∙ ap (λ (s : Sequence). record { size = s.size; jobs = insert s.jobs c.loop-place.place c.args.job }) c.copy_from.ensures)
     ∙ length-insert c.args.seq.now.jobs c.loop-place.place c.args.job (omega (arith, c.len-place-end.ensures.value)) in
