@@ -1,11 +1,14 @@
-// solve LAYOUT BLOCK ROUNDS TAKE SEED [FILE]: NEH's order of a block, and rounds of iterated greedy behind it,
-// as `pfs solve --cells` prints them; a TAKE of 0 is the smaller of 4 and the number of jobs. Without FILE it
-// reads standard input. It is written from the definitions, over flat tables of 32-bit integers.
+// solve [FORM] LAYOUT BLOCK ROUNDS TAKE SEED [FILE]: NEH's order of a block, and rounds of iterated greedy behind
+// it, as `pfs solve --cells` prints them; a TAKE of 0 is the smaller of 4 and the number of jobs. Without FILE it
+// reads standard input. It is written from the definitions, over flat tables of 32-bit integers. FORM says how the
+// best place is found: `plain`, which is also meant without it, by one row in a loop over the machines; `rows64` and
+// `rows32` by the loops of pfs, over lengths of so many bits.
 #include "block_reader.hpp"
 
 #include <cstdlib>
 #include <fcntl.h>
 #include <numeric>
+#include <string>
 
 // PCG XSH RR 64/32 (O'Neill 2014), seeded with a number as rand_core's `seed_from_u64` does: the bytes of the
 // state and of the increment are words of the same generator at a fixed increment, which steps first.
@@ -50,10 +53,10 @@ struct Placed {
     uint32_t makespan;
 };
 
-// Inserts jobs at their best places (Taillard 1990), and counts the cells computed.
-class Inserter {
+// Inserts jobs at their best places (Taillard 1990), one row in a loop, and counts the cells computed.
+class PlainInserter {
 public:
-    explicit Inserter(const Instance& shop)
+    explicit PlainInserter(const Instance& shop)
         : shop(shop), heads((shop.jobs + 1) * shop.machines), tails((shop.jobs + 1) * shop.machines) {}
 
     // Puts the job at the earliest place of the partial order that gives the least makespan.
@@ -136,6 +139,139 @@ private:
     std::vector<uint32_t> tails;
 };
 
+// The same with the loops of pfs: three rows of tails in one loop, and two rows of heads and two inserted rows in
+// another, of which the first row of heads isn't stored; the inserted rows are then joined with the rows of tails.
+template <typename Length>
+class RowInserter {
+public:
+    explicit RowInserter(const Instance& shop)
+        : shop(shop), table((2 * shop.jobs + 1) * shop.machines, 0), heads(table.data()),
+          tails(heads + shop.jobs * shop.machines), put(tails + shop.jobs * shop.machines) {}
+
+    // Puts the job at the earliest place of the partial order that gives the least makespan.
+    uint32_t insert(Jobs& order, uint32_t job) {
+        Placed placed = best(order, job);
+        order.insert(order.begin() + (ptrdiff_t)placed.place, job);
+        return placed.makespan;
+    }
+
+    uint64_t cells = 0;
+
+private:
+    const uint32_t* times(uint32_t job) const { return &shop.times[job * shop.machines]; }
+
+    Length* tail(const Jobs& order, size_t place) { return tails + (shop.jobs - 1 - order.size() + place) * shop.machines; }
+
+    Placed best(const Jobs& order, uint32_t job) {
+        size_t jobs = order.size();
+        for (size_t from = jobs; from >= 3; from -= 3) {
+            three_tails(order, from);
+        }
+        for (size_t from = jobs % 3; from > 0; --from) {
+            one_tail(order, from);
+        }
+        Placed placed{0, UINT32_MAX};
+        for (size_t place = 0; place + 2 <= jobs; place += 2) {
+            two_places(order, job, place);
+            better(placed, place, joined(put, tail(order, place)));
+            better(placed, place + 1, joined(heads + (place + 1) * shop.machines, tail(order, place + 1)));
+        }
+        for (size_t place = jobs / 2 * 2; place < jobs; ++place) {
+            row(order[place], heads + place * shop.machines, heads + (place + 1) * shop.machines);
+        }
+        for (size_t place = jobs / 2 * 2; place <= jobs; ++place) {
+            row(job, heads + place * shop.machines, put);
+            better(placed, place, joined(put, tail(order, place)));
+        }
+        return placed;
+    }
+
+    static void better(Placed& placed, size_t place, Length makespan) {
+        if ((uint32_t)makespan < placed.makespan) {
+            placed = Placed{place, (uint32_t)makespan};
+        }
+    }
+
+    // Row r + 1 from row r, forward; it serves heads and the inserted row.
+    void row(uint32_t job, const Length* above, Length* __restrict here) {
+        const uint32_t* time = times(job);
+        Length before = 0;
+        for (size_t machine = 0; machine < shop.machines; ++machine) {
+            before = std::max(above[machine], before) + (Length)time[machine];
+            here[machine] = before;
+        }
+        cells += shop.machines;
+    }
+
+    void one_tail(const Jobs& order, size_t from) {
+        const uint32_t* time = times(order[from - 1]);
+        const Length* below = tail(order, from);
+        Length* __restrict here = tail(order, from - 1);
+        Length behind = 0;
+        for (size_t machine = shop.machines; machine-- > 0;) {
+            behind = std::max(below[machine], behind) + (Length)time[machine];
+            here[machine] = behind;
+        }
+        cells += shop.machines;
+    }
+
+    void three_tails(const Jobs& order, size_t from) {
+        const uint32_t* first = times(order[from - 1]);
+        const uint32_t* second = times(order[from - 2]);
+        const uint32_t* third = times(order[from - 3]);
+        const Length* below = tail(order, from);
+        Length* __restrict here = tail(order, from - 1);
+        Length* __restrict next = tail(order, from - 2);
+        Length* __restrict last = tail(order, from - 3);
+        Length one = 0, two = 0, three = 0;
+        for (size_t machine = shop.machines; machine-- > 0;) {
+            one = std::max(below[machine], one) + (Length)first[machine];
+            two = std::max(one, two) + (Length)second[machine];
+            three = std::max(two, three) + (Length)third[machine];
+            here[machine] = one;
+            next[machine] = two;
+            last[machine] = three;
+        }
+        cells += 3 * shop.machines;
+    }
+
+    void two_places(const Jobs& order, uint32_t job, size_t place) {
+        const uint32_t* first = times(order[place]);
+        const uint32_t* second = times(order[place + 1]);
+        const uint32_t* inserted = times(job);
+        const Length* above = heads + place * shop.machines;
+        Length* __restrict here = put;
+        Length* __restrict next = heads + (place + 1) * shop.machines;
+        Length* __restrict head = heads + (place + 2) * shop.machines;
+        Length one = 0, two = 0, put_here = 0, put_next = 0;
+        for (size_t machine = 0; machine < shop.machines; ++machine) {
+            put_here = std::max(above[machine], put_here) + (Length)inserted[machine];
+            one = std::max(above[machine], one) + (Length)first[machine];
+            put_next = std::max(one, put_next) + (Length)inserted[machine];
+            two = std::max(one, two) + (Length)second[machine];
+            here[machine] = put_here;
+            next[machine] = put_next;
+            head[machine] = two;
+        }
+        cells += 4 * shop.machines;
+    }
+
+    Length joined(const Length* a, const Length* b) {
+        Length most = 0;
+        for (size_t machine = 0; machine < shop.machines; ++machine) {
+            most = std::max<Length>(most, a[machine] + b[machine]);
+        }
+        cells += shop.machines;
+        return most;
+    }
+
+    const Instance& shop;
+    std::vector<Length> table;
+    Length* heads;
+    Length* tails;
+    Length* put;
+};
+
 // The jobs by decreasing total time, at equal totals the lower number first.
 static Jobs ranking(const Instance& shop) {
     std::vector<uint64_t> totals(shop.jobs, 0);
@@ -152,6 +288,7 @@ static Jobs ranking(const Instance& shop) {
 
 // A round of iterated greedy (Ruiz and Stuetzle 2007): takes a job out for each word, puts them back in the same
 // order, and keeps the result unless it is longer.
+template <typename Inserter>
 static void round_of(Inserter& inserter, const Jobs& words, Jobs& kept, uint32_t& makespan) {
     Jobs order = kept;
     Jobs taken;
@@ -170,10 +307,41 @@ static void round_of(Inserter& inserter, const Jobs& words, Jobs& kept, uint32_t
     }
 }
 
+// The search, and what it found on standard output.
+template <typename Inserter>
+static int search(const Instance& shop, uint64_t rounds, uint64_t take, Pcg32 random) {
+    Inserter inserter(shop);
+    Jobs kept;
+    uint32_t makespan = 0;
+    for (uint32_t job : ranking(shop)) {
+        makespan = inserter.insert(kept, job);
+    }
+    Jobs drawn(take);
+    for (uint64_t round = 0; round < rounds; ++round) {
+        for (uint32_t& word : drawn) {
+            word = random.next();
+        }
+        round_of(inserter, drawn, kept, makespan);
+    }
+    std::printf("order %zu\n", shop.jobs);
+    for (size_t place = 0; place < kept.size(); ++place) {
+        std::printf("%s%u", place == 0 ? "" : " ", kept[place] + 1);
+    }
+    std::printf("\nmakespan %u\ncells %llu\n", makespan, (unsigned long long)inserter.cells);
+    return 0;
+}
+
 int main(int count, char** words) {
+    std::string form = count > 1 ? words[1] : "";
+    if (form == "plain" || form == "rows64" || form == "rows32") {
+        --count;
+        ++words;
+    } else {
+        form = "plain";
+    }
     Layout layout;
     if (count < 6 || count > 7 || !layout_named(words[1], layout)) {
-        std::fprintf(stderr, "usage: solve LAYOUT BLOCK ROUNDS TAKE SEED [FILE]\n");
+        std::fprintf(stderr, "usage: solve [plain|rows64|rows32] LAYOUT BLOCK ROUNDS TAKE SEED [FILE]\n");
         return 3;
     }
     uint64_t rounds = std::strtoull(words[3], nullptr, 10);
@@ -196,23 +364,11 @@ int main(int count, char** words) {
     if (take == 0) {
         take = std::min<uint64_t>(4, shop.jobs);
     }
-    Inserter inserter(shop);
-    Jobs kept;
-    uint32_t makespan = 0;
-    for (uint32_t job : ranking(shop)) {
-        makespan = inserter.insert(kept, job);
+    if (form == "rows64") {
+        return search<RowInserter<int64_t>>(shop, rounds, take, random);
     }
-    Jobs drawn(take);
-    for (uint64_t round = 0; round < rounds; ++round) {
-        for (uint32_t& word : drawn) {
-            word = random.next();
-        }
-        round_of(inserter, drawn, kept, makespan);
+    if (form == "rows32") {
+        return search<RowInserter<int32_t>>(shop, rounds, take, random);
     }
-    std::printf("order %zu\n", shop.jobs);
-    for (size_t place = 0; place < kept.size(); ++place) {
-        std::printf("%s%u", place == 0 ? "" : " ", kept[place] + 1);
-    }
-    std::printf("\nmakespan %u\ncells %llu\n", makespan, (unsigned long long)inserter.cells);
-    return 0;
+    return search<PlainInserter>(shop, rounds, take, random);
 }

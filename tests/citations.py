@@ -1,11 +1,11 @@
-"""What a crate may cite of another: its definitions, and the lemmas that it has published for crates above."""
+"""What a crate may cite of another's proofs: the lemmas that it has published for crates above."""
 import re
 
-CITED = re.compile(r"Rattle\.(\w+)\b(?!\.specs\b|\.proofs\.Published\.)(?:\.\w+)*")
+HIDDEN = re.compile(r"Rattle\.(\w+)\.proofs\b(?!\.Published\.)(?:\.\w+)*")
 
 
 def hidden_citations(crates):
-    """The places of these crates' sources, definitions and proofs that cite anything else of another crate."""
+    """The places of these crates' sources, definitions and proofs that cite any other proof of another crate."""
     names = {crate.name for crate in crates.iterdir()}
     found = []
     for name in sorted(names):
@@ -14,7 +14,7 @@ def hidden_citations(crates):
                 if path.suffix not in (".rt", ".antt"):
                     continue
                 for number, line in enumerate(path.read_text().splitlines(), 1):
-                    for cited in CITED.finditer(line):
+                    for cited in HIDDEN.finditer(line):
                         if cited[1] in names - {name}:
                             found.append(f"{path.relative_to(crates)}:{number}: {cited[0]}")
     return found

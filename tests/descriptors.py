@@ -133,13 +133,32 @@ def inputs(desk):
     os.close(write_end)
 
 
+def paths_of_descriptors(desk):
+    """Files that are named by the descriptors that the program was started with."""
+    for path in ("/dev/stdin", "/dev/fd/0", "/proc/self/fd/0"):
+        with open(desk.path("three"), "rb") as file:
+            check(path, (ELEVEN, b"", 0), desk.run(VALUE.replace("three", path), stdin=file))
+        with open(desk.path("best"), "rb") as file:
+            check(f"an order file, {path}", (VALID, b"", 0), desk.run(CHECK.replace("best", path), stdin=file))
+    read_end, write_end = os.pipe()
+    os.write(write_end, THREE_JOBS)
+    os.close(write_end)
+    line = VALUE.replace("three", f"/dev/fd/{read_end}")
+    check("a pipe by its number", (ELEVEN, b"", 0), desk.run(line, pass_fds=(read_end,)))
+    os.close(read_end)
+    check("a number that isn't open", refusal(b"cannot open"), desk.run(VALUE.replace("three", "/dev/fd/99")))
+
+
 def no_usual_files(desk):
     """Paths of what is no usual file."""
     listening = socket.socket(socket.AF_UNIX)
     listening.bind(str(desk.path("socket")))
+    desk.path("sparse").touch()
+    os.truncate(desk.path("sparse"), 2**33 + 5)
     desk.path("circle").symlink_to("circle")
     for name, answer in (("folder", refusal(b"read failed")), ("/dev/null", refusal(b"no block, found 0", 2)),
-                         ("/dev/full", refusal(b"input too long", 2)), ("/proc/self/mem", refusal(b"read failed")),
+                         ("/dev/full", refusal(b"input too long", 2)), ("sparse", refusal(b"input too long", 2)),
+                         ("/proc/self/mem", refusal(b"read failed")),
                          ("socket", refusal(b"cannot open")), ("circle", refusal(b"cannot open")),
                          ("three/", refusal(b"cannot open")), ("three/x", refusal(b"cannot open"))):
         for line in (VALUE, SOLVE, CHECK, TABLE, CONVERT):
@@ -149,6 +168,7 @@ def no_usual_files(desk):
                          ("/dev/null", refusal(b"order file syntax at 0", 2)),
                          ("/dev/zero", refusal(b"order file too long", 2)),
                          ("/dev/full", refusal(b"order file too long", 2)),
+                         ("sparse", refusal(b"order file too long", 2)),
                          ("/proc/self/mem", refusal(b"order file read failed")), ("socket", refusal(b"cannot open"))):
         for line in (CHECK, TABLE):
             line = line.replace("best", name)
@@ -279,7 +299,7 @@ def stop(child):
     """Stops a program, and waits until it stands."""
     child.send_signal(signal.SIGSTOP)
     state = lambda: pathlib.Path(f"/proc/{child.pid}/stat").read_text().rpartition(")")[2].split()[0]
-    wait_for("the program stands", lambda: state() in ("T", "Z"))
+    wait_for("the program stands", lambda: child.returncode is not None or state() in ("T", "Z"))
 
 
 def shrinking(desk):
@@ -291,8 +311,8 @@ def shrinking(desk):
     os.close(opened_for_writing(desk.path("pipe")))
     wanted = refusal(b"truncated after 5 times", 2)
     check("shrunk before it is read", wanted[:2], child.communicate(timeout=MOST_SECONDS))
-    for part in (2, 1):
-        shrinking_while_read(desk, part)
+    shrinking_while_read(desk, lambda position: position // 2)
+    shrinking_while_read(desk, lambda position: position + 128)
 
 
 def opened_position(process, name):
@@ -308,22 +328,37 @@ def opened_position(process, name):
     return None
 
 
-def shrinking_while_read(desk, part):
-    """Half of what has been read stays, or one line more: then no more or one time more is read."""
+def shrinking_while_read(desk, size_behind):
+    """A file of lines of 128 bytes, each with a time, gets another size behind a place where it is being read. A size
+    before this place ends the file there."""
     head, line = b"2000 200 0 0 0\n", b"0" * 127 + b"\n"
     with open(desk.path("shrinks"), "wb") as file:
         file.write(head)
         file.writelines(line * 1_000 for _ in range(399))
-    child = desk.start("value --layout taillard shrinks")
-    wait_for("the file is read", lambda: (opened_position(child.pid, "shrinks") or 0) > 0)
-    stop(child)
-    position = opened_position(child.pid, "shrinks")
-    end = position // 2 if part == 2 else position + len(line)
+    child, position = stopped_while_reading(desk, "shrinks")
+    end = size_behind(position)
     os.truncate(desk.path("shrinks"), end)
     child.send_signal(signal.SIGCONT)
     begun = -(-(max(position, end) - len(head)) // len(line))
     wanted = refusal(b"truncated after %d times" % begun, 2)
     check(f"shrunk to {end} after {position} bytes", wanted[:2], child.communicate(timeout=MOST_SECONDS))
+
+
+def stopped_while_reading(desk, name):
+    """The program, which stands somewhere in the first half of a file, and how far it has read. It is started again
+    where it was further before it stood."""
+    half = desk.path(name).stat().st_size // 2
+    while True:
+        child = desk.start(f"value --layout taillard {name}")
+        while child.poll() is None:
+            if opened_position(child.pid, name):
+                stop(child)
+                position = opened_position(child.pid, name)
+                if position and position < half:
+                    return child, position
+                child.send_signal(signal.SIGCONT)
+                break
+        child.communicate(timeout=MOST_SECONDS)
 
 
 def as_nobody():
@@ -384,10 +419,12 @@ def long_lines(desk):
 
 def main():
     program = os.path.abspath(sys.argv[1]) if sys.argv[1:] else str(TOP / "crates" / "pfs" / "out" / "pfs")
+    # Where the program doesn't open a pipe that waits for it, this ends the tests.
+    signal.alarm(600)
     with tempfile.TemporaryDirectory(prefix="pfs-descriptors-") as folder:
         desk = Desk(folder, program)
-        for part in (closed, inputs, no_usual_files, readers_gone, writes_that_would_wait, named_pipes, signals,
-                     shrinking, no_permission, few_descriptors, long_lines):
+        for part in (closed, inputs, paths_of_descriptors, no_usual_files, readers_gone, writes_that_would_wait,
+                     named_pipes, signals, shrinking, no_permission, few_descriptors, long_lines):
             part(desk)
     print(f"descriptors and signals: {passed} passed, {failed} failed")
     return 1 if failed else 0

@@ -31,6 +31,7 @@ TOP = pathlib.Path(__file__).resolve().parent.parent
 PROGRAM = TOP / "crates" / "pfs" / "out" / "pfs"
 # A search of more rounds is too long for the second program.
 MOST_ROUNDS = 40
+MIB = 1 << 20
 # A program that takes longer hangs.
 MOST_SECONDS = 60
 
@@ -76,6 +77,9 @@ class Case:
         if command == b"generate":
             return others[0] * others[1] <= 4_000
         return options.get(b"--rounds", 0) <= MOST_ROUNDS
+
+    def has_great_files(self):
+        return any(text is not UNREADABLE and len(text) > MIB for text in self.files.values())
 
 
 # Running a case
@@ -224,7 +228,7 @@ class Writer:
         return [self.random.choice(titles) for _ in range(self.random.choice([0, 0, 1, 1, 2, 3]))]
 
     def shop(self):
-        most_jobs, most_machines = (300, 20) if self.is_great else (9, 5)
+        most_jobs, most_machines = self.random.choice([(300, 20), (2_000, 2), (4, 200)]) if self.is_great else (9, 5)
         jobs, machines = self.random.randint(1, most_jobs), self.random.randint(1, most_machines)
         shop = second_program.Instance(jobs, machines, [self.random.choice(NOTES) for _ in range(3)])
         most = self.random.choice([1, 9, 99, 1_000_000])
@@ -314,12 +318,11 @@ def with_number_changed(random, text, start):
 
 def near_the_limit(random, text):
     """The text with plain bytes or zeros put in, so that it ends near the greatest number of bytes."""
-    missing = MOST_BYTES - len(text) + random.randint(-2, 2)
-    places = [0] + [match.end() for match in re.finditer(rb"\n", text)]
-    place = random.choice(places)
-    filler = random.choice([b" ", b"x", b"0", b"x" * 999 + b"\n"])
+    missing = MOST_BYTES - len(text) + random.choice([-1, 0, 1, 1, 2])
+    place = random.choice([0] + [match.end() for match in re.finditer(rb"\n", text)])
+    filler = random.choice([b" ", b"x", b"0", b"x" * 99_999 + b"\n"])
     filler = (filler * (missing // len(filler) + 1))[:missing]
-    return text[:place] + filler + text[place:]
+    return text[:place] + (filler if filler[:1] == b"0" else filler[:-1] + b"\n") + text[place:]
 
 
 # Random command lines
@@ -336,10 +339,11 @@ DRAWN_SEEDS = [0, 1, 873_654_221, 2_147_483_646, 2_147_483_647, 2**64 - 1]
 
 
 class Line:
-    """Makes random command lines over the files `shop` and `order`."""
+    """Makes random command lines over an instance file and an order file of these names."""
 
-    def __init__(self, random):
+    def __init__(self, random, names):
         self.random = random
+        self.names = names
 
     def number(self, value):
         """A number as a command line may write it, rarely a word that is none."""
@@ -375,10 +379,11 @@ class Line:
         return options + ([[b"--cells"]] if self.random.random() < 0.6 else [])
 
     def mixed(self, command, options, paths):
-        """The options in any order before, between and behind the paths, which may be behind `--`."""
+        """The options in any order before, between and behind the paths, which may be behind `--`, and are if they
+        look like options."""
         random = self.random
         random.shuffle(options)
-        if random.random() < 0.1:
+        if random.random() < 0.1 or any(path.startswith(b"--") for path in paths):
             return [command] + sum(options, []) + [b"--"] + paths
         parts = options + [[path] for path in paths]
         places = sorted(random.sample(range(len(parts)), len(paths)))
@@ -405,8 +410,7 @@ class Line:
         else:
             options = [self.option(b"--layout", self.layout(layout))]
         options += self.block() + (self.search(jobs) if command == b"solve" else [])
-        paths = [b"shop", b"order"] if command in (b"check", b"table") else [b"shop"]
-        return self.mixed(command, options, paths)
+        return self.mixed(command, options, self.names[:2 if command in (b"check", b"table") else 1])
 
     def mutated(self, words):
         words = list(words)
@@ -437,33 +441,43 @@ def lengths_of_pieces(random, text):
     return lengths
 
 
+def instance_text(random, text):
+    """The text of an instance file, or what may become of it."""
+    kind = random.random()
+    if kind < 0.4:
+        return mutated(random, text)
+    if kind < 0.43:
+        return b"".join(random.choice(BYTES) for _ in range(random.randint(0, 60)))
+    return near_the_limit(random, text) if kind < 0.435 else text
+
+
+def order_text(random, text):
+    """The text of an order file, or what may become of it."""
+    kind = random.random()
+    if kind < 0.3:
+        return mutated(random, text)
+    return (text + b"0" * 70_000)[:random.choice([65_536, 65_537, 70_000])] if kind < 0.31 else text
+
+
 def random_case(random):
     writer = Writer(random)
     shops = [writer.shop() for _ in range(random.choice([1, 1, 1, 2, 3]))]
-    text, order = writer.file(shops), writer.order(random.choice(shops))
-    kind = random.random()
-    if kind < 0.4:
-        text = mutated(random, text)
-    elif kind < 0.43:
-        text = b"".join(random.choice(BYTES) for _ in range(random.randint(0, 60)))
-    elif kind < 0.438:
-        text = near_the_limit(random, text)
-    if random.random() < 0.3:
-        order = mutated(random, order)
-    elif random.random() < 0.01:
-        order = (order * 65_537)[:random.choice([65_536, 65_537, 70_000])]
-    words = [] if random.random() < 0.08 else Line(random).words(writer.layout, shops[0].jobs, writer.is_great)
+    text = instance_text(random, writer.file(shops))
+    order = order_text(random, writer.order(random.choice(shops)))
+    names = [random.choice([b"shop"] * 9 + [b"-", b"a shop", b"--shop"]), b"order"]
+    line = Line(random, names)
+    words = [] if random.random() < 0.08 else line.words(writer.layout, shops[0].jobs, writer.is_great)
     if words and random.random() < 0.08:
-        words = Line(random).mutated(words)
-    files = {b"shop": text, b"order": order}
-    for name in files:
+        words = line.mutated(words)
+    files = dict(zip(names, [text, order]))
+    for name in names:
         if random.random() < 0.02:
             files[name] = UNREADABLE
     if random.random() < 0.01:
-        del files[random.choice([b"shop", b"order"])]
+        del files[random.choice(names)]
     files.setdefault(b"/dev/null", b"")
     case = Case(words, files, b"" if words else text, is_full=random.random() < 0.02)
-    return in_pieces(random, case) if len(text) < 100_000 else case
+    return case if case.has_great_files() else in_pieces(random, case)
 
 
 def in_pieces(random, case):
@@ -587,16 +601,16 @@ def kind_of(answer):
     return re.sub("[0-9]+", "X", first)
 
 
-def search(program, seed, seconds):
-    """Runs random cases for so long, or until the two programs differ. The case is `random_case` of the seed and its
-    number, so a machine's speed changes how many there are, and no case."""
+def search(program, seed, seconds, has_great_files=True):
+    """Runs random cases for so long, or until the two programs differ. A case is made from the seed and its number,
+    so a machine's speed changes how many there are, and no case."""
     start = time.monotonic()
     kinds = collections.Counter()
     number = 0
     while time.monotonic() < start + seconds:
         number += 1
         case = random_case(random.Random(f"{seed} {number}"))
-        if not case.is_quick():
+        if not case.is_quick() or (case.has_great_files() and not has_great_files):
             continue
         wanted = case.wanted()
         kinds[kind_of(wanted)] += 1

@@ -1,7 +1,10 @@
 #!/usr/bin/env python3
 """Files of 64 MiB through each command that reads: the exact answer, in time linear in the file, with no more memory
 than the instance and 16 MiB. The files are of one byte, of digits and blanks, of one line, and of a million lines.
-Here too little is kept in memory, since what the kernel says of a program's memory counts what its starter had."""
+The program gets no more address space than that. What the kernel says of its resident memory is compared too, and
+counts what its starter had, so little is kept in memory here.
+
+usage: tests/hostile.py [PROGRAM]"""
 import os
 import pathlib
 import signal
@@ -128,10 +131,10 @@ THREE_PRINTS = {
 # Runs
 
 class Run:
-    """What a run of the program told, its status, its processor seconds and its greatest resident memory. What it
-    printed is the file `output` of the folder."""
+    """What a run of a program with so many bytes of memory told, its status, its processor seconds and its greatest
+    resident memory. What it printed is the file `output` of the folder."""
 
-    def __init__(self, program, folder, words, stdin="/dev/null"):
+    def __init__(self, folder, words, most, stdin="/dev/null"):
         output, errors = os.path.join(folder, "output"), os.path.join(folder, "errors")
         made = os.O_WRONLY | os.O_CREAT | os.O_TRUNC
         actions = [
@@ -139,7 +142,8 @@ class Run:
             (os.POSIX_SPAWN_OPEN, 1, output, made, 0o600),
             (os.POSIX_SPAWN_OPEN, 2, errors, made, 0o600),
         ]
-        child = os.posix_spawn(program, [program] + words, os.environ, file_actions=actions)
+        words = ["sh", "-c", 'ulimit -v "$0" && exec "$@"', str(most // 1024)] + words
+        child = os.posix_spawnp("sh", words, os.environ, file_actions=actions)
         signal.signal(signal.SIGALRM, lambda *_: os.kill(child, signal.SIGKILL))
         signal.alarm(MOST_SECONDS)
         _, ended, usage = os.wait4(child, 0)
@@ -168,16 +172,18 @@ class Folder:
     def __init__(self, folder, program):
         self.folder = folder
         self.program = program
+        self.starter = Run(folder, ["true"], MOST_RESIDENT).resident
 
     def path(self, name):
         return os.path.join(self.folder, name)
 
     def run(self, name, words, parts, told, status, instance=0, stdin="/dev/null"):
         """Runs the program, whose instance has so many bytes, and answers its processor seconds."""
-        ended = Run(self.program, self.folder, words, stdin)
+        most = instance + MOST_RESIDENT
+        ended = Run(self.folder, [self.program] + words, most, stdin)
         check(name, (told, status) == (ended.told, ended.status), f"told {ended.told[:200]!r}, status {ended.status}")
         check(f"{name}, output", ended.prints(parts), "printed something else")
-        most = instance + MOST_RESIDENT
+        most = max(most, self.starter)
         check(f"{name}, memory", ended.resident <= most, f"{ended.resident} bytes, at most {most} were wanted")
         return ended.seconds
 
@@ -191,9 +197,10 @@ class Folder:
             words = words_of(command, self.path("three"), great)
             self.run(f"{command}, an order file of {name}", words, [], ORDER_TOO_LONG, 2)
 
-    def linear(self, name, seconds, half):
-        """Half the file takes no less than a third of the time. A second on top is for what else the machine does."""
-        check(f"{name}, time", seconds <= 3 * half + 1, f"{seconds} s, and {half} s for half the file")
+    def linear(self, name, seconds, eighth):
+        """An eighth of the file takes no less than a twenty-seventh of the time: twice the file takes at most three
+        times as long. A file that took time by the square of its length would take 64 times as long as its eighth."""
+        check(f"{name}, time", seconds <= 27 * eighth + 0.1, f"{seconds} s, and {eighth} s for an eighth of the file")
 
 
 def fills(at):
@@ -201,10 +208,10 @@ def fills(at):
     for part, told in FILLS:
         name = f"64 MiB of {part!r}"
         value = words_of("value", great, "")
-        write_repeated(great, part, SIZE // 2)
-        half = at.run(f"value, half of {name}", value, [], told, 2)
+        write_repeated(great, part, SIZE // 8)
+        eighth = at.run(f"value, an eighth of {name}", value, [], told, 2)
         write_repeated(great, part, SIZE)
-        at.linear(name, at.run(f"value, {name}", value, [], told, 2), half)
+        at.linear(name, at.run(f"value, {name}", value, [], told, 2), eighth)
         at.run(f"value by job, {name}", ["value", "--layout", "orlib", great], [], told, 2)
         at.refused(name, told)
         write_repeated(great, part, SIZE + 1)
@@ -214,10 +221,10 @@ def fills(at):
 def one_line(at):
     great = at.path("great")
     value = words_of("value", great, "")
-    write_one_line(great, SIZE // 2)
-    half = at.run("value, a line of 32 MiB", value, [THREE_PRINTS["value"]], b"", 0)
+    write_one_line(great, SIZE // 8)
+    eighth = at.run("value, a line of 8 MiB", value, [THREE_PRINTS["value"]], b"", 0)
     write_one_line(great, SIZE)
-    at.linear("a line of 64 MiB", at.run("value, a line of 64 MiB", value, [THREE_PRINTS["value"]], b"", 0), half)
+    at.linear("a line of 64 MiB", at.run("value, a line of 64 MiB", value, [THREE_PRINTS["value"]], b"", 0), eighth)
     for command in COMMANDS:
         words = words_of(command, great, at.path("best"))
         at.run(f"{command}, a line of 64 MiB", words, [THREE_PRINTS[command]], b"", 0)
@@ -229,7 +236,7 @@ def one_line(at):
 def many_lines(at):
     great, order, machines = at.path("great"), at.path("ones"), 200
     seconds = []
-    for jobs, lines in ((1_000, 500_000), (2_000, 1_000_000)):
+    for jobs, lines in ((250, 125_000), (2_000, 1_000_000)):
         write_many_lines(great, jobs, machines, lines)
         name = f"{lines} lines"
         value = words_of("value", great, "")

@@ -1,6 +1,7 @@
 #!/usr/bin/env python3
 """How soon tests/fuzz.py finds bugs: plants each of these in a copy of the sources, builds it without proofs, and
-tells after how many seconds the two programs differed. No part of `make test`.
+tells after how many seconds the two programs differed. The copies are slow, so no file is great. No part of
+`make test`.
 
 usage: tests/planted.py [--seconds N] [--seed N]"""
 import argparse
@@ -22,8 +23,8 @@ BUGS = [
     ("a round keeps only shorter orders",
      ("pfs_search/src/greedy.rt", "    if span <= kept.span {", "    if span < kept.span {")),
     ("the bound leaves out the times behind a machine",
-     ("pfs_audit/src/bounds.rt", "        let after = least_between(instance, machine + 1, machines);",
-      "        let after = least_between(instance, machine + 1, machine + 1);")),
+     ("pfs_audit/src/bounds.rt", "        sums.after[machine] = sums.after[machine].min(total - through);",
+      "        sums.after[machine] = sums.after[machine].min(0);")),
     ("an order file may state a makespan of nineteen digits",
      ("pfs_order/src/reading.rt", "const GREATEST_MAKESPAN: u64 = 999_999_999_999_999_999;",
       "const GREATEST_MAKESPAN: u64 = 9_999_999_999_999_999_999;")),
@@ -40,7 +41,7 @@ def main():
         with tempfile.TemporaryDirectory(prefix="pfs-planted-") as folder:
             program = build(pathlib.Path(folder), edit)
             print(f"planted: {bug}", flush=True)
-            unseen += fuzz.search(str(program), given.seed, given.seconds)
+            unseen += fuzz.search(str(program), given.seed, given.seconds, False)
     print(f"{len(BUGS)} bugs planted, {unseen} not found")
     return 1 if unseen else 0
 

@@ -1,7 +1,7 @@
 -- What a search finds, counts and prints.
-use Rattle.std.proofs.Common.{◌≡◌, ℕ, zero, suc, ◌+◌, ◌-◌, ◌*◌, ◌<◌, ◌≤◌, ◌^◌, Bool, true, false, List, [], ◌∷◌, ◌++◌, Option, length, map, get_or, cond, codes, refl, ap, ◌∙◌, arith}
+use Rattle.std.proofs.Common.{◌≡◌, ℕ, zero, suc, ◌+◌, ◌-◌, ◌*◌, ◌<◌, ◌≤◌, ◌^◌, Bool, true, false, List, [], ◌∷◌, ◌++◌, Option, length, map, get_or, cond, codes, refl, sym, subst, ap, ◌∙◌, arith, lit<, lit≤}
 use Rattle.std.proofs.lemmas.List.{append-nil}
-use Rattle.std.proofs.Math.Nat.{mul-le-mul, mul-le-mul_right}
+use Rattle.std.proofs.Math.Nat.{mul-le-mul, mul-le-mul_left, mul-le-mul_right}
 use Rattle.rand_core.specs.Pcg32Seed.{pcg32_seed}
 use Rattle.rand_core.specs.Steps.{stream_of, steps_u32, first_words}
 use Rattle.rand_core.specs.Stream.{Stream}
@@ -56,26 +56,38 @@ rounds_cells_are shop rounds many few = ap (λ cells. rounds * cells) (closed.ro
 pub rounds_cells_few : (shop : FlowShop) (rounds many : ℕ) → many ≤ shop.jobs →
     rounds_cells shop rounds many ≤ rounds * many * shop.machines * (4 * shop.jobs - 2)
 rounds_cells_few shop rounds many few =
-    let all = closed.rounds rounds shop.jobs shop.machines many few in
-    let are = rounds_cells_are shop rounds many few in
-    omega arith
+    subst (λ cells. cells ≤ rounds * many * shop.machines * (4 * shop.jobs - 2)) (rounds_cells_are shop rounds many few)
+    (closed.rounds rounds shop.jobs shop.machines many few)
+
+-- ---- bounds, over numbers alone
+
+through : (a b c : ℕ) → a ≤ b → b ≤ c → a ≤ c
+through a b c h k = omega arith
+
+below_room : (cells bound most : ℕ) → cells ≤ bound → bound ≤ most → most < 2 ^ 62 → cells < 2 ^ 62
+below_room cells bound most h k room = omega arith
+
+width_within : (jobs most : ℕ) → jobs ≤ most → 4 * jobs - 2 ≤ 4 * most
+width_within jobs most h = omega arith
+
+cells_within : (jobs machines most_jobs most_machines : ℕ) → jobs ≤ most_jobs → machines ≤ most_machines
+    → jobs + (machines - 1) ≤ most_jobs + most_machines
+cells_within jobs machines most_jobs most_machines h k = omega arith
 
 -- so many cells can be counted
 pub neh_room : (shop : FlowShop) → IsWithin limits shop → neh_cost heads_tails_cost shop.jobs shop.machines < 2 ^ 62
 neh_room shop within =
-    let square = mul-le-mul within.sizes.few_jobs within.sizes.few_jobs in
-    let all = mul-le-mul within.sizes.few_machines square in
-    let are = neh_cells_are shop in
-    omega arith
+    let many = mul-le-mul (mul-le-mul_left 2 within.sizes.few_machines) (mul-le-mul within.sizes.few_jobs within.sizes.few_jobs) in
+    let most = 2 * MOST_MACHINES * (MOST_JOBS * MOST_JOBS) in
+    below_room _ _ most (subst (λ cells. cells ≤ most) (sym (neh_cells_are shop)) many) (lit≤ tt) (lit< tt)
 
 pub rounds_room : (shop : FlowShop) (rounds many : ℕ) → IsWithin limits shop → many ≤ shop.jobs → rounds ≤ MOST_ROUNDS →
     rounds * round_cost heads_tails_cost shop.jobs shop.machines many 0 < 2 ^ 62
 rounds_room shop rounds many within few short =
-    let most = closed.rounds rounds shop.jobs shop.machines many few in
-    let taken : many ≤ MOST_JOBS = omega (arith, within.sizes.few_jobs) in
-    let width : 4 * shop.jobs - 2 ≤ 4 * MOST_JOBS = omega (arith, within.sizes.few_jobs) in
-    let all = mul-le-mul (mul-le-mul (mul-le-mul short taken) within.sizes.few_machines) width in
-    omega arith
+    let taken = through many shop.jobs MOST_JOBS few within.sizes.few_jobs in
+    let width = width_within shop.jobs MOST_JOBS within.sizes.few_jobs in
+    below_room _ _ (MOST_ROUNDS * MOST_JOBS * MOST_MACHINES * (4 * MOST_JOBS)) (closed.rounds rounds shop.jobs shop.machines many few)
+    (mul-le-mul (mul-le-mul (mul-le-mul short taken) within.sizes.few_machines) width) (lit< tt)
 
 -- ---- makespans
 
@@ -85,7 +97,7 @@ makespan_short shop order within e =
     let weigh = operation shop order in
     let times : (row machine : ℕ) → operation shop order row machine ≤ LONGEST_TIME = λ row machine. time_of-le shop within (get_or order row 0) machine in
     let below = head_le weigh LONGEST_TIME times (length order) (shop.machines - 1) in
-    let cells : length order + (shop.machines - 1) ≤ MOST_JOBS + MOST_MACHINES = omega (arith, within.sizes.few_jobs, within.sizes.few_machines) in
+    let cells = cells_within (length order) shop.machines MOST_JOBS MOST_MACHINES (subst (λ n. n ≤ MOST_JOBS) (sym e) within.sizes.few_jobs) within.sizes.few_machines in
     let all = mul-le-mul_right LONGEST_TIME cells in
     let is = makespan_is shop order in
     omega arith
@@ -115,8 +127,9 @@ found_is shop rounds many seed generator old old_span old_cells order span cells
   all = all;
   distinct = distinct;
   spanned = done.is_span;
-  no_longer = let e = neh.is_span in let f = ap (makespan shop) neh.is_order in let g = done.never_rises in omega arith;
-  counted = let e = neh.counted in let f = done.counted in let n = neh_cells_are shop in let r = rounds_cells_are shop rounds many few in omega arith;
+  no_longer = subst (λ most. span ≤ most) (neh.is_span ∙ ap (makespan shop) neh.is_order) done.never_rises;
+  counted = done.counted ∙ ap (λ n. n + rounds * round_cost heads_tails_cost shop.jobs shop.machines many 0) (neh.counted ∙ neh_cells_are shop)
+      ∙ ap (λ n. neh_cells shop + n) (rounds_cells_are shop rounds many few);
   few_cells = rounds_cells_few shop rounds many few;
 }
 

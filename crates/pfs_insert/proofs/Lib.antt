@@ -2,5 +2,7 @@ pub mod Published
 pub mod Exchange
 pub mod FirstLeast
 pub mod FlatRows
+pub mod Joined
 pub mod RowSteps
+pub mod SoFar
 pub mod TailRows

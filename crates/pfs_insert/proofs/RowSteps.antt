@@ -42,6 +42,10 @@ value_is r a b t x y u p q s w = omega arith
 pub value_small : (r a b t limit x time : ℕ) → r ≡ max a b + t → a ≤ limit → b ≤ limit + x * time → t ≤ time → r ≤ limit + (x + 1) * time
 value_small r a b t limit x time p q s w = omega arith
 
+-- nor where the value above it is one that the same loop computed
+pub chain_small : (r a b t limit x time : ℕ) → r ≡ max a b + t → a ≤ limit + x * time → b ≤ limit + x * time → t ≤ time → r ≤ limit + (x + 1) * time
+chain_small r a b t limit x time p q s w = omega arith
+
 -- what is read of a list that was written to
 pub written : {X : Type 0} (number : X → ℕ) (items : List X) (at : ℕ) (x : X) (k : ℕ) (d : X) (v : ℕ) → at < length items → (k ≡ at → number x ≡ v) → (k ≢ at → number (get_or items k d) ≡ v) → number (get_or (set items at x) k d) ≡ v
 written number items at x k d v within here there =

@@ -7,13 +7,10 @@ use Rattle.pfs_base.specs.Limits.{limits}
 use Rattle.pfs_base.specs.Paths.{heaviest, operation}
 use Rattle.pfs_base.proofs.Published.Heaviest.{most, most_here, most_on, most_down, most_first, most_moved}
 use Rattle.pfs_base.proofs.Published.Heads.{head, head_le, head_step, heaviest_is, time_of-le}
-use Rattle.pfs_base.proofs.Published.Lists.{map-range_with_len-same}
-use Rattle.pfs_base.specs.Paths.{greatest}
 use Rattle.pfs_insert.specs.Exchange.{heaviest_front, heaviest_back}
-use Rattle.pfs_insert.specs.Insertion.{makespan_with}
-use Rattle.pfs_insert.specs.Rows.{next_row, greatest_sum, from_last, AreNumbers, AreBack}
-use Rattle.pfs_insert.proofs.FlatRows.{numbers_back, back_numbers}
-use Rattle.pfs_insert.proofs.Exchange.{exchange_law, operation_before, operation_at}
+use Rattle.pfs_insert.specs.Rows.{next_row, from_last, head_row, tail_row, head_of, AreNumbers, AreBack}
+use Rattle.pfs_insert.proofs.FlatRows.{back_numbers}
+use Rattle.pfs_insert.proofs.Exchange.{operation_before, operation_at}
 use Rattle.pfs_insert.proofs.RowSteps.{next_row_same}
 
 most_at : (weigh : ℕ → ℕ → ℕ) {a b c d : ℕ} (row machine : ℕ) → a ≡ c → b ≡ d → most weigh a b row machine ≡ most weigh c d row machine
@@ -151,32 +148,44 @@ module _ (shop : FlowShop) (jobs : List ℕ) (job place : ℕ) (within : place �
       by_rows zero same = refl
       by_rows (suc row) same = most_moved (operation shop jobs) (operation shop (insert jobs place job)) row machine 0 0 0 (λ k m le. same (0 + k) m (omega arith))
 
-  front_is : (machine : ℕ) → next_row (time_of shop job) (head (operation shop jobs) place) machine ≡ heaviest_front shop (insert jobs place job) place machine
+  pub front_is : (machine : ℕ) → next_row (time_of shop job) (head (operation shop jobs) place) machine ≡ heaviest_front shop (insert jobs place job) place machine
   front_is machine =
       next_row_same (time_of shop job) (operation shop (insert jobs place job) place) (head (operation shop jobs) place) (head (operation shop (insert jobs place job)) place) machine
       (λ k le. sym (operation_at shop jobs job place within k)) (λ k le. same_heads k)
       ∙ next_row_heads shop (insert jobs place job) place machine ∙ sym (heaviest_is (operation shop (insert jobs place job)) place machine)
 
-  -- the makespan with the job there
-  pub with_rows : 1 ≤ shop.machines → greatest_sum shop.machines (next_row (time_of shop job) (head (operation shop jobs) place)) (heaviest_back shop jobs place) ≡ makespan_with shop jobs job place
-  with_rows some =
-      ap greatest (map-range_with_len-same _ _ 0 shop.machines (λ machine low high. ap (λ x. x + heaviest_back shop jobs place machine) (front_is machine)))
-      ∙ sym (exchange_law shop jobs job place some within)
+-- heads, as the definitions have them
+module _ (shop : FlowShop) (jobs : List ℕ) where
+  pub head_of_is : (place machine : ℕ) → head_of shop jobs place machine ≡ head (operation shop jobs) place machine
+  head_of_is zero machine = refl
+  head_of_is (suc place) machine = heaviest_is (operation shop jobs) place machine
 
--- a row of tails as the loop leaves it
-module _ {X : Type 0} (number : X → ℕ) (shop : FlowShop) (jobs : List ℕ) (some : 1 ≤ shop.machines) (below : List X) where
+  -- the row of heads behind a job
+  pub head_next : (place job : ℕ) (heads : ℕ → ℕ) → job ≡ get_or jobs place 0 → ((machine : ℕ) → heads machine ≡ head_of shop jobs place machine) → (machine : ℕ) → head_row shop job heads machine ≡ head_of shop jobs (place + 1) machine
+  head_next place job heads is told machine =
+      next_row_same (time_of shop job) (operation shop jobs place) heads (head (operation shop jobs) place) machine (λ m le. ap (λ j. time_of shop j m) is) (λ m le. told m ∙ head_of_is place m)
+      ∙ next_row_heads shop jobs place machine ∙ sym (head_of_is (suc place) machine) ∙ sym (ap (λ p. head_of shop jobs p machine) (add-one place))
+
+  -- the row of a job that is inserted
+  pub put_row : (job place : ℕ) (heads : ℕ → ℕ) → place ≤ length jobs → ((machine : ℕ) → heads machine ≡ head_of shop jobs place machine) → (machine : ℕ) → head_row shop job heads machine ≡ heaviest_front shop (insert jobs place job) place machine
+  put_row job place heads within told machine =
+      next_row_same (time_of shop job) (time_of shop job) heads (head (operation shop jobs) place) machine (λ m le. refl) (λ m le. told m ∙ head_of_is place m)
+      ∙ front_is shop jobs job place within machine
+
+-- rows of tails as a loop leaves them
+module _ {X : Type 0} (number : X → ℕ) (shop : FlowShop) (jobs : List ℕ) (some : 1 ≤ shop.machines) where
   abbrev end : ℕ
   end = shop.machines - 1
 
-  abbrev row_of : ℕ → (ℕ → ℕ) → ℕ → ℕ
-  row_of job tails = next_row (from_last end (time_of shop job)) tails
+  abbrev pub tails_at : ℕ → ℕ → ℕ
+  tails_at row = from_last end (heaviest_back shop jobs row)
 
-  pub one_row : (row job : ℕ) (new : List X) → row < length jobs → job ≡ get_or jobs row 0 → AreNumbers number below shop.machines (heaviest_back shop jobs (row + 1))
-      → ((tails : ℕ → ℕ) → AreBack number below end tails → AreBack number new end (row_of job tails)) → AreNumbers number new shop.machines (heaviest_back shop jobs row)
-  one_row row job new lt is told made =
-      let tails = from_last end (heaviest_back shop jobs (row + 1)) in
-      let new_told = made tails (numbers_back number shop.machines some (heaviest_back shop jobs (row + 1)) below told) in
-      back_numbers number shop.machines some (heaviest_back shop jobs row) new (λ back d le. new_told back d le ∙ tail_row_is shop jobs row job tails lt is (λ k small. refl) back le)
+  -- the values of a row by those of the row below it
+  pub tail_next : (row job : ℕ) (below : ℕ → ℕ) → row < length jobs → job ≡ get_or jobs row 0 → ((back : ℕ) → back ≤ end → below back ≡ tails_at (row + 1) back) → (back : ℕ) → back ≤ end → tail_row shop job below back ≡ tails_at row back
+  tail_next row job below lt is told = tail_row_is shop jobs row job below lt is told
+
+  pub row_told : (row : ℕ) (values : ℕ → ℕ) (new : List X) → ((back : ℕ) → back ≤ end → values back ≡ tails_at row back) → AreBack number new end values → AreNumbers number new shop.machines (heaviest_back shop jobs row)
+  row_told row values new is told = back_numbers number shop.machines some (heaviest_back shop jobs row) new (λ back d le. told back d le ∙ is back le)
 
 -- heads and tails are as short as a path can be
 module _ (shop : FlowShop) (within : IsWithin limits shop) (jobs : List ℕ) (few : length jobs ≤ shop.jobs) where
@@ -186,9 +195,11 @@ module _ (shop : FlowShop) (within : IsWithin limits shop) (jobs : List ℕ) (fe
   pub heads_short : (row machine : ℕ) → row ≤ length jobs → machine < shop.machines → head (operation shop jobs) row machine ≤ (MOST_JOBS + MOST_MACHINES) * LONGEST_TIME
   heads_short row machine le lt = let sizes = within.sizes in let short = head_le (operation shop jobs) LONGEST_TIME (λ r m. time_of-le shop within (get_or jobs r 0) m) row machine in omega arith
 
--- the makespan with a job at a place, from what a loop over the machines answers
-pub span_value : {X : Type 0} (number : X → ℕ) (shop : FlowShop) (jobs : List ℕ) (job place : ℕ) (above tail : List X) (span : X) → 1 ≤ shop.machines → place ≤ length jobs
-    → AreNumbers number above shop.machines (head (operation shop jobs) place) → AreNumbers number tail shop.machines (heaviest_back shop jobs place)
-    → ((heads tails : ℕ → ℕ) → AreNumbers number above shop.machines heads → AreNumbers number tail shop.machines tails → number span ≡ greatest_sum shop.machines (next_row (time_of shop job) heads) tails)
-    → number span ≡ makespan_with shop jobs job place
-span_value number shop jobs job place above tail span some within heads tails made = made _ _ heads tails ∙ with_rows shop jobs job place within some
+  -- and so is the row of an inserted job
+  pub put_short : (job place machine : ℕ) → place ≤ length jobs → machine < shop.machines → heaviest_front shop (insert jobs place job) place machine ≤ (MOST_JOBS + MOST_MACHINES + 1) * LONGEST_TIME
+  put_short job place machine le lt =
+      let sizes = within.sizes in
+      let weigh = operation shop (insert jobs place job) in
+      let is = heaviest_is weigh place machine in
+      let short = head_le weigh LONGEST_TIME (λ r m. time_of-le shop within (get_or (insert jobs place job) r 0) m) (suc place) machine in
+      omega arith

@@ -1,8 +1,10 @@
 -- Rows of lengths, each from the row beside it.
-use Rattle.std.specs.Prelude.{◌≡◌, ℕ, zero, suc, ◌+◌, ◌-◌, ◌*◌, ◌<◌, ◌≤◌, max, List, map}
+use Rattle.std.specs.Prelude.{◌≡◌, ℕ, zero, suc, ◌+◌, ◌-◌, ◌*◌, ◌<◌, ◌≤◌, max, List, length, map, insert}
 use Rattle.std.specs.List.{range_with_len, slice_index_or}
 use Rattle.pfs_base.specs.declared.limits.TheConstants.{MOST_JOBS, MOST_MACHINES, LONGEST_TIME}
+use Rattle.pfs_base.specs.FlowShop.{FlowShop, time_of}
 use Rattle.pfs_base.specs.Paths.{greatest}
+use Rattle.pfs_insert.specs.Exchange.{heaviest_front, heaviest_back}
 
 -- the value at a machine is the greater of the one above it and the one before it, plus the time
 abbrev pub next_row : (ℕ → ℕ) → (ℕ → ℕ) → ℕ → ℕ
@@ -14,13 +16,20 @@ abbrev pub value_before : (ℕ → ℕ) → ℕ → ℕ
 value_before values zero = 0
 value_before values (suc machine) = values machine
 
--- the greatest sum of a front and a back at one of the machines
-abbrev pub greatest_sum : ℕ → (ℕ → ℕ) → (ℕ → ℕ) → ℕ
-greatest_sum machines fronts backs = greatest (map (λ machine. fronts machine + backs machine) (range_with_len 0 machines))
-
 -- values by how many machines they stand before the last
 abbrev pub from_last : ℕ → (ℕ → ℕ) → ℕ → ℕ
 from_last last values back = values (last - back)
+
+-- a job's row of heads from the row above it, and its row of tails, from the last machine on, from the row below it
+abbrev pub head_row : FlowShop → ℕ → (ℕ → ℕ) → ℕ → ℕ
+head_row shop job = next_row (time_of shop job)
+
+abbrev pub tail_row : FlowShop → ℕ → (ℕ → ℕ) → ℕ → ℕ
+tail_row shop job = next_row (from_last (shop.machines - 1) (time_of shop job))
+
+-- the greatest sum of a front and a back at one of the machines
+abbrev pub greatest_sum : ℕ → (ℕ → ℕ) → (ℕ → ℕ) → ℕ
+greatest_sum machines fronts backs = greatest (map (λ machine. fronts machine + backs machine) (range_with_len 0 machines))
 
 -- the lengths of a row are these numbers
 abbrev pub AreNumbers : {X : Type 0} → (X → ℕ) → List X → ℕ → (ℕ → ℕ) → Type 0
@@ -41,6 +50,24 @@ AreBack {X} number row last values =
 abbrev pub AreShort : {X : Type 0} → (X → ℕ) → List X → ℕ → Type 0
 AreShort {X} number row machines =
     (machine : ℕ) (d : X) → machine < machines → number (slice_index_or row machine d) ≤ (MOST_JOBS + MOST_MACHINES) * LONGEST_TIME
+
+-- when the jobs before a place of the sequence are done on a machine, where each begins as soon as it can
+abbrev pub head_of : FlowShop → List ℕ → ℕ → ℕ → ℕ
+head_of shop jobs zero machine = 0
+head_of shop jobs (suc place) machine = heaviest_front shop jobs place machine
+
+-- a row of a table of heads, which counts from 0, holds those of the jobs before a place
+pub record HasHead {X : Type 0} (number : X → ℕ) (shop : FlowShop) (jobs : List ℕ) (rows : List X) (place : ℕ) : Type 0 where
+  pub row_is : AreNumbersFrom number rows (place * shop.machines) shop.machines (head_of shop jobs place)
+
+-- the rows of tails from a place of the sequence on, which end before the last row of the table, a row of zeros
+pub record HasTails {X : Type 0} (number : X → ℕ) (shop : FlowShop) (jobs : List ℕ) (rows : List X) (from : ℕ) : Type 0 where
+  pub rows_are : (place : ℕ) → from ≤ place → place ≤ length jobs
+      → AreNumbersFrom number rows ((shop.jobs - 1 - length jobs + place) * shop.machines) shop.machines (heaviest_back shop jobs place)
+
+-- the row of a job that is inserted at a place
+pub record IsPut {X : Type 0} (number : X → ℕ) (shop : FlowShop) (jobs : List ℕ) (job place : ℕ) (row : List X) : Type 0 where
+  pub row_is : AreNumbers number row shop.machines (heaviest_front shop (insert jobs place job) place)
 
 -- how many jobs and machines the shops have that an inserter was made for
 pub record Sizes : Type 0 where

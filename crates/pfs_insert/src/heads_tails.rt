@@ -1,12 +1,12 @@
 //! The fast way to find the best place: heads and tails (Taillard, 1990).
 ghost use Rattle.std.specs.Prelude.{◌≡◌, ℕ, ◌+◌, ◌-◌, ◌*◌, ◌<◌, ◌≤◌, ◌^◌, length, false, vec_len, Contains, IfOk};
-ghost use Rattle.pfs_insert.specs.Exchange.{heaviest_back};
 ghost use Rattle.pfs_insert.specs.Insertion.{best_place, heads_tails_cost, makespan_with};
 ghost use Rattle.pfs_insert.specs.Rows.{AreNumbers, AreNumbersFrom};
 
 use crate::fault::InsertFault;
-use crate::inserter::{Inserter, Placed, better};
-use crate::rows::{fill_head, fill_tail, join_inserted};
+use crate::inserter::{Inserter, Placed};
+use crate::places::best_by_rows;
+use crate::tails::fill_tails;
 use pfs_base::{Bench, Length};
 use pfs_order::Seq;
 use std::alloc::{AllocError, Global};
@@ -23,9 +23,9 @@ pub struct HeadsTails<B: Bench> {
 
 /// A table of 2n + 1 rows of m lengths, for n jobs on m machines: a row of zeros, n - 1 rows of heads,
 /// n - 1 rows of tails, a row of zeros, and the inserted row. The heads of a sequence begin behind the
-/// first row, and its tails end before the second row of zeros. A loop over the machines borrows two rows,
-/// one of them for writing where it fills it, and no row is copied. The lengths of the inserted row are
-/// joined with the tails as they come, so that its place in the table isn't written.
+/// first row, and its tails end before the second row of zeros. Where a loop computes the heads of two jobs,
+/// the first one's aren't stored: in their row stands the inserted row before the second job. The rows that a
+/// loop borrows are disjoint parts of the table, and none is copied.
 #[derive(Drop)]
 struct Table<S: Length> {
     jobs: usize,
@@ -63,7 +63,7 @@ impl<B: Bench> HeadsTails<B> {
         };
         match lengths.resize(size, bench.zero()) {
             Ok(()) => {}
-            Err(AllocError) => return Err(InsertFault::Memory),
+            Err(AllocError) => unreachable!(),
         }
         Ok(HeadsTails {
             table: Table {
@@ -120,94 +120,9 @@ fn best_in_table<B: Bench>(
     ensures counted { B.counted bench.new ≡ B.counted bench.old + heads_tails_cost (length seq.now.jobs + 1) (B.shop bench.old).machines }
     ensures shop { B.shop bench.new ≡ B.shop bench.old }
 {
-    let (heads, tails) = table.split_at_mut(seq.size() * bench.machines());
+    let machines = bench.machines();
+    let (heads, rest) = table.split_at_mut(seq.size() * machines);
+    let (tails, put) = rest.split_at_mut(seq.size() * machines);
     fill_tails(bench, seq, tails);
-    best_by_rows(bench, seq, job, heads, tails)
-}
-
-// Fills the rows of tails of a sequence, from its last job on. The rows are those of the tails of n - 1
-// jobs, the row of zeros behind them, and one row more; those of the sequence end before the row of zeros.
-#[inline(always)]
-fn fill_tails<B: Bench>(bench: &mut B, seq: &Seq, rows: &mut [B::Span])
-    requires size { seq.now.size ≡ (B.shop bench.old).jobs }
-    requires few { length seq.now.jobs < (B.shop bench.old).jobs }
-    requires rows { length rows.old ≡ ((B.shop bench.old).jobs + 1) * (B.shop bench.old).machines }
-    requires no_tail { AreNumbersFrom B.Span.number rows.old (((B.shop bench.old).jobs - 1) * (B.shop bench.old).machines) (B.shop bench.old).machines (λ machine. 0) }
-    requires room { B.counted bench.old + length seq.now.jobs * (B.shop bench.old).machines < 2 ^ 64 }
-    ensures tails { (row : ℕ) → row ≤ length seq.now.jobs
-        → AreNumbersFrom B.Span.number rows.new (((B.shop bench.old).jobs - 1 - length seq.now.jobs + row) * (B.shop bench.old).machines) (B.shop bench.old).machines (heaviest_back (B.shop bench.old) seq.now.jobs row) }
-    ensures counted { B.counted bench.new ≡ B.counted bench.old + length seq.now.jobs * (B.shop bench.old).machines }
-    ensures shop { B.shop bench.new ≡ B.shop bench.old }
-{
-    let machines = bench.machines();
-    let len = seq.len();
-    let last = seq.size() - 1;
-    for filled in 0..len {
-        let below = last - filled;
-        let (front, back) = rows.split_at_mut(below * machines);
-        fill_tail(
-            bench,
-            seq.at(len - 1 - filled),
-            &back[..machines],
-            &mut front[(below - 1) * machines..],
-        );
-    }
-}
-
-// The best place of a job in a sequence whose rows of tails are filled, and the makespan with the job
-// there. The rows of heads are filled as the places go on.
-#[inline(always)]
-fn best_by_rows<B: Bench>(
-    bench: &mut B,
-    seq: &Seq,
-    job: usize,
-    heads: &mut [B::Span],
-    tails: &[B::Span],
-) -> Placed<B::Span>
-    requires job { job < (B.shop bench.old).jobs }
-    requires size { seq.now.size ≡ (B.shop bench.old).jobs }
-    requires few { length seq.now.jobs < (B.shop bench.old).jobs }
-    requires heads { length heads.old ≡ (B.shop bench.old).jobs * (B.shop bench.old).machines }
-    requires tails { length tails.now ≡ ((B.shop bench.old).jobs + 1) * (B.shop bench.old).machines }
-    requires no_head { AreNumbers B.Span.number heads.old (B.shop bench.old).machines (λ machine. 0) }
-    requires backs { (row : ℕ) → row ≤ length seq.now.jobs
-        → AreNumbersFrom B.Span.number tails.now (((B.shop bench.old).jobs - 1 - length seq.now.jobs + row) * (B.shop bench.old).machines) (B.shop bench.old).machines (heaviest_back (B.shop bench.old) seq.now.jobs row) }
-    requires room { B.counted bench.old + (3 * length seq.now.jobs + 2) * (B.shop bench.old).machines < 2 ^ 64 }
-    ensures place { result.place ≡ best_place (B.shop bench.old) seq.now.jobs job }
-    ensures within { result.place ≤ length seq.now.jobs }
-    ensures span { B.Span.number result.span ≡ makespan_with (B.shop bench.old) seq.now.jobs job result.place }
-    ensures no_head { AreNumbers B.Span.number heads.new (B.shop bench.old).machines (λ machine. 0) }
-    ensures counted { B.counted bench.new ≡ B.counted bench.old + (3 * length seq.now.jobs + 2) * (B.shop bench.old).machines }
-    ensures shop { B.shop bench.new ≡ B.shop bench.old }
-{
-    let machines = bench.machines();
-    let len = seq.len();
-    let first = seq.size() - 1 - len;
-    let mut best = Placed {
-        place: 0,
-        span: bench.zero(),
-    };
-    for place in 0..len {
-        let span = join_inserted(
-            bench,
-            job,
-            &heads[place * machines..(place + 1) * machines],
-            &tails[(first + place) * machines..(first + place + 1) * machines],
-        );
-        best = better(best, place, span);
-        let (front, back) = heads.split_at_mut((place + 1) * machines);
-        fill_head(
-            bench,
-            seq.at(place),
-            &front[place * machines..],
-            &mut back[..machines],
-        );
-    }
-    let span = join_inserted(
-        bench,
-        job,
-        &heads[len * machines..(len + 1) * machines],
-        &tails[(first + len) * machines..(first + len + 1) * machines],
-    );
-    better(best, len, span)
+    best_by_rows(bench, seq, job, heads, tails, put)
 }

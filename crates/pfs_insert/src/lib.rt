@@ -7,7 +7,9 @@ pub mod fault;
 pub mod heads_tails;
 pub mod inserter;
 pub mod laws;
+mod places;
 mod rows;
+mod tails;
 #[cfg(test)]
 mod tests;
 

@@ -1,11 +1,10 @@
 //! Rows of lengths, each computed from the row beside it.
 ghost use Rattle.std.specs.Prelude.{◌≡◌, ℕ, ◌+◌, ◌-◌, ◌*◌, ◌<◌, ◌^◌, length};
-ghost use Rattle.pfs_base.specs.FlowShop.{time_of};
-ghost use Rattle.pfs_insert.specs.Rows.{next_row, greatest_sum, from_last, AreNumbers, AreBack, AreShort};
+ghost use Rattle.pfs_insert.specs.Rows.{head_row, tail_row, AreNumbers, AreBack, AreShort};
 
 use pfs_base::{Bench, Length};
 
-/// Fills a job's row of heads from the row above it.
+/// Fills a job's row from the row of heads above it: its row of heads, or the row of a job that is inserted.
 #[inline(always)]
 pub(crate) fn fill_head<B: Bench>(bench: &mut B, job: usize, above: &[B::Span], row: &mut [B::Span])
     requires job { job < (B.shop bench.old).jobs }
@@ -14,7 +13,7 @@ pub(crate) fn fill_head<B: Bench>(bench: &mut B, job: usize, above: &[B::Span], 
     requires above_short { AreShort B.Span.number above.now (B.shop bench.old).machines }
     requires room { B.counted bench.old + (B.shop bench.old).machines < 2 ^ 64 }
     ensures row { (heads : ℕ → ℕ) → AreNumbers B.Span.number above.now (B.shop bench.old).machines heads
-        → AreNumbers B.Span.number row.new (B.shop bench.old).machines (next_row (time_of (B.shop bench.old) job) heads) }
+        → AreNumbers B.Span.number row.new (B.shop bench.old).machines (head_row (B.shop bench.old) job heads) }
     ensures counted { B.counted bench.new ≡ B.counted bench.old + (B.shop bench.old).machines }
     ensures shop { B.shop bench.new ≡ B.shop bench.old }
 {
@@ -34,7 +33,7 @@ pub(crate) fn fill_tail<B: Bench>(bench: &mut B, job: usize, below: &[B::Span], 
     requires below_short { AreShort B.Span.number below.now (B.shop bench.old).machines }
     requires room { B.counted bench.old + (B.shop bench.old).machines < 2 ^ 64 }
     ensures row { (tails : ℕ → ℕ) → AreBack B.Span.number below.now ((B.shop bench.old).machines - 1) tails
-        → AreBack B.Span.number row.new ((B.shop bench.old).machines - 1) (next_row (from_last ((B.shop bench.old).machines - 1) (time_of (B.shop bench.old) job)) tails) }
+        → AreBack B.Span.number row.new ((B.shop bench.old).machines - 1) (tail_row (B.shop bench.old) job tails) }
     ensures counted { B.counted bench.new ≡ B.counted bench.old + (B.shop bench.old).machines }
     ensures shop { B.shop bench.new ≡ B.shop bench.old }
 {
@@ -45,34 +44,91 @@ pub(crate) fn fill_tail<B: Bench>(bench: &mut B, job: usize, below: &[B::Span], 
     }
 }
 
-/// The greatest sum, over the machines, of the inserted job's row, which begins from a row of heads, and
-/// a row of tails.
+/// Fills the rows of tails of three jobs, each from the row below it, from the last machine on.
 #[inline(always)]
-pub(crate) fn join_inserted<B: Bench>(
+pub(crate) fn fill_three_tails<B: Bench>(
     bench: &mut B,
-    job: usize,
-    above: &[B::Span],
-    tail: &[B::Span],
-) -> B::Span
-    requires job { job < (B.shop bench.old).jobs }
-    requires above_width { length above.now ≡ (B.shop bench.old).machines }
-    requires tail_width { length tail.now ≡ (B.shop bench.old).machines }
-    requires above_short { AreShort B.Span.number above.now (B.shop bench.old).machines }
-    requires tail_short { AreShort B.Span.number tail.now (B.shop bench.old).machines }
-    requires room { B.counted bench.old + 2 * (B.shop bench.old).machines < 2 ^ 64 }
-    ensures most { (heads tails : ℕ → ℕ) → AreNumbers B.Span.number above.now (B.shop bench.old).machines heads → AreNumbers B.Span.number tail.now (B.shop bench.old).machines tails
-        → B.Span.number result ≡ greatest_sum (B.shop bench.old).machines (next_row (time_of (B.shop bench.old) job) heads) tails }
-    ensures counted { B.counted bench.new ≡ B.counted bench.old + 2 * (B.shop bench.old).machines }
+    first: usize,
+    second: usize,
+    third: usize,
+    below: &[B::Span],
+    row: &mut [B::Span],
+    next: &mut [B::Span],
+    last: &mut [B::Span],
+)
+    requires first { first < (B.shop bench.old).jobs }
+    requires second { second < (B.shop bench.old).jobs }
+    requires third { third < (B.shop bench.old).jobs }
+    requires below_width { length below.now ≡ (B.shop bench.old).machines }
+    requires row_width { length row.old ≡ (B.shop bench.old).machines }
+    requires next_width { length next.old ≡ (B.shop bench.old).machines }
+    requires last_width { length last.old ≡ (B.shop bench.old).machines }
+    requires below_short { AreShort B.Span.number below.now (B.shop bench.old).machines }
+    requires room { B.counted bench.old + 3 * (B.shop bench.old).machines < 2 ^ 64 }
+    ensures row { (tails : ℕ → ℕ) → AreBack B.Span.number below.now ((B.shop bench.old).machines - 1) tails
+        → AreBack B.Span.number row.new ((B.shop bench.old).machines - 1) (tail_row (B.shop bench.old) first tails) }
+    ensures next { (tails : ℕ → ℕ) → AreBack B.Span.number below.now ((B.shop bench.old).machines - 1) tails
+        → AreBack B.Span.number next.new ((B.shop bench.old).machines - 1) (tail_row (B.shop bench.old) second (tail_row (B.shop bench.old) first tails)) }
+    ensures last { (tails : ℕ → ℕ) → AreBack B.Span.number below.now ((B.shop bench.old).machines - 1) tails
+        → AreBack B.Span.number last.new ((B.shop bench.old).machines - 1) (tail_row (B.shop bench.old) third (tail_row (B.shop bench.old) second (tail_row (B.shop bench.old) first tails))) }
+    ensures counted { B.counted bench.new ≡ B.counted bench.old + 3 * (B.shop bench.old).machines }
     ensures shop { B.shop bench.new ≡ B.shop bench.old }
 {
-    let mut put = bench.zero();
-    let mut most = bench.zero();
-    for machine in 0..tail.len() {
-        put = bench.step(job, machine, above[machine], put);
-        let sum = bench.join(put, tail[machine]);
-        if most < sum {
-            most = sum;
-        }
+    let mut one = bench.zero();
+    let mut two = bench.zero();
+    let mut three = bench.zero();
+    for machine in (0..below.len()).rev() {
+        one = bench.step(first, machine, below[machine], one);
+        two = bench.step(second, machine, one, two);
+        three = bench.step(third, machine, two, three);
+        row[machine] = one;
+        next[machine] = two;
+        last[machine] = three;
     }
-    most
+}
+
+/// Fills the rows of a job that is inserted before the first of two jobs, and before the second, and the
+/// second one's row of heads. The first one's row of heads is used as it comes, and isn't stored.
+#[inline(always)]
+pub(crate) fn fill_two_places<B: Bench>(
+    bench: &mut B,
+    first: usize,
+    second: usize,
+    job: usize,
+    above: &[B::Span],
+    row: &mut [B::Span],
+    next: &mut [B::Span],
+    head: &mut [B::Span],
+)
+    requires first { first < (B.shop bench.old).jobs }
+    requires second { second < (B.shop bench.old).jobs }
+    requires job { job < (B.shop bench.old).jobs }
+    requires above_width { length above.now ≡ (B.shop bench.old).machines }
+    requires row_width { length row.old ≡ (B.shop bench.old).machines }
+    requires next_width { length next.old ≡ (B.shop bench.old).machines }
+    requires head_width { length head.old ≡ (B.shop bench.old).machines }
+    requires above_short { AreShort B.Span.number above.now (B.shop bench.old).machines }
+    requires room { B.counted bench.old + 4 * (B.shop bench.old).machines < 2 ^ 64 }
+    ensures row { (heads : ℕ → ℕ) → AreNumbers B.Span.number above.now (B.shop bench.old).machines heads
+        → AreNumbers B.Span.number row.new (B.shop bench.old).machines (head_row (B.shop bench.old) job heads) }
+    ensures next { (heads : ℕ → ℕ) → AreNumbers B.Span.number above.now (B.shop bench.old).machines heads
+        → AreNumbers B.Span.number next.new (B.shop bench.old).machines (head_row (B.shop bench.old) job (head_row (B.shop bench.old) first heads)) }
+    ensures head { (heads : ℕ → ℕ) → AreNumbers B.Span.number above.now (B.shop bench.old).machines heads
+        → AreNumbers B.Span.number head.new (B.shop bench.old).machines (head_row (B.shop bench.old) second (head_row (B.shop bench.old) first heads)) }
+    ensures counted { B.counted bench.new ≡ B.counted bench.old + 4 * (B.shop bench.old).machines }
+    ensures shop { B.shop bench.new ≡ B.shop bench.old }
+{
+    let mut one = bench.zero();
+    let mut two = bench.zero();
+    let mut put = bench.zero();
+    let mut put_next = bench.zero();
+    for machine in 0..above.len() {
+        put = bench.step(job, machine, above[machine], put);
+        one = bench.step(first, machine, above[machine], one);
+        put_next = bench.step(job, machine, one, put_next);
+        two = bench.step(second, machine, one, two);
+        row[machine] = put;
+        next[machine] = put_next;
+        head[machine] = two;
+    }
 }

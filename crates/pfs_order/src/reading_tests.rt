@@ -225,3 +225,13 @@ fn tells_a_failed_read(rt: HostRuntime) {
         )
     );
 }
+
+#[test]
+fn reads_no_further_than_a_byte_behind_the_longest_input(rt: HostRuntime) -> Result<(), Fail> {
+    let long = vec![in rt.alloc(); 120; LONGEST_ORDER_FILE + 1000]?;
+    for (calls, fault) in [(2, OrderFault::Read), (3, OrderFault::TooLong)] {
+        let answer = read_text(rt.alloc(), &long, 30_000, calls);
+        assert!(rt; is_refused(&answer, fault), "after {calls} calls");
+    }
+    Ok(())
+}

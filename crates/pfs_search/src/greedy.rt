@@ -72,6 +72,7 @@ fn take_jobs(order: &Seq, seq: &mut Seq, taken: &mut Vec<usize>, words: &[u32])
     ensures count_taken { vec_len taken.new ≡ length words.now }
     ensures capacity { vec_capacity taken.old ≤ vec_capacity taken.new }
 {
+    // only for its clause: the jobs of an order are distinct
     let _size = order.size();
     seq.copy_from(order);
     taken.clear();

@@ -1,10 +1,11 @@
-//! Searches over the plain inserter, whose insertion that makes k jobs on m machines counts k·k·m cells.
+//! Searches over the plain inserter, whose insertion that makes k jobs on m machines counts k·k·m cells, and by
+//! heads and tails, where it counts (4k-2)·m.
 ghost use Rattle.std.specs.Prelude.{◌≡◌, ◌≤◌, ◌+◌, ◌%◌, ◌^◌, ℕ, length, IfOk};
 ghost use Rattle.rand_core.specs.Steps.{stream_of, steps_u32};
 
 use crate::{Kept, Searcher};
 use pfs_base::{Bench, Instance, Metered, Notes, Span};
-use pfs_insert::Afresh;
+use pfs_insert::{Afresh, HeadsTails};
 use pfs_order::Order;
 use rand_core::Rng;
 use rand_core::utils::{self, NextWord};
@@ -127,6 +128,32 @@ fn neh_and_round(
     Ok(())
 }
 
+// The same by heads and tails.
+fn neh_and_round_by_rows(
+    rt: &impl Abort,
+    alloc: Global,
+    instance: &Instance,
+    by_neh: &Wanted<'_>,
+    words: &[u32],
+    by_round: &Wanted<'_>,
+) -> Result<(), Fail>
+    requires jobs { instance.now.shop.jobs ≤ 3 }
+    requires machines { instance.now.shop.machines ≤ 3 }
+    requires some { 1 ≤ length words.now }
+    requires few { length words.now ≤ instance.now.shop.jobs }
+{
+    let jobs = instance.jobs();
+    let mut bench = instance.metered();
+    let inserter = HeadsTails::new(alloc, &bench)?;
+    let mut searcher = Searcher::new(alloc, jobs, inserter)?;
+    let mut kept = Kept::new(Order::identity(alloc, jobs)?, bench.zero());
+    searcher.neh(alloc, &mut bench, &mut kept)?;
+    assert_kept(rt, &bench, &kept, by_neh);
+    searcher.round(alloc, &mut bench, &mut kept, words)?;
+    assert_kept(rt, &bench, &kept, by_round);
+    Ok(())
+}
+
 // NEH of an instance, and then two rounds that take one job out each, by the words 0 and 1.
 fn neh_and_two_rounds(
     rt: &impl Abort,
@@ -245,6 +272,70 @@ fn one_job_goes_out_and_back(rt: HostRuntime) -> Result<(), Fail> {
         cells: 1 + 1,
     };
     neh_and_round(&rt, rt.alloc(), &instance, &by_neh, &[7], &by_round)
+}
+
+#[test]
+fn by_rows_a_round_rebuilds_the_order_of_three_jobs(rt: HostRuntime) -> Result<(), Fail> {
+    let instance = shop(&rt, rt.alloc(), 3, 2, &[3, 2, 2, 5, 4, 1])?;
+    let by_neh = Wanted {
+        jobs: &[1, 0, 2],
+        makespan: 10,
+        cells: 36,
+    };
+    let by_round = Wanted {
+        jobs: &[1, 0, 2],
+        makespan: 10,
+        cells: 36 + 32,
+    };
+    neh_and_round_by_rows(&rt, rt.alloc(), &instance, &by_neh, &[0, 0], &by_round)
+}
+
+#[test]
+fn by_rows_an_order_of_the_same_makespan_is_kept(rt: HostRuntime) -> Result<(), Fail> {
+    let instance = shop(&rt, rt.alloc(), 2, 1, &[5, 3])?;
+    let by_neh = Wanted {
+        jobs: &[1, 0],
+        makespan: 8,
+        cells: 8,
+    };
+    let by_round = Wanted {
+        jobs: &[0, 1],
+        makespan: 8,
+        cells: 8 + 6,
+    };
+    neh_and_round_by_rows(&rt, rt.alloc(), &instance, &by_neh, &[1], &by_round)
+}
+
+#[test]
+fn by_rows_a_longer_order_is_not_kept(rt: HostRuntime) -> Result<(), Fail> {
+    let instance = shop(&rt, rt.alloc(), 3, 3, &[3, 1, 0, 3, 0, 1, 0, 6, 0])?;
+    let by_neh = Wanted {
+        jobs: &[2, 1, 0],
+        makespan: 7,
+        cells: 54,
+    };
+    let by_round = Wanted {
+        jobs: &[2, 1, 0],
+        makespan: 7,
+        cells: 54 + 54,
+    };
+    neh_and_round_by_rows(&rt, rt.alloc(), &instance, &by_neh, &[1, 1, 0], &by_round)
+}
+
+#[test]
+fn by_rows_one_job_goes_out_and_back(rt: HostRuntime) -> Result<(), Fail> {
+    let instance = shop(&rt, rt.alloc(), 1, 1, &[0])?;
+    let by_neh = Wanted {
+        jobs: &[0],
+        makespan: 0,
+        cells: 2,
+    };
+    let by_round = Wanted {
+        jobs: &[0],
+        makespan: 0,
+        cells: 2 + 2,
+    };
+    neh_and_round_by_rows(&rt, rt.alloc(), &instance, &by_neh, &[7], &by_round)
 }
 
 #[test]

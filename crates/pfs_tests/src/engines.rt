@@ -1,5 +1,5 @@
 //! What the commands read, print and answer, on the three-job instance and its variants.
-use crate::fakes::{Pieces, Taken};
+use crate::fakes::{Endless, Pieces, Taken};
 use crate::texts::BY_MACHINE;
 use pfs_base::{Sink, WriteFault};
 use pfs_desk::{DeskFault, Outcome, run_check, run_table, run_value, status};
@@ -251,4 +251,16 @@ fn the_instance_file_is_judged_before_the_order_file(rt: HostRuntime) {
     );
     assert_eq!(rt; result, Err(DeskFault::Order(OrderFault::Read)));
     assert_eq!(rt; writer.bytes(), b"".as_slice());
+}
+
+#[test]
+fn an_endless_order_file_is_too_long(rt: HostRuntime) {
+    let mut reader = Pieces::whole(BY_MACHINE);
+    let mut orders = Endless::new(b'0', usize::MAX, false);
+    let mut writer = Taken::new(256, 256);
+    let layout = Layout::Taillard;
+    let result = run_check(rt.alloc(), &mut reader, layout, 1, &mut orders, &mut writer);
+    assert_eq!(rt; result, Err(DeskFault::Order(OrderFault::TooLong)));
+    assert_eq!(rt; result.as_ref().err().map(status), Some(2));
+    assert_eq!(rt; writer.calls(), 0);
 }

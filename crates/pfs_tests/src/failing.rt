@@ -1,11 +1,12 @@
 //! Devices that fail at each call in turn, up to the last that is made and behind it: none is made again, and none
 //! behind a failure or the end.
-use crate::fakes::{Pieces, Taken};
+use crate::fakes::{Broken, Pieces, Taken};
 use crate::texts::{BY_JOB, BY_MACHINE};
-use pfs_base::{WriteFault, put};
+use pfs_base::{FromRead, WriteFault, put};
 use pfs_desk::{DeskFault, Outcome, run_check, run_value, status, write_fault};
 use pfs_layout::{Layout, LayoutFault, read_block, write_block};
 use pfs_order::{Order, OrderFault, read_order, write_order};
+use std::io::{ErrorKind, Read};
 use std::process::Abort;
 use std::test::Fail;
 
@@ -198,6 +199,18 @@ fn value_reads_up_to_the_end_of_the_block(rt: HostRuntime) {
                 assert_eq!(rt; writer.bytes(), VALUE);
             }
         }
+    }
+}
+
+#[test]
+fn a_failed_read_ends_no_number(rt: HostRuntime) {
+    for kind in [ErrorKind::Interrupted, ErrorKind::Other] {
+        let error = Some(kind);
+        let mut reader = FromRead::new(BY_MACHINE[..120].chain(Broken { error }));
+        let mut writer = Taken::new(256, 256);
+        let result = run_value(rt.alloc(), &mut reader, Layout::Taillard, 1, &mut writer);
+        assert_eq!(rt; result, Err(DeskFault::Layout(LayoutFault::Read)));
+        assert_eq!(rt; writer.calls(), 0);
     }
 }
 

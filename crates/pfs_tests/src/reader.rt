@@ -264,7 +264,7 @@ fn size_lines(rt: HostRuntime) {
 fn held_grows_with_each_time(rt: HostRuntime) {
     let mut reader = BlockReader::new(rt.alloc(), Layout::Taillard, 1);
     for c in 0..BY_MACHINE.len() {
-        let _ = reader.feed(&BY_MACHINE[c..c + 1]);
+        assert!(rt; reader.feed(&BY_MACHINE[c..c + 1]).is_ok(), "byte {c}");
         let held = match c + 1 {
             0..=110 => 0,
             111 | 112 => 1,

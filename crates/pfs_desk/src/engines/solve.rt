@@ -146,7 +146,7 @@ fn put_solution<W: Sink>(
     ensures { Sends (W.written writer.old) (W.written writer.new) (W.has_failed writer.new)
         0 (solution_text solution.now.order solution.now.makespan with_cells solution.now.cells) result }
 {
-    // Called for what it says of an order: how long it can be.
+    // Called for what it says of an order: how many jobs it has at most, each once.
     let _jobs = solution.order.len();
     let sent = write_order(writer, &solution.order, solution.makespan)?;
     if with_cells {

@@ -1,35 +1,75 @@
-use Rattle.std.proofs.Common.{◌≡◌, ℕ, ◌+◌, ◌-◌, ◌*◌, ◌≤◌, length, get_or, ap, sym, ◌∙◌, arith}
+use Rattle.std.proofs.Common.{◌≡◌, ℕ, ◌+◌, ◌-◌, ◌*◌, ◌<◌, ◌≤◌, ◌++◌, length, get_or, ap, sym, subst, ◌∙◌, arith}
 use Rattle.std.proofs.lemmas.List.{get_or_append_left}
 use Rattle.pfs_base.specs.FlowShop.{FlowShop}
 use Rattle.pfs_order.proofs.Published.Sequences.{length-lt-size}
-use Rattle.pfs_insert.specs.Insertion.{best_place}
-use Rattle.pfs_insert.proofs.FlatRows.{row_le, row_split, get_behind}
+use Rattle.pfs_insert.specs.Insertion.{IsBest, makespan_with}
+use Rattle.pfs_insert.specs.Rows.{HasHead}
+use Rattle.pfs_insert.proofs.FirstLeast.{first_least_is}
+use Rattle.pfs_insert.proofs.FlatRows.{row_le, row_split, begins, get_behind}
 use Rattle.pfs_insert.proofs.TailRows.{back_none}
+use Rattle.pfs_insert.proofs.heads_tails.best_in_table.Given.{Over}
+use Rattle.pfs_insert.proofs.heads_tails.best_in_table.Goals.{After-split_at_mut-tails, After-best_by_rows}
 use Rattle.pfs_insert.proofs.heads_tails.best_in_table.Goals as goal
 
-pub fill_tails-requires-clause-few : goal.fill_tails-requires-clause-few
-fill_tails-requires-clause-few g c = let less = length-lt-size c.args.seq.now.size c.args.job c.args.seq.now.jobs (omega (arith, c.requires.size, c.requires.job)) c.requires.absent c.size.ensures.sequence in omega (arith, c.requires.size)
+few_jobs : (g : Over) (c : After-split_at_mut-tails g) → length c.args.seq.now.jobs < (g.B.Bench.shop c.args.bench.now).jobs
+few_jobs g c =
+    let less = length-lt-size c.args.seq.now.size c.args.job c.args.seq.now.jobs (omega (arith, c.requires.size, c.requires.job)) c.requires.absent c.size.ensures.sequence in
+    omega (arith, c.requires.size)
+
+-- how long the rows of heads are, and those of tails
+front_long : (g : Over) (c : After-split_at_mut-tails g) → length c.split_at_mut-heads.result.0.now ≡ (g.B.Bench.shop c.args.bench.now).jobs * (g.B.Bench.shop c.args.bench.now).machines
+front_long g c = c.split_at_mut-heads.ensures.front_len ∙ begins (c.size.ensures.value ∙ c.requires.size) c.machines-machines.ensures
+
+tails_long : (g : Over) (c : After-split_at_mut-tails g) → length c.split_at_mut-tails.result.0.now ≡ (g.B.Bench.shop c.args.bench.now).jobs * (g.B.Bench.shop c.args.bench.now).machines
+tails_long g c = c.split_at_mut-tails.ensures.front_len ∙ begins (c.size-2.ensures.value ∙ c.requires.size) c.machines-machines.ensures
 
 -- the zeros behind the tails, from the place where the rows of tails begin
-no_tail_at : (jobs machines : ℕ) → 1 ≤ jobs → (machine : ℕ) → jobs * machines + ((jobs - 1) * machines + machine) ≡ (2 * jobs - 1) * machines + machine
+no_tail_at : (jobs machines : ℕ) → 1 ≤ jobs → (machine : ℕ) → (2 * jobs - 1) * machines + machine ≡ jobs * machines + ((jobs - 1) * machines + machine)
 no_tail_at jobs machines some machine = let rest = row_split (2 * jobs - 1) jobs (jobs - 1) machines (omega arith) in omega arith
+
+pub fill_tails-requires-clause-few : goal.fill_tails-requires-clause-few
+fill_tails-requires-clause-few g c = few_jobs g (goal.at.fill_tails-requires-clause-few g c).After-split_at_mut-tails
 
 pub fill_tails-requires-clause-no_tail : goal.fill_tails-requires-clause-no_tail
 fill_tails-requires-clause-no_tail g c = λ machine d lt.
     let number = g.B.Span.Length.number in
     let shop = g.B.Bench.shop c.args.bench.now in
-    let split = c.split_at_mut-heads.ensures in
     let some = (g.met.B.Bench.within c.args.bench.now).sizes.some_job in
-    let front : c.size.result * c.machines.result ≡ shop.jobs * shop.machines = ap (λ n. n * c.machines.result) (c.size.ensures.value ∙ c.requires.size) ∙ ap (λ n. shop.jobs * n) c.machines.ensures in
-    let at = no_tail_at shop.jobs shop.machines some machine in
-    let place : c.size.result * c.machines.result + ((shop.jobs - 1) * shop.machines + machine) ≡ (2 * shop.jobs - 1) * shop.machines + machine = omega arith in
-    ap number (split.by_index.1 ((shop.jobs - 1) * shop.machines + machine) d) ∙ ap (λ i. number (get_or c.args.table.now i d)) place ∙ c.requires.no_tail machine d lt
+    let here = (goal.at.fill_tails-requires-clause-no_tail g c).After-split_at_mut-tails in
+    let heads = c.split_at_mut-heads.result.0.now in
+    let rest = c.split_at_mut-heads.result.1.now in
+    let tails = c.split_at_mut-tails.result.0.now in
+    let at = (shop.jobs - 1) * shop.machines + machine in
+    let all = row_split shop.jobs (shop.jobs - 1) 1 shop.machines (omega arith) in
+    let long = tails_long g here in
+    ap number (sym (get_or_append_left tails c.split_at_mut-tails.result.1.now d at (omega arith)) ∙ ap (λ xs. get_or xs at d) (sym c.split_at_mut-tails.ensures.value)
+    ∙ sym (get_behind heads rest (shop.jobs * shop.machines) at ((2 * shop.jobs - 1) * shop.machines + machine) d (front_long g here) (no_tail_at shop.jobs shop.machines some machine))
+    ∙ ap (λ xs. get_or xs ((2 * shop.jobs - 1) * shop.machines + machine) d) (sym c.split_at_mut-heads.ensures.value))
+    ∙ c.requires.no_tail machine d lt
 
 pub best_by_rows-requires-clause-few : goal.best_by_rows-requires-clause-few
 best_by_rows-requires-clause-few g c =
-    let less = length-lt-size c.args.seq.now.size c.args.job c.args.seq.now.jobs (omega (arith, c.requires.size, c.requires.job)) c.requires.absent c.size.ensures.sequence in
+    let less = few_jobs g (goal.at.best_by_rows-requires-clause-few g c).After-split_at_mut-tails in
     let jobs = ap (λ (s : FlowShop). s.jobs) c.fill_tails.ensures.shop in
-    omega (arith, c.requires.size)
+    omega arith
+
+pub best_by_rows-requires-clause-no_head : goal.best_by_rows-requires-clause-no_head
+best_by_rows-requires-clause-no_head g c =
+    let number = g.B.Span.Length.number in
+    let shop = g.B.Bench.shop c.args.bench.now in
+    let jobs = c.args.seq.now.jobs in
+    let some = (g.met.B.Bench.within c.args.bench.now).sizes.some_job in
+    let heads = c.split_at_mut-heads.result.0.now in
+    let first = row_le 1 shop.jobs shop.machines some in
+    let long = front_long g (goal.at.best_by_rows-requires-clause-no_head g c).After-split_at_mut-tails in
+    subst (λ (s : FlowShop). HasHead number s jobs heads 0) (sym c.fill_tails.ensures.shop)
+    (record {
+      row_is = λ machine d lt.
+          let at : 0 * shop.machines + machine ≡ machine = omega arith in
+          ap (λ i. number (get_or heads i d)) at
+          ∙ ap number (sym (get_or_append_left heads c.split_at_mut-heads.result.1.now d machine (omega arith)) ∙ ap (λ xs. get_or xs machine d) (sym c.split_at_mut-heads.ensures.value))
+          ∙ c.requires.no_head machine d lt;
+    })
 
 pub best_by_rows-requires-clause-room : goal.best_by_rows-requires-clause-room
 best_by_rows-requires-clause-room g c =
@@ -40,20 +80,35 @@ best_by_rows-requires-clause-room g c =
     let tails = c.fill_tails.ensures.counted in
     omega (arith, c.requires.room)
 
+-- the best of all places
+best_told : (g : Over) (c : After-best_by_rows g) → IsBest g.B.Span.Length.number (makespan_with (g.B.Bench.shop c.args.bench.now) c.args.seq.now.jobs c.args.job) (length c.args.seq.now.jobs + 1) c.best_by_rows.result.place c.best_by_rows.result.span
+best_told g c =
+    let jobs = c.args.seq.now.jobs in
+    let best = c.best_by_rows.result in
+    subst (λ (s : FlowShop). IsBest g.B.Span.Length.number (makespan_with s jobs c.args.job) (length jobs + 1) best.place best.span) c.fill_tails.ensures.shop c.best_by_rows.ensures.best
+
 pub returns-clause-place : goal.returns-clause-place
-returns-clause-place g c = c.best_by_rows.ensures.place ∙ ap (λ (s : FlowShop). best_place s c.args.seq.now.jobs c.args.job) c.fill_tails.ensures.shop
+returns-clause-place g c =
+    sym (first_least_is (makespan_with (g.B.Bench.shop c.args.bench.now) c.args.seq.now.jobs c.args.job) (length c.args.seq.now.jobs + 1) c.best_by_rows.result.place (best_told g (goal.at.returns-clause-place g c).After-best_by_rows).first)
+
+pub returns-clause-within : goal.returns-clause-within
+returns-clause-within g c = let is = (best_told g (goal.at.returns-clause-within g c).After-best_by_rows).first in let small = is.within in omega arith
+
+pub returns-clause-span : goal.returns-clause-span
+returns-clause-span g c = (best_told g (goal.at.returns-clause-span g c).After-best_by_rows).value_is
 
 pub returns-clause-no_head : goal.returns-clause-no_head
 returns-clause-no_head g c = λ machine d lt.
     let number = g.B.Span.Length.number in
     let shop = g.B.Bench.shop c.args.bench.now in
-    let machines = ap (λ (s : FlowShop). s.machines) c.fill_tails.ensures.shop in
+    let jobs = c.args.seq.now.jobs in
     let some = (g.met.B.Bench.within c.args.bench.now).sizes.some_job in
-    let front : c.size.result * c.machines.result ≡ shop.jobs * shop.machines = ap (λ n. n * c.machines.result) (c.size.ensures.value ∙ c.requires.size) ∙ ap (λ n. shop.jobs * n) c.machines.ensures in
-    let long = c.split_at_mut-heads.ensures.front_len in
-    let same = c.best_by_rows.auto.heads in
+    let heads = c.best_by_rows.new.heads in
+    let has = subst (λ (s : FlowShop). HasHead number s jobs heads 0) c.fill_tails.ensures.shop c.best_by_rows.ensures.no_head in
+    let at : machine ≡ 0 * shop.machines + machine = omega arith in
+    let long : length heads ≡ shop.jobs * shop.machines = c.best_by_rows.auto.heads ∙ front_long g (goal.at.returns-clause-no_head g c).After-split_at_mut-tails in
     let first = row_le 1 shop.jobs shop.machines some in
-    ap number (get_or_append_left c.best_by_rows.new.heads c.fill_tails.new.rows d machine (omega arith)) ∙ c.best_by_rows.ensures.no_head machine d (omega arith)
+    ap number (get_or_append_left heads (c.fill_tails.new.rows ++ c.best_by_rows.new.put) d machine (omega arith)) ∙ ap (λ i. number (get_or heads i d)) at ∙ has.row_is machine d lt
 
 pub returns-clause-no_tail : goal.returns-clause-no_tail
 returns-clause-no_tail g c = λ machine d lt.
@@ -62,13 +117,19 @@ returns-clause-no_tail g c = λ machine d lt.
     let jobs = c.args.seq.now.jobs in
     let len = length jobs in
     let some = (g.met.B.Bench.within c.args.bench.now).sizes.some_job in
-    let front : c.size.result * c.machines.result ≡ shop.jobs * shop.machines = ap (λ n. n * c.machines.result) (c.size.ensures.value ∙ c.requires.size) ∙ ap (λ n. shop.jobs * n) c.machines.ensures in
-    let long : length c.best_by_rows.new.heads ≡ shop.jobs * shop.machines = c.best_by_rows.auto.heads ∙ c.split_at_mut-heads.ensures.front_len ∙ front in
-    let less = length-lt-size c.args.seq.now.size c.args.job jobs (omega (arith, c.requires.size, c.requires.job)) c.requires.absent c.size.ensures.sequence in
-    let all : shop.jobs - 1 - len + len ≡ shop.jobs - 1 = omega (arith, c.requires.size) in
-    ap number (get_behind c.best_by_rows.new.heads c.fill_tails.new.rows (shop.jobs * shop.machines) ((shop.jobs - 1) * shop.machines + machine) ((2 * shop.jobs - 1) * shop.machines + machine) d long (sym (no_tail_at shop.jobs shop.machines some machine)))
-    ∙ ap (λ r. number (get_or c.fill_tails.new.rows (r * shop.machines + machine) d)) (sym all)
-    ∙ c.fill_tails.ensures.tails len (omega arith) machine d lt ∙ back_none shop jobs len machine (omega arith)
+    let here = (goal.at.returns-clause-no_tail g c).After-split_at_mut-tails in
+    let heads = c.best_by_rows.new.heads in
+    let tails = c.fill_tails.new.rows in
+    let at = (shop.jobs - 1) * shop.machines + machine in
+    let less = few_jobs g here in
+    let long : length heads ≡ shop.jobs * shop.machines = c.best_by_rows.auto.heads ∙ front_long g here in
+    let rows_long : length tails ≡ shop.jobs * shop.machines = c.fill_tails.auto.rows ∙ tails_long g here in
+    let all : shop.jobs - 1 - len + len ≡ shop.jobs - 1 = omega arith in
+    let last = row_split shop.jobs (shop.jobs - 1) 1 shop.machines (omega arith) in
+    ap number (get_behind heads (tails ++ c.best_by_rows.new.put) (shop.jobs * shop.machines) at ((2 * shop.jobs - 1) * shop.machines + machine) d long (no_tail_at shop.jobs shop.machines some machine)
+    ∙ get_or_append_left tails c.best_by_rows.new.put d at (omega arith))
+    ∙ ap (λ r. number (get_or tails (r * shop.machines + machine) d)) (sym all)
+    ∙ c.fill_tails.ensures.tails.rows_are len (omega arith) (omega arith) machine d lt ∙ back_none shop jobs len machine (omega arith)
 
 pub returns-clause-counted : goal.returns-clause-counted
 returns-clause-counted g c =

@@ -21,12 +21,6 @@ returns-in-Err-clause-fault_high g c =
     let all = mul_assoc many many shop.machines in
     let so_far = c.loop-place.invariant.counted in
     let after = c.in-Err.ensures.refused in
-    let jobs : length c.insert_at.new.self.jobs ≡ many =
-    ap (λ (s : Sequence). length s.jobs) (c.insert_at.ensures ∙ ap (λ (s : Sequence). record { size = s.size; jobs = insert s.jobs c.loop-place.place c.args.job }) c.copy_from.ensures)
-    ∙ length-insert c.args.seq.now.jobs c.loop-place.place c.args.job (omega (arith, c.len-place-end.ensures.value)) in
-    let width : (g.B.Bench.shop c.loop-place.bench).machines ≡ shop.machines = ap (λ (s : FlowShop). s.machines) c.loop-place.invariant.same_shop in
-    let cells : length c.insert_at.new.self.jobs * (g.B.Bench.shop c.loop-place.bench).machines ≡ many * shop.machines =
-    ap (λ n. n * (g.B.Bench.shop c.loop-place.bench).machines) jobs ∙ ap (λ n. many * n) width in
     omega arith
 
 pub loop-place-preserved : goal.loop-place-preserved

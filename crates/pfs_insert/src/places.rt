@@ -1,0 +1,190 @@
+//! The places of a sequence, tried by rows of heads and tails.
+ghost use Rattle.std.specs.Prelude.{◌≡◌, ℕ, ◌+◌, ◌-◌, ◌*◌, ◌<◌, ◌≤◌, ◌^◌, length};
+ghost use Rattle.pfs_insert.specs.Insertion.{best_place, makespan_with, IsBest};
+ghost use Rattle.pfs_insert.specs.Rows.{HasHead, HasTails, IsPut};
+
+use crate::inserter::{Placed, better};
+use crate::rows::{fill_head, fill_two_places};
+use pfs_base::{Bench, Length};
+use pfs_order::Seq;
+
+/// The best place of a job in a sequence whose rows of tails are filled, and the makespan with the job
+/// there. The rows of heads are filled as the places go on; `put` takes the inserted row.
+#[inline(always)]
+pub(crate) fn best_by_rows<B: Bench>(
+    bench: &mut B,
+    seq: &Seq,
+    job: usize,
+    heads: &mut [B::Span],
+    tails: &[B::Span],
+    put: &mut [B::Span],
+) -> Placed<B::Span>
+    requires job { job < (B.shop bench.old).jobs }
+    requires size { seq.now.size ≡ (B.shop bench.old).jobs }
+    requires few { length seq.now.jobs < (B.shop bench.old).jobs }
+    requires heads { length heads.old ≡ (B.shop bench.old).jobs * (B.shop bench.old).machines }
+    requires tails { length tails.now ≡ (B.shop bench.old).jobs * (B.shop bench.old).machines }
+    requires put { length put.old ≡ (B.shop bench.old).machines }
+    requires no_head { HasHead B.Span.number (B.shop bench.old) seq.now.jobs heads.old 0 }
+    requires backs { HasTails B.Span.number (B.shop bench.old) seq.now.jobs tails.now 0 }
+    requires room { B.counted bench.old + (3 * length seq.now.jobs + 2) * (B.shop bench.old).machines < 2 ^ 64 }
+    ensures best { IsBest B.Span.number (makespan_with (B.shop bench.old) seq.now.jobs job) (length seq.now.jobs + 1) result.place result.span }
+    ensures no_head { HasHead B.Span.number (B.shop bench.old) seq.now.jobs heads.new 0 }
+    ensures counted { B.counted bench.new ≡ B.counted bench.old + (3 * length seq.now.jobs + 2) * (B.shop bench.old).machines }
+    ensures shop { B.shop bench.new ≡ B.shop bench.old }
+{
+    let len = seq.len();
+    let mut best = Placed {
+        place: 0,
+        span: bench.zero(),
+    };
+    for pair in 0..len / 2 {
+        best = try_two_places(bench, seq, job, 2 * pair, heads, tails, put, best);
+    }
+    for place in len / 2 * 2..len {
+        add_head(bench, seq, place, heads);
+    }
+    for place in len / 2 * 2..len + 1 {
+        best = try_place(bench, seq, job, place, heads, tails, put, best);
+    }
+    best
+}
+
+// The better of the best place so far, a place, and the next one. The row of heads of the place after both
+// is filled, and the row of heads between them takes the inserted row of the second.
+#[inline(always)]
+fn try_two_places<B: Bench>(
+    bench: &mut B,
+    seq: &Seq,
+    job: usize,
+    place: usize,
+    heads: &mut [B::Span],
+    tails: &[B::Span],
+    put: &mut [B::Span],
+    best: Placed<B::Span>,
+) -> Placed<B::Span>
+    requires job { job < (B.shop bench.old).jobs }
+    requires place { place + 2 ≤ length seq.now.jobs }
+    requires size { seq.now.size ≡ (B.shop bench.old).jobs }
+    requires few { length seq.now.jobs < (B.shop bench.old).jobs }
+    requires heads { length heads.old ≡ (B.shop bench.old).jobs * (B.shop bench.old).machines }
+    requires tails { length tails.now ≡ (B.shop bench.old).jobs * (B.shop bench.old).machines }
+    requires put { length put.old ≡ (B.shop bench.old).machines }
+    requires head { HasHead B.Span.number (B.shop bench.old) seq.now.jobs heads.old place }
+    requires backs { HasTails B.Span.number (B.shop bench.old) seq.now.jobs tails.now 0 }
+    requires best { 0 < place → IsBest B.Span.number (makespan_with (B.shop bench.old) seq.now.jobs job) place best.place best.span }
+    requires room { B.counted bench.old + 6 * (B.shop bench.old).machines < 2 ^ 64 }
+    ensures best { IsBest B.Span.number (makespan_with (B.shop bench.old) seq.now.jobs job) (place + 2) result.place result.span }
+    ensures head { HasHead B.Span.number (B.shop bench.old) seq.now.jobs heads.new (place + 2) }
+    ensures kept { (row : ℕ) → row ≤ place → HasHead B.Span.number (B.shop bench.old) seq.now.jobs heads.old row → HasHead B.Span.number (B.shop bench.old) seq.now.jobs heads.new row }
+    ensures counted { B.counted bench.new ≡ B.counted bench.old + 6 * (B.shop bench.old).machines }
+    ensures shop { B.shop bench.new ≡ B.shop bench.old }
+{
+    let machines = bench.machines();
+    let (front, back) = heads.split_at_mut((place + 1) * machines);
+    let (next, behind) = back.split_at_mut(machines);
+    fill_two_places(
+        bench,
+        seq.at(place),
+        seq.at(place + 1),
+        job,
+        &front[place * machines..],
+        put,
+        next,
+        &mut behind[..machines],
+    );
+    let span = makespan_by_rows(bench, seq, job, place, put, tails);
+    let best = better(best, place, span);
+    let span = makespan_by_rows(bench, seq, job, place + 1, next, tails);
+    better(best, place + 1, span)
+}
+
+// Fills the row of heads behind the job at a place.
+#[inline(always)]
+fn add_head<B: Bench>(bench: &mut B, seq: &Seq, place: usize, heads: &mut [B::Span])
+    requires place { place < length seq.now.jobs }
+    requires size { seq.now.size ≡ (B.shop bench.old).jobs }
+    requires few { length seq.now.jobs < (B.shop bench.old).jobs }
+    requires heads { length heads.old ≡ (B.shop bench.old).jobs * (B.shop bench.old).machines }
+    requires head { HasHead B.Span.number (B.shop bench.old) seq.now.jobs heads.old place }
+    requires room { B.counted bench.old + (B.shop bench.old).machines < 2 ^ 64 }
+    ensures head { HasHead B.Span.number (B.shop bench.old) seq.now.jobs heads.new (place + 1) }
+    ensures kept { (row : ℕ) → row ≤ place → HasHead B.Span.number (B.shop bench.old) seq.now.jobs heads.old row → HasHead B.Span.number (B.shop bench.old) seq.now.jobs heads.new row }
+    ensures counted { B.counted bench.new ≡ B.counted bench.old + (B.shop bench.old).machines }
+    ensures shop { B.shop bench.new ≡ B.shop bench.old }
+{
+    let machines = bench.machines();
+    let (front, back) = heads.split_at_mut((place + 1) * machines);
+    fill_head(
+        bench,
+        seq.at(place),
+        &front[place * machines..],
+        &mut back[..machines],
+    );
+}
+
+// The better of the best place so far and a place.
+#[inline(always)]
+fn try_place<B: Bench>(
+    bench: &mut B,
+    seq: &Seq,
+    job: usize,
+    place: usize,
+    heads: &[B::Span],
+    tails: &[B::Span],
+    put: &mut [B::Span],
+    best: Placed<B::Span>,
+) -> Placed<B::Span>
+    requires job { job < (B.shop bench.old).jobs }
+    requires place { place ≤ length seq.now.jobs }
+    requires size { seq.now.size ≡ (B.shop bench.old).jobs }
+    requires few { length seq.now.jobs < (B.shop bench.old).jobs }
+    requires heads { length heads.now ≡ (B.shop bench.old).jobs * (B.shop bench.old).machines }
+    requires tails { length tails.now ≡ (B.shop bench.old).jobs * (B.shop bench.old).machines }
+    requires put { length put.old ≡ (B.shop bench.old).machines }
+    requires head { HasHead B.Span.number (B.shop bench.old) seq.now.jobs heads.now place }
+    requires backs { HasTails B.Span.number (B.shop bench.old) seq.now.jobs tails.now 0 }
+    requires best { 0 < place → IsBest B.Span.number (makespan_with (B.shop bench.old) seq.now.jobs job) place best.place best.span }
+    requires room { B.counted bench.old + 2 * (B.shop bench.old).machines < 2 ^ 64 }
+    ensures best { IsBest B.Span.number (makespan_with (B.shop bench.old) seq.now.jobs job) (place + 1) result.place result.span }
+    ensures counted { B.counted bench.new ≡ B.counted bench.old + 2 * (B.shop bench.old).machines }
+    ensures shop { B.shop bench.new ≡ B.shop bench.old }
+{
+    let machines = bench.machines();
+    fill_head(
+        bench,
+        job,
+        &heads[place * machines..(place + 1) * machines],
+        put,
+    );
+    let span = makespan_by_rows(bench, seq, job, place, put, tails);
+    better(best, place, span)
+}
+
+// The makespan with a job inserted at a place, from its row and the row of tails behind it.
+#[inline(always)]
+fn makespan_by_rows<B: Bench>(
+    bench: &mut B,
+    seq: &Seq,
+    job: usize,
+    place: usize,
+    put: &[B::Span],
+    tails: &[B::Span],
+) -> B::Span
+    requires job { job < (B.shop bench.old).jobs }
+    requires place { place ≤ length seq.now.jobs }
+    requires size { seq.now.size ≡ (B.shop bench.old).jobs }
+    requires few { length seq.now.jobs < (B.shop bench.old).jobs }
+    requires tails { length tails.now ≡ (B.shop bench.old).jobs * (B.shop bench.old).machines }
+    requires width { length put.now ≡ (B.shop bench.old).machines }
+    requires put { IsPut B.Span.number (B.shop bench.old) seq.now.jobs job place put.now }
+    requires backs { HasTails B.Span.number (B.shop bench.old) seq.now.jobs tails.now 0 }
+    requires room { B.counted bench.old + (B.shop bench.old).machines < 2 ^ 64 }
+    ensures value { B.Span.number result ≡ makespan_with (B.shop bench.old) seq.now.jobs job place }
+    ensures counted { B.counted bench.new ≡ B.counted bench.old + (B.shop bench.old).machines }
+    ensures shop { B.shop bench.new ≡ B.shop bench.old }
+{
+    let machines = bench.machines();
+    let row = seq.size() - 1 - seq.len() + place;
+    bench.join_rows(put, &tails[row * machines..(row + 1) * machines])
+}

@@ -1,0 +1,25 @@
+use Rattle.std.proofs.Common.{length, ap, ◌∙◌, arith}
+use Rattle.pfs_base.specs.FlowShop.{FlowShop}
+use Rattle.pfs_search.proofs.SmallCosts.{small_neh_by_rows, small_round_by_rows}
+use Rattle.pfs_search.proofs.tests.neh_and_round_by_rows.Goals as goal
+
+pub neh-requires-clause-room : goal.neh-requires-clause-room
+neh-requires-clause-room g c =
+    let bench = c.metered-bench.result in
+    let jobs = ap (λ (s : FlowShop). s.jobs) c.metered-bench.ensures.shop in
+    let machines = ap (λ (s : FlowShop). s.machines) c.metered-bench.ensures.shop in
+    let least = small_neh_by_rows bench.jobs bench.machines (omega (arith, c.requires.jobs)) (omega (arith, c.requires.machines)) in
+    omega (arith, c.metered-bench.ensures.counted)
+
+pub round-requires-clause-room : goal.round-requires-clause-room
+round-requires-clause-room g c =
+    let bench = c.metered-bench.result in
+    let after = c.neh.new.bench in
+    let same = c.neh.ensures.shop ∙ c.metered-bench.ensures.shop in
+    let jobs = ap (λ (s : FlowShop). s.jobs) same in
+    let machines = ap (λ (s : FlowShop). s.machines) same in
+    let old_jobs = ap (λ (s : FlowShop). s.jobs) c.metered-bench.ensures.shop in
+    let old_machines = ap (λ (s : FlowShop). s.machines) c.metered-bench.ensures.shop in
+    let least = small_neh_by_rows bench.jobs bench.machines (omega (arith, c.requires.jobs)) (omega (arith, c.requires.machines)) in
+    let more = small_round_by_rows after.jobs after.machines (length c.args.words.now) (omega (arith, c.requires.jobs)) (omega (arith, c.requires.machines)) (omega arith) in
+    omega (arith, c.metered-bench.ensures.counted, c.in_ok-neh.ensures.counted)
