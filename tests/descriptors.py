@@ -79,12 +79,21 @@ class Desk:
 
     def run(self, words, before=None, **how):
         child = self.start(words, before, **how)
-        text, told = child.communicate(timeout=MOST_SECONDS)
+        text, told = said(child)
         return text, told, child.returncode
 
     def files_are_unchanged(self):
         for name, text in FILES.items():
             check(f"{name} is unchanged", text, self.path(name).read_bytes())
+
+
+def said(child):
+    """What a program writes to standard output and to standard error until it ends. It is ended where that is late."""
+    try:
+        return child.communicate(timeout=MOST_SECONDS)
+    except subprocess.TimeoutExpired:
+        child.kill()
+        return child.communicate()
 
 
 def closing(*descriptors):
@@ -221,7 +230,7 @@ def reader_leaves(desk, restores):
     os.close(write_end)
     wait_for("the pipe fills", lambda: unread(read_end) == 4_096)
     os.close(read_end)
-    _, told = child.communicate(timeout=MOST_SECONDS)
+    _, told = said(child)
     check("a reader that leaves", (unwritten(4_096), 4), (told, child.returncode))
 
 
@@ -247,7 +256,7 @@ def named_pipes(desk):
     child = desk.start("value --layout taillard pipe")
     writer = opened_for_writing(desk.path("pipe"))
     os.write(writer, THREE_JOBS + b"what follows isn't looked at")
-    check("a pipe that stays open", (ELEVEN, b""), child.communicate(timeout=MOST_SECONDS))
+    check("a pipe that stays open", (ELEVEN, b""), said(child))
     os.close(writer)
     child = desk.start("check --layout taillard pipe second")
     # The files are opened one after the other, before anything is read.
@@ -256,23 +265,23 @@ def named_pipes(desk):
     os.write(writers[0], THREE_JOBS)
     os.write(writers[1], FILES["best"][9:])
     os.close(writers[1])
-    check("two pipes", (VALID, b""), child.communicate(timeout=MOST_SECONDS))
+    check("two pipes", (VALID, b""), said(child))
     os.close(writers[0])
     child = desk.start("value --layout taillard pipe")
     os.close(opened_for_writing(desk.path("pipe")))
-    check("a pipe with nothing", refusal(b"no block, found 0", 2)[:2], child.communicate(timeout=MOST_SECONDS))
+    check("a pipe with nothing", refusal(b"no block, found 0", 2)[:2], said(child))
 
 
 def signals(desk):
     """A program that waits is ended by the usual signals, and says nothing then. One that was stopped goes on. Where
     an output passes the limit on a file's size, the signal for that ends it, unless its starter ignores the signal."""
-    for number in (signal.SIGHUP, signal.SIGINT, signal.SIGTERM, signal.SIGQUIT, signal.SIGKILL):
-        child = desk.start("value --layout taillard pipe", before=no_core)
+    for number in ENDING + [signal.SIGKILL]:
+        child = desk.start("value --layout taillard pipe", before=as_usual)
         writer = opened_for_writing(desk.path("pipe"))
         os.write(writer, THREE_JOBS[:100])
         wait_for("the pipe is read", lambda: unread(writer) == 0)
         child.send_signal(number)
-        check(f"signal {number}", (b"", b""), child.communicate(timeout=MOST_SECONDS))
+        check(f"signal {number}", (b"", b""), said(child))
         check(f"signal {number}, status", -number, child.returncode)
         os.close(writer)
     child = desk.start("value --layout taillard pipe")
@@ -281,7 +290,7 @@ def signals(desk):
     stop(child)
     os.write(writer, THREE_JOBS[100:])
     child.send_signal(signal.SIGCONT)
-    check("stopped, and going on", (ELEVEN, b""), child.communicate(timeout=MOST_SECONDS))
+    check("stopped, and going on", (ELEVEN, b""), said(child))
     os.close(writer)
     five = lambda: (no_core(), resource.setrlimit(resource.RLIMIT_FSIZE, (5, 5)))
     for restores, answer in ((False, (unwritten(5), 4)), (True, (b"", -signal.SIGXFSZ))):
@@ -289,6 +298,16 @@ def signals(desk):
             _, *got = desk.run(VALUE, five, stdout=output, restore_signals=restores)
         check("a file of five bytes", answer, tuple(got))
         check("five bytes", b"makes", desk.path("limited").read_bytes())
+
+
+ENDING = [signal.SIGHUP, signal.SIGINT, signal.SIGTERM, signal.SIGQUIT]
+
+
+def as_usual():
+    """Signals end the program, also where its starter ignores them, and it leaves no core file."""
+    no_core()
+    for number in ENDING:
+        signal.signal(number, signal.SIG_DFL)
 
 
 def no_core():
@@ -310,7 +329,7 @@ def shrinking(desk):
     os.truncate(desk.path("shrinks"), 118)
     os.close(opened_for_writing(desk.path("pipe")))
     wanted = refusal(b"truncated after 5 times", 2)
-    check("shrunk before it is read", wanted[:2], child.communicate(timeout=MOST_SECONDS))
+    check("shrunk before it is read", wanted[:2], said(child))
     shrinking_while_read(desk, lambda position: position // 2)
     shrinking_while_read(desk, lambda position: position + 128)
 
@@ -341,7 +360,7 @@ def shrinking_while_read(desk, size_behind):
     child.send_signal(signal.SIGCONT)
     begun = -(-(max(position, end) - len(head)) // len(line))
     wanted = refusal(b"truncated after %d times" % begun, 2)
-    check(f"shrunk to {end} after {position} bytes", wanted[:2], child.communicate(timeout=MOST_SECONDS))
+    check(f"shrunk to {end} after {position} bytes", wanted[:2], said(child))
 
 
 def stopped_while_reading(desk, name):
@@ -358,7 +377,7 @@ def stopped_while_reading(desk, name):
                     return child, position
                 child.send_signal(signal.SIGCONT)
                 break
-        child.communicate(timeout=MOST_SECONDS)
+        said(child)
 
 
 def as_nobody():

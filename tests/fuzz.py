@@ -33,6 +33,8 @@ PROGRAM = TOP / "crates" / "pfs" / "out" / "pfs"
 MOST_ROUNDS = 40
 MOST_PASSES = 20
 MIB = 1 << 20
+# A pipe holds more than a piece.
+LONGEST_PIECE = 16_384
 # A program that takes longer hangs.
 MOST_SECONDS = 60
 
@@ -115,11 +117,13 @@ def unread(descriptor):
 
 
 def cut(text, lengths):
+    """Pieces of these lengths, and the rest in pieces that any pipe holds, so that no write waits."""
     pieces, start = [], 0
     for length in lengths:
         pieces.append(text[start:start + length])
         start += length
-    return [piece for piece in pieces + [text[start:]] if piece]
+    pieces += [text[at:at + LONGEST_PIECE] for at in range(start, len(text), LONGEST_PIECE)]
+    return [piece for piece in pieces if piece]
 
 
 def lay_files(case, folder):

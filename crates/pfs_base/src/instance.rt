@@ -69,7 +69,7 @@ impl Instance {
         };
         match times.resize(jobs * machines, 0) {
             Ok(()) => {}
-            Err(AllocError) => return Err(BaseFault::Memory),
+            Err(AllocError) => unreachable!(),
         }
         Ok(Instance {
             jobs,

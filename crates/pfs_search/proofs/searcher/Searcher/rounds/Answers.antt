@@ -22,7 +22,7 @@ play_round-requires-clause-room g c =
     let shop = g.B.Bench.shop c.args.bench.now in
     let here = g.B.Bench.shop c.loop-done.bench in
     let words = take many c.deref.result.now in
-    let long : length words ≡ many = length-take-le many c.deref.result.now (omega (arith, c.deref.ensures.value, c.loop-done.invariant.words)) in
+    let long : length words ≡ many = length-take-le many c.deref.result.now (omega (arith, c.loop-done.invariant.words)) in
     let cells = ap (λ n. round_cost_on cost here n c.args.passes) long ∙ ap (λ (t : FlowShop). round_cost_on cost t many c.args.passes) c.loop-done.invariant.same_shop in
     subst (λ n. g.B.Bench.counted c.loop-done.bench + n < 2 ^ 64) (sym cells)
     (next_fits (g.B.Bench.counted c.args.bench.now) (g.B.Bench.counted c.loop-done.bench) (round_cost_on cost shop many c.args.passes) c.loop-done.done c.args.count (2 ^ 64)
@@ -35,7 +35,7 @@ returns-in-Err-clause-fault_high g c =
     let shop = g.B.Bench.shop c.args.bench.now in
     let here = g.B.Bench.shop c.loop-done.bench in
     let words = take many c.deref.result.now in
-    let long : length words ≡ many = length-take-le many c.deref.result.now (omega (arith, c.deref.ensures.value, c.loop-done.invariant.words)) in
+    let long : length words ≡ many = length-take-le many c.deref.result.now (omega (arith, c.loop-done.invariant.words)) in
     let cells = ap (λ n. round_cost_on cost here n c.args.passes) long ∙ ap (λ (t : FlowShop). round_cost_on cost t many c.args.passes) c.loop-done.invariant.same_shop in
     next_within (g.B.Bench.counted c.args.bench.now) (g.B.Bench.counted c.loop-done.bench) (g.B.Bench.counted c.play_round.new.bench)
     (round_cost_on cost shop many c.args.passes) c.loop-done.done c.args.count
