@@ -9,7 +9,8 @@ import subprocess
 import tempfile
 
 HERE = pathlib.Path(__file__).resolve().parent
-CASES = 30
+WITHOUT_PASSES = 30
+CASES = 50
 WORD = 2**64 - 1
 
 
@@ -48,7 +49,7 @@ def pcg_words(seed):
         yield pcg_word(state)
 
 
-def search(times, rounds, take, seed):
+def search(times, rounds, take, seed, passes):
     """The order and its makespan after NEH and the rounds."""
     ranking = sorted(range(len(times)), key=lambda job: -sum(times[job]))
     kept = []
@@ -59,6 +60,9 @@ def search(times, rounds, take, seed):
         order = list(kept)
         taken = [order.pop(next(words) % len(order)) for _ in range(take)]
         for job in taken:
+            order = insert(times, order, job)
+        for job in list(range(len(times))) * passes:
+            order.remove(job)
             order = insert(times, order, job)
         if makespan(times, order) <= makespan(times, kept):
             kept = order
@@ -89,13 +93,15 @@ def main():
             rounds = source.choice([0, 1, 3, 12, 60])
             take = source.randrange(1, len(times) + 1)
             seed = source.choice([0, 1, 7, source.randrange(2**64), WORD])
-            words = [program, "taillard", "1", str(rounds), str(take), str(seed)]
+            passes = 0 if case < WITHOUT_PASSES else source.choice([1, 1, 2, 3, 7])
+            words = [program, "taillard", "1", str(rounds), str(take), str(seed), str(passes)]
             printed = subprocess.run(words, input=text_of(times), capture_output=True, text=True, check=True).stdout
-            order, length = search(times, rounds, take, seed)
+            order, length = search(times, rounds, take, seed, passes)
             jobs = " ".join(str(job + 1) for job in order)
-            cells = 2 * len(times[0]) * (len(times) ** 2 + rounds * take * (2 * len(times) - take))
+            each = take * (2 * len(times) - take) + passes * len(times) * (2 * len(times) - 1)
+            cells = 2 * len(times[0]) * (len(times) ** 2 + rounds * each)
             assert printed == f"order {len(order)}\n{jobs}\nmakespan {length}\ncells {cells}\n", (case, printed)
-            entries.append({"file": text_of(times), "rounds": rounds, "take": take, "seed": seed, "printed": printed})
+            entries.append({"file": text_of(times), "rounds": rounds, "take": take, "seed": seed, "passes": passes, "printed": printed})
     (HERE / "expected").mkdir(exist_ok=True)
     (HERE / "expected" / "searches.json").write_text(json.dumps(entries, indent=1) + "\n")
 

@@ -1,4 +1,4 @@
-// solve [FORM] LAYOUT BLOCK ROUNDS TAKE SEED [FILE]: NEH's order of a block, and rounds of iterated greedy behind
+// solve [FORM] LAYOUT BLOCK ROUNDS TAKE SEED PASSES [FILE]: NEH's order of a block, and rounds of iterated greedy behind
 // it, as `pfs solve --cells` prints them; a TAKE of 0 is the smaller of 4 and the number of jobs. Without FILE it
 // reads standard input. It is written from the definitions, over flat tables of 32-bit integers. FORM says how the
 // best place is found: `plain`, which is also meant without it, by one row in a loop over the machines; `rows64` and
@@ -286,10 +286,21 @@ static Jobs ranking(const Instance& shop) {
     return jobs;
 }
 
-// A round of iterated greedy (Ruiz and Stuetzle 2007): takes a job out for each word, puts them back in the same
-// order, and keeps the result unless it is longer.
+// Each job, in the order of the numbers, leaves the order and goes back at its best place.
 template <typename Inserter>
-static void round_of(Inserter& inserter, const Jobs& words, Jobs& kept, uint32_t& makespan) {
+static uint32_t pass(Inserter& inserter, Jobs& order) {
+    uint32_t length = 0;
+    for (uint32_t job = 0; job < order.size(); ++job) {
+        order.erase(std::find(order.begin(), order.end(), job));
+        length = inserter.insert(order, job);
+    }
+    return length;
+}
+
+// A round of iterated greedy (Ruiz and Stuetzle 2007): takes a job out for each word, puts them back in the same
+// order, makes the passes, and keeps the result unless it is longer.
+template <typename Inserter>
+static void round_of(Inserter& inserter, const Jobs& words, uint64_t passes, Jobs& kept, uint32_t& makespan) {
     Jobs order = kept;
     Jobs taken;
     for (uint32_t word : words) {
@@ -301,6 +312,9 @@ static void round_of(Inserter& inserter, const Jobs& words, Jobs& kept, uint32_t
     for (uint32_t job : taken) {
         length = inserter.insert(order, job);
     }
+    for (uint64_t made = 0; made < passes; ++made) {
+        length = pass(inserter, order);
+    }
     if (length <= makespan) {
         kept = order;
         makespan = length;
@@ -309,7 +323,7 @@ static void round_of(Inserter& inserter, const Jobs& words, Jobs& kept, uint32_t
 
 // The search, and what it found on standard output.
 template <typename Inserter>
-static int search(const Instance& shop, uint64_t rounds, uint64_t take, Pcg32 random) {
+static int search(const Instance& shop, uint64_t rounds, uint64_t take, uint64_t passes, Pcg32 random) {
     Inserter inserter(shop);
     Jobs kept;
     uint32_t makespan = 0;
@@ -321,7 +335,7 @@ static int search(const Instance& shop, uint64_t rounds, uint64_t take, Pcg32 ra
         for (uint32_t& word : drawn) {
             word = random.next();
         }
-        round_of(inserter, drawn, kept, makespan);
+        round_of(inserter, drawn, passes, kept, makespan);
     }
     std::printf("order %zu\n", shop.jobs);
     for (size_t place = 0; place < kept.size(); ++place) {
@@ -340,14 +354,15 @@ int main(int count, char** words) {
         form = "plain";
     }
     Layout layout;
-    if (count < 6 || count > 7 || !layout_named(words[1], layout)) {
-        std::fprintf(stderr, "usage: solve [plain|rows64|rows32] LAYOUT BLOCK ROUNDS TAKE SEED [FILE]\n");
+    if (count < 7 || count > 8 || !layout_named(words[1], layout)) {
+        std::fprintf(stderr, "usage: solve [plain|rows64|rows32] LAYOUT BLOCK ROUNDS TAKE SEED PASSES [FILE]\n");
         return 3;
     }
     uint64_t rounds = std::strtoull(words[3], nullptr, 10);
     uint64_t take = std::strtoull(words[4], nullptr, 10);
     Pcg32 random(std::strtoull(words[5], nullptr, 10));
-    int file = count == 7 ? open(words[6], O_RDONLY) : 0;
+    uint64_t passes = std::strtoull(words[6], nullptr, 10);
+    int file = count == 8 ? open(words[7], O_RDONLY) : 0;
     if (file < 0) {
         std::fprintf(stderr, "pfs: cannot open\n");
         return 4;
@@ -365,10 +380,10 @@ int main(int count, char** words) {
         take = std::min<uint64_t>(4, shop.jobs);
     }
     if (form == "rows64") {
-        return search<RowInserter<int64_t>>(shop, rounds, take, random);
+        return search<RowInserter<int64_t>>(shop, rounds, take, passes, random);
     }
     if (form == "rows32") {
-        return search<RowInserter<int32_t>>(shop, rounds, take, random);
+        return search<RowInserter<int32_t>>(shop, rounds, take, passes, random);
     }
-    return search<PlainInserter>(shop, rounds, take, random);
+    return search<PlainInserter>(shop, rounds, take, passes, random);
 }

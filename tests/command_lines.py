@@ -5,7 +5,7 @@ TITLE = b"number of jobs, number of machines, initial seed, upper bound and lowe
 
 USAGE = b"""pfs: usage
 pfs value --layout L [--block K] FILE
-pfs solve --layout L [--block K] [--rounds R] [--take D] [--seed S] [--cells] FILE
+pfs solve --layout L [--block K] [--rounds R] [--take D] [--seed S] [--passes P] [--cells] FILE
 pfs check --layout L [--block K] FILE ORDER
 pfs table --layout L [--block K] FILE ORDER
 pfs convert --from L --to L [--block K] FILE
@@ -87,6 +87,9 @@ LINES = [
     ("solve --layout taillard --cells three", b"order 3\n2 1 3\nmakespan 10\ncells 36\n", b"", 0),
     ("solve --layout taillard --rounds 5 --take 2 --seed 7 --cells three",
      b"order 3\n2 1 3\nmakespan 10\ncells 196\n", b"", 0),
+    ("solve --layout taillard --rounds 5 --take 2 --seed 7 --passes 1 --cells three",
+     b"order 3\n2 1 3\nmakespan 10\ncells 496\n", b"", 0),
+    ("solve --layout taillard --passes 1 --cells three", b"order 3\n2 1 3\nmakespan 10\ncells 36\n", b"", 0),
     ("solve three --layout=taillard --cells --rounds=5", b"order 3\n2 1 3\nmakespan 10\ncells 216\n", b"", 0),
     ("solve --layout taillard --cells ones", b"order 3\n3 2 1\nmakespan 4\ncells 36\n", b"", 0),
     ("solve --layout taillard --cells one", b"order 1\n1\nmakespan 0\ncells 2\n", b"", 0),
@@ -101,6 +104,8 @@ LINES = [
     ("solve --layout taillard --take 2001 three", b"", USAGE, 3),
     ("solve --layout taillard --rounds 1000001 three", b"", USAGE, 3),
     ("solve --layout taillard --block 1001 three", b"", USAGE, 3),
+    ("solve --layout taillard --passes 101 three", b"", USAGE, 3),
+    ("solve --layout taillard --passes=-1 three", b"", USAGE, 3),
     ("solve --layout taillard --cells --cells three", b"", USAGE, 3),
     ("check --layout taillard three best", b"valid\nmakespan 10\nbound 10\noptimal\n", b"", 0),
     ("check --layout orlib --block 2 two_blocks.or best", b"valid\nmakespan 10\nbound 10\noptimal\n", b"", 0),
@@ -155,7 +160,7 @@ LINES = [
 
 # The lines that take memory, each of which is run with each growth refused in turn.
 GROWING = [
-    "solve --layout taillard --rounds 5 --take 2 --seed 7 --cells three",
+    "solve --layout taillard --rounds 5 --take 2 --seed 7 --passes 1 --cells three",
     "value --layout orlib --block 2 two_blocks.or",
     "check --layout taillard three best",
     "table --layout taillard three best",

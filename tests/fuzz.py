@@ -31,6 +31,7 @@ TOP = pathlib.Path(__file__).resolve().parent.parent
 PROGRAM = TOP / "crates" / "pfs" / "out" / "pfs"
 # A search of more rounds is too long for the second program.
 MOST_ROUNDS = 40
+MOST_PASSES = 20
 MIB = 1 << 20
 # A pipe holds more than a piece.
 LONGEST_PIECE = 16_384
@@ -78,7 +79,8 @@ class Case:
             return True
         if command == b"generate":
             return others[0] * others[1] <= 4_000
-        return options.get(b"--rounds", 0) <= MOST_ROUNDS
+        rounds = options.get(b"--rounds", 0)
+        return rounds <= MOST_ROUNDS and rounds * options.get(b"--passes", 0) <= MOST_PASSES
 
     def has_great_files(self):
         return any(text is not UNREADABLE and len(text) > MIB for text in self.files.values())
@@ -380,6 +382,9 @@ class Line:
         if self.random.random() < 0.6:
             seed = self.random.choice(SEEDS + [self.random.randrange(2**64)] * 4)
             options.append(self.option(b"--seed", self.number(seed)))
+        if self.random.random() < 0.4:
+            passes = self.random.choice([0, 1, 1, 2, 3, 100, 101])
+            options.append(self.option(b"--passes", self.number(passes)))
         return options + ([[b"--cells"]] if self.random.random() < 0.6 else [])
 
     def mixed(self, command, options, paths):

@@ -17,7 +17,7 @@ MOST_NOTE = 4_294_967_295
 
 USAGE = b"""pfs: usage
 pfs value --layout L [--block K] FILE
-pfs solve --layout L [--block K] [--rounds R] [--take D] [--seed S] [--cells] FILE
+pfs solve --layout L [--block K] [--rounds R] [--take D] [--seed S] [--passes P] [--cells] FILE
 pfs check --layout L [--block K] FILE ORDER
 pfs table --layout L [--block K] FILE ORDER
 pfs convert --from L --to L [--block K] FILE
@@ -76,6 +76,7 @@ COMMANDS = {
         b"--rounds": (number_between(0, 1_000_000), 0),
         b"--take": (number_between(1, MOST_JOBS), None),
         b"--seed": (number_between(0, 2**64 - 1), 0),
+        b"--passes": (number_between(0, 100), 0),
         b"--cells": (None, False),
     }, [bytes]),
     b"check": (ON_ONE, [bytes, bytes]),
@@ -353,13 +354,14 @@ def by_totals(shop):
     return order
 
 
-def after_round(shop, kept, words):
-    """Takes a job out for each word, puts each back at its best place, and keeps the order if it isn't longer."""
+def after_round(shop, kept, words, passes):
+    """Takes a job out for each word, puts each back at its best place, then moves every job, by its number, to its
+    best place in each pass, and keeps the order if it isn't longer."""
     order, taken = list(kept), []
     for word in words:
         taken.append(order.pop(word % len(order)))
-    for job in taken:
-        order = inserted(shop, order, job)
+    for job in taken + list(range(shop.jobs)) * passes:
+        order = inserted(shop, [other for other in order if other != job], job)
     return order if makespan(shop, order) <= makespan(shop, kept) else kept
 
 
@@ -432,12 +434,15 @@ def solved(shop, options):
     take = min(4, shop.jobs) if take is None else take
     order, random = by_totals(shop), Pcg32(options[b"--seed"])
     for _ in range(options[b"--rounds"]):
-        order = after_round(shop, order, [random.next_word() for _ in range(take)])
+        words = [random.next_word() for _ in range(take)]
+        order = after_round(shop, order, words, options[b"--passes"])
     text = order_text(order, makespan(shop, order))
     if not options[b"--cells"]:
         return text
     cells = 2 * shop.machines * shop.jobs**2
-    cells += 2 * options[b"--rounds"] * take * shop.machines * (2 * shop.jobs - take)
+    each = 2 * take * shop.machines * (2 * shop.jobs - take)
+    each += options[b"--passes"] * shop.jobs * shop.machines * (4 * shop.jobs - 2)
+    cells += options[b"--rounds"] * each
     return text + b"cells %d\n" % cells
 
 

@@ -21,7 +21,7 @@ use std::{env, io};
 
 const USAGE: &[u8] = b"pfs: usage
 pfs value --layout L [--block K] FILE
-pfs solve --layout L [--block K] [--rounds R] [--take D] [--seed S] [--cells] FILE
+pfs solve --layout L [--block K] [--rounds R] [--take D] [--seed S] [--passes P] [--cells] FILE
 pfs check --layout L [--block K] FILE ORDER
 pfs table --layout L [--block K] FILE ORDER
 pfs convert --from L --to L [--block K] FILE

@@ -345,6 +345,7 @@ fn run_solve_call(rt: &HostRuntime) -> Result<(), Stop> {
         rounds: 5,
         take: Some(2),
         seed: 7,
+        passes: 0,
         cells: true,
     };
     run_solve(

@@ -171,7 +171,7 @@ pub(crate) fn round_call(rt: &HostRuntime) -> Result<(), Stop> {
     let mut searcher = Searcher::new(rt.alloc(), 3, inserter)?;
     let mut kept = Kept::new(Order::identity(rt.alloc(), 3)?, bench.zero());
     searcher.neh(rt.alloc(), &mut bench, &mut kept)?;
-    match searcher.round(rt.alloc(), &mut bench, &mut kept, &[0, 0]) {
+    match searcher.round(rt.alloc(), &mut bench, &mut kept, &[0, 0], 0) {
         Ok(()) => print_kept(rt, &bench, &kept),
         Err(SearchFault::Memory { done }) => {
             Err(refused(done == 0 && keeps(&bench, &kept, &[1, 0, 2], 10)))
@@ -189,7 +189,7 @@ pub(crate) fn rounds_call(rt: &HostRuntime) -> Result<(), Stop> {
     let mut kept = Kept::new(Order::identity(rt.alloc(), 3)?, bench.zero());
     searcher.neh(rt.alloc(), &mut bench, &mut kept)?;
     let mut rng = Odds(1);
-    match searcher.rounds(rt.alloc(), &mut bench, &mut kept, 5, 2, &mut rng) {
+    match searcher.rounds(rt.alloc(), &mut bench, &mut kept, 5, 2, 0, &mut rng) {
         Ok(()) => {
             print_kept(rt, &bench, &kept)?;
             println!(rt; "next word {}", rng.next_u32())?;

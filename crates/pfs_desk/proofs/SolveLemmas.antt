@@ -24,6 +24,7 @@ use Rattle.pfs_search.specs.Costs.{neh_cost, round_cost, HasClosedCosts}
 use Rattle.pfs_search.specs.Greedy.{after_rounds, words_of}
 use Rattle.pfs_search.specs.Neh.{neh_order}
 use Rattle.pfs_search.proofs.Published.CostSums.{costs_law}
+use Rattle.pfs_search.specs.declared.passes.TheConstants.{MOST_PASSES}
 use Rattle.pfs_desk.specs.declared.solve_options.TheConstants.{MOST_ROUNDS}
 use Rattle.pfs_desk.specs.Solve.{words_for, neh_cells, rounds_cells, solution_text, IsFound}
 
@@ -49,15 +50,22 @@ closed = costs_law heads_tails_cost (λ count machines some. refl)
 pub neh_cells_are : (shop : FlowShop) → neh_cost heads_tails_cost shop.jobs shop.machines ≡ neh_cells shop
 neh_cells_are shop = closed.neh shop.jobs shop.machines
 
-pub rounds_cells_are : (shop : FlowShop) (rounds many : ℕ) → many ≤ shop.jobs →
-    rounds * round_cost heads_tails_cost shop.jobs shop.machines many 0 ≡ rounds_cells shop rounds many
-rounds_cells_are shop rounds many few = ap (λ cells. rounds * cells) (closed.round shop.jobs shop.machines many few)
+-- the cells of each round, so many times
+each_round : (rounds put_back passes jobs machines width : ℕ)
+    → rounds * (put_back + passes * jobs * machines * width) ≡ rounds * put_back + rounds * (passes * jobs * machines * width)
+each_round rounds put_back passes jobs machines width = omega arith
 
-pub rounds_cells_few : (shop : FlowShop) (rounds many : ℕ) → many ≤ shop.jobs →
-    rounds_cells shop rounds many ≤ rounds * many * shop.machines * (4 * shop.jobs - 2)
-rounds_cells_few shop rounds many few =
-    subst (λ cells. cells ≤ rounds * many * shop.machines * (4 * shop.jobs - 2)) (rounds_cells_are shop rounds many few)
-    (closed.rounds rounds shop.jobs shop.machines many few)
+pub rounds_cells_are : (shop : FlowShop) (rounds many passes : ℕ) → many ≤ shop.jobs →
+    rounds * round_cost heads_tails_cost shop.jobs shop.machines many passes ≡ rounds_cells shop rounds many passes
+rounds_cells_are shop rounds many passes few =
+    ap (λ cells. rounds * cells) (closed.round shop.jobs shop.machines many passes few)
+    ∙ each_round rounds (2 * many * shop.machines * (2 * shop.jobs - many)) passes shop.jobs shop.machines (4 * shop.jobs - 2)
+
+pub rounds_cells_few : (shop : FlowShop) (rounds many passes : ℕ) → many ≤ shop.jobs →
+    rounds_cells shop rounds many passes ≤ rounds * (many + passes * shop.jobs) * shop.machines * (4 * shop.jobs - 2)
+rounds_cells_few shop rounds many passes few =
+    subst (λ cells. cells ≤ rounds * (many + passes * shop.jobs) * shop.machines * (4 * shop.jobs - 2)) (rounds_cells_are shop rounds many passes few)
+    (closed.rounds rounds shop.jobs shop.machines many passes few)
 
 -- ---- bounds, over numbers alone
 
@@ -67,8 +75,11 @@ through a b c h k = omega arith
 below_room : (cells bound most : ℕ) → cells ≤ bound → bound ≤ most → most < 2 ^ 62 → cells < 2 ^ 62
 below_room cells bound most h k room = omega arith
 
-width_within : (jobs most : ℕ) → jobs ≤ most → 4 * jobs - 2 ≤ 4 * most
+width_within : (jobs most : ℕ) → jobs ≤ most → 4 * jobs - 2 ≤ 4 * most - 2
 width_within jobs most h = omega arith
+
+sum_within : (a b most_a most_b : ℕ) → a ≤ most_a → b ≤ most_b → a + b ≤ most_a + most_b
+sum_within a b most_a most_b h k = omega arith
 
 cells_within : (jobs machines most_jobs most_machines : ℕ) → jobs ≤ most_jobs → machines ≤ most_machines
     → jobs + (machines - 1) ≤ most_jobs + most_machines
@@ -81,13 +92,15 @@ neh_room shop within =
     let most = 2 * MOST_MACHINES * (MOST_JOBS * MOST_JOBS) in
     below_room _ _ most (subst (λ cells. cells ≤ most) (sym (neh_cells_are shop)) many) (lit≤ tt) (lit< tt)
 
-pub rounds_room : (shop : FlowShop) (rounds many : ℕ) → IsWithin limits shop → many ≤ shop.jobs → rounds ≤ MOST_ROUNDS →
-    rounds * round_cost heads_tails_cost shop.jobs shop.machines many 0 < 2 ^ 62
-rounds_room shop rounds many within few short =
+-- the rounds count at most 323,119,200,000,000,000
+pub rounds_room : (shop : FlowShop) (rounds many passes : ℕ) → IsWithin limits shop → many ≤ shop.jobs → rounds ≤ MOST_ROUNDS → passes ≤ MOST_PASSES →
+    rounds * round_cost heads_tails_cost shop.jobs shop.machines many passes < 2 ^ 62
+rounds_room shop rounds many passes within few short scarce =
     let taken = through many shop.jobs MOST_JOBS few within.sizes.few_jobs in
+    let moved = sum_within many (passes * shop.jobs) MOST_JOBS (MOST_PASSES * MOST_JOBS) taken (mul-le-mul scarce within.sizes.few_jobs) in
     let width = width_within shop.jobs MOST_JOBS within.sizes.few_jobs in
-    below_room _ _ (MOST_ROUNDS * MOST_JOBS * MOST_MACHINES * (4 * MOST_JOBS)) (closed.rounds rounds shop.jobs shop.machines many few)
-    (mul-le-mul (mul-le-mul (mul-le-mul short taken) within.sizes.few_machines) width) (lit< tt)
+    below_room _ _ 323119200000000000 (closed.rounds rounds shop.jobs shop.machines many passes few)
+    (mul-le-mul (mul-le-mul (mul-le-mul short moved) within.sizes.few_machines) width) (lit< tt)
 
 -- ---- makespans
 
@@ -111,26 +124,26 @@ pub record NehDone (shop : FlowShop) (order : List ℕ) (span cells : ℕ) : Typ
   pub counted : cells ≡ neh_cost heads_tails_cost shop.jobs shop.machines
 
 -- and then so many rounds on the words of a stream
-pub record RoundsDone (shop : FlowShop) (rounds many : ℕ) (stream : Stream) (old : List ℕ) (old_span old_cells : ℕ) (order : List ℕ) (span cells : ℕ) : Type 0 where
-  pub is_order : order ≡ after_rounds shop 0 rounds many old (words_of (rounds * many) stream)
+pub record RoundsDone (shop : FlowShop) (rounds many passes : ℕ) (stream : Stream) (old : List ℕ) (old_span old_cells : ℕ) (order : List ℕ) (span cells : ℕ) : Type 0 where
+  pub is_order : order ≡ after_rounds shop passes rounds many old (words_of (rounds * many) stream)
   pub is_span : span ≡ makespan shop order
   pub never_rises : span ≤ old_span
-  pub counted : cells ≡ old_cells + rounds * round_cost heads_tails_cost shop.jobs shop.machines many 0
+  pub counted : cells ≡ old_cells + rounds * round_cost heads_tails_cost shop.jobs shop.machines many passes
 
-pub found_is : (shop : FlowShop) (rounds many seed : ℕ) (generator : Lcg) (old : List ℕ) (old_span old_cells : ℕ) (order : List ℕ) (span cells : ℕ)
+pub found_is : (shop : FlowShop) (rounds many passes seed : ℕ) (generator : Lcg) (old : List ℕ) (old_span old_cells : ℕ) (order : List ℕ) (span cells : ℕ)
     → many ≤ shop.jobs → generator ≡ pcg32_of_seed (pcg32_seed 16 seed) → NehDone shop old old_span old_cells
-    → RoundsDone shop rounds many (stream_of (steps_u32 pcg32) generator) old old_span old_cells order span cells
-    → length order ≡ shop.jobs → IsSequence shop.jobs order → IsFound shop rounds many seed order span cells
-found_is shop rounds many seed generator old old_span old_cells order span cells few seeded neh done all distinct = record {
-  found = done.is_order ∙ ap (λ o. after_rounds shop 0 rounds many o (words_of (rounds * many) (stream_of (steps_u32 pcg32) generator))) neh.is_order
-      ∙ ap (after_rounds shop 0 rounds many (neh_order shop)) (words_are seed generator (rounds * many) seeded);
+    → RoundsDone shop rounds many passes (stream_of (steps_u32 pcg32) generator) old old_span old_cells order span cells
+    → length order ≡ shop.jobs → IsSequence shop.jobs order → IsFound shop rounds many passes seed order span cells
+found_is shop rounds many passes seed generator old old_span old_cells order span cells few seeded neh done all distinct = record {
+  found = done.is_order ∙ ap (λ o. after_rounds shop passes rounds many o (words_of (rounds * many) (stream_of (steps_u32 pcg32) generator))) neh.is_order
+      ∙ ap (after_rounds shop passes rounds many (neh_order shop)) (words_are seed generator (rounds * many) seeded);
   all = all;
   distinct = distinct;
   spanned = done.is_span;
   no_longer = subst (λ most. span ≤ most) (neh.is_span ∙ ap (makespan shop) neh.is_order) done.never_rises;
-  counted = done.counted ∙ ap (λ n. n + rounds * round_cost heads_tails_cost shop.jobs shop.machines many 0) (neh.counted ∙ neh_cells_are shop)
-      ∙ ap (λ n. neh_cells shop + n) (rounds_cells_are shop rounds many few);
-  few_cells = rounds_cells_few shop rounds many few;
+  counted = done.counted ∙ ap (λ n. n + rounds * round_cost heads_tails_cost shop.jobs shop.machines many passes) (neh.counted ∙ neh_cells_are shop)
+      ∙ ap (λ n. neh_cells shop + n) (rounds_cells_are shop rounds many passes few);
+  few_cells = rounds_cells_few shop rounds many passes few;
 }
 
 -- ---- what is printed

@@ -7,6 +7,7 @@ use Rattle.clap.specs.Walk.{texts}
 use Rattle.clap.specs.declared.builder.action.ArgAction.TheVariants.{Set, SetTrue}
 use Rattle.clap.specs.declared.builder.value_parser.ValueParser.TheVariants as parser
 use Rattle.pfs_base.specs.declared.limits.TheConstants.{MOST_BLOCKS, MOST_JOBS, MOST_MACHINES}
+use Rattle.pfs_search.specs.declared.passes.TheConstants.{MOST_PASSES}
 use Rattle.pfs_desk.specs.declared.solve_options.TheConstants.{MOST_ROUNDS}
 
 -- these arguments, and no program's name before them; no subcommands, and no groups
@@ -74,10 +75,14 @@ take_rule = option_rule (codes "take") 1 MOST_JOBS []
 abbrev pub search_seed_rule : Rule
 search_seed_rule = option_rule (codes "seed") 0 18446744073709551615 (codes "0" ∷ [])
 
--- `--layout L [--block K] [--rounds R] [--take D] [--seed S] [--cells] FILE`
+-- `[--passes P]`, 0 where it is left out
+abbrev pub passes_rule : Rule
+passes_rule = option_rule (codes "passes") 0 MOST_PASSES (codes "0" ∷ [])
+
+-- `--layout L [--block K] [--rounds R] [--take D] [--seed S] [--passes P] [--cells] FILE`
 abbrev pub solve_form : Names → App
 solve_form names = flat_form (codes "solve") (layout_rule names (codes "layout") ∷ block_rule ∷ rounds_rule ∷ take_rule ∷ search_seed_rule
-    ∷ flag_rule (codes "cells") ∷ path_rule (codes "file") ∷ [])
+    ∷ passes_rule ∷ flag_rule (codes "cells") ∷ path_rule (codes "file") ∷ [])
 
 -- `--layout L [--block K] FILE ORDER`
 abbrev pub audit_form : Text → Names → App

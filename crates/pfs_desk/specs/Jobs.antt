@@ -6,6 +6,7 @@ use Rattle.clap.specs.Words.{App, Row, Text, fault_of, first_of, matches_of, tak
 use Rattle.pfs_base.specs.declared.limits.TheConstants.{MOST_BLOCKS, MOST_JOBS, MOST_MACHINES}
 use Rattle.pfs_layout.specs.declared.layout.Layout.{Layout}
 use Rattle.pfs_layout.specs.declared.layout.Layout.TheVariants.{Taillard, OrLib}
+use Rattle.pfs_search.specs.declared.passes.TheConstants.{MOST_PASSES}
 use Rattle.pfs_desk.specs.declared.solve_options.TheConstants.{MOST_ROUNDS}
 use Rattle.pfs_desk.specs.declared.solve_options.SolveOptions.{SolveOptions}
 use Rattle.pfs_desk.specs.declared.job.Job.{Job}
@@ -56,6 +57,7 @@ pub record AsksForSolve (names : Names) (words : List Text) (layout : Layout) (b
   pub rounds_said : SaysNumber (matches_of (solve_form names) words) (codes "rounds") options.rounds
   pub take_said : SaysMaybeNumber (matches_of (solve_form names) words) (codes "take") options.take
   pub seed_said : SaysNumber (matches_of (solve_form names) words) (codes "seed") options.seed
+  pub passes_said : SaysNumber (matches_of (solve_form names) words) (codes "passes") options.passes
   pub cells_said : SaysFlag (matches_of (solve_form names) words) (codes "cells") options.cells
   pub file_said : SaysText (matches_of (solve_form names) words) (codes "file") file
 
@@ -96,7 +98,7 @@ IsFrom1To most number = (1 ≤ number) × (number ≤ most)
 -- a job's numbers are within the limits; a generator's seed may be out of its own
 abbrev pub IsWithinLimits : Job → Type 0
 IsWithinLimits (job.Value layout block file) = IsFrom1To MOST_BLOCKS block
-IsWithinLimits (job.Solve layout block options file) = IsFrom1To MOST_BLOCKS block × (options.rounds ≤ MOST_ROUNDS) × IfSome options.take (IsFrom1To MOST_JOBS)
+IsWithinLimits (job.Solve layout block options file) = IsFrom1To MOST_BLOCKS block × (options.rounds ≤ MOST_ROUNDS) × IfSome options.take (IsFrom1To MOST_JOBS) × (options.passes ≤ MOST_PASSES)
 IsWithinLimits (job.Check layout block file order_file) = IsFrom1To MOST_BLOCKS block
 IsWithinLimits (job.Table layout block file order_file) = IsFrom1To MOST_BLOCKS block
 IsWithinLimits (job.Convert source target block file) = IsFrom1To MOST_BLOCKS block

@@ -24,17 +24,19 @@ take_for None jobs = min DEFAULT_TAKE jobs
 abbrev pub words_for : ℕ → ℕ → List ℕ
 words_for seed count = first_words pcg32 count (pcg32_of_seed (pcg32_seed 16 seed))
 
--- NEH's order followed by so many rounds, each of which takes so many jobs out by the next so many words of the seed
-abbrev pub searched : FlowShop → ℕ → ℕ → ℕ → List ℕ
-searched shop rounds many seed = after_rounds shop 0 rounds many (neh_order shop) (words_for seed (rounds * many))
+-- NEH's order followed by so many rounds, each of which takes so many jobs out by the next so many words of the seed,
+-- and makes so many passes
+abbrev pub searched : FlowShop → ℕ → ℕ → ℕ → ℕ → List ℕ
+searched shop rounds many passes seed = after_rounds shop passes rounds many (neh_order shop) (words_for seed (rounds * many))
 
 -- the cells of NEH: 2mn² for n jobs on m machines
 abbrev pub neh_cells : FlowShop → ℕ
 neh_cells shop = 2 * shop.machines * (shop.jobs * shop.jobs)
 
--- the cells of R rounds that each take d jobs out: R times 2dm(2n - d)
-abbrev pub rounds_cells : FlowShop → ℕ → ℕ → ℕ
-rounds_cells shop rounds many = rounds * (2 * many * shop.machines * (2 * shop.jobs - many))
+-- the cells of R rounds that each take d jobs out and make L passes: 2Rdm(2n - d) + RLnm(4n - 2)
+abbrev pub rounds_cells : FlowShop → ℕ → ℕ → ℕ → ℕ
+rounds_cells shop rounds many passes =
+    rounds * (2 * many * shop.machines * (2 * shop.jobs - many)) + rounds * (passes * shop.jobs * shop.machines * (4 * shop.jobs - 2))
 
 -- an order and its makespan as an order file, and behind it, where that is asked for, a count of cells
 unfoldable pub solution_text : List ℕ → ℕ → Bool → ℕ → List ℕ
@@ -42,18 +44,18 @@ solution_text order makespan with_cells cells =
     file_text order makespan ++ (if with_cells then named_number (codes "cells") cells else [])
 
 -- what a search of so many rounds finds: an order and its makespan, and the count of its cells
-pub record IsFound (shop : FlowShop) (rounds many seed : ℕ) (order : List ℕ) (span cells : ℕ) : Type 0 where
+pub record IsFound (shop : FlowShop) (rounds many passes seed : ℕ) (order : List ℕ) (span cells : ℕ) : Type 0 where
   -- it is NEH's order followed by the rounds
-  pub found : order ≡ searched shop rounds many seed
+  pub found : order ≡ searched shop rounds many passes seed
   -- it has each job once
   pub all : length order ≡ shop.jobs
   pub distinct : IsSequence shop.jobs order
   -- the makespan is this order's, no longer than NEH's
   pub spanned : span ≡ makespan shop order
   pub no_longer : span ≤ makespan shop (neh_order shop)
-  -- the cells are those of NEH and those of the rounds, and these are at most Rdm(4n - 2)
-  pub counted : cells ≡ neh_cells shop + rounds_cells shop rounds many
-  pub few_cells : rounds_cells shop rounds many ≤ rounds * many * shop.machines * (4 * shop.jobs - 2)
+  -- the cells are those of NEH and those of the rounds, and these are at most R(d + Ln)m(4n - 2)
+  pub counted : cells ≡ neh_cells shop + rounds_cells shop rounds many passes
+  pub few_cells : rounds_cells shop rounds many passes ≤ rounds * (many + passes * shop.jobs) * shop.machines * (4 * shop.jobs - 2)
 
 -- more jobs are asked for than there are, and the fault tells both numbers
 abbrev pub IsTakeFault : Option ℕ → ℕ → DeskFault → Type 0
@@ -68,5 +70,5 @@ pub record IsSolution (shop : FlowShop) (options : SolveOptions) (text : List �
   pub cells : ℕ
   pub taken : many ≡ take_for options.take shop.jobs
   pub few_taken : many ≤ shop.jobs
-  pub found : IsFound shop options.rounds many options.seed order span cells
+  pub found : IsFound shop options.rounds many options.passes options.seed order span cells
   pub spelled : text ≡ solution_text order span options.cells cells

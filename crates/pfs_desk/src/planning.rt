@@ -74,6 +74,7 @@ fn plan_solve(alloc: Global, words: &[String]) -> Result<Job, UsageFault>
         rounds: number_in(&matches, "rounds") as u32,
         take: number_in_if(&matches, "take"),
         seed: number_in(&matches, "seed"),
+        passes: number_in(&matches, "passes") as u32,
         cells: flag_in(&matches, "cells"),
     };
     Ok(Job::Solve {

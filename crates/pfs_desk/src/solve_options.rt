@@ -10,6 +10,9 @@ pub struct SolveOptions {
     pub take: Option<usize>,
     /// The seed of the Pcg32 whose words say which jobs are taken out.
     pub seed: u64,
+    /// How many passes each round makes, at most `MOST_PASSES`: in a pass each job, in the order of the numbers,
+    /// leaves its place for its best one.
+    pub passes: u32,
     /// Whether the count of cells is printed too.
     pub cells: bool,
 }

@@ -1,3 +1,4 @@
+pub mod Published
 pub mod Exchange
 pub mod FirstLeast
 pub mod FlatRows

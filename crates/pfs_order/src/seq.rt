@@ -83,6 +83,18 @@ impl Seq {
         self.jobs.contains(&job)
     }
 
+    /// The place of a job that stands in the sequence. It looks at each place up to there.
+    pub fn place_of(&self, job: usize) -> usize
+        requires { Contains self.now.jobs job }
+        ensures within { result < length self.now.jobs }
+        ensures job { slice_index self.now.jobs result ≡ job }
+    {
+        match self.jobs.iter().position(|other| *other == job) {
+            Some(place) => place,
+            None => unreachable!(),
+        }
+    }
+
     /// Puts a job at a place; the jobs from there on move back by one.
     pub fn insert_at(&mut self, place: usize, job: usize)
         requires place { place ≤ length self.old.jobs }

@@ -2,6 +2,7 @@
 -- number of jobs with the new one, and the number of machines.
 use Rattle.std.specs.Prelude.{◌≡◌, ℕ, ◌+◌, ◌-◌, ◌*◌, ◌≤◌, sum_by}
 use Rattle.std.specs.List.{range_with_len}
+use Rattle.pfs_base.specs.FlowShop.{FlowShop}
 use Rattle.pfs_insert.specs.Insertion.{heads_tails_cost}
 
 -- so many insertions, one after the other, into a sequence of so many jobs
@@ -12,21 +13,35 @@ insertions_cost cost machines before many = sum_by (λ count. cost count machine
 abbrev pub neh_cost : (ℕ → ℕ → ℕ) → ℕ → ℕ → ℕ
 neh_cost cost jobs machines = insertions_cost cost machines 0 jobs
 
--- a round: as many jobs as were taken out, and then all jobs in each pass
+-- a pass: each job once, among all others
+abbrev pub pass_cost : (ℕ → ℕ → ℕ) → ℕ → ℕ → ℕ
+pass_cost cost jobs machines = jobs * cost jobs machines
+
+-- a round: as many jobs as were taken out, and then the passes
 abbrev pub round_cost : (ℕ → ℕ → ℕ) → ℕ → ℕ → ℕ → ℕ → ℕ
 round_cost cost jobs machines many passes =
-    insertions_cost cost machines (jobs - many) many + passes * (jobs * cost jobs machines)
+    insertions_cost cost machines (jobs - many) many + passes * pass_cost cost jobs machines
+
+-- the same on a shop
+abbrev pub pass_cost_on : (ℕ → ℕ → ℕ) → FlowShop → ℕ
+pass_cost_on cost shop = pass_cost cost shop.jobs shop.machines
+
+abbrev pub round_cost_on : (ℕ → ℕ → ℕ) → FlowShop → ℕ → ℕ → ℕ
+round_cost_on cost shop many passes = round_cost cost shop.jobs shop.machines many passes
 
 -- an insertion costs as much as one by heads and tails
 abbrev pub CostsAsHeadsTails : (ℕ → ℕ → ℕ) → Type 0
 CostsAsHeadsTails cost = (count machines : ℕ) → 1 ≤ count → cost count machines ≡ heads_tails_cost count machines
 
--- the costs in closed form of NEH, of a round that takes so many jobs out, and of so many such rounds
+-- the costs in closed form of NEH, of a pass, of a round that takes so many jobs out and makes so many passes,
+-- and of so many such rounds
 pub record HasClosedCosts (cost : ℕ → ℕ → ℕ) : Type 0 where
   pub neh : (jobs machines : ℕ) → neh_cost cost jobs machines ≡ 2 * machines * (jobs * jobs)
-  pub round : (jobs machines many : ℕ) → many ≤ jobs → round_cost cost jobs machines many 0 ≡ 2 * many * machines * (2 * jobs - many)
-  pub rounds : (count jobs machines many : ℕ) → many ≤ jobs
-      → count * round_cost cost jobs machines many 0 ≤ count * many * machines * (4 * jobs - 2)
+  pub pass : (jobs machines : ℕ) → pass_cost cost jobs machines ≡ jobs * machines * (4 * jobs - 2)
+  pub round : (jobs machines many passes : ℕ) → many ≤ jobs
+      → round_cost cost jobs machines many passes ≡ 2 * many * machines * (2 * jobs - many) + passes * jobs * machines * (4 * jobs - 2)
+  pub rounds : (count jobs machines many passes : ℕ) → many ≤ jobs
+      → count * round_cost cost jobs machines many passes ≤ count * (many + passes * jobs) * machines * (4 * jobs - 2)
 
 abbrev pub CostsLaw : Type 0
 CostsLaw = (cost : ℕ → ℕ → ℕ) → CostsAsHeadsTails cost → HasClosedCosts cost

@@ -1,9 +1,9 @@
 -- Iterated greedy (Ruiz and Stützle 2007): rounds that take some jobs out and put each back at its best place.
-use Rattle.std.specs.Prelude.{ℕ, zero, suc, ◌%◌, ◌≤◌, not, List, [], ◌∷◌, length, take, drop, fold, filter, nat_le, nat_eq, slice_index, remove, if◌then◌else◌}
+use Rattle.std.specs.Prelude.{◌≡◌, ℕ, zero, suc, ◌%◌, ◌≤◌, not, List, [], ◌∷◌, length, take, drop, fold, filter, nat_le, nat_eq, slice_index, remove, if◌then◌else◌}
 use Rattle.rand_core.specs.Stream.{Stream, next_u32}
 use Rattle.pfs_base.specs.FlowShop.{FlowShop}
 use Rattle.pfs_base.specs.Paths.{makespan}
-use Rattle.pfs_order.specs.Sequence.{all_jobs}
+use Rattle.pfs_order.specs.Sequence.{IsSequence, all_jobs}
 use Rattle.pfs_insert.specs.Insertion.{with_job}
 use Rattle.pfs_search.specs.Neh.{with_jobs}
 
@@ -24,9 +24,13 @@ jobs_left jobs words = fold (λ rest word. remove rest (place_of rest word)) job
 abbrev pub rebuilt : FlowShop → List ℕ → List ℕ → List ℕ
 rebuilt shop jobs words = with_jobs shop (jobs_left jobs words) (jobs_taken jobs words)
 
--- each job in the order of the numbers leaves its place for its best one
+-- a job leaves its place for its best one
+abbrev pub moved : FlowShop → List ℕ → ℕ → List ℕ
+moved shop jobs job = with_job shop (filter (λ other. not (nat_eq other job)) jobs) job
+
+-- each job does so, in the order of the numbers
 abbrev pub pass : FlowShop → List ℕ → List ℕ
-pass shop jobs = fold (λ order job. with_job shop (filter (λ other. not (nat_eq other job)) order) job) jobs (all_jobs shop.jobs)
+pass shop jobs = fold (moved shop) jobs (all_jobs shop.jobs)
 
 -- the order after so many passes
 abbrev pub after_passes : FlowShop → ℕ → List ℕ → List ℕ
@@ -56,6 +60,11 @@ words_of (suc count) stream = let next = next_u32 stream in next.0 ∷ words_of 
 abbrev pub stream_after : ℕ → Stream → Stream
 stream_after zero stream = stream
 stream_after (suc count) stream = stream_after count (next_u32 stream).1
+
+-- a pass makes no order of all jobs longer
+abbrev pub PassLaw : Type 0
+PassLaw = (shop : FlowShop) (jobs : List ℕ) → IsSequence shop.jobs jobs → length jobs ≡ shop.jobs
+    → makespan shop (pass shop jobs) ≤ makespan shop jobs
 
 -- no words make an order longer
 abbrev pub NoLongerLaw : Type 0

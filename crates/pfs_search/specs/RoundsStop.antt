@@ -7,8 +7,8 @@ use Rattle.pfs_search.specs.declared.fault.SearchFault.{SearchFault}
 use Rattle.pfs_search.specs.declared.fault.SearchFault.TheVariants.{Memory}
 
 -- so many of the rounds are done and stay, and the words of one more are drawn
-abbrev pub RoundsStop : FlowShop → ℕ → ℕ → List ℕ → List ℕ → Stream → Stream → SearchFault → Type 0
-RoundsStop shop count many old new before after (Memory done) =
+abbrev pub RoundsStop : FlowShop → ℕ → ℕ → ℕ → List ℕ → List ℕ → Stream → Stream → SearchFault → Type 0
+RoundsStop shop passes count many old new before after (Memory done) =
     (done < count)
-    × (new ≡ after_rounds shop 0 done many old (words_of (done * many) before))
+    × (new ≡ after_rounds shop passes done many old (words_of (done * many) before))
     × (after ≡ stream_after ((done + 1) * many) before)

@@ -2,11 +2,12 @@
 ghost use Rattle.std.specs.Prelude.{◌≡◌, ℕ, ◌+◌, ◌<◌, ◌≤◌, ◌^◌, ◌++◌, length, take, vec_len, vec_capacity, false, IsOk, OnOk, OnErr};
 ghost use Rattle.pfs_base.specs.Paths.{makespan};
 ghost use Rattle.pfs_order.specs.Sequence.{IsSequence};
-ghost use Rattle.pfs_search.specs.Costs.{round_cost};
+ghost use Rattle.pfs_search.specs.Costs.{round_cost_on};
 ghost use Rattle.pfs_search.specs.Greedy.{after_round, jobs_left, jobs_taken, stream_after, words_of};
 
 use crate::insertions::insert_all;
 use crate::kept::Kept;
+use crate::passes::make_passes;
 use pfs_base::{Bench, Length};
 use pfs_insert::{InsertFault, Inserter};
 use pfs_order::Seq;
@@ -23,6 +24,7 @@ pub(crate) fn play_round<B: Bench, I: Inserter<B>>(
     taken: &mut Vec<usize>,
     kept: &mut Kept<B::Span>,
     words: &[u32],
+    passes: u32,
 ) -> Result<(), InsertFault>
     requires own_jobs { seq.old.size ≡ (B.shop bench.old).jobs }
     requires inserter_jobs { I.jobs inserter.old ≡ (B.shop bench.old).jobs }
@@ -32,14 +34,14 @@ pub(crate) fn play_round<B: Bench, I: Inserter<B>>(
     requires some { 1 ≤ length words.now }
     requires few { length words.now ≤ (B.shop bench.old).jobs }
     requires taken { (B.shop bench.old).jobs ≤ vec_capacity taken.old }
-    requires room { B.counted bench.old + round_cost I.cost (B.shop bench.old).jobs (B.shop bench.old).machines (length words.now) 0 < 2 ^ 64 }
-    ensures order { OnOk result (kept.new.order ≡ after_round (B.shop bench.old) 0 kept.old.order words.now) }
+    requires room { B.counted bench.old + round_cost_on I.cost (B.shop bench.old) (length words.now) passes < 2 ^ 64 }
+    ensures order { OnOk result (kept.new.order ≡ after_round (B.shop bench.old) passes kept.old.order words.now) }
     ensures span { B.Span.number kept.new.span ≡ makespan (B.shop bench.old) kept.new.order }
     ensures never_rises { B.Span.number kept.new.span ≤ B.Span.number kept.old.span }
-    ensures counted { OnOk result (B.counted bench.new ≡ B.counted bench.old + round_cost I.cost (B.shop bench.old).jobs (B.shop bench.old).machines (length words.now) 0) }
+    ensures counted { OnOk result (B.counted bench.new ≡ B.counted bench.old + round_cost_on I.cost (B.shop bench.old) (length words.now) passes) }
     ensures unchanged { OnErr result (kept.new ≡ kept.old) }
     ensures fault_low { OnErr result (B.counted bench.old ≤ B.counted bench.new) }
-    ensures fault_high { OnErr result (B.counted bench.new ≤ B.counted bench.old + round_cost I.cost (B.shop bench.old).jobs (B.shop bench.old).machines (length words.now) 0) }
+    ensures fault_high { OnErr result (B.counted bench.new ≤ B.counted bench.old + round_cost_on I.cost (B.shop bench.old) (length words.now) passes) }
     ensures succeeds { I.can_refuse ≡ false → IsOk result }
     ensures shop { B.shop bench.new ≡ B.shop bench.old }
     ensures same_size { seq.new.size ≡ seq.old.size }
@@ -49,7 +51,8 @@ pub(crate) fn play_round<B: Bench, I: Inserter<B>>(
     ensures same_room { vec_capacity taken.old ≤ vec_capacity taken.new }
 {
     take_jobs(kept.order.seq(), seq, taken, words);
-    let span = insert_all(alloc, inserter, bench, seq, taken)?;
+    let rebuilt = insert_all(alloc, inserter, bench, seq, taken)?;
+    let span = make_passes(alloc, inserter, bench, seq, rebuilt, passes)?;
     if span <= kept.span {
         kept.order.copy_from(seq);
         kept.span = span;

@@ -7,6 +7,7 @@ mod greedy;
 mod insertions;
 pub mod kept;
 pub mod laws;
+pub mod passes;
 mod rankings;
 pub mod searcher;
 #[cfg(test)]
@@ -14,4 +15,5 @@ mod tests;
 
 pub use fault::SearchFault;
 pub use kept::Kept;
+pub use passes::MOST_PASSES;
 pub use searcher::Searcher;

@@ -2,7 +2,7 @@
 ghost use Rattle.std.specs.Prelude.{◌≡◌, ℕ, ◌+◌, ◌*◌, ◌<◌, ◌≤◌, ◌^◌, length, false, IsOk, IfOk, OnOk, OnErr, IfErr};
 ghost use Rattle.pfs_base.specs.Paths.{makespan};
 ghost use Rattle.pfs_search.specs.Neh.{neh_order};
-ghost use Rattle.pfs_search.specs.Costs.{neh_cost, round_cost};
+ghost use Rattle.pfs_search.specs.Costs.{neh_cost, round_cost_on};
 ghost use Rattle.pfs_search.specs.Greedy.{after_round, after_rounds, stream_after, words_of};
 ghost use Rattle.pfs_search.specs.RoundsStop.{RoundsStop};
 
@@ -10,6 +10,7 @@ use crate::fault::SearchFault;
 use crate::greedy::{draw_words, play_round};
 use crate::insertions::{clear, insert_all};
 use crate::kept::Kept;
+use crate::passes::MOST_PASSES;
 use crate::rankings::rank_jobs;
 use pfs_base::{Bench, Length, MOST_JOBS, Shop};
 use pfs_insert::Inserter;
@@ -124,7 +125,8 @@ impl<I> Searcher<I> {
 
     /// One round of iterated greedy (Ruiz and Stützle 2007): for each word in turn the job at the place `word`
     /// modulo the number of jobs that are left, counted from 0, is taken out; then the taken jobs are put
-    /// back in this order, each at its best place. The new order is kept where it is no longer.
+    /// back in this order, each at its best place, and so many passes are made, in each of which every job, in
+    /// the order of the numbers, leaves its place for its best one. The new order is kept where it is no longer.
     #[inline(always)]
     pub fn round<B: Bench>(
         &mut self,
@@ -132,6 +134,7 @@ impl<I> Searcher<I> {
         bench: &mut B,
         kept: &mut Kept<B::Span>,
         words: &[u32],
+        passes: u32,
     ) -> Result<(), SearchFault>
     where
         I: Inserter<B>,
@@ -142,15 +145,16 @@ impl<I> Searcher<I> {
         requires kept_span { B.Span.number kept.old.span ≡ makespan (B.shop bench.old) kept.old.order }
         requires some { 1 ≤ length words.now }
         requires few { length words.now ≤ (B.shop bench.old).jobs }
-        requires room { B.counted bench.old + round_cost I.cost (B.shop bench.old).jobs (B.shop bench.old).machines (length words.now) 0 < 2 ^ 64 }
-        ensures order { OnOk result (kept.new.order ≡ after_round (B.shop bench.old) 0 kept.old.order words.now) }
+        requires passes { passes ≤ MOST_PASSES }
+        requires room { B.counted bench.old + round_cost_on I.cost (B.shop bench.old) (length words.now) passes < 2 ^ 64 }
+        ensures order { OnOk result (kept.new.order ≡ after_round (B.shop bench.old) passes kept.old.order words.now) }
         ensures span { B.Span.number kept.new.span ≡ makespan (B.shop bench.old) kept.new.order }
         ensures never_rises { B.Span.number kept.new.span ≤ B.Span.number kept.old.span }
-        ensures counted { OnOk result (B.counted bench.new ≡ B.counted bench.old + round_cost I.cost (B.shop bench.old).jobs (B.shop bench.old).machines (length words.now) 0) }
+        ensures counted { OnOk result (B.counted bench.new ≡ B.counted bench.old + round_cost_on I.cost (B.shop bench.old) (length words.now) passes) }
         ensures fault { IfErr result (λ fault. fault ≡ SearchFault.Memory 0) }
         ensures unchanged { OnErr result (kept.new ≡ kept.old) }
         ensures fault_low { OnErr result (B.counted bench.old ≤ B.counted bench.new) }
-        ensures fault_high { OnErr result (B.counted bench.new ≤ B.counted bench.old + round_cost I.cost (B.shop bench.old).jobs (B.shop bench.old).machines (length words.now) 0) }
+        ensures fault_high { OnErr result (B.counted bench.new ≤ B.counted bench.old + round_cost_on I.cost (B.shop bench.old) (length words.now) passes) }
         ensures succeeds { I.can_refuse ≡ false → IsOk result }
         ensures shop { B.shop bench.new ≡ B.shop bench.old }
         ensures same_size { self.new.size ≡ self.old.size }
@@ -159,7 +163,7 @@ impl<I> Searcher<I> {
         ensures same_order_size { length kept.new.order ≡ length kept.old.order }
     {
         let (inserter, seq, taken) = (&mut self.inserter, &mut self.seq, &mut self.taken);
-        match play_round(alloc, inserter, bench, seq, taken, kept, words) {
+        match play_round(alloc, inserter, bench, seq, taken, kept, words, passes) {
             Ok(()) => Ok(()),
             Err(_) => Err(SearchFault::Memory { done: 0 }),
         }
@@ -175,6 +179,7 @@ impl<I> Searcher<I> {
         kept: &mut Kept<B::Span>,
         count: u32,
         take: usize,
+        passes: u32,
         rng: &mut R,
     ) -> Result<(), SearchFault>
     where
@@ -186,15 +191,18 @@ impl<I> Searcher<I> {
         requires kept_span { B.Span.number kept.old.span ≡ makespan (B.shop bench.old) kept.old.order }
         requires some { 1 ≤ take }
         requires few { take ≤ (B.shop bench.old).jobs }
-        requires room { B.counted bench.old + count * round_cost I.cost (B.shop bench.old).jobs (B.shop bench.old).machines take 0 < 2 ^ 64 }
-        ensures order { OnOk result (kept.new.order ≡ after_rounds (B.shop bench.old) 0 count take kept.old.order (words_of (count * take) (R.stream rng.old))) }
+        requires passes { passes ≤ MOST_PASSES }
+        requires room { B.counted bench.old + count * round_cost_on I.cost (B.shop bench.old) take passes < 2 ^ 64 }
+        ensures order { OnOk result (kept.new.order ≡
+            after_rounds (B.shop bench.old) passes count take kept.old.order (words_of (count * take) (R.stream rng.old))) }
         ensures span { B.Span.number kept.new.span ≡ makespan (B.shop bench.old) kept.new.order }
         ensures never_rises { B.Span.number kept.new.span ≤ B.Span.number kept.old.span }
-        ensures counted { OnOk result (B.counted bench.new ≡ B.counted bench.old + count * round_cost I.cost (B.shop bench.old).jobs (B.shop bench.old).machines take 0) }
+        ensures counted { OnOk result (B.counted bench.new ≡ B.counted bench.old + count * round_cost_on I.cost (B.shop bench.old) take passes) }
         ensures words { OnOk result (R.stream rng.new ≡ stream_after (count * take) (R.stream rng.old)) }
-        ensures fault { IfErr result (RoundsStop (B.shop bench.old) count take kept.old.order kept.new.order (R.stream rng.old) (R.stream rng.new)) }
+        ensures fault { IfErr result (RoundsStop (B.shop bench.old) passes count take
+            kept.old.order kept.new.order (R.stream rng.old) (R.stream rng.new)) }
         ensures fault_low { OnErr result (B.counted bench.old ≤ B.counted bench.new) }
-        ensures fault_high { OnErr result (B.counted bench.new ≤ B.counted bench.old + count * round_cost I.cost (B.shop bench.old).jobs (B.shop bench.old).machines take 0) }
+        ensures fault_high { OnErr result (B.counted bench.new ≤ B.counted bench.old + count * round_cost_on I.cost (B.shop bench.old) take passes) }
         ensures succeeds { I.can_refuse ≡ false → IsOk result }
         ensures shop { B.shop bench.new ≡ B.shop bench.old }
         ensures same_size { self.new.size ≡ self.old.size }
@@ -213,6 +221,7 @@ impl<I> Searcher<I> {
                 taken,
                 kept,
                 &self.words[..take],
+                passes,
             ) {
                 Ok(()) => {}
                 Err(_) => return Err(SearchFault::Memory { done }),

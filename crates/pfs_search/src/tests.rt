@@ -3,7 +3,8 @@
 ghost use Rattle.std.specs.Prelude.{◌≡◌, ◌≤◌, ◌+◌, ◌%◌, ◌^◌, ℕ, length, IfOk};
 ghost use Rattle.rand_core.specs.Steps.{stream_of, steps_u32};
 
-use crate::{Kept, Searcher};
+use crate::{Kept, MOST_PASSES, Searcher};
+use pfs_audit::makespan;
 use pfs_base::{Bench, Instance, Metered, Notes, Span};
 use pfs_insert::{Afresh, HeadsTails};
 use pfs_order::Order;
@@ -102,19 +103,21 @@ fn assert_kept(rt: &impl Abort, bench: &Metered<'_>, kept: &Kept<Span>, wanted: 
     assert_eq!(rt; bench.cells(), wanted.cells);
 }
 
-// NEH of an instance, and then a round with these words.
+// NEH of an instance, and then a round with these words and so many passes.
 fn neh_and_round(
     rt: &impl Abort,
     alloc: Global,
     instance: &Instance,
     by_neh: &Wanted<'_>,
     words: &[u32],
+    passes: u32,
     by_round: &Wanted<'_>,
 ) -> Result<(), Fail>
     requires jobs { instance.now.shop.jobs ≤ 3 }
     requires machines { instance.now.shop.machines ≤ 3 }
     requires some { 1 ≤ length words.now }
     requires few { length words.now ≤ instance.now.shop.jobs }
+    requires passes { passes ≤ MOST_PASSES }
 {
     let jobs = instance.jobs();
     let mut bench = instance.metered();
@@ -123,7 +126,7 @@ fn neh_and_round(
     let mut kept = Kept::new(Order::identity(alloc, jobs)?, bench.zero());
     searcher.neh(alloc, &mut bench, &mut kept)?;
     assert_kept(rt, &bench, &kept, by_neh);
-    searcher.round(alloc, &mut bench, &mut kept, words)?;
+    searcher.round(alloc, &mut bench, &mut kept, words, passes)?;
     assert_kept(rt, &bench, &kept, by_round);
     Ok(())
 }
@@ -135,12 +138,14 @@ fn neh_and_round_by_rows(
     instance: &Instance,
     by_neh: &Wanted<'_>,
     words: &[u32],
+    passes: u32,
     by_round: &Wanted<'_>,
 ) -> Result<(), Fail>
     requires jobs { instance.now.shop.jobs ≤ 3 }
     requires machines { instance.now.shop.machines ≤ 3 }
     requires some { 1 ≤ length words.now }
     requires few { length words.now ≤ instance.now.shop.jobs }
+    requires passes { passes ≤ MOST_PASSES }
 {
     let jobs = instance.jobs();
     let mut bench = instance.metered();
@@ -149,8 +154,62 @@ fn neh_and_round_by_rows(
     let mut kept = Kept::new(Order::identity(alloc, jobs)?, bench.zero());
     searcher.neh(alloc, &mut bench, &mut kept)?;
     assert_kept(rt, &bench, &kept, by_neh);
-    searcher.round(alloc, &mut bench, &mut kept, words)?;
+    searcher.round(alloc, &mut bench, &mut kept, words, passes)?;
     assert_kept(rt, &bench, &kept, by_round);
+    Ok(())
+}
+
+// The jobs in the order of their numbers, and then a round with these words and so many passes.
+fn numbers_and_round(
+    rt: &impl Abort,
+    alloc: Global,
+    instance: &Instance,
+    words: &[u32],
+    passes: u32,
+    wanted: &Wanted<'_>,
+) -> Result<(), Fail>
+    requires jobs { instance.now.shop.jobs ≤ 3 }
+    requires machines { instance.now.shop.machines ≤ 3 }
+    requires some { 1 ≤ length words.now }
+    requires few { length words.now ≤ instance.now.shop.jobs }
+    requires passes { passes ≤ MOST_PASSES }
+{
+    let jobs = instance.jobs();
+    let mut bench = instance.metered();
+    let order = Order::identity(alloc, jobs)?;
+    let span = makespan(alloc, &mut bench, order.seq())?;
+    let inserter = Afresh::new(alloc, &bench)?;
+    let mut searcher = Searcher::new(alloc, jobs, inserter)?;
+    let mut kept = Kept::new(order, span);
+    searcher.round(alloc, &mut bench, &mut kept, words, passes)?;
+    assert_kept(rt, &bench, &kept, wanted);
+    Ok(())
+}
+
+// The same by heads and tails.
+fn numbers_and_round_by_rows(
+    rt: &impl Abort,
+    alloc: Global,
+    instance: &Instance,
+    words: &[u32],
+    passes: u32,
+    wanted: &Wanted<'_>,
+) -> Result<(), Fail>
+    requires jobs { instance.now.shop.jobs ≤ 3 }
+    requires machines { instance.now.shop.machines ≤ 3 }
+    requires some { 1 ≤ length words.now }
+    requires few { length words.now ≤ instance.now.shop.jobs }
+    requires passes { passes ≤ MOST_PASSES }
+{
+    let jobs = instance.jobs();
+    let mut bench = instance.metered();
+    let order = Order::identity(alloc, jobs)?;
+    let span = makespan(alloc, &mut bench, order.seq())?;
+    let inserter = HeadsTails::new(alloc, &bench)?;
+    let mut searcher = Searcher::new(alloc, jobs, inserter)?;
+    let mut kept = Kept::new(order, span);
+    searcher.round(alloc, &mut bench, &mut kept, words, passes)?;
+    assert_kept(rt, &bench, &kept, wanted);
     Ok(())
 }
 
@@ -172,7 +231,7 @@ fn neh_and_two_rounds(
     let mut kept = Kept::new(Order::identity(alloc, jobs)?, bench.zero());
     let mut rng = Counting(0);
     searcher.neh(alloc, &mut bench, &mut kept)?;
-    searcher.rounds(alloc, &mut bench, &mut kept, 2, 1, &mut rng)?;
+    searcher.rounds(alloc, &mut bench, &mut kept, 2, 1, 0, &mut rng)?;
     assert_kept(rt, &bench, &kept, by_rounds);
     assert_eq!(rt; rng.next_u32(), 2);
     Ok(())
@@ -191,7 +250,7 @@ fn a_round_rebuilds_the_order_of_three_jobs(rt: HostRuntime) -> Result<(), Fail>
         makespan: 10,
         cells: 28 + 26,
     };
-    neh_and_round(&rt, rt.alloc(), &instance, &by_neh, &[0, 0], &by_round)
+    neh_and_round(&rt, rt.alloc(), &instance, &by_neh, &[0, 0], 0, &by_round)
 }
 
 #[test]
@@ -207,7 +266,7 @@ fn ties_go_to_the_lower_job_and_the_earliest_place(rt: HostRuntime) -> Result<()
         makespan: 4,
         cells: 28 + 18,
     };
-    neh_and_round(&rt, rt.alloc(), &instance, &by_neh, &[1], &by_round)
+    neh_and_round(&rt, rt.alloc(), &instance, &by_neh, &[1], 0, &by_round)
 }
 
 #[test]
@@ -223,7 +282,7 @@ fn an_order_of_the_same_makespan_is_kept(rt: HostRuntime) -> Result<(), Fail> {
         makespan: 8,
         cells: 5 + 4,
     };
-    neh_and_round(&rt, rt.alloc(), &instance, &by_neh, &[1], &by_round)
+    neh_and_round(&rt, rt.alloc(), &instance, &by_neh, &[1], 0, &by_round)
 }
 
 #[test]
@@ -239,7 +298,7 @@ fn taken_jobs_go_back_in_the_order_of_removal(rt: HostRuntime) -> Result<(), Fai
         makespan: 8,
         cells: 5 + 5,
     };
-    neh_and_round(&rt, rt.alloc(), &instance, &by_neh, &[0, 0], &by_round)
+    neh_and_round(&rt, rt.alloc(), &instance, &by_neh, &[0, 0], 0, &by_round)
 }
 
 #[test]
@@ -255,7 +314,15 @@ fn a_longer_order_is_not_kept(rt: HostRuntime) -> Result<(), Fail> {
         makespan: 7,
         cells: 42 + 42,
     };
-    neh_and_round(&rt, rt.alloc(), &instance, &by_neh, &[1, 1, 0], &by_round)
+    neh_and_round(
+        &rt,
+        rt.alloc(),
+        &instance,
+        &by_neh,
+        &[1, 1, 0],
+        0,
+        &by_round,
+    )
 }
 
 #[test]
@@ -271,7 +338,7 @@ fn one_job_goes_out_and_back(rt: HostRuntime) -> Result<(), Fail> {
         makespan: 0,
         cells: 1 + 1,
     };
-    neh_and_round(&rt, rt.alloc(), &instance, &by_neh, &[7], &by_round)
+    neh_and_round(&rt, rt.alloc(), &instance, &by_neh, &[7], 0, &by_round)
 }
 
 #[test]
@@ -287,7 +354,7 @@ fn by_rows_a_round_rebuilds_the_order_of_three_jobs(rt: HostRuntime) -> Result<(
         makespan: 10,
         cells: 36 + 32,
     };
-    neh_and_round_by_rows(&rt, rt.alloc(), &instance, &by_neh, &[0, 0], &by_round)
+    neh_and_round_by_rows(&rt, rt.alloc(), &instance, &by_neh, &[0, 0], 0, &by_round)
 }
 
 #[test]
@@ -303,7 +370,7 @@ fn by_rows_an_order_of_the_same_makespan_is_kept(rt: HostRuntime) -> Result<(), 
         makespan: 8,
         cells: 8 + 6,
     };
-    neh_and_round_by_rows(&rt, rt.alloc(), &instance, &by_neh, &[1], &by_round)
+    neh_and_round_by_rows(&rt, rt.alloc(), &instance, &by_neh, &[1], 0, &by_round)
 }
 
 #[test]
@@ -319,7 +386,15 @@ fn by_rows_a_longer_order_is_not_kept(rt: HostRuntime) -> Result<(), Fail> {
         makespan: 7,
         cells: 54 + 54,
     };
-    neh_and_round_by_rows(&rt, rt.alloc(), &instance, &by_neh, &[1, 1, 0], &by_round)
+    neh_and_round_by_rows(
+        &rt,
+        rt.alloc(),
+        &instance,
+        &by_neh,
+        &[1, 1, 0],
+        0,
+        &by_round,
+    )
 }
 
 #[test]
@@ -335,7 +410,7 @@ fn by_rows_one_job_goes_out_and_back(rt: HostRuntime) -> Result<(), Fail> {
         makespan: 0,
         cells: 2 + 2,
     };
-    neh_and_round_by_rows(&rt, rt.alloc(), &instance, &by_neh, &[7], &by_round)
+    neh_and_round_by_rows(&rt, rt.alloc(), &instance, &by_neh, &[7], 0, &by_round)
 }
 
 #[test]
@@ -347,4 +422,93 @@ fn each_round_draws_its_own_words(rt: HostRuntime) -> Result<(), Fail> {
         cells: 5 + 4 + 4,
     };
     neh_and_two_rounds(&rt, rt.alloc(), &instance, &by_rounds)
+}
+
+#[test]
+fn a_pass_is_made_before_the_comparison(rt: HostRuntime) -> Result<(), Fail> {
+    let instance = shop(&rt, rt.alloc(), 3, 3, &[3, 1, 0, 3, 0, 1, 0, 6, 0])?;
+    let without = Wanted {
+        jobs: &[1, 2, 0],
+        makespan: 10,
+        cells: 9 + 27,
+    };
+    numbers_and_round(&rt, rt.alloc(), &instance, &[0], 0, &without)?;
+    let with_one = Wanted {
+        jobs: &[2, 1, 0],
+        makespan: 7,
+        cells: 9 + 108,
+    };
+    numbers_and_round(&rt, rt.alloc(), &instance, &[0], 1, &with_one)
+}
+
+#[test]
+fn by_rows_a_pass_is_made_before_the_comparison(rt: HostRuntime) -> Result<(), Fail> {
+    let instance = shop(&rt, rt.alloc(), 3, 3, &[3, 1, 0, 3, 0, 1, 0, 6, 0])?;
+    let without = Wanted {
+        jobs: &[1, 2, 0],
+        makespan: 10,
+        cells: 9 + 30,
+    };
+    numbers_and_round_by_rows(&rt, rt.alloc(), &instance, &[0], 0, &without)?;
+    let with_one = Wanted {
+        jobs: &[2, 1, 0],
+        makespan: 7,
+        cells: 9 + 120,
+    };
+    numbers_and_round_by_rows(&rt, rt.alloc(), &instance, &[0], 1, &with_one)
+}
+
+#[test]
+fn an_order_that_a_pass_makes_equal_is_kept(rt: HostRuntime) -> Result<(), Fail> {
+    let instance = shop(&rt, rt.alloc(), 3, 3, &[3, 1, 0, 3, 0, 1, 0, 6, 0])?;
+    let by_neh = Wanted {
+        jobs: &[2, 1, 0],
+        makespan: 7,
+        cells: 54,
+    };
+    let by_round = Wanted {
+        jobs: &[2, 1, 0],
+        makespan: 7,
+        cells: 54 + 144,
+    };
+    neh_and_round_by_rows(
+        &rt,
+        rt.alloc(),
+        &instance,
+        &by_neh,
+        &[1, 1, 0],
+        1,
+        &by_round,
+    )
+}
+
+// What a program that evaluates whole orders keeps, of shops with random times.
+#[test]
+fn passes_move_jobs_by_their_numbers(rt: HostRuntime) -> Result<(), Fail> {
+    let instance = shop(&rt, rt.alloc(), 3, 3, &[0, 2, 3, 1, 1, 2, 0, 2, 2])?;
+    let afresh = Wanted {
+        jobs: &[2, 1, 0],
+        makespan: 9,
+        cells: 9 + 39 + 81,
+    };
+    numbers_and_round(&rt, rt.alloc(), &instance, &[9, 9], 1, &afresh)?;
+    let by_rows = Wanted {
+        jobs: &[2, 1, 0],
+        makespan: 9,
+        cells: 9 + 48 + 90,
+    };
+    numbers_and_round_by_rows(&rt, rt.alloc(), &instance, &[9, 9], 1, &by_rows)?;
+    let instance = shop(&rt, rt.alloc(), 3, 3, &[3, 4, 0, 4, 1, 0, 5, 1, 3])?;
+    let afresh = Wanted {
+        jobs: &[2, 0, 1],
+        makespan: 13,
+        cells: 9 + 39 + 3 * 81,
+    };
+    numbers_and_round(&rt, rt.alloc(), &instance, &[4, 2], 3, &afresh)?;
+    let by_rows = Wanted {
+        jobs: &[2, 0, 1],
+        makespan: 13,
+        cells: 9 + 48 + 3 * 90,
+    };
+    numbers_and_round_by_rows(&rt, rt.alloc(), &instance, &[4, 2], 3, &by_rows)
 }

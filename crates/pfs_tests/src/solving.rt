@@ -4,6 +4,7 @@ use crate::texts::BY_MACHINE;
 use pfs_base::{FromRead, Sink, ToWrite, WriteFault};
 use pfs_desk::{DeskFault, MOST_ROUNDS, Outcome, SolveOptions, run_generate, run_solve, status};
 use pfs_layout::{Layout, LayoutFault};
+use pfs_search::MOST_PASSES;
 use std::alloc::Global;
 use std::process::Abort;
 
@@ -15,6 +16,7 @@ const COUNTED: SolveOptions = SolveOptions {
     rounds: 0,
     take: None,
     seed: 0,
+    passes: 0,
     cells: true,
 };
 
@@ -23,12 +25,14 @@ const PLAIN: SolveOptions = SolveOptions {
     rounds: 0,
     take: None,
     seed: 0,
+    passes: 0,
     cells: false,
 };
 
 /// Checks what `solve` prints of block 1 of a file in Taillard's layout.
 fn assert_solve(rt: &impl Abort, alloc: Global, file: &[u8], options: SolveOptions, text: &[u8]) {
     assert!(rt; options.rounds <= MOST_ROUNDS);
+    assert!(rt; options.passes <= MOST_PASSES);
     assert!(rt; options.take.is_none_or(|take| 1 <= take));
     let mut writer = Taken::new(256, 256);
     let mut reader = Pieces::whole(file);
@@ -74,6 +78,7 @@ fn solve_plays_rounds(rt: HostRuntime) {
             rounds: 5,
             take: Some(2),
             seed,
+            passes: 0,
             cells: true,
         };
         let text = b"order 3\n2 1 3\nmakespan 10\ncells 196\n";
@@ -88,11 +93,31 @@ fn solve_plays_rounds(rt: HostRuntime) {
 }
 
 #[test]
+fn solve_makes_passes_in_rounds_alone(rt: HostRuntime) {
+    let options = SolveOptions {
+        rounds: 5,
+        take: Some(2),
+        seed: 7,
+        passes: 1,
+        cells: true,
+    };
+    let text = b"order 3\n2 1 3\nmakespan 10\ncells 496\n";
+    assert_solve(&rt, rt.alloc(), BY_MACHINE, options, text);
+    let options = SolveOptions {
+        passes: 1,
+        ..COUNTED
+    };
+    let text = b"order 3\n2 1 3\nmakespan 10\ncells 36\n";
+    assert_solve(&rt, rt.alloc(), BY_MACHINE, options, text);
+}
+
+#[test]
 fn solve_plays_a_round_on_one_job(rt: HostRuntime) {
     let options = SolveOptions {
         rounds: 1,
         take: Some(1),
         seed: 3,
+        passes: 0,
         cells: true,
     };
     let text = b"order 1\n1\nmakespan 0\ncells 4\n";
@@ -108,6 +133,7 @@ fn assert_refused(
     fault: DeskFault,
 ) {
     assert!(rt; options.rounds <= MOST_ROUNDS);
+    assert!(rt; options.passes <= MOST_PASSES);
     assert!(rt; options.take.is_none_or(|take| 1 <= take));
     let mut writer = Taken::new(0, 256);
     let mut reader = Pieces::new(file, 7, None);
@@ -130,6 +156,7 @@ fn solve_judges_the_take_behind_the_file_and_before_it_writes(rt: HostRuntime) {
             rounds,
             take: Some(4),
             seed: 0,
+            passes: 0,
             cells: true,
         };
         let fault = DeskFault::TakeRange { take: 4, jobs: 3 };
@@ -219,6 +246,7 @@ fn solve_stops_where_a_writer_takes_no_more(rt: HostRuntime) {
 /// Checks how the text ends that `solve` prints of the instance of 20 jobs on 5 machines from a seed.
 fn assert_ends(rt: &impl Abort, alloc: Global, seed: u64, options: SolveOptions, end: &[u8]) {
     assert!(rt; options.rounds <= MOST_ROUNDS);
+    assert!(rt; options.passes <= MOST_PASSES);
     assert!(rt; options.take.is_none_or(|take| 1 <= take));
     let mut file = [0; 1024];
     let mut drawn = ToWrite::new(file.as_mut_slice());
@@ -263,6 +291,7 @@ fn rounds_end_at_the_best_known_makespan(rt: HostRuntime) {
         rounds: 10_000,
         take: None,
         seed: 1,
+        passes: 0,
         cells: false,
     };
     assert_ends(&rt, rt.alloc(), 873_654_221, options, b"\nmakespan 1278\n");

@@ -14,7 +14,7 @@ use pfs_base::{Bench, Instance, Length, MOST_BLOCKS, Shop, Sink, Source, WriteFa
 use pfs_insert::HeadsTails;
 use pfs_layout::{Layout, read_block};
 use pfs_order::{Order, write_order};
-use pfs_search::{Kept, Searcher};
+use pfs_search::{Kept, MOST_PASSES, Searcher};
 use rand_core::SeedableRng;
 use rand_pcg::Pcg32;
 use std::alloc::Global;
@@ -37,6 +37,7 @@ pub fn run_solve<R: Source, W: Sink>(
     requires some { 1 ≤ block }
     requires few { block ≤ MOST_BLOCKS }
     requires rounds { options.now.rounds ≤ MOST_ROUNDS }
+    requires passes { options.now.passes ≤ MOST_PASSES }
     requires take { IfSome options.now.take (λ asked. 1 ≤ asked) }
     ensures written { Writes (SolveOutput layout (R.left reader.old) block options.now)
         (W.written writer.old) (W.written writer.new) (W.has_failed writer.new) result }
@@ -51,7 +52,8 @@ pub fn run_solve<R: Source, W: Sink>(
 {
     let instance = read_block(alloc, reader, layout, block)?;
     let many = take_for(options.take, instance.jobs())?;
-    let solution = solution_of(alloc, &instance, options.rounds, many, options.seed)?;
+    let (rounds, passes) = (options.rounds, options.passes);
+    let solution = solution_of(alloc, &instance, rounds, many, passes, options.seed)?;
     put_solution(writer, &solution, options.cells)?;
     Ok(Outcome::Done)
 }
@@ -83,18 +85,20 @@ fn solution_of(
     instance: &Instance,
     rounds: u32,
     many: usize,
+    passes: u32,
     seed: u64,
 ) -> Result<Solution, DeskFault>
     requires some { 1 ≤ many }
     requires few { many ≤ instance.now.shop.jobs }
     requires rounds { rounds ≤ MOST_ROUNDS }
+    requires passes { passes ≤ MOST_PASSES }
     ensures found { IfOk result (λ found.
-        IsFound instance.now.shop rounds many seed found.order found.makespan found.cells) }
+        IsFound instance.now.shop rounds many passes seed found.order found.makespan found.cells) }
     ensures short { IfOk result (λ found. found.makespan < 10 ^ 18) }
     ensures memory { IfErr result (λ fault. fault ≡ DeskFault.Memory) }
 {
     let mut bench = instance.metered();
-    let kept = search(alloc, &mut bench, rounds, many, seed)?;
+    let kept = search(alloc, &mut bench, rounds, many, passes, seed)?;
     Ok(Solution {
         order: kept.order,
         makespan: bench.reveal(kept.span),
@@ -102,22 +106,24 @@ fn solution_of(
     })
 }
 
-// NEH's order, and then so many rounds, each of which takes so many jobs out, on a bench that has counted
-// nothing.
+// NEH's order, and then so many rounds, each of which takes so many jobs out and makes so many passes, on a bench
+// that has counted nothing.
 #[inline(always)]
 fn search<B: Shop>(
     alloc: Global,
     bench: &mut B,
     rounds: u32,
     many: usize,
+    passes: u32,
     seed: u64,
 ) -> Result<Kept<B::Span>, DeskFault>
     requires fresh { B.counted bench.old ≡ 0 }
     requires some { 1 ≤ many }
     requires few { many ≤ (B.shop bench.old).jobs }
     requires rounds { rounds ≤ MOST_ROUNDS }
+    requires passes { passes ≤ MOST_PASSES }
     ensures found { IfOk result (λ kept.
-        IsFound (B.shop bench.old) rounds many seed kept.order (B.Span.number kept.span) (B.counted bench.new)) }
+        IsFound (B.shop bench.old) rounds many passes seed kept.order (B.Span.number kept.span) (B.counted bench.new)) }
     ensures short { IfOk result (λ kept. B.Span.number kept.span < 10 ^ 18) }
     ensures memory { IfErr result (λ fault. fault ≡ DeskFault.Memory) }
 {
@@ -129,7 +135,7 @@ fn search<B: Shop>(
     let mut kept = Kept::new(order, bench.zero());
     searcher.neh(alloc, bench, &mut kept)?;
     let mut rng = Pcg32::seed_from_u64(seed);
-    searcher.rounds(alloc, bench, &mut kept, rounds, many, &mut rng)?;
+    searcher.rounds(alloc, bench, &mut kept, rounds, many, passes, &mut rng)?;
     // Called for what it says of an order: that it has each job once.
     let _jobs = kept.order.len();
     Ok(kept)

@@ -2,13 +2,14 @@
 ghost use Rattle.std.specs.Prelude.{◌≡◌, [], ◌∷◌, IfOk, codes, false};
 ghost use Rattle.clap.specs.Words.{app_of, rule_of};
 ghost use Rattle.pfs_desk.specs.Commands.{flat_form, layout_rule, option_rule, block_rule, path_rule, number_rule};
-ghost use Rattle.pfs_desk.specs.Commands.{flag_rule, rounds_rule, take_rule, search_seed_rule, solve_form};
+ghost use Rattle.pfs_desk.specs.Commands.{flag_rule, rounds_rule, take_rule, search_seed_rule, passes_rule, solve_form};
 ghost use Rattle.pfs_desk.specs.Commands.{value_form, audit_form, convert_form, generate_form};
 
 use crate::solve_options::MOST_ROUNDS;
 use clap::builder::ValueParser;
 use clap::{Arg, ArgAction, Command};
 use pfs_base::{MOST_BLOCKS, MOST_JOBS, MOST_MACHINES};
+use pfs_search::MOST_PASSES;
 use std::alloc::{AllocError, Global};
 
 fn flat_command<'a>(alloc: Global, name: &'a str) -> Command<'a>
@@ -111,12 +112,13 @@ pub(super) fn value_command<'a>(
 fn search_command<'a>(alloc: Global, names: &'a [&'a str]) -> Result<Command<'a>, AllocError>
     ensures { IfOk result (λ command. app_of command ≡ flat_form (codes "solve")
         (layout_rule names.entry (codes "layout") ∷ block_rule ∷ rounds_rule ∷ take_rule
-        ∷ search_seed_rule ∷ [])) }
+        ∷ search_seed_rule ∷ passes_rule ∷ [])) }
 {
     layout_command(alloc, "solve", names)?
         .arg(default_arg(alloc, "rounds", 0, MOST_ROUNDS as u64, "0"))?
         .arg(option_arg(alloc, "take", 1, MOST_JOBS as u64))?
-        .arg(default_arg(alloc, "seed", 0, u64::MAX, "0"))
+        .arg(default_arg(alloc, "seed", 0, u64::MAX, "0"))?
+        .arg(default_arg(alloc, "passes", 0, MOST_PASSES as u64, "0"))
 }
 
 /// The form of `solve`.

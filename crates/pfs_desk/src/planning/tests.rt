@@ -43,11 +43,12 @@ fn told(alloc: Global, job: &Job) -> Result<String, AllocError> {
                 rounds,
                 take,
                 seed,
+                passes,
                 cells,
             } = *options;
             let take = take.unwrap_or(0);
             format!(in alloc;
-                "solve|{}|{block}|{rounds}|{take}|{seed}|{cells}|{}",
+                "solve|{}|{block}|{rounds}|{take}|{seed}|{passes}|{cells}|{}",
                 name_of(*layout),
                 file.as_str()
             )
@@ -130,14 +131,14 @@ fn each_command_is_planned(rt: HostRuntime) -> Result<(), Fail> {
     let lines = [
         ("value|--layout|taillard|f", "value|T|1|f"),
         ("value|--layout|orlib|--block|1000|f", "value|O|1000|f"),
-        ("solve|--layout|taillard|f", "solve|T|1|0|0|0|false|f"),
+        ("solve|--layout|taillard|f", "solve|T|1|0|0|0|0|false|f"),
         (
             "solve|--layout|orlib|--take|2000|f",
-            "solve|O|1|0|2000|0|false|f",
+            "solve|O|1|0|2000|0|0|false|f",
         ),
         (
-            "solve|--layout|orlib|--block|2|--rounds|1000000|--take|1|--seed|18446744073709551615|--cells|f",
-            "solve|O|2|1000000|1|18446744073709551615|true|f",
+            "solve|--layout|orlib|--block|2|--rounds|1000000|--take|1|--seed|18446744073709551615|--passes|100|--cells|f",
+            "solve|O|2|1000000|1|18446744073709551615|100|true|f",
         ),
         ("check|--layout|orlib|--block|2|f|o", "check|O|2|f|o"),
         ("table|--layout|taillard|f|o", "table|T|1|f|o"),
@@ -169,10 +170,10 @@ fn odd_forms_are_planned(rt: HostRuntime) -> Result<(), Fail> {
         ("value|--layout|orlib|--|f", "value|O|1|f"),
         ("value|--layout|orlib|--|--block", "value|O|1|--block"),
         ("table|--layout|orlib|--|f|--", "table|O|1|f|--"),
-        ("solve|f|--cells|--layout|orlib", "solve|O|1|0|0|0|true|f"),
+        ("solve|f|--cells|--layout|orlib", "solve|O|1|0|0|0|0|true|f"),
         (
             "solve|--layout|orlib|f|--take=3|--cells",
-            "solve|O|1|0|3|0|true|f",
+            "solve|O|1|0|3|0|0|true|f",
         ),
         ("generate|--|1|1|1", "generate|1|1|1"),
         ("generate|1|1|1|--", "generate|1|1|1"),
@@ -235,7 +236,10 @@ fn other_lines_are_refused(rt: HostRuntime) -> Result<(), Fail> {
         "solve|--layout|orlib|--cells|--cells|f",
         "solve|--layout|orlib|--cells=true|f",
         "solve|--layout|orlib|--cells|true|f",
-        "solve|--layout|orlib|--passes|1|f",
+        "solve|--layout|orlib|--passes|101|f",
+        "solve|--layout|orlib|--passes=-0|f",
+        "solve|--layout|orlib|--passes|1|--passes|1|f",
+        "solve|--layout|orlib|--turns|1|f",
         "solve|--layout|orlib",
         "check|--layout|orlib|f",
         "table|--layout|orlib|f|o|p",

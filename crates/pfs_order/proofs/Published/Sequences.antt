@@ -1,15 +1,16 @@
 -- Sequences under edits.
-use Rattle.std.proofs.Common.{◌≡◌, ℕ, ◌+◌, ◌<◌, ◌≤◌, ◌++◌, ap, List, [], ◌∷◌, length, Contains, eqb, false, true, insert, remove, get_or, sym, ◌∙◌, arith}
-use Rattle.std.specs.List.{IsDistinct}
-use Rattle.std.proofs.lemmas.Bool.{ne_eqb, eqb-true, eqb-false}
+use Rattle.std.proofs.Common.{◌≡◌, ℕ, zero, suc, ◌+◌, ◌<◌, ◌≤◌, ◌++◌, refl, ap, List, [], ◌∷◌, length, filter, Bool, not, cond, Contains, eqb, false, true, insert, remove, get_or, subst, sym, ◌∙◌, arith}
+use Rattle.std.specs.List.{IsDistinct, list_any}
+use Rattle.std.proofs.lemmas.Bool.{ne_eqb, eq-eqb, eqb-true, eqb-false}
 use Rattle.std.proofs.lemmas.Bool.Decides.{nat_tests}
+use Rattle.std.specs.Cmp.{nat_eq_equiv}
 use Rattle.std.proofs.lemmas.List.{get_or_default}
 use Rattle.std.proofs.lemmas.List.Elements.{All-nil, All-cons, All-head, All-tail, All-from_recursion, All-contains, recursion_from_All}
 use Rattle.std.proofs.lemmas.List.Sorted.{IsPermutation-insert, IsPermutation-remove, IsPermutation-trans, IsPermutation-cons, IsPermutation-append_comm, IsPermutation-append_right, All-permutation}
 use Rattle.std.specs.List.Sorted.{IsPermutation}
 use Rattle.std.proofs.lemmas.Map.Keys.{IsDistinct-IsPermutation, IsDistinct-cons, IsDistinct-head, IsDistinct-tail}
 use Rattle.std.proofs.lemmas.Map.Steps.{length-le_from_distinct_below}
-use Rattle.std.proofs.lemmas.Map.Views.{Contains-from_any}
+use Rattle.std.proofs.lemmas.Map.Views.{Contains-from_any, list_any-from_Contains}
 use Rattle.std.proofs.lemmas.List.{map-id}
 use Rattle.std.specs.List.{range_with_len}
 use Rattle.std.proofs.lemmas.List.Edits.{insert_end}
@@ -103,3 +104,63 @@ IsSequence-moved size job place rest jobs h =
     (IsPermutation-append_comm (job ∷ jobs) rest)
     (IsPermutation-append_right rest (job ∷ jobs) (insert jobs place job) (IsPermutation-insert jobs place job))))
     h
+
+IsSequence-rest : (size job : ℕ) (jobs : List ℕ) → IsSequence size (job ∷ jobs) → IsSequence size jobs
+IsSequence-rest size job jobs h = record {
+  in_range = All-tail (λ j. j < size) job jobs h.in_range;
+  distinct = IsDistinct-tail eqb job jobs h.distinct;
+}
+
+-- ---- a job that leaves and comes back
+
+keep : Bool → ℕ → List ℕ → List ℕ
+keep test job jobs = cond test (job ∷ jobs) jobs
+
+-- without a job that is absent, all are left
+others-absent : (job : ℕ) (jobs : List ℕ) → (Contains jobs job → ⊥) → filter (λ other. not (eqb other job)) jobs ≡ jobs
+unfolding keep
+others-absent job [] absent = refl
+others-absent job (first ∷ jobs) absent =
+    let apart = ne_eqb first job (λ same. absent (0, omega arith, same)) in
+    let rest = others-absent job jobs (λ h. absent (suc h.0, omega (arith, h.1), h.2)) in
+    ap (λ test. keep (not test) first (filter (λ other. not (eqb other job)) jobs)) apart ∙ ap (λ js. first ∷ js) rest
+
+-- the others of a job are what is left where it is taken out of its place
+pub others_are : (size place job : ℕ) (jobs : List ℕ) → IsSequence size jobs → place < length jobs → job ≡ get_or jobs place 0
+    → filter (λ other. not (eqb other job)) jobs ≡ remove jobs place
+unfolding keep
+others_are size place job [] h within at = absurd (omega arith)
+others_are size zero job (first ∷ jobs) h within at =
+    let same = eq-eqb first job (sym at) in
+    ap (λ test. keep (not test) first (filter (λ other. not (eqb other job)) jobs)) same
+    ∙ others-absent job jobs (subst (λ j. Contains jobs j → ⊥) (sym at) (IsSequence-head size first jobs h))
+others_are size (suc place) job (first ∷ jobs) h within at =
+    let short : place < length jobs = omega arith in
+    let apart = ne_eqb first job (λ same. IsSequence-head size first jobs h (place, short, get_or_default jobs place first 0 short ∙ sym at ∙ sym same)) in
+    ap (λ test. keep (not test) first (filter (λ other. not (eqb other job)) jobs)) apart
+    ∙ ap (λ js. first ∷ js) (others_are size place job jobs (IsSequence-rest size first jobs h) short at)
+
+-- put back at its place, it is as before
+pub insert-remove : (place job : ℕ) (jobs : List ℕ) → place < length jobs → job ≡ get_or jobs place 0 → insert (remove jobs place) place job ≡ jobs
+insert-remove place job [] within at = absurd (omega arith)
+insert-remove zero job (first ∷ jobs) within at = ap (λ j. j ∷ jobs) at
+insert-remove (suc place) job (first ∷ jobs) within at =
+    let short : place < length jobs = omega arith in
+    ap (λ js. first ∷ js) (insert-remove place job jobs short at)
+
+-- each job stands in a sequence of all
+contains_by : (size job : ℕ) (jobs : List ℕ) (test : Bool) → list_any (eqb job) jobs ≡ test → IsSequence size jobs → length jobs ≡ size → job < size
+    → Contains jobs job
+contains_by size job jobs true found h full small = Contains-from_any eqb_same job jobs found
+contains_by size job jobs false none h full small =
+    let less = length-lt-size size job jobs small (λ c. let found = list_any-from_Contains nat_eq_equiv job jobs c in (cc)) h in
+    absurd (omega arith)
+
+pub Contains-all : (size job : ℕ) (jobs : List ℕ) → IsSequence size jobs → length jobs ≡ size → job < size → Contains jobs job
+Contains-all size job jobs = contains_by size job jobs (list_any (eqb job) jobs) refl
+
+-- taken out of its place, it stands nowhere
+pub absent-remove : (size place job : ℕ) (jobs : List ℕ) → IsSequence size jobs → place < length jobs → job ≡ get_or jobs place 0 → Contains (remove jobs place) job → ⊥
+absent-remove size place job jobs h within at =
+    let moved = IsPermutation-remove jobs place job within (at ∙ get_or_default jobs place 0 job within) in
+    IsSequence-head size job (remove jobs place) (IsSequence-permutation size jobs (job ∷ remove jobs place) moved h)

@@ -1,10 +1,10 @@
 -- Sums of costs over successive counts.
-use Rattle.std.proofs.Common.{◌≡◌, ℕ, zero, suc, ◌+◌, ◌-◌, ◌*◌, ◌<◌, ◌≤◌, [], ◌∷◌, ◌++◌, take, ap, sym, ◌∙◌, add-one, mul-le-mul_left, zero-mul, arith}
+use Rattle.std.proofs.Common.{◌≡◌, ℕ, zero, suc, ◌+◌, ◌-◌, ◌*◌, ◌<◌, ◌≤◌, [], ◌∷◌, ◌++◌, take, ap, sym, ◌∙◌, add-one, mul-le-mul_left, arith}
 use Rattle.std.specs.List.{range_with_len, sum_by}
 use Rattle.std.proofs.lemmas.List.{map-id}
 use Rattle.std.proofs.lemmas.List.Sums.{sum_by_push, sum_by_more_le}
 use Rattle.std.proofs.lemmas.List.FromFn.{length-range_with_len, get_or-range_with_len, map-range_with_len_more, take-map-range_with_len}
-use Rattle.pfs_search.specs.Costs.{insertions_cost, neh_cost, round_cost, CostsAsHeadsTails, CostsLaw}
+use Rattle.pfs_search.specs.Costs.{insertions_cost, neh_cost, pass_cost, round_cost, CostsAsHeadsTails, CostsLaw}
 
 range_more : (a n : ℕ) → range_with_len a (n + 1) ≡ range_with_len a n ++ (a + n) ∷ []
 range_more a n =
@@ -65,29 +65,43 @@ heads_tails_sum cost is a machines (suc n) =
 neh_closed : (cost : ℕ → ℕ → ℕ) → CostsAsHeadsTails cost → (jobs machines : ℕ) → neh_cost cost jobs machines ≡ 2 * machines * (jobs * jobs)
 neh_closed cost is jobs machines = let all = heads_tails_sum cost is 0 machines jobs in omega arith
 
-round_closed : (cost : ℕ → ℕ → ℕ) → CostsAsHeadsTails cost → (jobs machines many : ℕ) → many ≤ jobs →
-    round_cost cost jobs machines many 0 ≡ 2 * many * machines * (2 * jobs - many)
-round_closed cost is jobs machines many few =
+pass_closed : (cost : ℕ → ℕ → ℕ) → CostsAsHeadsTails cost → (jobs machines : ℕ) → pass_cost cost jobs machines ≡ jobs * machines * (4 * jobs - 2)
+pass_closed cost is zero machines = omega arith
+pass_closed cost is (suc fewer) machines =
+    let jobs : ℕ = suc fewer in
+    let each = is jobs machines (omega arith) in
+    let all = ap (λ cells. jobs * cells) each in
+    omega arith
+
+round_closed : (cost : ℕ → ℕ → ℕ) → CostsAsHeadsTails cost → (jobs machines many passes : ℕ) → many ≤ jobs →
+    round_cost cost jobs machines many passes ≡ 2 * many * machines * (2 * jobs - many) + passes * jobs * machines * (4 * jobs - 2)
+round_closed cost is jobs machines many passes few =
     let put_back = heads_tails_sum cost is (jobs - many) machines many in
-    let no_pass = zero-mul (jobs * cost jobs machines) in
+    let passed = ap (λ cells. passes * cells) (pass_closed cost is jobs machines) in
     let width : 2 * (jobs - many) + many ≡ 2 * jobs - many = omega arith in
     let closed = ap (λ w. 2 * many * machines * w) width in
     omega arith
 
-rounds_closed : (cost : ℕ → ℕ → ℕ) → CostsAsHeadsTails cost → (count jobs machines many : ℕ) → many ≤ jobs →
-    count * round_cost cost jobs machines many 0 ≤ count * many * machines * (4 * jobs - 2)
-rounds_closed cost is count jobs machines zero few =
-    let closed = ap (λ c. count * c) (round_closed cost is jobs machines 0 few) in omega arith
-rounds_closed cost is count jobs machines (suc fewer) few =
+-- those that are put back cost no more than as many insertions into all jobs
+put_back_few : (count jobs machines many : ℕ) → many ≤ jobs → count * (2 * many * machines * (2 * jobs - many)) ≤ count * many * machines * (4 * jobs - 2)
+put_back_few count jobs machines zero few = omega arith
+put_back_few count jobs machines (suc fewer) few =
     let many : ℕ = suc fewer in
-    let closed = ap (λ c. count * c) (round_closed cost is jobs machines many few) in
     let le : 2 * (2 * jobs - many) ≤ 4 * jobs - 2 = omega arith in
     let most = mul-le-mul_left (count * many * machines) le in
+    omega arith
+
+rounds_closed : (cost : ℕ → ℕ → ℕ) → CostsAsHeadsTails cost → (count jobs machines many passes : ℕ) → many ≤ jobs →
+    count * round_cost cost jobs machines many passes ≤ count * (many + passes * jobs) * machines * (4 * jobs - 2)
+rounds_closed cost is count jobs machines many passes few =
+    let closed = ap (λ cells. count * cells) (round_closed cost is jobs machines many passes few) in
+    let put_back = put_back_few count jobs machines many few in
     omega arith
 
 pub costs_law : CostsLaw
 costs_law cost is = record {
   neh = neh_closed cost is;
+  pass = pass_closed cost is;
   round = round_closed cost is;
   rounds = rounds_closed cost is;
 }

@@ -1,6 +1,6 @@
 use Rattle.std.proofs.Common.{length, ap, ◌∙◌, arith}
 use Rattle.pfs_base.specs.FlowShop.{FlowShop}
-use Rattle.pfs_search.proofs.SmallCosts.{small_neh, small_round}
+use Rattle.pfs_search.proofs.SmallCosts.{small_neh, small_round_of_passes}
 use Rattle.pfs_search.proofs.tests.neh_and_round.Goals as goal
 
 pub neh-requires-clause-room : goal.neh-requires-clause-room
@@ -21,5 +21,6 @@ round-requires-clause-room g c =
     let old_jobs = ap (λ (s : FlowShop). s.jobs) c.metered-bench.ensures.shop in
     let old_machines = ap (λ (s : FlowShop). s.machines) c.metered-bench.ensures.shop in
     let least = small_neh bench.jobs bench.machines (omega (arith, c.requires.jobs)) (omega (arith, c.requires.machines)) in
-    let more = small_round after.jobs after.machines (length c.args.words.now) (omega (arith, c.requires.jobs)) (omega (arith, c.requires.machines)) (omega arith) in
+    let more = small_round_of_passes after.jobs after.machines (length c.args.words.now) c.args.passes (omega (arith, c.requires.jobs)) (omega (arith, c.requires.machines))
+    (omega arith) c.requires.passes in
     omega (arith, c.metered-bench.ensures.counted, c.in_ok-neh.ensures.counted)

@@ -19,7 +19,7 @@ rounds-requires-clause-room g c =
     omega (
       arith,
       neh_room shop (g.met.B.Bench.within c.args.bench.now),
-      rounds_room then_shop c.args.rounds c.args.many (g.met.B.Bench.within c.neh.new.bench) few c.requires.rounds,
+      rounds_room then_shop c.args.rounds c.args.many c.args.passes (g.met.B.Bench.within c.neh.new.bench) few c.requires.rounds c.requires.passes,
       c.requires.fresh,
       c.in_ok-neh.ensures.counted,
     )
@@ -38,8 +38,8 @@ returns-clause-found g c =
     let stream = stream_of (steps_u32 pcg32) c.seed_from_u64-rng.result in
     let neh_done : NehDone shop neh.order neh_span neh_cells =
     record { is_order = c.in_ok-neh.ensures.order; is_span = c.in_ok-neh.ensures.span; counted = omega (arith, c.requires.fresh, c.in_ok-neh.ensures.counted) } in
-    let rounds_done : RoundsDone shop c.args.rounds c.args.many stream neh.order neh_span neh_cells kept.order span cells =
-    subst (λ s. RoundsDone s c.args.rounds c.args.many stream neh.order neh_span neh_cells kept.order span cells) c.in_ok-neh.ensures.shop
+    let rounds_done : RoundsDone shop c.args.rounds c.args.many c.args.passes stream neh.order neh_span neh_cells kept.order span cells =
+    subst (λ s. RoundsDone s c.args.rounds c.args.many c.args.passes stream neh.order neh_span neh_cells kept.order span cells) c.in_ok-neh.ensures.shop
     (record {
       is_order = c.in_ok-rounds.ensures.order;
       is_span = c.in_ok-rounds.ensures.span;
@@ -49,7 +49,7 @@ returns-clause-found g c =
     let all : length kept.order ≡ shop.jobs =
     omega (arith, c.in_ok-rounds.ensures.same_order_size, c.in_ok-neh.ensures.same_order_size, ap length c.new-kept.ensures.order, c.in-Ok.ensures.len, c.jobs.ensures) in
     let distinct = subst (λ n. IsSequence n kept.order) all c.len-jobs.ensures.sequence in
-    found_is shop c.args.rounds c.args.many c.args.seed c.seed_from_u64-rng.result neh.order neh_span neh_cells kept.order span cells c.requires.few
+    found_is shop c.args.rounds c.args.many c.args.passes c.args.seed c.seed_from_u64-rng.result neh.order neh_span neh_cells kept.order span cells c.requires.few
     c.seed_from_u64-rng.ensures neh_done rounds_done all distinct
 
 pub returns-clause-short : goal.returns-clause-short

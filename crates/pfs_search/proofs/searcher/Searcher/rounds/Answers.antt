@@ -1,10 +1,46 @@
-use Rattle.std.proofs.Common.{◌≡◌, ℕ, ◌*◌, List, length, take, ap, sym, ◌∙◌, arith}
+use Rattle.std.proofs.Common.{◌≡◌, ℕ, ◌+◌, ◌*◌, ◌<◌, ◌≤◌, ◌^◌, List, length, take, ap, subst, sym, ◌∙◌, arith}
+use Rattle.std.proofs.Math.Nat.{mul-le-mul_right}
+use Rattle.std.proofs.lemmas.List.{length-take-le}
 use Rattle.pfs_base.specs.FlowShop.{FlowShop}
 use Rattle.pfs_base.specs.Paths.{makespan}
-use Rattle.pfs_search.specs.Costs.{round_cost}
+use Rattle.pfs_search.specs.Costs.{round_cost, round_cost_on}
 use Rattle.pfs_search.specs.Greedy.{after_round, words_of, stream_after}
 use Rattle.pfs_search.proofs.Words.{length-words_of, rounds_more, stream_group}
 use Rattle.pfs_search.proofs.searcher.Searcher.rounds.Goals as goal
+
+-- the rounds so far and one more are among all
+next_fits : (old now cells done count limit : ℕ) → done < count → now ≡ old + done * cells → old + count * cells < limit → now + cells < limit
+next_fits old now cells done count limit lt so_far room = let all : (done + 1) * cells ≤ count * cells = mul-le-mul_right cells (omega arith) in omega arith
+
+next_within : (old now new cells done count : ℕ) → done < count → now ≡ old + done * cells → new ≤ now + cells → new ≤ old + count * cells
+next_within old now new cells done count lt so_far high = let all : (done + 1) * cells ≤ count * cells = mul-le-mul_right cells (omega arith) in omega arith
+
+pub play_round-requires-clause-room : goal.play_round-requires-clause-room
+play_round-requires-clause-room g c =
+    let many = c.args.take in
+    let cost = g.I.Inserter.cost in
+    let shop = g.B.Bench.shop c.args.bench.now in
+    let here = g.B.Bench.shop c.loop-done.bench in
+    let words = take many c.deref.result.now in
+    let long : length words ≡ many = length-take-le many c.deref.result.now (omega (arith, c.loop-done.invariant.words)) in
+    let cells = ap (λ n. round_cost_on cost here n c.args.passes) long ∙ ap (λ (t : FlowShop). round_cost_on cost t many c.args.passes) c.loop-done.invariant.same_shop in
+    subst (λ n. g.B.Bench.counted c.loop-done.bench + n < 2 ^ 64) (sym cells)
+    (next_fits (g.B.Bench.counted c.args.bench.now) (g.B.Bench.counted c.loop-done.bench) (round_cost_on cost shop many c.args.passes) c.loop-done.done c.args.count (2 ^ 64)
+    c.loop-done-test.true c.loop-done.invariant.counted c.requires.room)
+
+pub returns-in-Err-clause-fault_high : goal.returns-in-Err-clause-fault_high
+returns-in-Err-clause-fault_high g c =
+    let many = c.args.take in
+    let cost = g.I.Inserter.cost in
+    let shop = g.B.Bench.shop c.args.bench.now in
+    let here = g.B.Bench.shop c.loop-done.bench in
+    let words = take many c.deref.result.now in
+    let long : length words ≡ many = length-take-le many c.deref.result.now (omega (arith, c.loop-done.invariant.words)) in
+    let cells = ap (λ n. round_cost_on cost here n c.args.passes) long ∙ ap (λ (t : FlowShop). round_cost_on cost t many c.args.passes) c.loop-done.invariant.same_shop in
+    next_within (g.B.Bench.counted c.args.bench.now) (g.B.Bench.counted c.loop-done.bench) (g.B.Bench.counted c.play_round.new.bench)
+    (round_cost_on cost shop many c.args.passes) c.loop-done.done c.args.count
+    c.loop-done-test.true c.loop-done.invariant.counted
+    (subst (λ n. g.B.Bench.counted c.play_round.new.bench ≤ g.B.Bench.counted c.loop-done.bench + n) cells c.in-Err.ensures.fault_high)
 
 pub returns-in-Err-clause-fault : goal.returns-in-Err-clause-fault
 returns-in-Err-clause-fault g c =
@@ -28,8 +64,8 @@ loop-done-preserved g c =
     let drawn : take many c.deref.result.now ≡ words_of many (stream_after (done * many) s) =
     ap (take many) c.deref.ensures.value ∙ c.draw_words.ensures.words ∙ ap (words_of many) invariant.stream in
     let long : length (take many c.deref.result.now) ≡ many = ap length drawn ∙ length-words_of many (stream_after (done * many) s) in
-    let cost = ap (λ n. round_cost g.I.Inserter.cost (g.B.Bench.shop c.loop-done.bench).jobs (g.B.Bench.shop c.loop-done.bench).machines n 0) long in
-    let same_cost = ap (λ (t : FlowShop). round_cost g.I.Inserter.cost t.jobs t.machines many 0) invariant.same_shop in
+    let cost = ap (λ n. round_cost g.I.Inserter.cost (g.B.Bench.shop c.loop-done.bench).jobs (g.B.Bench.shop c.loop-done.bench).machines n c.args.passes) long in
+    let same_cost = ap (λ (t : FlowShop). round_cost g.I.Inserter.cost t.jobs t.machines many c.args.passes) invariant.same_shop in
     let counted = gives.counted in
     let falls = gives.never_rises in
     record {
@@ -44,10 +80,10 @@ loop-done-preserved g c =
       counted = omega (arith, invariant.counted);
       order_size = gives.same_order_size ∙ invariant.order_size;
       order = gives.order
-          ∙ ap (λ (t : FlowShop). after_round t 0 kept (take many c.deref.result.now)) invariant.same_shop
-          ∙ ap (after_round shop 0 kept) drawn
-          ∙ ap (λ (js : List ℕ). after_round shop 0 js (words_of many (stream_after (done * many) s))) invariant.order
-          ∙ sym (rounds_more shop 0 done many c.args.kept.now.order s);
+          ∙ ap (λ (t : FlowShop). after_round t c.args.passes kept (take many c.deref.result.now)) invariant.same_shop
+          ∙ ap (after_round shop c.args.passes kept) drawn
+          ∙ ap (λ (js : List ℕ). after_round shop c.args.passes js (words_of many (stream_after (done * many) s))) invariant.order
+          ∙ sym (rounds_more shop c.args.passes done many c.args.kept.now.order s);
       span = gives.span ∙ ap (λ (t : FlowShop). makespan t c.play_round.new.kept.order) invariant.same_shop;
       falls = omega (arith, invariant.falls);
       stream = c.draw_words.ensures.stream ∙ ap (stream_after many) invariant.stream ∙ sym (stream_group done many s);

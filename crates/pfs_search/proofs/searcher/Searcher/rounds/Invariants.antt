@@ -20,9 +20,9 @@ invariant-loop-done g l =
       words : shop.jobs ≤ vec_len inside.words;
       jobs : g.I.Inserter.jobs inside.inserter ≡ shop.jobs;
       machines : g.I.Inserter.machines inside.inserter ≡ shop.machines;
-      counted : g.B.Bench.counted l.bench ≡ g.B.Bench.counted l.fn.bench + l.done * round_cost g.I.Inserter.cost shop.jobs shop.machines l.take 0;
+      counted : g.B.Bench.counted l.bench ≡ g.B.Bench.counted l.fn.bench + l.done * round_cost g.I.Inserter.cost shop.jobs shop.machines l.take l.passes;
       order_size : length l.kept.order ≡ shop.jobs;
-      order : l.kept.order ≡ after_rounds shop 0 l.done l.take l.fn.kept.order (words_of (l.done * l.take) stream);
+      order : l.kept.order ≡ after_rounds shop l.passes l.done l.take l.fn.kept.order (words_of (l.done * l.take) stream);
       span : number l.kept.span ≡ makespan shop l.kept.order;
       falls : number l.kept.span ≤ number l.fn.kept.span;
       stream : g.R.Rng.stream l.rng ≡ stream_after (l.done * l.take) stream;

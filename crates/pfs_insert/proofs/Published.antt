@@ -1,0 +1,2 @@
+-- Lemmas that the proofs of crates above may cite.
+pub mod BestPlaces

@@ -1,0 +1,119 @@
+//! Passes over an order: each job in the order of the numbers leaves its place for its best one.
+ghost use Rattle.std.specs.Prelude.{◌≡◌, ℕ, ◌+◌, ◌*◌, ◌<◌, ◌≤◌, ◌^◌, length, false, IsOk, IfOk, OnOk, OnErr};
+ghost use Rattle.pfs_base.specs.Paths.{makespan};
+ghost use Rattle.pfs_search.specs.Costs.{pass_cost_on};
+ghost use Rattle.pfs_search.specs.Greedy.{after_passes, moved, pass};
+
+use pfs_base::{Bench, Length};
+use pfs_insert::{InsertFault, Inserter};
+use pfs_order::Seq;
+use std::alloc::Global;
+
+/// How many passes a round can be asked for.
+pub const MOST_PASSES: u32 = 100;
+
+// Makes so many passes over an order of all jobs, and tells the makespan behind them, where it is told the one
+// before.
+#[inline(always)]
+pub(crate) fn make_passes<B: Bench, I: Inserter<B>>(
+    alloc: Global,
+    inserter: &mut I,
+    bench: &mut B,
+    seq: &mut Seq,
+    span: B::Span,
+    passes: u32,
+) -> Result<B::Span, InsertFault>
+    requires own_jobs { seq.old.size ≡ (B.shop bench.old).jobs }
+    requires all_jobs { length seq.old.jobs ≡ (B.shop bench.old).jobs }
+    requires inserter_jobs { I.jobs inserter.old ≡ (B.shop bench.old).jobs }
+    requires inserter_machines { I.machines inserter.old ≡ (B.shop bench.old).machines }
+    requires span { B.Span.number span ≡ makespan (B.shop bench.old) seq.old.jobs }
+    requires room { B.counted bench.old + passes * pass_cost_on I.cost (B.shop bench.old) < 2 ^ 64 }
+    ensures jobs { OnOk result (seq.new.jobs ≡ after_passes (B.shop bench.old) passes seq.old.jobs) }
+    ensures count { OnOk result (length seq.new.jobs ≡ length seq.old.jobs) }
+    ensures span { IfOk result (λ span. B.Span.number span ≡ makespan (B.shop bench.old) seq.new.jobs) }
+    ensures counted { OnOk result (B.counted bench.new ≡ B.counted bench.old + passes * pass_cost_on I.cost (B.shop bench.old)) }
+    ensures fault_low { OnErr result (B.counted bench.old ≤ B.counted bench.new) }
+    ensures fault_high { OnErr result (B.counted bench.new ≤ B.counted bench.old + passes * pass_cost_on I.cost (B.shop bench.old)) }
+    ensures succeeds { I.can_refuse ≡ false → IsOk result }
+    ensures shop { B.shop bench.new ≡ B.shop bench.old }
+    ensures same_size { seq.new.size ≡ seq.old.size }
+    ensures same_jobs { I.jobs inserter.new ≡ I.jobs inserter.old }
+    ensures same_machines { I.machines inserter.new ≡ I.machines inserter.old }
+{
+    let mut span = span;
+    for _done in 0..passes {
+        span = make_pass(alloc, inserter, bench, seq, span)?;
+    }
+    Ok(span)
+}
+
+// Makes a pass over an order of all jobs, and tells the makespan behind it, where it is told the one before.
+#[inline(always)]
+fn make_pass<B: Bench, I: Inserter<B>>(
+    alloc: Global,
+    inserter: &mut I,
+    bench: &mut B,
+    seq: &mut Seq,
+    span: B::Span,
+) -> Result<B::Span, InsertFault>
+    requires own_jobs { seq.old.size ≡ (B.shop bench.old).jobs }
+    requires all_jobs { length seq.old.jobs ≡ (B.shop bench.old).jobs }
+    requires inserter_jobs { I.jobs inserter.old ≡ (B.shop bench.old).jobs }
+    requires inserter_machines { I.machines inserter.old ≡ (B.shop bench.old).machines }
+    requires span { B.Span.number span ≡ makespan (B.shop bench.old) seq.old.jobs }
+    requires room { B.counted bench.old + pass_cost_on I.cost (B.shop bench.old) < 2 ^ 64 }
+    ensures jobs { OnOk result (seq.new.jobs ≡ pass (B.shop bench.old) seq.old.jobs) }
+    ensures count { OnOk result (length seq.new.jobs ≡ length seq.old.jobs) }
+    ensures span { IfOk result (λ span. B.Span.number span ≡ makespan (B.shop bench.old) seq.new.jobs) }
+    ensures counted { OnOk result (B.counted bench.new ≡ B.counted bench.old + pass_cost_on I.cost (B.shop bench.old)) }
+    ensures fault_low { OnErr result (B.counted bench.old ≤ B.counted bench.new) }
+    ensures fault_high { OnErr result (B.counted bench.new ≤ B.counted bench.old + pass_cost_on I.cost (B.shop bench.old)) }
+    ensures succeeds { I.can_refuse ≡ false → IsOk result }
+    ensures shop { B.shop bench.new ≡ B.shop bench.old }
+    ensures same_size { seq.new.size ≡ seq.old.size }
+    ensures same_jobs { I.jobs inserter.new ≡ I.jobs inserter.old }
+    ensures same_machines { I.machines inserter.new ≡ I.machines inserter.old }
+{
+    let mut span = span;
+    for job in 0..seq.size() {
+        span = move_job(alloc, inserter, bench, seq, job)?;
+    }
+    Ok(span)
+}
+
+// Takes a job of an order of all jobs out of its place, puts it back at its best one, and tells the makespan then.
+#[inline(always)]
+fn move_job<B: Bench, I: Inserter<B>>(
+    alloc: Global,
+    inserter: &mut I,
+    bench: &mut B,
+    seq: &mut Seq,
+    job: usize,
+) -> Result<B::Span, InsertFault>
+    requires own_jobs { seq.old.size ≡ (B.shop bench.old).jobs }
+    requires all_jobs { length seq.old.jobs ≡ (B.shop bench.old).jobs }
+    requires job { job < (B.shop bench.old).jobs }
+    requires inserter_jobs { I.jobs inserter.old ≡ (B.shop bench.old).jobs }
+    requires inserter_machines { I.machines inserter.old ≡ (B.shop bench.old).machines }
+    requires room { B.counted bench.old + I.cost (B.shop bench.old).jobs (B.shop bench.old).machines < 2 ^ 64 }
+    ensures jobs { OnOk result (seq.new.jobs ≡ moved (B.shop bench.old) seq.old.jobs job) }
+    ensures count { OnOk result (length seq.new.jobs ≡ length seq.old.jobs) }
+    ensures span { IfOk result (λ span. B.Span.number span ≡ makespan (B.shop bench.old) seq.new.jobs) }
+    ensures counted { OnOk result (B.counted bench.new ≡ B.counted bench.old + I.cost (B.shop bench.old).jobs (B.shop bench.old).machines) }
+    ensures fault_low { OnErr result (B.counted bench.old ≤ B.counted bench.new) }
+    ensures fault_high { OnErr result (B.counted bench.new ≤ B.counted bench.old + I.cost (B.shop bench.old).jobs (B.shop bench.old).machines) }
+    ensures succeeds { I.can_refuse ≡ false → IsOk result }
+    ensures shop { B.shop bench.new ≡ B.shop bench.old }
+    ensures same_size { seq.new.size ≡ seq.old.size }
+    ensures same_jobs { I.jobs inserter.new ≡ I.jobs inserter.old }
+    ensures same_machines { I.machines inserter.new ≡ I.machines inserter.old }
+{
+    // Called for what it says of a sequence: that its jobs are distinct.
+    let _size = seq.size();
+    let place = seq.place_of(job);
+    seq.remove_at(place);
+    let best = inserter.best(alloc, bench, seq, job)?;
+    seq.insert_at(best.place, job);
+    Ok(best.span)
+}
