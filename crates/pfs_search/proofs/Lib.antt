@@ -2,7 +2,6 @@ pub mod Published
 pub mod Moves
 pub mod NoLonger
 pub mod OneRanking
-pub mod SmallCosts
 pub mod SortedJobs
 pub mod Taking
 pub mod Words

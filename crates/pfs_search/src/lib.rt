@@ -10,8 +10,6 @@ pub mod laws;
 pub mod passes;
 mod rankings;
 pub mod searcher;
-#[cfg(test)]
-mod tests;
 
 pub use fault::SearchFault;
 pub use kept::Kept;

@@ -17,6 +17,8 @@ mod faults;
 #[cfg(test)]
 mod reader;
 #[cfg(test)]
+mod searching;
+#[cfg(test)]
 mod solving;
 #[cfg(test)]
 mod texts;

@@ -3,11 +3,11 @@
 ghost use Rattle.std.specs.Prelude.{◌≡◌, ◌≤◌, ◌+◌, ◌%◌, ◌^◌, ℕ, length, IfOk};
 ghost use Rattle.rand_core.specs.Steps.{stream_of, steps_u32};
 
-use crate::{Kept, MOST_PASSES, Searcher};
 use pfs_audit::makespan;
 use pfs_base::{Bench, Instance, Metered, Notes, Span};
 use pfs_insert::{Afresh, HeadsTails};
 use pfs_order::Order;
+use pfs_search::{Kept, MOST_PASSES, Searcher};
 use rand_core::Rng;
 use rand_core::utils::{self, NextWord};
 use std::alloc::Global;

@@ -1,7 +1,7 @@
-use Rattle.std.proofs.Common.{length, ap, ◌∙◌, arith}
+use Rattle.std.proofs.Common.{ap, ◌∙◌, arith}
 use Rattle.pfs_base.specs.FlowShop.{FlowShop}
-use Rattle.pfs_search.proofs.SmallCosts.{small_neh, small_round_of_passes}
-use Rattle.pfs_search.proofs.tests.neh_and_round.Goals as goal
+use Rattle.pfs_tests.proofs.SmallCosts.{small_neh, small_round}
+use Rattle.pfs_tests.proofs.searching.neh_and_two_rounds.Goals as goal
 
 pub neh-requires-clause-room : goal.neh-requires-clause-room
 neh-requires-clause-room g c =
@@ -11,8 +11,8 @@ neh-requires-clause-room g c =
     let least = small_neh bench.jobs bench.machines (omega (arith, c.requires.jobs)) (omega (arith, c.requires.machines)) in
     omega (arith, c.metered-bench.ensures.counted)
 
-pub round-requires-clause-room : goal.round-requires-clause-room
-round-requires-clause-room g c =
+pub rounds-requires-clause-room : goal.rounds-requires-clause-room
+rounds-requires-clause-room g c =
     let bench = c.metered-bench.result in
     let after = c.neh.new.bench in
     let same = c.neh.ensures.shop ∙ c.metered-bench.ensures.shop in
@@ -21,6 +21,5 @@ round-requires-clause-room g c =
     let old_jobs = ap (λ (s : FlowShop). s.jobs) c.metered-bench.ensures.shop in
     let old_machines = ap (λ (s : FlowShop). s.machines) c.metered-bench.ensures.shop in
     let least = small_neh bench.jobs bench.machines (omega (arith, c.requires.jobs)) (omega (arith, c.requires.machines)) in
-    let more = small_round_of_passes after.jobs after.machines (length c.args.words.now) c.args.passes (omega (arith, c.requires.jobs)) (omega (arith, c.requires.machines))
-    (omega arith) c.requires.passes in
+    let more = small_round after.jobs after.machines 1 (omega (arith, c.requires.jobs)) (omega (arith, c.requires.machines)) (omega arith) in
     omega (arith, c.metered-bench.ensures.counted, c.in_ok-neh.ensures.counted)

@@ -1,7 +1,7 @@
 use Rattle.std.proofs.Common.{length, ap, ◌∙◌, arith}
 use Rattle.pfs_base.specs.FlowShop.{FlowShop}
-use Rattle.pfs_search.proofs.SmallCosts.{small_neh_by_rows, small_round_of_passes_by_rows}
-use Rattle.pfs_search.proofs.tests.neh_and_round_by_rows.Goals as goal
+use Rattle.pfs_tests.proofs.SmallCosts.{small_neh_by_rows, small_round_of_passes_by_rows}
+use Rattle.pfs_tests.proofs.searching.neh_and_round_by_rows.Goals as goal
 
 pub neh-requires-clause-room : goal.neh-requires-clause-room
 neh-requires-clause-room g c =

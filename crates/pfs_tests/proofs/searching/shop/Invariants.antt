@@ -1,5 +1,5 @@
 use Rattle.std.proofs.Common.{◌≡◌}
-use Rattle.pfs_search.proofs.tests.shop.Given as goal
+use Rattle.pfs_tests.proofs.searching.shop.Given as goal
 
 abbrev pub invariant-loop-job : goal.invariant-loop-job
 invariant-loop-job g l = record {

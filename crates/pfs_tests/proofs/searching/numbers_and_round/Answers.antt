@@ -2,8 +2,8 @@ use Rattle.std.proofs.Common.{◌+◌, ◌*◌, ◌≤◌, length, ap, ◌∙◌
 use Rattle.std.proofs.Math.Nat.{mul-le-mul}
 use Rattle.pfs_base.specs.FlowShop.{FlowShop}
 use Rattle.pfs_order.specs.Sequence.{Sequence}
-use Rattle.pfs_search.proofs.SmallCosts.{small_round_of_passes}
-use Rattle.pfs_search.proofs.tests.numbers_and_round.Goals as goal
+use Rattle.pfs_tests.proofs.SmallCosts.{small_round_of_passes}
+use Rattle.pfs_tests.proofs.searching.numbers_and_round.Goals as goal
 
 pub round-requires-clause-room : goal.round-requires-clause-room
 round-requires-clause-room g c =
