@@ -1,5 +1,6 @@
 //! Runs the call that its first word names, on a worked example, and prints the answer, or `memory` where a
-//! growth was refused. `tests/run` runs each call with each growth of memory refused in turn.
+//! growth was refused, and then what the refusal has left, if the call has changed something or could have.
+//! `tests/run` runs each call with each growth of memory refused in turn.
 #![tactic(auto)]
 
 ghost use Rattle.std.specs.Prelude.{◌≡◌, IfOk};
@@ -215,21 +216,22 @@ fn feed_call(rt: &HostRuntime) -> Result<(), Stop> {
             )?;
             Ok(())
         }
-        Err(fault) => Err(told_again(reader, fault)),
+        Err(fault) => told_again(rt, reader, fault),
     }
 }
 
-// What a refusal stops with, if the reader holds no time and repeats the refusal from both calls.
-fn told_again(reader: BlockReader, fault: LayoutFault) -> Stop {
+// Prints what a refused reader holds, and what it answers from then on.
+fn told_again(rt: &HostRuntime, reader: BlockReader, fault: LayoutFault) -> Result<(), Stop> {
     let mut reader = reader;
     let held = reader.held();
-    let fed = reader.feed(FILE).err();
-    let finished = reader.finish().err();
-    if held == 0 && fed == Some(fault) && finished == Some(fault) {
-        Stop::from(fault)
-    } else {
-        Stop::Other
+    println!(rt; "{fault:?}, {held} times held")?;
+    if let Err(fault) = reader.feed(FILE) {
+        println!(rt; "{fault:?} when fed again")?;
     }
+    if let Err(fault) = reader.finish() {
+        println!(rt; "{fault:?} at the end")?;
+    }
+    Ok(())
 }
 
 fn read_block_call(rt: &HostRuntime) -> Result<(), Stop> {
@@ -262,11 +264,33 @@ fn read_order_call(rt: &HostRuntime) -> Result<(), Stop> {
     Ok(())
 }
 
+// Prints that a growth was refused, and what the instance is then.
+fn print_refused(rt: &HostRuntime, instance: &Instance) -> Result<(), Stop> {
+    let (jobs, machines) = (instance.jobs(), instance.machines());
+    print!(rt; "memory, {jobs} jobs, {machines} machines, times")?;
+    for job in 0..jobs {
+        for machine in 0..machines {
+            print!(rt; " {}", instance.time(job, machine))?;
+        }
+    }
+    println!(rt; "")?;
+    Ok(())
+}
+
+// The jobs one behind another in the order of their numbers, and again where that is refused.
 fn makespan_call(rt: &HostRuntime) -> Result<(), Stop> {
     let instance = three_jobs(rt.alloc())?;
     let order = Order::identity(rt.alloc(), instance.jobs())?;
     let mut bench = instance.metered();
-    let span = makespan(rt.alloc(), &mut bench, order.seq())?;
+    let span = match makespan(rt.alloc(), &mut bench, order.seq()) {
+        Ok(span) => span,
+        Err(AuditFault::Memory) => {
+            print_refused(rt, &instance)?;
+            let (jobs, machines, cells) = (bench.jobs(), bench.machines(), bench.cells());
+            println!(rt; "bench of {jobs} jobs, {machines} machines, {cells} cells")?;
+            makespan(rt.alloc(), &mut bench, order.seq())?
+        }
+    };
     println!(rt; "makespan {}, {} cells", bench.reveal(span), bench.cells())?;
     Ok(())
 }
@@ -274,7 +298,13 @@ fn makespan_call(rt: &HostRuntime) -> Result<(), Stop> {
 fn table_call(rt: &HostRuntime) -> Result<(), Stop> {
     let instance = three_jobs(rt.alloc())?;
     let order = Order::identity(rt.alloc(), instance.jobs())?;
-    let table = table(rt.alloc(), &instance, &order)?;
+    let table = match table(rt.alloc(), &instance, &order) {
+        Ok(table) => table,
+        Err(AuditFault::Memory) => {
+            print_refused(rt, &instance)?;
+            table(rt.alloc(), &instance, &order)?
+        }
+    };
     println!(rt; "{} rows, makespan {}", table.rows(), table.makespan())?;
     Ok(())
 }
@@ -282,7 +312,14 @@ fn table_call(rt: &HostRuntime) -> Result<(), Stop> {
 fn check_call(rt: &HostRuntime) -> Result<(), Stop> {
     let instance = three_jobs(rt.alloc())?;
     let file = read_the_order(rt.alloc())?;
-    match check(rt.alloc(), &instance, &file)? {
+    let verdict = match check(rt.alloc(), &instance, &file) {
+        Ok(verdict) => verdict,
+        Err(AuditFault::Memory) => {
+            print_refused(rt, &instance)?;
+            check(rt.alloc(), &instance, &file)?
+        }
+    };
+    match verdict {
         Verdict::Valid { makespan, bound } => println!(rt; "valid {makespan} {bound}")?,
         Verdict::WrongSize { .. } | Verdict::WrongMakespan { .. } => println!(rt; "wrong")?,
     }
