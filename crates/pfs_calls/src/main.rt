@@ -10,7 +10,8 @@ mod search;
 use pfs_audit::{AuditFault, Verdict, check, makespan, table};
 use pfs_base::{BaseFault, Bench, FromRead, Instance, Notes, ToWrite};
 use pfs_desk::{
-    DeskFault, SolveOptions, run_check, run_convert, run_generate, run_solve, run_table,
+    DeskFault, Outcome, SolveOptions, run_check, run_convert, run_generate, run_solve, run_table,
+    run_value,
 };
 use pfs_insert::InsertFault;
 use pfs_layout::{BlockReader, Layout, LayoutFault, generate, read_block};
@@ -100,17 +101,6 @@ impl From<SearchFault> for Stop {
     }
 }
 
-impl From<DeskFault> for Stop {
-    fn from(fault: DeskFault) -> Stop {
-        match fault {
-            DeskFault::Memory
-            | DeskFault::Layout(LayoutFault::Memory)
-            | DeskFault::Order(OrderFault::Memory) => Stop::Memory,
-            _ => Stop::Other,
-        }
-    }
-}
-
 impl From<io::Error> for Stop {
     fn from(_fault: io::Error) -> Stop {
         Stop::Other
@@ -157,8 +147,8 @@ fn answer_of(rt: &HostRuntime, name: &str) -> Result<(), Stop> {
         "rounds" => rounds_call(rt),
         "turns" => turns_call(rt),
         "search" => search_call(rt),
+        "run_value" => run_value_call(rt),
         "run_check" => run_check_call(rt),
-        "run_check_fault" => run_check_fault_call(rt),
         "run_table" => run_table_call(rt),
         "run_solve" => run_solve_call(rt),
         "run_convert" => run_convert_call(rt),
@@ -326,27 +316,27 @@ fn check_call(rt: &HostRuntime) -> Result<(), Stop> {
     Ok(())
 }
 
+// Prints the fault of an engine that has not answered, which says whose growth was refused: the instance's, the
+// order's, or one behind both.
+fn print_fault(rt: &HostRuntime, answer: Result<Outcome, DeskFault>) -> Result<(), Stop> {
+    if let Err(fault) = answer {
+        println!(rt; "{fault:?}")?;
+    }
+    Ok(())
+}
+
+fn run_value_call(rt: &HostRuntime) -> Result<(), Stop> {
+    let mut reader = FromRead::new(FILE);
+    let mut writer = ToWrite::new(io::writer(rt));
+    let answer = run_value(rt.alloc(), &mut reader, Layout::Taillard, 1, &mut writer);
+    print_fault(rt, answer)
+}
+
 fn run_check_call(rt: &HostRuntime) -> Result<(), Stop> {
     let mut reader = FromRead::new(FILE);
     let mut orders = FromRead::new(ORDER);
     let mut writer = ToWrite::new(io::writer(rt));
-    run_check(
-        rt.alloc(),
-        &mut reader,
-        Layout::Taillard,
-        1,
-        &mut orders,
-        &mut writer,
-    )?;
-    Ok(())
-}
-
-// Prints whose memory was refused: the instance's, the order file's, or that of the audit.
-fn run_check_fault_call(rt: &HostRuntime) -> Result<(), Stop> {
-    let mut reader = FromRead::new(FILE);
-    let mut orders = FromRead::new(ORDER);
-    let mut writer = ToWrite::new(io::writer(rt));
-    let result = run_check(
+    let answer = run_check(
         rt.alloc(),
         &mut reader,
         Layout::Taillard,
@@ -354,25 +344,22 @@ fn run_check_fault_call(rt: &HostRuntime) -> Result<(), Stop> {
         &mut orders,
         &mut writer,
     );
-    if let Err(fault) = result {
-        println!(rt; "{fault:?}")?;
-    }
-    Ok(())
+    print_fault(rt, answer)
 }
 
 fn run_table_call(rt: &HostRuntime) -> Result<(), Stop> {
     let mut reader = FromRead::new(FILE);
     let mut orders = FromRead::new(ORDER);
     let mut writer = ToWrite::new(io::writer(rt));
-    run_table(
+    let answer = run_table(
         rt.alloc(),
         &mut reader,
         Layout::Taillard,
         1,
         &mut orders,
         &mut writer,
-    )?;
-    Ok(())
+    );
+    print_fault(rt, answer)
 }
 
 fn run_solve_call(rt: &HostRuntime) -> Result<(), Stop> {
@@ -384,33 +371,33 @@ fn run_solve_call(rt: &HostRuntime) -> Result<(), Stop> {
         seed: 7,
         cells: true,
     };
-    run_solve(
+    let answer = run_solve(
         rt.alloc(),
         &mut reader,
         Layout::Taillard,
         1,
         &options,
         &mut writer,
-    )?;
-    Ok(())
+    );
+    print_fault(rt, answer)
 }
 
 fn run_convert_call(rt: &HostRuntime) -> Result<(), Stop> {
     let mut reader = FromRead::new(FILE);
     let mut writer = ToWrite::new(io::writer(rt));
-    run_convert(
+    let answer = run_convert(
         rt.alloc(),
         &mut reader,
         Layout::Taillard,
         Layout::OrLib,
         1,
         &mut writer,
-    )?;
-    Ok(())
+    );
+    print_fault(rt, answer)
 }
 
 fn run_generate_call(rt: &HostRuntime) -> Result<(), Stop> {
     let mut writer = ToWrite::new(io::writer(rt));
-    run_generate(rt.alloc(), 5, 1, 873654221, &mut writer)?;
-    Ok(())
+    let answer = run_generate(rt.alloc(), 5, 1, 873654221, &mut writer);
+    print_fault(rt, answer)
 }
