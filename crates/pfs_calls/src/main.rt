@@ -1,5 +1,6 @@
 //! Runs the call that its first word names, on a worked example, and prints the answer, or `memory` where a
-//! growth was refused. `tests/run` runs each call with each growth of memory refused in turn.
+//! growth was refused, and then what the refusal has left, if the call has changed something or could have.
+//! `tests/run` runs each call with each growth of memory refused in turn.
 #![tactic(auto)]
 
 ghost use Rattle.std.specs.Prelude.{◌≡◌, IfOk};
@@ -9,7 +10,8 @@ mod search;
 use pfs_audit::{AuditFault, Verdict, check, makespan, table};
 use pfs_base::{BaseFault, Bench, FromRead, Instance, Notes, ToWrite};
 use pfs_desk::{
-    DeskFault, SolveOptions, run_check, run_convert, run_generate, run_solve, run_table,
+    DeskFault, Outcome, SolveOptions, run_check, run_convert, run_generate, run_solve, run_table,
+    run_value,
 };
 use pfs_insert::InsertFault;
 use pfs_layout::{BlockReader, Layout, LayoutFault, generate, read_block};
@@ -99,17 +101,6 @@ impl From<SearchFault> for Stop {
     }
 }
 
-impl From<DeskFault> for Stop {
-    fn from(fault: DeskFault) -> Stop {
-        match fault {
-            DeskFault::Memory
-            | DeskFault::Layout(LayoutFault::Memory)
-            | DeskFault::Order(OrderFault::Memory) => Stop::Memory,
-            _ => Stop::Other,
-        }
-    }
-}
-
 impl From<io::Error> for Stop {
     fn from(_fault: io::Error) -> Stop {
         Stop::Other
@@ -156,8 +147,8 @@ fn answer_of(rt: &HostRuntime, name: &str) -> Result<(), Stop> {
         "rounds" => rounds_call(rt),
         "turns" => turns_call(rt),
         "search" => search_call(rt),
+        "run_value" => run_value_call(rt),
         "run_check" => run_check_call(rt),
-        "run_check_fault" => run_check_fault_call(rt),
         "run_table" => run_table_call(rt),
         "run_solve" => run_solve_call(rt),
         "run_convert" => run_convert_call(rt),
@@ -215,21 +206,22 @@ fn feed_call(rt: &HostRuntime) -> Result<(), Stop> {
             )?;
             Ok(())
         }
-        Err(fault) => Err(told_again(reader, fault)),
+        Err(fault) => told_again(rt, reader, fault),
     }
 }
 
-// What a refusal stops with, if the reader holds no time and repeats the refusal from both calls.
-fn told_again(reader: BlockReader, fault: LayoutFault) -> Stop {
+// Prints what a refused reader holds, and what it answers from then on.
+fn told_again(rt: &HostRuntime, reader: BlockReader, fault: LayoutFault) -> Result<(), Stop> {
     let mut reader = reader;
     let held = reader.held();
-    let fed = reader.feed(FILE).err();
-    let finished = reader.finish().err();
-    if held == 0 && fed == Some(fault) && finished == Some(fault) {
-        Stop::from(fault)
-    } else {
-        Stop::Other
+    println!(rt; "{fault:?}, {held} times held")?;
+    if let Err(fault) = reader.feed(FILE) {
+        println!(rt; "{fault:?} when fed again")?;
     }
+    if let Err(fault) = reader.finish() {
+        println!(rt; "{fault:?} at the end")?;
+    }
+    Ok(())
 }
 
 fn read_block_call(rt: &HostRuntime) -> Result<(), Stop> {
@@ -262,11 +254,33 @@ fn read_order_call(rt: &HostRuntime) -> Result<(), Stop> {
     Ok(())
 }
 
+// Prints that a growth was refused, and what the instance is then.
+fn print_refused(rt: &HostRuntime, instance: &Instance) -> Result<(), Stop> {
+    let (jobs, machines) = (instance.jobs(), instance.machines());
+    print!(rt; "memory, {jobs} jobs, {machines} machines, times")?;
+    for job in 0..jobs {
+        for machine in 0..machines {
+            print!(rt; " {}", instance.time(job, machine))?;
+        }
+    }
+    println!(rt; "")?;
+    Ok(())
+}
+
+// The jobs one behind another in the order of their numbers, and again where that is refused.
 fn makespan_call(rt: &HostRuntime) -> Result<(), Stop> {
     let instance = three_jobs(rt.alloc())?;
     let order = Order::identity(rt.alloc(), instance.jobs())?;
     let mut bench = instance.metered();
-    let span = makespan(rt.alloc(), &mut bench, order.seq())?;
+    let span = match makespan(rt.alloc(), &mut bench, order.seq()) {
+        Ok(span) => span,
+        Err(AuditFault::Memory) => {
+            print_refused(rt, &instance)?;
+            let (jobs, machines, cells) = (bench.jobs(), bench.machines(), bench.cells());
+            println!(rt; "bench of {jobs} jobs, {machines} machines, {cells} cells")?;
+            makespan(rt.alloc(), &mut bench, order.seq())?
+        }
+    };
     println!(rt; "makespan {}, {} cells", bench.reveal(span), bench.cells())?;
     Ok(())
 }
@@ -274,7 +288,13 @@ fn makespan_call(rt: &HostRuntime) -> Result<(), Stop> {
 fn table_call(rt: &HostRuntime) -> Result<(), Stop> {
     let instance = three_jobs(rt.alloc())?;
     let order = Order::identity(rt.alloc(), instance.jobs())?;
-    let table = table(rt.alloc(), &instance, &order)?;
+    let table = match table(rt.alloc(), &instance, &order) {
+        Ok(table) => table,
+        Err(AuditFault::Memory) => {
+            print_refused(rt, &instance)?;
+            table(rt.alloc(), &instance, &order)?
+        }
+    };
     println!(rt; "{} rows, makespan {}", table.rows(), table.makespan())?;
     Ok(())
 }
@@ -282,34 +302,41 @@ fn table_call(rt: &HostRuntime) -> Result<(), Stop> {
 fn check_call(rt: &HostRuntime) -> Result<(), Stop> {
     let instance = three_jobs(rt.alloc())?;
     let file = read_the_order(rt.alloc())?;
-    match check(rt.alloc(), &instance, &file)? {
+    let verdict = match check(rt.alloc(), &instance, &file) {
+        Ok(verdict) => verdict,
+        Err(AuditFault::Memory) => {
+            print_refused(rt, &instance)?;
+            check(rt.alloc(), &instance, &file)?
+        }
+    };
+    match verdict {
         Verdict::Valid { makespan, bound } => println!(rt; "valid {makespan} {bound}")?,
         Verdict::WrongSize { .. } | Verdict::WrongMakespan { .. } => println!(rt; "wrong")?,
     }
     Ok(())
 }
 
+// Prints the fault of an engine that has not answered, which says whose growth was refused: the instance's, the
+// order's, or one behind both.
+fn print_fault(rt: &HostRuntime, answer: Result<Outcome, DeskFault>) -> Result<(), Stop> {
+    if let Err(fault) = answer {
+        println!(rt; "{fault:?}")?;
+    }
+    Ok(())
+}
+
+fn run_value_call(rt: &HostRuntime) -> Result<(), Stop> {
+    let mut reader = FromRead::new(FILE);
+    let mut writer = ToWrite::new(io::writer(rt));
+    let answer = run_value(rt.alloc(), &mut reader, Layout::Taillard, 1, &mut writer);
+    print_fault(rt, answer)
+}
+
 fn run_check_call(rt: &HostRuntime) -> Result<(), Stop> {
     let mut reader = FromRead::new(FILE);
     let mut orders = FromRead::new(ORDER);
     let mut writer = ToWrite::new(io::writer(rt));
-    run_check(
-        rt.alloc(),
-        &mut reader,
-        Layout::Taillard,
-        1,
-        &mut orders,
-        &mut writer,
-    )?;
-    Ok(())
-}
-
-// Prints whose memory was refused: the instance's, the order file's, or that of the audit.
-fn run_check_fault_call(rt: &HostRuntime) -> Result<(), Stop> {
-    let mut reader = FromRead::new(FILE);
-    let mut orders = FromRead::new(ORDER);
-    let mut writer = ToWrite::new(io::writer(rt));
-    let result = run_check(
+    let answer = run_check(
         rt.alloc(),
         &mut reader,
         Layout::Taillard,
@@ -317,25 +344,22 @@ fn run_check_fault_call(rt: &HostRuntime) -> Result<(), Stop> {
         &mut orders,
         &mut writer,
     );
-    if let Err(fault) = result {
-        println!(rt; "{fault:?}")?;
-    }
-    Ok(())
+    print_fault(rt, answer)
 }
 
 fn run_table_call(rt: &HostRuntime) -> Result<(), Stop> {
     let mut reader = FromRead::new(FILE);
     let mut orders = FromRead::new(ORDER);
     let mut writer = ToWrite::new(io::writer(rt));
-    run_table(
+    let answer = run_table(
         rt.alloc(),
         &mut reader,
         Layout::Taillard,
         1,
         &mut orders,
         &mut writer,
-    )?;
-    Ok(())
+    );
+    print_fault(rt, answer)
 }
 
 fn run_solve_call(rt: &HostRuntime) -> Result<(), Stop> {
@@ -348,33 +372,33 @@ fn run_solve_call(rt: &HostRuntime) -> Result<(), Stop> {
         passes: 0,
         cells: true,
     };
-    run_solve(
+    let answer = run_solve(
         rt.alloc(),
         &mut reader,
         Layout::Taillard,
         1,
         &options,
         &mut writer,
-    )?;
-    Ok(())
+    );
+    print_fault(rt, answer)
 }
 
 fn run_convert_call(rt: &HostRuntime) -> Result<(), Stop> {
     let mut reader = FromRead::new(FILE);
     let mut writer = ToWrite::new(io::writer(rt));
-    run_convert(
+    let answer = run_convert(
         rt.alloc(),
         &mut reader,
         Layout::Taillard,
         Layout::OrLib,
         1,
         &mut writer,
-    )?;
-    Ok(())
+    );
+    print_fault(rt, answer)
 }
 
 fn run_generate_call(rt: &HostRuntime) -> Result<(), Stop> {
     let mut writer = ToWrite::new(io::writer(rt));
-    run_generate(rt.alloc(), 5, 1, 873654221, &mut writer)?;
-    Ok(())
+    let answer = run_generate(rt.alloc(), 5, 1, 873654221, &mut writer);
+    print_fault(rt, answer)
 }

@@ -1,15 +1,11 @@
 //! Files that the commands convert, and instances that they draw.
 use crate::fakes::{Pieces, Taken};
-use crate::texts::{BY_JOB, BY_MACHINE};
-use pfs_base::{Sink, WriteFault};
+use crate::texts::{BY_JOB, BY_MACHINE, FIVE_JOBS};
+use pfs_base::Sink;
 use pfs_desk::{DeskFault, Outcome, run_convert, run_generate, status};
 use pfs_layout::{Layout, LayoutFault};
 use std::alloc::Global;
 use std::process::Abort;
-
-/// Five jobs on one machine, drawn from the published seed.
-const FIVE_JOBS: &[u8] =
-    b"number of jobs, number of machines, initial seed, upper bound and lower bound :\n5 1 873654221 0 0\nprocessing times :\n54 83 15 71 77\n";
 
 /// Checks what `convert` answers and prints for block 1 of a file.
 fn assert_convert(
@@ -83,34 +79,6 @@ fn convert_writes_nothing_of_a_refused_file(rt: HostRuntime) {
 }
 
 #[test]
-fn convert_writes_nothing_where_a_read_fails(rt: HostRuntime) {
-    for call in 1..8 {
-        let mut reader = Pieces::new(BY_MACHINE, 16, Some(call));
-        let mut writer = Taken::new(256, 256);
-        let (source, target) = (Layout::Taillard, Layout::OrLib);
-        let result = run_convert(rt.alloc(), &mut reader, source, target, 1, &mut writer);
-        let fault = DeskFault::Layout(LayoutFault::Read);
-        assert_eq!(rt; result, Err(fault), "call {call}");
-        assert_eq!(rt; writer.bytes(), b"".as_slice());
-        assert!(rt; !writer.failed());
-    }
-}
-
-#[test]
-fn convert_says_how_many_bytes_went_out(rt: HostRuntime) {
-    for room in 0..BY_JOB.len() {
-        let mut reader = Pieces::whole(BY_MACHINE);
-        let mut writer = Taken::new(room, 3);
-        let (source, target) = (Layout::Taillard, Layout::OrLib);
-        let result = run_convert(rt.alloc(), &mut reader, source, target, 1, &mut writer);
-        let written = room as u64;
-        assert_eq!(rt; result, Err(DeskFault::Write(WriteFault { written })));
-        assert_eq!(rt; writer.bytes(), &BY_JOB[..room]);
-        assert!(rt; writer.failed());
-    }
-}
-
-#[test]
 fn generate_prints_the_published_times(rt: HostRuntime) {
     let two_by_two =
         b"number of jobs, number of machines, initial seed, upper bound and lower bound :\n2 2 873654221 0 0\nprocessing times :\n54 83\n15 71\n";
@@ -142,17 +110,5 @@ fn generate_refuses_seeds_out_of_range(rt: HostRuntime) {
         assert_eq!(rt; status(&fault), 2);
         assert_eq!(rt; writer.bytes(), b"".as_slice());
         assert!(rt; !writer.failed());
-    }
-}
-
-#[test]
-fn generate_says_how_many_bytes_went_out(rt: HostRuntime) {
-    for room in 0..FIVE_JOBS.len() {
-        let mut writer = Taken::new(room, 4);
-        let result = run_generate(rt.alloc(), 5, 1, 873_654_221, &mut writer);
-        let written = room as u64;
-        assert_eq!(rt; result, Err(DeskFault::Write(WriteFault { written })));
-        assert_eq!(rt; writer.bytes(), &FIVE_JOBS[..room]);
-        assert!(rt; writer.failed());
     }
 }

@@ -1,7 +1,6 @@
 //! What the commands read, print and answer, on the three-job instance and its variants.
 use crate::fakes::{Endless, Pieces, Taken};
 use crate::texts::BY_MACHINE;
-use pfs_base::{Sink, WriteFault};
 use pfs_desk::{DeskFault, Outcome, run_check, run_table, run_value, status};
 use pfs_layout::Layout;
 use pfs_order::OrderFault;
@@ -56,15 +55,6 @@ fn value_accepts_every_spelling(rt: HostRuntime) {
 }
 
 #[test]
-fn value_reads_a_byte_a_call(rt: HostRuntime) {
-    let mut reader = Pieces::new(BY_MACHINE, 1, None);
-    let mut writer = Taken::new(256, 1);
-    let result = run_value(rt.alloc(), &mut reader, Layout::Taillard, 1, &mut writer);
-    assert_eq!(rt; result, Ok(Outcome::Done));
-    assert_eq!(rt; writer.bytes(), b"makespan 11\n".as_slice());
-}
-
-#[test]
 fn refused_files_have_status_2_and_print_nothing(rt: HostRuntime) {
     let files: [&[u8]; 8] = [
         b"",
@@ -87,33 +77,6 @@ fn refused_files_have_status_2_and_print_nothing(rt: HostRuntime) {
         );
         assert_eq!(rt; result.as_ref().err().map(status), Some(2));
         assert_eq!(rt; writer.bytes(), b"".as_slice());
-    }
-}
-
-#[test]
-fn a_failed_read_has_status_4_and_prints_nothing(rt: HostRuntime) {
-    for call in 1..8 {
-        let mut reader = Pieces::new(BY_MACHINE, 16, Some(call));
-        let mut writer = Taken::new(256, 256);
-        let result = run_value(rt.alloc(), &mut reader, Layout::Taillard, 1, &mut writer);
-        assert_eq!(rt; result.as_ref().err().map(status), Some(4), "call {call}");
-        assert_eq!(rt; writer.bytes(), b"".as_slice());
-    }
-}
-
-#[test]
-fn a_failed_write_says_how_many_bytes_went_out(rt: HostRuntime) {
-    let text = b"makespan 11\n";
-    for room in 0..text.len() {
-        let mut writer = Taken::new(room, 3);
-        let mut reader = Pieces::whole(BY_MACHINE);
-        let result = run_value(rt.alloc(), &mut reader, Layout::Taillard, 1, &mut writer);
-        let fault = WriteFault {
-            written: room as u64,
-        };
-        assert_eq!(rt; result, Err(DeskFault::Write(fault)));
-        assert_eq!(rt; writer.bytes(), &text[..room]);
-        assert!(rt; writer.failed());
     }
 }
 
@@ -220,37 +183,6 @@ fn table_prints_when_each_operation_starts_and_ends(rt: HostRuntime) {
         assert_eq!(rt; result, Ok(outcome));
         assert_eq!(rt; writer.bytes(), printed);
     }
-}
-
-#[test]
-fn the_instance_file_is_judged_before_the_order_file(rt: HostRuntime) {
-    let mut writer = Taken::new(256, 256);
-    let mut reader = Pieces::new(BY_MACHINE, 256, Some(1));
-    let mut orders = Pieces::new(GOOD_ORDER, 256, Some(1));
-    let result = run_check(
-        rt.alloc(),
-        &mut reader,
-        Layout::Taillard,
-        1,
-        &mut orders,
-        &mut writer,
-    );
-    assert_eq!(rt; result.as_ref().err().map(status), Some(4));
-    assert!(rt; result != Err(DeskFault::Order(OrderFault::Read)));
-    assert_eq!(rt; writer.bytes(), b"".as_slice());
-    let mut writer = Taken::new(256, 256);
-    let mut reader = Pieces::whole(BY_MACHINE);
-    let mut orders = Pieces::new(GOOD_ORDER, 26, Some(2));
-    let result = run_check(
-        rt.alloc(),
-        &mut reader,
-        Layout::Taillard,
-        1,
-        &mut orders,
-        &mut writer,
-    );
-    assert_eq!(rt; result, Err(DeskFault::Order(OrderFault::Read)));
-    assert_eq!(rt; writer.bytes(), b"".as_slice());
 }
 
 #[test]

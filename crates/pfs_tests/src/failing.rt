@@ -1,29 +1,20 @@
 //! Devices that fail at each call in turn, up to the last that is made and behind it: none is made again, and none
 //! behind a failure or the end.
-use crate::fakes::{Broken, Pieces, Taken};
+use crate::fakes::{Pieces, Taken};
 use crate::texts::{BY_JOB, BY_MACHINE};
-use pfs_base::{FromRead, WriteFault, put};
-use pfs_desk::{DeskFault, Outcome, run_check, run_value, status, write_fault};
+use pfs_base::{WriteFault, put};
+use pfs_desk::{DeskFault, write_fault};
 use pfs_layout::{Layout, LayoutFault, read_block, write_block};
 use pfs_order::{Order, OrderFault, read_order, write_order};
-use std::io::{ErrorKind, Read};
 use std::process::Abort;
 use std::test::Fail;
 
 /// More calls than any of these texts takes, a byte a call.
-const CALLS: u64 = 150;
+pub const CALLS: u64 = 150;
 
-const ORDER: &[u8] = b"order 3\n2 1 3\nmakespan 10\n";
+pub const ORDER: &[u8] = b"order 3\n2 1 3\nmakespan 10\n";
 
 const VALUE: &[u8] = b"makespan 11\n";
-
-const VERDICT: &[u8] = b"valid\nmakespan 10\nbound 10\noptimal\n";
-
-/// How many bytes of `BY_MACHINE` are given a call, and how many calls it takes to its end.
-const READS: [(usize, u64); 3] = [(1, 121), (16, 8), (121, 1)];
-
-/// How many bytes of `ORDER` are given a call, and how many calls it takes to see that nothing is behind it.
-const ORDER_READS: [(usize, u64); 3] = [(1, 27), (10, 4), (26, 2)];
 
 /// Files, how many bytes of them are given a call, the call that shows the answer, and the fault.
 const FILES: [(&[u8], usize, u64, Option<LayoutFault>); 7] = [
@@ -96,7 +87,7 @@ fn read_order_reads_no_further_than_too_long_a_file(rt: HostRuntime) -> Result<(
 }
 
 /// Checks what a sink that fails at this call has taken of a text, and what was told.
-fn assert_taken(
+pub fn assert_taken(
     rt: &impl Abort,
     writer: &Taken,
     text: &[u8],
@@ -176,136 +167,4 @@ fn write_fault_writes_up_to_the_end(rt: HostRuntime) {
         Err(WriteFault { written: 3 })
     );
     assert_eq!(rt; writer.bytes(), b"pfs".as_slice());
-}
-
-#[test]
-fn value_reads_up_to_the_end_of_the_block(rt: HostRuntime) {
-    for (most, calls) in READS {
-        for call in 1..CALLS {
-            let mut reader = Pieces::new(BY_MACHINE, most, Some(call));
-            let mut writer = Taken::new(256, 256);
-            let result = run_value(rt.alloc(), &mut reader, Layout::Taillard, 1, &mut writer);
-            assert_eq!(rt; reader.calls(), call.min(calls));
-            if call <= calls {
-                assert_eq!(rt;
-                    result,
-                    Err(DeskFault::Layout(LayoutFault::Read)),
-                    "call {call}"
-                );
-                assert_eq!(rt; result.as_ref().err().map(status), Some(4));
-                assert_eq!(rt; writer.calls(), 0);
-            } else {
-                assert_eq!(rt; result, Ok(Outcome::Done), "call {call}");
-                assert_eq!(rt; writer.bytes(), VALUE);
-            }
-        }
-    }
-}
-
-#[test]
-fn a_failed_read_ends_no_number(rt: HostRuntime) {
-    for kind in [ErrorKind::Interrupted, ErrorKind::Other] {
-        let error = Some(kind);
-        let mut reader = FromRead::new(BY_MACHINE[..120].chain(Broken { error }));
-        let mut writer = Taken::new(256, 256);
-        let result = run_value(rt.alloc(), &mut reader, Layout::Taillard, 1, &mut writer);
-        assert_eq!(rt; result, Err(DeskFault::Layout(LayoutFault::Read)));
-        assert_eq!(rt; writer.calls(), 0);
-    }
-}
-
-#[test]
-fn value_writes_up_to_the_end(rt: HostRuntime) {
-    for most in [1, 5, 256] {
-        for call in 1..CALLS {
-            let mut reader = Pieces::whole(BY_MACHINE);
-            let mut writer = Taken::until(call, most);
-            let result = run_value(rt.alloc(), &mut reader, Layout::Taillard, 1, &mut writer);
-            assert_eq!(rt; reader.calls(), 1);
-            assert_written(&rt, &writer, VALUE, call, result);
-        }
-    }
-}
-
-/// Checks what an engine answered whose sink fails at this call.
-fn assert_written(
-    rt: &impl Abort,
-    writer: &Taken,
-    text: &[u8],
-    call: u64,
-    answer: Result<Outcome, DeskFault>,
-) {
-    match answer {
-        Err(DeskFault::Write(fault)) => assert_taken(rt, writer, text, call, Some(fault)),
-        _ => {
-            assert_eq!(rt; answer, Ok(Outcome::Done), "call {call}");
-            assert_taken(rt, writer, text, call, None);
-        }
-    }
-}
-
-#[test]
-fn check_reads_its_instance_up_to_the_end_of_the_block(rt: HostRuntime) {
-    for (most, calls) in READS {
-        for call in 1..CALLS {
-            let mut reader = Pieces::new(BY_MACHINE, most, Some(call));
-            let mut orders = Pieces::whole(ORDER);
-            let mut writer = Taken::new(256, 256);
-            let layout = Layout::Taillard;
-            let result = run_check(rt.alloc(), &mut reader, layout, 1, &mut orders, &mut writer);
-            assert_eq!(rt; reader.calls(), call.min(calls));
-            if call <= calls {
-                assert_eq!(rt;
-                    result,
-                    Err(DeskFault::Layout(LayoutFault::Read)),
-                    "call {call}"
-                );
-                assert_eq!(rt; (orders.calls(), writer.calls()), (0, 0));
-            } else {
-                assert_eq!(rt; result, Ok(Outcome::Done), "call {call}");
-                assert_eq!(rt; writer.bytes(), VERDICT);
-            }
-        }
-    }
-}
-
-#[test]
-fn check_reads_its_order_up_to_the_end(rt: HostRuntime) {
-    for (most, calls) in ORDER_READS {
-        for call in 1..CALLS {
-            let mut reader = Pieces::whole(BY_MACHINE);
-            let mut orders = Pieces::new(ORDER, most, Some(call));
-            let mut writer = Taken::new(256, 256);
-            let layout = Layout::Taillard;
-            let result = run_check(rt.alloc(), &mut reader, layout, 1, &mut orders, &mut writer);
-            assert_eq!(rt; (reader.calls(), orders.calls()), (1, call.min(calls)));
-            if call <= calls {
-                assert_eq!(rt;
-                    result,
-                    Err(DeskFault::Order(OrderFault::Read)),
-                    "call {call}"
-                );
-                assert_eq!(rt; result.as_ref().err().map(status), Some(4));
-                assert_eq!(rt; writer.calls(), 0);
-            } else {
-                assert_eq!(rt; result, Ok(Outcome::Done), "call {call}");
-                assert_eq!(rt; writer.bytes(), VERDICT);
-            }
-        }
-    }
-}
-
-#[test]
-fn check_writes_up_to_the_end(rt: HostRuntime) {
-    for most in [1, 5, 256] {
-        for call in 1..CALLS {
-            let mut reader = Pieces::whole(BY_MACHINE);
-            let mut orders = Pieces::whole(ORDER);
-            let mut writer = Taken::until(call, most);
-            let layout = Layout::Taillard;
-            let result = run_check(rt.alloc(), &mut reader, layout, 1, &mut orders, &mut writer);
-            assert_eq!(rt; (reader.calls(), orders.calls()), (1, 2));
-            assert_written(&rt, &writer, VERDICT, call, result);
-        }
-    }
 }

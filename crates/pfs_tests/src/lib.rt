@@ -11,6 +11,8 @@ mod conversions;
 mod engines;
 #[cfg(test)]
 mod failing;
+#[cfg(test)]
+mod failing_engines;
 pub mod fakes;
 #[cfg(test)]
 mod faults;

@@ -1,11 +1,12 @@
 //! Instance files that are cut at each byte, changed or endless, and what a reader answers.
 ghost use Rattle.std.specs.Prelude.{◌≤◌, length};
 
-use crate::fakes::Endless;
+use crate::fakes::{Broken, Endless};
 use crate::texts::BY_MACHINE;
-use pfs_base::{Instance, LONGEST_INPUT, MOST_BLOCKS};
+use pfs_base::{FromRead, Instance, LONGEST_INPUT, MOST_BLOCKS};
 use pfs_layout::{BlockReader, Layout, LayoutFault, Progress, read_block};
 use std::alloc::{AllocError, Global};
+use std::io::{ErrorKind, Read};
 use std::process::Abort;
 use std::test::Fail;
 
@@ -309,6 +310,21 @@ fn a_refused_reader_repeats_its_refusal(rt: HostRuntime) {
         assert!(rt; refused.feed(piece) == Err(fault));
     }
     assert!(rt; answers(&refused.finish(), Some(fault)));
+}
+
+#[test]
+fn a_failed_read_is_no_end(rt: HostRuntime) -> Result<(), Fail> {
+    let front = &BY_MACHINE[..120];
+    for kind in [ErrorKind::Interrupted, ErrorKind::Other] {
+        let error = Some(kind);
+        let mut source = FromRead::new(front.chain(Broken { error }));
+        let result = read_block(rt.alloc(), &mut source, Layout::Taillard, 1);
+        assert!(rt; answers(&result, Some(LayoutFault::Read)));
+    }
+    let mut reader = BlockReader::new(rt.alloc(), Layout::Taillard, 1);
+    reader.feed(front)?;
+    assert!(rt; answers(&reader.finish(), None));
+    Ok(())
 }
 
 #[test]

@@ -1,7 +1,7 @@
 //! What `solve` prints, on worked examples and on published instances.
 use crate::fakes::{Pieces, Taken};
 use crate::texts::BY_MACHINE;
-use pfs_base::{FromRead, Sink, ToWrite, WriteFault};
+use pfs_base::{FromRead, Sink, ToWrite};
 use pfs_desk::{DeskFault, MOST_ROUNDS, Outcome, SolveOptions, run_generate, run_solve, status};
 use pfs_layout::{Layout, LayoutFault};
 use pfs_search::MOST_PASSES;
@@ -164,82 +164,6 @@ fn solve_judges_the_take_behind_the_file_and_before_it_writes(rt: HostRuntime) {
         assert_eq!(rt; status(&fault), 3);
         let truncated = DeskFault::Layout(LayoutFault::Truncated { have: 0 });
         assert_refused(&rt, rt.alloc(), b"3 2 0 0 0\n", options, truncated);
-    }
-}
-
-#[test]
-fn solve_writes_nothing_where_a_read_fails(rt: HostRuntime) {
-    for call in 1..8 {
-        let mut reader = Pieces::new(BY_MACHINE, 16, Some(call));
-        let mut writer = Taken::new(256, 256);
-        let result = run_solve(
-            rt.alloc(),
-            &mut reader,
-            Layout::Taillard,
-            1,
-            &PLAIN,
-            &mut writer,
-        );
-        let fault = DeskFault::Layout(LayoutFault::Read);
-        assert_eq!(rt; result, Err(fault), "call {call}");
-        assert_eq!(rt; writer.bytes(), b"".as_slice());
-        assert!(rt; !writer.failed());
-    }
-}
-
-#[test]
-fn solve_writes_a_byte_a_call(rt: HostRuntime) {
-    let mut reader = Pieces::new(BY_MACHINE, 1, None);
-    let mut writer = Taken::new(256, 1);
-    let result = run_solve(
-        rt.alloc(),
-        &mut reader,
-        Layout::Taillard,
-        1,
-        &PLAIN,
-        &mut writer,
-    );
-    assert_eq!(rt; result, Ok(Outcome::Done));
-    assert_eq!(rt; writer.bytes(), THREE_JOBS);
-}
-
-#[test]
-fn solve_says_how_many_bytes_went_out(rt: HostRuntime) {
-    for room in 0..THREE_JOBS.len() {
-        let mut reader = Pieces::whole(BY_MACHINE);
-        let mut writer = Taken::new(room, 3);
-        let result = run_solve(
-            rt.alloc(),
-            &mut reader,
-            Layout::Taillard,
-            1,
-            &PLAIN,
-            &mut writer,
-        );
-        let written = room as u64;
-        assert_eq!(rt; result, Err(DeskFault::Write(WriteFault { written })));
-        assert_eq!(rt; writer.bytes(), &THREE_JOBS[..room]);
-        assert!(rt; writer.failed());
-    }
-}
-
-#[test]
-fn solve_stops_where_a_writer_takes_no_more(rt: HostRuntime) {
-    for room in 0..THREE_JOBS.len() {
-        let mut printed = [b'.'; 26];
-        let mut reader = Pieces::whole(BY_MACHINE);
-        let mut writer = ToWrite::new(&mut printed[..room]);
-        let result = run_solve(
-            rt.alloc(),
-            &mut reader,
-            Layout::Taillard,
-            1,
-            &PLAIN,
-            &mut writer,
-        );
-        let written = room as u64;
-        assert_eq!(rt; result, Err(DeskFault::Write(WriteFault { written })));
-        assert_eq!(rt; &printed[..room], &THREE_JOBS[..room]);
     }
 }
 

@@ -6,3 +6,7 @@ pub const BY_MACHINE: &[u8] =
 
 /// The same three jobs in the OR-Library's layout.
 pub const BY_JOB: &[u8] = b"flow shop instance\n3 2\n0 3 1 2\n0 2 1 5\n0 4 1 1\n";
+
+/// Five jobs on one machine, drawn from the published seed.
+pub const FIVE_JOBS: &[u8] =
+    b"number of jobs, number of machines, initial seed, upper bound and lower bound :\n5 1 873654221 0 0\nprocessing times :\n54 83 15 71 77\n";

@@ -1,0 +1,300 @@
+//! Engines whose devices are short, or fail at each call in turn, up to the last that is made and behind it: none is
+//! made again, and none behind a failure or the end.
+ghost use Rattle.std.specs.Prelude.{◌≡◌, false};
+
+use crate::failing::{CALLS, ORDER, assert_taken};
+use crate::fakes::{Broken, Pieces, Taken};
+use crate::texts::{BY_JOB, BY_MACHINE, FIVE_JOBS};
+use pfs_base::{FromRead, Sink, Source, ToWrite, WriteFault};
+use pfs_desk::{
+    DeskFault, Outcome, SolveOptions, run_check, run_convert, run_generate, run_solve, run_table,
+    run_value, status,
+};
+use pfs_layout::{Layout, LayoutFault};
+use pfs_order::OrderFault;
+use std::alloc::Global;
+use std::io::{ErrorKind, Read};
+use std::process::Abort;
+
+/// The engines, each of which reads the three-job instance in Taillard's layout, but for `Generate`.
+#[derive(Clone, Copy, Debug)]
+enum Engine {
+    Value,
+    Solve,
+    Check,
+    Table,
+    Convert,
+    Generate,
+}
+
+const ENGINES: [Engine; 6] = [
+    Engine::Value,
+    Engine::Solve,
+    Engine::Check,
+    Engine::Table,
+    Engine::Convert,
+    Engine::Generate,
+];
+
+/// The engines that read an instance.
+const READING: [Engine; 5] = [
+    Engine::Value,
+    Engine::Solve,
+    Engine::Check,
+    Engine::Table,
+    Engine::Convert,
+];
+
+/// The engines that read an order too.
+const READING_ORDERS: [Engine; 2] = [Engine::Check, Engine::Table];
+
+/// How many bytes of `BY_MACHINE` are given a call, and how many calls it takes to its end.
+const READS: [(usize, u64); 3] = [(1, 121), (16, 8), (121, 1)];
+
+/// How many bytes of `ORDER` are given a call, and how many calls it takes to see that nothing is behind it.
+const ORDER_READS: [(usize, u64); 3] = [(1, 27), (10, 4), (26, 2)];
+
+impl Engine {
+    /// Runs this engine on what it reads of these.
+    fn run<R: Source, O: Source, W: Sink>(
+        self,
+        alloc: Global,
+        reader: &mut R,
+        orders: &mut O,
+        writer: &mut W,
+    ) -> Result<Outcome, DeskFault>
+        requires reading { R.has_failed reader.old ≡ false }
+        requires reading_order { O.has_failed orders.old ≡ false }
+        requires writing { W.has_failed writer.old ≡ false }
+    {
+        let layout = Layout::Taillard;
+        match self {
+            Engine::Value => run_value(alloc, reader, layout, 1, writer),
+            Engine::Solve => run_neh(alloc, reader, writer),
+            Engine::Check => run_check(alloc, reader, layout, 1, orders, writer),
+            Engine::Table => run_table(alloc, reader, layout, 1, orders, writer),
+            Engine::Convert => run_convert(alloc, reader, layout, Layout::OrLib, 1, writer),
+            Engine::Generate => run_generate(alloc, 5, 1, 873_654_221, writer),
+        }
+    }
+
+    /// What this engine prints of the three-job instance and `ORDER`.
+    fn text(self) -> &'static [u8] {
+        match self {
+            Engine::Value => b"makespan 11\n",
+            Engine::Solve => ORDER,
+            Engine::Check => b"valid\nmakespan 10\nbound 10\noptimal\n",
+            Engine::Table => b"table 3 2\n2 0 2 2 7\n1 2 5 7 9\n3 5 9 9 10\nmakespan 10\n",
+            Engine::Convert => BY_JOB,
+            Engine::Generate => FIVE_JOBS,
+        }
+    }
+
+    /// How often it reads its files, where these are the calls up to the end of an instance and of an order.
+    fn reads(self, instance: u64, order: u64) -> (u64, u64) {
+        match self {
+            Engine::Value | Engine::Solve | Engine::Convert => (instance, 0),
+            Engine::Check | Engine::Table => (instance, order),
+            Engine::Generate => (0, 0),
+        }
+    }
+}
+
+/// Runs `solve` by NEH alone.
+fn run_neh<R: Source, W: Sink>(
+    alloc: Global,
+    reader: &mut R,
+    writer: &mut W,
+) -> Result<Outcome, DeskFault>
+    requires reading { R.has_failed reader.old ≡ false }
+    requires writing { W.has_failed writer.old ≡ false }
+{
+    let options = SolveOptions {
+        rounds: 0,
+        take: None,
+        seed: 0,
+        cells: false,
+    };
+    run_solve(alloc, reader, Layout::Taillard, 1, &options, writer)
+}
+
+/// Checks that an engine whose reader has failed answers this, and has written nothing.
+fn assert_unread(
+    rt: &impl Abort,
+    writer: &Taken,
+    answer: Result<Outcome, DeskFault>,
+    fault: DeskFault,
+) {
+    assert_eq!(rt; answer, Err(fault));
+    assert_eq!(rt; status(&fault), 4);
+    assert_eq!(rt; writer.calls(), 0);
+}
+
+/// Checks that an engine has printed its whole text.
+fn assert_printed(
+    rt: &impl Abort,
+    engine: Engine,
+    writer: &Taken,
+    answer: Result<Outcome, DeskFault>,
+) {
+    assert_eq!(rt; answer, Ok(Outcome::Done), "{engine:?}");
+    assert_eq!(rt; writer.bytes(), engine.text(), "{engine:?}");
+}
+
+#[test]
+fn each_engine_reads_its_instance_up_to_the_end_of_the_block(rt: HostRuntime) {
+    for engine in READING {
+        for (most, calls) in READS {
+            for call in 1..CALLS {
+                let mut reader = Pieces::new(BY_MACHINE, most, Some(call));
+                let mut orders = Pieces::whole(ORDER);
+                let mut writer = Taken::new(256, 256);
+                let answer = engine.run(rt.alloc(), &mut reader, &mut orders, &mut writer);
+                assert_eq!(rt; reader.calls(), call.min(calls), "{engine:?}");
+                if call <= calls {
+                    let fault = DeskFault::Layout(LayoutFault::Read);
+                    assert_unread(&rt, &writer, answer, fault);
+                    assert_eq!(rt; orders.calls(), 0, "{engine:?}");
+                } else {
+                    assert_printed(&rt, engine, &writer, answer);
+                }
+            }
+        }
+    }
+}
+
+#[test]
+fn each_engine_reads_its_order_up_to_the_end(rt: HostRuntime) {
+    for engine in READING_ORDERS {
+        for (most, calls) in ORDER_READS {
+            for call in 1..CALLS {
+                let mut reader = Pieces::whole(BY_MACHINE);
+                let mut orders = Pieces::new(ORDER, most, Some(call));
+                let mut writer = Taken::new(256, 256);
+                let answer = engine.run(rt.alloc(), &mut reader, &mut orders, &mut writer);
+                let done = (reader.calls(), orders.calls());
+                assert_eq!(rt; done, (1, call.min(calls)), "{engine:?}");
+                if call <= calls {
+                    let fault = DeskFault::Order(OrderFault::Read);
+                    assert_unread(&rt, &writer, answer, fault);
+                } else {
+                    assert_printed(&rt, engine, &writer, answer);
+                }
+            }
+        }
+    }
+}
+
+#[test]
+fn each_engine_judges_its_instance_first(rt: HostRuntime) {
+    for engine in READING_ORDERS {
+        let mut reader = Pieces::new(BY_MACHINE, 256, Some(1));
+        let mut orders = Pieces::new(ORDER, 256, Some(1));
+        let mut writer = Taken::new(256, 256);
+        let answer = engine.run(rt.alloc(), &mut reader, &mut orders, &mut writer);
+        assert_unread(&rt, &writer, answer, DeskFault::Layout(LayoutFault::Read));
+        assert_eq!(rt; (reader.calls(), orders.calls()), (1, 0), "{engine:?}");
+    }
+}
+
+#[test]
+fn a_failed_read_ends_no_number(rt: HostRuntime) {
+    for engine in READING {
+        for kind in [ErrorKind::Interrupted, ErrorKind::Other] {
+            let error = Some(kind);
+            let mut reader = FromRead::new(BY_MACHINE[..120].chain(Broken { error }));
+            let mut orders = Pieces::whole(ORDER);
+            let mut writer = Taken::new(256, 256);
+            let answer = engine.run(rt.alloc(), &mut reader, &mut orders, &mut writer);
+            assert_unread(&rt, &writer, answer, DeskFault::Layout(LayoutFault::Read));
+            assert_eq!(rt; orders.calls(), 0, "{engine:?}");
+        }
+    }
+}
+
+#[test]
+fn each_engine_writes_up_to_the_end(rt: HostRuntime) {
+    for engine in ENGINES {
+        for most in [1, 5, 256] {
+            for call in 1..CALLS {
+                let mut reader = Pieces::whole(BY_MACHINE);
+                let mut orders = Pieces::whole(ORDER);
+                let mut writer = Taken::until(call, most);
+                let answer = engine.run(rt.alloc(), &mut reader, &mut orders, &mut writer);
+                let done = (reader.calls(), orders.calls());
+                assert_eq!(rt; done, engine.reads(1, 2), "{engine:?}");
+                match answer {
+                    Err(DeskFault::Write(fault)) => {
+                        assert_taken(&rt, &writer, engine.text(), call, Some(fault));
+                    }
+                    _ => {
+                        assert_printed(&rt, engine, &writer, answer);
+                        assert!(rt; writer.calls() < call, "{engine:?}");
+                    }
+                }
+            }
+        }
+    }
+}
+
+#[test]
+fn each_engine_works_a_byte_a_call(rt: HostRuntime) {
+    for engine in ENGINES {
+        let mut reader = Pieces::new(BY_MACHINE, 1, None);
+        let mut orders = Pieces::new(ORDER, 1, None);
+        let mut writer = Taken::new(256, 1);
+        let answer = engine.run(rt.alloc(), &mut reader, &mut orders, &mut writer);
+        assert_printed(&rt, engine, &writer, answer);
+        let done = (reader.calls(), orders.calls());
+        assert_eq!(rt; done, engine.reads(121, 27), "{engine:?}");
+        assert_eq!(rt; writer.calls(), engine.text().len() as u64, "{engine:?}");
+    }
+}
+
+/// Checks that an engine has written so many bytes of its text, and says how many.
+fn assert_stopped(
+    rt: &impl Abort,
+    engine: Engine,
+    taken: &[u8],
+    room: usize,
+    answer: Result<Outcome, DeskFault>,
+) {
+    let fault = DeskFault::Write(WriteFault {
+        written: room as u64,
+    });
+    assert_eq!(rt; answer, Err(fault), "{engine:?}");
+    assert_eq!(rt; status(&fault), 4);
+    assert_eq!(rt; taken.len(), room, "{engine:?}");
+    assert!(rt; engine.text().starts_with(taken), "{engine:?}");
+}
+
+#[test]
+fn each_engine_says_how_many_bytes_went_out(rt: HostRuntime) {
+    for engine in ENGINES {
+        for room in 0..engine.text().len() {
+            for most in [1, 3, 256] {
+                let mut reader = Pieces::whole(BY_MACHINE);
+                let mut orders = Pieces::whole(ORDER);
+                let mut writer = Taken::new(room, most);
+                let answer = engine.run(rt.alloc(), &mut reader, &mut orders, &mut writer);
+                assert_stopped(&rt, engine, writer.bytes(), room, answer);
+                assert!(rt; writer.failed(), "{engine:?}");
+            }
+        }
+    }
+}
+
+#[test]
+fn each_engine_stops_where_a_writer_takes_no_more(rt: HostRuntime) {
+    for engine in ENGINES {
+        for room in 0..engine.text().len() {
+            assert!(rt; room <= 256, "{engine:?}");
+            let mut printed = [b'.'; 256];
+            let mut reader = Pieces::whole(BY_MACHINE);
+            let mut orders = Pieces::whole(ORDER);
+            let mut writer = ToWrite::new(&mut printed[..room]);
+            let answer = engine.run(rt.alloc(), &mut reader, &mut orders, &mut writer);
+            assert_stopped(&rt, engine, &printed[..room], room, answer);
+        }
+    }
+}
