@@ -157,7 +157,7 @@ pub(crate) fn neh_call(rt: &HostRuntime) -> Result<(), Stop> {
     }
 }
 
-// A round behind NEH, by the words 0 and 0. Where it is refused, NEH's order stays.
+// A round behind NEH, by the words 0 and 0 and with one pass. Where either is refused, NEH's order stays.
 pub(crate) fn round_call(rt: &HostRuntime) -> Result<(), Stop> {
     let instance = three_jobs(rt.alloc())?;
     let mut bench = instance.metered();
@@ -165,7 +165,7 @@ pub(crate) fn round_call(rt: &HostRuntime) -> Result<(), Stop> {
     let mut searcher = Searcher::new(rt.alloc(), 3, inserter)?;
     let mut kept = Kept::new(Order::identity(rt.alloc(), 3)?, bench.zero());
     searcher.neh(rt.alloc(), &mut bench, &mut kept)?;
-    match searcher.round(rt.alloc(), &mut bench, &mut kept, &[0, 0], 0) {
+    match searcher.round(rt.alloc(), &mut bench, &mut kept, &[0, 0], 1) {
         Ok(()) => print_kept(rt, &bench, &kept),
         Err(SearchFault::Memory { done }) => print_refused(rt, &bench, &kept, done),
     }
