@@ -113,6 +113,7 @@ fn run_neh<R: Source, W: Sink>(
         rounds: 0,
         take: None,
         seed: 0,
+        passes: 0,
         cells: false,
     };
     run_solve(alloc, reader, Layout::Taillard, 1, &options, writer)
