@@ -205,7 +205,7 @@ pub(crate) fn turns_call(rt: &HostRuntime) -> Result<(), Stop> {
     let mut kept = Kept::new(Order::identity(rt.alloc(), 2)?, bench.zero());
     searcher.neh(rt.alloc(), &mut bench, &mut kept)?;
     let mut rng = Odds(1);
-    match searcher.rounds(rt.alloc(), &mut bench, &mut kept, 5, 1, &mut rng) {
+    match searcher.rounds(rt.alloc(), &mut bench, &mut kept, 5, 1, 0, &mut rng) {
         Ok(()) => {
             print_kept(rt, &bench, &kept)?;
             println!(rt; "next word {}", rng.next_u32())?;
@@ -219,7 +219,7 @@ pub(crate) fn turns_call(rt: &HostRuntime) -> Result<(), Stop> {
     }
 }
 
-// NEH and twenty rounds by heads and tails, where only what is made before them takes memory.
+// NEH and twenty rounds of one pass by heads and tails, where only what is made before them takes memory.
 pub(crate) fn search_call(rt: &HostRuntime) -> Result<(), Stop> {
     let instance = three_machines(rt.alloc())?;
     let mut bench = instance.metered();
@@ -232,7 +232,7 @@ pub(crate) fn search_call(rt: &HostRuntime) -> Result<(), Stop> {
     print_kept(rt, &bench, &kept)?;
     let mut rng = Odds(1);
     if searcher
-        .rounds(rt.alloc(), &mut bench, &mut kept, 20, 3, &mut rng)
+        .rounds(rt.alloc(), &mut bench, &mut kept, 20, 3, 1, &mut rng)
         .is_err()
     {
         return Err(Stop::Other);
