@@ -17,6 +17,7 @@ sys.dont_write_bytecode = True
 from command_lines import THREE_JOBS
 
 TOP = pathlib.Path(__file__).resolve().parent.parent
+README = (TOP / "README.md").read_text()
 PROGRAM = "crates/pfs/out/pfs"
 VALUE = ["value", "--layout", "taillard"]
 # Where each file goes below the prefix, and which one it is.
@@ -51,6 +52,18 @@ def run(*words, **how):
 def make(goal, *variables):
     # the program that was built last, whatever the files' times
     return run("make", "-s", "-C", TOP, "-o", PROGRAM, goal, *variables)
+
+
+def newest_libc():
+    """The newest version of the C library of which the program wants a symbol."""
+    versions = re.findall(rb"GLIBC_([0-9.]+)", (TOP / PROGRAM).read_bytes())
+    return max(versions, key=lambda version: [int(part) for part in version.split(b".")]).decode()
+
+
+def named_libraries():
+    """README names the libraries that the program needs beside the loader, and the version of the C library."""
+    check("the C library in README", True, f"GNU C library {newest_libc()} or newer" in README)
+    check("the libraries", ["libc.so.6"], re.findall(r"(\S+) => /", run("ldd", TOP / PROGRAM)))
 
 
 def files_below(folder):
@@ -145,6 +158,11 @@ def unpacked(folder, tarball):
     check("the commit in the tarball", True, run("git", "-C", TOP, "rev-parse", "HEAD").strip() in proved)
     check("the kit in the tarball", True, run("rt", "version").strip() in proved)
     runs("the tarball's program", top / "bin" / "pfs", folder)
+    # README's line, in another folder's place
+    (folder / "local").mkdir()
+    line = re.search("^sudo (tar .*)$", README, re.MULTILINE)[1].replace("/usr/local", str(folder / "local"))
+    run("bash", "-c", line, cwd=tarball.parent)
+    check("the tarball by README's line", True, found == files_below(folder / "local"))
 
 
 def packed(folder, package):
@@ -153,9 +171,7 @@ def packed(folder, package):
     sums = folder / "extracted" / "usr" / "share" / "doc" / "pfs" / "SHA256SUMS"
     sums_are_right("the package", folder / "extracted", sums)
     needs = run("dpkg-deb", "--field", package, "Depends")
-    symbols = re.findall(rb"GLIBC_([0-9.]+)", (TOP / PROGRAM).read_bytes())
-    newest = max(symbols, key=lambda version: [int(part) for part in version.split(b".")])
-    check("the C library that the package needs", f"libc6 (>= {newest.decode()})\n", needs)
+    check("the C library that the package needs", f"libc6 (>= {newest_libc()})\n", needs)
     if os.geteuid() != 0 or shutil.which("dpkg") is None:
         print("the package in an empty root: skipped, as this isn't root's dpkg")
         return
@@ -190,6 +206,7 @@ def main():
     with tempfile.TemporaryDirectory(prefix="pfs-installing-") as folder:
         folder = pathlib.Path(folder)
         installed(folder)
+        named_libraries()
         missing = list(missing_tools())
         if missing:
             print(f"tarball and package: skipped, as there is no {', '.join(missing)}")

@@ -151,6 +151,22 @@ def each_range(program, source):
         check(f"the range of generate {words}", wanted, status_of(program, "generate", *words))
 
 
+def each_default(program, source):
+    """An option with its default is as without, and one more changes what is printed."""
+    defaults = {words.split()[1][1:]: re.search(r"^The default is (\d+)", text, re.MULTILINE)
+                for words, text in source_items(source).items() if words.startswith("Fl -")}
+    defaults = {name: int(found[1]) for name, found in defaults.items() if found}
+    check("options with a default", ["block", "passes", "rounds", "seed", "take"], sorted(defaults))
+    with tempfile.TemporaryDirectory() as folder:
+        path = pathlib.Path(folder, "shop")
+        path.write_bytes(subprocess.run([program, "generate", "20", "5", "1"], capture_output=True).stdout)
+        for name, value in defaults.items():
+            call = [program, "solve", "--layout", "taillard", "--cells"] + ["--rounds=3"] * (name != "rounds")
+            without, same, other = (subprocess.run(call + words + [path], capture_output=True).stdout for words in
+                                    ([], [f"--{name}={value}"], [f"--{name}={value + 1}"]))
+            check(f"the default of {name}", (True, True, False), (without != b"", without == same, without == other))
+
+
 def each_limit(program, name, text):
     """The limits of an instance, as a page tells them. Where a size is within its limit the times are missing."""
     (_, jobs), (_, machines), (_, time) = ranges(text)[:3]
@@ -191,6 +207,7 @@ def main():
     links()
     source = PAGE.read_text()
     each_range(program, source)
+    each_default(program, source)
     each_limit(program, "pfs.1", source.partition("\n.Sh LIMITS\n")[2])
     each_limit(program, "README.md", (TOP / "README.md").read_text().partition("\nLimits: ")[2])
     faults()
