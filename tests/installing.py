@@ -19,6 +19,7 @@ from command_lines import THREE_JOBS
 TOP = pathlib.Path(__file__).resolve().parent.parent
 README = (TOP / "README.md").read_text()
 PROGRAM = "crates/pfs/out/pfs"
+BASH_COMPLETION = "/usr/share/bash-completion/bash_completion"
 VALUE = ["value", "--layout", "taillard"]
 # Where each file goes below the prefix, and which one it is.
 PLACES = {
@@ -76,6 +77,20 @@ def runs(name, program, folder):
     check(f"{name} runs", "makespan 11\n", run(program, *VALUE, folder / "three"))
 
 
+def found_by_shells(name, place, folder):
+    """What each shell finds of an installation, where its prefix is among those that it looks below. Zsh looks in
+    folders of its own alone, /usr/local/share/zsh/site-functions among them."""
+    env = dict(os.environ, PATH=f"{place}/bin:{os.environ['PATH']}", XDG_DATA_DIRS=f"{place}/share", HOME=str(folder))
+    if os.path.exists(BASH_COMPLETION):
+        words = f"source {BASH_COMPLETION}; __load_completion pfs; complete -p pfs"
+        check(f"bash, {name}", "complete -F _pfs pfs\n", run("bash", "--norc", "-c", words, env=env))
+    if shutil.which("fish"):
+        check(f"fish, {name}", ["solve"], run("fish", "-c", "complete -C 'pfs so'", env=env).split()[:1])
+    if shutil.which("zsh"):
+        places = run("zsh", "-f", "-c", "print -l $fpath").split()
+        check(f"zsh, {name}", True, "/usr/local/share/zsh/site-functions" in places)
+
+
 def installed(folder):
     """An installation has these files and no others, and leaves nothing but what was there before."""
     wanted = {place: (TOP / file).read_bytes() for place, file in PLACES.items()}
@@ -87,6 +102,7 @@ def installed(folder):
         for path in PLACES:
             check(f"mode of {path}", 0o755 if path == "bin/pfs" else 0o644, (place / path).stat().st_mode & 0o777)
         runs(f"installed at {prefix}", place / "bin" / "pfs", folder)
+        found_by_shells(f"completions at {prefix}", place, folder)
         make("uninstall", *variables)
         check(f"left of {prefix}", [], list((folder / "a place").iterdir()))
     place = folder / "prefix"
@@ -207,6 +223,8 @@ def main():
         folder = pathlib.Path(folder)
         installed(folder)
         named_libraries()
+        if not os.path.exists(BASH_COMPLETION):
+            print(f"how bash finds its completion: skipped, as there is no {BASH_COMPLETION}")
         missing = list(missing_tools())
         if missing:
             print(f"tarball and package: skipped, as there is no {', '.join(missing)}")
