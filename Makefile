@@ -8,9 +8,11 @@
 # make install    puts the program, the manual page and the completions below PREFIX, an absolute path (and that
 #                 below DESTDIR); it proves and builds first where the program isn't there or a source is newer
 # make uninstall  takes them away, and the folders that are empty then
-# make dist       a tarball and a Debian package for machines without the kit, in dist/ (needs git and dpkg-deb)
+# make dist       a tarball and a Debian package for machines without the kit, in the folder DIST (needs git and
+#                 dpkg-deb)
 .PHONY: run test fuzz install uninstall dist
 MINUTES = 5
+DIST = dist
 PREFIX = /usr/local
 ZSH_FOLDER = $(PREFIX)/share/zsh/site-functions
 PROGRAM = crates/pfs/out/pfs
@@ -42,4 +44,4 @@ uninstall:
 	cd "$(DESTDIR)/" && rmdir -p $(dir $(INSTALLED:/%=%)) 2> /dev/null || :
 
 dist: $(PROGRAM)
-	tools/dist dist
+	tools/dist "$(DIST)"

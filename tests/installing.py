@@ -50,9 +50,9 @@ def run(*words, **how):
     return done.stdout
 
 
-def make(goal, *variables):
+def make(goal, *variables, **how):
     # the program that was built last, whatever the files' times
-    return run("make", "-s", "-C", TOP, "-o", PROGRAM, goal, *variables)
+    return run("make", "-s", "-C", TOP, "-o", PROGRAM, goal, *variables, **how)
 
 
 def newest_libc():
@@ -116,8 +116,8 @@ def installed(folder):
 
 
 def made(folder, **environment):
-    """What `tools/dist` makes, by name. It is what `make dist` calls."""
-    run(TOP / "tools" / "dist", folder, cwd=folder, env=dict(os.environ) | environment)
+    """What `make dist` makes, by name."""
+    make("dist", f"DIST={folder}", env=dict(os.environ) | environment)
     return files_below(folder)
 
 
@@ -182,6 +182,8 @@ def unpacked(folder, tarball):
 
 
 def packed(folder, package):
+    owners = {line.split()[1] for line in run("dpkg-deb", "--contents", package).splitlines()}
+    check("the package's owners", {"root/root"}, owners)
     run("dpkg-deb", "--extract", package, folder / "extracted")
     runs("the package's program", folder / "extracted" / "usr" / "bin" / "pfs", folder)
     sums = folder / "extracted" / "usr" / "share" / "doc" / "pfs" / "SHA256SUMS"
@@ -214,8 +216,8 @@ def missing_tools():
     for tool in ("git", "rt", "dpkg-deb"):
         if shutil.which(tool) is None:
             yield tool
-    if subprocess.run(["git", "-C", TOP, "rev-parse", "HEAD"], capture_output=True).returncode != 0:
-        yield "a git repository"
+        elif tool == "git" and subprocess.run(["git", "-C", TOP, "rev-parse", "HEAD"], capture_output=True).returncode != 0:
+            yield "commit that git tells"
 
 
 def main():
