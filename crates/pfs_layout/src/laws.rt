@@ -87,7 +87,7 @@ pub fn generated_within()
 
 /// Two readers of one block and layout that stand after the same bytes give the answer that the bytes
 /// have, however they were cut for each.
-#[tactic(auto, using(crate::proofs::CuttingLemmas::same_answers))]
+#[tactic(auto, using(crate::proofs::Reading::CuttingLemmas::same_answers))]
 pub fn cutting(
     one: BlockReader,
     other: BlockReader,

@@ -18,7 +18,7 @@ use Rattle.pfs_layout.specs.Lines.{ended_parts, open_part, ended_lines, open_lin
 use Rattle.pfs_layout.specs.Block.{Due, any_time, machine_number, nothing, is_due, due_at, are_due, stated_size, due_count}
 use Rattle.pfs_layout.specs.Stand.{Block, Now, seeking, inside, lost, Stand, after_size, after_numbers, after_line, stand_after, stand}
 use Rattle.pfs_layout.specs.Refuse.{mixed_line, misfit, ends_line, ends_number, wrong_number, size_fault, wrong_size, too_long, ends_early, faults, fault_behind, byte_fault}
-use Rattle.pfs_layout.proofs.LineLemmas.{ended_parts-push, open_part-push, ended_numbers-push, numbers_is}
+use Rattle.pfs_layout.proofs.Files.LineLemmas.{ended_parts-push, open_part-push, ended_numbers-push, numbers_is}
 use Rattle.pfs_layout.proofs.Published.PlaceLemmas.{byte_fault-push}
 
 -- ---- options

@@ -18,12 +18,12 @@ use Rattle.pfs_layout.specs.Lines.{lines, ended_lines, open_line, ended_parts}
 use Rattle.pfs_layout.specs.Stand.{Block, Now, seeking, inside, lost, Stand, after_line, stand_after, stand, instance_of}
 use Rattle.pfs_layout.specs.Refuse.{too_long, mixed_line, wrong_number, wrong_size, missing, ends_early, faults, fault_behind, fault_at, refusal, accepted}
 use Rattle.pfs_layout.specs.Laws.{Completes}
-use Rattle.pfs_layout.proofs.LineLemmas.{open_part-push}
+use Rattle.pfs_layout.proofs.Files.LineLemmas.{open_part-push}
 use Rattle.pfs_layout.proofs.Published.PlaceLemmas.{fault_at-append, fault_at-byte, fault_at-end, no_byte_fault, no_fault, not_refused, slice_get-at}
-use Rattle.pfs_layout.proofs.SoundLemmas.{then_some_none, first_none, GoodNow, good_end, same_last, stand-push, stand_of, stand_of-push, sound}
-use Rattle.pfs_layout.proofs.CutLemmas.{lines_are, lines-line}
-use Rattle.pfs_layout.proofs.GrowLemmas.{OneLine, one_line, Extends, grows, fewer_before, no_end, line_on, stand_from, stays_lost}
-use Rattle.pfs_layout.proofs.LoseLemmas.{LineAt, ends_here, goes_on, loses}
+use Rattle.pfs_layout.proofs.Files.SoundLemmas.{then_some_none, first_none, GoodNow, good_end, same_last, stand-push, stand_of, stand_of-push, sound}
+use Rattle.pfs_layout.proofs.Files.CutLemmas.{lines_are, lines-line}
+use Rattle.pfs_layout.proofs.Files.GrowLemmas.{OneLine, one_line, Extends, grows, fewer_before, no_end, line_on, stand_from, stays_lost}
+use Rattle.pfs_layout.proofs.Files.LoseLemmas.{LineAt, ends_here, goes_on, loses}
 
 -- the lines of a text that ends with a line end, and of one that doesn't
 lines_ended : (text : List ℕ) → is_empty (open_line text) ≡ true → lines text ≡ ended_lines text

@@ -16,10 +16,10 @@ use Rattle.pfs_layout.specs.Lines.{is_mixed, is_number_line, is_no_digit, values
 use Rattle.pfs_layout.specs.Block.{is_due, due_at, are_due, due, stated_size, due_count}
 use Rattle.pfs_layout.specs.Stand.{Block, Now, seeking, inside, lost, Stand, after_size, after_numbers, stand_after}
 use Rattle.pfs_layout.specs.File.{AreBlocks, IsSomeBlock, IsBlock}
-use Rattle.pfs_layout.proofs.LineLemmas.{open_part-push, ended_numbers-push, numbers_is}
-use Rattle.pfs_layout.proofs.SoundLemmas.{values_last}
-use Rattle.pfs_layout.proofs.SizeLemmas.{within_size}
-use Rattle.pfs_layout.proofs.DueLemmas.{due_passes, length-due}
+use Rattle.pfs_layout.proofs.Files.LineLemmas.{open_part-push, ended_numbers-push, numbers_is}
+use Rattle.pfs_layout.proofs.Files.SoundLemmas.{values_last}
+use Rattle.pfs_layout.proofs.Files.SizeLemmas.{within_size}
+use Rattle.pfs_layout.proofs.Files.DueLemmas.{due_passes, length-due}
 
 -- a line with a digit has a number
 numbers_some : (line : List ℕ) → list_any is_digit line ≡ true → 0 < length (numbers line)

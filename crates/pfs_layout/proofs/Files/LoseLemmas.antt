@@ -17,10 +17,10 @@ use Rattle.pfs_layout.specs.Lines.{open_line, is_mixed, is_number_line, is_no_di
 use Rattle.pfs_layout.specs.Block.{Due, any_time, machine_number, nothing, is_due, due_at, are_due, stated_size, due_count}
 use Rattle.pfs_layout.specs.Stand.{Block, Now, seeking, inside, lost, Stand, after_size, after_numbers, after_line}
 use Rattle.pfs_layout.specs.Refuse.{ends_line, ends_number, too_long, mixed_line, misfit, wrong_number, size_fault, wrong_size, ends_early, faults}
-use Rattle.pfs_layout.proofs.LineLemmas.{IsSome, split_some, numbers_is, values-append}
-use Rattle.pfs_layout.proofs.SoundLemmas.{values_last, same_last}
-use Rattle.pfs_layout.proofs.BlockLemmas.{are_due_front}
-use Rattle.pfs_layout.proofs.RoundLemmas.{due_number}
+use Rattle.pfs_layout.proofs.Files.LineLemmas.{IsSome, split_some, numbers_is, values-append}
+use Rattle.pfs_layout.proofs.Files.SoundLemmas.{values_last, same_last}
+use Rattle.pfs_layout.proofs.Files.BlockLemmas.{are_due_front}
+use Rattle.pfs_layout.proofs.Files.RoundLemmas.{due_number}
 
 -- ---- numbers on both sides of a byte that is no digit
 

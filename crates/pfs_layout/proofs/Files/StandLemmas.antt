@@ -15,10 +15,10 @@ use Rattle.pfs_layout.specs.Lines.{is_mixed, is_number_line, is_no_digit, values
 use Rattle.pfs_layout.specs.Block.{stated_size, due_count, are_due}
 use Rattle.pfs_layout.specs.File.{IsBlock}
 use Rattle.pfs_layout.specs.Stand.{Block, Now, seeking, inside, lost, Stand, after_size, after_numbers, after_line, stand_after, stand, instance_of}
-use Rattle.pfs_layout.proofs.LineLemmas.{numbers_is, ended_numbers-push, open_part-push}
-use Rattle.pfs_layout.proofs.SizeLemmas.{size_within}
-use Rattle.pfs_layout.proofs.SoundLemmas.{stand-push}
-use Rattle.pfs_layout.proofs.RoundLemmas.{due_instance, instance_within}
+use Rattle.pfs_layout.proofs.Files.LineLemmas.{numbers_is, ended_numbers-push, open_part-push}
+use Rattle.pfs_layout.proofs.Files.SizeLemmas.{size_within}
+use Rattle.pfs_layout.proofs.Files.SoundLemmas.{stand-push}
+use Rattle.pfs_layout.proofs.Files.RoundLemmas.{due_instance, instance_within}
 
 -- ---- a line without a digit has no number
 
