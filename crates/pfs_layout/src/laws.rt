@@ -3,7 +3,8 @@ ghost use Rattle.std.specs.Prelude.{◌≡◌, ℕ, List};
 ghost use Rattle.pfs_layout.specs.Reader.{StandsAfter, FinishMeets};
 ghost use Rattle.pfs_layout.specs.CanonicalText.{CanonicalLaw};
 ghost use Rattle.pfs_layout.specs.Generator.{SeedsStay, GeneratedWithin};
-ghost use Rattle.pfs_layout.specs.Laws.{FileStands, SomeFile, OneVerdict, OneFault, RefusalLaw, AcceptedLaw, FaultStays, ByteFaultLaw, FreeBehind, WiderLimits, DueAndBack, DueFronts};
+ghost use Rattle.pfs_layout.specs.Laws.{FileStands, SomeFile, OneVerdict, OneFault, RefusalLaw, AcceptedLaw};
+ghost use Rattle.pfs_layout.specs.Laws.{FaultStays, ByteFaultLaw, FreeBehind, WiderLimits, DueAndBack, DueFronts};
 
 use crate::LayoutFault;
 use crate::reader::BlockReader;
