@@ -10,10 +10,10 @@ use Rattle.pfs_layout.specs.Lines.{lines, open_line}
 use Rattle.pfs_layout.specs.File.{IsBlock, IsSomeBlock, File}
 use Rattle.pfs_layout.specs.Stand.{Block, seeking, stand, instance_of}
 use Rattle.pfs_layout.specs.Laws.{Completes, FileStands}
-use Rattle.pfs_layout.proofs.BlockLemmas.{file_leads}
-use Rattle.pfs_layout.proofs.CutLemmas.{Front, front_of_lines}
-use Rattle.pfs_layout.proofs.RoundLemmas.{block_of, instance_due}
-use Rattle.pfs_layout.proofs.StandLemmas.{AreOf, IsMade, made}
+use Rattle.pfs_layout.proofs.Files.BlockLemmas.{file_leads}
+use Rattle.pfs_layout.proofs.Files.CutLemmas.{Front, front_of_lines}
+use Rattle.pfs_layout.proofs.Files.RoundLemmas.{block_of, instance_due}
+use Rattle.pfs_layout.proofs.Files.StandLemmas.{AreOf, IsMade, made}
 
 pub file_completes : (layout : Layout) (input : List ℕ) (k : ℕ) (problem : Problem) → File limits layout input k problem → Completes layout input k problem
 unfolding stand

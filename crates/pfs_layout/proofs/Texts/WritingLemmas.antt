@@ -14,7 +14,7 @@ use Rattle.pfs_layout.specs.declared.layout.Layout.{Layout}
 use Rattle.pfs_layout.specs.declared.layout.Layout.TheVariants.{Taillard, OrLib}
 use Rattle.pfs_layout.specs.Block.{due_row, row_count}
 use Rattle.pfs_layout.specs.CanonicalText.{row_line, row_lines}
-use Rattle.pfs_layout.proofs.DueLemmas.{get_or-rows, length-due_row, row_width, pairs_of}
+use Rattle.pfs_layout.proofs.Files.DueLemmas.{get_or-rows, length-due_row, row_width, pairs_of}
 
 -- the first numbers of a row's line
 abbrev pub row_begun : Layout → FlowShop → ℕ → ℕ → List ℕ

@@ -23,15 +23,15 @@ use Rattle.pfs_layout.specs.File.{File}
 use Rattle.pfs_layout.specs.Refuse.{Refuse, byte_fault}
 use Rattle.pfs_layout.specs.Step.{is_live}
 use Rattle.pfs_layout.specs.Reader.{Follows, IsRefused, StandsIn, StandsAfter, EndsWantedSize, FeedMeets, FinishMeets, IsUndecided, ReadsAsFar, Reading}
-use Rattle.pfs_layout.proofs.EndLemmas.{byte_fault_refuses, free_behind}
-use Rattle.pfs_layout.proofs.InputFaults.{is_input_fault}
-use Rattle.pfs_layout.proofs.SoundLemmas.{stand_of}
-use Rattle.pfs_layout.proofs.ByteSteps.{live_few}
-use Rattle.pfs_layout.proofs.ToldLemmas.{told}
-use Rattle.pfs_layout.proofs.ReadNames.{finish_named, feed_named}
-use Rattle.pfs_layout.proofs.ReaderLemmas.{live_follows}
-use Rattle.pfs_layout.proofs.FeedLemmas.{refused_fault, done_enough}
-use Rattle.pfs_layout.proofs.OutcomeLemmas.{finish_done}
+use Rattle.pfs_layout.proofs.Files.EndLemmas.{byte_fault_refuses, free_behind}
+use Rattle.pfs_layout.proofs.Files.InputFaults.{is_input_fault}
+use Rattle.pfs_layout.proofs.Files.SoundLemmas.{stand_of}
+use Rattle.pfs_layout.proofs.Reading.ByteSteps.{live_few}
+use Rattle.pfs_layout.proofs.Reading.ToldLemmas.{told}
+use Rattle.pfs_layout.proofs.Reading.ReadNames.{finish_named, feed_named}
+use Rattle.pfs_layout.proofs.Reading.ReaderLemmas.{live_follows}
+use Rattle.pfs_layout.proofs.Reading.FeedLemmas.{refused_fault, done_enough}
+use Rattle.pfs_layout.proofs.Reading.OutcomeLemmas.{finish_done}
 
 pub reading_start : (layout : Layout) (k : ℕ) (first : Option (List ℕ)) (r : Fields) → r.layout ≡ layout → r.wanted ≡ k → is_live r.phase ≡ true → StandsAfter r [] → Reading layout k first first r
 reading_start layout k first r e w live s = record { layout_is = e; wanted_is = w; live = live; front = []; stands = s; told = λ text t. (text, t, refl) }

@@ -6,8 +6,8 @@ use Rattle.std.proofs.lemmas.List.{append_assoc, append-nil}
 use Rattle.pfs_base.specs.Lists.{is_empty, last_of, all_but_last}
 use Rattle.pfs_layout.specs.Bytes.{is_line_end}
 use Rattle.pfs_layout.specs.Lines.{lines, ended_parts, open_part, ended_lines, open_line}
-use Rattle.pfs_layout.proofs.SoundLemmas.{open_line-none}
-use Rattle.pfs_layout.proofs.LineLemmas.{split_some}
+use Rattle.pfs_layout.proofs.Files.SoundLemmas.{open_line-none}
+use Rattle.pfs_layout.proofs.Files.LineLemmas.{split_some}
 
 cons_same : {A : Type 0} (x y : A) (xs ys : List A) → x ∷ xs ≡ y ∷ ys → (x ≡ y) × (xs ≡ ys)
 cons_same x y xs ys e = (cc, cc)

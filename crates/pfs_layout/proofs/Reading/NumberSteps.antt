@@ -22,8 +22,8 @@ use Rattle.pfs_layout.specs.Stand.{Block, Now, seeking, inside, lost, place_of_t
 use Rattle.pfs_layout.specs.Refuse.{misfit}
 use Rattle.pfs_layout.specs.Step.{times_in, is_live, after_time, after_machine, is_machine_due, refused, counted, stored, with_number, time_judged, machine_judged, body_judged, number_ended_in, number_ended}
 use Rattle.pfs_layout.specs.Reader.{block_of, time_count, IsNextTime, FollowsBody, FollowsBlocks}
-use Rattle.pfs_layout.proofs.SizeLemmas.{size_within}
-use Rattle.pfs_layout.proofs.NumberLemmas.{holds_push, time_behind, machine_behind, Keeping, keeping_time, keeping_machine}
+use Rattle.pfs_layout.proofs.Files.SizeLemmas.{size_within}
+use Rattle.pfs_layout.proofs.Reading.NumberLemmas.{holds_push, time_behind, machine_behind, Keeping, keeping_time, keeping_machine}
 
 -- the fault, or what the fields say with the number
 abbrev pub NumberOutcome : Bool → Fields → List Block → Now → List ℕ → ℕ → Fields → Option LayoutFault → Type 0

@@ -14,7 +14,7 @@ use Rattle.pfs_layout.specs.Size.{Size}
 use Rattle.pfs_layout.specs.Stand.{Block, times_among, place_of_time, instance_of}
 use Rattle.pfs_layout.specs.Step.{times_in, with_number, next_of, after_time, after_machine, with_problem_time}
 use Rattle.pfs_layout.specs.Reader.{time_count, HoldsNumbers, FollowsBody}
-use Rattle.pfs_layout.proofs.TableLemmas.{instance_of-time, instance_of-machine, length-times_among}
+use Rattle.pfs_layout.proofs.Reading.TableLemmas.{instance_of-time, instance_of-machine, length-times_among}
 
 -- ---- a line that may be a size line
 

@@ -14,7 +14,7 @@ use Rattle.pfs_layout.specs.Bytes.{is_digit, is_blank, is_line_end, is_word_byte
 use Rattle.pfs_layout.specs.Lines.{open_line, is_no_digit, last_digits}
 use Rattle.pfs_layout.specs.Step.{digits_after, kinds_after}
 use Rattle.pfs_layout.specs.Reader.{FollowsLine}
-use Rattle.pfs_layout.proofs.LineLemmas.{open_part-push}
+use Rattle.pfs_layout.proofs.Files.LineLemmas.{open_part-push}
 
 value_after-push : (n : ℕ) (ds : List ℕ) (b : ℕ) → digits_value_after 10 n (ds ++ b ∷ []) ≡ digits_value_after 10 n ds * 10 + digit_value b
 value_after-push n [] b = refl

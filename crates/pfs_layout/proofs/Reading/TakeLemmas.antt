@@ -15,11 +15,11 @@ use Rattle.pfs_layout.specs.Lines.{ended_lines, open_line, ended_numbers}
 use Rattle.pfs_layout.specs.Stand.{Block, Now, seeking, inside, lost, Stand, stand}
 use Rattle.pfs_layout.specs.Step.{is_live, digits_after, kinds_after, judged, with_line, stepped, KeepsHeld, LacksMemory, IsReady, is_in_block, refused, last_number_ended}
 use Rattle.pfs_layout.specs.Reader.{block_begun_by, block_of, time_count, FollowsNow, Follows, StandsAfter, EndsWantedSize, TakeMeets}
-use Rattle.pfs_layout.proofs.SoundLemmas.{stand_of}
-use Rattle.pfs_layout.proofs.StepLemmas.{live-memory, refused_memory}
-use Rattle.pfs_layout.proofs.StaleLemmas.{stale_line}
-use Rattle.pfs_layout.proofs.ByteSteps.{live_few, judged_digit}
-use Rattle.pfs_layout.proofs.ReaderLemmas.{carries, live_follows, step_stands, follows_ready}
+use Rattle.pfs_layout.proofs.Files.SoundLemmas.{stand_of}
+use Rattle.pfs_layout.proofs.Reading.StepLemmas.{live-memory, refused_memory}
+use Rattle.pfs_layout.proofs.Reading.StaleLemmas.{stale_line}
+use Rattle.pfs_layout.proofs.Reading.ByteSteps.{live_few, judged_digit}
+use Rattle.pfs_layout.proofs.Reading.ReaderLemmas.{carries, live_follows, step_stands, follows_ready}
 
 -- a live reader behind the first bytes of a piece
 pub record TakenTo (old now : Fields) (piece : List ℕ) (i : ℕ) : Type 0 where

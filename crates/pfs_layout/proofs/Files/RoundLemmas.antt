@@ -19,8 +19,8 @@ use Rattle.pfs_layout.specs.Size.{Size, size_of, is_within_limits}
 use Rattle.pfs_layout.specs.Block.{any_time, machine_number, is_due, due_at, are_due, due, due_count}
 use Rattle.pfs_layout.specs.File.{IsInstance}
 use Rattle.pfs_layout.specs.Stand.{Block, place_of_time, instance_of}
-use Rattle.pfs_layout.proofs.SizeLemmas.{size_within}
-use Rattle.pfs_layout.proofs.DueLemmas.{length-rows, get_or-rows, at_row, some_factor, taillard_at, orlib_at, length-due, time_due, pairs_of, pair_at, IsInPair, in_pair}
+use Rattle.pfs_layout.proofs.Files.SizeLemmas.{size_within}
+use Rattle.pfs_layout.proofs.Files.DueLemmas.{length-rows, get_or-rows, at_row, some_factor, taillard_at, orlib_at, length-due, time_due, pairs_of, pair_at, IsInPair, in_pair}
 
 -- ---- the times of a complete block
 

@@ -13,9 +13,9 @@ use Rattle.pfs_layout.specs.Size.{Size}
 use Rattle.pfs_layout.specs.Block.{any_time, machine_number, nothing, is_due, due_at, are_due, due, due_count}
 use Rattle.pfs_layout.specs.Stand.{Block, instance_of}
 use Rattle.pfs_layout.specs.Laws.{BeginDue, DueFronts}
-use Rattle.pfs_layout.proofs.BlockLemmas.{are_due_front}
-use Rattle.pfs_layout.proofs.DueLemmas.{at_row, some_factor, due_passes}
-use Rattle.pfs_layout.proofs.RoundLemmas.{length-times, time_at, due_number, length-due_instance, due_instance, times_short}
+use Rattle.pfs_layout.proofs.Files.BlockLemmas.{are_due_front}
+use Rattle.pfs_layout.proofs.Files.DueLemmas.{at_row, some_factor, due_passes}
+use Rattle.pfs_layout.proofs.Files.RoundLemmas.{length-times, time_at, due_number, length-due_instance, due_instance, times_short}
 
 are_due_by_place : (layout : Layout) (size : Size) (numbers : List ℕ) → ((k : ℕ) → k < length numbers → is_due (due_at layout size k) (get_or numbers k 0) ≡ true) → are_due layout size numbers ≡ true
 unfolding are_due

@@ -15,8 +15,8 @@ use Rattle.pfs_layout.specs.declared.layout.Layout.TheVariants.{Taillard, OrLib}
 use Rattle.pfs_layout.specs.Size.{Size, size_of}
 use Rattle.pfs_layout.specs.Block.{due_row, row_count}
 use Rattle.pfs_layout.specs.CanonicalText.{head_lines, row_line, row_lines, canonical_text}
-use Rattle.pfs_layout.proofs.DueLemmas.{length-due_row, row_width, pairs_of, at_row, short_at}
-use Rattle.pfs_layout.proofs.WritingLemmas.{time_in_row, pair_in_row}
+use Rattle.pfs_layout.proofs.Files.DueLemmas.{length-due_row, row_width, pairs_of, at_row, short_at}
+use Rattle.pfs_layout.proofs.Texts.WritingLemmas.{time_in_row, pair_in_row}
 
 -- the numbers are of 64 bits
 abbrev pub AllFit : List ℕ → Type 0

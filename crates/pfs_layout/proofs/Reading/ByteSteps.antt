@@ -22,9 +22,9 @@ use Rattle.pfs_layout.specs.Stand.{Block, Now, seeking, inside, lost, Stand, sta
 use Rattle.pfs_layout.specs.Refuse.{mixed_line, misfit, wrong_number, size_fault, wrong_size, ends_early, faults, fault_behind}
 use Rattle.pfs_layout.specs.Step.{is_live, is_in_block, refused, last_number_ended, line_ended, judged}
 use Rattle.pfs_layout.specs.Reader.{FollowsLine, FollowsNow, FollowsBlocks}
-use Rattle.pfs_layout.proofs.SoundLemmas.{GoodNow}
-use Rattle.pfs_layout.proofs.LineSteps.{Refuses}
-use Rattle.pfs_layout.proofs.ScanLemmas.{digit-no_line_end, digit_is}
+use Rattle.pfs_layout.proofs.Files.SoundLemmas.{GoodNow}
+use Rattle.pfs_layout.proofs.Reading.LineSteps.{Refuses}
+use Rattle.pfs_layout.proofs.Reading.ScanLemmas.{digit-no_line_end, digit_is}
 
 -- ---- the fault of a place
 

@@ -17,10 +17,10 @@ use Rattle.pfs_layout.specs.Block.{due_count, are_due}
 use Rattle.pfs_layout.specs.Stand.{Block, Now, seeking, inside, lost, Stand, after_line, stand_after, stand}
 use Rattle.pfs_layout.specs.Refuse.{byte_fault}
 use Rattle.pfs_layout.specs.Reader.{block_begun_by, block_of, block_read, time_count, known_size, most_times, HoldsFew, Follows, StandsIn, StandsAfter, FeedMeets}
-use Rattle.pfs_layout.proofs.SoundLemmas.{GoodNow, stand-push, stand_of, sound}
-use Rattle.pfs_layout.proofs.TableLemmas.{length-times_among}
-use Rattle.pfs_layout.proofs.FrontLemmas.{due_few}
-use Rattle.pfs_layout.proofs.StepLemmas.{refused_memory}
+use Rattle.pfs_layout.proofs.Files.SoundLemmas.{GoodNow, stand-push, stand_of, sound}
+use Rattle.pfs_layout.proofs.Reading.TableLemmas.{length-times_among}
+use Rattle.pfs_layout.proofs.Files.FrontLemmas.{due_few}
+use Rattle.pfs_layout.proofs.Reading.StepLemmas.{refused_memory}
 
 -- ---- a block that isn't longer than it is due
 

@@ -25,10 +25,10 @@ use Rattle.pfs_layout.specs.Stand.{Block, seeking, inside, lost, Stand, stand, s
 use Rattle.pfs_layout.specs.Refuse.{too_long, misfit, wrong_number, size_fault, wrong_size, missing, ends_early}
 use Rattle.pfs_layout.specs.Step.{stated_by, times_in, end_fault_in, end_fault}
 use Rattle.pfs_layout.specs.Reader.{FollowsBody, FollowsBlocks}
-use Rattle.pfs_layout.proofs.TableLemmas.{length-times_among}
-use Rattle.pfs_layout.proofs.NumberSteps.{keeping_of}
-use Rattle.pfs_layout.proofs.LineSteps.{Clips, clips, same_within, full_or_not, no_times}
-use Rattle.pfs_layout.proofs.EndSteps.{number_fault}
+use Rattle.pfs_layout.proofs.Reading.TableLemmas.{length-times_among}
+use Rattle.pfs_layout.proofs.Reading.NumberSteps.{keeping_of}
+use Rattle.pfs_layout.proofs.Reading.LineSteps.{Clips, clips, same_within, full_or_not, no_times}
+use Rattle.pfs_layout.proofs.Reading.EndSteps.{number_fault}
 
 -- ---- where all lines lead
 

@@ -27,18 +27,18 @@ use Rattle.pfs_layout.specs.Stand.{Block, Now, seeking, inside, lost, Stand, sta
 use Rattle.pfs_layout.specs.Refuse.{fault_behind, byte_fault}
 use Rattle.pfs_layout.specs.Step.{is_live, is_in_block, refused, digits_after, kinds_after, number_ended, last_number_ended, line_ended, judged, with_line, stepped, CanCount, IsReady, times_in}
 use Rattle.pfs_layout.specs.Reader.{block_read, time_count, FollowsBody, FollowsNow, FollowsBlocks, Follows, StandsIn, StandsAfter, IsReader}
-use Rattle.pfs_layout.proofs.LineLemmas.{open_part-push, ended_numbers-push}
+use Rattle.pfs_layout.proofs.Files.LineLemmas.{open_part-push, ended_numbers-push}
 use Rattle.pfs_layout.proofs.Published.PlaceLemmas.{byte_fault-push}
-use Rattle.pfs_layout.proofs.SoundLemmas.{GoodNow, stand_of, stand_of-push, sound}
-use Rattle.pfs_layout.proofs.StepLemmas.{live-memory, keeps_last, KeepsNumbers, keeps_numbers, ends_line}
-use Rattle.pfs_layout.proofs.SizeLemmas.{size_within}
-use Rattle.pfs_layout.proofs.TableLemmas.{length-times_among}
-use Rattle.pfs_layout.proofs.NumberLemmas.{Keeping}
-use Rattle.pfs_layout.proofs.NumberSteps.{keeping_of}
-use Rattle.pfs_layout.proofs.LineSteps.{Refuses}
-use Rattle.pfs_layout.proofs.ScanLemmas.{count_push, line_push, digit-no_line_end}
-use Rattle.pfs_layout.proofs.ByteSteps.{fault_in, place_fault, live_few, ByteOutcome, digit_byte, judged_digit, judged_word, judged_blank}
-use Rattle.pfs_layout.proofs.EndSteps.{word_byte, blank_byte, end_byte}
+use Rattle.pfs_layout.proofs.Files.SoundLemmas.{GoodNow, stand_of, stand_of-push, sound}
+use Rattle.pfs_layout.proofs.Reading.StepLemmas.{live-memory, keeps_last, KeepsNumbers, keeps_numbers, ends_line}
+use Rattle.pfs_layout.proofs.Files.SizeLemmas.{size_within}
+use Rattle.pfs_layout.proofs.Reading.TableLemmas.{length-times_among}
+use Rattle.pfs_layout.proofs.Reading.NumberLemmas.{Keeping}
+use Rattle.pfs_layout.proofs.Reading.NumberSteps.{keeping_of}
+use Rattle.pfs_layout.proofs.Reading.LineSteps.{Refuses}
+use Rattle.pfs_layout.proofs.Reading.ScanLemmas.{count_push, line_push, digit-no_line_end}
+use Rattle.pfs_layout.proofs.Reading.ByteSteps.{fault_in, place_fault, live_few, ByteOutcome, digit_byte, judged_digit, judged_word, judged_blank}
+use Rattle.pfs_layout.proofs.Reading.EndSteps.{word_byte, blank_byte, end_byte}
 
 -- ---- what a byte leaves as it is
 

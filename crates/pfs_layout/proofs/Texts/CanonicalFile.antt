@@ -26,10 +26,10 @@ use Rattle.pfs_layout.specs.Size.{size_of}
 use Rattle.pfs_layout.specs.Block.{due_row, row_count, due, stated_size}
 use Rattle.pfs_layout.specs.File.{IsInstance, IsBody, IsBlock}
 use Rattle.pfs_layout.specs.CanonicalText.{head_lines, row_lines, canonical_text, as_written, CanonicalLaw}
-use Rattle.pfs_layout.proofs.LineLemmas.{split_is}
-use Rattle.pfs_layout.proofs.SoundLemmas.{values_last}
-use Rattle.pfs_layout.proofs.DueLemmas.{length-due_row, row_width}
-use Rattle.pfs_layout.proofs.CanonicalLemmas.{AllFit, fit_more, row_fits, title, size_numbers, times_title, sizes_fit, length-head_lines, length-row_lines}
+use Rattle.pfs_layout.proofs.Files.LineLemmas.{split_is}
+use Rattle.pfs_layout.proofs.Files.SoundLemmas.{values_last}
+use Rattle.pfs_layout.proofs.Files.DueLemmas.{length-due_row, row_width}
+use Rattle.pfs_layout.proofs.Texts.CanonicalLemmas.{AllFit, fit_more, row_fits, title, size_numbers, times_title, sizes_fit, length-head_lines, length-row_lines}
 
 -- ---- bytes of a line of numbers
 

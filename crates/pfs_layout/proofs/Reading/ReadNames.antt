@@ -8,8 +8,8 @@ use Rattle.pfs_layout.specs.declared.fields.Fields.{Fields}
 use Rattle.pfs_layout.specs.declared.fields.Progress.{Progress}
 use Rattle.pfs_layout.specs.Refuse.{byte_fault}
 use Rattle.pfs_layout.specs.Reader.{FeedMeets, FinishMeets}
-use Rattle.pfs_layout.proofs.InputFaults.{is_input_fault, refused_input}
-use Rattle.pfs_layout.proofs.EndLemmas.{byte_fault_refuses}
+use Rattle.pfs_layout.proofs.Files.InputFaults.{is_input_fault, refused_input}
+use Rattle.pfs_layout.proofs.Files.EndLemmas.{byte_fault_refuses}
 
 -- the end of an input has no fault but those of inputs
 pub finish_named : (r : Fields) (text : List ℕ) (outcome : Result Problem LayoutFault) (fault : LayoutFault) → FinishMeets r text outcome → is_input_fault fault ≡ false → outcome ≢ Err fault

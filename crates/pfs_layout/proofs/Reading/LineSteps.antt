@@ -24,8 +24,8 @@ use Rattle.pfs_layout.specs.Stand.{Block, seeking, inside, lost, Stand, after_si
 use Rattle.pfs_layout.specs.Refuse.{size_fault}
 use Rattle.pfs_layout.specs.Step.{stated_by, body_of, empty_problem, block_begun, size_judged, size_line_ended, block_ended, no_numbers, at_next_line, line_ended_in, line_ended}
 use Rattle.pfs_layout.specs.Reader.{block_of, time_count, HoldsNumbers, FollowsBody, FollowsBlocks}
-use Rattle.pfs_layout.proofs.SizeLemmas.{size_within}
-use Rattle.pfs_layout.proofs.TableLemmas.{instance_of-none}
+use Rattle.pfs_layout.proofs.Files.SizeLemmas.{size_within}
+use Rattle.pfs_layout.proofs.Reading.TableLemmas.{instance_of-none}
 
 -- ---- what a size line states
 

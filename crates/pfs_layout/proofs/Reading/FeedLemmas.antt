@@ -26,12 +26,12 @@ use Rattle.pfs_layout.specs.Refuse.{too_long, mixed_line, misfit, wrong_number, 
 use Rattle.pfs_layout.specs.Step.{is_live, refused}
 use Rattle.pfs_layout.specs.Reader.{block_read, FollowsNow, Follows, IsRefused, StandsIn, StandsAfter, IsReader, TakeMeets, FeedMeets, progress_of, EndsWantedSize}
 use Rattle.pfs_layout.proofs.Published.PlaceLemmas.{byte_fault-push}
-use Rattle.pfs_layout.proofs.SoundLemmas.{stand_of}
-use Rattle.pfs_layout.proofs.GrowLemmas.{fewer_before}
-use Rattle.pfs_layout.proofs.EndLemmas.{byte_fault-more}
-use Rattle.pfs_layout.proofs.StepLemmas.{live-memory}
-use Rattle.pfs_layout.proofs.ByteSteps.{live_few}
-use Rattle.pfs_layout.proofs.ReaderLemmas.{live_follows}
+use Rattle.pfs_layout.proofs.Files.SoundLemmas.{stand_of}
+use Rattle.pfs_layout.proofs.Files.GrowLemmas.{fewer_before}
+use Rattle.pfs_layout.proofs.Files.EndLemmas.{byte_fault-more}
+use Rattle.pfs_layout.proofs.Reading.StepLemmas.{live-memory}
+use Rattle.pfs_layout.proofs.Reading.ByteSteps.{live_few}
+use Rattle.pfs_layout.proofs.Reading.ReaderLemmas.{live_follows}
 
 -- ---- no byte has the fault of want of memory
 

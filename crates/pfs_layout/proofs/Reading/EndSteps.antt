@@ -22,12 +22,12 @@ use Rattle.pfs_layout.specs.Stand.{Block, Now, seeking, inside, lost, stand_afte
 use Rattle.pfs_layout.specs.Refuse.{misfit, wrong_number, size_fault, wrong_size}
 use Rattle.pfs_layout.specs.Step.{is_live, is_in_block, refused, Keeps, number_ended, last_number_ended, line_ended, judged}
 use Rattle.pfs_layout.specs.Reader.{block_of, time_count, FollowsLine, FollowsBlocks}
-use Rattle.pfs_layout.proofs.LineLemmas.{open_part-push, numbers_is}
-use Rattle.pfs_layout.proofs.SoundLemmas.{GoodNow, GoodBody, same_last, values_last, digit_there, misfit_none, are_due-push}
-use Rattle.pfs_layout.proofs.StepLemmas.{keeps_last}
-use Rattle.pfs_layout.proofs.NumberSteps.{NumberOutcome, misfit_in, number_step}
-use Rattle.pfs_layout.proofs.LineSteps.{Refuses, LineOutcome, sought_line, body_line}
-use Rattle.pfs_layout.proofs.ByteSteps.{fault_in, live_few, sought_phase, begun_phase, ByteOutcome, refuses_is, weaker, mixed_other, mixed_word, judged_word, judged_blank, sought_fine, number_fine, and_false_is, and_true_is}
+use Rattle.pfs_layout.proofs.Files.LineLemmas.{open_part-push, numbers_is}
+use Rattle.pfs_layout.proofs.Files.SoundLemmas.{GoodNow, GoodBody, same_last, values_last, digit_there, misfit_none, are_due-push}
+use Rattle.pfs_layout.proofs.Reading.StepLemmas.{keeps_last}
+use Rattle.pfs_layout.proofs.Reading.NumberSteps.{NumberOutcome, misfit_in, number_step}
+use Rattle.pfs_layout.proofs.Reading.LineSteps.{Refuses, LineOutcome, sought_line, body_line}
+use Rattle.pfs_layout.proofs.Reading.ByteSteps.{fault_in, live_few, sought_phase, begun_phase, ByteOutcome, refuses_is, weaker, mixed_other, mixed_word, judged_word, judged_blank, sought_fine, number_fine, and_false_is, and_true_is}
 
 -- ---- the numbers of the last line
 

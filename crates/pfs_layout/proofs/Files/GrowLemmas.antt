@@ -11,9 +11,9 @@ use Rattle.pfs_layout.specs.Bytes.{is_line_end}
 use Rattle.pfs_layout.specs.Lines.{lines, ended_lines, open_line, ended_parts, is_mixed, numbers}
 use Rattle.pfs_layout.specs.Block.{due_count, are_due}
 use Rattle.pfs_layout.specs.Stand.{Block, Now, seeking, inside, lost, Stand, after_numbers, after_line, stand_after, stand}
-use Rattle.pfs_layout.proofs.LineLemmas.{ended_parts-push, open_part-push}
-use Rattle.pfs_layout.proofs.CutLemmas.{FirstLine, unended, ended, first_line, lines-line, lines-open}
-use Rattle.pfs_layout.proofs.SoundLemmas.{stand_of, stand_of-push, open_line-none}
+use Rattle.pfs_layout.proofs.Files.LineLemmas.{ended_parts-push, open_part-push}
+use Rattle.pfs_layout.proofs.Files.CutLemmas.{FirstLine, unended, ended, first_line, lines-line, lines-open}
+use Rattle.pfs_layout.proofs.Files.SoundLemmas.{stand_of, stand_of-push, open_line-none}
 
 -- ---- complete blocks stay
 

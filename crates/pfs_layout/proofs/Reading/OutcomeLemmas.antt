@@ -25,16 +25,16 @@ use Rattle.pfs_layout.specs.Refuse.{mixed_line, size_fault, ends_early, faults, 
 use Rattle.pfs_layout.specs.Step.{is_live, last_number_ended, end_fault_in, end_fault, at_end}
 use Rattle.pfs_layout.specs.Reader.{block_begun_by, block_of, FollowsBlocks, Follows, StandsIn, StandsAfter, IsReader, FinishMeets}
 use Rattle.pfs_layout.proofs.Published.PlaceLemmas.{refusal_is}
-use Rattle.pfs_layout.proofs.SoundLemmas.{GoodNow, GoodBody, stand_of, sound}
-use Rattle.pfs_layout.proofs.StandLemmas.{IsBegun, Fits, made}
-use Rattle.pfs_layout.proofs.GrowLemmas.{Extends, grows}
-use Rattle.pfs_layout.proofs.EndLemmas.{refusal_end, byte_fault_refuses}
+use Rattle.pfs_layout.proofs.Files.SoundLemmas.{GoodNow, GoodBody, stand_of, sound}
+use Rattle.pfs_layout.proofs.Files.StandLemmas.{IsBegun, Fits, made}
+use Rattle.pfs_layout.proofs.Files.GrowLemmas.{Extends, grows}
+use Rattle.pfs_layout.proofs.Files.EndLemmas.{refusal_end, byte_fault_refuses}
 use Rattle.pfs_layout.proofs.Published.LawLemmas.{accepted_law, one_verdict}
-use Rattle.pfs_layout.proofs.StepLemmas.{keeps_last, refused_memory}
-use Rattle.pfs_layout.proofs.ByteSteps.{live_few, sought_phase}
-use Rattle.pfs_layout.proofs.EndSteps.{number_fault, NumberPart, number_part, due_line}
-use Rattle.pfs_layout.proofs.FeedLemmas.{refused_fault, done_enough}
-use Rattle.pfs_layout.proofs.FinishLemmas.{stand_lines, sought_fault, sought_end, sought_told, begun_end, BegunEnd, begun_told}
+use Rattle.pfs_layout.proofs.Reading.StepLemmas.{keeps_last, refused_memory}
+use Rattle.pfs_layout.proofs.Reading.ByteSteps.{live_few, sought_phase}
+use Rattle.pfs_layout.proofs.Reading.EndSteps.{number_fault, NumberPart, number_part, due_line}
+use Rattle.pfs_layout.proofs.Reading.FeedLemmas.{refused_fault, done_enough}
+use Rattle.pfs_layout.proofs.Reading.FinishLemmas.{stand_lines, sought_fault, sought_end, sought_told, begun_end, BegunEnd, begun_told}
 
 -- what the end of the input is for a reader that has met no fault at a byte
 pub record EndOutcome (r : Fields) (text : List ℕ) : Type 0 where

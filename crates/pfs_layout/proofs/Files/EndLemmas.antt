@@ -12,9 +12,9 @@ use Rattle.pfs_layout.specs.declared.fault.LayoutFault.{LayoutFault}
 use Rattle.pfs_layout.specs.Refuse.{fault_at, fault_behind, refusal, byte_fault, Refuse}
 use Rattle.pfs_layout.specs.Laws.{Completes, FaultStays, ByteFaultLaw, FreeBehind}
 use Rattle.pfs_layout.proofs.Published.PlaceLemmas.{first_found, first_not_found, byte_fault-push, refusal_is, fault_at-end}
-use Rattle.pfs_layout.proofs.SoundLemmas.{stand_of}
-use Rattle.pfs_layout.proofs.FileLemmas.{file_completes, completes_file}
-use Rattle.pfs_layout.proofs.VerdictLemmas.{EndedHolds, first_enough, from_enough, holds_accepted}
+use Rattle.pfs_layout.proofs.Files.SoundLemmas.{stand_of}
+use Rattle.pfs_layout.proofs.Files.FileLemmas.{file_completes, completes_file}
+use Rattle.pfs_layout.proofs.Files.VerdictLemmas.{EndedHolds, first_enough, from_enough, holds_accepted}
 
 last_one : {A : Type 0} (o p : Option A) → option_or o (first_some (p ∷ [])) ≡ option_or o p
 last_one o None = refl
