@@ -4,7 +4,8 @@
 #             answered, and with each growth of memory refused in turn, and checks what must not compile; then
 #             closed descriptors and signals, files of 64 MiB, random input, and copies that refuse memory
 # make fuzz   compares the built program with a second program on random input, for so many MINUTES
-.PHONY: run test fuzz
+# make taillard   writes Taillard's 120 instances into experiments/out/taillard
+.PHONY: run test fuzz taillard
 MINUTES = 5
 
 run:
@@ -16,3 +17,6 @@ test:
 
 fuzz: run
 	tests/fuzz.py --seconds $$((60 * $(MINUTES)))
+
+taillard: run
+	experiments/taillard experiments/out/taillard
