@@ -119,7 +119,8 @@ class Picture:
             across = [x + float(shown.get("x", 0)) for x, _ in points]
             down = [y + float(shown.get("y", 0)) for _, y in points]
             fill = re.search(r"fill: (#\w+|none)", shown.get("style")).group(1)
-            yield (self.time(min(across)), self.time(max(across)), self.machine(min(down)), self.machine(max(down)), fill)
+            times, rows = map(self.time, (min(across), max(across))), map(self.machine, (min(down), max(down)))
+            yield (*times, *rows, fill)
 
 
 def near(first, second, scale):
@@ -153,8 +154,8 @@ def path_is_right(name, picture, schedule):
     for machine in range(len(schedule[0])):
         for start, end, *_ in picture.bars(f"critical-{machine + 1}"):
             check(f"{name}, critical path on machine {machine + 1}", near(start, at, makespan), f"{start}, not {at}")
-            inside = [row[machine] for row in schedule if round(start) <= row[machine][0] and row[machine][1] <= round(end)]
-            busy = sum(last - first for first, last in inside)
+            operations = [row[machine] for row in schedule]
+            busy = sum(last - first for first, last in operations if round(start) <= first and last <= round(end))
             check(f"{name}, no idle time on it, machine {machine + 1}", near(busy, end - start, makespan), busy)
             at = end
     check(f"{name}, end of the critical path", near(at, makespan, makespan), f"{at}, not {makespan}")
