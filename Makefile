@@ -10,7 +10,8 @@
 # make uninstall  takes them away, and the folders that are empty then
 # make dist       a tarball and a Debian package for machines without the kit, in the folder DIST (needs git and
 #                 dpkg-deb)
-.PHONY: run test fuzz install uninstall dist
+# make taillard   writes Taillard's 120 instances into experiments/out/taillard
+.PHONY: run test fuzz install uninstall dist taillard
 MINUTES = 5
 DIST = dist
 PREFIX = /usr/local
@@ -47,3 +48,6 @@ uninstall:
 
 dist: $(PROGRAM)
 	tools/dist "$(DIST)"
+
+taillard: run
+	experiments/taillard experiments/out/taillard
