@@ -576,6 +576,25 @@ def report_of_failing(folder):
     check("failing, counted in the report", [("1", "4")] * 4, [(row["runs"], row["failed"]) for row in rows])
 
 
+def whole_way(folder):
+    """The lines of the page on experiments, in a copy that has the built program, lead to the report's plots."""
+    shutil.copytree(TOOLS, folder / "experiments", ignore=shutil.ignore_patterns("out"))
+    shutil.copy(TOP / "Makefile", folder)
+    (folder / "crates" / "pfs" / "out").mkdir(parents=True)
+    shutil.copy(PFS, folder / "crates" / "pfs" / "out")
+    block = re.search(r"```\n(.*?)```", (TOOLS / "README.md").read_text(), re.DOTALL).group(1)
+    lines = [line.partition("#")[0].strip() for line in block.splitlines()]
+    check("whole way, installation comes first", "sudo apt-get install parallel python3-matplotlib", lines[0])
+    for line in lines[1:]:
+        words = line.replace("make ", "make -o run ").split(" ")
+        done = subprocess.run(words, cwd=folder, stdin=subprocess.DEVNULL, capture_output=True, timeout=MOST_SECONDS)
+        check(f"whole way, {line}", 0, done.returncode)
+    made = ["gap.png", "table.csv", "table.md", "time.png"]
+    check("whole way, the report", made, sorted(os.listdir(folder / "report")))
+    with open(folder / "report" / "table.csv", newline="") as file:
+        check("whole way, runs", 108, sum(int(row["runs"]) for row in csv.DictReader(file)))
+
+
 # All of them
 
 def has(*programs):
@@ -599,6 +618,7 @@ def main():
         (over_ssh, parallel and root and has("sshd", "ssh", "rsync"), "GNU parallel, root, openssh-server, rsync"),
         (on_slurm, parallel and root and has("munged", "slurmctld", "slurmd"), "GNU parallel, root, slurm-wlm, munge"),
         (reports, has_matplotlib(), "/usr/bin/python3's matplotlib"),
+        (whole_way, parallel and has_matplotlib(), "GNU parallel, /usr/bin/python3's matplotlib"),
     ]
     with tempfile.TemporaryDirectory(prefix="pfs-experiments-") as folder:
         for test, is_there, needs in tests:
