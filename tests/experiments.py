@@ -3,6 +3,7 @@
 moments and run again, and given to a Slurm cluster of one node; the CSV must each time be the one that pfs itself
 gives. What isn't installed is skipped, and said. Needs pfs as it was built."""
 import csv
+import fcntl
 import itertools
 import os
 import pathlib
@@ -283,6 +284,13 @@ def interruptions(folder):
         done = interrupted(folder, words, most, kill)
         counts = searches(folder)
         made.update({number: counts[number] for number in done - made.keys()})
+        if kill is kill_starter:
+            # GNU parallel ends what it has begun, for which the next start waits
+            made.update({number: count for number, count in counts.items() if count > 0 and number not in made})
+        if kill is terminate:
+            with open(folder / "out.csv.d" / "lock") as lock:
+                fcntl.flock(lock, fcntl.LOCK_EX)
+            check("terminated, GNU parallel makes no more", True, len(logged(folder)) <= most + 6)
     check("killed, then run", 0, subprocess.run(words, cwd=folder, stderr=subprocess.DEVNULL).returncode)
     rows, _ = rows_of(folder / "out.csv")
     check("killed, the CSV", wanted_rows(folder, seeds=(1, 2, 3, 4, 5, 6)), rows)

@@ -241,9 +241,10 @@ def refused(folder, name, words, text=THREE):
 def refusals(folder):
     for text in BAD + [THREE[:end] for end in range(len(THREE))]:
         refused(folder, f"bad table {text!r}", ["picture.svg"], text)
-    for words in ([], ["a", "b", "c.svg"], ["picture"], ["picture.gif"], ["--bound", "11", "picture.svg"],
-                  ["--bound", "x", "picture.svg"], ["--unknown", "picture.svg"], ["missing", "picture.svg"],
-                  ["nowhere/picture.svg"]):
+    os.mkdir(os.path.join(folder, "folder.svg"))
+    for words in ([], ["a", "b", "c.svg"], ["picture"], ["picture.gif"], ["folder.svg"], ["nowhere/picture.svg"],
+                  ["--bound", "11", "picture.svg"], ["--bound", "x", "picture.svg"], ["--unknown", "picture.svg"],
+                  ["missing", "picture.svg"]):
         refused(folder, f"words {words}", words)
     old = pathlib.Path(folder, "picture.svg")
     old.write_text("old")
