@@ -193,7 +193,8 @@ def failing_runs(folder):
 
 
 def lost_runs(folder):
-    """A run that is killed itself is in the CSV with its signal, and is made by the next start."""
+    """A run that is killed itself is in the CSV with its status, and is made by the next start; so is one whose result
+    is gone or torn."""
     make_plan(folder)
     killer = script(folder / "killer", f"#!/bin/sh\ncase \"$*\" in solve*\"--seed 2 \"*)\n"
                                        f"test -e {folder}/fixed || kill -9 $PPID;; esac\nexec {PFS} \"$@\"\n")
@@ -205,6 +206,13 @@ def lost_runs(folder):
     (folder / "fixed").touch()
     check("lost, again", 0, tool(folder, "run", "plan.toml", "out.csv")[0])
     check("lost, made again", wanted_rows(folder), rows_of(folder / "out.csv")[0])
+    kept = folder / "out.csv.d"
+    (kept / "results" / "3").unlink()
+    (kept / "results" / "4").write_text("4,12")
+    with open(kept / "joblog", "a") as file:
+        file.write("12\t:\t17")
+    check("torn files, again", 0, tool(folder, "run", "plan.toml", "out.csv")[0])
+    check("torn files, made again", wanted_rows(folder), rows_of(folder / "out.csv")[0])
 
 
 # Interruptions
@@ -279,7 +287,7 @@ def interruptions(folder):
     words = [str(TOOLS / "run"), "--pfs", program, "plan.toml", "out.csv", "--jobs", "2"]
     kills = [(0, kill_all), (1, kill_all), (4, interrupt_all), (7, kill_starter), (11, kill_parallel), (15, terminate),
              (19, hang_up_all)]
-    made = {}
+    wanted, made = wanted_rows(folder, seeds=(1, 2, 3, 4, 5, 6)), {}
     for most, kill in kills:
         done = interrupted(folder, words, most, kill)
         counts = searches(folder)
@@ -290,10 +298,14 @@ def interruptions(folder):
         if kill is terminate:
             with open(folder / "out.csv.d" / "lock") as lock:
                 fcntl.flock(lock, fcntl.LOCK_EX)
-            check("terminated, GNU parallel makes no more", True, len(logged(folder)) <= most + 6)
+            check("terminated, GNU parallel makes no more", True, len(logged(folder)) <= len(done) + 6)
+        if kill is interrupt_all:
+            so_far, _ = rows_of(folder / "out.csv")
+            strange = [row for row in so_far if row not in wanted]
+            check("interrupted, the CSV so far", (True, []), (len(so_far) >= most, strange))
     check("killed, then run", 0, subprocess.run(words, cwd=folder, stderr=subprocess.DEVNULL).returncode)
     rows, _ = rows_of(folder / "out.csv")
-    check("killed, the CSV", wanted_rows(folder, seeds=(1, 2, 3, 4, 5, 6)), rows)
+    check("killed, the CSV", wanted, rows)
     counts = searches(folder)
     check("killed, runs that were never made", [], [number for number, count in counts.items() if count == 0])
     again = {number: counts[number] for number in made if counts[number] != made[number]}
@@ -495,7 +507,7 @@ def lost_on_slurm(folder, words, env):
     before = {path.name: path.stat().st_mtime_ns for path in results.iterdir()}
     wanted = rows_of(folder / "out.csv")[0]
     (results / "5").unlink()
-    (results / "12").write_text("")
+    (results / "12").write_text("12,1")
     status, _, error = tool(folder, *words, env=env)
     check("Slurm again, status", (0, "Submitted batch job 5"), (status, error.splitlines()[0]))
     check("Slurm again, the CSV", wanted, rows_of(folder / "out.csv")[0])
@@ -585,14 +597,15 @@ def report_of_failing(folder):
 
 
 def whole_way(folder):
-    """The lines of the page on experiments, in a copy that has the built program, lead to the report's plots."""
+    """The lines of both pages on experiments, in a copy that has the built program, lead to the report's plots."""
     shutil.copytree(TOOLS, folder / "experiments", ignore=shutil.ignore_patterns("out"))
     shutil.copy(TOP / "Makefile", folder)
     (folder / "crates" / "pfs" / "out").mkdir(parents=True)
     shutil.copy(PFS, folder / "crates" / "pfs" / "out")
-    block = re.search(r"```\n(.*?)```", (TOOLS / "README.md").read_text(), re.DOTALL).group(1)
-    lines = [line.partition("#")[0].strip() for line in block.splitlines()]
-    check("whole way, installation comes first", "sudo apt-get install parallel python3-matplotlib", lines[0])
+    blocks = [re.findall(r"```\n(sudo apt-get install parallel python3-matplotlib\n.*?)```", page.read_text(), re.DOTALL)
+              for page in (TOP / "README.md", TOOLS / "README.md")]
+    lines, again = ([line.partition("#")[0].strip() for line in "".join(block).splitlines()] for block in blocks)
+    check("whole way, five lines on both pages", (5, lines), (len(lines), again))
     for line in lines[1:]:
         words = line.replace("make ", "make -o run ").split(" ")
         done = subprocess.run(words, cwd=folder, stdin=subprocess.DEVNULL, capture_output=True, timeout=MOST_SECONDS)
