@@ -596,15 +596,19 @@ def report_of_failing(folder):
     check("failing, counted in the report", [("1", "4")] * 4, [(row["runs"], row["failed"]) for row in rows])
 
 
+def lines_of_way(page):
+    """The commands of the block that begins with what has to be installed."""
+    block = re.findall(r"```\n(sudo apt-get install parallel .*?)```", page.read_text(), re.DOTALL)
+    return [line.partition("#")[0].strip() for line in "".join(block).splitlines()]
+
+
 def whole_way(folder):
     """The lines of both pages on experiments, in a copy that has the built program, lead to the report's plots."""
     shutil.copytree(TOOLS, folder / "experiments", ignore=shutil.ignore_patterns("out"))
     shutil.copy(TOP / "Makefile", folder)
     (folder / "crates" / "pfs" / "out").mkdir(parents=True)
     shutil.copy(PFS, folder / "crates" / "pfs" / "out")
-    blocks = [re.findall(r"```\n(sudo apt-get install parallel python3-matplotlib\n.*?)```", page.read_text(), re.DOTALL)
-              for page in (TOP / "README.md", TOOLS / "README.md")]
-    lines, again = ([line.partition("#")[0].strip() for line in "".join(block).splitlines()] for block in blocks)
+    lines, again = map(lines_of_way, (TOP / "README.md", TOOLS / "README.md"))
     check("whole way, five lines on both pages", (5, lines), (len(lines), again))
     for line in lines[1:]:
         words = line.replace("make ", "make -o run ").split(" ")
