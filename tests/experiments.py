@@ -18,6 +18,9 @@ import tempfile
 import time
 import xml.etree.ElementTree as ET
 
+sys.dont_write_bytecode = True
+from gantt import has_matplotlib  # noqa: E402
+
 TOP = pathlib.Path(__file__).resolve().parent.parent
 TOOLS = TOP / "experiments"
 PFS = str(TOP / "crates" / "pfs" / "out" / "pfs")
@@ -624,10 +627,6 @@ def whole_way(folder):
 
 def has(*programs):
     return all(shutil.which(program, path=os.environ["PATH"] + ":/usr/sbin") for program in programs)
-
-
-def has_matplotlib():
-    return subprocess.run(["/usr/bin/python3", "-c", "import matplotlib"], stderr=subprocess.DEVNULL).returncode == 0
 
 
 def main():

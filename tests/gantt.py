@@ -252,8 +252,16 @@ def refusals(folder):
     check("the old picture stays", old.read_text() == "old")
 
 
+def has_matplotlib():
+    """Whether Debian's Python has it, which may not be the first one of the path."""
+    try:
+        return subprocess.run(["/usr/bin/python3", "-c", "import matplotlib"], stderr=subprocess.DEVNULL).returncode == 0
+    except FileNotFoundError:
+        return False
+
+
 def main():
-    if subprocess.run(["/usr/bin/python3", "-c", "import matplotlib"], stderr=subprocess.DEVNULL).returncode != 0:
+    if not has_matplotlib():
         print("gantt: skipped, /usr/bin/python3 has no matplotlib (Debian: python3-matplotlib)")
         return 0
     with tempfile.TemporaryDirectory(prefix="pfs-gantt-") as folder:
