@@ -3,7 +3,8 @@
 #             programs; then runs the built programs on command lines, on searches that another program has
 #             answered, and with each growth of memory refused in turn, and checks what must not compile; then
 #             closed descriptors and signals, files of 64 MiB, random input, and copies that refuse memory; then
-#             completions, installation, and the examples of README and of the manual page
+#             completions, installation, the examples of README and of the manual page, pictures, Taillard's
+#             instances, and experiments
 # make fuzz   compares the built program with a second program on random input, for so many MINUTES
 # make install    puts the program, the manual page and the completions below PREFIX, an absolute path (and that
 #                 below DESTDIR); it proves and builds first where the program isn't there or a source is newer

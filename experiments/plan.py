@@ -196,7 +196,7 @@ def row_of(run, result):
 
 
 def gather(folder, csv_path):
-    """Writes the CSV of the runs that have ended, tells what is left, and answers the exit status."""
+    """Writes the CSV of the runs that have ended, tells how many failed and are left, and answers these numbers."""
     log = logged(folder)
     rows, left, failed = [], 0, 0
     for run in runs_of(folder):
@@ -215,4 +215,4 @@ def gather(folder, csv_path):
         writer.writerows(rows)
     os.replace(new, csv_path)
     print(f"{csv_path}: {len(rows)} runs, {failed} of them failed, {left} still to be made", file=sys.stderr)
-    return 1 if left or failed else 0
+    return failed, left

@@ -3,6 +3,7 @@
 moments and run again, and given to a Slurm cluster of one node; the CSV must each time be the one that pfs itself
 gives. What isn't installed is skipped, and said. Needs pfs as it was built."""
 import csv
+import fcntl
 import itertools
 import os
 import pathlib
@@ -16,6 +17,9 @@ import sys
 import tempfile
 import time
 import xml.etree.ElementTree as ET
+
+sys.dont_write_bytecode = True
+from gantt import has_matplotlib  # noqa: E402
 
 TOP = pathlib.Path(__file__).resolve().parent.parent
 TOOLS = TOP / "experiments"
@@ -192,7 +196,8 @@ def failing_runs(folder):
 
 
 def lost_runs(folder):
-    """A run that is killed itself is in the CSV with its signal, and is made by the next start."""
+    """A run that is killed itself is in the CSV with its status, and is made by the next start; so is one whose result
+    is gone or torn."""
     make_plan(folder)
     killer = script(folder / "killer", f"#!/bin/sh\ncase \"$*\" in solve*\"--seed 2 \"*)\n"
                                        f"test -e {folder}/fixed || kill -9 $PPID;; esac\nexec {PFS} \"$@\"\n")
@@ -204,6 +209,13 @@ def lost_runs(folder):
     (folder / "fixed").touch()
     check("lost, again", 0, tool(folder, "run", "plan.toml", "out.csv")[0])
     check("lost, made again", wanted_rows(folder), rows_of(folder / "out.csv")[0])
+    kept = folder / "out.csv.d"
+    (kept / "results" / "3").unlink()
+    (kept / "results" / "4").write_text("4,12")
+    with open(kept / "joblog", "a") as file:
+        file.write("12\t:\t17")
+    check("torn files, again", 0, tool(folder, "run", "plan.toml", "out.csv")[0])
+    check("torn files, made again", wanted_rows(folder), rows_of(folder / "out.csv")[0])
 
 
 # Interruptions
@@ -278,14 +290,25 @@ def interruptions(folder):
     words = [str(TOOLS / "run"), "--pfs", program, "plan.toml", "out.csv", "--jobs", "2"]
     kills = [(0, kill_all), (1, kill_all), (4, interrupt_all), (7, kill_starter), (11, kill_parallel), (15, terminate),
              (19, hang_up_all)]
-    made = {}
+    wanted, made = wanted_rows(folder, seeds=(1, 2, 3, 4, 5, 6)), {}
     for most, kill in kills:
         done = interrupted(folder, words, most, kill)
         counts = searches(folder)
         made.update({number: counts[number] for number in done - made.keys()})
+        if kill is kill_starter:
+            # GNU parallel ends what it has begun, for which the next start waits
+            made.update({number: count for number, count in counts.items() if count > 0 and number not in made})
+        if kill is terminate:
+            with open(folder / "out.csv.d" / "lock") as lock:
+                fcntl.flock(lock, fcntl.LOCK_EX)
+            check("terminated, GNU parallel makes no more", True, len(logged(folder)) <= len(done) + 6)
+        if kill is interrupt_all:
+            so_far, _ = rows_of(folder / "out.csv")
+            strange = [row for row in so_far if row not in wanted]
+            check("interrupted, the CSV so far", (True, []), (len(so_far) >= most, strange))
     check("killed, then run", 0, subprocess.run(words, cwd=folder, stderr=subprocess.DEVNULL).returncode)
     rows, _ = rows_of(folder / "out.csv")
-    check("killed, the CSV", wanted_rows(folder, seeds=(1, 2, 3, 4, 5, 6)), rows)
+    check("killed, the CSV", wanted, rows)
     counts = searches(folder)
     check("killed, runs that were never made", [], [number for number, count in counts.items() if count == 0])
     again = {number: counts[number] for number in made if counts[number] != made[number]}
@@ -487,7 +510,7 @@ def lost_on_slurm(folder, words, env):
     before = {path.name: path.stat().st_mtime_ns for path in results.iterdir()}
     wanted = rows_of(folder / "out.csv")[0]
     (results / "5").unlink()
-    (results / "12").write_text("")
+    (results / "12").write_text("12,1")
     status, _, error = tool(folder, *words, env=env)
     check("Slurm again, status", (0, "Submitted batch job 5"), (status, error.splitlines()[0]))
     check("Slurm again, the CSV", wanted, rows_of(folder / "out.csv")[0])
@@ -576,14 +599,34 @@ def report_of_failing(folder):
     check("failing, counted in the report", [("1", "4")] * 4, [(row["runs"], row["failed"]) for row in rows])
 
 
+def lines_of_way(page):
+    """The commands of the block that begins with what has to be installed."""
+    block = re.findall(r"```\n(sudo apt-get install parallel .*?)```", page.read_text(), re.DOTALL)
+    return [line.partition("#")[0].strip() for line in "".join(block).splitlines()]
+
+
+def whole_way(folder):
+    """The lines of both pages on experiments, in a copy that has the built program, lead to the report's plots."""
+    shutil.copytree(TOOLS, folder / "experiments", ignore=shutil.ignore_patterns("out"))
+    shutil.copy(TOP / "Makefile", folder)
+    (folder / "crates" / "pfs" / "out").mkdir(parents=True)
+    shutil.copy(PFS, folder / "crates" / "pfs" / "out")
+    lines, again = map(lines_of_way, (TOP / "README.md", TOOLS / "README.md"))
+    check("whole way, five lines on both pages", (5, lines), (len(lines), again))
+    for line in lines[1:]:
+        words = line.replace("make ", "make -o run ").split(" ")
+        done = subprocess.run(words, cwd=folder, stdin=subprocess.DEVNULL, capture_output=True, timeout=MOST_SECONDS)
+        check(f"whole way, {line}", 0, done.returncode)
+    made = ["gap.png", "table.csv", "table.md", "time.png"]
+    check("whole way, the report", made, sorted(os.listdir(folder / "report")))
+    with open(folder / "report" / "table.csv", newline="") as file:
+        check("whole way, runs", 108, sum(int(row["runs"]) for row in csv.DictReader(file)))
+
+
 # All of them
 
 def has(*programs):
     return all(shutil.which(program, path=os.environ["PATH"] + ":/usr/sbin") for program in programs)
-
-
-def has_matplotlib():
-    return subprocess.run(["/usr/bin/python3", "-c", "import matplotlib"], stderr=subprocess.DEVNULL).returncode == 0
 
 
 def main():
@@ -599,6 +642,7 @@ def main():
         (over_ssh, parallel and root and has("sshd", "ssh", "rsync"), "GNU parallel, root, openssh-server, rsync"),
         (on_slurm, parallel and root and has("munged", "slurmctld", "slurmd"), "GNU parallel, root, slurm-wlm, munge"),
         (reports, has_matplotlib(), "/usr/bin/python3's matplotlib"),
+        (whole_way, parallel and has_matplotlib(), "GNU parallel, /usr/bin/python3's matplotlib"),
     ]
     with tempfile.TemporaryDirectory(prefix="pfs-experiments-") as folder:
         for test, is_there, needs in tests:

@@ -241,9 +241,10 @@ def refused(folder, name, words, text=THREE):
 def refusals(folder):
     for text in BAD + [THREE[:end] for end in range(len(THREE))]:
         refused(folder, f"bad table {text!r}", ["picture.svg"], text)
-    for words in ([], ["a", "b", "c.svg"], ["picture"], ["picture.gif"], ["--bound", "11", "picture.svg"],
-                  ["--bound", "x", "picture.svg"], ["--unknown", "picture.svg"], ["missing", "picture.svg"],
-                  ["nowhere/picture.svg"]):
+    os.mkdir(os.path.join(folder, "folder.svg"))
+    for words in ([], ["a", "b", "c.svg"], ["picture"], ["picture.gif"], ["folder.svg"], ["nowhere/picture.svg"],
+                  ["--bound", "11", "picture.svg"], ["--bound", "x", "picture.svg"], ["--unknown", "picture.svg"],
+                  ["missing", "picture.svg"]):
         refused(folder, f"words {words}", words)
     old = pathlib.Path(folder, "picture.svg")
     old.write_text("old")
@@ -251,8 +252,16 @@ def refusals(folder):
     check("the old picture stays", old.read_text() == "old")
 
 
+def has_matplotlib():
+    """Whether Debian's Python has it, which may not be the first one of the path."""
+    try:
+        return subprocess.run(["/usr/bin/python3", "-c", "import matplotlib"], stderr=subprocess.DEVNULL).returncode == 0
+    except FileNotFoundError:
+        return False
+
+
 def main():
-    if subprocess.run(["/usr/bin/python3", "-c", "import matplotlib"], stderr=subprocess.DEVNULL).returncode != 0:
+    if not has_matplotlib():
         print("gantt: skipped, /usr/bin/python3 has no matplotlib (Debian: python3-matplotlib)")
         return 0
     with tempfile.TemporaryDirectory(prefix="pfs-gantt-") as folder:
