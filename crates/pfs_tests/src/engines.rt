@@ -63,7 +63,7 @@ fn refused_files_have_status_2_and_print_nothing(rt: HostRuntime) {
         b"3 2 0 0 0\nprocessing times :\n3 2 4\nx 2 5 1\n",
         b"3 2 0 0 0\nprocessing times :\n3 2 4\n2 5 1 7\n",
         b"3 2 0 0 0\nprocessing times :\n3 2 4\n2 5",
-        b"3 2 0 0 0\nprocessing times :\n3 2 4\n2 5 1000001\n",
+        b"3 2 0 0 0\nprocessing times :\n3 2 4\n2 5 1000000001\n",
         b"3 2\n3 2 4\n2 5 1\n",
     ];
     for file in files {
