@@ -26,6 +26,7 @@ use Rattle.pfs_search.specs.Neh.{neh_order}
 use Rattle.pfs_search.proofs.Published.CostSums.{costs_law}
 use Rattle.pfs_search.specs.declared.passes.TheConstants.{MOST_PASSES}
 use Rattle.pfs_desk.specs.declared.solve_options.TheConstants.{MOST_ROUNDS}
+use Rattle.pfs_desk.specs.MostCells.{most_neh_cells, most_rounds_cells, FewNehCells, FewRoundsCells}
 use Rattle.pfs_desk.specs.Solve.{words_for, neh_cells, rounds_cells, solution_text, IsFound}
 
 -- ---- words
@@ -72,8 +73,8 @@ rounds_cells_few shop rounds many passes few =
 through : (a b c : ℕ) → a ≤ b → b ≤ c → a ≤ c
 through a b c h k = omega arith
 
-below_room : (cells bound most : ℕ) → cells ≤ bound → bound ≤ most → most < 2 ^ 62 → cells < 2 ^ 62
-below_room cells bound most h k room = omega arith
+below_room : (cells most : ℕ) → cells ≤ most → most < 2 ^ 62 → cells < 2 ^ 62
+below_room cells most h room = omega arith
 
 width_within : (jobs most : ℕ) → jobs ≤ most → 4 * jobs - 2 ≤ 4 * most - 2
 width_within jobs most h = omega arith
@@ -85,22 +86,29 @@ cells_within : (jobs machines most_jobs most_machines : ℕ) → jobs ≤ most_j
     → jobs + (machines - 1) ≤ most_jobs + most_machines
 cells_within jobs machines most_jobs most_machines h k = omega arith
 
--- so many cells can be counted
-pub neh_room : (shop : FlowShop) → IsWithin limits shop → neh_cost heads_tails_cost shop.jobs shop.machines < 2 ^ 62
-neh_room shop within =
-    let many = mul-le-mul (mul-le-mul_left 2 within.sizes.few_machines) (mul-le-mul within.sizes.few_jobs within.sizes.few_jobs) in
-    let most = 2 * MOST_MACHINES * (MOST_JOBS * MOST_JOBS) in
-    below_room _ _ most (subst (λ cells. cells ≤ most) (sym (neh_cells_are shop)) many) (lit≤ tt) (lit< tt)
+-- at most so many cells are counted
+pub few_neh_cells : FewNehCells
+few_neh_cells shop within =
+    mul-le-mul (mul-le-mul_left 2 within.sizes.few_machines) (mul-le-mul within.sizes.few_jobs within.sizes.few_jobs)
 
--- the rounds count at most 323,119,200,000,000,000
-pub rounds_room : (shop : FlowShop) (rounds many passes : ℕ) → IsWithin limits shop → many ≤ shop.jobs → rounds ≤ MOST_ROUNDS → passes ≤ MOST_PASSES →
-    rounds * round_cost heads_tails_cost shop.jobs shop.machines many passes < 2 ^ 62
-rounds_room shop rounds many passes within few short scarce =
+pub few_rounds_cells : FewRoundsCells
+few_rounds_cells shop rounds many passes within few short scarce =
     let taken = through many shop.jobs MOST_JOBS few within.sizes.few_jobs in
     let moved = sum_within many (passes * shop.jobs) MOST_JOBS (MOST_PASSES * MOST_JOBS) taken (mul-le-mul scarce within.sizes.few_jobs) in
     let width = width_within shop.jobs MOST_JOBS within.sizes.few_jobs in
-    below_room _ _ 323119200000000000 (closed.rounds rounds shop.jobs shop.machines many passes few)
-    (mul-le-mul (mul-le-mul (mul-le-mul short moved) within.sizes.few_machines) width) (lit< tt)
+    through _ _ most_rounds_cells (rounds_cells_few shop rounds many passes few)
+    (mul-le-mul (mul-le-mul (mul-le-mul short moved) within.sizes.few_machines) width)
+
+-- so many cells can be counted
+pub neh_room : (shop : FlowShop) → IsWithin limits shop → neh_cost heads_tails_cost shop.jobs shop.machines < 2 ^ 62
+neh_room shop within =
+    below_room _ most_neh_cells (subst (λ cells. cells ≤ most_neh_cells) (sym (neh_cells_are shop)) (few_neh_cells shop within)) (lit< tt)
+
+pub rounds_room : (shop : FlowShop) (rounds many passes : ℕ) → IsWithin limits shop → many ≤ shop.jobs → rounds ≤ MOST_ROUNDS → passes ≤ MOST_PASSES →
+    rounds * round_cost heads_tails_cost shop.jobs shop.machines many passes < 2 ^ 62
+rounds_room shop rounds many passes within few short scarce =
+    below_room _ most_rounds_cells (subst (λ cells. cells ≤ most_rounds_cells) (sym (rounds_cells_are shop rounds many passes few))
+    (few_rounds_cells shop rounds many passes within few short scarce)) (lit< tt)
 
 -- ---- makespans
 
