@@ -1,12 +1,9 @@
 -- The laws of the makespan.
-use Rattle.std.proofs.Common.{◌≡◌, ℕ, zero, suc, ◌+◌, ◌-◌, ◌*◌, ◌<◌, ◌≤◌, max, List, [], ◌∷◌, length, refl, sym, ap, ◌∙◌, get_or, add-one, subst, arith}
-use Rattle.std.proofs.Math.Nat.{mul-le-mul_right}
-use Rattle.pfs_base.specs.Limits.{limits}
-use Rattle.pfs_base.specs.Longest.{longest_makespan, NoneLonger}
-use Rattle.pfs_base.specs.FlowShop.{FlowShop, AreSizes}
+use Rattle.std.proofs.Common.{◌≡◌, ℕ, zero, suc, ◌+◌, ◌-◌, ◌<◌, ◌≤◌, max, List, [], ◌∷◌, length, refl, sym, ap, ◌∙◌, add-one, arith}
+use Rattle.pfs_base.specs.FlowShop.{FlowShop}
 use Rattle.pfs_base.specs.Paths.{operation, IsHeaviest, MakespanLaw, OneMakespan, AreEnds, RecurrenceLaw}
 use Rattle.pfs_base.proofs.Published.Heaviest.{heaviest_law}
-use Rattle.pfs_base.proofs.Published.Heads.{head, head_step, head_le, makespan_is, time_of-le}
+use Rattle.pfs_base.proofs.Published.Heads.{head, head_step, makespan_is}
 
 pub makespan_law : MakespanLaw
 makespan_law shop [] = refl
@@ -47,17 +44,3 @@ pub recurrence_law : RecurrenceLaw
 recurrence_law shop jobs ends some are =
     let last : shop.machines ≡ suc (shop.machines - 1) = omega arith in
     ap (ends (length jobs)) last ∙ ends_are_heads shop jobs ends are (length jobs) (shop.machines - 1) (omega arith) (omega arith) ∙ sym (makespan_is shop jobs)
-
--- a path has at most as many cells as there are jobs and machines, less one
-cells_few : (jobs all machines : ℕ) → jobs ≤ all → AreSizes limits all machines → jobs + (machines - 1) ≤ limits.jobs + limits.machines - 1
-cells_few jobs all machines few sizes = omega (arith, few, sizes.few_jobs, sizes.some_machine, sizes.few_machines)
-
-pub none_longer : NoneLonger
-none_longer shop jobs within few =
-    let times : (row machine : ℕ) → operation shop jobs row machine ≤ limits.time = λ row machine. time_of-le shop within (get_or jobs row 0) machine in
-    let short = head_le (operation shop jobs) limits.time times (length jobs) (shop.machines - 1) in
-    let cells = mul-le-mul_right limits.time (cells_few (length jobs) shop.jobs shop.machines few within.sizes) in
-    subst (λ span. span ≤ longest_makespan) (sym (makespan_is shop jobs)) (through _ _ _ short cells)
-  where
-    through : (a b c : ℕ) → a ≤ b → b ≤ c → a ≤ c
-    through a b c h k = omega arith

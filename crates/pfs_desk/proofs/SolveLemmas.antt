@@ -1,20 +1,20 @@
 -- What a search finds, counts and prints.
-use Rattle.std.proofs.Common.{◌≡◌, ℕ, zero, suc, ◌+◌, ◌-◌, ◌*◌, ◌<◌, ◌≤◌, ◌^◌, Bool, true, false, List, [], ◌∷◌, ◌++◌, Option, length, map, get_or, cond, codes, refl, sym, subst, ap, ◌∙◌, arith, lit<, lit≤}
+use Rattle.std.proofs.Common.{◌≡◌, ℕ, zero, suc, ◌+◌, ◌-◌, ◌*◌, ◌<◌, ◌≤◌, ◌^◌, Bool, true, false, List, [], ◌∷◌, ◌++◌, Option, length, map, cond, codes, refl, sym, subst, ap, ◌∙◌, arith, lit<}
 use Rattle.std.proofs.lemmas.List.{append-nil}
-use Rattle.std.proofs.Math.Nat.{mul-le-mul, mul-le-mul_left, mul-le-mul_right}
+use Rattle.std.proofs.Math.Nat.{mul-le-mul, mul-le-mul_left}
 use Rattle.rand_core.specs.Pcg32Seed.{pcg32_seed}
 use Rattle.rand_core.specs.Steps.{stream_of, steps_u32, first_words}
 use Rattle.rand_core.specs.Stream.{Stream}
 use Rattle.rand_core.proofs.StepsLemmas.{next_u32-stream_of}
 use Rattle.rand_pcg.specs.Lcg.{Lcg}
 use Rattle.rand_pcg.specs.Pcg.{pcg32, pcg32_of_seed}
-use Rattle.pfs_base.specs.declared.limits.TheConstants.{MOST_JOBS, MOST_MACHINES, LONGEST_TIME, LONGEST_ORDER_FILE}
+use Rattle.pfs_base.specs.declared.limits.TheConstants.{MOST_JOBS, LONGEST_ORDER_FILE}
 use Rattle.pfs_base.specs.Limits.{limits}
 use Rattle.pfs_base.specs.FlowShop.{FlowShop, IsWithin}
-use Rattle.pfs_base.specs.Paths.{makespan, operation}
+use Rattle.pfs_base.specs.Paths.{makespan}
 use Rattle.pfs_base.specs.Sends.{SendsFront}
 use Rattle.pfs_base.specs.Text.{named_number}
-use Rattle.pfs_base.proofs.Published.Heads.{head_le, makespan_is, time_of-le}
+use Rattle.pfs_base.proofs.Published.Heads.{none_longer}
 use Rattle.pfs_base.proofs.Published.SendsLemmas.{front_of}
 use Rattle.pfs_order.specs.OrderText.{file_text}
 use Rattle.pfs_order.specs.Sequence.{IsSequence, IsSize}
@@ -82,10 +82,6 @@ width_within jobs most h = omega arith
 sum_within : (a b most_a most_b : ℕ) → a ≤ most_a → b ≤ most_b → a + b ≤ most_a + most_b
 sum_within a b most_a most_b h k = omega arith
 
-cells_within : (jobs machines most_jobs most_machines : ℕ) → jobs ≤ most_jobs → machines ≤ most_machines
-    → jobs + (machines - 1) ≤ most_jobs + most_machines
-cells_within jobs machines most_jobs most_machines h k = omega arith
-
 -- at most so many cells are counted
 pub few_neh_cells : FewNehCells
 few_neh_cells shop within =
@@ -112,16 +108,8 @@ rounds_room shop rounds many passes within few short scarce =
 
 -- ---- makespans
 
--- a path has at most as many cells as there are jobs and machines
 pub makespan_short : (shop : FlowShop) (order : List ℕ) → IsWithin limits shop → length order ≡ shop.jobs → makespan shop order < 10 ^ 18
-makespan_short shop order within e =
-    let weigh = operation shop order in
-    let times : (row machine : ℕ) → operation shop order row machine ≤ LONGEST_TIME = λ row machine. time_of-le shop within (get_or order row 0) machine in
-    let below = head_le weigh LONGEST_TIME times (length order) (shop.machines - 1) in
-    let cells = cells_within (length order) shop.machines MOST_JOBS MOST_MACHINES (subst (λ n. n ≤ MOST_JOBS) (sym e) within.sizes.few_jobs) within.sizes.few_machines in
-    let all = mul-le-mul_right LONGEST_TIME cells in
-    let is = makespan_is shop order in
-    omega arith
+makespan_short shop order within e = omega (arith, none_longer shop order within (omega (arith, e)))
 
 -- ---- what is found
 
