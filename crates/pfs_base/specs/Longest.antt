@@ -10,4 +10,5 @@ longest_makespan = (limits.jobs + limits.machines - 1) * limits.time
 
 -- no sequence of at most as many jobs as a shop has takes longer
 abbrev pub NoneLonger : Type 0
-NoneLonger = (shop : FlowShop) (jobs : List ℕ) → IsWithin limits shop → length jobs ≤ shop.jobs → makespan shop jobs ≤ longest_makespan
+NoneLonger = (shop : FlowShop) (jobs : List ℕ) → IsWithin limits shop → length jobs ≤ shop.jobs
+    → makespan shop jobs ≤ longest_makespan

@@ -1,4 +1,4 @@
-use Rattle.pfs_layout.proofs.WideLemmas.{earlier_files as files_stay}
+use Rattle.pfs_layout.proofs.Files.WideLemmas.{earlier_files as files_stay}
 use Rattle.pfs_layout.proofs.laws.earlier_files.Goals as goal
 
 pub returns : goal.returns
