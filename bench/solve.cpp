@@ -363,7 +363,8 @@ int main(int count, char** words) {
     }
     Layout layout;
     if (count < 7 || count > 8 || !layout_named(words[1], layout)) {
-        std::fprintf(stderr, "usage: solve [plain64|plain32|rows64|rows32] LAYOUT BLOCK ROUNDS TAKE SEED PASSES [FILE]\n");
+        std::fprintf(stderr, "usage: solve [plain64|plain32|rows64|rows32] LAYOUT BLOCK ROUNDS TAKE SEED PASSES "
+                             "[FILE]\n");
         return 3;
     }
     uint64_t rounds = std::strtoull(words[3], nullptr, 10);

@@ -277,8 +277,8 @@ def greatest(at):
     with open(order, "wb") as file:
         file.writelines(ones_solve(*shop))
     for command in COMMANDS:
-        memory = 4 * times + kept.get(command, 0)
-        at.run(f"{command}, the greatest instance", words_of(command, great, order), ONES[command](*shop), b"", 0, memory)
+        words, memory = words_of(command, great, order), 4 * times + kept.get(command, 0)
+        at.run(f"{command}, the greatest instance", words, ONES[command](*shop), b"", 0, memory)
     with open(back, "wb") as file:
         file.writelines(ones_convert(*shop))
     check("the longest text", os.path.getsize(back) == LONGEST_TEXT, f"{os.path.getsize(back)} bytes")

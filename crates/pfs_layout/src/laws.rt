@@ -4,7 +4,8 @@ ghost use Rattle.pfs_layout.specs.Reader.{StandsAfter, FinishMeets};
 ghost use Rattle.pfs_layout.specs.CanonicalText.{CanonicalLaw, TextsFit};
 ghost use Rattle.pfs_layout.specs.Generator.{SeedsStay, GeneratedWithin};
 ghost use Rattle.pfs_layout.specs.Laws.{FileStands, SomeFile, OneVerdict, OneFault, RefusalLaw, AcceptedLaw};
-ghost use Rattle.pfs_layout.specs.Laws.{FaultStays, ByteFaultLaw, FreeBehind, WiderLimits, EarlierFiles, DueAndBack, DueFronts};
+ghost use Rattle.pfs_layout.specs.Laws.{FaultStays, ByteFaultLaw, FreeBehind, WiderLimits, EarlierFiles};
+ghost use Rattle.pfs_layout.specs.Laws.{DueAndBack, DueFronts};
 
 use crate::LayoutFault;
 use crate::reader::BlockReader;
