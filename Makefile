@@ -2,14 +2,18 @@
 # make test   the merge gate: proves everything from nothing, tries the must-fail edits, runs the tests and
 #             programs; then runs the built programs on command lines, on searches that another program has
 #             answered, and with each growth of memory refused in turn, and checks what must not compile; then
-#             closed descriptors and signals, files of 64 MiB, random input, and copies that refuse memory
+#             closed descriptors and signals, files of 64 MiB, random input, and copies that refuse memory; then
+#             completions, installation, and the examples of README and of the manual page
 # make fuzz   compares the built program with a second program on random input, for so many MINUTES
 # make install    puts the program, the manual page and the completions below PREFIX, an absolute path (and that
 #                 below DESTDIR); it proves and builds first where the program isn't there or a source is newer
 # make uninstall  takes them away, and the folders that are empty then
-# make dist       a tarball and a Debian package for machines without the kit, in dist/ (needs git and dpkg-deb)
-.PHONY: run test fuzz install uninstall dist
+# make dist       a tarball and a Debian package for machines without the kit, in the folder DIST (needs git and
+#                 dpkg-deb)
+# make taillard   writes Taillard's 120 instances into experiments/out/taillard
+.PHONY: run test fuzz install uninstall dist taillard
 MINUTES = 5
+DIST = dist
 PREFIX = /usr/local
 ZSH_FOLDER = $(PREFIX)/share/zsh/site-functions
 PROGRAM = crates/pfs/out/pfs
@@ -41,4 +45,7 @@ uninstall:
 	cd "$(DESTDIR)/" && rmdir -p $(dir $(INSTALLED:/%=%)) 2> /dev/null || :
 
 dist: $(PROGRAM)
-	tools/dist dist
+	tools/dist "$(DIST)"
+
+taillard: run
+	experiments/taillard experiments/out/taillard

@@ -106,6 +106,7 @@ def lines_of(command, options, most_paths):
         yield f"pfs {command} {option} 1 --", others
         yield f"pfs {command} {option}=1 --", others
         yield f"pfs {command} three {option}=1 --", others
+    yield f"pfs {command} -- -", set()
     needed = "".join(f"{option} orlib " for option, value in options.items() if value == "L")
     for count in range(most_paths + 1):
         files = set(FILES) | {"folder"} if count < most_paths else set()

@@ -17,7 +17,9 @@ sys.dont_write_bytecode = True
 from command_lines import THREE_JOBS
 
 TOP = pathlib.Path(__file__).resolve().parent.parent
+README = (TOP / "README.md").read_text()
 PROGRAM = "crates/pfs/out/pfs"
+BASH_COMPLETION = "/usr/share/bash-completion/bash_completion"
 VALUE = ["value", "--layout", "taillard"]
 # Where each file goes below the prefix, and which one it is.
 PLACES = {
@@ -48,9 +50,21 @@ def run(*words, **how):
     return done.stdout
 
 
-def make(goal, *variables):
+def make(goal, *variables, **how):
     # the program that was built last, whatever the files' times
-    return run("make", "-s", "-C", TOP, "-o", PROGRAM, goal, *variables)
+    return run("make", "-s", "-C", TOP, "-o", PROGRAM, goal, *variables, **how)
+
+
+def newest_libc():
+    """The newest version of the C library of which the program wants a symbol."""
+    versions = re.findall(rb"GLIBC_([0-9.]+)", (TOP / PROGRAM).read_bytes())
+    return max(versions, key=lambda version: [int(part) for part in version.split(b".")]).decode()
+
+
+def named_libraries():
+    """README names the libraries that the program needs beside the loader, and the version of the C library."""
+    check("the C library in README", True, f"GNU C library {newest_libc()} or newer" in README)
+    check("the libraries", ["libc.so.6"], re.findall(r"(\S+) => /", run("ldd", TOP / PROGRAM)))
 
 
 def files_below(folder):
@@ -61,6 +75,20 @@ def files_below(folder):
 def runs(name, program, folder):
     (folder / "three").write_bytes(THREE_JOBS)
     check(f"{name} runs", "makespan 11\n", run(program, *VALUE, folder / "three"))
+
+
+def found_by_shells(name, place, folder):
+    """What each shell finds of an installation, where its prefix is among those that it looks below. Zsh looks in
+    folders of its own alone, /usr/local/share/zsh/site-functions among them."""
+    env = dict(os.environ, PATH=f"{place}/bin:{os.environ['PATH']}", XDG_DATA_DIRS=f"{place}/share", HOME=str(folder))
+    if os.path.exists(BASH_COMPLETION):
+        words = f"source {BASH_COMPLETION}; __load_completion pfs; complete -p pfs"
+        check(f"bash, {name}", "complete -F _pfs pfs\n", run("bash", "--norc", "-c", words, env=env))
+    if shutil.which("fish"):
+        check(f"fish, {name}", ["solve"], run("fish", "-c", "complete -C 'pfs so'", env=env).split()[:1])
+    if shutil.which("zsh"):
+        places = run("zsh", "-f", "-c", "print -l $fpath").split()
+        check(f"zsh, {name}", True, "/usr/local/share/zsh/site-functions" in places)
 
 
 def installed(folder):
@@ -74,6 +102,7 @@ def installed(folder):
         for path in PLACES:
             check(f"mode of {path}", 0o755 if path == "bin/pfs" else 0o644, (place / path).stat().st_mode & 0o777)
         runs(f"installed at {prefix}", place / "bin" / "pfs", folder)
+        found_by_shells(f"completions at {prefix}", place, folder)
         make("uninstall", *variables)
         check(f"left of {prefix}", [], list((folder / "a place").iterdir()))
     place = folder / "prefix"
@@ -87,8 +116,8 @@ def installed(folder):
 
 
 def made(folder, **environment):
-    """What `tools/dist` makes, by name. It is what `make dist` calls."""
-    run(TOP / "tools" / "dist", folder, cwd=folder, env=dict(os.environ) | environment)
+    """What `make dist` makes, by name."""
+    make("dist", f"DIST={folder}", env=dict(os.environ) | environment)
     return files_below(folder)
 
 
@@ -145,17 +174,22 @@ def unpacked(folder, tarball):
     check("the commit in the tarball", True, run("git", "-C", TOP, "rev-parse", "HEAD").strip() in proved)
     check("the kit in the tarball", True, run("rt", "version").strip() in proved)
     runs("the tarball's program", top / "bin" / "pfs", folder)
+    # README's line, in another folder's place
+    (folder / "local").mkdir()
+    line = re.search("^sudo (tar .*)$", README, re.MULTILINE)[1].replace("/usr/local", str(folder / "local"))
+    run("bash", "-c", line, cwd=tarball.parent)
+    check("the tarball by README's line", True, found == files_below(folder / "local"))
 
 
 def packed(folder, package):
+    owners = {line.split()[1] for line in run("dpkg-deb", "--contents", package).splitlines()}
+    check("the package's owners", {"root/root"}, owners)
     run("dpkg-deb", "--extract", package, folder / "extracted")
     runs("the package's program", folder / "extracted" / "usr" / "bin" / "pfs", folder)
     sums = folder / "extracted" / "usr" / "share" / "doc" / "pfs" / "SHA256SUMS"
     sums_are_right("the package", folder / "extracted", sums)
     needs = run("dpkg-deb", "--field", package, "Depends")
-    symbols = re.findall(rb"GLIBC_([0-9.]+)", (TOP / PROGRAM).read_bytes())
-    newest = max(symbols, key=lambda version: [int(part) for part in version.split(b".")])
-    check("the C library that the package needs", f"libc6 (>= {newest.decode()})\n", needs)
+    check("the C library that the package needs", f"libc6 (>= {newest_libc()})\n", needs)
     if os.geteuid() != 0 or shutil.which("dpkg") is None:
         print("the package in an empty root: skipped, as this isn't root's dpkg")
         return
@@ -182,14 +216,17 @@ def missing_tools():
     for tool in ("git", "rt", "dpkg-deb"):
         if shutil.which(tool) is None:
             yield tool
-    if subprocess.run(["git", "-C", TOP, "rev-parse", "HEAD"], capture_output=True).returncode != 0:
-        yield "a git repository"
+        elif tool == "git" and subprocess.run(["git", "-C", TOP, "rev-parse", "HEAD"], capture_output=True).returncode != 0:
+            yield "commit that git tells"
 
 
 def main():
     with tempfile.TemporaryDirectory(prefix="pfs-installing-") as folder:
         folder = pathlib.Path(folder)
         installed(folder)
+        named_libraries()
+        if not os.path.exists(BASH_COMPLETION):
+            print(f"how bash finds its completion: skipped, as there is no {BASH_COMPLETION}")
         missing = list(missing_tools())
         if missing:
             print(f"tarball and package: skipped, as there is no {', '.join(missing)}")
