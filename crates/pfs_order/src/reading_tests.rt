@@ -129,13 +129,14 @@ fn reads_order_files(rt: HostRuntime) {
 #[test]
 fn refuses_other_texts(rt: HostRuntime) {
     let syntax = |offset| OrderFault::Syntax { offset };
-    let cases: [(&[u8], OrderFault); 24] = [
+    let cases: [(&[u8], OrderFault); 25] = [
         (b"", syntax(0)),
         (b"order", syntax(5)),
         (b"order 3", syntax(7)),
         (b"order 0\n", syntax(6)),
         (b"order 03\n2 1 3\nmakespan 10\n", syntax(6)),
-        (b"order 2001\n", syntax(9)),
+        (b"order 5001\n", syntax(9)),
+        (b"order 2001\n", syntax(11)),
         (b"order 3\r\n2 1 3\nmakespan 10\n", syntax(7)),
         (b"order2 3 2\n2 1 3\nmakespan 10\n", syntax(5)),
         (b"order 3\n2  1", syntax(10)),

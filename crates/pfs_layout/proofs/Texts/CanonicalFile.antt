@@ -13,7 +13,6 @@ use Rattle.std.proofs.lemmas.List.Splits.{slice_split_none, slice_split_at}
 use Rattle.std.proofs.lemmas.Str.Parse.{digit_at}
 use Rattle.pfs_base.specs.FlowShop.{FlowShop}
 use Rattle.pfs_base.specs.Limits.{limits}
-use Rattle.pfs_base.specs.declared.limits.TheConstants.{LONGEST_INPUT}
 use Rattle.pfs_base.specs.Lists.{below, is_empty, last_of, all_but_last}
 use Rattle.pfs_base.specs.Problem.{Problem}
 use Rattle.pfs_base.specs.Text.{with_line_end, spaced}
@@ -25,7 +24,7 @@ use Rattle.pfs_layout.specs.Lines.{lines, open_line, ended_lines, ended_parts, o
 use Rattle.pfs_layout.specs.Size.{size_of}
 use Rattle.pfs_layout.specs.Block.{due_row, row_count, due, stated_size}
 use Rattle.pfs_layout.specs.File.{IsInstance, IsBody, IsBlock}
-use Rattle.pfs_layout.specs.CanonicalText.{head_lines, row_lines, canonical_text, as_written, CanonicalLaw}
+use Rattle.pfs_layout.specs.CanonicalText.{head_lines, row_lines, canonical_text, as_written, CanonicalLaw, TextsFit}
 use Rattle.pfs_layout.proofs.Files.LineLemmas.{split_is}
 use Rattle.pfs_layout.proofs.Files.SoundLemmas.{values_last}
 use Rattle.pfs_layout.proofs.Files.DueLemmas.{length-due_row, row_width}
@@ -292,7 +291,7 @@ block_is layout problem is =
       within = written_within layout problem is;
     }
 
-text_short : (layout : Layout) (problem : Problem) → IsInstance limits problem → length (canonical_text layout problem) ≤ LONGEST_INPUT
+pub text_short : TextsFit
 unfolding canonical_text
 text_short layout problem is =
     omega (arith, length-append (head_lines layout (size_of problem)) (row_lines layout problem.shop), length-head_lines layout (size_of problem) (numbers_fit layout problem is), length-row_lines layout problem.shop is.within)
