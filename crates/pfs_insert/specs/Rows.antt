@@ -68,8 +68,3 @@ pub record HasTails {X : Type 0} (number : X → ℕ) (shop : FlowShop) (jobs : 
 -- the row of a job that is inserted at a place
 pub record IsPut {X : Type 0} (number : X → ℕ) (shop : FlowShop) (jobs : List ℕ) (job place : ℕ) (row : List X) : Type 0 where
   pub row_is : AreNumbers number row shop.machines (heaviest_front shop (insert jobs place job) place)
-
--- how many jobs and machines the shops have that an inserter was made for
-pub record Sizes : Type 0 where
-  pub jobs : ℕ
-  pub machines : ℕ

@@ -35,7 +35,8 @@ struct Table<S: Length> {
 
 impl<S: Length> Model for Table<S> {
     ghost use Rattle.std.specs.Prelude.{◌≡◌, ◌+◌, ◌-◌, ◌*◌, vec_len};
-    ghost use Rattle.pfs_insert.specs.Rows.{Sizes, AreNumbers, AreNumbersFrom};
+    ghost use Rattle.pfs_insert.specs.Inserter.{Sizes};
+    ghost use Rattle.pfs_insert.specs.Rows.{AreNumbers, AreNumbersFrom};
 
     ghost Value = { Sizes };
 
@@ -51,8 +52,9 @@ impl<S: Length> Model for Table<S> {
 impl<B: Bench> HeadsTails<B> {
     /// An inserter for shops of the bench's sizes. It asks for the memory of its table.
     pub fn new(alloc: Global, bench: &B) -> Result<HeadsTails<B>, InsertFault>
-        ensures jobs { IfOk result (λ made. ⟦<HeadsTails<B> as Inserter<B>>⟧.jobs made ≡ (B.shop bench.now).jobs) }
-        ensures machines { IfOk result (λ made. ⟦<HeadsTails<B> as Inserter<B>>⟧.machines made ≡ (B.shop bench.now).machines) }
+        ensures jobs { IfOk result (λ made. (⟦<HeadsTails<B> as Inserter<B>>⟧.sizes made).jobs ≡ (B.shop bench.now).jobs) }
+        ensures machines { IfOk result (λ made.
+            (⟦<HeadsTails<B> as Inserter<B>>⟧.sizes made).machines ≡ (B.shop bench.now).machines) }
     {
         let jobs = bench.jobs();
         let machines = bench.machines();
@@ -77,9 +79,7 @@ impl<B: Bench> HeadsTails<B> {
 }
 
 impl<B: Bench> Inserter<B> for HeadsTails<B> {
-    ghost jobs = { λ a. a.table.jobs };
-
-    ghost machines = { λ a. a.table.machines };
+    ghost sizes = { λ a. a.table };
 
     ghost cost = { heads_tails_cost };
 

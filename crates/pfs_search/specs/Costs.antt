@@ -23,6 +23,9 @@ round_cost cost jobs machines many passes =
     insertions_cost cost machines (jobs - many) many + passes * pass_cost cost jobs machines
 
 -- the same on a shop
+abbrev pub neh_cost_on : (ℕ → ℕ → ℕ) → FlowShop → ℕ
+neh_cost_on cost shop = neh_cost cost shop.jobs shop.machines
+
 abbrev pub pass_cost_on : (ℕ → ℕ → ℕ) → FlowShop → ℕ
 pass_cost_on cost shop = pass_cost cost shop.jobs shop.machines
 

@@ -1,7 +1,9 @@
 //! One round of iterated greedy, and the words of the next.
-ghost use Rattle.std.specs.Prelude.{◌≡◌, ℕ, ◌+◌, ◌<◌, ◌≤◌, ◌^◌, ◌++◌, length, take, vec_len, vec_capacity, false, IsOk, OnOk, OnErr};
+ghost use Rattle.std.specs.Prelude.{◌≡◌, ℕ, ◌+◌, ◌<◌, ◌≤◌, ◌^◌, ◌++◌, length, take};
+ghost use Rattle.std.specs.Prelude.{vec_len, vec_capacity, false, IsOk, OnOk, OnErr};
 ghost use Rattle.pfs_base.specs.Paths.{makespan};
 ghost use Rattle.pfs_order.specs.Sequence.{IsSequence};
+ghost use Rattle.pfs_insert.specs.Inserter.{Counts, Fits};
 ghost use Rattle.pfs_search.specs.Costs.{round_cost_on};
 ghost use Rattle.pfs_search.specs.Greedy.{after_round, jobs_left, jobs_taken, stream_after, words_of};
 
@@ -26,28 +28,24 @@ pub(crate) fn play_round<B: Bench, I: Inserter<B>>(
     words: &[u32],
     passes: u32,
 ) -> Result<(), InsertFault>
-    requires own_jobs { seq.old.size ≡ (B.shop bench.old).jobs }
-    requires inserter_jobs { I.jobs inserter.old ≡ (B.shop bench.old).jobs }
-    requires inserter_machines { I.machines inserter.old ≡ (B.shop bench.old).machines }
-    requires kept_jobs { length kept.old.order ≡ (B.shop bench.old).jobs }
+    requires fits { Fits (B.shop bench.old) (I.sizes inserter.old) seq.old.size }
+    requires order_jobs { length kept.old.order ≡ (B.shop bench.old).jobs }
     requires kept_span { B.Span.number kept.old.span ≡ makespan (B.shop bench.old) kept.old.order }
     requires some { 1 ≤ length words.now }
     requires few { length words.now ≤ (B.shop bench.old).jobs }
     requires taken { (B.shop bench.old).jobs ≤ vec_capacity taken.old }
-    requires room { B.counted bench.old + round_cost_on I.cost (B.shop bench.old) (length words.now) passes < 2 ^ 64 }
+    requires room { B.counted bench.old
+        + round_cost_on I.cost (B.shop bench.old) (length words.now) passes < 2 ^ 64 }
     ensures order { OnOk result (kept.new.order ≡ after_round (B.shop bench.old) passes kept.old.order words.now) }
     ensures span { B.Span.number kept.new.span ≡ makespan (B.shop bench.old) kept.new.order }
     ensures never_rises { B.Span.number kept.new.span ≤ B.Span.number kept.old.span }
-    ensures counted { OnOk result (B.counted bench.new ≡ B.counted bench.old + round_cost_on I.cost (B.shop bench.old) (length words.now) passes) }
+    ensures cells { Counts result (B.counted bench.old) (B.counted bench.new)
+        (round_cost_on I.cost (B.shop bench.old) (length words.now) passes) }
     ensures unchanged { OnErr result (kept.new ≡ kept.old) }
-    ensures fault_low { OnErr result (B.counted bench.old ≤ B.counted bench.new) }
-    ensures fault_high { OnErr result (B.counted bench.new ≤ B.counted bench.old + round_cost_on I.cost (B.shop bench.old) (length words.now) passes) }
     ensures succeeds { I.can_refuse ≡ false → IsOk result }
     ensures shop { B.shop bench.new ≡ B.shop bench.old }
-    ensures same_size { seq.new.size ≡ seq.old.size }
-    ensures same_jobs { I.jobs inserter.new ≡ I.jobs inserter.old }
-    ensures same_machines { I.machines inserter.new ≡ I.machines inserter.old }
-    ensures same_order_size { length kept.new.order ≡ length kept.old.order }
+    ensures still_fits { Fits (B.shop bench.new) (I.sizes inserter.new) seq.new.size }
+    ensures order_jobs { length kept.new.order ≡ (B.shop bench.new).jobs }
     ensures same_room { vec_capacity taken.old ≤ vec_capacity taken.new }
 {
     take_jobs(kept.order.seq(), seq, taken, words);

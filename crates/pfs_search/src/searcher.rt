@@ -1,10 +1,12 @@
 //! The searcher: NEH and rounds of iterated greedy.
 ghost use Rattle.std.specs.Prelude.{◌≡◌, ℕ, ◌+◌, ◌*◌, ◌<◌, ◌≤◌, ◌^◌, length, false, IsOk, IfOk, OnOk, OnErr, IfErr};
 ghost use Rattle.pfs_base.specs.Paths.{makespan};
+ghost use Rattle.pfs_insert.specs.Inserter.{Counts};
 ghost use Rattle.pfs_search.specs.Neh.{neh_order};
-ghost use Rattle.pfs_search.specs.Costs.{neh_cost, round_cost_on};
+ghost use Rattle.pfs_search.specs.Costs.{neh_cost_on, round_cost_on};
 ghost use Rattle.pfs_search.specs.Greedy.{after_round, after_rounds, stream_after, words_of};
 ghost use Rattle.pfs_search.specs.RoundsStop.{RoundsStop};
+ghost use Rattle.pfs_search.specs.SearcherView.{AllFit};
 
 use crate::fault::SearchFault;
 use crate::greedy::{draw_words, play_round};
@@ -93,24 +95,17 @@ impl<I> Searcher<I> {
     ) -> Result<(), SearchFault>
     where
         I: Inserter<B>,
-        requires own_jobs { self.old.size ≡ (B.shop bench.old).jobs }
-        requires inserter_jobs { I.jobs self.old.inserter ≡ (B.shop bench.old).jobs }
-        requires inserter_machines { I.machines self.old.inserter ≡ (B.shop bench.old).machines }
-        requires kept_jobs { length kept.old.order ≡ (B.shop bench.old).jobs }
-        requires room { B.counted bench.old + neh_cost I.cost (B.shop bench.old).jobs (B.shop bench.old).machines < 2 ^ 64 }
+        requires fit { AllFit (B.shop bench.old) I.sizes self.old kept.old.order }
+        requires room { B.counted bench.old + neh_cost_on I.cost (B.shop bench.old) < 2 ^ 64 }
         ensures order { OnOk result (kept.new.order ≡ neh_order (B.shop bench.old)) }
         ensures span { OnOk result (B.Span.number kept.new.span ≡ makespan (B.shop bench.old) kept.new.order) }
-        ensures counted { OnOk result (B.counted bench.new ≡ B.counted bench.old + neh_cost I.cost (B.shop bench.old).jobs (B.shop bench.old).machines) }
+        ensures cells { Counts result (B.counted bench.old) (B.counted bench.new)
+            (neh_cost_on I.cost (B.shop bench.old)) }
         ensures fault { IfErr result (λ fault. fault ≡ SearchFault.Memory 0) }
         ensures unchanged { OnErr result (kept.new ≡ kept.old) }
-        ensures fault_low { OnErr result (B.counted bench.old ≤ B.counted bench.new) }
-        ensures fault_high { OnErr result (B.counted bench.new ≤ B.counted bench.old + neh_cost I.cost (B.shop bench.old).jobs (B.shop bench.old).machines) }
         ensures succeeds { I.can_refuse ≡ false → IsOk result }
         ensures shop { B.shop bench.new ≡ B.shop bench.old }
-        ensures same_size { self.new.size ≡ self.old.size }
-        ensures same_jobs { I.jobs self.new.inserter ≡ I.jobs self.old.inserter }
-        ensures same_machines { I.machines self.new.inserter ≡ I.machines self.old.inserter }
-        ensures same_order_size { length kept.new.order ≡ length kept.old.order }
+        ensures still_fit { AllFit (B.shop bench.new) I.sizes self.new kept.new.order }
     {
         rank_jobs(bench, &mut self.ranked, &mut self.taken);
         clear(&mut self.seq);
@@ -138,29 +133,23 @@ impl<I> Searcher<I> {
     ) -> Result<(), SearchFault>
     where
         I: Inserter<B>,
-        requires own_jobs { self.old.size ≡ (B.shop bench.old).jobs }
-        requires inserter_jobs { I.jobs self.old.inserter ≡ (B.shop bench.old).jobs }
-        requires inserter_machines { I.machines self.old.inserter ≡ (B.shop bench.old).machines }
-        requires kept_jobs { length kept.old.order ≡ (B.shop bench.old).jobs }
+        requires fit { AllFit (B.shop bench.old) I.sizes self.old kept.old.order }
         requires kept_span { B.Span.number kept.old.span ≡ makespan (B.shop bench.old) kept.old.order }
         requires some { 1 ≤ length words.now }
         requires few { length words.now ≤ (B.shop bench.old).jobs }
         requires passes { passes ≤ MOST_PASSES }
-        requires room { B.counted bench.old + round_cost_on I.cost (B.shop bench.old) (length words.now) passes < 2 ^ 64 }
+        requires room { B.counted bench.old
+            + round_cost_on I.cost (B.shop bench.old) (length words.now) passes < 2 ^ 64 }
         ensures order { OnOk result (kept.new.order ≡ after_round (B.shop bench.old) passes kept.old.order words.now) }
         ensures span { B.Span.number kept.new.span ≡ makespan (B.shop bench.old) kept.new.order }
         ensures never_rises { B.Span.number kept.new.span ≤ B.Span.number kept.old.span }
-        ensures counted { OnOk result (B.counted bench.new ≡ B.counted bench.old + round_cost_on I.cost (B.shop bench.old) (length words.now) passes) }
+        ensures cells { Counts result (B.counted bench.old) (B.counted bench.new)
+            (round_cost_on I.cost (B.shop bench.old) (length words.now) passes) }
         ensures fault { IfErr result (λ fault. fault ≡ SearchFault.Memory 0) }
         ensures unchanged { OnErr result (kept.new ≡ kept.old) }
-        ensures fault_low { OnErr result (B.counted bench.old ≤ B.counted bench.new) }
-        ensures fault_high { OnErr result (B.counted bench.new ≤ B.counted bench.old + round_cost_on I.cost (B.shop bench.old) (length words.now) passes) }
         ensures succeeds { I.can_refuse ≡ false → IsOk result }
         ensures shop { B.shop bench.new ≡ B.shop bench.old }
-        ensures same_size { self.new.size ≡ self.old.size }
-        ensures same_jobs { I.jobs self.new.inserter ≡ I.jobs self.old.inserter }
-        ensures same_machines { I.machines self.new.inserter ≡ I.machines self.old.inserter }
-        ensures same_order_size { length kept.new.order ≡ length kept.old.order }
+        ensures still_fit { AllFit (B.shop bench.new) I.sizes self.new kept.new.order }
     {
         let (inserter, seq, taken) = (&mut self.inserter, &mut self.seq, &mut self.taken);
         match play_round(alloc, inserter, bench, seq, taken, kept, words, passes) {
@@ -184,31 +173,24 @@ impl<I> Searcher<I> {
     ) -> Result<(), SearchFault>
     where
         I: Inserter<B>,
-        requires own_jobs { self.old.size ≡ (B.shop bench.old).jobs }
-        requires inserter_jobs { I.jobs self.old.inserter ≡ (B.shop bench.old).jobs }
-        requires inserter_machines { I.machines self.old.inserter ≡ (B.shop bench.old).machines }
-        requires kept_jobs { length kept.old.order ≡ (B.shop bench.old).jobs }
+        requires fit { AllFit (B.shop bench.old) I.sizes self.old kept.old.order }
         requires kept_span { B.Span.number kept.old.span ≡ makespan (B.shop bench.old) kept.old.order }
         requires some { 1 ≤ take }
         requires few { take ≤ (B.shop bench.old).jobs }
         requires passes { passes ≤ MOST_PASSES }
         requires room { B.counted bench.old + count * round_cost_on I.cost (B.shop bench.old) take passes < 2 ^ 64 }
-        ensures order { OnOk result (kept.new.order ≡
-            after_rounds (B.shop bench.old) passes count take kept.old.order (words_of (count * take) (R.stream rng.old))) }
+        ensures order { OnOk result (kept.new.order ≡ after_rounds (B.shop bench.old) passes count take
+            kept.old.order (words_of (count * take) (R.stream rng.old))) }
         ensures span { B.Span.number kept.new.span ≡ makespan (B.shop bench.old) kept.new.order }
         ensures never_rises { B.Span.number kept.new.span ≤ B.Span.number kept.old.span }
-        ensures counted { OnOk result (B.counted bench.new ≡ B.counted bench.old + count * round_cost_on I.cost (B.shop bench.old) take passes) }
+        ensures cells { Counts result (B.counted bench.old) (B.counted bench.new)
+            (count * round_cost_on I.cost (B.shop bench.old) take passes) }
         ensures words { OnOk result (R.stream rng.new ≡ stream_after (count * take) (R.stream rng.old)) }
         ensures fault { IfErr result (RoundsStop (B.shop bench.old) passes count take
             kept.old.order kept.new.order (R.stream rng.old) (R.stream rng.new)) }
-        ensures fault_low { OnErr result (B.counted bench.old ≤ B.counted bench.new) }
-        ensures fault_high { OnErr result (B.counted bench.new ≤ B.counted bench.old + count * round_cost_on I.cost (B.shop bench.old) take passes) }
         ensures succeeds { I.can_refuse ≡ false → IsOk result }
         ensures shop { B.shop bench.new ≡ B.shop bench.old }
-        ensures same_size { self.new.size ≡ self.old.size }
-        ensures same_jobs { I.jobs self.new.inserter ≡ I.jobs self.old.inserter }
-        ensures same_machines { I.machines self.new.inserter ≡ I.machines self.old.inserter }
-        ensures same_order_size { length kept.new.order ≡ length kept.old.order }
+        ensures still_fit { AllFit (B.shop bench.new) I.sizes self.new kept.new.order }
     {
         for done in 0..count {
             draw_words(rng, &mut self.words, take);

@@ -28,8 +28,8 @@ play_round-requires-clause-room g c =
     (next_fits (g.B.Bench.counted c.args.bench.now) (g.B.Bench.counted c.loop-done.bench) (round_cost_on cost shop many c.args.passes) c.loop-done.done c.args.count (2 ^ 64)
     c.loop-done-test.true c.loop-done.invariant.counted c.requires.room)
 
-pub returns-in-Err-clause-fault_high : goal.returns-in-Err-clause-fault_high
-returns-in-Err-clause-fault_high g c =
+pub returns-in-Err-clause-cells : goal.returns-in-Err-clause-cells
+returns-in-Err-clause-cells g c =
     let many = c.args.take in
     let cost = g.I.Inserter.cost in
     let shop = g.B.Bench.shop c.args.bench.now in
@@ -37,10 +37,14 @@ returns-in-Err-clause-fault_high g c =
     let words = take many c.deref.result.now in
     let long : length words ≡ many = length-take-le many c.deref.result.now (omega (arith, c.loop-done.invariant.words)) in
     let cells = ap (λ n. round_cost_on cost here n c.args.passes) long ∙ ap (λ (t : FlowShop). round_cost_on cost t many c.args.passes) c.loop-done.invariant.same_shop in
-    next_within (g.B.Bench.counted c.args.bench.now) (g.B.Bench.counted c.loop-done.bench) (g.B.Bench.counted c.play_round.new.bench)
-    (round_cost_on cost shop many c.args.passes) c.loop-done.done c.args.count
-    c.loop-done-test.true c.loop-done.invariant.counted
-    (subst (λ n. g.B.Bench.counted c.play_round.new.bench ≤ g.B.Bench.counted c.loop-done.bench + n) cells c.in-Err.ensures.fault_high)
+    let refused = c.in-Err.ensures.cells in
+    record {
+      counted = tt;
+      fault_low = omega (arith, refused.fault_low, c.loop-done.invariant.counted);
+      fault_high = next_within (g.B.Bench.counted c.args.bench.now) (g.B.Bench.counted c.loop-done.bench) (g.B.Bench.counted c.play_round.new.bench)
+          (round_cost_on cost shop many c.args.passes) c.loop-done.done c.args.count c.loop-done-test.true c.loop-done.invariant.counted
+          (subst (λ n. g.B.Bench.counted c.play_round.new.bench ≤ g.B.Bench.counted c.loop-done.bench + n) cells refused.fault_high);
+    }
 
 pub returns-in-Err-clause-fault : goal.returns-in-Err-clause-fault
 returns-in-Err-clause-fault g c =
@@ -66,19 +70,17 @@ loop-done-preserved g c =
     let long : length (take many c.deref.result.now) ≡ many = ap length drawn ∙ length-words_of many (stream_after (done * many) s) in
     let cost = ap (λ n. round_cost g.I.Inserter.cost (g.B.Bench.shop c.loop-done.bench).jobs (g.B.Bench.shop c.loop-done.bench).machines n c.args.passes) long in
     let same_cost = ap (λ (t : FlowShop). round_cost g.I.Inserter.cost t.jobs t.machines many c.args.passes) invariant.same_shop in
-    let counted = gives.counted in
+    let counted = gives.cells.counted in
     let falls = gives.never_rises in
     record {
       same_shop = gives.shop ∙ invariant.same_shop;
       size = invariant.size;
-      seq = gives.same_size ∙ invariant.seq;
       ranked = invariant.ranked;
       taken = omega (arith, gives.same_room, invariant.taken);
       words = omega (arith, c.draw_words.ensures.len, invariant.words);
-      jobs = gives.same_jobs ∙ invariant.jobs;
-      machines = gives.same_machines ∙ invariant.machines;
+      fits = gives.still_fits;
       counted = omega (arith, invariant.counted);
-      order_size = gives.same_order_size ∙ invariant.order_size;
+      order_jobs = gives.order_jobs;
       order = gives.order
           ∙ ap (λ (t : FlowShop). after_round t c.args.passes kept (take many c.deref.result.now)) invariant.same_shop
           ∙ ap (after_round shop c.args.passes kept) drawn
