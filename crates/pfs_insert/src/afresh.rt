@@ -23,7 +23,8 @@ pub struct Afresh<B> {
 impl<B: Bench> Afresh<B> {
     /// An inserter for shops of the bench's sizes. It asks for the memory of a sequence of all jobs.
     pub fn new(alloc: Global, bench: &B) -> Result<Afresh<B>, InsertFault>
-        ensures jobs { IfOk result (λ made. (⟦<Afresh<B> as Inserter<B>>⟧.sizes made).jobs ≡ (B.shop bench.now).jobs) }
+        ensures jobs { IfOk result (λ made.
+            (⟦<Afresh<B> as Inserter<B>>⟧.sizes made).jobs ≡ (B.shop bench.now).jobs) }
         ensures machines { IfOk result (λ made.
             (⟦<Afresh<B> as Inserter<B>>⟧.sizes made).machines ≡ (B.shop bench.now).machines) }
     {
