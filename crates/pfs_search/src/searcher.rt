@@ -14,6 +14,7 @@ use crate::insertions::{clear, insert_all};
 use crate::kept::Kept;
 use crate::passes::MOST_PASSES;
 use crate::rankings::rank_jobs;
+use crate::workspace::Workspace;
 use pfs_base::{Bench, Length, MOST_JOBS, Shop};
 use pfs_insert::Inserter;
 use pfs_order::Seq;
@@ -27,10 +28,8 @@ use std::marker::Model;
 #[derive(Drop)]
 pub struct Searcher<I> {
     size: usize,
-    inserter: I,
-    seq: Seq,
+    work: Workspace<I>,
     ranked: Vec<(Reverse<u64>, usize)>,
-    taken: Vec<usize>,
     words: Vec<u32>,
 }
 
@@ -40,12 +39,12 @@ impl<I> Model for Searcher<I> {
 
     ghost Value = { SearcherView I };
 
-    ghost view = { λ a. record { size = a.size; inserter = a.inserter } };
+    ghost view = { λ a. record { size = a.size; inserter = a.work.inserter } };
 
     ghost invariant = { λ a. record {
-      seq : a.seq.size ≡ a.size;
+      seq : a.work.seq.size ≡ a.size;
+      queue : a.size ≤ vec_capacity a.work.queue;
       ranked : a.size ≤ vec_capacity a.ranked;
-      taken : a.size ≤ vec_capacity a.taken;
       words : a.size ≤ vec_len a.words;
     } };
 }
@@ -66,7 +65,7 @@ impl<I> Searcher<I> {
         let Ok(ranked) = Vec::with_capacity(alloc, size) else {
             return Err(SearchFault::Memory { done: 0 });
         };
-        let Ok(taken) = Vec::with_capacity(alloc, size) else {
+        let Ok(queue) = Vec::with_capacity(alloc, size) else {
             return Err(SearchFault::Memory { done: 0 });
         };
         let mut words = Vec::new(alloc);
@@ -75,10 +74,12 @@ impl<I> Searcher<I> {
         }
         Ok(Searcher {
             size,
-            inserter,
-            seq,
+            work: Workspace {
+                inserter,
+                seq,
+                queue,
+            },
             ranked,
-            taken,
             words,
         })
     }
@@ -107,13 +108,14 @@ impl<I> Searcher<I> {
         ensures shop { B.shop bench.new ≡ B.shop bench.old }
         ensures still_fit { AllFit (B.shop bench.new) I.sizes self.new kept.new.order }
     {
-        rank_jobs(bench, &mut self.ranked, &mut self.taken);
-        clear(&mut self.seq);
-        let Ok(span) = insert_all(alloc, &mut self.inserter, bench, &mut self.seq, &self.taken)
+        let work = &mut self.work;
+        rank_jobs(bench, &mut self.ranked, &mut work.queue);
+        clear(&mut work.seq);
+        let Ok(span) = insert_all(alloc, &mut work.inserter, bench, &mut work.seq, &work.queue)
         else {
             return Err(SearchFault::Memory { done: 0 });
         };
-        kept.order.copy_from(&self.seq);
+        kept.order.copy_from(&work.seq);
         kept.span = span;
         Ok(())
     }
@@ -151,8 +153,7 @@ impl<I> Searcher<I> {
         ensures shop { B.shop bench.new ≡ B.shop bench.old }
         ensures still_fit { AllFit (B.shop bench.new) I.sizes self.new kept.new.order }
     {
-        let (inserter, seq, taken) = (&mut self.inserter, &mut self.seq, &mut self.taken);
-        match play_round(alloc, inserter, bench, seq, taken, kept, words, passes) {
+        match play_round(alloc, &mut self.work, bench, kept, words, passes) {
             Ok(()) => Ok(()),
             Err(_) => Err(SearchFault::Memory { done: 0 }),
         }
@@ -194,17 +195,8 @@ impl<I> Searcher<I> {
     {
         for done in 0..count {
             draw_words(rng, &mut self.words, take);
-            let (inserter, seq, taken) = (&mut self.inserter, &mut self.seq, &mut self.taken);
-            match play_round(
-                alloc,
-                inserter,
-                bench,
-                seq,
-                taken,
-                kept,
-                &self.words[..take],
-                passes,
-            ) {
+            let drawn = &self.words[..take];
+            match play_round(alloc, &mut self.work, bench, kept, drawn, passes) {
                 Ok(()) => {}
                 Err(_) => return Err(SearchFault::Memory { done }),
             }

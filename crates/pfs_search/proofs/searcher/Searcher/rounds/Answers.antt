@@ -75,8 +75,8 @@ loop-done-preserved g c =
     record {
       same_shop = gives.shop ∙ invariant.same_shop;
       size = invariant.size;
+      queue = omega (arith, gives.same_room, invariant.queue);
       ranked = invariant.ranked;
-      taken = omega (arith, gives.same_room, invariant.taken);
       words = omega (arith, c.draw_words.ensures.len, invariant.words);
       fits = gives.still_fits;
       counted = omega (arith, invariant.counted);

@@ -15,10 +15,10 @@ invariant-loop-done g l =
     record {
       same_shop : g.B.Bench.shop l.bench ≡ shop;
       size : inside.size ≡ shop.jobs;
+      queue : shop.jobs ≤ vec_capacity inside.work.queue;
       ranked : shop.jobs ≤ vec_capacity inside.ranked;
-      taken : shop.jobs ≤ vec_capacity inside.taken;
       words : shop.jobs ≤ vec_len inside.words;
-      fits : Fits (g.B.Bench.shop l.bench) (g.I.Inserter.sizes inside.inserter) inside.seq.size;
+      fits : Fits (g.B.Bench.shop l.bench) (g.I.Inserter.sizes inside.work.inserter) inside.work.seq.size;
       counted : g.B.Bench.counted l.bench
           ≡ g.B.Bench.counted l.fn.bench + l.done * round_cost_on g.I.Inserter.cost shop l.take l.passes;
       order_jobs : length l.kept.order ≡ (g.B.Bench.shop l.bench).jobs;
