@@ -82,7 +82,7 @@ pub record HasTails {X : Type 0} (number : X → ℕ) (shop : FlowShop) (jobs : 
     : Type 0 where
   pub rows_are : (place : ℕ) → from ≤ place → place ≤ length jobs
       → AreNumbersFrom number rows ((shop.jobs - 1 - length jobs + place) * shop.machines) shop.machines
-          (heaviest_back shop jobs place)
+      (heaviest_back shop jobs place)
 
 -- a sequence of the shop's jobs that has room for one more
 pub record IsPartial (shop : FlowShop) (seq : Sequence) : Type 0 where

@@ -43,7 +43,7 @@ pub record HasClosedCosts (cost : ℕ → ℕ → ℕ) : Type 0 where
   pub pass : (jobs machines : ℕ) → pass_cost cost jobs machines ≡ jobs * machines * (4 * jobs - 2)
   pub round : (jobs machines take passes : ℕ) → take ≤ jobs
       → round_cost cost jobs machines take passes
-          ≡ 2 * take * machines * (2 * jobs - take) + passes * jobs * machines * (4 * jobs - 2)
+      ≡ 2 * take * machines * (2 * jobs - take) + passes * jobs * machines * (4 * jobs - 2)
   pub rounds : (count jobs machines take passes : ℕ) → take ≤ jobs
       → count * round_cost cost jobs machines take passes ≤ count * (take + passes * jobs) * machines * (4 * jobs - 2)
 

@@ -49,7 +49,14 @@ pub(crate) fn play_round<B: Bench, I: Inserter<B>>(
 {
     take_jobs(kept.order.seq(), &mut work.seq, &mut work.queue, words);
     let rebuilt = insert_all(alloc, &mut work.inserter, bench, &mut work.seq, &work.queue)?;
-    let span = make_passes(alloc, &mut work.inserter, bench, &mut work.seq, rebuilt, passes)?;
+    let span = make_passes(
+        alloc,
+        &mut work.inserter,
+        bench,
+        &mut work.seq,
+        rebuilt,
+        passes,
+    )?;
     if span <= kept.span {
         kept.order.copy_from(&work.seq);
         kept.span = span;

@@ -126,7 +126,7 @@ returns-clause-table g c =
       no_tail = λ machine d lt.
           let at = (shop.jobs - 1) * shop.machines + machine in
           ap number (get_behind heads (tails ++ c.best_by_rows.new.put) (shop.jobs * shop.machines) at ((2 * shop.jobs - 1) * shop.machines + machine) d long
-              (no_tail_at shop.jobs shop.machines some machine)
+          (no_tail_at shop.jobs shop.machines some machine)
           ∙ get_or_append_left tails c.best_by_rows.new.put d at (omega arith))
           ∙ ap (λ r. number (get_or tails (r * shop.machines + machine) d)) (sym all)
           ∙ c.fill_tails.ensures.tails.rows_are len (omega arith) (omega arith) machine d lt ∙ back_none shop jobs len machine (omega arith);
