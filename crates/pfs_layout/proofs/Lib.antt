@@ -1,5 +1,6 @@
 pub mod Published
 mod Computing
+mod Tables
 pub mod Files
 pub mod GeneratorLemmas
 pub mod Reading

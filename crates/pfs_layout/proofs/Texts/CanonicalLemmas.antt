@@ -15,7 +15,8 @@ use Rattle.pfs_layout.specs.declared.layout.Layout.TheVariants.{Taillard, OrLib}
 use Rattle.pfs_layout.specs.Size.{Size, size_of}
 use Rattle.pfs_layout.specs.Block.{due_row, row_count}
 use Rattle.pfs_layout.specs.CanonicalText.{head_lines, row_line, row_lines, canonical_text}
-use Rattle.pfs_layout.proofs.Files.DueLemmas.{length-due_row, row_width, pairs_of, at_row, short_at}
+use Rattle.pfs_layout.proofs.Files.DueLemmas.{length-due_row, row_width, pairs_of, short_at}
+use Rattle.pfs_layout.proofs.Tables.{at_row}
 use Rattle.pfs_layout.proofs.Texts.WritingLemmas.{time_in_row, pair_in_row}
 
 -- the numbers are of 64 bits
@@ -66,7 +67,7 @@ pub row_fits : (layout : Layout) (shop : FlowShop) (row : ℕ) → IsWithin limi
 row_fits Taillard shop machine within k less =
     omega (arith, time_in_row shop machine k (omega (arith, length-due_row Taillard shop machine)), short_at shop.times within.short_times (k * shop.machines + machine))
 row_fits OrLib shop job within k less =
-    let pair = at_row k shop.machines 2 (lit< tt) (omega (arith, length-due_row OrLib shop job)) in
+    let pair = at_row k shop.machines 2 (omega (arith, length-due_row OrLib shop job)) in
     let place : k ≡ 2 * pair.row + pair.column = omega (arith, pair.is) in
     let number : get_or (due_row OrLib shop job) k 0 ≡ get_or (pairs_of shop job pair.row) pair.column 0 =
     ap (λ i. get_or (due_row OrLib shop job) i 0) place ∙ pair_in_row shop job pair.row pair.column pair.row_in pair.column_in in

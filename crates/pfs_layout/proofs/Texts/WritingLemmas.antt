@@ -14,7 +14,8 @@ use Rattle.pfs_layout.specs.declared.layout.Layout.{Layout}
 use Rattle.pfs_layout.specs.declared.layout.Layout.TheVariants.{Taillard, OrLib}
 use Rattle.pfs_layout.specs.Block.{due_row, row_count}
 use Rattle.pfs_layout.specs.CanonicalText.{row_line, row_lines}
-use Rattle.pfs_layout.proofs.Files.DueLemmas.{get_or-rows, length-due_row, row_width, pairs_of}
+use Rattle.pfs_layout.proofs.Files.DueLemmas.{length-due_row, row_width, pairs_of}
+use Rattle.pfs_layout.proofs.Tables.{rows_at}
 
 -- the first numbers of a row's line
 abbrev pub row_begun : Layout → FlowShop → ℕ → ℕ → List ℕ
@@ -28,10 +29,7 @@ pub pair_in_row : (shop : FlowShop) (job machine column : ℕ) → machine < sho
 unfolding due_row
 pair_in_row shop job machine column less within =
     let place : 2 * machine + column ≡ machine * 2 + column = omega arith in
-    let same : 0 + machine ≡ machine = omega arith in
-    ap (λ i. get_or (due_row OrLib shop job) i 0) place
-    ∙ get_or-rows (pairs_of shop job) 2 (λ i. refl) 0 shop.machines machine column 0 less within
-    ∙ ap (λ m. get_or (pairs_of shop job m) column 0) same
+    rw place (rows_at (pairs_of shop job) 2 (λ i. refl) shop.machines machine column 0 less within)
 
 -- a row goes on with its next number
 pub time_on : (shop : FlowShop) (machine job : ℕ) → job < shop.jobs

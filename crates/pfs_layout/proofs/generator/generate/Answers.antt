@@ -38,4 +38,4 @@ loop-machine-preserved c =
 pub returns-clause-drawn : goal.returns-clause-drawn
 returns-clause-drawn c =
     let all : c.loop-machine.machine ≡ c.args.machines = omega (arith, c.loop-machine-test.false, c.loop-machine.auto.machine-end) in
-    drawn_all c.args.jobs c.args.machines c.args.seed c.loop-machine.drawn c.loop-machine.instance (omega (arith, c.requires.some_machine)) (rw all at c.loop-machine.invariant)
+    drawn_all c.args.jobs c.args.machines c.args.seed _ c.loop-machine.instance (rw all at c.loop-machine.invariant)
