@@ -1,5 +1,6 @@
 pub mod Published
 mod Computing
+mod Options
 mod Tables
 pub mod Files
 pub mod GeneratorLemmas

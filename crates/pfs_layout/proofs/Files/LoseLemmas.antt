@@ -20,7 +20,8 @@ use Rattle.pfs_layout.specs.Block.{Due, any_time, machine_number, nothing, is_du
 use Rattle.pfs_layout.specs.Stand.{Block, Now, seeking, inside, lost, Stand, after_size, after_numbers, after_line}
 use Rattle.pfs_layout.specs.Refuse.{ends_line, ends_number, too_long, mixed_line, misfit, wrong_number, size_fault, wrong_size, ends_early, faults}
 use Rattle.pfs_layout.proofs.Files.LineLemmas.{IsSome, split_some, numbers_is, values-append}
-use Rattle.pfs_layout.proofs.Files.SoundLemmas.{if_some, values_last, same_last}
+use Rattle.pfs_layout.proofs.Files.SoundLemmas.{values_last, same_last}
+use Rattle.pfs_layout.proofs.Options.{alone, if_some, one_of, then_some_some}
 use Rattle.pfs_layout.proofs.Files.BlockLemmas.{are_due_front}
 use Rattle.pfs_layout.proofs.Files.RoundLemmas.{due_number}
 
@@ -46,10 +47,6 @@ pub data LineAt (text : List ℕ) (next : Option ℕ) (line : List ℕ) : Type 0
   ends_here : ends_line text next ≡ true → line ≡ open_line text → LineAt text next line
   goes_on : (b : ℕ) (tail : List ℕ) → next ≡ Some b → is_line_end b ≡ false → line ≡ open_line text ++ b ∷ tail
       → LineAt text next line
-
-then_some_some : {A : Type 0} (c : Bool) (x y : A) → then_some c x ≡ Some y → c ≡ true
-then_some_some true x y e = refl
-then_some_some false x y e = cc
 
 -- ---- a size line
 
@@ -153,14 +150,6 @@ wrong_number_not_due layout block text next fault line e at = false_from_ne_true
     cc)
 
 -- ---- any of them
-
-alone : {A : Type 0} (o : Option A) (x : A) → first_some (o ∷ None ∷ []) ≡ Some x → o ≡ Some x
-alone None x e = cc
-alone (Some y) x e = e
-
-one_of : {A : Type 0} (o p : Option A) (x : A) → first_some (o ∷ p ∷ None ∷ []) ≡ Some x → (o ≡ Some x) ⊎ (p ≡ Some x)
-one_of None p x e = inr (alone p x e)
-one_of (Some y) p x e = inl e
 
 not_due_lost : (layout : Layout) (complete : List Block) (block : Block) (line : List ℕ)
     → are_due layout block.size (block.numbers ++ numbers line) ≡ false

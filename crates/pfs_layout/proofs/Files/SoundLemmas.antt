@@ -22,34 +22,7 @@ use Rattle.pfs_layout.specs.Stand.{Block, Now, seeking, inside, lost, Stand, sta
 use Rattle.pfs_layout.specs.Refuse.{mixed_line, misfit, ends_line, ends_number, wrong_number, size_fault, wrong_size, too_long, ends_early, faults, fault_behind, byte_fault}
 use Rattle.pfs_layout.proofs.Files.LineLemmas.{ended_parts-push, open_part-push, ended_numbers-push, numbers_is}
 use Rattle.pfs_layout.proofs.Published.PlaceLemmas.{byte_fault-push}
-
--- ---- options
-
-pub then_some_none : {A : Type 0} (c : Bool) (x : A) → then_some c x ≡ None → c ≡ false
-then_some_none true x e = cc
-then_some_none false x e = refl
-
-pub if_some : {A : Type 0} (v : Bool) (o : Option A) (x : A) → (if v then o else None) ≡ Some x → (v ≡ true) × (o ≡ Some x)
-if_some true o x e = (refl, e)
-if_some false o x e = cc
-
-pub cases_option : {A : Type 0} (o : Option A) → (o ≡ None) ⊎ ((x : A) × (o ≡ Some x))
-cases_option None = inl refl
-cases_option (Some x) = inr (x, refl)
-
--- each of them is none
-abbrev pub AllNone : {A : Type 0} → List (Option A) → Type 0
-AllNone [] = Unit {0}
-AllNone (o ∷ os) = (o ≡ None) × AllNone os
-
-pub all_none : {A : Type 0} (os : List (Option A)) → first_some os ≡ None → AllNone os
-all_none [] e = tt
-all_none (None ∷ os) e = (refl, all_none os e)
-all_none (Some x ∷ os) e = cc
-
-or_none : {A : Type 0} (o p : Option A) → option_or o p ≡ None → (o ≡ None) × (p ≡ None)
-or_none None p e = (refl, e)
-or_none (Some x) p e = cc
+use Rattle.pfs_layout.proofs.Options.{then_some_none, all_none, or_none}
 
 -- ---- numbers that are due
 

@@ -20,7 +20,8 @@ use Rattle.pfs_layout.specs.Refuse.{too_long, mixed_line, wrong_number, wrong_si
 use Rattle.pfs_layout.specs.Laws.{Completes}
 use Rattle.pfs_layout.proofs.Files.LineLemmas.{open_part-push}
 use Rattle.pfs_layout.proofs.Published.PlaceLemmas.{fault_at-append, fault_at-byte, fault_at-end, no_byte_fault, no_fault, not_refused, slice_get-at}
-use Rattle.pfs_layout.proofs.Files.SoundLemmas.{then_some_none, if_some, cases_option, all_none, GoodNow, good_end, same_last, sound}
+use Rattle.pfs_layout.proofs.Files.SoundLemmas.{GoodNow, good_end, same_last, sound}
+use Rattle.pfs_layout.proofs.Options.{then_some_none, if_some, cases_option, all_none}
 use Rattle.pfs_layout.proofs.Files.SoundLemmas.{stand-push, stand_of, stand_of-end, stand_of-on, open_line-end}
 use Rattle.pfs_layout.proofs.Files.CutLemmas.{lines_are, lines-line}
 use Rattle.pfs_layout.proofs.Files.GrowLemmas.{OneLine, one_line, Extends, grows, fewer_before, no_end, line_on, stand_from, stays_lost}
