@@ -11,7 +11,7 @@ use Rattle.pfs_layout.specs.Laws.{Completes, FaultStays, ByteFaultLaw, FreeBehin
 use Rattle.pfs_layout.specs.Refuse.{fault_at, fault_behind, byte_fault, Refuse}
 use Rattle.pfs_layout.proofs.Files.FileLemmas.{file_completes, completes_file}
 use Rattle.pfs_layout.proofs.Files.SoundLemmas.{stand_of}
-use Rattle.pfs_layout.proofs.Files.VerdictLemmas.{EndedHolds, first_enough, from_enough, holds_accepted}
+use Rattle.pfs_layout.proofs.Files.VerdictLemmas.{EndedHolds, first_enough, from_enough, one_held}
 use Rattle.pfs_layout.proofs.Options.{first_not_found}
 use Rattle.pfs_layout.proofs.Published.PlaceLemmas.{byte_fault-push, byte_fault_is, refusal_end, refusal_is}
 
@@ -52,12 +52,6 @@ longer layout k text more held =
       stands = c.stands;
       is = c.is;
     }
-
--- an input holds one problem
-one_held : (layout : Layout) (k : ℕ) (input : List ℕ) (one other : Problem) → Completes layout input k one
-    → Completes layout input k other → one ≡ other
-one_held layout k input one other c d =
-    same_Some one other (sym (holds_accepted layout k input one c) ∙ holds_accepted layout k input other d)
 
 -- ---- as laws
 

@@ -23,16 +23,16 @@ use Rattle.pfs_layout.proofs.Published.PlaceLemmas.{fault_at-append, fault_at-by
 use Rattle.pfs_layout.proofs.Files.SoundLemmas.{GoodNow, good_end, same_last, sound}
 use Rattle.pfs_layout.proofs.Options.{then_some_none, if_some, cases_option, all_none}
 use Rattle.pfs_layout.proofs.Files.SoundLemmas.{stand-push, stand_of, stand_of-end, stand_of-on, open_line-end}
-use Rattle.pfs_layout.proofs.Files.CutLemmas.{lines_are, lines-line}
+use Rattle.pfs_layout.proofs.Files.CutLemmas.{lines-parts, lines-line}
 use Rattle.pfs_layout.proofs.Files.GrowLemmas.{OneLine, one_line, Extends, grows, fewer_before, no_end, line_on, stand_from, stays_lost}
 use Rattle.pfs_layout.proofs.Files.LoseLemmas.{LineAt, ends_here, goes_on, loses}
 
 -- the lines of a text that ends with a line end, and of one that doesn't
 lines_ended : (text : List ℕ) → is_empty (open_line text) ≡ true → lines text ≡ ended_lines text
-lines_ended text e = rw (lines_are text, e) (append-nil (ended_lines text))
+lines_ended text e = rw (lines-parts text, e) (append-nil (ended_lines text))
 
 lines_unended : (text : List ℕ) → is_empty (open_line text) ≡ false → lines text ≡ ended_lines text ++ open_line text ∷ []
-lines_unended text e = rw (lines_are text, e)
+lines_unended text e = rw (lines-parts text, e)
 
 no_complete : (layout : Layout) → length (stand_of layout []).complete ≡ 0
 unfolding stand ended_parts
@@ -364,6 +364,11 @@ module _ (layout : Layout) (k : ℕ) where
   unfolding accepted
   holds_accepted input problem c =
       rw (not_refused layout k input (holds_faultless input problem c), kth_block input problem c, c.is)
+
+  -- an input holds one problem
+  pub one_held : (input : List ℕ) (one other : Problem) → Completes layout input k one → Completes layout input k other
+      → one ≡ other
+  one_held input one other c d = same_Some one other (sym (holds_accepted input one c) ∙ holds_accepted input other d)
 
   pub accepted_holds : 1 ≤ k → (input : List ℕ) (problem : Problem) → accepted layout input k ≡ Some problem
       → Completes layout input k problem
