@@ -24,39 +24,34 @@ put_rows-requires-clause-fits g c =
 
 pub returns-in_err-sent-clause-within : goal.returns-in_err-sent-clause-within
 returns-in_err-sent-clause-within g c =
-    let size : Size = record { jobs = c.jobs-jobs.result; machines = c.machines-machines.result; notes = c.notes-notes.result } in
-    let same : size ≡ size_of c.args.instance.now = rw (c.jobs-jobs.ensures.value, c.machines-machines.ensures.value, c.notes-notes.ensures) in
-    let front = head_front c.args.layout c.args.instance.now size same _ _ _ _ c.in_err-sent.ensures in
+    let front = head_front c.args.layout c.args.instance.now _ _ _ c.jobs-jobs.ensures.value
+    c.machines-machines.ensures.value c.notes-notes.ensures _ _ _ _ c.in_err-sent.ensures in
     let answer : c.from_residual.result ≡ Err c.in_err-sent.field-0.0 = search rules in
     rw answer (front_of_whole _ _ _ _ _ front).0
 
 pub returns-in_err-sent-clause-front : goal.returns-in_err-sent-clause-front
 returns-in_err-sent-clause-front g c =
-    let size : Size = record { jobs = c.jobs-jobs.result; machines = c.machines-machines.result; notes = c.notes-notes.result } in
-    let same : size ≡ size_of c.args.instance.now = rw (c.jobs-jobs.ensures.value, c.machines-machines.ensures.value, c.notes-notes.ensures) in
-    let front = head_front c.args.layout c.args.instance.now size same _ _ _ _ c.in_err-sent.ensures in
+    let front = head_front c.args.layout c.args.instance.now _ _ _ c.jobs-jobs.ensures.value
+    c.machines-machines.ensures.value c.notes-notes.ensures _ _ _ _ c.in_err-sent.ensures in
     let answer : c.from_residual.result ≡ Err c.in_err-sent.field-0.0 = search rules in
     rw answer (front_of_whole _ _ _ _ _ front).1
 
 pub returns-in_err-put_rows-clause-within : goal.returns-in_err-put_rows-clause-within
 returns-in_err-put_rows-clause-within g c =
-    let size : Size = record { jobs = c.jobs-jobs.result; machines = c.machines-machines.result; notes = c.notes-notes.result } in
-    let same : size ≡ size_of c.args.instance.now = rw (c.jobs-jobs.ensures.value, c.machines-machines.ensures.value, c.notes-notes.ensures) in
-    let front = rows_front c.args.layout c.args.instance.now size same _ _ _ _ _ c.in_ok-sent.sent _ c.in_ok-sent.ensures c.in_err-put_rows.ensures in
+    let front = rows_front c.args.layout c.args.instance.now _ _ _ c.jobs-jobs.ensures.value
+    c.machines-machines.ensures.value c.notes-notes.ensures _ _ _ _ _ c.in_ok-sent.sent _ c.in_ok-sent.ensures c.in_err-put_rows.ensures in
     let answer : c.from_residual-in_err-put_rows.result ≡ Err c.in_err-put_rows.field-0.0 = search rules in
     rw answer (front_of_whole _ _ _ _ _ front).0
 
 pub returns-in_err-put_rows-clause-front : goal.returns-in_err-put_rows-clause-front
 returns-in_err-put_rows-clause-front g c =
-    let size : Size = record { jobs = c.jobs-jobs.result; machines = c.machines-machines.result; notes = c.notes-notes.result } in
-    let same : size ≡ size_of c.args.instance.now = rw (c.jobs-jobs.ensures.value, c.machines-machines.ensures.value, c.notes-notes.ensures) in
-    let front = rows_front c.args.layout c.args.instance.now size same _ _ _ _ _ c.in_ok-sent.sent _ c.in_ok-sent.ensures c.in_err-put_rows.ensures in
+    let front = rows_front c.args.layout c.args.instance.now _ _ _ c.jobs-jobs.ensures.value
+    c.machines-machines.ensures.value c.notes-notes.ensures _ _ _ _ _ c.in_ok-sent.sent _ c.in_ok-sent.ensures c.in_err-put_rows.ensures in
     let answer : c.from_residual-in_err-put_rows.result ≡ Err c.in_err-put_rows.field-0.0 = search rules in
     rw answer (front_of_whole _ _ _ _ _ front).1
 
 pub returns-clause-text : goal.returns-clause-text
 returns-clause-text g c =
-    let size : Size = record { jobs = c.jobs-jobs.result; machines = c.machines-machines.result; notes = c.notes-notes.result } in
-    let same : size ≡ size_of c.args.instance.now = rw (c.jobs-jobs.ensures.value, c.machines-machines.ensures.value, c.notes-notes.ensures) in
-    let all = rows_all c.args.layout c.args.instance.now size same _ _ _ _ _ c.in_ok-sent.sent _ c.in_ok-sent.ensures c.in_ok-put_rows.ensures in
+    let all = rows_all c.args.layout c.args.instance.now _ _ _ c.jobs-jobs.ensures.value
+    c.machines-machines.ensures.value c.notes-notes.ensures _ _ _ _ _ c.in_ok-sent.sent _ c.in_ok-sent.ensures c.in_ok-put_rows.ensures in
     all.bytes
