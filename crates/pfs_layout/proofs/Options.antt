@@ -75,8 +75,8 @@ module _ {A : Type 0} (f : ℕ → Option A) where
       let parts = or_none (first_some (map f (below n))) (f n) (rw first_push at e) in
       let earlier = first_not_found n parts.0 q in
       elim (cases_lt q n) [
-        inl low ↦ earlier low
-      | inr high ↦ let same : q ≡ n = omega arith in rw same parts.1
+        | inl low ↦ earlier low
+        | inr high ↦ let same : q ≡ n = omega arith in rw same parts.1
       ]
 
   pub first_found : (n : ℕ) (x : A) → first_some (map f (below n)) ≡ Some x → (p : ℕ) × (p < n) × IsFirst p x
@@ -84,18 +84,18 @@ module _ {A : Type 0} (f : ℕ → Option A) where
   first_found (suc n) x e =
       let earlier = first_found n x in
       elim (cases_option (first_some (map f (below n)))) [
-        inr one ↦
-          let same = rw (first_push n, one.1) at e in
-          let found = earlier (one.1 ∙ same) in
-          (found.0, omega (arith, found.1), found.2)
-      | inl none ↦
-          (n, omega arith, record { here = rw (first_push n, none) at e; before = first_not_found n none })
+        | inr one ↦
+            let same = rw (first_push n, one.1) at e in
+            let found = earlier (one.1 ∙ same) in
+            (found.0, omega (arith, found.1), found.2)
+        | inl none ↦
+            (n, omega arith, record { here = rw (first_push n, none) at e; before = first_not_found n none })
       ]
 
   -- one place is first
   pub one_first : (p q : ℕ) (x y : A) → IsFirst p x → IsFirst q y → x ≡ y
   one_first p q x y s t = elim (cases_order p q) [
-      inl e ↦ let h = rw e at s.here in let k = t.here in cc
+    | inl e ↦ let h = rw e at s.here in let k = t.here in cc
     | inr (inl l) ↦ absurd (let h = t.before p l in let k = s.here in cc)
     | inr (inr l) ↦ absurd (let h = s.before q l in let k = t.here in cc)
   ]
@@ -104,7 +104,7 @@ module _ {A : Type 0} (f : ℕ → Option A) where
   first_is n x = (
     first_found n x,
     λ found. elim (cases_option (first_some (map f (below n)))) [
-        inl none ↦ let no_fault = first_not_found n none found.0 found.1 in let here = found.2.here in cc
+      | inl none ↦ let no_fault = first_not_found n none found.0 found.1 in let here = found.2.here in cc
       | inr one ↦
           let other = first_found n one.0 one.1 in
           one.1 ∙ ap Some (one_first other.0 found.0 one.0 x other.2 found.2)

@@ -26,7 +26,7 @@ module _ (p : ℕ → Bool) where
   unfolding ended_parts
   ended_parts-part part c rest none e = let s = split_some p rest in rw (slice_split-part part c rest none e, s.is)
 
-  open_part-part : (part : List ℕ) (c : ℕ) (rest : List ℕ) → list_any p part ≡ false → p c ≡ true
+  pub open_part-part : (part : List ℕ) (c : ℕ) (rest : List ℕ) → list_any p part ≡ false → p c ≡ true
       → open_part p (part ++ c ∷ rest) ≡ open_part p rest
   unfolding open_part
   open_part-part part c rest none e = let s = split_some p rest in rw (slice_split-part part c rest none e, s.is)
@@ -79,7 +79,7 @@ pub record Front (text : List ℕ) (some : List (List ℕ)) : Type 0 where
   pub are : lines front ≡ some
   pub ended : (open_line front ≡ []) ⊎ (rest ≡ [])
 
-lines-none : lines [] ≡ []
+pub lines-none : lines [] ≡ []
 unfolding lines ended_parts open_part
 lines-none = refl
 

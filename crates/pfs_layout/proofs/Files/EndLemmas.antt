@@ -67,7 +67,7 @@ free_behind layout text more k problem some right enough =
     let held = done layout k text some right enough in
     let all = longer layout k text more held in (
       λ file. completes_file layout (text ++ more) k problem (subst (Completes layout (text ++ more) k)
-        (one_held layout k text held.0 problem held.1 (file_completes layout text k problem file)) all),
+          (one_held layout k text held.0 problem held.1 (file_completes layout text k problem file)) all),
       λ file. completes_file layout text k problem (subst (Completes layout text k)
-        (one_held layout k (text ++ more) held.0 problem all (file_completes layout (text ++ more) k problem file)) held.1),
+          (one_held layout k (text ++ more) held.0 problem all (file_completes layout (text ++ more) k problem file)) held.1),
     )

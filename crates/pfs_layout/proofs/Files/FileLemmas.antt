@@ -74,7 +74,7 @@ completes_file layout input k problem c =
       rest = f.rest ++ c.rest;
       whole = rw (← append_assoc f.front f.rest c.rest, ← f.whole) c.whole;
       ended = elim f.ended [
-          inl e ↦ inl e
+        | inl e ↦ inl e
         | inr e ↦
             let same : c.text ≡ f.front = rw (e, append-nil) at f.whole in
             elim c.ended [ inl ended ↦ inl (rw same at ended) | inr none ↦ inr (rw (e, none)) ]

@@ -29,15 +29,15 @@ accepted_law layout input k problem some = (
 
 pub one_verdict : OneVerdict
 one_verdict layout input k some = elim (cases_option (refusal layout input k)) [
-    inr refused ↦ inr (
-      let has = (refusal_is layout input k refused.0).0 refused.1 in
-      record { one = refused.0; has = has; no_other = λ other r. one_fault layout input k other refused.0 r has },
-      λ problem file.
+  | inr refused ↦ inr (
+    let has = (refusal_is layout input k refused.0).0 refused.1 in
+        record { one = refused.0; has = has; no_other = λ other r. one_fault layout input k other refused.0 r has },
+    λ problem file.
         let right = holds_faultless layout k input problem (file_completes layout input k problem file) in
         let none = not_refused layout k input right in
         let fault = refused.1 in
         cc,
-    )
+  )
   | inl none ↦
       let held = faultless_holds layout k some input (no_fault layout k input none) in
       inl (
@@ -58,12 +58,15 @@ EndsLine text = (front : List ℕ) × (text ≡ front ++ 10 ∷ [])
 -- a text whose last line is empty is empty or ends a line
 ends_line : (text : List ℕ) → open_line text ≡ [] → (text ≡ []) ⊎ EndsLine text
 ends_line = by_push (λ text. open_line text ≡ [] → (text ≡ []) ⊎ EndsLine text) (λ e. inl refl) (λ text b earlier h.
-    inr (text, elim (cases_Bool (is_line_end b)) [
-      inl ends ↦ rw (eqb-true b 10 ends)
-    | inr on ↦
-        let longer = ap length (rw (open_line-on text b on) at h) in
-        absurd (omega (arith, length-append (open_line text) (b ∷ [])))
-    ]))
+    inr (
+      text,
+      elim (cases_Bool (is_line_end b)) [
+        | inl ends ↦ rw (eqb-true b 10 ends)
+        | inr on ↦
+            let longer = ap length (rw (open_line-on text b on) at h) in
+            absurd (omega (arith, length-append (open_line text) (b ∷ [])))
+      ],
+    ))
 
 none_complete : (layout : Layout) → length (stand layout (lines [])).complete ≡ 0
 unfolding stand lines ended_parts open_part
@@ -76,11 +79,11 @@ completes_seeks layout input k problem c = record {
   rest = c.rest;
   whole = c.whole;
   ended = elim c.ended [
-      inr none ↦ inr none
+    | inr none ↦ inr none
     | inl empty ↦ inl (elim (ends_line c.text empty) [
-        inr ends ↦ ends
+      | inr ends ↦ ends
       | inl none ↦ let few = rw (none, none_complete layout) at all in absurd (omega (arith, c.count))
-      ])
+    ])
   ];
   short = c.short;
   complete = all;

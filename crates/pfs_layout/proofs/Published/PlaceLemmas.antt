@@ -64,7 +64,7 @@ unfolding refusal
 refusal_is layout input k fault =
     let is = first_is (fault_at layout k input) (length input + 1) fault in (
       λ e. let found = is.0 e in
-        record { place = found.0; within = omega (arith, found.1); here = found.2.here; first = found.2.before },
+          record { place = found.0; within = omega (arith, found.1); here = found.2.here; first = found.2.before },
       λ r. is.1 (r.place, omega (arith, r.within), first_of layout input k fault r),
     )
 

@@ -107,8 +107,12 @@ pub length-head_lines : (layout : Layout) (size : Size) → AllFit (size_numbers
 length-head_lines Taillard size fit =
     let sizes : List ℕ = spaced (size_numbers Taillard size) in
     let short = length-spaced (size_numbers Taillard size) fit in
-    omega (arith, length-append (with_line_end (title Taillard)) (with_line_end sizes ++ with_line_end times_title),
-    length-append (with_line_end sizes) (with_line_end times_title), length-append sizes (10 ∷ []))
+    omega (
+      arith,
+      length-append (with_line_end (title Taillard)) (with_line_end sizes ++ with_line_end times_title),
+      length-append (with_line_end sizes) (with_line_end times_title),
+      length-append sizes (10 ∷ []),
+    )
 length-head_lines OrLib size fit =
     let sizes : List ℕ = spaced (size_numbers OrLib size) in
     let short = length-spaced (size_numbers OrLib size) fit in

@@ -77,7 +77,7 @@ row_ends layout shop row count all =
 abbrev pub rows_begun : Layout → FlowShop → ℕ → List ℕ
 rows_begun layout shop count = flat_map (row_line layout shop) (below count)
 
-flat_map-more : (f : ℕ → List ℕ) (n k : ℕ) → flat_map f (range_with_len n (k + 1)) ≡ flat_map f (range_with_len n k) ++ f (n + k)
+pub flat_map-more : (f : ℕ → List ℕ) (n k : ℕ) → flat_map f (range_with_len n (k + 1)) ≡ flat_map f (range_with_len n k) ++ f (n + k)
 flat_map-more f n k =
     let next : k + 1 ≡ suc k = omega arith in
     rw next (ap (flat_map f) (range_with_len-push n k) ∙ flat_map-append f (range_with_len n k) ((n + k) ∷ [])
