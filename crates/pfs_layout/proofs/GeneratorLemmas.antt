@@ -9,7 +9,7 @@ use Rattle.pfs_base.specs.FlowShop.{FlowShop, time_of, with_time}
 use Rattle.pfs_base.specs.Problem.{Problem}
 use Rattle.pfs_base.specs.declared.limits.TheConstants.{LONGEST_TIME}
 use Rattle.pfs_base.specs.declared.notes.Notes.{Notes}
-use Rattle.pfs_layout.specs.Generator.{prime, IsSeed, seed_after, drawn_time, generated, SeedsStay, GeneratedWithin}
+use Rattle.pfs_layout.specs.Generator.{prime, seed_after, drawn_time, generated, SeedsStay, GeneratedWithin}
 use Rattle.pfs_layout.proofs.Tables.{table, length-table, same_table, all_table}
 
 pub seed_after-below : (draws seed : ℕ) → seed < prime → seed_after draws seed < prime
@@ -110,7 +110,8 @@ machine_more jobs machines first done seed next now then h within more =
         | inl e ↦
             let place : (job + 1) + done * jobs ≡ done * jobs + job + 1 = omega arith in
             rw e (more.drawn job j ∙ ap drawn_time (rw place at (drawn_behind (job + 1))))
-        | inr differs ↦ more.others job machine (omega (arith, h.same_machines)) differs ∙ h.drawn job machine j (omega arith)
+        | inr differs ↦ more.others job machine (omega (arith, h.same_machines)) differs
+            ∙ h.drawn job machine j (omega arith)
       ];
     }
   where
@@ -135,7 +136,10 @@ drawn_all jobs machines first seed now h =
     ∙ ap (λ n. made jobs machines (table (time jobs first) jobs machines) n) h.same_notes
   where
     made : ℕ → ℕ → List ℕ → Notes → Problem
-    made jobs machines times notes = record { shop = record { jobs = jobs; machines = machines; times = times }; notes = notes }
+    made jobs machines times notes = record {
+      shop = record { jobs = jobs; machines = machines; times = times };
+      notes = notes;
+    }
 
 -- ---- laws
 

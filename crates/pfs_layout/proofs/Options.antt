@@ -1,11 +1,10 @@
 -- Options, and the first of a list of them that is there.
-use Rattle.std.proofs.Common.{◌≡◌, ◌↔◌, ℕ, zero, suc, ◌+◌, ◌<◌, Bool, true, false, List, [], ◌∷◌, length, map, refl, ◌∙◌, ap}
+use Rattle.std.proofs.Common.{◌≡◌, ◌↔◌, ℕ, zero, suc, ◌+◌, ◌<◌, Bool, true, false, List, [], ◌∷◌, map, refl, ◌∙◌, ap}
 use Rattle.std.proofs.Common.{arith, Option, Some, None, ◌⊎◌, inl, inr, if◌then◌else◌}
 use Rattle.std.specs.Bool.{then_some}
 use Rattle.std.specs.Option.{option_or}
 use Rattle.std.proofs.lemmas.Bool.{cases_lt, cases_order}
 use Rattle.std.proofs.lemmas.List.{map-append}
-use Rattle.std.proofs.lemmas.Option.{same_Some}
 use Rattle.pfs_base.specs.Lists.{below, first_some}
 use Rattle.pfs_base.proofs.Published.Lists.{first_some-append, range_with_len-push}
 
@@ -17,7 +16,8 @@ pub then_some_some : {A : Type 0} (c : Bool) (x y : A) → then_some c x ≡ Som
 then_some_some true x y e = refl
 then_some_some false x y e = cc
 
-pub if_some : {A : Type 0} (v : Bool) (o : Option A) (x : A) → (if v then o else None) ≡ Some x → (v ≡ true) × (o ≡ Some x)
+pub if_some : {A : Type 0} (v : Bool) (o : Option A) (x : A) → (if v then o else None) ≡ Some x
+    → (v ≡ true) × (o ≡ Some x)
 if_some true o x e = (refl, e)
 if_some false o x e = cc
 
@@ -46,7 +46,8 @@ pub alone : {A : Type 0} (o : Option A) (x : A) → first_some (o ∷ None ∷ [
 alone None x e = cc
 alone (Some y) x e = e
 
-pub one_of : {A : Type 0} (o p : Option A) (x : A) → first_some (o ∷ p ∷ None ∷ []) ≡ Some x → (o ≡ Some x) ⊎ (p ≡ Some x)
+pub one_of : {A : Type 0} (o p : Option A) (x : A) → first_some (o ∷ p ∷ None ∷ []) ≡ Some x
+    → (o ≡ Some x) ⊎ (p ≡ Some x)
 one_of None p x e = inr (alone p x e)
 one_of (Some y) p x e = inl e
 
@@ -88,8 +89,7 @@ module _ {A : Type 0} (f : ℕ → Option A) where
             let same = rw (first_push n, one.1) at e in
             let found = earlier (one.1 ∙ same) in
             (found.0, omega (arith, found.1), found.2)
-        | inl none ↦
-            (n, omega arith, record { here = rw (first_push n, none) at e; before = first_not_found n none })
+        | inl none ↦ (n, omega arith, record { here = rw (first_push n, none) at e; before = first_not_found n none })
       ]
 
   -- one place is first

@@ -1,9 +1,10 @@
 -- Where lines begin and end in a text.
-use Rattle.std.proofs.Common.{◌≡◌, ℕ, Bool, true, false, ◌||◌, List, [], ◌∷◌, ◌++◌, refl, sym, ◌∙◌, ap, ◌⊎◌, inl, inr, if◌then◌else◌}
-use Rattle.std.specs.List.{list_any, slice_split, onto_first}
+use Rattle.std.proofs.Common.{◌≡◌, ℕ, Bool, true, false, List, [], ◌∷◌, ◌++◌, refl, sym, ap, ◌⊎◌, inl, inr}
+use Rattle.std.proofs.Common.{if◌then◌else◌}
+use Rattle.std.specs.List.{list_any, slice_split}
 use Rattle.std.proofs.lemmas.Bool.{cases_Bool, or_parts}
 use Rattle.std.proofs.lemmas.List.{append_assoc, append-nil}
-use Rattle.pfs_base.specs.Lists.{is_empty, last_of, all_but_last}
+use Rattle.pfs_base.specs.Lists.{is_empty}
 use Rattle.pfs_layout.specs.Bytes.{is_line_end}
 use Rattle.pfs_layout.specs.Lines.{lines, ended_parts, open_part, ended_lines, open_line}
 use Rattle.pfs_layout.proofs.Files.SoundLemmas.{open_line-none}
@@ -103,7 +104,8 @@ front_of_lines text (line ∷ some) more e =
           ended = inr refl;
         }
 
-    by_first : FirstLine text → ((rest : List ℕ) → lines rest ≡ some ++ more → Front rest some) → Front text (line ∷ some)
+    by_first : FirstLine text → ((rest : List ℕ) → lines rest ≡ some ++ more → Front rest some)
+        → Front text (line ∷ some)
     by_first (unended none) shorter = only (is_empty text) refl none (rw (lines-open text none) at e)
     by_first (ended first c rest is none at) shorter =
         let parts = rw (is, lines-line first c rest none at) at e in
@@ -114,5 +116,8 @@ front_of_lines text (line ∷ some) more e =
           rest = f.rest;
           whole = rw (append_assoc first (c ∷ f.front) f.rest, ← f.whole) is;
           are = rw (lines-line first c f.front none at, f.are) (ap (λ l. l ∷ some) same);
-          ended = elim f.ended [ inl h ↦ inl (rw (open_part-part is_line_end first c f.front none at) h) | inr h ↦ inr h ];
+          ended = elim f.ended [
+            | inl h ↦ inl (rw (open_part-part is_line_end first c f.front none at) h)
+            | inr h ↦ inr h
+          ];
         }

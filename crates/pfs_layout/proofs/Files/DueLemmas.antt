@@ -16,7 +16,7 @@ use Rattle.pfs_layout.specs.declared.layout.Layout.TheVariants.{Taillard, OrLib}
 use Rattle.pfs_layout.specs.Size.{Size, size_of}
 use Rattle.pfs_layout.specs.Block.{any_time, machine_number, is_due, due_at, are_due, due_row, due, due_count}
 use Rattle.pfs_layout.specs.Stand.{place_of_time}
-use Rattle.pfs_layout.proofs.Tables.{length-rows, rows_at, at_row, table, length-table, table_at}
+use Rattle.pfs_layout.proofs.Tables.{length-rows, rows_at, at_row, table_at}
 
 -- a machine and its time
 abbrev pub pairs_of : FlowShop → ℕ → ℕ → List ℕ
@@ -26,7 +26,8 @@ abbrev pub row_width : Layout → FlowShop → ℕ
 row_width Taillard shop = shop.jobs
 row_width OrLib shop = shop.machines * 2
 
-pub length-due_row : (layout : Layout) (shop : FlowShop) (r : ℕ) → length (due_row layout shop r) ≡ row_width layout shop
+pub length-due_row : (layout : Layout) (shop : FlowShop) (r : ℕ)
+    → length (due_row layout shop r) ≡ row_width layout shop
 unfolding due_row
 length-due_row Taillard shop r = length-map-range_with_len (λ job. time_of shop job r) 0 shop.jobs
 length-due_row OrLib shop r = length-rows (pairs_of shop r) 2 (λ i. refl) shop.machines
@@ -36,7 +37,8 @@ pub length-due : (layout : Layout) (problem : Problem)
     → length (due layout problem.shop) ≡ due_count layout (size_of problem)
 unfolding due
 length-due Taillard problem =
-    length-rows (due_row Taillard problem.shop) _ (length-due_row Taillard problem.shop) problem.shop.machines ∙ grind arith
+    length-rows (due_row Taillard problem.shop) _ (length-due_row Taillard problem.shop) problem.shop.machines
+    ∙ grind arith
 length-due OrLib problem =
     length-rows (due_row OrLib problem.shop) _ (length-due_row OrLib problem.shop) problem.shop.jobs ∙ grind arith
 
@@ -51,7 +53,8 @@ pub pair_at : (shop : FlowShop) (job machine c d : ℕ) → job < shop.jobs → 
     → get_or (due OrLib shop) (job * (shop.machines * 2) + (machine * 2 + c)) d ≡ get_or (pairs_of shop job machine) c d
 unfolding due due_row
 pair_at shop job machine c d j m l =
-    rows_at (due_row OrLib shop) (shop.machines * 2) (length-due_row OrLib shop) shop.jobs job (machine * 2 + c) d j (omega arith)
+    rows_at (due_row OrLib shop) (shop.machines * 2) (length-due_row OrLib shop) shop.jobs job (machine * 2 + c) d j
+    (omega arith)
     ∙ rows_at (pairs_of shop job) 2 (λ i. refl) shop.machines machine c d m l
 
 -- each time stands at its place
@@ -101,7 +104,8 @@ in_pair size k h =
     let pair = at_row at.column m 2 at.column_in in
     let is : k ≡ at.row * (m * 2) + (pair.row * 2 + pair.column) = omega (arith, at.is, pair.is) in
     let halves : k ≡ (at.row * m + pair.row) * 2 + pair.column = grind (arith, is) in
-    let odd : k % 2 ≡ pair.column = ap (λ i. i % 2) halves ∙ mod-mul-add (at.row * m + pair.row) 2 pair.column pair.column_in in
+    let odd : k % 2 ≡ pair.column = ap (λ i. i % 2) halves
+    ∙ mod-mul-add (at.row * m + pair.row) 2 pair.column pair.column_in in
     let half : k / 2 ≡ at.row * m + pair.row =
     ap (λ i. i / 2) halves ∙ div-mul-add (at.row * m + pair.row) 2 pair.column pair.column_in in
     record {
@@ -129,7 +133,8 @@ are_due_by_place layout size numbers each =
 module _ (problem : Problem) (within : All (λ time. time ≤ LONGEST_TIME) problem.shop.times) where
   -- a machine number and a time
   pair_passes : (job machine column : ℕ) → column < 2
-      → is_due (if column == 0 then machine_number machine else any_time) (get_or (pairs_of problem.shop job machine) column 0)
+      → is_due (if column == 0 then machine_number machine else any_time)
+      (get_or (pairs_of problem.shop job machine) column 0)
       ≡ true
   pair_passes job machine zero l = eq-eqb machine machine refl
   pair_passes job machine (suc zero) l =
@@ -145,7 +150,8 @@ module _ (problem : Problem) (within : All (λ time. time ≤ LONGEST_TIME) prob
       (rw (at.is, time) (short_at problem.shop.times within _)))
   passes OrLib k h =
       let pair = in_pair (size_of problem) k h in
-      let number = pair_at problem.shop pair.job pair.machine pair.column 0 pair.job_in pair.machine_in pair.column_in in
+      let number = pair_at problem.shop pair.job pair.machine pair.column 0 pair.job_in pair.machine_in pair.column_in
+      in
       rw (pair.wanted, ap (λ i. get_or (due OrLib problem.shop) i 0) pair.is, number)
       (pair_passes pair.job pair.machine pair.column pair.column_in)
 

@@ -1,14 +1,11 @@
 -- Faults at bytes and at the end, and what more input changes.
-use Rattle.std.proofs.Common.{◌≡◌, ◌↔◌, ℕ, ◌≤◌, List, [], ◌∷◌, ◌++◌, length, sym, ◌∙◌, ap, subst, Some, None, inl}
-use Rattle.std.specs.Option.{option_or}
+use Rattle.std.proofs.Common.{◌≡◌, ℕ, ◌≤◌, List, [], ◌∷◌, ◌++◌, length, ◌∙◌, ap, subst, Some, None, inl}
 use Rattle.std.proofs.lemmas.List.{append_assoc, append-nil}
-use Rattle.std.proofs.lemmas.Option.{same_Some}
-use Rattle.pfs_base.specs.Problem.{Problem}
 use Rattle.pfs_base.proofs.Published.Lists.{by_push}
 use Rattle.pfs_layout.specs.declared.layout.Layout.{Layout}
 use Rattle.pfs_layout.specs.declared.fault.LayoutFault.{LayoutFault}
 use Rattle.pfs_layout.specs.Laws.{Completes, FaultStays, ByteFaultLaw, FreeBehind}
-use Rattle.pfs_layout.specs.Refuse.{fault_at, fault_behind, byte_fault, Refuse}
+use Rattle.pfs_layout.specs.Refuse.{fault_at, byte_fault, Refuse}
 use Rattle.pfs_layout.proofs.Files.FileLemmas.{file_completes, completes_file}
 use Rattle.pfs_layout.proofs.Files.SoundLemmas.{stand_of}
 use Rattle.pfs_layout.proofs.Files.VerdictLemmas.{EndedHolds, first_enough, from_enough, one_held}
@@ -69,5 +66,6 @@ free_behind layout text more k problem some right enough =
       λ file. completes_file layout (text ++ more) k problem (subst (Completes layout (text ++ more) k)
           (one_held layout k text held.0 problem held.1 (file_completes layout text k problem file)) all),
       λ file. completes_file layout text k problem (subst (Completes layout text k)
-          (one_held layout k (text ++ more) held.0 problem all (file_completes layout (text ++ more) k problem file)) held.1),
+          (one_held layout k (text ++ more) held.0 problem all
+          (file_completes layout (text ++ more) k problem file)) held.1),
     )

@@ -1,17 +1,17 @@
 -- Files, by where their lines lead.
-use Rattle.std.proofs.Common.{◌≡◌, ℕ, ◌+◌, List, [], ◌∷◌, ◌++◌, length, flat_map, refl, sym, ◌∙◌, ap, subst, arith, ◌⊎◌, inl, inr}
+use Rattle.std.proofs.Common.{◌≡◌, ℕ, List, [], ◌∷◌, ◌++◌, length, flat_map, refl, sym, ◌∙◌, ap, arith, inl, inr}
 use Rattle.std.specs.List.{AllByRecursion}
 use Rattle.std.proofs.lemmas.List.{append_assoc, append-nil, length-append}
 use Rattle.std.proofs.lemmas.Grind.{flat_map-append}
 use Rattle.pfs_base.specs.Limits.{limits}
 use Rattle.pfs_base.specs.Problem.{Problem}
 use Rattle.pfs_layout.specs.declared.layout.Layout.{Layout}
-use Rattle.pfs_layout.specs.Lines.{lines, open_line}
+use Rattle.pfs_layout.specs.Lines.{lines}
 use Rattle.pfs_layout.specs.File.{IsBlock, IsSomeBlock, File}
 use Rattle.pfs_layout.specs.Stand.{Block, completed, stand, instance_of}
 use Rattle.pfs_layout.specs.Laws.{Completes, FileStands}
 use Rattle.pfs_layout.proofs.Files.BlockLemmas.{file_leads}
-use Rattle.pfs_layout.proofs.Files.CutLemmas.{Front, front_of_lines}
+use Rattle.pfs_layout.proofs.Files.CutLemmas.{front_of_lines}
 use Rattle.pfs_layout.proofs.Files.RoundLemmas.{block_of, instance_due}
 use Rattle.pfs_layout.proofs.Files.StandLemmas.{AreOf, IsMade, made}
 
@@ -83,7 +83,8 @@ completes_file layout input k problem c =
       blocks = record {
         earlier = l.before;
         own = l.last;
-        parts = f.are ∙ ap flat l.parts ∙ rw (flat_map-append (λ block. block) l.before (l.last ∷ []), append-nil l.last);
+        parts = f.are ∙ ap flat l.parts
+            ∙ rw (flat_map-append (λ block. block) l.before (l.last ∷ []), append-nil l.last);
         count = rw (l.count) c.count;
         each = l.each;
         is_own = rw c.is l.is_own;

@@ -1,18 +1,18 @@
 -- Numbers that pass begin what is due for some problem.
-use Rattle.std.proofs.Common.{◌≡◌, ℕ, ◌+◌, ◌-◌, ◌*◌, ◌<◌, ◌≤◌, true, List, [], ◌++◌, length, drop, get_or, refl, ◌∙◌, ap, arith}
+use Rattle.std.proofs.Common.{◌≡◌, ℕ, ◌+◌, ◌-◌, ◌≤◌, true, List, ◌++◌, length, drop, refl, arith}
 use Rattle.std.proofs.Common.{inl, inr}
-use Rattle.std.specs.List.{All}
 use Rattle.std.proofs.lemmas.Bool.{cases_lt, le-ltb}
 use Rattle.std.proofs.lemmas.List.{get_or_append_left, get_or-append_right, get_or-drop, length-append, length-drop}
 use Rattle.pfs_base.specs.declared.limits.TheConstants.{LONGEST_TIME}
 use Rattle.pfs_layout.specs.declared.layout.Layout.{Layout}
 use Rattle.pfs_layout.specs.Size.{Size}
-use Rattle.pfs_layout.specs.Block.{nothing, is_due, due_at, are_due, due, due_count}
+use Rattle.pfs_layout.specs.Block.{nothing, due_at, are_due, due, due_count}
 use Rattle.pfs_layout.specs.Stand.{Block, begun, instance_of}
 use Rattle.pfs_layout.specs.Laws.{BeginDue, DueFronts}
 use Rattle.pfs_layout.proofs.Files.BlockLemmas.{are_due_front}
 use Rattle.pfs_layout.proofs.Files.DueLemmas.{are_due_by_place, due_passes}
-use Rattle.pfs_layout.proofs.Files.RoundLemmas.{length-times, due_number, length-due_instance, due_instance, times_short}
+use Rattle.pfs_layout.proofs.Files.RoundLemmas.{length-times, due_number, length-due_instance, due_instance}
+use Rattle.pfs_layout.proofs.Files.RoundLemmas.{times_short}
 use Rattle.pfs_layout.proofs.Tables.{all_table}
 
 nothing_there : (layout : Layout) (size : Size) (k : ℕ) → due_count layout size ≤ k → due_at layout size k ≡ nothing
@@ -42,7 +42,8 @@ idle_passes : (layout : Layout) (size : Size) → are_due layout size (idle_due 
 unfolding idle_due instance_of
 idle_passes layout size =
     due_passes layout (instance_of layout (begun size))
-    (all_table (λ job machine. 0) size.jobs size.machines (λ time. time ≤ LONGEST_TIME) (λ job machine j m. omega arith))
+    (all_table (λ job machine. 0) size.jobs size.machines (λ time. time ≤ LONGEST_TIME)
+    (λ job machine j m. omega arith))
 
 -- the numbers, and behind them what is due for the idle problem
 filled : Layout → Size → List ℕ → List ℕ
@@ -82,5 +83,6 @@ module _ (layout : Layout) (size : Size) (numbers : List ℕ) (all : are_due lay
 pub due_fronts : DueFronts
 due_fronts layout size numbers = (
   λ all. begin_due layout size numbers all,
-  λ b. are_due_front layout size numbers b.rest (rw (b.begin, b.of_size) at (due_passes layout b.problem b.short_times)),
+  λ b. are_due_front layout size numbers b.rest (rw (b.begin, b.of_size) at
+      (due_passes layout b.problem b.short_times)),
 )

@@ -1,7 +1,7 @@
 -- A fault at a byte or at the end of the input makes its line one after which all is lost.
-use Rattle.std.proofs.Common.{◌≡◌, ℕ, ◌+◌, ◌-◌, Bool, true, false, not, ◌&&◌, ◌||◌, List, [], ◌∷◌, ◌++◌, length, get_or, count_by, refl, sym, ◌∙◌, ap, subst, arith, Option, Some, None, ◌⊎◌, inl, inr, if◌then◌else◌, ◌==◌}
-use Rattle.std.specs.List.{list_any, slice_split, onto_first}
-use Rattle.std.specs.Bool.{then_some}
+use Rattle.std.proofs.Common.{◌≡◌, ℕ, ◌+◌, Bool, true, false, not, ◌&&◌, ◌||◌, List, [], ◌∷◌, ◌++◌, length, get_or}
+use Rattle.std.proofs.Common.{count_by, refl, sym, arith, Option, Some, None, inl, inr}
+use Rattle.std.specs.List.{list_any, slice_split}
 use Rattle.std.specs.Str.Parse.{digits_value}
 use Rattle.std.proofs.lemmas.Bool.{and_parts, cases_Bool, eqb-true, false_from_ne_true, lt-leb, ltb-true, not-true}
 use Rattle.std.proofs.lemmas.Bool.Decides.{nat_tests}
@@ -14,12 +14,14 @@ use Rattle.pfs_layout.specs.declared.layout.Layout.{Layout}
 use Rattle.pfs_layout.specs.declared.fault.LayoutFault.{LayoutFault}
 use Rattle.pfs_layout.specs.declared.fault.LayoutFault.TheVariants.{SizeRange}
 use Rattle.pfs_layout.specs.Bytes.{is_digit, is_blank, is_line_end, is_word_byte}
-use Rattle.pfs_layout.specs.Size.{Size, is_within_limits}
-use Rattle.pfs_layout.specs.Lines.{open_line, is_mixed, is_number_line, is_no_digit, values, numbers, ended_numbers, last_digits}
-use Rattle.pfs_layout.specs.Block.{Due, any_time, machine_number, nothing, is_due, due_at, are_due, stated_size, due_count}
-use Rattle.pfs_layout.specs.Stand.{Block, Now, seeking, inside, lost, Stand, after_size, after_numbers, after_line}
-use Rattle.pfs_layout.specs.Refuse.{ends_line, ends_number, too_long, mixed_line, misfit, wrong_number, size_fault, wrong_size, ends_early, faults}
-use Rattle.pfs_layout.proofs.Files.LineLemmas.{IsSome, split_some, numbers_is, values-append}
+use Rattle.pfs_layout.specs.Size.{Size}
+use Rattle.pfs_layout.specs.Lines.{open_line, is_mixed, is_number_line, is_no_digit, numbers, ended_numbers}
+use Rattle.pfs_layout.specs.Lines.{last_digits}
+use Rattle.pfs_layout.specs.Block.{Due, any_time, machine_number, nothing, is_due, due_at, are_due, stated_size}
+use Rattle.pfs_layout.specs.Stand.{Block, Now, seeking, inside, lost, after_size, after_line}
+use Rattle.pfs_layout.specs.Refuse.{ends_line, ends_number, too_long, mixed_line, misfit, wrong_number, size_fault}
+use Rattle.pfs_layout.specs.Refuse.{wrong_size, ends_early, faults}
+use Rattle.pfs_layout.proofs.Files.LineLemmas.{split_some, numbers_is, values-append}
 use Rattle.pfs_layout.proofs.Files.SoundLemmas.{values_last, same_last}
 use Rattle.pfs_layout.proofs.Options.{alone, if_some, one_of, then_some_some}
 use Rattle.pfs_layout.proofs.Files.BlockLemmas.{are_due_front}

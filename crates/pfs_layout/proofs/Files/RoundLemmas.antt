@@ -1,5 +1,6 @@
 -- A problem's due numbers give it back, and the numbers of a complete block are those that are due.
-use Rattle.std.proofs.Common.{◌≡◌, ℕ, zero, suc, ◌+◌, ◌*◌, ◌/◌, ◌%◌, ◌<◌, ◌≤◌, Bool, true, List, length, get_or, sym, ◌∙◌, ap}
+use Rattle.std.proofs.Common.{◌≡◌, ℕ, zero, suc, ◌+◌, ◌*◌, ◌%◌, ◌<◌, ◌≤◌, Bool, true, List, length, get_or, sym, ◌∙◌}
+use Rattle.std.proofs.Common.{ap}
 use Rattle.std.proofs.Common.{arith, lit<, ◌==◌, if◌then◌else◌}
 use Rattle.std.specs.List.{All, enumerate_from}
 use Rattle.std.proofs.Math.Nat.{mul_comm}
@@ -49,7 +50,8 @@ module _ (layout : Layout) (problem : Problem) where
       → instance_of layout block_of ≡ problem
   unfolding instance_of
   instance_due every =
-      let times = same_table (stands_at layout block_of) problem.shop.jobs problem.shop.machines problem.shop.times every
+      let times = same_table
+      (stands_at layout block_of) problem.shop.jobs problem.shop.machines problem.shop.times every
       (λ job machine j m. sym (time_due layout problem job machine j m)) in
       ap with_times (sym times)
     where
@@ -75,8 +77,10 @@ unfolding instance_of
 orlib_due block k h right =
     let pair = in_pair block.size k h in
     ap (λ i. get_or (due OrLib (instance_of OrLib block).shop) i 0) pair.is
-    ∙ pair_at (instance_of OrLib block).shop pair.job pair.machine pair.column 0 pair.job_in pair.machine_in pair.column_in
-    ∙ by_column pair.job pair.machine pair.column pair.job_in pair.machine_in pair.column_in pair.is (rw pair.wanted at right)
+    ∙ pair_at (instance_of OrLib block).shop pair.job pair.machine pair.column 0 pair.job_in pair.machine_in
+    pair.column_in
+    ∙ by_column pair.job pair.machine pair.column pair.job_in pair.machine_in pair.column_in pair.is
+    (rw pair.wanted at right)
   where
     by_column : (job machine column : ℕ) → job < block.size.jobs → machine < block.size.machines → column < 2
         → k ≡ job * (block.size.machines * 2) + (machine * 2 + column)
@@ -104,7 +108,8 @@ due_instance Taillard block all full =
 due_instance OrLib block all full =
     let count = length-due_instance OrLib block in
     same_number_lists (due OrLib (instance_of OrLib block).shop) block.numbers (count ∙ sym full)
-    (λ k h. orlib_due block k (omega (arith, count)) (due_number OrLib block.size block.numbers k all (omega (arith, count))))
+    (λ k h. orlib_due block k (omega (arith, count)) (due_number OrLib block.size block.numbers k all
+    (omega (arith, count))))
 
 -- ---- a complete block's problem is within the limits
 
@@ -129,7 +134,8 @@ pub times_short : (layout : Layout) (block : Block) → are_due layout block.siz
     → All (λ time. time ≤ LONGEST_TIME) (instance_of layout block).shop.times
 unfolding instance_of
 times_short layout block all full =
-    all_table (stands_at layout block) block.size.jobs block.size.machines (λ time. time ≤ LONGEST_TIME) (λ job machine j m.
+    all_table (stands_at layout block) block.size.jobs block.size.machines (λ time. time ≤ LONGEST_TIME)
+    (λ job machine j m.
     let place : ℕ = place_of_time layout block.size job machine in
     let within = place_within layout block.size job machine j m in
     let right = due_number layout block.size block.numbers place all (omega arith) in

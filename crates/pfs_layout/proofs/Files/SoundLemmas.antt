@@ -1,10 +1,10 @@
 -- While no byte has a fault, the numbers so far are due and no line of a body is mixed.
-use Rattle.std.proofs.Common.{◌≡◌, ℕ, ◌+◌, ◌-◌, ◌<◌, ◌≤◌, Bool, true, false, not, ◌&&◌, ◌||◌, List, [], ◌∷◌, ◌++◌, length, map, count_by, refl, sym, ◌∙◌, ap, arith, Option, Some, None, ◌⊎◌, inl, inr, if◌then◌else◌, ◌==◌}
-use Rattle.std.specs.List.{list_any, list_all, enumerate_from}
-use Rattle.std.specs.Bool.{then_some}
-use Rattle.std.specs.Option.{option_or}
+use Rattle.std.proofs.Common.{◌≡◌, ℕ, ◌+◌, ◌-◌, ◌<◌, ◌≤◌, Bool, true, false, not, ◌||◌, List, [], ◌∷◌, ◌++◌, length}
+use Rattle.std.proofs.Common.{count_by, refl, sym, ◌∙◌, arith, Option, Some, None, if◌then◌else◌, ◌==◌}
+use Rattle.std.specs.List.{list_any}
 use Rattle.std.specs.Str.Parse.{digits_value}
-use Rattle.std.proofs.lemmas.Bool.{and_from, cond_both, eqb-true, false≢true, le-leb, lt-ltb, ltb-false, not-false, not-true}
+use Rattle.std.proofs.lemmas.Bool.{and_from, cond_both, eqb-true, false≢true, le-leb, lt-ltb, ltb-false, not-false}
+use Rattle.std.proofs.lemmas.Bool.{not-true}
 use Rattle.std.proofs.lemmas.Bool.{or_left, or_parts, or_right}
 use Rattle.std.proofs.lemmas.Grind.{common_steps}
 use Rattle.std.proofs.lemmas.List.{append-nil, append_assoc, length-append}
@@ -15,11 +15,15 @@ use Rattle.pfs_layout.specs.Bytes.{is_digit, is_blank, is_line_end, is_word_byte
 use Rattle.pfs_base.specs.declared.limits.TheConstants.{LONGEST_TIME}
 use Rattle.pfs_base.specs.Lists.{is_empty, first_some}
 use Rattle.pfs_base.proofs.Published.Lists.{by_push, enumerate_from-append}
-use Rattle.pfs_layout.specs.Size.{Size, is_within_limits}
-use Rattle.pfs_layout.specs.Lines.{ended_parts, open_part, ended_lines, open_line, is_mixed, is_number_line, is_no_digit, values, numbers, ended_numbers, last_digits}
-use Rattle.pfs_layout.specs.Block.{Due, any_time, machine_number, nothing, is_due, due_at, are_due, stated_size, due_count}
-use Rattle.pfs_layout.specs.Stand.{Block, Now, seeking, inside, lost, Stand, standing, completed, begun, with_line, after_size, after_numbers, after_line, stand_after, stand}
-use Rattle.pfs_layout.specs.Refuse.{mixed_line, misfit, ends_line, ends_number, wrong_number, size_fault, wrong_size, too_long, ends_early, faults, fault_behind, byte_fault}
+use Rattle.pfs_layout.specs.Size.{Size}
+use Rattle.pfs_layout.specs.Lines.{ended_parts, open_part, ended_lines, open_line, is_mixed, is_number_line}
+use Rattle.pfs_layout.specs.Lines.{is_no_digit, values, numbers, ended_numbers, last_digits}
+use Rattle.pfs_layout.specs.Block.{Due, any_time, machine_number, nothing, is_due, due_at, are_due, stated_size}
+use Rattle.pfs_layout.specs.Block.{due_count}
+use Rattle.pfs_layout.specs.Stand.{Block, Now, seeking, inside, lost, Stand, standing, completed, begun, with_line}
+use Rattle.pfs_layout.specs.Stand.{after_size, after_numbers, after_line, stand_after, stand}
+use Rattle.pfs_layout.specs.Refuse.{mixed_line, misfit, ends_line, ends_number, wrong_number, size_fault, wrong_size}
+use Rattle.pfs_layout.specs.Refuse.{faults, fault_behind, byte_fault}
 use Rattle.pfs_layout.proofs.Files.LineLemmas.{ended_parts-push, open_part-push, ended_numbers-push, numbers_is}
 use Rattle.pfs_layout.proofs.Published.PlaceLemmas.{byte_fault-push}
 use Rattle.pfs_layout.proofs.Options.{then_some_none, all_none, or_none}
@@ -100,7 +104,8 @@ digit_there = by_push (λ line. is_empty (last_digits line) ≡ false → list_a
     more : (line : List ℕ) (b : ℕ) → (is_empty (last_digits line) ≡ false → list_any is_digit line ≡ true)
         → is_empty (last_digits (line ++ b ∷ [])) ≡ false → list_any is_digit (line ++ b ∷ []) ≡ true
     more line b h e =
-        rw (list_any-append is_digit line (b ∷ [])) (step (is_digit b) line b refl (rw (← open_part-push is_no_digit line b) e))
+        rw (list_any-append is_digit line (b ∷ [])) (step (is_digit b) line b refl
+        (rw (← open_part-push is_no_digit line b) e))
 
 -- where the number at the end of the line is ended without a fault, all numbers of the line are due
 all_due : (v : Bool) (layout : Layout) (block : Block) (text : List ℕ) (next : Option ℕ)
@@ -185,7 +190,8 @@ good_sought : (v : Bool) (layout : Layout) (text : List ℕ) (next : Option ℕ)
     → GoodNow layout (if v then after_size (stated_size layout (numbers (open_line text))) else seeking) []
 unfolding wrong_size
 good_sought true layout text next ends e right =
-    good_size layout (1 + count_by is_line_end text) (stated_size layout (numbers (open_line text))) (rw (ends, e) at right)
+    good_size layout (1 + count_by is_line_end text) (stated_size layout (numbers (open_line text)))
+    (rw (ends, e) at right)
 good_sought false layout text next ends e right = tt
 
 -- after numbers that are due
@@ -259,7 +265,8 @@ sound_start : (layout : Layout) (k : ℕ) → IsSound layout k []
 unfolding ended_parts open_part stand
 sound_start layout k right few = tt
 
-sound_more : (layout : Layout) (k : ℕ) (text : List ℕ) (b : ℕ) → IsSound layout k text → IsSound layout k (text ++ b ∷ [])
+sound_more : (layout : Layout) (k : ℕ) (text : List ℕ) (b : ℕ) → IsSound layout k text
+    → IsSound layout k (text ++ b ∷ [])
 unfolding fault_behind stand_after
 sound_more layout k text b sound right few = by_end (is_line_end b) refl
   where
@@ -276,7 +283,8 @@ sound_more layout k text b sound right few = by_end (is_line_end b) refl
         → GoodNow layout (stand_of layout (text ++ b ∷ [])).now (open_line (text ++ b ∷ []))
     by_end true e =
         let less = rw (stand_of-end layout text b e) at few in
-        let fewer : length before.complete < k = omega (arith, complete_stays layout before.complete before.now (open_line text)) in
+        let fewer : length before.complete < k =
+        omega (arith, complete_stays layout before.complete before.now (open_line text)) in
         rw (stand_of-end layout text b e, open_line-end text b e)
         (good_end layout k before.complete before.now text (Some b) e
         (λ there. digits_ended text b there (or_right _ _ e)) (sound rights.0 fewer) (here fewer))

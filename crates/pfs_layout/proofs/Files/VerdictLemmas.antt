@@ -1,8 +1,9 @@
 -- An input holds a file exactly where none of its places has a fault.
-use Rattle.std.proofs.Common.{◌≡◌, ℕ, zero, suc, ◌+◌, ◌-◌, ◌<◌, ◌≤◌, Bool, true, false, not, ◌&&◌, List, [], ◌∷◌, ◌++◌, length, take, fold, refl, sym, ◌∙◌, ap, subst, arith, Option, Some, None, is_none, option_map, ◌⊎◌, inl, inr, if◌then◌else◌, ◌==◌, nat_lt}
+use Rattle.std.proofs.Common.{◌≡◌, ℕ, zero, suc, ◌+◌, ◌-◌, ◌<◌, ◌≤◌, true, false, not, List, [], ◌∷◌, ◌++◌, length}
+use Rattle.std.proofs.Common.{take, refl, sym, ◌∙◌, ap, subst, arith, Option, Some, None, ◌⊎◌, inl, inr, ◌==◌, nat_lt}
 use Rattle.std.specs.List.{slice_get}
-use Rattle.std.specs.Bool.{then_some}
-use Rattle.std.proofs.lemmas.Bool.{and_right, cases_Bool, cases_lt, cases_eq, eq-eqb, ne_eqb, lt-ltb, le-ltb, ltb-true, ltb-false, eqb-true}
+use Rattle.std.proofs.lemmas.Bool.{and_right, cases_Bool, cases_lt, cases_eq, eq-eqb, ne_eqb, lt-ltb, le-ltb, ltb-true}
+use Rattle.std.proofs.lemmas.Bool.{ltb-false, eqb-true}
 use Rattle.std.proofs.lemmas.Option.{same_Some}
 use Rattle.std.proofs.Math.Seq.{take-append-add}
 use Rattle.std.proofs.lemmas.List.{append_assoc, append-nil, length-append}
@@ -12,26 +13,29 @@ use Rattle.pfs_base.specs.Problem.{Problem}
 use Rattle.pfs_base.proofs.Published.Lists.{by_push}
 use Rattle.pfs_layout.specs.declared.layout.Layout.{Layout}
 use Rattle.pfs_layout.specs.declared.fault.LayoutFault.{LayoutFault}
-use Rattle.pfs_layout.specs.declared.fault.LayoutFault.TheVariants.{TooLong, NoBlock}
+use Rattle.pfs_layout.specs.declared.fault.LayoutFault.TheVariants.{NoBlock}
 use Rattle.pfs_layout.specs.Bytes.{is_line_end}
 use Rattle.pfs_layout.specs.Lines.{lines, ended_lines, open_line, ended_parts}
-use Rattle.pfs_layout.specs.Stand.{Block, Now, seeking, inside, lost, Stand, standing, completed, after_line, stand_after, stand, instance_of}
-use Rattle.pfs_layout.specs.Refuse.{too_long, mixed_line, wrong_number, wrong_size, missing, ends_early, faults, fault_behind, fault_at, refusal, accepted}
+use Rattle.pfs_layout.specs.Stand.{Block, Now, seeking, inside, lost, Stand, standing, completed, after_line}
+use Rattle.pfs_layout.specs.Stand.{stand_after, stand, instance_of}
+use Rattle.pfs_layout.specs.Refuse.{too_long, missing, ends_early, faults, fault_behind, fault_at, refusal, accepted}
 use Rattle.pfs_layout.specs.Laws.{Completes}
-use Rattle.pfs_layout.proofs.Files.LineLemmas.{open_part-push}
-use Rattle.pfs_layout.proofs.Published.PlaceLemmas.{fault_at-append, fault_at-byte, fault_at-end, no_byte_fault, no_fault, not_refused, slice_get-at}
+use Rattle.pfs_layout.proofs.Published.PlaceLemmas.{fault_at-append, fault_at-byte, fault_at-end, no_byte_fault}
+use Rattle.pfs_layout.proofs.Published.PlaceLemmas.{no_fault, not_refused, slice_get-at}
 use Rattle.pfs_layout.proofs.Files.SoundLemmas.{GoodNow, good_end, same_last, sound}
 use Rattle.pfs_layout.proofs.Options.{then_some_none, if_some, cases_option, all_none}
 use Rattle.pfs_layout.proofs.Files.SoundLemmas.{stand-push, stand_of, stand_of-end, stand_of-on, open_line-end}
 use Rattle.pfs_layout.proofs.Files.CutLemmas.{lines-parts, lines-line}
-use Rattle.pfs_layout.proofs.Files.GrowLemmas.{OneLine, one_line, Extends, grows, fewer_before, no_end, line_on, stand_from, stays_lost}
+use Rattle.pfs_layout.proofs.Files.GrowLemmas.{OneLine, one_line, Extends, grows, fewer_before, no_end, line_on}
+use Rattle.pfs_layout.proofs.Files.GrowLemmas.{stand_from, stays_lost}
 use Rattle.pfs_layout.proofs.Files.LoseLemmas.{LineAt, ends_here, goes_on, loses}
 
 -- the lines of a text that ends with a line end, and of one that doesn't
 lines_ended : (text : List ℕ) → is_empty (open_line text) ≡ true → lines text ≡ ended_lines text
 lines_ended text e = rw (lines-parts text, e) (append-nil (ended_lines text))
 
-lines_unended : (text : List ℕ) → is_empty (open_line text) ≡ false → lines text ≡ ended_lines text ++ open_line text ∷ []
+lines_unended : (text : List ℕ) → is_empty (open_line text) ≡ false
+    → lines text ≡ ended_lines text ++ open_line text ∷ []
 lines_unended text e = rw (lines-parts text, e)
 
 no_complete : (layout : Layout) → length (stand_of layout []).complete ≡ 0
@@ -51,7 +55,13 @@ place_of [] place h = absurd (omega arith)
 place_of (x ∷ text) zero h = record { before = []; byte = x; after = text; whole = refl; at = refl }
 place_of (x ∷ text) (suc place) h =
     let p = place_of text place (omega arith) in
-    record { before = x ∷ p.before; byte = p.byte; after = p.after; whole = ap (λ xs. x ∷ xs) p.whole; at = omega arith }
+    record {
+      before = x ∷ p.before;
+      byte = p.byte;
+      after = p.after;
+      whole = ap (λ xs. x ∷ xs) p.whole;
+      at = omega arith;
+    }
 
 module _ (layout : Layout) (k : ℕ) where
   -- no byte of a text has a fault
@@ -238,7 +248,8 @@ module _ (layout : Layout) (k : ℕ) where
   pub faultless_holds : 1 ≤ k → (input : List ℕ)
       → ((place : ℕ) → place ≤ length input → fault_at layout k input place ≡ None) → Holds input
   faultless_holds some input right = elim (cases_lt (length (stand_of layout input).complete) k) [
-    | inl few ↦ from_end input (λ place h. right place (omega arith)) few (rw fault_at-end at (right (length input) (omega arith)))
+    | inl few ↦ from_end input (λ place h. right place (omega arith)) few
+        (rw fault_at-end at (right (length input) (omega arith)))
     | inr enough ↦
         let held = from_enough input (λ place h. right place (omega arith)) (first_enough some input enough) in
         (held.0, held.1)
@@ -274,7 +285,8 @@ module _ (layout : Layout) (k : ℕ) where
           → lines (open_line before ++ b ∷ after) ≡ line ∷ others
           → (stand layout (lines (before ++ b ∷ after))).now ≡ lost
       behind line others at are =
-          let long : too_long before (Some b) ≡ None = rw (ne_eqb (length before) LONGEST_INPUT (λ same. omega arith)) in
+          let long : too_long before (Some b) ≡ None =
+          rw (ne_eqb (length before) LONGEST_INPUT (λ same. omega arith)) in
           let here = (has_fault before (Some b) fault e).1 in
           rw (stand_from layout before (b ∷ after), are) (stays_lost layout (stand_after layout stood line) others
           (loses layout k stood.complete stood.now before (Some b) fault line here long refl at))

@@ -1,25 +1,22 @@
 -- One verdict, and what it is computed by.
-use Rattle.std.proofs.Common.{◌≡◌, ℕ, ◌≤◌, Bool, true, false, List, [], ◌∷◌, ◌++◌, length, refl, sym, ◌∙◌, ap, arith, Option, Some, None, ◌⊎◌, inl, inr, if◌then◌else◌}
+use Rattle.std.proofs.Common.{◌≡◌, ℕ, ◌≤◌, List, [], ◌∷◌, ◌++◌, length, refl, ◌∙◌, ap, arith, ◌⊎◌, inl, inr}
 use Rattle.std.proofs.lemmas.Bool.{cases_Bool, eqb-true}
-use Rattle.std.proofs.lemmas.Option.{same_Some}
 use Rattle.std.proofs.lemmas.List.{length-append}
-use Rattle.pfs_base.specs.Limits.{limits}
 use Rattle.pfs_base.specs.Lists.{all_but_last, last_of}
 use Rattle.pfs_base.specs.Problem.{Problem}
 use Rattle.pfs_base.proofs.Published.Lists.{by_push, all_and_last}
 use Rattle.pfs_layout.specs.declared.layout.Layout.{Layout}
-use Rattle.pfs_layout.specs.declared.fault.LayoutFault.{LayoutFault}
 use Rattle.pfs_layout.specs.Bytes.{is_line_end}
 use Rattle.pfs_layout.specs.Lines.{lines, open_line, ended_parts, open_part}
-use Rattle.pfs_layout.specs.File.{File}
-use Rattle.pfs_layout.specs.Stand.{Block, Stand, standing, stand, instance_of}
-use Rattle.pfs_layout.specs.Refuse.{Refuse, refusal}
-use Rattle.pfs_layout.specs.Laws.{Completes, Seeks, SomeFile, ExactlyOne, OneVerdict, AcceptedLaw}
+use Rattle.pfs_layout.specs.Stand.{Block, standing, stand, instance_of}
+use Rattle.pfs_layout.specs.Refuse.{refusal}
+use Rattle.pfs_layout.specs.Laws.{Completes, Seeks, SomeFile, OneVerdict, AcceptedLaw}
 use Rattle.pfs_layout.proofs.Files.SoundLemmas.{open_line-end, open_line-on}
 use Rattle.pfs_layout.proofs.Options.{cases_option}
 use Rattle.pfs_layout.proofs.Published.PlaceLemmas.{refusal_is, one_fault, no_fault, not_refused}
 use Rattle.pfs_layout.proofs.Files.FileLemmas.{file_completes, completes_file}
-use Rattle.pfs_layout.proofs.Files.VerdictLemmas.{one_held, faultless_holds, holds_faultless, holds_accepted, accepted_holds}
+use Rattle.pfs_layout.proofs.Files.VerdictLemmas.{one_held, faultless_holds, holds_faultless, holds_accepted}
+use Rattle.pfs_layout.proofs.Files.VerdictLemmas.{accepted_holds}
 
 pub accepted_law : AcceptedLaw
 accepted_law layout input k problem some = (
@@ -44,7 +41,8 @@ one_verdict layout input k some = elim (cases_option (refusal layout input k)) [
         record {
           one = held.0;
           has = completes_file layout input k held.0 held.1;
-          no_other = λ other file. one_held layout k input other held.0 (file_completes layout input k other file) held.1;
+          no_other = λ other file. one_held layout k input other held.0
+              (file_completes layout input k other file) held.1;
         },
         λ fault refused. let there = (refusal_is layout input k fault).1 refused in cc,
       )
@@ -103,7 +101,8 @@ seeks_completes layout input k some s = by_complete (stand layout (lines s.text)
     by_complete (block ∷ blocks) e =
         let earlier : List Block = all_but_last (block ∷ blocks) in
         let own : Block = last_of block (block ∷ blocks) in
-        let parts : (stand layout (lines s.text)).complete ≡ earlier ++ own ∷ [] = e ∙ all_and_last block block blocks in (
+        let parts : (stand layout (lines s.text)).complete ≡ earlier ++ own ∷ [] =
+        e ∙ all_and_last block block blocks in (
           instance_of layout own,
           record {
             text = s.text;
@@ -114,7 +113,8 @@ seeks_completes layout input k some s = by_complete (stand layout (lines s.text)
             earlier = earlier;
             own = own;
             count = omega (arith, s.complete, ap length parts, length-append earlier (own ∷ []));
-            stands = ap (λ bs. standing bs (stand layout (lines s.text)).now) parts ∙ ap (standing (earlier ++ own ∷ [])) s.now;
+            stands = ap (λ bs. standing bs (stand layout (lines s.text)).now) parts
+                ∙ ap (standing (earlier ++ own ∷ [])) s.now;
             is = refl;
           },
         )

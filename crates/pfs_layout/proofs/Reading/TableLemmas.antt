@@ -1,5 +1,6 @@
 -- The problem of a block with one number more.
-use Rattle.std.proofs.Common.{◌≡◌, ◌≢◌, ℕ, ◌+◌, ◌*◌, ◌/◌, ◌%◌, ◌<◌, List, [], ◌∷◌, ◌++◌, length, get_or, replicate, refl, sym}
+use Rattle.std.proofs.Common.{◌≡◌, ◌≢◌, ℕ, ◌+◌, ◌*◌, ◌/◌, ◌%◌, ◌<◌, List, [], ◌∷◌, ◌++◌, length, get_or, replicate}
+use Rattle.std.proofs.Common.{refl, sym}
 use Rattle.std.proofs.Common.{◌∙◌, ap, arith, inl, inr}
 use Rattle.std.proofs.Math.ListN.{set}
 use Rattle.std.proofs.Math.Nat.{mul_comm}
@@ -11,8 +12,8 @@ use Rattle.pfs_base.specs.FlowShop.{with_time}
 use Rattle.pfs_base.specs.Problem.{Problem}
 use Rattle.pfs_layout.specs.declared.layout.Layout.{Layout}
 use Rattle.pfs_layout.specs.declared.layout.Layout.TheVariants.{Taillard, OrLib}
-use Rattle.pfs_layout.specs.Size.{Size, problem_of}
-use Rattle.pfs_layout.specs.Stand.{Block, begun, seconds, times_among, place_of_time, instance_of}
+use Rattle.pfs_layout.specs.Size.{Size}
+use Rattle.pfs_layout.specs.Stand.{begun, seconds, times_among, place_of_time, instance_of}
 use Rattle.pfs_layout.specs.Step.{empty_problem, times_in}
 use Rattle.pfs_layout.proofs.Tables.{table, length-table, table_at, same_table}
 
@@ -26,7 +27,8 @@ same_place w a b c d p q e = (
 same_time_place : (layout : Layout) (size : Size) (r c job machine : ℕ) → r < size.jobs → c < size.machines
     → job < size.jobs → machine < size.machines
     → place_of_time layout size r c ≡ place_of_time layout size job machine → (r ≡ job) × (c ≡ machine)
-same_time_place Taillard size r c job machine p q s t e = let h = same_place size.jobs c r machine job p s e in (h.1, h.0)
+same_time_place Taillard size r c job machine p q s t e = let h = same_place size.jobs c r machine job p s e in
+    (h.1, h.0)
 same_time_place OrLib size r c job machine p q s t e = same_place size.machines r c job machine q t (omega arith)
 
 -- a list with one number more has elsewhere what it had
@@ -52,7 +54,8 @@ module _ (layout : Layout) (size : Size) where
       ≡ (let problem = instance_of layout (record { size = size; numbers = ns }) in
       record problem { shop = with_time problem.shop job machine v })
   unfolding instance_of with_times
-  instance_of-time ns v job machine j m at = ap (with_times size) (sym (same_table (stands_at (ns ++ v ∷ [])) size.jobs size.machines
+  instance_of-time ns v job machine j m at = ap (with_times size)
+      (sym (same_table (stands_at (ns ++ v ∷ [])) size.jobs size.machines
       (set times place v) (length-set times place v ∙ length-table (stands_at ns) size.jobs size.machines)
       (λ r c p q. elim (cases_eq (r * size.machines + c) place) [
         | inl here ↦

@@ -1,13 +1,11 @@
 -- A canonical text is an instance file.
-use Rattle.std.proofs.Common.{◌≡◌, ℕ, zero, suc, ◌+◌, ◌-◌, ◌<◌, ◌≤◌, ◌^◌, true, false, not, if◌then◌else◌, List, [], ◌∷◌}
-use Rattle.std.proofs.Common.{◌++◌, length, map, flat_map, filter, get_or, decimal, Some, refl, sym, ◌∙◌, ap, inl, arith}
+use Rattle.std.proofs.Common.{◌≡◌, ℕ, zero, suc, ◌+◌, ◌-◌, ◌<◌, ◌≤◌, ◌^◌, true, false, not, List, [], ◌∷◌}
+use Rattle.std.proofs.Common.{◌++◌, length, map, flat_map, get_or, decimal, Some, refl, sym, ◌∙◌, ap, inl, arith}
 use Rattle.std.proofs.Common.{lit<, length-append, append_assoc, append-nil}
 use Rattle.std.specs.List.{range_with_len, slice_split, list_any, list_all, All}
-use Rattle.std.specs.Str.Parse.{digits_value}
 use Rattle.std.proofs.lemmas.Bool.{and_right, le-leb, ne_eqb, true_from_ne_false}
 use Rattle.std.proofs.lemmas.Fmt.{decimal_is_IsNumeral}
-use Rattle.std.proofs.lemmas.List.{map-append}
-use Rattle.std.proofs.lemmas.List.Elements.{All-from_get_or, All-append, All-cons, All-nil, filter-append}
+use Rattle.std.proofs.lemmas.List.Elements.{All-from_get_or, All-append, All-cons, All-nil}
 use Rattle.std.proofs.lemmas.List.Folds.{list_any_none}
 use Rattle.std.proofs.lemmas.List.FromFn.{map-range_with_len_more}
 use Rattle.std.proofs.lemmas.List.Splits.{slice_split_none, slice_split_at}
@@ -21,15 +19,15 @@ use Rattle.pfs_base.specs.declared.limits.TheConstants.{LONGEST_INPUT}
 use Rattle.pfs_layout.specs.declared.layout.Layout.{Layout}
 use Rattle.pfs_layout.specs.declared.layout.Layout.TheVariants.{Taillard, OrLib}
 use Rattle.pfs_layout.specs.Block.{due_row, row_count, due, stated_size}
-use Rattle.pfs_layout.specs.Bytes.{is_digit, is_blank, is_line_end, is_word_byte}
+use Rattle.pfs_layout.specs.Bytes.{is_digit, is_line_end, is_word_byte}
 use Rattle.pfs_layout.specs.CanonicalText.{head_lines, row_lines, canonical_text, as_written, CanonicalLaw}
 use Rattle.pfs_layout.specs.File.{IsInstance, IsBody, IsBlock}
-use Rattle.pfs_layout.specs.Lines.{lines, open_line, ended_parts, open_part, is_mixed, is_number_line, is_no_digit}
+use Rattle.pfs_layout.specs.Lines.{lines, open_line, is_mixed, is_number_line, is_no_digit}
 use Rattle.pfs_layout.specs.Lines.{values, numbers}
 use Rattle.pfs_layout.specs.Size.{size_of}
 use Rattle.pfs_layout.proofs.Files.CutLemmas.{lines-line, lines-none, open_part-part}
 use Rattle.pfs_layout.proofs.Files.DueLemmas.{length-due_row, row_width}
-use Rattle.pfs_layout.proofs.Files.SoundLemmas.{open_line-none, values_last}
+use Rattle.pfs_layout.proofs.Files.SoundLemmas.{open_line-none}
 use Rattle.pfs_layout.proofs.Files.StandLemmas.{no_numbers}
 use Rattle.pfs_layout.proofs.Texts.CanonicalLemmas.{AllFit, fit_more, row_fits, title, size_numbers, times_title}
 use Rattle.pfs_layout.proofs.Texts.CanonicalLemmas.{sizes_fit, length-head_lines, length-row_lines}
@@ -209,7 +207,12 @@ module _ (problem : Problem) (is : IsInstance limits problem) where
         front_unmixed = between_unmixed layout _ (rows_unmixed rows (fits layout) 0 n);
         last_numbers = number_line (rows n)
             (omega (arith, length-due_row layout problem.shop n, some_columns layout)) (fits layout n);
-        holds = rw (between_numbers layout, rows_numbers rows (fits layout) 0 n, numbers_spaced (rows n) (fits layout n), count)
+        holds = rw (
+          between_numbers layout,
+          rows_numbers rows (fits layout) 0 n,
+          numbers_spaced (rows n) (fits layout n),
+          count,
+        )
             (rw last at (sym (flat_map-more rows 0 n)));
       }
 

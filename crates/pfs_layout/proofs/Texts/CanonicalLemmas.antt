@@ -1,5 +1,6 @@
 -- A canonical text: how long it is, its lines, and their numbers.
-use Rattle.std.proofs.Common.{◌≡◌, ℕ, zero, suc, ◌+◌, ◌*◌, ◌<◌, ◌≤◌, ◌^◌, Bool, List, [], ◌∷◌, ◌++◌, length, flat_map, get_or, Option, decimal, codes, ◌∙◌, ap, arith, lit<, lit≤, length-append}
+use Rattle.std.proofs.Common.{◌≡◌, ℕ, zero, suc, ◌+◌, ◌*◌, ◌<◌, ◌≤◌, ◌^◌, Bool, List, [], ◌∷◌, ◌++◌, length, flat_map}
+use Rattle.std.proofs.Common.{get_or, Option, decimal, codes, ap, arith, lit<, length-append}
 use Rattle.std.specs.List.{range_with_len}
 use Rattle.std.proofs.Math.Nat.{mul-le-mul}
 use Rattle.std.proofs.lemmas.Fmt.{length-decimal-le}
@@ -13,7 +14,7 @@ use Rattle.pfs_base.specs.Sends.{SendsAll, SendsFront}
 use Rattle.pfs_base.proofs.Published.SendsLemmas.{then_all, then_front, front_of}
 use Rattle.pfs_layout.specs.declared.layout.Layout.{Layout}
 use Rattle.pfs_layout.specs.declared.layout.Layout.TheVariants.{Taillard, OrLib}
-use Rattle.pfs_layout.specs.Size.{Size, size_of}
+use Rattle.pfs_layout.specs.Size.{Size}
 use Rattle.pfs_layout.specs.Block.{due_row, row_count}
 use Rattle.pfs_layout.specs.CanonicalText.{head_lines, row_line, row_lines, canonical_text}
 use Rattle.pfs_layout.proofs.Files.DueLemmas.{length-due_row, row_width, pairs_of, short_at}
@@ -75,7 +76,8 @@ row_fits OrLib shop job within k h =
     by_column : (machine column : ℕ) → machine < shop.machines → column < 2
         → get_or (pairs_of shop job machine) column 0 < 2 ^ 64
     by_column machine zero m l = omega (arith, within.sizes.few_machines)
-    by_column machine (suc zero) m l = omega (arith, short_at shop.times within.short_times (job * shop.machines + machine))
+    by_column machine (suc zero) m l =
+        omega (arith, short_at shop.times within.short_times (job * shop.machines + machine))
     by_column machine (suc (suc column)) m l = absurd (omega arith)
 
 -- a row's line
@@ -91,7 +93,8 @@ all_rows Taillard shop within =
     let width : 21 * shop.jobs + 1 ≤ 21 * MOST_JOBS + 1 = omega (arith, within.sizes.few_jobs) in
     omega (arith, mul-le-mul within.sizes.few_machines width)
 all_rows OrLib shop within =
-    let width : 21 * (shop.machines * 2) + 1 ≤ 21 * (MOST_MACHINES * 2) + 1 = omega (arith, within.sizes.few_machines) in
+    let width : 21 * (shop.machines * 2) + 1 ≤ 21 * (MOST_MACHINES * 2) + 1 =
+    omega (arith, within.sizes.few_machines) in
     omega (arith, mul-le-mul within.sizes.few_jobs width)
 
 -- the body, with room for the lines before it

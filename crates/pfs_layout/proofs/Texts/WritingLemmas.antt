@@ -1,12 +1,13 @@
 -- The rows of a body, number by number and line by line.
-use Rattle.std.proofs.Common.{◌≡◌, ℕ, zero, suc, ◌+◌, ◌-◌, ◌*◌, ◌<◌, ◌≤◌, drop, map, List, [], ◌∷◌, ◌++◌, take, flat_map, get_or, refl, sym, ◌∙◌, ap, subst, arith, lit<, append-nil}
+use Rattle.std.proofs.Common.{◌≡◌, ℕ, suc, ◌+◌, ◌*◌, ◌<◌, ◌≤◌, drop, map, List, [], ◌∷◌, ◌++◌, take, flat_map, get_or}
+use Rattle.std.proofs.Common.{refl, sym, ◌∙◌, ap, subst, arith, lit<, append-nil}
 use Rattle.std.specs.List.{range_with_len}
 use Rattle.std.proofs.lemmas.Grind.{flat_map-append}
 use Rattle.std.proofs.lemmas.List.{take_all, take-append-drop}
 use Rattle.std.proofs.lemmas.List.FromFn.{get_or-map-range_with_len, take-map-range_with_len}
 use Rattle.pfs_base.specs.FlowShop.{FlowShop, time_of}
 use Rattle.pfs_base.specs.Lists.{below}
-use Rattle.pfs_base.specs.Text.{with_line_end, spaced, entry}
+use Rattle.pfs_base.specs.Text.{spaced, entry}
 use Rattle.pfs_base.proofs.Published.Lists.{range_with_len-push}
 use Rattle.pfs_base.proofs.Published.Printing.{line_on}
 use Rattle.pfs_base.proofs.Published.SendsOn.{GoesOn}
@@ -48,7 +49,8 @@ number_on layout shop row place within =
 pub time_on : (shop : FlowShop) (machine job : ℕ) → job < shop.jobs
     → NextNumber Taillard shop machine job (time_of shop job machine)
 time_on shop machine job within =
-    subst (NextNumber Taillard shop machine job) (time_in_row shop machine job within) (number_on Taillard shop machine job within)
+    subst (NextNumber Taillard shop machine job) (time_in_row shop machine job within)
+    (number_on Taillard shop machine job within)
 
 pub machine_on : (shop : FlowShop) (job machine : ℕ) → machine < shop.machines
     → NextNumber OrLib shop job (2 * machine) machine
@@ -77,7 +79,8 @@ row_ends layout shop row count all =
 abbrev pub rows_begun : Layout → FlowShop → ℕ → List ℕ
 rows_begun layout shop count = flat_map (row_line layout shop) (below count)
 
-pub flat_map-more : (f : ℕ → List ℕ) (n k : ℕ) → flat_map f (range_with_len n (k + 1)) ≡ flat_map f (range_with_len n k) ++ f (n + k)
+pub flat_map-more : (f : ℕ → List ℕ) (n k : ℕ) → flat_map f (range_with_len n (k + 1)) ≡ flat_map f (range_with_len n k)
+    ++ f (n + k)
 flat_map-more f n k =
     let next : k + 1 ≡ suc k = omega arith in
     rw next (ap (flat_map f) (range_with_len-push n k) ∙ flat_map-append f (range_with_len n k) ((n + k) ∷ [])

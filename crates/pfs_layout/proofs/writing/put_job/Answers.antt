@@ -1,4 +1,4 @@
-use Rattle.std.proofs.Common.{rules, [], ◌∷◌, arith, ◌<◌, ◌*◌}
+use Rattle.std.proofs.Common.{rules, [], ◌∷◌, arith, ◌*◌}
 use Rattle.pfs_base.proofs.Published.SendsOn.{goes_on-fits, goes_on-more, goes_on-stopped, last_sends, last_fits}
 use Rattle.pfs_layout.specs.declared.layout.Layout.TheVariants.{OrLib}
 use Rattle.pfs_layout.proofs.Texts.WritingLemmas.{machine_on, machine_time_on, row_ends}
@@ -12,7 +12,8 @@ put_entry-requires-clause-fits g c =
 pub returns-in_err-reached : goal.returns-in_err-reached
 returns-in_err-reached g c =
     let on = machine_on c.args.instance.now.shop c.args.job c.loop-machine.machine (omega arith) in
-    let front = goes_on-stopped _ _ _ _ _ c.args.sent c.loop-machine.reached _ _ _ _ _ on c.loop-machine.invariant c.in_err-reached.ensures in
+    let front = goes_on-stopped _ _ _ _ _ c.args.sent c.loop-machine.reached _ _ _ _ _ on c.loop-machine.invariant
+    c.in_err-reached.ensures in
     search rules
 
 pub put_entry-requires-in-loop-machine-clause-fits :
@@ -20,23 +21,28 @@ pub put_entry-requires-in-loop-machine-clause-fits :
 put_entry-requires-in-loop-machine-clause-fits g c =
     let first = machine_on c.args.instance.now.shop c.args.job c.loop-machine.machine (omega arith) in
     let on = machine_time_on c.args.instance.now.shop c.args.job c.loop-machine.machine (omega arith) in
-    let half = goes_on-more _ _ _ _ _ c.args.sent c.loop-machine.reached _ _ _ _ _ first c.loop-machine.invariant c.in_ok-reached.ensures in
+    let half = goes_on-more _ _ _ _ _ c.args.sent c.loop-machine.reached _ _ _ _ _ first c.loop-machine.invariant
+    c.in_ok-reached.ensures in
     rw c.time.ensures.value (goes_on-fits _ _ _ c.args.sent c.in_ok-reached.reached _ _ _ _ on half c.requires.fits)
 
 pub returns-in_err-reached-2 : goal.returns-in_err-reached-2
 returns-in_err-reached-2 g c =
     let first = machine_on c.args.instance.now.shop c.args.job c.loop-machine.machine (omega arith) in
     let on = machine_time_on c.args.instance.now.shop c.args.job c.loop-machine.machine (omega arith) in
-    let half = goes_on-more _ _ _ _ _ c.args.sent c.loop-machine.reached _ _ _ _ _ first c.loop-machine.invariant c.in_ok-reached.ensures in
-    let front = goes_on-stopped _ _ _ _ _ c.args.sent c.in_ok-reached.reached _ _ _ _ _ on half (rw c.time.ensures.value at c.in_err-reached-2.ensures) in
+    let half = goes_on-more _ _ _ _ _ c.args.sent c.loop-machine.reached _ _ _ _ _ first c.loop-machine.invariant
+    c.in_ok-reached.ensures in
+    let front = goes_on-stopped _ _ _ _ _ c.args.sent c.in_ok-reached.reached _ _ _ _ _ on half
+    (rw c.time.ensures.value at c.in_err-reached-2.ensures) in
     search rules
 
 pub loop-machine-preserved : goal.loop-machine-preserved
 loop-machine-preserved g c =
     let first = machine_on c.args.instance.now.shop c.args.job c.loop-machine.machine (omega arith) in
     let on = machine_time_on c.args.instance.now.shop c.args.job c.loop-machine.machine (omega arith) in
-    let half = goes_on-more _ _ _ _ _ c.args.sent c.loop-machine.reached _ _ _ _ _ first c.loop-machine.invariant c.in_ok-reached.ensures in
-    goes_on-more _ _ _ _ _ c.args.sent c.in_ok-reached.reached _ _ _ _ _ on half (rw c.time.ensures.value at c.in_ok-reached-2.ensures)
+    let half = goes_on-more _ _ _ _ _ c.args.sent c.loop-machine.reached _ _ _ _ _ first c.loop-machine.invariant
+    c.in_ok-reached.ensures in
+    goes_on-more _ _ _ _ _ c.args.sent c.in_ok-reached.reached _ _ _ _ _ on half
+    (rw c.time.ensures.value at c.in_ok-reached-2.ensures)
 
 pub put-requires-clause-fits : goal.put-requires-clause-fits
 put-requires-clause-fits g c =
