@@ -282,7 +282,7 @@ sound_more layout k text b sound right few = by_end (is_line_end b) refl
     by_end : (v : Bool) → is_line_end b ≡ v
         → GoodNow layout (stand_of layout (text ++ b ∷ [])).now (open_line (text ++ b ∷ []))
     by_end true e =
-        let less = rw (stand_of-end layout text b e) at few in
+        let within = rw (stand_of-end layout text b e) at few in
         let fewer : length before.complete < k =
         omega (arith, complete_stays layout before.complete before.now (open_line text)) in
         rw (stand_of-end layout text b e, open_line-end text b e)

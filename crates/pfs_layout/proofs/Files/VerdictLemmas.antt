@@ -170,9 +170,9 @@ module _ (layout : Layout) (k : ℕ) where
     | inl ends ↦
         let before : Stand = stand_of layout e.before in
         let text : List ℕ = e.before ++ e.byte ∷ [] in
-        let stood = stand_of-end layout e.before e.byte ends in
+        let reached = stand_of-end layout e.before e.byte ends in
         let one = one_block before.complete _ (one_line layout before.complete before.now (open_line e.before)) e.few
-        (rw stood at e.enough) in
+        (rw reached at e.enough) in
         let ended = open_line-end e.before e.byte ends in
         let whole : input ≡ text ++ e.after = rw (append_assoc e.before (e.byte ∷ []) e.after) e.whole in
         let right_text : Faultless text = faultless_front text e.after (subst Faultless whole right) in
@@ -187,7 +187,7 @@ module _ (layout : Layout) (k : ℕ) where
             earlier = before.complete;
             own = one.0;
             count = one.1;
-            stands = ap (stand layout) (lines_ended text (ap is_empty ended)) ∙ stood ∙ one.2;
+            stands = ap (stand layout) (lines_ended text (ap is_empty ended)) ∙ reached ∙ one.2;
             is = refl;
           },
           ended,
@@ -203,16 +203,16 @@ module _ (layout : Layout) (k : ℕ) where
   unfolding stand_after ends_early
   from_end input right few last = elim (cases_Bool (is_empty (open_line input))) [
     | inl empty ↦
-        let stood = ap (stand layout) (lines_ended input empty) in
-        let all = rw stood at (enough (rw stood (rw (nothing (open_line input) empty) at good))) in
+        let reached = ap (stand layout) (lines_ended input empty) in
+        let all = rw reached at (enough (rw reached (rw (nothing (open_line input) empty) at good))) in
         absurd (omega arith)
     | inr filled ↦
         let after : Stand = after_line layout before.complete before.now (open_line input) in
-        let stood : stand layout (lines input) ≡ after = rw (lines_unended input filled) (stand-push layout _ _) in
+        let reached : stand layout (lines input) ≡ after = rw (lines_unended input filled) (stand-push layout _ _) in
         let good_after = good_end layout k before.complete before.now input None (ap not filled)
         (λ there. rw (same_last input, there)) good none in
         let one = one_block before.complete after (one_line layout before.complete before.now (open_line input)) few
-        (rw stood at (enough (rw stood good_after))) in (
+        (rw reached at (enough (rw reached good_after))) in (
           instance_of layout one.0,
           record {
             text = input;
@@ -223,7 +223,7 @@ module _ (layout : Layout) (k : ℕ) where
             earlier = before.complete;
             own = one.0;
             count = one.1;
-            stands = stood ∙ one.2;
+            stands = reached ∙ one.2;
             is = refl;
           },
         )
@@ -278,8 +278,8 @@ module _ (layout : Layout) (k : ℕ) where
         (rw (append_assoc (open_line before) (b ∷ []) after) at on.are)
   ]
     where
-      stood : Stand
-      stood = stand_of layout before
+      reached : Stand
+      reached = stand_of layout before
 
       behind : (line : List ℕ) (others : List (List ℕ)) → LineAt before (Some b) line
           → lines (open_line before ++ b ∷ after) ≡ line ∷ others
@@ -288,22 +288,22 @@ module _ (layout : Layout) (k : ℕ) where
           let long : too_long before (Some b) ≡ None =
           rw (ne_eqb (length before) LONGEST_INPUT (λ same. omega arith)) in
           let here = (has_fault before (Some b) fault e).1 in
-          rw (stand_from layout before (b ∷ after), are) (stays_lost layout (stand_after layout stood line) others
-          (loses layout k stood.complete stood.now before (Some b) fault line here long refl at))
+          rw (stand_from layout before (b ∷ after), are) (stays_lost layout (stand_after layout reached line) others
+          (loses layout k reached.complete reached.now before (Some b) fault line here long refl at))
 
   end_is_right : (input : List ℕ) (blocks : List Block) (fault : LayoutFault)
       → stand layout (lines input) ≡ standing blocks seeking → length blocks ≡ k
       → fault_behind layout k input None ≡ Some fault → ⊥
   unfolding stand_after ends_early
   end_is_right input blocks fault stands count e =
-      let stood : Stand = stand_of layout input in
+      let reached : Stand = stand_of layout input in
       let has = has_fault input None fault e in
       let long : too_long input None ≡ None = rw (and_right (length input == LONGEST_INPUT) false refl) in
       let early : ends_early layout k input None ≡ None = rw (stands, le-ltb (length blocks) k (omega arith)) in
       elim (cases_Bool (is_empty (open_line input))) [
         | inl empty ↦ let here = rw (lines_ended input empty) at stands in let few = rw here at has.0 in omega arith
         | inr filled ↦
-            let away = loses layout k stood.complete stood.now input None fault (open_line input) has.1 long early
+            let away = loses layout k reached.complete reached.now input None fault (open_line input) has.1 long early
             (ends_here (ap not filled) refl) in
             let lost_there : (stand layout (lines input)).now ≡ lost =
             rw (lines_unended input filled, stand-push layout (ended_lines input) (open_line input)) away in

@@ -12,7 +12,7 @@ loop-job-init c = record {
   same_machines = refl;
   every_time = c.jobs-job-end.ensures.within.every_time;
   same_notes = refl;
-  drawn = λ job less. absurd (omega arith);
+  drawn = λ job within. absurd (omega arith);
   others = λ job other n differ. refl;
 }
 

@@ -32,7 +32,7 @@ loop-machine-preserved c =
           (sym (row.jobs ∙ so_far.same_jobs))
           ∙ ap (λ machines. after.shop.jobs * machines) (sym (row.machines ∙ so_far.same_machines));
       same_notes = row.notes;
-      drawn = λ job less. row.drawn job (omega (arith, so_far.same_jobs));
+      drawn = λ job within. row.drawn job (omega (arith, so_far.same_jobs));
       others = row.others;
     } in
     machine_more c.args.jobs c.args.machines c.args.seed c.loop-machine.machine c.loop-machine.drawn _ _ _ so_far
