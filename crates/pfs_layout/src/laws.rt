@@ -72,6 +72,7 @@ pub fn earlier_files()
 pub fn due_and_back()
     ensures { DueAndBack }
 {}
+
 /// Numbers pass, place by place, exactly where they begin what is due for some problem of the size.
 pub fn due_fronts()
     ensures { DueFronts }

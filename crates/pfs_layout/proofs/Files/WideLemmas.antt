@@ -27,7 +27,8 @@ module _ (narrow wide : Limits) (wider : IsWider narrow wide) where
         lower = omega (arith, is.lower, wider.note);
       }
 
-  block_wider : (layout : Layout) (problem : Problem) (block : List (List ℕ)) → IsBlock narrow layout problem block → IsBlock wide layout problem block
+  block_wider : (layout : Layout) (problem : Problem) (block : List (List ℕ)) → IsBlock narrow layout problem block
+      → IsBlock wide layout problem block
   block_wider layout problem block b = record {
     skipped = b.skipped;
     size_line = b.size_line;
@@ -40,9 +41,11 @@ module _ (narrow wide : Limits) (wider : IsWider narrow wide) where
     within = instance_wider problem b.within;
   }
 
-  blocks_wider : (layout : Layout) (blocks : List (List (List ℕ))) → AllByRecursion (IsSomeBlock narrow layout) blocks → AllByRecursion (IsSomeBlock wide layout) blocks
+  blocks_wider : (layout : Layout) (blocks : List (List (List ℕ))) → AllByRecursion (IsSomeBlock narrow layout) blocks
+      → AllByRecursion (IsSomeBlock wide layout) blocks
   blocks_wider layout [] all = tt
-  blocks_wider layout (block ∷ blocks) all = ((all.0.0, block_wider layout all.0.0 block all.0.1), blocks_wider layout blocks all.1)
+  blocks_wider layout (block ∷ blocks) all =
+      ((all.0.0, block_wider layout all.0.0 block all.0.1), blocks_wider layout blocks all.1)
 
 pub wider_limits : WiderLimits
 wider_limits narrow wide layout input k problem wider file = record {
