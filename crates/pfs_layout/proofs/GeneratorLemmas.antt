@@ -13,7 +13,7 @@ use Rattle.pfs_base.specs.Problem.{Problem}
 use Rattle.pfs_base.specs.declared.limits.TheConstants.{LONGEST_TIME}
 use Rattle.pfs_base.specs.declared.notes.Notes.{Notes}
 use Rattle.pfs_layout.specs.Generator.{prime, IsSeed, seed_after, drawn_time, generated, SeedsStay, GeneratedWithin}
-use Rattle.pfs_layout.proofs.DueLemmas.{length-rows, get_or-rows, at_row}
+use Rattle.pfs_layout.proofs.Files.DueLemmas.{length-rows, get_or-rows, at_row}
 use Rattle.pfs_base.specs.Lists.{below}
 
 pub seed_after-below : (draws seed : ℕ) → seed < prime → seed_after draws seed < prime

@@ -22,7 +22,8 @@ row_lines layout shop = flat_map (row_line layout shop) (below (row_count layout
 abbrev pub head_lines : Layout → Size → List ℕ
 head_lines Taillard size =
     with_line_end (codes "number of jobs, number of machines, initial seed, upper bound and lower bound :")
-    ++ with_line_end (spaced (size.jobs ∷ size.machines ∷ size.notes.seed ∷ size.notes.upper ∷ size.notes.lower ∷ []))
+    ++ with_line_end
+    (spaced (size.jobs ∷ size.machines ∷ size.notes.seed ∷ size.notes.upper ∷ size.notes.lower ∷ []))
     ++ with_line_end (codes "processing times :")
 head_lines OrLib size =
     with_line_end (codes "flow shop instance")

@@ -3,7 +3,8 @@ ghost use Rattle.std.specs.Prelude.{◌≡◌, ℕ, List};
 ghost use Rattle.pfs_layout.specs.Reader.{StandsAfter, FinishMeets};
 ghost use Rattle.pfs_layout.specs.CanonicalText.{CanonicalLaw};
 ghost use Rattle.pfs_layout.specs.Generator.{SeedsStay, GeneratedWithin};
-ghost use Rattle.pfs_layout.specs.Laws.{FileStands, SomeFile, OneVerdict, OneFault, RefusalLaw, AcceptedLaw, FaultStays, ByteFaultLaw, FreeBehind, WiderLimits, DueAndBack, DueFronts};
+ghost use Rattle.pfs_layout.specs.Laws.{FileStands, SomeFile, OneVerdict, OneFault, RefusalLaw, AcceptedLaw};
+ghost use Rattle.pfs_layout.specs.Laws.{FaultStays, ByteFaultLaw, FreeBehind, WiderLimits, DueAndBack, DueFronts};
 
 use crate::LayoutFault;
 use crate::reader::BlockReader;
@@ -87,7 +88,7 @@ pub fn generated_within()
 
 /// Two readers of one block and layout that stand after the same bytes give the answer that the bytes
 /// have, however they were cut for each.
-#[tactic(auto, using(crate::proofs::CuttingLemmas::same_answers))]
+#[tactic(auto, using(crate::proofs::Reading::CuttingLemmas::same_answers))]
 pub fn cutting(
     one: BlockReader,
     other: BlockReader,

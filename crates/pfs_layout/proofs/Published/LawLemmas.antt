@@ -15,10 +15,10 @@ use Rattle.pfs_layout.specs.File.{File}
 use Rattle.pfs_layout.specs.Stand.{Block, Stand, stand, instance_of}
 use Rattle.pfs_layout.specs.Refuse.{Refuse, refusal}
 use Rattle.pfs_layout.specs.Laws.{Completes, Seeks, SomeFile, ExactlyOne, OneVerdict, AcceptedLaw}
-use Rattle.pfs_layout.proofs.LineLemmas.{open_part-push}
+use Rattle.pfs_layout.proofs.Files.LineLemmas.{open_part-push}
 use Rattle.pfs_layout.proofs.Published.PlaceLemmas.{refusal_is, one_fault, no_fault, not_refused}
-use Rattle.pfs_layout.proofs.FileLemmas.{file_completes, completes_file}
-use Rattle.pfs_layout.proofs.VerdictLemmas.{faultless_holds, holds_faultless, holds_accepted, accepted_holds}
+use Rattle.pfs_layout.proofs.Files.FileLemmas.{file_completes, completes_file}
+use Rattle.pfs_layout.proofs.Files.VerdictLemmas.{faultless_holds, holds_faultless, holds_accepted, accepted_holds}
 
 pub accepted_law : AcceptedLaw
 accepted_law layout input k problem some = (

@@ -1,6 +1,6 @@
 use Rattle.std.proofs.Common.{refl, [], ◌∷◌, inl, codes, lit≤}
 use Rattle.pfs_layout.specs.Examples.{three_jobs_file, three_jobs}
-use Rattle.pfs_layout.proofs.SizeLemmas.{all_short}
+use Rattle.pfs_layout.proofs.Files.SizeLemmas.{all_short}
 use Rattle.pfs_layout.proofs.Computing.{computing}
 use Rattle.pfs_layout.proofs.examples.three_jobs.Goals as goal
 

@@ -1,7 +1,7 @@
 use Rattle.std.proofs.Common.{rules, [], ◌∷◌, arith, ◌<◌, ◌*◌}
 use Rattle.pfs_base.proofs.Published.SendsOn.{goes_on-fits, goes_on-more, goes_on-stopped, last_sends, last_fits}
 use Rattle.pfs_layout.specs.declared.layout.Layout.TheVariants.{OrLib}
-use Rattle.pfs_layout.proofs.WritingLemmas.{machine_on, machine_time_on, row_ends}
+use Rattle.pfs_layout.proofs.Texts.WritingLemmas.{machine_on, machine_time_on, row_ends}
 use Rattle.pfs_layout.proofs.writing.put_job.Goals as goal
 
 pub put_entry-requires-clause-fits : goal.put_entry-requires-clause-fits

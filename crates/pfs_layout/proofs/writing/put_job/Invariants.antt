@@ -1,7 +1,7 @@
 use Rattle.std.proofs.Common.{◌*◌}
 use Rattle.pfs_base.specs.Sends.{SendsAll}
 use Rattle.pfs_layout.specs.declared.layout.Layout.TheVariants.{OrLib}
-use Rattle.pfs_layout.proofs.WritingLemmas.{row_begun}
+use Rattle.pfs_layout.proofs.Texts.WritingLemmas.{row_begun}
 use Rattle.pfs_layout.proofs.writing.put_job.Given as goal
 
 abbrev pub invariant-loop-machine : goal.invariant-loop-machine

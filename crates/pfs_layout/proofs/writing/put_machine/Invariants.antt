@@ -1,6 +1,6 @@
 use Rattle.pfs_base.specs.Sends.{SendsAll}
 use Rattle.pfs_layout.specs.declared.layout.Layout.TheVariants.{Taillard}
-use Rattle.pfs_layout.proofs.WritingLemmas.{row_begun}
+use Rattle.pfs_layout.proofs.Texts.WritingLemmas.{row_begun}
 use Rattle.pfs_layout.proofs.writing.put_machine.Given as goal
 
 abbrev pub invariant-loop-job : goal.invariant-loop-job

@@ -1,7 +1,7 @@
 use Rattle.std.proofs.Common.{rules, arith, ◌<◌}
 use Rattle.pfs_base.proofs.Published.SendsOn.{goes_on-fits, goes_on-more, goes_on-stopped}
 use Rattle.pfs_layout.specs.Block.{row_count}
-use Rattle.pfs_layout.proofs.WritingLemmas.{row_on}
+use Rattle.pfs_layout.proofs.Texts.WritingLemmas.{row_on}
 use Rattle.pfs_layout.proofs.writing.put_rows.Goals as goal
 
 pub put_row-requires-clause-fits : goal.put_row-requires-clause-fits

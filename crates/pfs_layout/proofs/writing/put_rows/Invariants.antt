@@ -1,5 +1,5 @@
 use Rattle.pfs_base.specs.Sends.{SendsAll}
-use Rattle.pfs_layout.proofs.WritingLemmas.{rows_begun}
+use Rattle.pfs_layout.proofs.Texts.WritingLemmas.{rows_begun}
 use Rattle.pfs_layout.proofs.writing.put_rows.Given as goal
 
 abbrev pub invariant-loop-row : goal.invariant-loop-row

@@ -1,7 +1,7 @@
 use Rattle.std.proofs.Common.{rules, ◌≡◌, Err, arith, ◌<◌, ◌^◌}
 use Rattle.pfs_base.proofs.Published.SendsOn.{front_of_whole}
 use Rattle.pfs_layout.specs.Size.{Size, size_of}
-use Rattle.pfs_layout.proofs.CanonicalLemmas.{length-head_lines, length-row_lines, sizes_fit, head_front, rows_front, rows_all}
+use Rattle.pfs_layout.proofs.Texts.CanonicalLemmas.{length-head_lines, length-row_lines, sizes_fit, head_front, rows_front, rows_all}
 use Rattle.pfs_layout.proofs.writing.write_block.Goals as goal
 
 pub put_head-requires-clause-fits : goal.put_head-requires-clause-fits

@@ -2,8 +2,8 @@
 use Rattle.std.proofs.Common.{◌+◌, ◌-◌, get_or, sym, ◌∙◌, ap, subst, arith}
 use Rattle.pfs_layout.specs.declared.scan.Digits.{Digits}
 use Rattle.pfs_layout.specs.Step.{with_line, digits_after, kinds_after}
-use Rattle.pfs_layout.proofs.ReaderLemmas.{stands_of}
-use Rattle.pfs_layout.proofs.TakeLemmas.{TakenTo, taken_ready, taken_byte, taken_end, taken_all, meets_as, judged_quiet, judged_at_blank}
+use Rattle.pfs_layout.proofs.Reading.ReaderLemmas.{stands_of}
+use Rattle.pfs_layout.proofs.Reading.TakeLemmas.{TakenTo, taken_ready, taken_byte, taken_end, taken_all, meets_as, judged_quiet, judged_at_blank}
 use Rattle.pfs_layout.proofs.fields.Fields.take.Goals as goal
 use Rattle.pfs_layout.proofs.fields.Fields.take.Goals.{else-loop-b-test, then-loop-b-test+else-is_quiet+then-is_blank+then-not-is_live, then-loop-b-test+else-is_quiet+else-is_blank+then-not-is_live-2}
 

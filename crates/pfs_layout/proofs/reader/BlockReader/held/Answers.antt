@@ -2,7 +2,7 @@
 use Rattle.std.proofs.Common.{sym, subst}
 use Rattle.pfs_layout.specs.declared.fields.Fields.{Fields}
 use Rattle.pfs_layout.specs.Reader.{HoldsFew}
-use Rattle.pfs_layout.proofs.HeldLemmas.{holds_few}
+use Rattle.pfs_layout.proofs.Reading.HeldLemmas.{holds_few}
 use Rattle.pfs_layout.proofs.reader.BlockReader.held.Goals as goal
 
 pub returns-clause-few : goal.returns-clause-few

@@ -1,6 +1,6 @@
 -- A new reader stands after no bytes.
 use Rattle.std.proofs.Common.{refl, []}
-use Rattle.pfs_layout.proofs.NewLemmas.{follows_new}
+use Rattle.pfs_layout.proofs.Reading.NewLemmas.{follows_new}
 use Rattle.pfs_layout.proofs.reader.BlockReader.new.Goals as goal
 
 pub returns-clause-stands : goal.returns-clause-stands
