@@ -220,7 +220,7 @@ fn refuses_other_texts(rt: HostRuntime) {
         (b"order2 3\n2 1 3\nmakespan 10\n", syntax(8)),
         (b"order2 03 2\n2 1 3\nmakespan 10\n", syntax(7)),
         (b"order2 0 2\n", syntax(7)),
-        (b"order2 2001 2\n", syntax(10)),
+        (b"order2 5001 2\n", syntax(10)),
         (b"order2 3 02\n2 1 3\nmakespan 10\n", syntax(9)),
         (b"order2 3 0\n2 1 3\nmakespan 10\n", syntax(9)),
         (b"order2 3 201\n2 1 3\nmakespan 10\n", syntax(11)),
