@@ -339,7 +339,7 @@ static int search(const Instance& shop, uint64_t rounds, uint64_t take, uint64_t
         }
         round_of(inserter, drawn, passes, kept, makespan);
     }
-    std::printf("order %zu\n", shop.jobs);
+    std::printf("order2 %zu %zu\n", shop.jobs, shop.machines);
     for (size_t place = 0; place < kept.size(); ++place) {
         std::printf("%s%u", place == 0 ? "" : " ", kept[place] + 1);
     }

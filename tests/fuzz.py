@@ -40,7 +40,8 @@ MOST_SECONDS = 60
 
 # Each kind of answer, numbers apart.
 KINDS = [
-    "makespan X", "order X", "valid", "wrong makespan", "wrong size", "table X X", "flow shop instance",
+    "makespan X", "orderX X X", "valid", "wrong makespan", "wrong machines", "wrong size", "table X X",
+    "flow shop instance",
     "number of jobs, number of machines, initial seed, upper bound and lower bound :",
     "pfs: input too long", "pfs: mixed line at X", "pfs: time out of range at X", "pfs: wrong machine number at X",
     "pfs: extra number at X", "pfs: size line X has a wrong count", "pfs: size line X is out of range",
@@ -273,7 +274,7 @@ class Writer:
         return text
 
     def order(self, shop):
-        """An order file that may fit the shop."""
+        """An order file of either version that may fit the shop."""
         jobs = list(range(1, shop.jobs + 1))
         self.random.shuffle(jobs)
         length = second_program.makespan(shop, [job - 1 for job in jobs])
@@ -284,12 +285,14 @@ class Writer:
             jobs = list(range(1, self.random.choice([1, 2, shop.jobs + 1, 5_000]) + 1))
         elif kind < 0.35:
             jobs[self.random.randrange(len(jobs))] = self.random.choice([0, 1, shop.jobs, shop.jobs + 1, 999_999_999])
-        return second_program.order_text([job - 1 for job in jobs], length)
+        other = self.random.choice([0, 1, max(0, shop.machines - 1), shop.machines + 1, 200, 201])
+        machines = self.random.choice([None, None, shop.machines, shop.machines, shop.machines, other])
+        return second_program.order_text([job - 1 for job in jobs], machines, length)
 
 
 BYTES = [b"0", b"1", b"9", b" ", b"\t", b"\r", b"\n", b"\n", b"x", b"-", b".", b"+", b"\0", b"\xff"]
 INSERTED = BYTES + [b"9" * 40, b"0" * 60, b" " * 5_000, b"x" * 4_096, b"0" * 9_000, b"1000000001", b"4294967296",
-                    b" 7", b"\n\n", b"order ", b"makespan 0\n"]
+                    b" 7", b"\n\n", b"order ", b"order2 ", b"makespan 0\n"]
 
 
 def mutated(random, text):

@@ -26,7 +26,7 @@ LONGEST_TEXT = 14_450_028
 LONGEST_ORDER_TEXT = 50_039
 
 THREE = b"number of jobs\n3 2 0 0 0\n3 2 4\n2 5 1\n"
-BEST = b"order 3\n2 1 3\nmakespan 10\n"
+BEST = b"order2 3 2\n2 1 3\nmakespan 10\n"
 TITLE = b"number of jobs, number of machines, initial seed, upper bound and lower bound :\n"
 
 COUNT = b"pfs: size line 1 has a wrong count\n"
@@ -107,7 +107,7 @@ def ones_value(jobs, machines, one=1):
 
 def ones_solve(jobs, machines, one=1):
     """Each place is as good as the others, so each job, the lowest numbers first, is put before all others."""
-    yield b"order %d\n" % jobs
+    yield b"order2 %d %d\n" % (jobs, machines)
     yield b" ".join(b"%d" % job for job in range(jobs, 0, -1)) + b"\n"
     yield b"makespan %d\n" % (one * (jobs + machines - 1))
 

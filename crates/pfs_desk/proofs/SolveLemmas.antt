@@ -1,5 +1,6 @@
 -- What a search finds, counts and prints.
-use Rattle.std.proofs.Common.{◌≡◌, ℕ, zero, suc, ◌+◌, ◌-◌, ◌*◌, ◌<◌, ◌≤◌, ◌^◌, Bool, true, false, List, [], ◌∷◌, ◌++◌, Option, length, map, cond, codes, refl, sym, subst, ap, ◌∙◌, arith, lit<}
+use Rattle.std.proofs.Common.{◌≡◌, ℕ, zero, suc, ◌+◌, ◌-◌, ◌*◌, ◌<◌, ◌≤◌, ◌^◌, Bool, true, false, List, [], ◌∷◌, ◌++◌, Option}
+use Rattle.std.proofs.Common.{Some, length, map, get_or, cond, codes, refl, sym, subst, ap, ◌∙◌, arith, lit<, lit≤}
 use Rattle.std.proofs.lemmas.List.{append-nil}
 use Rattle.std.proofs.Math.Nat.{mul-le-mul, mul-le-mul_left}
 use Rattle.rand_core.specs.Pcg32Seed.{pcg32_seed}
@@ -144,24 +145,28 @@ found_is shop rounds many passes seed generator old old_span old_cells order spa
 
 -- ---- what is printed
 
-pub file_short : (order : List ℕ) (span : ℕ) → IsSize limits (length order) → IsSequence (length order) order → span < 10 ^ 18
-    → length (file_text order span) ≤ LONGEST_ORDER_FILE
-file_short order span size distinct short = text_fits (file_text order span) (map (λ job. job + 1) order, (span, (written_file order span size distinct short).has_text))
+pub file_short : (order : List ℕ) (machines span : ℕ) → IsSize limits (length order) → IsSequence (length order) order
+    → 1 ≤ machines → machines ≤ MOST_MACHINES → span < 10 ^ 18
+    → length (file_text order (Some machines) span) ≤ LONGEST_ORDER_FILE
+file_short order machines span size distinct some few short =
+    let written = written_file order (Some machines) span size distinct (some, few) short in
+    text_fits (file_text order (Some machines) span) (map (λ job. job + 1) order, (Some machines, (span, written.has_text)))
 
 cells_line : Bool → ℕ → List ℕ
 cells_line with_cells cells = cond with_cells (named_number (codes "cells") cells) []
 
-pub solution_counted : (order : List ℕ) (span : ℕ) (with_cells : Bool) (cells : ℕ) → with_cells ≡ true
-    → solution_text order span with_cells cells ≡ file_text order span ++ named_number (codes "cells") cells
+pub solution_counted : (order : List ℕ) (machines span : ℕ) (with_cells : Bool) (cells : ℕ) → with_cells ≡ true
+    → solution_text order machines span with_cells cells ≡ file_text order (Some machines) span ++ named_number (codes "cells") cells
 unfolding solution_text cells_line
-solution_counted order span with_cells cells e = ap (λ w. file_text order span ++ cells_line w cells) e
+solution_counted order machines span with_cells cells e = ap (λ w. file_text order (Some machines) span ++ cells_line w cells) e
 
-pub solution_alone : (order : List ℕ) (span : ℕ) (with_cells : Bool) (cells : ℕ) → with_cells ≡ false
-    → solution_text order span with_cells cells ≡ file_text order span
+pub solution_alone : (order : List ℕ) (machines span : ℕ) (with_cells : Bool) (cells : ℕ) → with_cells ≡ false
+    → solution_text order machines span with_cells cells ≡ file_text order (Some machines) span
 unfolding solution_text cells_line
-solution_alone order span with_cells cells e = ap (λ w. file_text order span ++ cells_line w cells) e ∙ append-nil (file_text order span)
+solution_alone order machines span with_cells cells e =
+    ap (λ w. file_text order (Some machines) span ++ cells_line w cells) e ∙ append-nil (file_text order (Some machines) span)
 
-pub solution_front : {a b : Option (List ℕ)} {failed : Bool} {sent reached : ℕ} (order : List ℕ) (span : ℕ) (with_cells : Bool) (cells : ℕ)
-    → SendsFront a b failed sent (file_text order span) reached → SendsFront a b failed sent (solution_text order span with_cells cells) reached
+pub solution_front : {a b : Option (List ℕ)} {failed : Bool} {sent reached : ℕ} (order : List ℕ) (machines span : ℕ) (with_cells : Bool) (cells : ℕ)
+    → SendsFront a b failed sent (file_text order (Some machines) span) reached → SendsFront a b failed sent (solution_text order machines span with_cells cells) reached
 unfolding solution_text
-solution_front order span with_cells cells front = front_of (cond with_cells (named_number (codes "cells") cells) []) front
+solution_front order machines span with_cells cells front = front_of (cond with_cells (named_number (codes "cells") cells) []) front
