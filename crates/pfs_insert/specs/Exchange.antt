@@ -22,5 +22,5 @@ ExchangeLaw =
     (shop : FlowShop) (jobs : List ℕ) (job place : ℕ) → 1 ≤ shop.machines → place ≤ length jobs →
     makespan_with shop jobs job place
     ≡ greatest (map
-        (λ machine. heaviest_front shop (insert jobs place job) place machine + heaviest_back shop jobs place machine)
-        (range_with_len 0 shop.machines))
+    (λ machine. heaviest_front shop (insert jobs place job) place machine + heaviest_back shop jobs place machine)
+    (range_with_len 0 shop.machines))
