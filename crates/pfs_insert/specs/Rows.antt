@@ -89,10 +89,15 @@ pub record IsPartial (shop : FlowShop) (seq : Sequence) : Type 0 where
   pub size : seq.size ≡ shop.jobs
   pub few : length seq.jobs < shop.jobs
 
--- the parts of a table: the rows of heads, the rows of tails, each with a row of zeros, and the inserted row
-pub record AreParts {X : Type 0} (shop : FlowShop) (heads tails put : List X) : Type 0 where
+-- the rows of tails of a sequence, of which the first is that of its first place
+pub record HasBacks {X : Type 0} (number : X → ℕ) (shop : FlowShop) (jobs : List ℕ) (rows : List X) : Type 0 where
+  pub rows_are : (place : ℕ) → place ≤ length jobs
+      → AreNumbersFrom number rows (place * shop.machines) shop.machines (heaviest_back shop jobs place)
+
+-- the parts of a table: the rows of heads, the rows of tails of a sequence with the row of zeros, and the inserted row
+pub record AreParts {X : Type 0} (shop : FlowShop) (jobs : List ℕ) (heads backs put : List X) : Type 0 where
   pub heads_long : length heads ≡ shop.jobs * shop.machines
-  pub tails_long : length tails ≡ shop.jobs * shop.machines
+  pub backs_long : length backs ≡ (length jobs + 1) * shop.machines
   pub put_long : length put ≡ shop.machines
 
 -- the rows of heads up to that of a place stay

@@ -118,5 +118,6 @@ fn best_in_table<B: Bench>(
     let (heads, rest) = table.split_at_mut(seq.size() * machines);
     let (tails, put) = rest.split_at_mut(seq.size() * machines);
     fill_tails(bench, seq, tails);
-    best_by_rows(bench, seq, job, heads, tails, put)
+    let first = seq.size() - 1 - seq.len();
+    best_by_rows(bench, seq, job, heads, &tails[first * machines..], put)
 }

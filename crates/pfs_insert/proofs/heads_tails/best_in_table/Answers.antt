@@ -1,14 +1,15 @@
-use Rattle.std.proofs.Common.{◌≡◌, ℕ, ◌+◌, ◌-◌, ◌*◌, ◌<◌, ◌≤◌, ◌++◌, length, get_or, ap, sym, subst, ◌∙◌, arith, rules}
-use Rattle.std.proofs.lemmas.List.{get_or_append_left}
+use Rattle.std.proofs.Common.{◌≡◌, ℕ, ◌+◌, ◌-◌, ◌*◌, ◌<◌, ◌≤◌, ◌++◌, length, take, drop, get_or, refl, ap, sym, subst, ◌∙◌, arith, rules}
+use Rattle.std.proofs.lemmas.List.{get_or_append_left, length-drop, length-take-le}
 use Rattle.pfs_base.specs.FlowShop.{FlowShop}
 use Rattle.pfs_order.proofs.Published.Sequences.{length-lt-size}
+use Rattle.pfs_insert.specs.Exchange.{heaviest_back}
 use Rattle.pfs_insert.specs.Insertion.{IsBest, makespan_with}
-use Rattle.pfs_insert.specs.Rows.{HasHead}
+use Rattle.pfs_insert.specs.Rows.{AreParts, HasBacks, HasHead}
 use Rattle.pfs_insert.proofs.FirstLeast.{first_least_is}
-use Rattle.pfs_insert.proofs.FlatRows.{row_le, row_split, begins, get_behind}
+use Rattle.pfs_insert.proofs.FlatRows.{row_le, row_split, begins, moved, get_behind, row_of_part}
 use Rattle.pfs_insert.proofs.TailRows.{back_none}
 use Rattle.pfs_insert.proofs.heads_tails.best_in_table.Given.{Over}
-use Rattle.pfs_insert.proofs.heads_tails.best_in_table.Goals.{After-split_at_mut-tails, After-best_by_rows}
+use Rattle.pfs_insert.proofs.heads_tails.best_in_table.Goals.{After-split_at_mut-tails, After-len, After-best_by_rows}
 use Rattle.pfs_insert.proofs.heads_tails.best_in_table.Goals as goal
 
 few_jobs : (g : Over) (c : After-split_at_mut-tails g) → length c.args.seq.now.jobs < (g.B.Bench.shop c.args.bench.now).jobs
@@ -53,6 +54,81 @@ best_by_rows-requires-clause-partial g c =
     let less = few_jobs g (goal.at.best_by_rows-requires-clause-partial g c).After-split_at_mut-tails in
     let jobs = ap (λ (s : FlowShop). s.jobs) c.fill_tails.ensures.shop in
     record { size = omega (arith, c.requires.size); few = omega arith }
+
+pub overflow_sub-first-2 : goal.overflow_sub-first-2
+overflow_sub-first-2 g c =
+    let less = few_jobs g (goal.at.overflow_sub-first-2 g c).After-split_at_mut-tails in
+    let size = c.size-3.ensures.value in
+    let len = c.len.ensures.value in
+    omega (arith, c.requires.size)
+
+-- how long all rows of tails are, and where those of the sequence begin
+rows_long : (g : Over) (c : After-len g) → length c.fill_tails.new.rows ≡ (g.B.Bench.shop c.args.bench.now).jobs * c.machines-machines.result
+rows_long g c = c.fill_tails.auto.rows ∙ c.split_at_mut-tails.ensures.front_len ∙ begins (c.size-2.ensures.value ∙ c.requires.size) refl
+
+first_is : (g : Over) (c : After-len g) → length c.args.seq.now.jobs < (g.B.Bench.shop c.args.bench.now).jobs
+    → (g.B.Bench.shop c.args.bench.now).jobs ≡ c.size-3.result - 1 - c.len.result + (length c.args.seq.now.jobs + 1)
+first_is g c less =
+    let size = c.size-3.ensures.value in
+    let len = c.len.ensures.value in
+    omega (arith, c.requires.size)
+
+pub best_by_rows-requires-clause-parts : goal.best_by_rows-requires-clause-parts
+best_by_rows-requires-clause-parts g c =
+    let here = (goal.at.best_by_rows-requires-clause-parts g c).After-len in
+    let split = (goal.at.best_by_rows-requires-clause-parts g c).After-split_at_mut-tails in
+    let less = few_jobs g split in
+    let shop = g.B.Bench.shop c.args.bench.now in
+    let jobs = c.args.seq.now.jobs in
+    let width = c.machines-machines.result in
+    let first = c.size-3.result - 1 - c.len.result in
+    let rows = c.fill_tails.new.rows in
+    let k = length rows - first * width in
+    let behind = row_split shop.jobs first (length jobs + 1) width (first_is g here less) in
+    let long = rows_long g here in
+    let rest = length-drop (first * width) rows in
+    let wide = ap (λ w. (length jobs + 1) * w) c.machines-machines.ensures in
+    let all = row_split (2 * shop.jobs + 1) shop.jobs (shop.jobs + 1) shop.machines (omega arith) in
+    let last = row_split (shop.jobs + 1) shop.jobs 1 shop.machines refl in
+    let heads = front_long g split in
+    let tails = tails_long g split in
+    let table = c.requires.table.size in
+    let heads_rest = c.split_at_mut-heads.ensures.back_len in
+    let tails_rest = c.split_at_mut-tails.ensures.back_len in
+    subst (λ (s : FlowShop). AreParts s jobs c.split_at_mut-heads.result.0.now (take k (drop (first * width) rows)) c.split_at_mut-tails.result.1.now) (sym c.fill_tails.ensures.shop)
+    (record {
+      heads_long = heads;
+      backs_long = length-take-le k (drop (first * width) rows) (omega arith) ∙ omega arith;
+      put_long = omega arith;
+    })
+
+pub best_by_rows-requires-clause-backs : goal.best_by_rows-requires-clause-backs
+best_by_rows-requires-clause-backs g c =
+    let here = (goal.at.best_by_rows-requires-clause-backs g c).After-len in
+    let split = (goal.at.best_by_rows-requires-clause-backs g c).After-split_at_mut-tails in
+    let less = few_jobs g split in
+    let number = g.B.Span.Length.number in
+    let shop = g.B.Bench.shop c.args.bench.now in
+    let jobs = c.args.seq.now.jobs in
+    let width = c.machines-machines.result in
+    let wide = c.machines-machines.ensures in
+    let first = c.size-3.result - 1 - c.len.result in
+    let rows = c.fill_tails.new.rows in
+    let k = length rows - first * width in
+    let behind = row_split shop.jobs first (length jobs + 1) width (first_is g here less) in
+    let long = rows_long g here in
+    let begin : first ≡ shop.jobs - 1 - length jobs = omega (arith, first_is g here less) in
+    subst (λ (s : FlowShop). HasBacks number s jobs (take k (drop (first * width) rows))) (sym c.fill_tails.ensures.shop)
+    (record {
+      rows_are = λ place inside.
+          let at = begins {row = place} refl wide in
+          let one = row_split (place + 1) place 1 width refl in
+          let fits = row_le (place + 1) (length jobs + 1) width (omega arith) in
+          let both = row_split (first + place) first place width refl in
+          let start : (shop.jobs - 1 - length jobs + place) * shop.machines ≡ first * width + place * shop.machines = omega (arith, begins {row = first + place} (ap (λ f. f + place) begin) wide) in
+          row_of_part number (first * width) shop.machines (heaviest_back shop jobs place) rows k (place * shop.machines) (omega arith)
+          (moved number ((shop.jobs - 1 - length jobs + place) * shop.machines) shop.machines _ rows (first * width + place * shop.machines) start (c.fill_tails.ensures.tails.rows_are place (omega arith) inside));
+    })
 
 pub best_by_rows-requires-clause-no_head : goal.best_by_rows-requires-clause-no_head
 best_by_rows-requires-clause-no_head g c =
