@@ -1,7 +1,7 @@
 -- A fault at a byte or at the end of the input makes its line one after which all is lost.
-use Rattle.std.proofs.Common.{◌≡◌, ℕ, ◌+◌, ◌-◌, Bool, true, false, not, ◌&&◌, ◌||◌, List, [], ◌∷◌, ◌++◌, length, get_or, count_by, refl, sym, ◌∙◌, ap, subst, arith, Option, Some, None, ◌⊎◌, inl, inr, if◌then◌else◌, ◌==◌}
-use Rattle.std.specs.List.{list_any, slice_split, onto_first}
-use Rattle.std.specs.Bool.{then_some}
+use Rattle.std.proofs.Common.{◌≡◌, ℕ, ◌+◌, Bool, true, false, not, ◌&&◌, ◌||◌, List, [], ◌∷◌, ◌++◌, length, get_or}
+use Rattle.std.proofs.Common.{count_by, refl, sym, arith, Option, Some, None, inl, inr}
+use Rattle.std.specs.List.{list_any, slice_split}
 use Rattle.std.specs.Str.Parse.{digits_value}
 use Rattle.std.proofs.lemmas.Bool.{and_parts, cases_Bool, eqb-true, false_from_ne_true, lt-leb, ltb-true, not-true}
 use Rattle.std.proofs.lemmas.Bool.Decides.{nat_tests}
@@ -14,13 +14,16 @@ use Rattle.pfs_layout.specs.declared.layout.Layout.{Layout}
 use Rattle.pfs_layout.specs.declared.fault.LayoutFault.{LayoutFault}
 use Rattle.pfs_layout.specs.declared.fault.LayoutFault.TheVariants.{SizeRange}
 use Rattle.pfs_layout.specs.Bytes.{is_digit, is_blank, is_line_end, is_word_byte}
-use Rattle.pfs_layout.specs.Size.{Size, is_within_limits}
-use Rattle.pfs_layout.specs.Lines.{open_line, is_mixed, is_number_line, is_no_digit, values, numbers, ended_numbers, last_digits}
-use Rattle.pfs_layout.specs.Block.{Due, any_time, machine_number, nothing, is_due, due_at, are_due, stated_size, due_count}
-use Rattle.pfs_layout.specs.Stand.{Block, Now, seeking, inside, lost, Stand, after_size, after_numbers, after_line}
-use Rattle.pfs_layout.specs.Refuse.{ends_line, ends_number, too_long, mixed_line, misfit, wrong_number, size_fault, wrong_size, ends_early, faults}
-use Rattle.pfs_layout.proofs.Files.LineLemmas.{IsSome, split_some, numbers_is, values-append}
-use Rattle.pfs_layout.proofs.Files.SoundLemmas.{if_some, values_last, same_last}
+use Rattle.pfs_layout.specs.Size.{Size}
+use Rattle.pfs_layout.specs.Lines.{open_line, is_mixed, is_number_line, is_no_digit, numbers, ended_numbers}
+use Rattle.pfs_layout.specs.Lines.{last_digits}
+use Rattle.pfs_layout.specs.Block.{Due, any_time, machine_number, nothing, is_due, due_at, are_due, stated_size}
+use Rattle.pfs_layout.specs.Stand.{Block, Now, seeking, inside, lost, after_size, after_line}
+use Rattle.pfs_layout.specs.Refuse.{ends_line, ends_number, too_long, mixed_line, misfit, wrong_number, size_fault}
+use Rattle.pfs_layout.specs.Refuse.{wrong_size, ends_early, faults}
+use Rattle.pfs_layout.proofs.Files.LineLemmas.{split_some, numbers_is, values-append}
+use Rattle.pfs_layout.proofs.Files.SoundLemmas.{values_last, same_last}
+use Rattle.pfs_layout.proofs.Options.{alone, if_some, one_of, then_some_some}
 use Rattle.pfs_layout.proofs.Files.BlockLemmas.{are_due_front}
 use Rattle.pfs_layout.proofs.Files.RoundLemmas.{due_number}
 
@@ -46,10 +49,6 @@ pub data LineAt (text : List ℕ) (next : Option ℕ) (line : List ℕ) : Type 0
   ends_here : ends_line text next ≡ true → line ≡ open_line text → LineAt text next line
   goes_on : (b : ℕ) (tail : List ℕ) → next ≡ Some b → is_line_end b ≡ false → line ≡ open_line text ++ b ∷ tail
       → LineAt text next line
-
-then_some_some : {A : Type 0} (c : Bool) (x y : A) → then_some c x ≡ Some y → c ≡ true
-then_some_some true x y e = refl
-then_some_some false x y e = cc
 
 -- ---- a size line
 
@@ -153,14 +152,6 @@ wrong_number_not_due layout block text next fault line e at = false_from_ne_true
     cc)
 
 -- ---- any of them
-
-alone : {A : Type 0} (o : Option A) (x : A) → first_some (o ∷ None ∷ []) ≡ Some x → o ≡ Some x
-alone None x e = cc
-alone (Some y) x e = e
-
-one_of : {A : Type 0} (o p : Option A) (x : A) → first_some (o ∷ p ∷ None ∷ []) ≡ Some x → (o ≡ Some x) ⊎ (p ≡ Some x)
-one_of None p x e = inr (alone p x e)
-one_of (Some y) p x e = inl e
 
 not_due_lost : (layout : Layout) (complete : List Block) (block : Block) (line : List ℕ)
     → are_due layout block.size (block.numbers ++ numbers line) ≡ false

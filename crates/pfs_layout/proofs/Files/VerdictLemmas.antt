@@ -1,8 +1,9 @@
 -- An input holds a file exactly where none of its places has a fault.
-use Rattle.std.proofs.Common.{◌≡◌, ℕ, zero, suc, ◌+◌, ◌-◌, ◌<◌, ◌≤◌, Bool, true, false, not, ◌&&◌, List, [], ◌∷◌, ◌++◌, length, take, fold, refl, sym, ◌∙◌, ap, subst, arith, Option, Some, None, is_none, option_map, ◌⊎◌, inl, inr, if◌then◌else◌, ◌==◌, nat_lt}
+use Rattle.std.proofs.Common.{◌≡◌, ℕ, zero, suc, ◌+◌, ◌-◌, ◌<◌, ◌≤◌, true, false, not, List, [], ◌∷◌, ◌++◌, length}
+use Rattle.std.proofs.Common.{take, refl, sym, ◌∙◌, ap, subst, arith, Option, Some, None, ◌⊎◌, inl, inr, ◌==◌, nat_lt}
 use Rattle.std.specs.List.{slice_get}
-use Rattle.std.specs.Bool.{then_some}
-use Rattle.std.proofs.lemmas.Bool.{and_right, cases_Bool, cases_lt, cases_eq, eq-eqb, ne_eqb, lt-ltb, le-ltb, ltb-true, ltb-false, eqb-true}
+use Rattle.std.proofs.lemmas.Bool.{and_right, cases_Bool, cases_lt, cases_eq, eq-eqb, ne_eqb, lt-ltb, le-ltb, ltb-true}
+use Rattle.std.proofs.lemmas.Bool.{ltb-false, eqb-true}
 use Rattle.std.proofs.lemmas.Option.{same_Some}
 use Rattle.std.proofs.Math.Seq.{take-append-add}
 use Rattle.std.proofs.lemmas.List.{append_assoc, append-nil, length-append}
@@ -12,26 +13,30 @@ use Rattle.pfs_base.specs.Problem.{Problem}
 use Rattle.pfs_base.proofs.Published.Lists.{by_push}
 use Rattle.pfs_layout.specs.declared.layout.Layout.{Layout}
 use Rattle.pfs_layout.specs.declared.fault.LayoutFault.{LayoutFault}
-use Rattle.pfs_layout.specs.declared.fault.LayoutFault.TheVariants.{TooLong, NoBlock}
+use Rattle.pfs_layout.specs.declared.fault.LayoutFault.TheVariants.{NoBlock}
 use Rattle.pfs_layout.specs.Bytes.{is_line_end}
 use Rattle.pfs_layout.specs.Lines.{lines, ended_lines, open_line, ended_parts}
-use Rattle.pfs_layout.specs.Stand.{Block, Now, seeking, inside, lost, Stand, standing, completed, after_line, stand_after, stand, instance_of}
-use Rattle.pfs_layout.specs.Refuse.{too_long, mixed_line, wrong_number, wrong_size, missing, ends_early, faults, fault_behind, fault_at, refusal, accepted}
+use Rattle.pfs_layout.specs.Stand.{Block, Now, seeking, inside, lost, Stand, standing, completed, after_line}
+use Rattle.pfs_layout.specs.Stand.{stand_after, stand, instance_of}
+use Rattle.pfs_layout.specs.Refuse.{too_long, missing, ends_early, faults, fault_behind, fault_at, refusal, accepted}
 use Rattle.pfs_layout.specs.Laws.{Completes}
-use Rattle.pfs_layout.proofs.Files.LineLemmas.{open_part-push}
-use Rattle.pfs_layout.proofs.Published.PlaceLemmas.{fault_at-append, fault_at-byte, fault_at-end, no_byte_fault, no_fault, not_refused, slice_get-at}
-use Rattle.pfs_layout.proofs.Files.SoundLemmas.{then_some_none, if_some, cases_option, all_none, GoodNow, good_end, same_last, sound}
+use Rattle.pfs_layout.proofs.Published.PlaceLemmas.{fault_at-append, fault_at-byte, fault_at-end, no_byte_fault}
+use Rattle.pfs_layout.proofs.Published.PlaceLemmas.{no_fault, not_refused, slice_get-at}
+use Rattle.pfs_layout.proofs.Files.SoundLemmas.{GoodNow, good_end, same_last, sound}
+use Rattle.pfs_layout.proofs.Options.{then_some_none, if_some, cases_option, all_none}
 use Rattle.pfs_layout.proofs.Files.SoundLemmas.{stand-push, stand_of, stand_of-end, stand_of-on, open_line-end}
-use Rattle.pfs_layout.proofs.Files.CutLemmas.{lines_are, lines-line}
-use Rattle.pfs_layout.proofs.Files.GrowLemmas.{OneLine, one_line, Extends, grows, fewer_before, no_end, line_on, stand_from, stays_lost}
+use Rattle.pfs_layout.proofs.Files.CutLemmas.{lines-parts, lines-line}
+use Rattle.pfs_layout.proofs.Files.GrowLemmas.{OneLine, one_line, Extends, grows, fewer_before, no_end, line_on}
+use Rattle.pfs_layout.proofs.Files.GrowLemmas.{stand_from, stays_lost}
 use Rattle.pfs_layout.proofs.Files.LoseLemmas.{LineAt, ends_here, goes_on, loses}
 
 -- the lines of a text that ends with a line end, and of one that doesn't
 lines_ended : (text : List ℕ) → is_empty (open_line text) ≡ true → lines text ≡ ended_lines text
-lines_ended text e = rw (lines_are text, e) (append-nil (ended_lines text))
+lines_ended text e = rw (lines-parts text, e) (append-nil (ended_lines text))
 
-lines_unended : (text : List ℕ) → is_empty (open_line text) ≡ false → lines text ≡ ended_lines text ++ open_line text ∷ []
-lines_unended text e = rw (lines_are text, e)
+lines_unended : (text : List ℕ) → is_empty (open_line text) ≡ false
+    → lines text ≡ ended_lines text ++ open_line text ∷ []
+lines_unended text e = rw (lines-parts text, e)
 
 no_complete : (layout : Layout) → length (stand_of layout []).complete ≡ 0
 unfolding stand ended_parts
@@ -50,7 +55,13 @@ place_of [] place h = absurd (omega arith)
 place_of (x ∷ text) zero h = record { before = []; byte = x; after = text; whole = refl; at = refl }
 place_of (x ∷ text) (suc place) h =
     let p = place_of text place (omega arith) in
-    record { before = x ∷ p.before; byte = p.byte; after = p.after; whole = ap (λ xs. x ∷ xs) p.whole; at = omega arith }
+    record {
+      before = x ∷ p.before;
+      byte = p.byte;
+      after = p.after;
+      whole = ap (λ xs. x ∷ xs) p.whole;
+      at = omega arith;
+    }
 
 module _ (layout : Layout) (k : ℕ) where
   -- no byte of a text has a fault
@@ -159,9 +170,9 @@ module _ (layout : Layout) (k : ℕ) where
     | inl ends ↦
         let before : Stand = stand_of layout e.before in
         let text : List ℕ = e.before ++ e.byte ∷ [] in
-        let stood = stand_of-end layout e.before e.byte ends in
+        let reached = stand_of-end layout e.before e.byte ends in
         let one = one_block before.complete _ (one_line layout before.complete before.now (open_line e.before)) e.few
-        (rw stood at e.enough) in
+        (rw reached at e.enough) in
         let ended = open_line-end e.before e.byte ends in
         let whole : input ≡ text ++ e.after = rw (append_assoc e.before (e.byte ∷ []) e.after) e.whole in
         let right_text : Faultless text = faultless_front text e.after (subst Faultless whole right) in
@@ -176,7 +187,7 @@ module _ (layout : Layout) (k : ℕ) where
             earlier = before.complete;
             own = one.0;
             count = one.1;
-            stands = ap (stand layout) (lines_ended text (ap is_empty ended)) ∙ stood ∙ one.2;
+            stands = ap (stand layout) (lines_ended text (ap is_empty ended)) ∙ reached ∙ one.2;
             is = refl;
           },
           ended,
@@ -192,16 +203,16 @@ module _ (layout : Layout) (k : ℕ) where
   unfolding stand_after ends_early
   from_end input right few last = elim (cases_Bool (is_empty (open_line input))) [
     | inl empty ↦
-        let stood = ap (stand layout) (lines_ended input empty) in
-        let all = rw stood at (enough (rw stood (rw (nothing (open_line input) empty) at good))) in
+        let reached = ap (stand layout) (lines_ended input empty) in
+        let all = rw reached at (enough (rw reached (rw (nothing (open_line input) empty) at good))) in
         absurd (omega arith)
     | inr filled ↦
         let after : Stand = after_line layout before.complete before.now (open_line input) in
-        let stood : stand layout (lines input) ≡ after = rw (lines_unended input filled) (stand-push layout _ _) in
+        let reached : stand layout (lines input) ≡ after = rw (lines_unended input filled) (stand-push layout _ _) in
         let good_after = good_end layout k before.complete before.now input None (ap not filled)
         (λ there. rw (same_last input, there)) good none in
         let one = one_block before.complete after (one_line layout before.complete before.now (open_line input)) few
-        (rw stood at (enough (rw stood good_after))) in (
+        (rw reached at (enough (rw reached good_after))) in (
           instance_of layout one.0,
           record {
             text = input;
@@ -212,7 +223,7 @@ module _ (layout : Layout) (k : ℕ) where
             earlier = before.complete;
             own = one.0;
             count = one.1;
-            stands = stood ∙ one.2;
+            stands = reached ∙ one.2;
             is = refl;
           },
         )
@@ -237,7 +248,8 @@ module _ (layout : Layout) (k : ℕ) where
   pub faultless_holds : 1 ≤ k → (input : List ℕ)
       → ((place : ℕ) → place ≤ length input → fault_at layout k input place ≡ None) → Holds input
   faultless_holds some input right = elim (cases_lt (length (stand_of layout input).complete) k) [
-    | inl few ↦ from_end input (λ place h. right place (omega arith)) few (rw fault_at-end at (right (length input) (omega arith)))
+    | inl few ↦ from_end input (λ place h. right place (omega arith)) few
+        (rw fault_at-end at (right (length input) (omega arith)))
     | inr enough ↦
         let held = from_enough input (λ place h. right place (omega arith)) (first_enough some input enough) in
         (held.0, held.1)
@@ -266,31 +278,32 @@ module _ (layout : Layout) (k : ℕ) where
         (rw (append_assoc (open_line before) (b ∷ []) after) at on.are)
   ]
     where
-      stood : Stand
-      stood = stand_of layout before
+      reached : Stand
+      reached = stand_of layout before
 
       behind : (line : List ℕ) (others : List (List ℕ)) → LineAt before (Some b) line
           → lines (open_line before ++ b ∷ after) ≡ line ∷ others
           → (stand layout (lines (before ++ b ∷ after))).now ≡ lost
       behind line others at are =
-          let long : too_long before (Some b) ≡ None = rw (ne_eqb (length before) LONGEST_INPUT (λ same. omega arith)) in
+          let long : too_long before (Some b) ≡ None =
+          rw (ne_eqb (length before) LONGEST_INPUT (λ same. omega arith)) in
           let here = (has_fault before (Some b) fault e).1 in
-          rw (stand_from layout before (b ∷ after), are) (stays_lost layout (stand_after layout stood line) others
-          (loses layout k stood.complete stood.now before (Some b) fault line here long refl at))
+          rw (stand_from layout before (b ∷ after), are) (stays_lost layout (stand_after layout reached line) others
+          (loses layout k reached.complete reached.now before (Some b) fault line here long refl at))
 
   end_is_right : (input : List ℕ) (blocks : List Block) (fault : LayoutFault)
       → stand layout (lines input) ≡ standing blocks seeking → length blocks ≡ k
       → fault_behind layout k input None ≡ Some fault → ⊥
   unfolding stand_after ends_early
   end_is_right input blocks fault stands count e =
-      let stood : Stand = stand_of layout input in
+      let reached : Stand = stand_of layout input in
       let has = has_fault input None fault e in
       let long : too_long input None ≡ None = rw (and_right (length input == LONGEST_INPUT) false refl) in
       let early : ends_early layout k input None ≡ None = rw (stands, le-ltb (length blocks) k (omega arith)) in
       elim (cases_Bool (is_empty (open_line input))) [
         | inl empty ↦ let here = rw (lines_ended input empty) at stands in let few = rw here at has.0 in omega arith
         | inr filled ↦
-            let away = loses layout k stood.complete stood.now input None fault (open_line input) has.1 long early
+            let away = loses layout k reached.complete reached.now input None fault (open_line input) has.1 long early
             (ends_here (ap not filled) refl) in
             let lost_there : (stand layout (lines input)).now ≡ lost =
             rw (lines_unended input filled, stand-push layout (ended_lines input) (open_line input)) away in
@@ -363,6 +376,11 @@ module _ (layout : Layout) (k : ℕ) where
   unfolding accepted
   holds_accepted input problem c =
       rw (not_refused layout k input (holds_faultless input problem c), kth_block input problem c, c.is)
+
+  -- an input holds one problem
+  pub one_held : (input : List ℕ) (one other : Problem) → Completes layout input k one → Completes layout input k other
+      → one ≡ other
+  one_held input one other c d = same_Some one other (sym (holds_accepted input one c) ∙ holds_accepted input other d)
 
   pub accepted_holds : 1 ≤ k → (input : List ℕ) (problem : Problem) → accepted layout input k ≡ Some problem
       → Completes layout input k problem
