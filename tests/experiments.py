@@ -24,7 +24,7 @@ from gantt import has_matplotlib  # noqa: E402
 TOP = pathlib.Path(__file__).resolve().parent.parent
 TOOLS = TOP / "experiments"
 PFS = str(TOP / "crates" / "pfs" / "out" / "pfs")
-MOST_SECONDS = 120
+MOST_SECONDS = 300
 
 PLAN = """instances = ["shops/*"]
 rounds = [0, 30]
