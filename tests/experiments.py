@@ -24,7 +24,7 @@ from gantt import has_matplotlib  # noqa: E402
 TOP = pathlib.Path(__file__).resolve().parent.parent
 TOOLS = TOP / "experiments"
 PFS = str(TOP / "crates" / "pfs" / "out" / "pfs")
-MOST_SECONDS = 120
+MOST_SECONDS = 300
 
 PLAN = """instances = ["shops/*"]
 rounds = [0, 30]
@@ -288,6 +288,8 @@ def interruptions(folder):
     make_plan(folder, PLAN.replace("[1, 2, 3]", "[1, 2, 3, 4, 5, 6]"))
     program = script(folder / "slow", SLOW.replace("NOTES", str(folder / "notes")))
     words = [str(TOOLS / "run"), "--pfs", program, "plan.toml", "out.csv", "--jobs", "2"]
+    # as a start leaves it that was killed while it made copies
+    (folder / "out.csv.d" / "pfs-experiment-begun" / "instances").mkdir(parents=True)
     kills = [(0, kill_all), (1, kill_all), (4, interrupt_all), (7, kill_starter), (11, kill_parallel), (15, terminate),
              (19, hang_up_all)]
     wanted, made = wanted_rows(folder, seeds=(1, 2, 3, 4, 5, 6)), {}
