@@ -289,7 +289,7 @@ module _ (layout : Layout) (k : ℕ) where
           rw (ne_eqb (length before) LONGEST_INPUT (λ same. omega arith)) in
           let here = (has_fault before (Some b) fault e).1 in
           rw (stand_from layout before (b ∷ after), are) (stays_lost layout (stand_after layout reached line) others
-          (loses layout k reached.complete reached.now before (Some b) fault line here long refl at))
+          (loses before (Some b) fault line at layout k reached.complete reached.now here long refl))
 
   end_is_right : (input : List ℕ) (blocks : List Block) (fault : LayoutFault)
       → stand layout (lines input) ≡ standing blocks seeking → length blocks ≡ k
@@ -303,8 +303,8 @@ module _ (layout : Layout) (k : ℕ) where
       elim (cases_Bool (is_empty (open_line input))) [
         | inl empty ↦ let here = rw (lines_ended input empty) at stands in let few = rw here at has.0 in omega arith
         | inr filled ↦
-            let away = loses layout k reached.complete reached.now input None fault (open_line input) has.1 long early
-            (ends_here (ap not filled) refl) in
+            let here = ends_here (ap not filled) refl in
+          let away = loses input None fault (open_line input) here layout k reached.complete reached.now has.1 long early in
             let lost_there : (stand layout (lines input)).now ≡ lost =
             rw (lines_unended input filled, stand-push layout (ended_lines input) (open_line input)) away in
             let now = rw stands at lost_there in
