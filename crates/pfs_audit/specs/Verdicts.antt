@@ -10,7 +10,9 @@ use Rattle.pfs_audit.specs.declared.verdicts.Verdict.TheVariants.{Valid, WrongSi
 -- the verdict on an order of the right size
 abbrev pub verdict_on_order : FlowShop → StatedOrder → Verdict
 verdict_on_order shop file =
-    if nat_eq file.makespan (makespan shop file.order) then Valid file.makespan (bound_of shop) else WrongMakespan file.makespan (makespan shop file.order)
+    if nat_eq file.makespan (makespan shop file.order)
+    then Valid file.makespan (bound_of shop)
+    else WrongMakespan file.makespan (makespan shop file.order)
 
 -- the size is judged first, then the makespan
 abbrev pub verdict_on : FlowShop → StatedOrder → Verdict

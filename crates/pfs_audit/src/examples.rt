@@ -27,6 +27,7 @@ pub fn schedule()
 pub fn verdicts()
     ensures shortest { verdict_on three_jobs (record { order = 1 ∷ 0 ∷ 2 ∷ []; makespan = 10 }) ≡ Verdict.Valid 10 10 }
     ensures longer { verdict_on three_jobs (record { order = 0 ∷ 1 ∷ 2 ∷ []; makespan = 11 }) ≡ Verdict.Valid 11 10 }
-    ensures wrong { verdict_on three_jobs (record { order = 1 ∷ 0 ∷ 2 ∷ []; makespan = 9 }) ≡ Verdict.WrongMakespan 9 10 }
+    ensures wrong { verdict_on three_jobs (record { order = 1 ∷ 0 ∷ 2 ∷ []; makespan = 9 })
+        ≡ Verdict.WrongMakespan 9 10 }
     ensures size { verdict_on three_jobs (record { order = 1 ∷ 0 ∷ []; makespan = 10 }) ≡ Verdict.WrongSize 2 3 }
 {}

@@ -26,7 +26,8 @@ pub enum Verdict {
 /// memory of `makespan`, and for none where the size is wrong.
 pub fn check(alloc: Global, instance: &Instance, file: &OrderFile) -> Result<Verdict, AuditFault>
     ensures verdict { IfOk result (λ verdict. verdict ≡ verdict_on instance.now.shop file.now) }
-    ensures shortest { IfOk result (λ verdict. (most : ℕ) → verdict ≡ Verdict.Valid most most → IsLowerBound instance.now.shop (makespan instance.now.shop file.now.order)) }
+    ensures shortest { IfOk result (λ verdict. (most : ℕ) → verdict ≡ Verdict.Valid most most
+        → IsLowerBound instance.now.shop (makespan instance.now.shop file.now.order)) }
     ensures size_first { result ≡ Err AuditFault.Memory → length file.now.order ≡ instance.now.shop.jobs }
 {
     let order = file.order();

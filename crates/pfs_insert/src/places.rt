@@ -1,15 +1,15 @@
 //! The places of a sequence, tried by rows of heads and tails.
 ghost use Rattle.std.specs.Prelude.{◌≡◌, ℕ, ◌+◌, ◌-◌, ◌*◌, ◌<◌, ◌≤◌, ◌^◌, length};
-ghost use Rattle.pfs_insert.specs.Insertion.{best_place, makespan_with, IsBest};
-ghost use Rattle.pfs_insert.specs.Rows.{HasHead, HasTails, IsPut};
+ghost use Rattle.pfs_insert.specs.Insertion.{IsBest, makespan_with};
+ghost use Rattle.pfs_insert.specs.Rows.{AreParts, HasHead, HasTails, IsPartial, IsPut, KeepsHeads};
 
 use crate::inserter::{Placed, better};
 use crate::rows::{fill_head, fill_two_places};
 use pfs_base::{Bench, Length};
 use pfs_order::Seq;
 
-/// The best place of a job in a sequence whose rows of tails are filled, and the makespan with the job
-/// there. The rows of heads are filled as the places go on; `put` takes the inserted row.
+// The best place of a job in a sequence whose rows of tails are filled, and the makespan with the job
+// there. The rows of heads are filled as the places go on; `put` takes the inserted row.
 #[inline(always)]
 pub(crate) fn best_by_rows<B: Bench>(
     bench: &mut B,
@@ -20,17 +20,16 @@ pub(crate) fn best_by_rows<B: Bench>(
     put: &mut [B::Span],
 ) -> Placed<B::Span>
     requires job { job < (B.shop bench.old).jobs }
-    requires size { seq.now.size ≡ (B.shop bench.old).jobs }
-    requires few { length seq.now.jobs < (B.shop bench.old).jobs }
-    requires heads { length heads.old ≡ (B.shop bench.old).jobs * (B.shop bench.old).machines }
-    requires tails { length tails.now ≡ (B.shop bench.old).jobs * (B.shop bench.old).machines }
-    requires put { length put.old ≡ (B.shop bench.old).machines }
+    requires partial { IsPartial (B.shop bench.old) seq.now }
+    requires parts { AreParts (B.shop bench.old) heads.old tails.now put.old }
     requires no_head { HasHead B.Span.number (B.shop bench.old) seq.now.jobs heads.old 0 }
     requires backs { HasTails B.Span.number (B.shop bench.old) seq.now.jobs tails.now 0 }
     requires room { B.counted bench.old + (3 * length seq.now.jobs + 2) * (B.shop bench.old).machines < 2 ^ 64 }
-    ensures best { IsBest B.Span.number (makespan_with (B.shop bench.old) seq.now.jobs job) (length seq.now.jobs + 1) result.place result.span }
+    ensures best { IsBest B.Span.number (makespan_with (B.shop bench.old) seq.now.jobs job)
+        (length seq.now.jobs + 1) result.place result.span }
     ensures no_head { HasHead B.Span.number (B.shop bench.old) seq.now.jobs heads.new 0 }
-    ensures counted { B.counted bench.new ≡ B.counted bench.old + (3 * length seq.now.jobs + 2) * (B.shop bench.old).machines }
+    ensures counted { B.counted bench.new
+        ≡ B.counted bench.old + (3 * length seq.now.jobs + 2) * (B.shop bench.old).machines }
     ensures shop { B.shop bench.new ≡ B.shop bench.old }
 {
     let len = seq.len();
@@ -65,18 +64,17 @@ fn try_two_places<B: Bench>(
 ) -> Placed<B::Span>
     requires job { job < (B.shop bench.old).jobs }
     requires place { place + 2 ≤ length seq.now.jobs }
-    requires size { seq.now.size ≡ (B.shop bench.old).jobs }
-    requires few { length seq.now.jobs < (B.shop bench.old).jobs }
-    requires heads { length heads.old ≡ (B.shop bench.old).jobs * (B.shop bench.old).machines }
-    requires tails { length tails.now ≡ (B.shop bench.old).jobs * (B.shop bench.old).machines }
-    requires put { length put.old ≡ (B.shop bench.old).machines }
+    requires partial { IsPartial (B.shop bench.old) seq.now }
+    requires parts { AreParts (B.shop bench.old) heads.old tails.now put.old }
     requires head { HasHead B.Span.number (B.shop bench.old) seq.now.jobs heads.old place }
     requires backs { HasTails B.Span.number (B.shop bench.old) seq.now.jobs tails.now 0 }
-    requires best { 0 < place → IsBest B.Span.number (makespan_with (B.shop bench.old) seq.now.jobs job) place best.place best.span }
+    requires best { 0 < place
+        → IsBest B.Span.number (makespan_with (B.shop bench.old) seq.now.jobs job) place best.place best.span }
     requires room { B.counted bench.old + 6 * (B.shop bench.old).machines < 2 ^ 64 }
-    ensures best { IsBest B.Span.number (makespan_with (B.shop bench.old) seq.now.jobs job) (place + 2) result.place result.span }
+    ensures best { IsBest B.Span.number (makespan_with (B.shop bench.old) seq.now.jobs job)
+        (place + 2) result.place result.span }
     ensures head { HasHead B.Span.number (B.shop bench.old) seq.now.jobs heads.new (place + 2) }
-    ensures kept { (row : ℕ) → row ≤ place → HasHead B.Span.number (B.shop bench.old) seq.now.jobs heads.old row → HasHead B.Span.number (B.shop bench.old) seq.now.jobs heads.new row }
+    ensures kept { KeepsHeads B.Span.number (B.shop bench.old) seq.now.jobs heads.old heads.new place }
     ensures counted { B.counted bench.new ≡ B.counted bench.old + 6 * (B.shop bench.old).machines }
     ensures shop { B.shop bench.new ≡ B.shop bench.old }
 {
@@ -103,13 +101,12 @@ fn try_two_places<B: Bench>(
 #[inline(always)]
 fn add_head<B: Bench>(bench: &mut B, seq: &Seq, place: usize, heads: &mut [B::Span])
     requires place { place < length seq.now.jobs }
-    requires size { seq.now.size ≡ (B.shop bench.old).jobs }
-    requires few { length seq.now.jobs < (B.shop bench.old).jobs }
+    requires partial { IsPartial (B.shop bench.old) seq.now }
     requires heads { length heads.old ≡ (B.shop bench.old).jobs * (B.shop bench.old).machines }
     requires head { HasHead B.Span.number (B.shop bench.old) seq.now.jobs heads.old place }
     requires room { B.counted bench.old + (B.shop bench.old).machines < 2 ^ 64 }
     ensures head { HasHead B.Span.number (B.shop bench.old) seq.now.jobs heads.new (place + 1) }
-    ensures kept { (row : ℕ) → row ≤ place → HasHead B.Span.number (B.shop bench.old) seq.now.jobs heads.old row → HasHead B.Span.number (B.shop bench.old) seq.now.jobs heads.new row }
+    ensures kept { KeepsHeads B.Span.number (B.shop bench.old) seq.now.jobs heads.old heads.new place }
     ensures counted { B.counted bench.new ≡ B.counted bench.old + (B.shop bench.old).machines }
     ensures shop { B.shop bench.new ≡ B.shop bench.old }
 {
@@ -137,16 +134,15 @@ fn try_place<B: Bench>(
 ) -> Placed<B::Span>
     requires job { job < (B.shop bench.old).jobs }
     requires place { place ≤ length seq.now.jobs }
-    requires size { seq.now.size ≡ (B.shop bench.old).jobs }
-    requires few { length seq.now.jobs < (B.shop bench.old).jobs }
-    requires heads { length heads.now ≡ (B.shop bench.old).jobs * (B.shop bench.old).machines }
-    requires tails { length tails.now ≡ (B.shop bench.old).jobs * (B.shop bench.old).machines }
-    requires put { length put.old ≡ (B.shop bench.old).machines }
+    requires partial { IsPartial (B.shop bench.old) seq.now }
+    requires parts { AreParts (B.shop bench.old) heads.now tails.now put.old }
     requires head { HasHead B.Span.number (B.shop bench.old) seq.now.jobs heads.now place }
     requires backs { HasTails B.Span.number (B.shop bench.old) seq.now.jobs tails.now 0 }
-    requires best { 0 < place → IsBest B.Span.number (makespan_with (B.shop bench.old) seq.now.jobs job) place best.place best.span }
+    requires best { 0 < place
+        → IsBest B.Span.number (makespan_with (B.shop bench.old) seq.now.jobs job) place best.place best.span }
     requires room { B.counted bench.old + 2 * (B.shop bench.old).machines < 2 ^ 64 }
-    ensures best { IsBest B.Span.number (makespan_with (B.shop bench.old) seq.now.jobs job) (place + 1) result.place result.span }
+    ensures best { IsBest B.Span.number (makespan_with (B.shop bench.old) seq.now.jobs job)
+        (place + 1) result.place result.span }
     ensures counted { B.counted bench.new ≡ B.counted bench.old + 2 * (B.shop bench.old).machines }
     ensures shop { B.shop bench.new ≡ B.shop bench.old }
 {
@@ -173,8 +169,7 @@ fn makespan_by_rows<B: Bench>(
 ) -> B::Span
     requires job { job < (B.shop bench.old).jobs }
     requires place { place ≤ length seq.now.jobs }
-    requires size { seq.now.size ≡ (B.shop bench.old).jobs }
-    requires few { length seq.now.jobs < (B.shop bench.old).jobs }
+    requires partial { IsPartial (B.shop bench.old) seq.now }
     requires tails { length tails.now ≡ (B.shop bench.old).jobs * (B.shop bench.old).machines }
     requires width { length put.now ≡ (B.shop bench.old).machines }
     requires put { IsPut B.Span.number (B.shop bench.old) seq.now.jobs job place put.now }

@@ -1,11 +1,11 @@
 -- Wider limits keep every file.
-use Rattle.std.proofs.Common.{ℕ, List, [], ◌∷◌, arith}
+use Rattle.std.proofs.Common.{ℕ, List, [], ◌∷◌, arith, lit≤}
 use Rattle.std.specs.List.{AllByRecursion}
-use Rattle.pfs_base.specs.Limits.{Limits}
+use Rattle.pfs_base.specs.Limits.{Limits, limits}
 use Rattle.pfs_base.specs.Problem.{Problem}
 use Rattle.pfs_layout.specs.declared.layout.Layout.{Layout}
 use Rattle.pfs_layout.specs.File.{IsInstance, IsBlock, IsSomeBlock}
-use Rattle.pfs_layout.specs.Laws.{IsWider, WiderLimits}
+use Rattle.pfs_layout.specs.Laws.{IsWider, WiderLimits, earlier_limits, EarlierFiles}
 
 module _ (narrow wide : Limits) (wider : IsWider narrow wide) where
   instance_wider : (problem : Problem) → IsInstance narrow problem → IsInstance wide problem
@@ -63,3 +63,12 @@ wider_limits narrow wide layout input k problem wider file = record {
     is_own = block_wider narrow wide wider layout problem file.blocks.own file.blocks.is_own;
   };
 }
+
+pub earlier_files : EarlierFiles
+earlier_files layout input k problem = wider_limits earlier_limits limits layout input k problem (record {
+  jobs = lit≤ tt;
+  machines = lit≤ tt;
+  time = lit≤ tt;
+  note = lit≤ tt;
+  input = lit≤ tt;
+})

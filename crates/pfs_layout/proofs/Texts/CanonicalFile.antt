@@ -20,7 +20,7 @@ use Rattle.pfs_layout.specs.declared.layout.Layout.{Layout}
 use Rattle.pfs_layout.specs.declared.layout.Layout.TheVariants.{Taillard, OrLib}
 use Rattle.pfs_layout.specs.Block.{due_row, row_count, due, stated_size}
 use Rattle.pfs_layout.specs.Bytes.{is_digit, is_line_end, is_word_byte}
-use Rattle.pfs_layout.specs.CanonicalText.{head_lines, row_lines, canonical_text, as_written, CanonicalLaw}
+use Rattle.pfs_layout.specs.CanonicalText.{head_lines, row_lines, canonical_text, as_written, CanonicalLaw, TextsFit}
 use Rattle.pfs_layout.specs.File.{IsInstance, IsBody, IsBlock}
 use Rattle.pfs_layout.specs.Lines.{lines, open_line, is_mixed, is_number_line, is_no_digit}
 use Rattle.pfs_layout.specs.Lines.{values, numbers}
@@ -267,6 +267,9 @@ module _ (problem : Problem) (is : IsInstance limits problem) where
       let head = length-head_lines layout (size_of problem) (numbers_fit layout) in
       let rows = length-row_lines layout problem.shop is.within in
       omega (arith, length-append (head_lines layout (size_of problem)) (row_lines layout problem.shop))
+
+pub texts_fit : TextsFit
+texts_fit layout problem is = text_short problem is layout
 
 pub canonical_law : CanonicalLaw
 canonical_law layout problem is =

@@ -1,4 +1,4 @@
-use Rattle.std.proofs.Common.{◌≡◌, ℕ, ◌+◌, ◌-◌, ◌*◌, ◌<◌, ◌≤◌, ◌++◌, length, get_or, ap, sym, subst, ◌∙◌, arith}
+use Rattle.std.proofs.Common.{◌≡◌, ℕ, ◌+◌, ◌-◌, ◌*◌, ◌<◌, ◌≤◌, ◌++◌, length, get_or, ap, sym, subst, ◌∙◌, arith, rules}
 use Rattle.std.proofs.lemmas.List.{get_or_append_left}
 use Rattle.pfs_base.specs.FlowShop.{FlowShop}
 use Rattle.pfs_order.proofs.Published.Sequences.{length-lt-size}
@@ -27,8 +27,9 @@ tails_long g c = c.split_at_mut-tails.ensures.front_len ∙ begins (c.size-2.ens
 no_tail_at : (jobs machines : ℕ) → 1 ≤ jobs → (machine : ℕ) → (2 * jobs - 1) * machines + machine ≡ jobs * machines + ((jobs - 1) * machines + machine)
 no_tail_at jobs machines some machine = let rest = row_split (2 * jobs - 1) jobs (jobs - 1) machines (omega arith) in omega arith
 
-pub fill_tails-requires-clause-few : goal.fill_tails-requires-clause-few
-fill_tails-requires-clause-few g c = few_jobs g (goal.at.fill_tails-requires-clause-few g c).After-split_at_mut-tails
+pub fill_tails-requires-clause-partial : goal.fill_tails-requires-clause-partial
+fill_tails-requires-clause-partial g c =
+    record { size = c.requires.size; few = few_jobs g (goal.at.fill_tails-requires-clause-partial g c).After-split_at_mut-tails }
 
 pub fill_tails-requires-clause-no_tail : goal.fill_tails-requires-clause-no_tail
 fill_tails-requires-clause-no_tail g c = λ machine d lt.
@@ -45,13 +46,13 @@ fill_tails-requires-clause-no_tail g c = λ machine d lt.
     ap number (sym (get_or_append_left tails c.split_at_mut-tails.result.1.now d at (omega arith)) ∙ ap (λ xs. get_or xs at d) (sym c.split_at_mut-tails.ensures.value)
     ∙ sym (get_behind heads rest (shop.jobs * shop.machines) at ((2 * shop.jobs - 1) * shop.machines + machine) d (front_long g here) (no_tail_at shop.jobs shop.machines some machine))
     ∙ ap (λ xs. get_or xs ((2 * shop.jobs - 1) * shop.machines + machine) d) (sym c.split_at_mut-heads.ensures.value))
-    ∙ c.requires.no_tail machine d lt
+    ∙ c.requires.table.no_tail machine d lt
 
-pub best_by_rows-requires-clause-few : goal.best_by_rows-requires-clause-few
-best_by_rows-requires-clause-few g c =
-    let less = few_jobs g (goal.at.best_by_rows-requires-clause-few g c).After-split_at_mut-tails in
+pub best_by_rows-requires-clause-partial : goal.best_by_rows-requires-clause-partial
+best_by_rows-requires-clause-partial g c =
+    let less = few_jobs g (goal.at.best_by_rows-requires-clause-partial g c).After-split_at_mut-tails in
     let jobs = ap (λ (s : FlowShop). s.jobs) c.fill_tails.ensures.shop in
-    omega arith
+    record { size = omega (arith, c.requires.size); few = omega arith }
 
 pub best_by_rows-requires-clause-no_head : goal.best_by_rows-requires-clause-no_head
 best_by_rows-requires-clause-no_head g c =
@@ -68,7 +69,7 @@ best_by_rows-requires-clause-no_head g c =
           let at : 0 * shop.machines + machine ≡ machine = omega arith in
           ap (λ i. number (get_or heads i d)) at
           ∙ ap number (sym (get_or_append_left heads c.split_at_mut-heads.result.1.now d machine (omega arith)) ∙ ap (λ xs. get_or xs machine d) (sym c.split_at_mut-heads.ensures.value))
-          ∙ c.requires.no_head machine d lt;
+          ∙ c.requires.table.no_head machine d lt;
     })
 
 pub best_by_rows-requires-clause-room : goal.best_by_rows-requires-clause-room
@@ -87,49 +88,49 @@ best_told g c =
     let best = c.best_by_rows.result in
     subst (λ (s : FlowShop). IsBest g.B.Span.Length.number (makespan_with s jobs c.args.job) (length jobs + 1) best.place best.span) c.fill_tails.ensures.shop c.best_by_rows.ensures.best
 
-pub returns-clause-place : goal.returns-clause-place
-returns-clause-place g c =
-    sym (first_least_is (makespan_with (g.B.Bench.shop c.args.bench.now) c.args.seq.now.jobs c.args.job) (length c.args.seq.now.jobs + 1) c.best_by_rows.result.place (best_told g (goal.at.returns-clause-place g c).After-best_by_rows).first)
+pub returns-clause-best : goal.returns-clause-best
+returns-clause-best g c =
+    let value = makespan_with (g.B.Bench.shop c.args.bench.now) c.args.seq.now.jobs c.args.job in
+    let best = best_told g (goal.at.returns-clause-best g c).After-best_by_rows in
+    let first = best.first in
+    let small = first.within in
+    record {
+      place_is = sym (first_least_is value (length c.args.seq.now.jobs + 1) c.best_by_rows.result.place first);
+      within = omega arith;
+      span_is = best.value_is;
+    }
 
-pub returns-clause-within : goal.returns-clause-within
-returns-clause-within g c = let is = (best_told g (goal.at.returns-clause-within g c).After-best_by_rows).first in let small = is.within in omega arith
-
-pub returns-clause-span : goal.returns-clause-span
-returns-clause-span g c = (best_told g (goal.at.returns-clause-span g c).After-best_by_rows).value_is
-
-pub returns-clause-no_head : goal.returns-clause-no_head
-returns-clause-no_head g c = λ machine d lt.
-    let number = g.B.Span.Length.number in
-    let shop = g.B.Bench.shop c.args.bench.now in
-    let jobs = c.args.seq.now.jobs in
-    let some = (g.met.B.Bench.within c.args.bench.now).sizes.some_job in
-    let heads = c.best_by_rows.new.heads in
-    let has = subst (λ (s : FlowShop). HasHead number s jobs heads 0) c.fill_tails.ensures.shop c.best_by_rows.ensures.no_head in
-    let at : machine ≡ 0 * shop.machines + machine = omega arith in
-    let long : length heads ≡ shop.jobs * shop.machines = c.best_by_rows.auto.heads ∙ front_long g (goal.at.returns-clause-no_head g c).After-split_at_mut-tails in
-    let first = row_le 1 shop.jobs shop.machines some in
-    ap number (get_or_append_left heads (c.fill_tails.new.rows ++ c.best_by_rows.new.put) d machine (omega arith)) ∙ ap (λ i. number (get_or heads i d)) at ∙ has.row_is machine d lt
-
-pub returns-clause-no_tail : goal.returns-clause-no_tail
-returns-clause-no_tail g c = λ machine d lt.
+pub returns-clause-table : goal.returns-clause-table
+returns-clause-table g c =
     let number = g.B.Span.Length.number in
     let shop = g.B.Bench.shop c.args.bench.now in
     let jobs = c.args.seq.now.jobs in
     let len = length jobs in
     let some = (g.met.B.Bench.within c.args.bench.now).sizes.some_job in
-    let here = (goal.at.returns-clause-no_tail g c).After-split_at_mut-tails in
+    let here = (goal.at.returns-clause-table g c).After-split_at_mut-tails in
     let heads = c.best_by_rows.new.heads in
     let tails = c.fill_tails.new.rows in
-    let at = (shop.jobs - 1) * shop.machines + machine in
     let less = few_jobs g here in
     let long : length heads ≡ shop.jobs * shop.machines = c.best_by_rows.auto.heads ∙ front_long g here in
     let rows_long : length tails ≡ shop.jobs * shop.machines = c.fill_tails.auto.rows ∙ tails_long g here in
-    let all : shop.jobs - 1 - len + len ≡ shop.jobs - 1 = omega arith in
+    let has = subst (λ (s : FlowShop). HasHead number s jobs heads 0) c.fill_tails.ensures.shop c.best_by_rows.ensures.no_head in
+    let first = row_le 1 shop.jobs shop.machines some in
     let last = row_split shop.jobs (shop.jobs - 1) 1 shop.machines (omega arith) in
-    ap number (get_behind heads (tails ++ c.best_by_rows.new.put) (shop.jobs * shop.machines) at ((2 * shop.jobs - 1) * shop.machines + machine) d long (no_tail_at shop.jobs shop.machines some machine)
-    ∙ get_or_append_left tails c.best_by_rows.new.put d at (omega arith))
-    ∙ ap (λ r. number (get_or tails (r * shop.machines + machine) d)) (sym all)
-    ∙ c.fill_tails.ensures.tails.rows_are len (omega arith) (omega arith) machine d lt ∙ back_none shop jobs len machine (omega arith)
+    let all : shop.jobs - 1 - len + len ≡ shop.jobs - 1 = omega arith in
+    record {
+      size = search rules;
+      no_head = λ machine d lt.
+          let at : machine ≡ 0 * shop.machines + machine = omega arith in
+          ap number (get_or_append_left heads (tails ++ c.best_by_rows.new.put) d machine (omega arith))
+          ∙ ap (λ i. number (get_or heads i d)) at ∙ has.row_is machine d lt;
+      no_tail = λ machine d lt.
+          let at = (shop.jobs - 1) * shop.machines + machine in
+          ap number (get_behind heads (tails ++ c.best_by_rows.new.put) (shop.jobs * shop.machines) at ((2 * shop.jobs - 1) * shop.machines + machine) d long
+          (no_tail_at shop.jobs shop.machines some machine)
+          ∙ get_or_append_left tails c.best_by_rows.new.put d at (omega arith))
+          ∙ ap (λ r. number (get_or tails (r * shop.machines + machine) d)) (sym all)
+          ∙ c.fill_tails.ensures.tails.rows_are len (omega arith) (omega arith) machine d lt ∙ back_none shop jobs len machine (omega arith);
+    }
 
 pub returns-clause-counted : goal.returns-clause-counted
 returns-clause-counted g c =
