@@ -159,7 +159,7 @@ module _ (text : List ℕ) (next : Option ℕ) (fault : LayoutFault) (line : Lis
   loses layout k complete seeking e long early =
       wrong_size_lost layout complete (alone _ fault (rw (long, early) at e))
   loses layout k complete (inside block) e long early = elim (one_of _ _ fault (rw (long, early) at e)) [
-      inl mixed ↦ rw (mixed_line_mixed mixed)
+    | inl mixed ↦ rw (mixed_line_mixed mixed)
     | inr wrong ↦ not_due_lost layout complete block (wrong_number_not_due layout block wrong)
   ]
   loses layout k complete lost e long early = refl

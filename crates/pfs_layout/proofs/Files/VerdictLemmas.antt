@@ -89,17 +89,15 @@ module _ (layout : Layout) (k : ℕ) where
 
   -- ---- without a fault there is a file
 
-  not_too_long : (now : Now) (text : List ℕ) (next : Option ℕ) → GoodNow layout now (open_line text)
-      → first_some (faults layout k now text next) ≡ None → too_long text next ≡ None
-  not_too_long seeking text next good right = (all_none (faults layout k seeking text next) right).0
-  not_too_long (inside block) text next good right = (all_none (faults layout k (inside block) text next) right).0
-  not_too_long lost text next good right = absurd good
-
-  not_early : (now : Now) (text : List ℕ) (next : Option ℕ) → GoodNow layout now (open_line text)
-      → first_some (faults layout k now text next) ≡ None → ends_early layout k text next ≡ None
-  not_early seeking text next good right = (all_none (faults layout k seeking text next) right).1.1.0
-  not_early (inside block) text next good right = (all_none (faults layout k (inside block) text next) right).1.1.1.0
-  not_early lost text next good right = absurd good
+  -- the place is not behind the limit, and the input does not end there too early
+  no_others : (now : Now) (text : List ℕ) (next : Option ℕ) → GoodNow layout now (open_line text)
+      → first_some (faults layout k now text next) ≡ None
+      → (too_long text next ≡ None) × (ends_early layout k text next ≡ None)
+  no_others seeking text next good right =
+      let none = all_none (faults layout k seeking text next) right in (none.0, none.1.1.0)
+  no_others (inside block) text next good right =
+      let none = all_none (faults layout k (inside block) text next) right in (none.0, none.1.1.1.0)
+  no_others lost text next good right = absurd good
 
   -- one more byte keeps within the greatest length
   short_more : (text : List ℕ) (b : ℕ) → Faultless (text ++ b ∷ []) → Few text → length text ≤ LONGEST_INPUT
@@ -110,7 +108,7 @@ module _ (layout : Layout) (k : ℕ) where
         let size = length-append text (b ∷ []) in
         let here = rw fault_at-byte at (right (length text) (omega arith)) in
         let none = none_of_faults text (Some b) few here in
-        let short = not_too_long _ text (Some b) (good_now text (faultless_front text (b ∷ []) right) few) none in
+        let short = (no_others _ text (Some b) (good_now text (faultless_front text (b ∷ []) right) few) none).0 in
         let never = rw (eq-eqb (length text) LONGEST_INPUT e) at short in
         absurd (cc)
   ]
@@ -239,7 +237,7 @@ module _ (layout : Layout) (k : ℕ) where
       none = none_of_faults input None few last
 
       enough : GoodNow layout (stand layout (lines input)).now [] → k ≤ length (stand layout (lines input)).complete
-      enough h = early_end _ _ h (not_early before.now input None good none)
+      enough h = early_end _ _ h (no_others before.now input None good none).1
 
       nothing : (line : List ℕ) → is_empty line ≡ true → line ≡ []
       nothing [] e = refl
@@ -304,7 +302,8 @@ module _ (layout : Layout) (k : ℕ) where
         | inl empty ↦ let here = rw (lines_ended input empty) at stands in let few = rw here at has.0 in omega arith
         | inr filled ↦
             let here = ends_here (ap not filled) refl in
-          let away = loses input None fault (open_line input) here layout k reached.complete reached.now has.1 long early in
+            let away = loses input None fault (open_line input) here layout k reached.complete reached.now has.1 long
+            early in
             let lost_there : (stand layout (lines input)).now ≡ lost =
             rw (lines_unended input filled, stand-push layout (ended_lines input) (open_line input)) away in
             let now = rw stands at lost_there in
