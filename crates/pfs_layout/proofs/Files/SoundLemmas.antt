@@ -1,9 +1,9 @@
 -- While no byte has a fault, the numbers so far are due and no line of a body is mixed.
-use Rattle.std.proofs.Common.{◌≡◌, ℕ, ◌+◌, ◌-◌, ◌<◌, ◌≤◌, Bool, true, false, not, ◌||◌, List, [], ◌∷◌, ◌++◌, length}
-use Rattle.std.proofs.Common.{count_by, refl, sym, ◌∙◌, arith, Option, Some, None, if◌then◌else◌, ◌==◌}
+use Rattle.std.proofs.Common.{◌≡◌, ℕ, ◌+◌, ◌-◌, ◌<◌, ◌≤◌, Bool, true, false, ◌||◌, List, [], ◌∷◌, ◌++◌, length}
+use Rattle.std.proofs.Common.{count_by, refl, sym, arith, Option, Some, None, if◌then◌else◌, ◌==◌}
 use Rattle.std.specs.List.{list_any}
 use Rattle.std.specs.Str.Parse.{digits_value}
-use Rattle.std.proofs.lemmas.Bool.{and_from, cond_both, eqb-true, false≢true, le-leb, lt-ltb, ltb-false, not-false}
+use Rattle.std.proofs.lemmas.Bool.{and_from, cond_both, eqb-true, le-leb, lt-ltb, ltb-false, not-false}
 use Rattle.std.proofs.lemmas.Bool.{not-true}
 use Rattle.std.proofs.lemmas.Bool.{or_left, or_parts, or_right}
 use Rattle.std.proofs.lemmas.Bool.{both_ways, cases_Bool, true_from_ne_false}
@@ -65,10 +65,10 @@ pub same_last : (text : List ℕ) → last_digits text ≡ last_digits (open_lin
 same_last = by_push (λ text. last_digits text ≡ last_digits (open_line text)) (rw open_line-none) (λ text b h.
     let byte = open_part-push is_no_digit text b in
     elim (cases_Bool (is_line_end b)) [
-      inl ends ↦
-        let gap : is_no_digit b ≡ true = rw (eqb-true b 10 ends) in
-        rw (byte, open_part-push is_line_end text b, ends, gap) (sym last_digits-none)
-    | inr on ↦ rw (byte, open_part-push is_line_end text b, on, open_part-push is_no_digit (open_line text) b, h)
+      | inl ends ↦
+          let gap : is_no_digit b ≡ true = rw (eqb-true b 10 ends) in
+          rw (byte, open_part-push is_line_end text b, ends, gap) (sym last_digits-none)
+      | inr on ↦ rw (byte, open_part-push is_line_end text b, on, open_part-push is_no_digit (open_line text) b, h)
     ])
 
 -- ---- what holds while no byte has a fault
@@ -88,8 +88,8 @@ pub digit_there : (line : List ℕ) → is_empty (last_digits line) ≡ false �
 digit_there = by_push (λ line. is_empty (last_digits line) ≡ false → list_any is_digit line ≡ true)
     (λ none. let nothing = rw last_digits-none at none in absurd (cc))
     (λ line b h some. elim (cases_Bool (is_digit b)) [
-      inl digit ↦ rw (list_any-append is_digit line (b ∷ []), digit) (or_right (list_any is_digit line) true refl)
-    | inr gap ↦ let nothing = rw (open_part-push is_no_digit line b, gap) at some in absurd (cc)
+      | inl digit ↦ rw (list_any-append is_digit line (b ∷ []), digit) (or_right (list_any is_digit line) true refl)
+      | inr gap ↦ let nothing = rw (open_part-push is_no_digit line b, gap) at some in absurd (cc)
     ])
 
 -- where the number at the end of the line is ended without a fault, all numbers of the line are due
@@ -103,15 +103,15 @@ all_due layout block text next due ends right =
     let line = open_line text in
     let before : List ℕ = block.numbers ++ ended_numbers line in
     elim (cases_Bool (is_empty (last_digits line))) [
-      inl empty ↦ rw (numbers_is line, values_last true _ empty, append-nil) due
-    | inr some ↦
-        let place : ℕ = length block.numbers + length (ended_numbers line) in
-        let offset : ℕ = length text - length (last_digits text) in
-        let one = misfit_none (due_at layout block.size place) (digits_value 10 (last_digits text)) offset
-        (rw (ends some) at right) in
-        let at : length before ≡ place = length-append block.numbers (ended_numbers line) in
-        rw (numbers_is line, values_last false _ some, ← append_assoc)
-        (are_due-push layout block.size before _ due (rw (at, ← same_last text) one))
+      | inl empty ↦ rw (numbers_is line, values_last true _ empty, append-nil) due
+      | inr some ↦
+          let place : ℕ = length block.numbers + length (ended_numbers line) in
+          let offset : ℕ = length text - length (last_digits text) in
+          let one = misfit_none (due_at layout block.size place) (digits_value 10 (last_digits text)) offset
+          (rw (ends some) at right) in
+          let at : length before ≡ place = length-append block.numbers (ended_numbers line) in
+          rw (numbers_is line, values_last false _ some, ← append_assoc)
+          (are_due-push layout block.size before _ due (rw (at, ← same_last text) one))
     ]
 
 -- digits at the end of a text are ended by a blank and by a line end
@@ -140,7 +140,7 @@ body_push layout block text b good right_line right_number =
     let unmixed : is_mixed (line ++ b ∷ []) ≡ false = rw good.unmixed at (then_some_none _ _ right_line) in
     record {
       due = rw (ended_numbers-push line b) (elim (cases_Bool (is_no_digit b)) [
-          inl gap ↦ rw gap (all_due layout block text (Some b) good.due
+        | inl gap ↦ rw gap (all_due layout block text (Some b) good.due
             (λ there. digits_ended text b there (ends_by line b gap unmixed there)) right_number)
         | inr digit ↦ rw digit good.due
       ]);
@@ -176,9 +176,9 @@ unfolding wrong_size
 good_sought layout text next ends right =
     let stated : Option Size = stated_size layout (numbers (open_line text)) in
     elim (cases_Bool (is_number_line (open_line text))) [
-      inl numbered ↦
-        rw numbered (good_size layout (1 + count_by is_line_end text) stated (rw (ends, numbered) at right))
-    | inr plain ↦ rw plain tt
+      | inl numbered ↦
+          rw numbered (good_size layout (1 + count_by is_line_end text) stated (rw (ends, numbered) at right))
+      | inr plain ↦ rw plain tt
     ]
 
 -- after numbers that are due
@@ -262,17 +262,17 @@ sound_more layout k text b sound right few =
     let here : length before.complete < k → first_some (faults layout k before.now text (Some b)) ≡ None =
     λ fewer. rw (lt-ltb _ k fewer) at rights.1 in
     elim (cases_Bool (is_line_end b)) [
-      inl ends ↦
-        let within = rw (stand_of-end layout text b ends) at few in
-        let more = complete_stays layout before.complete before.now (open_line text) in
-        let fewer : length before.complete < k = omega arith in
-        rw (stand_of-end layout text b ends, open_line-end text b ends)
-        (good_end layout k before.complete before.now text (Some b) ends
-        (λ there. digits_ended text b there (or_right _ _ ends)) (sound rights.0 fewer) (here fewer))
-    | inr on ↦
-        let fewer = rw (stand_of-on layout text b on) at few in
-        rw (stand_of-on layout text b on, open_line-on text b on)
-        (good_byte layout k before.now text b (sound rights.0 fewer) (here fewer))
+      | inl ends ↦
+          let within = rw (stand_of-end layout text b ends) at few in
+          let more = complete_stays layout before.complete before.now (open_line text) in
+          let fewer : length before.complete < k = omega arith in
+          rw (stand_of-end layout text b ends, open_line-end text b ends)
+          (good_end layout k before.complete before.now text (Some b) ends
+          (λ there. digits_ended text b there (or_right _ _ ends)) (sound rights.0 fewer) (here fewer))
+      | inr on ↦
+          let fewer = rw (stand_of-on layout text b on) at few in
+          rw (stand_of-on layout text b on, open_line-on text b on)
+          (good_byte layout k before.now text b (sound rights.0 fewer) (here fewer))
     ]
 
 pub sound : (layout : Layout) (k : ℕ) (text : List ℕ) → IsSound layout k text

@@ -26,7 +26,7 @@ use Rattle.pfs_layout.proofs.Files.SoundLemmas.{GoodNow, good_end, same_last, so
 use Rattle.pfs_layout.proofs.Options.{then_some_none, if_some, cases_option, all_none}
 use Rattle.pfs_layout.proofs.Files.SoundLemmas.{stand-push, stand_of, stand_of-end, stand_of-on, open_line-end}
 use Rattle.pfs_layout.proofs.Files.CutLemmas.{lines-parts, lines-line}
-use Rattle.pfs_layout.proofs.Files.GrowLemmas.{OneLine, one_line, Extends, grows, fewer_before, no_end, line_on}
+use Rattle.pfs_layout.proofs.Files.GrowLemmas.{one_line, Extends, grows, fewer_before, no_end, line_on}
 use Rattle.pfs_layout.proofs.Files.GrowLemmas.{stand_from, stays_lost}
 use Rattle.pfs_layout.proofs.Files.LoseLemmas.{LineAt, ends_here, goes_on, loses}
 
@@ -89,17 +89,15 @@ module _ (layout : Layout) (k : ℕ) where
 
   -- ---- without a fault there is a file
 
-  not_too_long : (now : Now) (text : List ℕ) (next : Option ℕ) → GoodNow layout now (open_line text)
-      → first_some (faults layout k now text next) ≡ None → too_long text next ≡ None
-  not_too_long seeking text next good right = (all_none (faults layout k seeking text next) right).0
-  not_too_long (inside block) text next good right = (all_none (faults layout k (inside block) text next) right).0
-  not_too_long lost text next good right = absurd good
-
-  not_early : (now : Now) (text : List ℕ) (next : Option ℕ) → GoodNow layout now (open_line text)
-      → first_some (faults layout k now text next) ≡ None → ends_early layout k text next ≡ None
-  not_early seeking text next good right = (all_none (faults layout k seeking text next) right).1.1.0
-  not_early (inside block) text next good right = (all_none (faults layout k (inside block) text next) right).1.1.1.0
-  not_early lost text next good right = absurd good
+  -- the place is not behind the limit, and the input does not end there too early
+  no_others : (now : Now) (text : List ℕ) (next : Option ℕ) → GoodNow layout now (open_line text)
+      → first_some (faults layout k now text next) ≡ None
+      → (too_long text next ≡ None) × (ends_early layout k text next ≡ None)
+  no_others seeking text next good right =
+      let none = all_none (faults layout k seeking text next) right in (none.0, none.1.1.0)
+  no_others (inside block) text next good right =
+      let none = all_none (faults layout k (inside block) text next) right in (none.0, none.1.1.1.0)
+  no_others lost text next good right = absurd good
 
   -- one more byte keeps within the greatest length
   short_more : (text : List ℕ) (b : ℕ) → Faultless (text ++ b ∷ []) → Few text → length text ≤ LONGEST_INPUT
@@ -110,7 +108,7 @@ module _ (layout : Layout) (k : ℕ) where
         let size = length-append text (b ∷ []) in
         let here = rw fault_at-byte at (right (length text) (omega arith)) in
         let none = none_of_faults text (Some b) few here in
-        let short = not_too_long _ text (Some b) (good_now text (faultless_front text (b ∷ []) right) few) none in
+        let short = (no_others _ text (Some b) (good_now text (faultless_front text (b ∷ []) right) few) none).0 in
         let never = rw (eq-eqb (length text) LONGEST_INPUT e) at short in
         absurd (cc)
   ]
@@ -150,14 +148,34 @@ module _ (layout : Layout) (k : ℕ) where
   abbrev pub Holds : List ℕ → Type 0
   Holds input = (problem : Problem) × Completes layout input k problem
 
-  -- k blocks are complete by a line that leaves fewer before it
-  one_block : (complete : List Block) (after : Stand) → OneLine complete after → length complete < k
-      → k ≤ length after.complete
-      → (block : Block) × (length complete + 1 ≡ k) × (after ≡ completed complete block)
-  one_block complete after (inl same) few enough = absurd (omega (arith, ap length same))
-  one_block complete after (inr one) few enough =
-      let size = ap (λ (s : Stand). length s.complete) one.1 in
-      (one.0, omega (arith, size, length-append complete (one.0 ∷ [])), one.1)
+  -- a text by whose last line k blocks are complete, and fewer before it, holds a problem of each input that it begins
+  holds_at : (input text rest line : List ℕ) (before : Stand) → input ≡ text ++ rest → length text ≤ LONGEST_INPUT
+      → length before.complete < k → stand layout (lines text) ≡ after_line layout before.complete before.now line
+      → k ≤ length (stand layout (lines text)).complete → (ended : (open_line text ≡ []) ⊎ (rest ≡ []))
+      → (problem : Problem) × (c : Completes layout input k problem) × (c.text ≡ text)
+  holds_at input text rest line before whole short few reached enough ended =
+      elim (one_line layout before.complete before.now line) [
+        | inl same ↦ let all = rw (reached, same) at enough in absurd (omega arith)
+        | inr one ↦
+            let stands : stand layout (lines text) ≡ completed before.complete one.0 = reached ∙ one.1 in
+            let all = rw stands at enough in
+            let size = length-append before.complete (one.0 ∷ []) in (
+              instance_of layout one.0,
+              record {
+                text = text;
+                rest = rest;
+                whole = whole;
+                ended = ended;
+                short = short;
+                earlier = before.complete;
+                own = one.0;
+                count = omega arith;
+                stands = stands;
+                is = refl;
+              },
+              refl,
+            )
+      ]
 
   -- and the front that does ends with a line end
   abbrev pub EndedHolds : List ℕ → Type 0
@@ -168,30 +186,16 @@ module _ (layout : Layout) (k : ℕ) where
   from_enough input right e = elim (cases_Bool (is_line_end e.byte)) [
     | inr on ↦ let enough = rw (stand_of-on layout e.before e.byte on) at e.enough in absurd (omega (arith, e.few))
     | inl ends ↦
-        let before : Stand = stand_of layout e.before in
         let text : List ℕ = e.before ++ e.byte ∷ [] in
-        let reached = stand_of-end layout e.before e.byte ends in
-        let one = one_block before.complete _ (one_line layout before.complete before.now (open_line e.before)) e.few
-        (rw reached at e.enough) in
         let ended = open_line-end e.before e.byte ends in
+        let same = lines_ended text (ap is_empty ended) in
         let whole : input ≡ text ++ e.after = rw (append_assoc e.before (e.byte ∷ []) e.after) e.whole in
         let right_text : Faultless text = faultless_front text e.after (subst Faultless whole right) in
-        let right_before : Faultless e.before = faultless_front e.before (e.byte ∷ []) right_text in (
-          instance_of layout one.0,
-          record {
-            text = text;
-            rest = e.after;
-            whole = whole;
-            ended = inl ended;
-            short = short_more e.before e.byte right_text e.few (short_few e.before right_before e.few);
-            earlier = before.complete;
-            own = one.0;
-            count = one.1;
-            stands = ap (stand layout) (lines_ended text (ap is_empty ended)) ∙ reached ∙ one.2;
-            is = refl;
-          },
-          ended,
-        )
+        let right_before : Faultless e.before = faultless_front e.before (e.byte ∷ []) right_text in
+        let short = short_more e.before e.byte right_text e.few (short_few e.before right_before e.few) in
+        let held = holds_at input text e.after (open_line e.before) (stand_of layout e.before) whole short e.few
+        (rw same (stand_of-end layout e.before e.byte ends)) (rw same e.enough) (inl ended) in
+        (held.0, held.1, rw held.2 ended)
   ]
 
   early_end : (now : Now) (complete : ℕ) → GoodNow layout now [] → missing layout k complete now ≡ None → k ≤ complete
@@ -207,26 +211,13 @@ module _ (layout : Layout) (k : ℕ) where
         let all = rw reached at (enough (rw reached (rw (nothing (open_line input) empty) at good))) in
         absurd (omega arith)
     | inr filled ↦
-        let after : Stand = after_line layout before.complete before.now (open_line input) in
-        let reached : stand layout (lines input) ≡ after = rw (lines_unended input filled) (stand-push layout _ _) in
+        let reached : stand layout (lines input) ≡ stand_after layout before (open_line input) =
+        rw (lines_unended input filled) (stand-push layout _ _) in
         let good_after = good_end layout k before.complete before.now input None (ap not filled)
         (λ there. rw (same_last input, there)) good none in
-        let one = one_block before.complete after (one_line layout before.complete before.now (open_line input)) few
-        (rw reached at (enough (rw reached good_after))) in (
-          instance_of layout one.0,
-          record {
-            text = input;
-            rest = [];
-            whole = sym (append-nil input);
-            ended = inr refl;
-            short = short_few input right few;
-            earlier = before.complete;
-            own = one.0;
-            count = one.1;
-            stands = reached ∙ one.2;
-            is = refl;
-          },
-        )
+        let held = holds_at input input [] (open_line input) before (sym (append-nil input)) (short_few input right few)
+        few reached (enough (rw reached good_after)) (inr refl) in
+        (held.0, held.1)
   ]
     where
       before : Stand
@@ -239,7 +230,7 @@ module _ (layout : Layout) (k : ℕ) where
       none = none_of_faults input None few last
 
       enough : GoodNow layout (stand layout (lines input)).now [] → k ≤ length (stand layout (lines input)).complete
-      enough h = early_end _ _ h (not_early before.now input None good none)
+      enough h = early_end _ _ h (no_others before.now input None good none).1
 
       nothing : (line : List ℕ) → is_empty line ≡ true → line ≡ []
       nothing [] e = refl
@@ -289,7 +280,7 @@ module _ (layout : Layout) (k : ℕ) where
           rw (ne_eqb (length before) LONGEST_INPUT (λ same. omega arith)) in
           let here = (has_fault before (Some b) fault e).1 in
           rw (stand_from layout before (b ∷ after), are) (stays_lost layout (stand_after layout reached line) others
-          (loses layout k reached.complete reached.now before (Some b) fault line here long refl at))
+          (loses before (Some b) fault line at layout k reached.complete reached.now here long refl))
 
   end_is_right : (input : List ℕ) (blocks : List Block) (fault : LayoutFault)
       → stand layout (lines input) ≡ standing blocks seeking → length blocks ≡ k
@@ -303,8 +294,9 @@ module _ (layout : Layout) (k : ℕ) where
       elim (cases_Bool (is_empty (open_line input))) [
         | inl empty ↦ let here = rw (lines_ended input empty) at stands in let few = rw here at has.0 in omega arith
         | inr filled ↦
-            let away = loses layout k reached.complete reached.now input None fault (open_line input) has.1 long early
-            (ends_here (ap not filled) refl) in
+            let here = ends_here (ap not filled) refl in
+            let away = loses input None fault (open_line input) here layout k reached.complete reached.now has.1 long
+            early in
             let lost_there : (stand layout (lines input)).now ≡ lost =
             rw (lines_unended input filled, stand-push layout (ended_lines input) (open_line input)) away in
             let now = rw stands at lost_there in

@@ -136,6 +136,14 @@ sizes_fit OrLib size jobs machines seed upper lower (suc (suc k)) within = absur
 
 -- ---- writing it
 
+-- the lines before the body, of numbers of 64 bits
+pub head_short : (layout : Layout) (jobs machines : ℕ) (notes : Notes) → jobs < 2 ^ 64 → machines < 2 ^ 64
+    → notes.seed < 2 ^ 64 → notes.upper < 2 ^ 64 → notes.lower < 2 ^ 64
+    → length (head_lines layout (record { jobs = jobs; machines = machines; notes = notes })) ≤ 1000
+head_short layout jobs machines notes jobs_fit machines_fit seed upper lower =
+    let size : Size = record { jobs = jobs; machines = machines; notes = notes } in
+    length-head_lines layout size (sizes_fit layout size jobs_fit machines_fit seed upper lower)
+
 module _ (layout : Layout) (problem : Problem) (jobs machines : ℕ) (notes : Notes) (jobs_is : jobs ≡ problem.shop.jobs)
     (machines_is : machines ≡ problem.shop.machines) (notes_is : notes ≡ problem.notes) where
   -- the size that is handed on
