@@ -31,7 +31,6 @@ pub mod RoundLemmas
 pub mod ScanLemmas
 pub mod SizeLemmas
 pub mod SoundLemmas
-pub mod StaleLemmas
 pub mod StandLemmas
 pub mod StepLemmas
 pub mod TableLemmas
