@@ -44,15 +44,31 @@ public:
 
     // Takes bytes until the wanted block has ended or a fault is met; tells whether more are wanted.
     bool feed(const unsigned char* bytes, size_t count) {
-        for (size_t at = 0; at < count && phase != Phase::Done && phase != Phase::Refused; ++at) {
+        for (size_t at = 0; at < count && is_live(); ++at) {
             step(bytes[at]);
         }
-        return phase != Phase::Done && phase != Phase::Refused;
+        return is_live();
+    }
+
+    // The same, with the line's state in local variables over digits and blanks.
+    bool feed_in_locals(const unsigned char* bytes, size_t count) {
+        size_t room = std::min<uint64_t>(count, LONGEST_INPUT - offset);
+        size_t at = 0;
+        while (at < room && is_live()) {
+            at += has_word ? 0 : take_run(bytes + at, room - at);
+            if (at < room && is_live()) {
+                step(bytes[at++]);
+            }
+        }
+        if (at < count && is_live()) {
+            step(bytes[at]);
+        }
+        return is_live();
     }
 
     // The input ends here.
     void finish() {
-        if (phase == Phase::Done || phase == Phase::Refused) {
+        if (!is_live()) {
             return;
         }
         if (in_number) {
@@ -94,6 +110,45 @@ private:
     }
 
     bool in_block() const { return phase == Phase::Body || phase == Phase::AfterLast; }
+
+    bool is_live() const { return phase != Phase::Done && phase != Phase::Refused; }
+
+    // Takes digits and blanks of a line without a word byte, up to another byte or a refusal; tells how many.
+    size_t take_run(const unsigned char* bytes, size_t count) {
+        uint64_t run_value = in_number ? value : 0;
+        uint64_t run_first = in_number ? first : offset;
+        uint64_t run_offset = offset;
+        bool run_has_digit = has_digit;
+        const unsigned char* at = bytes;
+        const unsigned char* end = bytes + count;
+        for (; at < end; ++at) {
+            unsigned char b = *at;
+            if ('0' <= b && b <= '9') {
+                run_value = std::min<uint64_t>(run_value * 10 + (b - '0'), CEILING);
+                run_has_digit = true;
+            } else if (b == ' ' || b == '\t' || b == '\r') {
+                if (run_first != run_offset) {
+                    value = run_value;
+                    first = run_first;
+                    end_number();
+                }
+                run_value = 0;
+                run_first = run_offset + 1;
+                if (!is_live()) {
+                    break;
+                }
+            } else {
+                break;
+            }
+            run_offset += 1;
+        }
+        in_number = run_first != run_offset;
+        value = run_value;
+        first = run_first;
+        offset = run_offset;
+        has_digit = run_has_digit;
+        return at - bytes;
+    }
 
     void step(unsigned char b) {
         if (offset == LONGEST_INPUT) {
@@ -262,7 +317,7 @@ private:
 };
 
 // Reads one block from a file descriptor in pieces of 4,096 bytes; where it answers a fault, there is no instance.
-inline Fault read_block(int file, Layout layout, uint64_t block, Instance& instance) {
+inline Fault read_block(int file, Layout layout, uint64_t block, Instance& instance, bool in_locals = false) {
     BlockReader reader(layout, block);
     unsigned char piece[4096];
     for (;;) {
@@ -274,7 +329,8 @@ inline Fault read_block(int file, Layout layout, uint64_t block, Instance& insta
             reader.finish();
             break;
         }
-        if (!reader.feed(piece, (size_t)count)) {
+        bool more = in_locals ? reader.feed_in_locals(piece, (size_t)count) : reader.feed(piece, (size_t)count);
+        if (!more) {
             break;
         }
     }

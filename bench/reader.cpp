@@ -1,5 +1,6 @@
-// reader LAYOUT BLOCK [FILE]: the makespan of the order in which the jobs of a block are numbered, as
-// `pfs value` prints it. Without FILE it reads standard input.
+// reader FORM LAYOUT BLOCK [FILE]: the makespan of the order in which the jobs of a block are numbered, as
+// `pfs value` prints it. Without FILE it reads standard input. The form is `plain`, a step of the reader's fields
+// for each byte, or `locals`, where the line's state is in local variables.
 #include "block_reader.hpp"
 
 #include <cstdlib>
@@ -19,17 +20,18 @@ static uint64_t makespan(const Instance& instance) {
 
 int main(int count, char** words) {
     Layout layout;
-    if (count < 3 || count > 4 || !layout_named(words[1], layout)) {
-        std::fprintf(stderr, "usage: reader LAYOUT BLOCK [FILE]\n");
+    std::string form = count > 1 ? words[1] : "";
+    if (count < 4 || count > 5 || (form != "plain" && form != "locals") || !layout_named(words[2], layout)) {
+        std::fprintf(stderr, "usage: reader plain|locals LAYOUT BLOCK [FILE]\n");
         return 3;
     }
-    int file = count == 4 ? open(words[3], O_RDONLY) : 0;
+    int file = count == 5 ? open(words[4], O_RDONLY) : 0;
     if (file < 0) {
         std::fprintf(stderr, "pfs: cannot open\n");
         return 4;
     }
     Instance instance;
-    Fault fault = read_block(file, layout, std::strtoull(words[2], nullptr, 10), instance);
+    Fault fault = read_block(file, layout, std::strtoull(words[3], nullptr, 10), instance, form == "locals");
     if (fault.status != 0) {
         return tell(fault);
     }

@@ -15,8 +15,9 @@ from unproved import build
 
 BUGS = [
     ("a number that two pieces share loses the digits of the first",
-     ("pfs_layout/src/fields.rt", "        let mut digits = self.digits;",
-      "        let mut digits = Digits { offset: start, first: start, value: 0 };")),
+     ("pfs_layout/src/fields.rt", "        let mut line = *last;",
+      "        let offset = last.digits.offset; let digits = crate::scan::Digits { offset, first: offset, value: 0 };"
+      " let mut line = Line { digits, kinds: last.kinds };")),
     ("of equal places the last is taken",
      ("pfs_insert/src/inserter.rt", "    if place == 0 || span < best.span {",
       "    if place == 0 || span <= best.span {")),

@@ -14,7 +14,6 @@ pub mod ReadLemmas
 pub mod ReadNames
 pub mod ReaderLemmas
 pub mod ScanLemmas
-pub mod StaleLemmas
 pub mod StepLemmas
 pub mod TableLemmas
 pub mod TakeLemmas

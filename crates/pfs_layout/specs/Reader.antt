@@ -11,12 +11,13 @@ use Rattle.pfs_layout.specs.declared.fault.LayoutFault.{LayoutFault}
 use Rattle.pfs_layout.specs.declared.fault.LayoutFault.TheVariants.{Read, Memory}
 use Rattle.pfs_layout.specs.declared.scan.Digits.{Digits}
 use Rattle.pfs_layout.specs.declared.scan.Kinds.{Kinds}
+use Rattle.pfs_layout.specs.declared.scan.Line.{Line}
 use Rattle.pfs_layout.specs.declared.scan.TheConstants.{CEILING}
 use Rattle.pfs_layout.specs.declared.size_line.SizeLine.{SizeLine}
 use Rattle.pfs_layout.specs.declared.body.Body.{Body}
 use Rattle.pfs_layout.specs.declared.fields.Phase.{Phase}
 use Rattle.pfs_layout.specs.declared.fields.Phase.TheVariants as phases
-use Rattle.pfs_layout.specs.declared.fields.Fields.{Fields}
+use Rattle.pfs_layout.specs.declared.fields.Blocks.{Blocks}
 use Rattle.pfs_layout.specs.declared.fields.Progress.{Progress}
 use Rattle.pfs_layout.specs.declared.reader.TheConstants.{PIECE}
 use Rattle.pfs_layout.specs.Bytes.{is_digit, is_word_byte, is_line_end}
@@ -27,6 +28,16 @@ use Rattle.pfs_layout.specs.Stand.{Block, Now, seeking, inside, lost, Stand, sta
 use Rattle.pfs_layout.specs.File.{File}
 use Rattle.pfs_layout.specs.Step.{is_live}
 use Rattle.pfs_layout.specs.Refuse.{Refuse, fault_behind, byte_fault}
+
+-- what a reader holds: the last line so far, and the blocks
+pub record Fields : Type 0 where
+  pub last : Line
+  pub open last use *
+  pub blocks : Blocks
+  pub open blocks use *
+
+abbrev pub fields : Line → Blocks → Fields
+fields last blocks = record { last = last; blocks = blocks }
 
 -- ---- the wanted block, as far as it was read
 
@@ -83,7 +94,7 @@ pub record FollowsBody (layout : Layout) (size : Size) (count : ℕ) (body : Bod
 
 -- whether the next block is sought or a block is begun, behind these ended numbers of the last line, which has a
 -- word byte or not
-abbrev pub FollowsNow : Bool → Fields → Now → List ℕ → Type 0
+abbrev pub FollowsNow : Bool → Blocks → Now → List ℕ → Type 0
 FollowsNow worded r seeking more = (r.phase ≡ (if nat_lt r.complete r.wanted then phases.Seeking else phases.Done))
     × (worded ≡ false → HoldsNumbers r.size_line more)
 FollowsNow worded r (inside block) more = (r.phase ≡ (if nat_lt r.body.judged r.body.due then phases.Body else phases.AfterLast))
@@ -91,7 +102,7 @@ FollowsNow worded r (inside block) more = (r.phase ≡ (if nat_lt r.body.judged 
 FollowsNow worded r lost more = ⊥
 
 -- the blocks, behind lines that lead here and these ended numbers of the last line, which has a word byte or not
-pub record FollowsBlocks (worded : Bool) (r : Fields) (stood : Stand) (more : List ℕ) : Type 0 where
+pub record FollowsBlocks (worded : Bool) (r : Blocks) (stood : Stand) (more : List ℕ) : Type 0 where
   pub complete : r.complete ≡ length stood.complete
   pub now : FollowsNow worded r stood.now more
   pub instance : r.instance ≡ option_map (instance_of r.layout) (block_of r.wanted stood more)
@@ -105,7 +116,7 @@ pub record Follows (r : Fields) (text : List ℕ) : Type 0 where
   pub line : r.line ≡ 1 + count_by is_line_end text
   pub few_numbers : r.size_line.count ≤ length text
   pub five_values : length r.size_line.values ≡ 5
-  pub blocks : FollowsBlocks (list_any is_word_byte (open_line text)) r (stand r.layout (ended_lines text)) (ended_numbers (open_line text))
+  pub blocks : FollowsBlocks (list_any is_word_byte (open_line text)) r.blocks (stand r.layout (ended_lines text)) (ended_numbers (open_line text))
 
 -- ---- where a reader stands
 

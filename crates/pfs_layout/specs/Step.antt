@@ -1,6 +1,6 @@
--- What one byte does to what a reader keeps. But for `is_live`, whether a further byte is wanted, only the
--- contracts of private functions speak of it: what a reader's fields say of the bytes that it has read stands
--- in `Reader`.
+-- What one byte does to what a reader keeps: what it means behind the last line, and what such an event does to
+-- the blocks. But for `is_live`, whether a further byte is wanted, only the contracts of private functions speak
+-- of it: what a reader's fields say of the bytes that it has read stands in `Reader`.
 use Rattle.std.specs.Prelude.{◌≡◌, ◌≢◌, ℕ, ◌+◌, ◌-◌, ◌*◌, ◌/◌, ◌%◌, ◌<◌, ◌≤◌, min, Bool, true, false, not, ◌&&◌, ◌||◌, ◌==◌, nat_lt, replicate, slice_index, slice_set, Option, Some, None, is_some, option_map, IfSome, if◌then◌else◌}
 use Rattle.std.specs.Option.{option_or}
 use Rattle.pfs_base.specs.declared.limits.TheConstants.{LONGEST_TIME, LONGEST_INPUT}
@@ -12,18 +12,25 @@ use Rattle.pfs_layout.specs.declared.fault.LayoutFault.{LayoutFault}
 use Rattle.pfs_layout.specs.declared.fault.LayoutFault.TheVariants.{NoBlock, MixedLine, TimeRange, MachineNumber, ExtraNumber, Truncated, Memory}
 use Rattle.pfs_layout.specs.declared.scan.Digits.{Digits}
 use Rattle.pfs_layout.specs.declared.scan.Kinds.{Kinds}
+use Rattle.pfs_layout.specs.declared.scan.Line.{Line}
+use Rattle.pfs_layout.specs.declared.scan.Number.{Number}
+use Rattle.pfs_layout.specs.declared.scan.Event.{Event}
+use Rattle.pfs_layout.specs.declared.scan.Event.TheVariants as events
 use Rattle.pfs_layout.specs.declared.scan.TheConstants.{CEILING}
 use Rattle.pfs_layout.specs.declared.size_line.SizeLine.{SizeLine}
 use Rattle.pfs_layout.specs.declared.size_line.Stated.{Stated}
 use Rattle.pfs_layout.specs.declared.body.Body.{Body}
 use Rattle.pfs_layout.specs.declared.fields.Phase.{Phase}
 use Rattle.pfs_layout.specs.declared.fields.Phase.TheVariants as phases
-use Rattle.pfs_layout.specs.declared.fields.Fields.{Fields}
+use Rattle.pfs_layout.specs.declared.fields.Blocks.{Blocks}
 use Rattle.pfs_layout.specs.Bytes.{is_digit, is_blank, is_line_end}
 use Rattle.pfs_layout.specs.Size.{Size}
 use Rattle.pfs_layout.specs.Refuse.{size_fault}
 
--- ---- the line so far
+-- ---- the last line so far
+
+abbrev pub no_line : Line
+no_line = record { digits = record { offset = 0; first = 0; value = 0 }; kinds = record { has_digit = false; has_word = false } }
 
 abbrev pub digits_after : Digits → ℕ → Digits
 digits_after d b = record {
@@ -38,6 +45,35 @@ kinds_after k b = record {
   has_word = not (b == 10) && (k.has_word || not (is_digit b || is_blank b));
 }
 
+abbrev pub line_after : Line → ℕ → Line
+line_after line b = record { digits = digits_after line.digits b; kinds = kinds_after line.kinds b }
+
+-- a blank more
+abbrev pub blank_after : Line → Line
+blank_after line = record line { digits = record { offset = line.digits.offset + 1; first = line.digits.offset + 1; value = 0 } }
+
+-- a number line so far
+abbrev pub has_numbers_alone : Kinds → Bool
+has_numbers_alone k = k.has_digit && not k.has_word
+
+-- the number that no byte has ended, if there is one
+abbrev pub number_of : Digits → Option Number
+number_of d = if d.first == d.offset then None else Some (record { value = d.value; first = d.first })
+
+abbrev pub blank_event : Option Number → Event
+blank_event None = events.Quiet
+blank_event (Some number) = events.NumberEnded number
+
+abbrev pub mixed_if : Line → Bool → Event
+mixed_if line is_mixed = if is_mixed then events.Mixed line.digits.offset else events.Quiet
+
+-- what a byte means behind the line
+abbrev pub event_of : Line → ℕ → Event
+event_of line b = if is_digit b then mixed_if line line.kinds.has_word
+    else (if is_blank b then blank_event (number_of line.digits)
+    else (if is_line_end b then events.LineEnded (number_of line.digits) (has_numbers_alone line.kinds)
+    else mixed_if line line.kinds.has_digit))
+
 -- ---- a line that may be a size line
 
 abbrev pub with_number : SizeLine → ℕ → SizeLine
@@ -45,6 +81,10 @@ with_number line value = record {
   count = line.count + 1;
   values = if nat_lt line.count 5 then slice_set line.values line.count value else line.values;
 }
+
+-- no number yet
+abbrev pub no_numbers : SizeLine
+no_numbers = record { count = 0; values = replicate 5 0 }
 
 -- what the numbers state, where they are as many as the layout says
 abbrev pub stated_by : Layout → SizeLine → Option Size
@@ -101,7 +141,21 @@ pub record HasPlace (body : Body) : Type 0 where
   pub job : body.job < body.jobs
   pub machine : body.machine < body.machines
 
--- ---- the fields
+-- ---- the blocks
+
+-- nothing was read
+abbrev pub no_blocks : Layout → ℕ → Blocks
+no_blocks layout wanted = record {
+  layout = layout;
+  wanted = wanted;
+  complete = 0;
+  line = 1;
+  phase = phases.Seeking;
+  size_line = no_numbers;
+  body = body_of layout 1 1;
+  instance = None;
+  held = 0;
+}
 
 abbrev pub is_live : Phase → Bool
 is_live phases.Seeking = true
@@ -117,34 +171,34 @@ is_in_block phases.AfterLast = true
 is_in_block phases.Done = false
 is_in_block (phases.Refused fault) = false
 
-abbrev pub refused : Fields → LayoutFault → Fields
+abbrev pub refused : Blocks → LayoutFault → Blocks
 refused r fault = record r { phase = phases.Refused fault }
 
 -- the body has come so far
-abbrev pub counted : Fields → Body → Fields
+abbrev pub counted : Blocks → Body → Blocks
 counted r body = record r { body = body; phase = if nat_lt body.judged body.due then phases.Body else phases.AfterLast }
 
 abbrev pub with_problem_time : Body → ℕ → Problem → Problem
 with_problem_time body time problem = record problem { shop = with_time problem.shop body.job body.machine time }
 
 -- the time stands in the instance, if there is one
-abbrev pub stored : Fields → ℕ → Fields
+abbrev pub stored : Blocks → ℕ → Blocks
 stored r time = record r { instance = option_map (with_problem_time r.body time) r.instance; held = if is_some r.instance then r.held + 1 else r.held }
 
-abbrev pub time_judged : Fields → ℕ → ℕ → Fields
+abbrev pub time_judged : Blocks → ℕ → ℕ → Blocks
 time_judged r value first = if nat_lt LONGEST_TIME value
     then refused r (TimeRange first)
     else counted (stored r value) (after_time r.layout r.body)
 
-abbrev pub machine_judged : Fields → ℕ → ℕ → Fields
+abbrev pub machine_judged : Blocks → ℕ → ℕ → Blocks
 machine_judged r value first = if value == r.body.machine
     then counted r (after_machine r.body)
     else refused r (MachineNumber first)
 
-abbrev pub body_judged : Fields → ℕ → ℕ → Fields
+abbrev pub body_judged : Blocks → ℕ → ℕ → Blocks
 body_judged r value first = if is_machine_due r.layout r.body then machine_judged r value first else time_judged r value first
 
-abbrev pub number_ended_in : Phase → Fields → ℕ → ℕ → Fields
+abbrev pub number_ended_in : Phase → Blocks → ℕ → ℕ → Blocks
 number_ended_in phases.Seeking r value first = record r { size_line = with_number r.size_line value }
 number_ended_in phases.Body r value first = body_judged r value first
 number_ended_in phases.AfterLast r value first = refused r (ExtraNumber first)
@@ -152,7 +206,7 @@ number_ended_in phases.Done r value first = r
 number_ended_in (phases.Refused fault) r value first = r
 
 -- behind a number
-unfoldable pub number_ended : Fields → ℕ → ℕ → Fields
+unfoldable pub number_ended : Blocks → ℕ → ℕ → Blocks
 number_ended r value first = number_ended_in r.phase r value first
 
 -- a problem of this size whose times are all 0
@@ -162,7 +216,7 @@ empty_problem size = record {
   notes = size.notes;
 }
 
-abbrev pub block_begun : Fields → Size → Fields
+abbrev pub block_begun : Blocks → Size → Blocks
 block_begun r size = record r {
   instance = if r.complete + 1 == r.wanted then Some (empty_problem size) else None;
   body = body_of r.layout size.jobs size.machines;
@@ -170,49 +224,55 @@ block_begun r size = record r {
 }
 
 -- the fault of what a size line states, or else the block that it begins
-abbrev pub size_judged : Fields → Option Size → Option LayoutFault → Fields
+abbrev pub size_judged : Blocks → Option Size → Option LayoutFault → Blocks
 size_judged r stated (Some fault) = refused r fault
 size_judged r None None = r
 size_judged r (Some size) None = block_begun r size
 
-abbrev pub size_line_ended : Fields → SizeLine → ℕ → Fields
+abbrev pub size_line_ended : Blocks → SizeLine → ℕ → Blocks
 size_line_ended r size_line line = size_judged r (stated_by r.layout size_line) (size_fault (stated_by r.layout size_line) line)
 
-abbrev pub block_ended : Fields → Fields
+abbrev pub block_ended : Blocks → Blocks
 block_ended r = record r { complete = r.complete + 1; phase = if r.complete + 1 == r.wanted then phases.Done else phases.Seeking }
 
--- no number yet
-abbrev pub no_numbers : SizeLine
-no_numbers = record { count = 0; values = replicate 5 0 }
-
-abbrev pub at_next_line : Fields → Fields
+abbrev pub at_next_line : Blocks → Blocks
 at_next_line r = record r { line = r.line + 1; size_line = no_numbers }
 
-abbrev pub line_ended_in : Phase → Fields → Kinds → Fields
-line_ended_in phases.Seeking r kinds = if kinds.has_digit && not kinds.has_word then size_line_ended (at_next_line r) r.size_line r.line else at_next_line r
-line_ended_in phases.Body r kinds = at_next_line r
-line_ended_in phases.AfterLast r kinds = block_ended (at_next_line r)
-line_ended_in phases.Done r kinds = at_next_line r
-line_ended_in (phases.Refused fault) r kinds = at_next_line r
+abbrev pub line_ended_in : Phase → Blocks → Bool → Blocks
+line_ended_in phases.Seeking r is_number_line = if is_number_line then size_line_ended (at_next_line r) r.size_line r.line else at_next_line r
+line_ended_in phases.Body r is_number_line = at_next_line r
+line_ended_in phases.AfterLast r is_number_line = block_ended (at_next_line r)
+line_ended_in phases.Done r is_number_line = at_next_line r
+line_ended_in (phases.Refused fault) r is_number_line = at_next_line r
 
 -- behind a byte 10
-unfoldable pub line_ended : Fields → Kinds → Fields
-line_ended r kinds = line_ended_in r.phase r kinds
+unfoldable pub line_ended : Blocks → Bool → Blocks
+line_ended r is_number_line = line_ended_in r.phase r is_number_line
 
 -- behind the number, if there is one
-abbrev pub last_number_ended : Fields → Digits → Fields
-last_number_ended r digits = if digits.first == digits.offset then r else number_ended r digits.value digits.first
+abbrev pub last_number_ended : Blocks → Option Number → Blocks
+last_number_ended r None = r
+last_number_ended r (Some number) = number_ended r number.value number.first
 
--- behind a byte, but for the line so far
-abbrev pub judged : Fields → Digits → Kinds → ℕ → Fields
-judged r digits kinds b = if is_digit b
-    then (if kinds.has_word && is_in_block r.phase then refused r (MixedLine digits.offset) else r)
-    else (if is_blank b || is_line_end b
-    then (if is_line_end b then line_ended (last_number_ended r digits) kinds else last_number_ended r digits)
-    else (if kinds.has_digit && is_in_block r.phase then refused r (MixedLine digits.offset) else r))
+-- a line of a block that is mixed is refused
+abbrev pub mixed_met : Blocks → ℕ → Blocks
+mixed_met r offset = if is_in_block r.phase then refused r (MixedLine offset) else r
+
+-- behind an event
+abbrev pub blocks_after : Blocks → Event → Blocks
+blocks_after r events.Quiet = r
+blocks_after r (events.NumberEnded number) = number_ended r number.value number.first
+blocks_after r (events.LineEnded number is_number_line) = line_ended (last_number_ended r number) is_number_line
+blocks_after r (events.Mixed offset) = mixed_met r offset
+
+abbrev pub is_line_ended : Event → Bool
+is_line_ended events.Quiet = false
+is_line_ended (events.NumberEnded number) = false
+is_line_ended (events.LineEnded number is_number_line) = true
+is_line_ended (events.Mixed offset) = false
 
 -- what the judgement of a number leaves as it is
-pub record Keeps (old new : Fields) : Type 0 where
+pub record Keeps (old new : Blocks) : Type 0 where
   pub layout : new.layout ≡ old.layout
   pub wanted : new.wanted ≡ old.wanted
   pub complete : new.complete ≡ old.complete
@@ -228,8 +288,8 @@ times_in OrLib n = n / 2
 
 -- the fault of an input that ends here, where the wanted block isn't complete: a size line without a fault begins a
 -- block, of which no time was read
-abbrev pub end_fault_in : Phase → Kinds → Fields → Option LayoutFault
-end_fault_in phases.Seeking kinds r = if kinds.has_digit && not kinds.has_word
+abbrev pub end_fault_in : Phase → Kinds → Blocks → Option LayoutFault
+end_fault_in phases.Seeking kinds r = if has_numbers_alone kinds
     then option_or (size_fault (stated_by r.layout r.size_line) r.line) (Some (Truncated 0))
     else Some (NoBlock r.complete)
 end_fault_in phases.Body kinds r = Some (Truncated (times_in r.layout r.body.judged))
@@ -237,44 +297,35 @@ end_fault_in phases.AfterLast kinds r = if r.complete + 1 == r.wanted then None 
 end_fault_in phases.Done kinds r = None
 end_fault_in (phases.Refused fault) kinds r = Some fault
 
-abbrev pub end_fault : Kinds → Fields → Option LayoutFault
+abbrev pub end_fault : Kinds → Blocks → Option LayoutFault
 end_fault kinds r = end_fault_in r.phase kinds r
 
--- behind the last number of an input that ends here
-abbrev pub at_end : Fields → Fields
-at_end r = if is_live r.phase then last_number_ended r r.digits else r
-
--- with another last line
-abbrev pub with_line : Fields → Digits → Kinds → Fields
-with_line r digits kinds = record r { digits = digits; kinds = kinds }
-
--- behind one byte more
-abbrev pub stepped : Fields → ℕ → Fields
-stepped r b = with_line (judged r r.digits r.kinds b) (digits_after r.digits b) (kinds_after r.kinds b)
+-- behind the last number of an input that ends behind this line
+abbrev pub at_end : Line → Blocks → Blocks
+at_end last r = if is_live r.phase then last_number_ended r (number_of last.digits) else r
 
 -- the memory for the wanted block was refused, where its size line ends
-pub record LacksMemory (old next : Fields) : Type 0 where
+pub record LacksMemory (old next : Blocks) : Type 0 where
   pub sought : old.phase ≡ phases.Seeking
   pub wanted : old.complete + 1 ≡ old.wanted
   pub begins : next.phase ≡ phases.Body
 
 -- what want of memory leaves as it is
-pub record KeepsHeld (old new : Fields) : Type 0 where
+pub record KeepsHeld (old new : Blocks) : Type 0 where
   pub layout : new.layout ≡ old.layout
   pub wanted : new.wanted ≡ old.wanted
   pub held : new.held ≡ old.held
 
 -- what the judgement of a number of the body needs
-pub record CanCount (r : Fields) : Type 0 where
+pub record CanCount (r : Blocks) : Type 0 where
   pub place : HasPlace r.body
   pub held : r.held < LONGEST_INPUT
   pub instance : IfSome r.instance (λ problem. (problem.shop.jobs ≡ r.body.jobs) × (problem.shop.machines ≡ r.body.machines))
 
--- what the judgement of a byte needs
-pub record IsReady (r : Fields) : Type 0 where
+-- what the judgement of an event needs
+pub record IsReady (r : Blocks) : Type 0 where
+  pub live : is_live r.phase ≡ true
   pub can : r.phase ≡ phases.Body → CanCount r
   pub count : r.size_line.count ≤ LONGEST_INPUT
   pub complete : r.complete < r.wanted
   pub line : r.line ≤ LONGEST_INPUT
-  pub offset : r.digits.offset < LONGEST_INPUT
-  pub value : r.digits.value ≤ CEILING

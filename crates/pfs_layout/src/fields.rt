@@ -1,12 +1,11 @@
-//! What a reader holds, and what a byte does to it.
-ghost use Rattle.std.specs.Prelude.{◌≡◌, ◌≢◌, ◌+◌, ◌*◌, ◌<◌, ◌≤◌, true, false, ◌==◌, ℕ, List, length, replicate, Some, None, IfOk, IfErr, OnOk, OnErr, IfSome, option_map, is_some, if◌then◌else◌};
-ghost use Rattle.pfs_layout.specs.Bytes.{is_digit as digit_test};
+//! The blocks that a reader has read, and what an event of the last line does to them.
+ghost use Rattle.std.specs.Prelude.{◌≡◌, ◌≢◌, ◌+◌, ◌-◌, ◌*◌, ◌<◌, ◌≤◌, true, false, ◌==◌, ℕ, List, length, replicate, Some, None, IfOk, IfErr, OnOk, OnErr, IfSome, option_map, is_some, if◌then◌else◌};
 ghost use Rattle.pfs_layout.specs.Size.{is_within_limits};
-ghost use Rattle.pfs_layout.specs.Step.{refused, is_live as live_test, is_in_block, CanCount, with_problem_time, stored, counted, time_judged, machine_judged, body_judged, number_ended, size_given, empty_problem, block_begun, size_line_ended, block_ended, line_ended, last_number_ended, judged, with_line, end_fault, end_fault_in, at_end, IsReady, Keeps, KeepsHeld, LacksMemory};
-ghost use Rattle.pfs_layout.specs.Reader.{StandsAfter, IsReader, TakeMeets, FeedMeets, progress_of};
+ghost use Rattle.pfs_layout.specs.Step.{refused, is_live as live_test, is_in_block, CanCount, with_problem_time, stored, counted, time_judged, machine_judged, body_judged, number_ended, size_given, empty_problem, no_blocks, block_begun, size_line_ended, block_ended, line_ended, last_number_ended, mixed_met, blocks_after, is_line_ended, end_fault, end_fault_in, at_end, IsReady, Keeps, KeepsHeld, LacksMemory};
+ghost use Rattle.pfs_layout.specs.Reader.{fields, StandsAfter, IsReader, TakeMeets, FeedMeets, progress_of};
 
 use crate::body::Body;
-use crate::scan::{Digits, Kinds, LINE_END, is_blank, is_digit};
+use crate::scan::{Event, Kinds, Line, Number, is_blank};
 use crate::size_line::{SizeLine, Stated};
 use crate::{Layout, LayoutFault};
 use pfs_base::{BaseFault, Instance, LONGEST_INPUT, LONGEST_TIME};
@@ -34,9 +33,9 @@ pub struct Progress {
     pub done: bool,
 }
 
-/// The fields of a reader.
+/// What a reader holds beside the last line.
 #[derive(Drop)]
-pub struct Fields {
+pub struct Blocks {
     pub layout: Layout,
     /// The number of the wanted block, from 1.
     pub wanted: usize,
@@ -45,8 +44,6 @@ pub struct Fields {
     /// The number of the line, from 1.
     pub line: usize,
     pub phase: Phase,
-    pub digits: Digits,
-    pub kinds: Kinds,
     pub size_line: SizeLine,
     pub body: Body,
     /// The instance of the wanted block, from the end of its size line on. Times that weren't read are 0.
@@ -55,7 +52,24 @@ pub struct Fields {
     pub held: usize,
 }
 
-impl Fields {
+impl Blocks {
+    /// Nothing was read, and the block of this number, counted from 1, is wanted.
+    pub fn new(layout: Layout, wanted: usize) -> Blocks
+        ensures { result ≡ no_blocks layout wanted }
+    {
+        Blocks {
+            layout,
+            wanted,
+            complete: 0,
+            line: 1,
+            phase: Phase::Seeking,
+            size_line: SizeLine::new(),
+            body: Body::new(layout, 1, 1),
+            instance: None,
+            held: 0,
+        }
+    }
+
     /// Refuses the input: the fault is told from now on, and no byte is wanted.
     #[cold]
     pub fn refuse(&mut self, fault: LayoutFault)
@@ -163,29 +177,29 @@ impl Fields {
     /// A blank, a line end or the end of the input ends a number.
     #[inline(always)]
     #[tactic(auto, unfolding(crate::specs::Step::number_ended))]
-    pub fn end_number(&mut self, value: u64, first: usize)
+    fn end_number(&mut self, number: Number)
         requires can { self.old.phase ≡ Phase.Body → CanCount self.old }
         requires count { self.old.size_line.count ≤ LONGEST_INPUT }
-        ensures { self.new ≡ number_ended self.old value first }
+        ensures { self.new ≡ number_ended self.old number.value number.first }
     {
         if let Phase::Body = self.phase {
-            self.judge_body(value, first);
+            self.judge_body(number.value, number.first);
         } else {
-            self.end_other_number(value, first);
+            self.end_other_number(number.value, number.first);
         }
     }
 
-    /// A blank, a line end or the end of the input ends the unfinished number, if there is one.
+    /// A line end or the end of the input ends the unfinished number, if there is one.
     #[inline(always)]
-    fn end_last_number(&mut self, digits: Digits)
+    fn end_last_number(&mut self, number: Option<Number>)
         requires can { self.old.phase ≡ Phase.Body → CanCount self.old }
         requires count { self.old.size_line.count ≤ LONGEST_INPUT }
         requires live { live_test self.old.phase ≡ true }
-        ensures ended { self.new ≡ last_number_ended self.old digits }
+        ensures ended { self.new ≡ last_number_ended self.old number }
         ensures kept { Keeps self.old self.new }
     {
-        if digits.is_some() {
-            self.end_number(digits.value, digits.first);
+        if let Some(number) = number {
+            self.end_number(number);
         }
     }
 
@@ -255,12 +269,12 @@ impl Fields {
 
     /// Byte 10 ends the line.
     #[tactic(auto, unfolding(crate::specs::Step::line_ended))]
-    fn end_line(&mut self, alloc: Global, kinds: Kinds)
+    fn end_line(&mut self, alloc: Global, is_number_line: bool)
         requires complete { self.old.complete < self.old.wanted }
         requires line { self.old.line ≤ LONGEST_INPUT }
         requires memory { self.old.phase ≢ Phase.Refused LayoutFault.Memory }
-        ensures ended { self.new.phase ≢ Phase.Refused LayoutFault.Memory → self.new ≡ line_ended self.old kinds }
-        ensures memory { self.new.phase ≡ Phase.Refused LayoutFault.Memory → LacksMemory self.old (line_ended self.old kinds) }
+        ensures ended { self.new.phase ≢ Phase.Refused LayoutFault.Memory → self.new ≡ line_ended self.old is_number_line }
+        ensures memory { self.new.phase ≡ Phase.Refused LayoutFault.Memory → LacksMemory self.old (line_ended self.old is_number_line) }
         ensures kept { KeepsHeld self.old self.new }
     {
         let line = self.line;
@@ -269,7 +283,7 @@ impl Fields {
         self.size_line = SizeLine::new();
         match self.phase {
             Phase::Seeking => {
-                if kinds.is_number_line() {
+                if is_number_line {
                     self.end_size_line(alloc, size_line, line);
                 }
             }
@@ -278,66 +292,35 @@ impl Fields {
         }
     }
 
-    /// Judges what a byte that is no digit ends.
-    #[inline(always)]
-    fn judge_other(&mut self, alloc: Global, digits: Digits, kinds: Kinds, b: u8)
-        requires other { digit_test b ≡ false }
-        requires can { self.old.phase ≡ Phase.Body → CanCount self.old }
-        requires count { self.old.size_line.count ≤ LONGEST_INPUT }
-        requires complete { self.old.complete < self.old.wanted }
-        requires line { self.old.line ≤ LONGEST_INPUT }
-        requires live { live_test self.old.phase ≡ true }
-        ensures judged { self.new.phase ≢ Phase.Refused LayoutFault.Memory → self.new ≡ judged self.old digits kinds b }
-        ensures memory { self.new.phase ≡ Phase.Refused LayoutFault.Memory → (b ≡ LINE_END) × LacksMemory self.old (judged self.old digits kinds b) }
-        ensures kept { self.new.phase ≡ Phase.Refused LayoutFault.Memory → KeepsHeld self.old self.new }
+    /// The line is mixed with the byte at this offset.
+    fn meet_mixed_line(&mut self, offset: usize)
+        ensures { self.new ≡ mixed_met self.old offset }
     {
-        if is_blank(b) || b == LINE_END {
-            self.end_last_number(digits);
-            if b == LINE_END {
-                self.end_line(alloc, kinds);
-            }
-        } else if kinds.has_digit && self.in_block() {
-            self.refuse(LayoutFault::MixedLine {
-                offset: digits.offset,
-            });
+        if self.in_block() {
+            self.refuse(LayoutFault::MixedLine { offset });
         }
     }
 
-    /// Judges a byte behind what was scanned.
+    /// Judges an event of the last line.
     #[inline(always)]
-    pub fn judge(&mut self, alloc: Global, digits: Digits, kinds: Kinds, b: u8)
-        requires can { self.old.phase ≡ Phase.Body → CanCount self.old }
-        requires count { self.old.size_line.count ≤ LONGEST_INPUT }
-        requires complete { self.old.complete < self.old.wanted }
-        requires line { self.old.line ≤ LONGEST_INPUT }
-        requires live { live_test self.old.phase ≡ true }
-        ensures judged { self.new.phase ≢ Phase.Refused LayoutFault.Memory → self.new ≡ judged self.old digits kinds b }
-        ensures memory { self.new.phase ≡ Phase.Refused LayoutFault.Memory → (b ≡ LINE_END) × LacksMemory self.old (judged self.old digits kinds b) }
+    fn after(&mut self, alloc: Global, event: Event)
+        requires ready { IsReady self.old }
+        ensures judged { self.new.phase ≢ Phase.Refused LayoutFault.Memory → self.new ≡ blocks_after self.old event }
+        ensures memory { self.new.phase ≡ Phase.Refused LayoutFault.Memory → (is_line_ended event ≡ true) × LacksMemory self.old (blocks_after self.old event) }
         ensures kept { self.new.phase ≡ Phase.Refused LayoutFault.Memory → KeepsHeld self.old self.new }
     {
-        if is_digit(b) {
-            if kinds.has_word && self.in_block() {
-                self.refuse(LayoutFault::MixedLine {
-                    offset: digits.offset,
-                });
+        match event {
+            Event::Quiet => {}
+            Event::NumberEnded(number) => self.end_number(number),
+            Event::LineEnded {
+                number,
+                is_number_line,
+            } => {
+                self.end_last_number(number);
+                self.end_line(alloc, is_number_line);
             }
-        } else {
-            self.judge_other(alloc, digits, kinds, b);
+            Event::Mixed { offset } => self.meet_mixed_line(offset),
         }
-    }
-
-    /// Judges a byte behind what was scanned, and answers whether a further one is wanted.
-    #[inline(always)]
-    fn take_byte(&mut self, alloc: Global, digits: Digits, kinds: Kinds, b: u8) -> bool
-        requires live { live_test self.old.phase ≡ true }
-        requires ready { IsReady (with_line self.old digits kinds) }
-        ensures judged { self.new.phase ≢ Phase.Refused LayoutFault.Memory → self.new ≡ judged self.old digits kinds b }
-        ensures memory { self.new.phase ≡ Phase.Refused LayoutFault.Memory → (b ≡ LINE_END) × LacksMemory self.old (judged self.old digits kinds b) }
-        ensures kept { self.new.phase ≡ Phase.Refused LayoutFault.Memory → KeepsHeld self.old self.new }
-        ensures live { result ≡ live_test self.new.phase }
-    {
-        self.judge(alloc, digits, kinds, b);
-        self.is_live()
     }
 
     /// What is told of so many bytes that were used.
@@ -351,88 +334,94 @@ impl Fields {
         }
     }
 
-    /// Takes bytes that are all within the limit, up to the end of the wanted block or a refusal.
-    fn take(&mut self, alloc: Global, piece: &[u8]) -> usize
+    /// Takes bytes behind the last line that are all within the limit, up to the end of the wanted block or
+    /// a refusal.
+    fn take(&mut self, alloc: Global, last: &mut Line, piece: &[u8])
         requires live { live_test self.old.phase ≡ true }
-        requires stands { (text : List ℕ) × StandsAfter self.old text }
-        requires room { self.old.digits.offset + length piece.now ≤ LONGEST_INPUT }
-        ensures within { result ≤ length piece.now }
-        ensures whole { live_test self.new.phase ≡ true → result ≡ length piece.now }
-        ensures moved { self.new.digits.offset ≡ self.old.digits.offset + result }
-        ensures meets { (text : List ℕ) → StandsAfter self.old text → TakeMeets self.old text piece.now result self.new }
+        requires stands { (text : List ℕ) × StandsAfter (fields last.old self.old) text }
+        requires room { last.old.digits.offset + length piece.now ≤ LONGEST_INPUT }
+        ensures within { last.new.digits.offset ≤ last.old.digits.offset + length piece.now }
+        ensures whole { live_test self.new.phase ≡ true → last.new.digits.offset ≡ last.old.digits.offset + length piece.now }
+        ensures onward { last.old.digits.offset ≤ last.new.digits.offset }
+        ensures meets { (text : List ℕ) → StandsAfter (fields last.old self.old) text
+            → TakeMeets (fields last.old self.old) text piece.now (last.new.digits.offset - last.old.digits.offset) (fields last.new self.new) }
     {
-        let start = self.digits.offset;
-        let mut digits = self.digits;
-        let mut kinds = self.kinds;
-        // Each branch steps on by itself: so the compiler makes a short loop of each.
+        let mut line = *last;
+        // Digits and blanks, the most bytes, step on by themselves: so the compiler makes a short loop of each.
         for b in piece {
             let b = *b;
-            if kinds.is_quiet(b) {
-                digits = digits.after(b);
-                kinds = kinds.after(b);
+            if line.is_quiet(b) {
+                line.push(b);
                 continue;
             }
             if is_blank(b) {
-                self.end_last_number(digits);
-                digits = digits.after(b);
-                kinds = kinds.after(b);
+                let event = line.blank_event();
+                line.push_blank();
+                if let Event::Quiet = event {
+                    continue;
+                }
+                self.after(alloc, event);
                 if !self.is_live() {
                     break;
                 }
                 continue;
             }
-            let is_live = self.take_byte(alloc, digits, kinds, b);
-            digits = digits.after(b);
-            kinds = kinds.after(b);
-            if !is_live {
+            let event = line.event(b);
+            line.push(b);
+            if let Event::Quiet = event {
+                continue;
+            }
+            self.after(alloc, event);
+            if !self.is_live() {
                 break;
             }
         }
-        self.digits = digits;
-        self.kinds = kinds;
-        digits.offset - start
+        *last = line;
     }
 
-    /// Takes a piece, up to the end of the wanted block or a refusal.
-    pub fn feed(&mut self, alloc: Global, piece: &[u8]) -> Result<Progress, LayoutFault>
-        requires { IsReader self.old }
-        ensures reader { IsReader self.new }
-        ensures idle { live_test self.old.phase ≡ false → (result ≡ progress_of self.old.phase 0) × (self.new ≡ self.old) }
+    /// Takes a piece behind the last line, up to the end of the wanted block or a refusal.
+    pub fn feed(
+        &mut self,
+        alloc: Global,
+        last: &mut Line,
+        piece: &[u8],
+    ) -> Result<Progress, LayoutFault>
+        requires { IsReader (fields last.old self.old) }
+        ensures reader { IsReader (fields last.new self.new) }
+        ensures idle { live_test self.old.phase ≡ false → (result ≡ progress_of self.old.phase 0) × (last.new ≡ last.old) × (self.new ≡ self.old) }
         ensures whole { IfOk result (λ progress. progress.done ≡ false → progress.used ≡ length piece.now) }
         ensures stays { IfErr result (λ fault. self.new.phase ≡ Phase.Refused fault) }
-        ensures moved { IfOk result (λ progress. self.new.digits.offset ≡ self.old.digits.offset + progress.used) }
-        ensures meets { (text : List ℕ) → StandsAfter self.old text → FeedMeets self.old text piece.now result self.new }
+        ensures moved { IfOk result (λ progress. last.new.digits.offset ≡ last.old.digits.offset + progress.used) }
+        ensures meets { (text : List ℕ) → StandsAfter (fields last.old self.old) text → FeedMeets (fields last.old self.old) text piece.now result (fields last.new self.new) }
     {
         if !self.is_live() {
             return self.progress(0);
         }
-        let room = LONGEST_INPUT - self.digits.offset;
+        let start = last.digits.offset;
+        let room = LONGEST_INPUT - start;
         if piece.len() <= room {
-            let used = self.take(alloc, piece);
-            return self.progress(used);
+            self.take(alloc, last, piece);
+            return self.progress(last.digits.offset - start);
         }
-        let used = self.take(alloc, &piece[..room]);
+        self.take(alloc, last, &piece[..room]);
         if self.is_live() {
             self.refuse(LayoutFault::TooLong);
             return Err(LayoutFault::TooLong);
         }
-        self.progress(used)
+        self.progress(last.digits.offset - start)
     }
 
-    /// Judges the last number of an input that ends here, and answers the fault of the end, if the wanted
-    /// block isn't complete.
-    pub fn judge_end(&mut self) -> Option<LayoutFault>
-        requires { IsReader self.old }
-        ensures fault { result ≡ end_fault self.old.kinds (at_end self.old) }
-        ensures fields { self.new ≡ at_end self.old }
+    /// Judges the last number of an input that ends behind this line, and answers the fault of the end, if
+    /// the wanted block isn't complete.
+    pub fn judge_end(&mut self, last: Line) -> Option<LayoutFault>
+        requires { IsReader (fields last self.old) }
+        ensures fault { result ≡ end_fault last.kinds (at_end last self.old) }
+        ensures blocks { self.new ≡ at_end last self.old }
     {
-        let kinds = self.kinds;
-        if !self.is_live() {
-            return self.end_fault(kinds);
+        if self.is_live() {
+            self.end_last_number(last.digits.number());
         }
-        let digits = self.digits;
-        self.end_last_number(digits);
-        self.end_fault(kinds)
+        self.end_fault(last.kinds)
     }
 
     /// The fault of an input that ends here.

@@ -7,10 +7,8 @@ ghost use Rattle.pfs_layout.specs.Refuse.{Refuse};
 ghost use Rattle.pfs_layout.specs.Step.{is_live as live_test};
 ghost use Rattle.pfs_layout.specs.Reader.{StandsAfter, HoldsFew, FeedMeets, FinishMeets, ReadsAsFar, progress_of};
 
-use crate::body::Body;
-use crate::fields::{Fields, Phase, Progress};
-use crate::scan::{Digits, Kinds};
-use crate::size_line::SizeLine;
+use crate::fields::{Blocks, Phase, Progress};
+use crate::scan::Line;
 use crate::{Layout, LayoutFault};
 use pfs_base::{Instance, MOST_BLOCKS, Source};
 use std::alloc::Global;
@@ -21,18 +19,19 @@ use std::marker::Model;
 #[derive(Drop)]
 pub struct BlockReader {
     alloc: Global,
-    fields: Fields,
+    /// The last line so far.
+    last: Line,
+    blocks: Blocks,
 }
 
 impl Model for BlockReader {
-    ghost use Rattle.pfs_layout.specs.declared.fields.Fields.{Fields};
-    ghost use Rattle.pfs_layout.specs.Reader.{IsReader};
+    ghost use Rattle.pfs_layout.specs.Reader.{Fields, IsReader, fields};
 
     ghost Value = { Fields };
 
-    ghost view = { λ r. r.fields };
+    ghost view = { λ r. fields r.last r.blocks };
 
-    ghost invariant = { λ r. IsReader r.fields };
+    ghost invariant = { λ r. IsReader (fields r.last r.blocks) };
 }
 
 impl BlockReader {
@@ -48,26 +47,8 @@ impl BlockReader {
     {
         BlockReader {
             alloc,
-            fields: Fields {
-                layout,
-                wanted: block,
-                complete: 0,
-                line: 1,
-                phase: Phase::Seeking,
-                digits: Digits {
-                    offset: 0,
-                    first: 0,
-                    value: 0,
-                },
-                kinds: Kinds {
-                    has_digit: false,
-                    has_word: false,
-                },
-                size_line: SizeLine::new(),
-                body: Body::new(layout, 1, 1),
-                instance: None,
-                held: 0,
-            },
+            last: Line::new(),
+            blocks: Blocks::new(layout, block),
         }
     }
 
@@ -78,7 +59,7 @@ impl BlockReader {
         ensures few { (text : List ℕ) → StandsAfter self.now text → HoldsFew self.now.layout self.now.wanted text result }
         ensures memory { self.now.phase ≡ Phase.Refused LayoutFault.Memory → result ≡ 0 }
     {
-        self.fields.held
+        self.blocks.held
     }
 
     /// Takes a piece of the input, up to the end of the wanted block. Behind this end it takes nothing
@@ -94,7 +75,7 @@ impl BlockReader {
         ensures moved { IfOk result (λ progress. self.new.digits.offset ≡ self.old.digits.offset + progress.used) }
         ensures meets { (text : List ℕ) → StandsAfter self.old text → FeedMeets self.old text piece.now result self.new }
     {
-        self.fields.feed(self.alloc, piece)
+        self.blocks.feed(self.alloc, &mut self.last, piece)
     }
 
     /// The instance, if the input may end here. The end of the input ends the last number and the
@@ -103,11 +84,11 @@ impl BlockReader {
         ensures refused { (fault : LayoutFault) → self.phase ≡ Phase.Refused fault → result ≡ Err fault }
         ensures meets { (text : List ℕ) → StandsAfter self text → FinishMeets self text result }
     {
-        let mut fields = self.fields;
-        match fields.judge_end() {
+        let mut blocks = self.blocks;
+        match blocks.judge_end(self.last) {
             Some(fault) => Err(fault),
             None => {
-                let instance = fields.instance;
+                let instance = blocks.instance;
                 match instance {
                     Some(instance) => Ok(instance),
                     // The input may end here only behind the times of the wanted block.

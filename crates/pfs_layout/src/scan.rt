@@ -1,8 +1,8 @@
-//! What a reader keeps of the line so far, in two parts that a byte steps on. They have no padding, so
-//! that a step is a few instructions.
-ghost use Rattle.std.specs.Prelude.{◌≡◌, ◌<◌, ◌≤◌, ◌&&◌, not, ◌==◌};
+//! The last line so far, and what a byte behind it means. Its parts have no padding, so that a step is a
+//! few instructions.
+ghost use Rattle.std.specs.Prelude.{◌≡◌, ◌<◌, ◌≤◌, ◌&&◌, not, true};
 ghost use Rattle.pfs_layout.specs.Bytes.{is_digit as digit_test, is_blank as blank_test};
-ghost use Rattle.pfs_layout.specs.Step.{digits_after, kinds_after};
+ghost use Rattle.pfs_layout.specs.Step.{no_line, digits_after, kinds_after, line_after, blank_after, has_numbers_alone, number_of, blank_event as blank_event_of, mixed_if as mixed_event, event_of};
 
 use pfs_base::{GREATEST_NOTE, LONGEST_INPUT};
 
@@ -67,12 +67,19 @@ impl Digits {
         }
     }
 
-    /// Whether there is an unfinished number.
+    /// The number, if there is one.
     #[inline(always)]
-    pub fn is_some(self) -> bool
-        ensures { result ≡ not (self.first == self.offset) }
+    pub fn number(self) -> Option<Number>
+        ensures { result ≡ number_of self }
     {
-        self.first != self.offset
+        if self.first == self.offset {
+            None
+        } else {
+            Some(Number {
+                value: self.value,
+                first: self.first,
+            })
+        }
     }
 }
 
@@ -90,18 +97,139 @@ impl Kinds {
         }
     }
 
-    /// Whether a byte is a digit of a line without a word byte: no fault comes at it, and it ends nothing.
-    #[inline(always)]
-    pub fn is_quiet(self, b: u8) -> bool
-        ensures { result ≡ (digit_test b && not self.has_word) }
-    {
-        is_digit(b) && !self.has_word
-    }
-
     /// Whether the line is a number line.
     pub fn is_number_line(self) -> bool
-        ensures { result ≡ (self.has_digit && not self.has_word) }
+        ensures { result ≡ has_numbers_alone self }
     {
         self.has_digit && !self.has_word
+    }
+}
+
+/// The last line so far.
+#[derive(Clone, Copy)]
+pub struct Line {
+    pub digits: Digits,
+    pub kinds: Kinds,
+}
+
+/// A number that has ended: its value, at most the ceiling, and the offset of its first digit.
+#[derive(Clone, Copy)]
+pub struct Number {
+    pub value: u64,
+    pub first: usize,
+}
+
+/// What a byte means to the blocks.
+#[derive(Clone, Copy)]
+pub enum Event {
+    /// It ends nothing, and the line isn't mixed.
+    Quiet,
+    /// A blank has ended this number.
+    NumberEnded(Number),
+    /// The line has ended, and with it this number, if there was one.
+    LineEnded {
+        number: Option<Number>,
+        is_number_line: bool,
+    },
+    /// The line is mixed with the byte at this offset.
+    Mixed {
+        offset: usize,
+    },
+}
+
+impl Line {
+    /// The first line, of which nothing was read.
+    pub fn new() -> Line
+        ensures { result ≡ no_line }
+    {
+        Line {
+            digits: Digits {
+                offset: 0,
+                first: 0,
+                value: 0,
+            },
+            kinds: Kinds {
+                has_digit: false,
+                has_word: false,
+            },
+        }
+    }
+
+    /// One byte on. The parts are set one by one: the padding behind the flags is never copied.
+    #[inline(always)]
+    pub fn push(&mut self, b: u8)
+        requires offset { self.old.digits.offset < LONGEST_INPUT }
+        requires value { self.old.digits.value ≤ CEILING }
+        ensures { self.new ≡ line_after self.old b }
+    {
+        self.digits = self.digits.after(b);
+        self.kinds = self.kinds.after(b);
+    }
+
+    /// A blank on.
+    #[inline(always)]
+    pub fn push_blank(&mut self)
+        requires { self.old.digits.offset < LONGEST_INPUT }
+        ensures { self.new ≡ blank_after self.old }
+    {
+        let offset = self.digits.offset + 1;
+        self.digits = Digits {
+            offset,
+            first: offset,
+            value: 0,
+        };
+    }
+
+    /// Whether a byte is a digit of a line without a word byte: it means nothing.
+    #[inline(always)]
+    pub fn is_quiet(self, b: u8) -> bool
+        ensures is { result ≡ (digit_test b && not self.kinds.has_word) }
+        ensures quiet { result ≡ true → event_of self b ≡ Event.Quiet }
+    {
+        is_digit(b) && !self.kinds.has_word
+    }
+
+    /// What a byte behind the line means.
+    #[inline(always)]
+    pub fn event(self, b: u8) -> Event
+        ensures { result ≡ event_of self b }
+    {
+        if is_digit(b) {
+            self.mixed_if(self.kinds.has_word)
+        } else if is_blank(b) {
+            self.blank_event()
+        } else if b == LINE_END {
+            Event::LineEnded {
+                number: self.digits.number(),
+                is_number_line: self.kinds.is_number_line(),
+            }
+        } else {
+            self.mixed_if(self.kinds.has_digit)
+        }
+    }
+
+    /// What a blank behind the line means.
+    #[inline(always)]
+    pub fn blank_event(self) -> Event
+        ensures { result ≡ blank_event_of (number_of self.digits) }
+    {
+        match self.digits.number() {
+            Some(number) => Event::NumberEnded(number),
+            None => Event::Quiet,
+        }
+    }
+
+    /// The line is mixed with the next byte, or isn't.
+    #[inline(always)]
+    fn mixed_if(self, is_mixed: bool) -> Event
+        ensures { result ≡ mixed_event self is_mixed }
+    {
+        if is_mixed {
+            Event::Mixed {
+                offset: self.digits.offset,
+            }
+        } else {
+            Event::Quiet
+        }
     }
 }

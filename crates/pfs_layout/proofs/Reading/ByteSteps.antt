@@ -4,23 +4,25 @@ use Rattle.std.specs.List.{list_any}
 use Rattle.std.specs.Bool.{then_some}
 use Rattle.std.specs.Option.{option_or}
 use Rattle.std.specs.Str.Parse.{digits_value}
-use Rattle.std.proofs.lemmas.Bool.{lt-ltb, ltb-true, ne_eqb}
+use Rattle.std.proofs.lemmas.Bool.{eqb-true, lt-ltb, ltb-true, ne_eqb}
 use Rattle.std.proofs.lemmas.List.Folds.{list_any-append}
 use Rattle.pfs_base.specs.declared.limits.TheConstants.{LONGEST_INPUT}
 use Rattle.pfs_base.specs.Lists.{is_empty, first_some}
 use Rattle.pfs_layout.specs.declared.layout.Layout.{Layout}
 use Rattle.pfs_layout.specs.declared.fault.LayoutFault.{LayoutFault}
 use Rattle.pfs_layout.specs.declared.fault.LayoutFault.TheVariants.{MixedLine, TooLong}
-use Rattle.pfs_layout.specs.declared.scan.Digits.{Digits}
-use Rattle.pfs_layout.specs.declared.scan.Kinds.{Kinds}
+use Rattle.pfs_layout.specs.declared.scan.Line.{Line}
+use Rattle.pfs_layout.specs.declared.scan.Number.{Number}
+use Rattle.pfs_layout.specs.declared.scan.Event.{Event}
+use Rattle.pfs_layout.specs.declared.scan.Event.TheVariants as events
 use Rattle.pfs_layout.specs.declared.fields.Phase.TheVariants as phases
-use Rattle.pfs_layout.specs.declared.fields.Fields.{Fields}
+use Rattle.pfs_layout.specs.declared.fields.Blocks.{Blocks}
 use Rattle.pfs_layout.specs.Bytes.{is_digit, is_blank, is_line_end, is_word_byte}
 use Rattle.pfs_layout.specs.Lines.{ended_lines, open_line, is_mixed, is_number_line, numbers, ended_numbers, last_digits}
 use Rattle.pfs_layout.specs.Block.{due_at, stated_size}
 use Rattle.pfs_layout.specs.Stand.{Block, Now, seeking, inside, lost, Stand, stand}
 use Rattle.pfs_layout.specs.Refuse.{mixed_line, misfit, wrong_number, size_fault, wrong_size, ends_early, faults, fault_behind}
-use Rattle.pfs_layout.specs.Step.{is_live, is_in_block, refused, last_number_ended, line_ended, judged}
+use Rattle.pfs_layout.specs.Step.{is_live, is_in_block, refused, last_number_ended, line_ended, has_numbers_alone, number_of, blank_event, mixed_if, event_of, blocks_after}
 use Rattle.pfs_layout.specs.Reader.{FollowsLine, FollowsNow, FollowsBlocks}
 use Rattle.pfs_layout.proofs.Files.SoundLemmas.{GoodNow}
 use Rattle.pfs_layout.proofs.Reading.LineSteps.{Refuses}
@@ -60,7 +62,7 @@ place_fault layout k text b few short =
 
 -- ---- what a live reader says
 
-pub live_few : (worded : Bool) (r : Fields) (now : Now) (more : List ℕ) → FollowsNow worded r now more → is_live r.phase ≡ true → r.complete < r.wanted
+pub live_few : (worded : Bool) (r : Blocks) (now : Now) (more : List ℕ) → FollowsNow worded r now more → is_live r.phase ≡ true → r.complete < r.wanted
 live_few worded r seeking more f live = by_few (nat_lt r.complete r.wanted) refl f.0
   where
     by_few : (t : Bool) → nat_lt r.complete r.wanted ≡ t → r.phase ≡ (if t then phases.Seeking else phases.Done) → r.complete < r.wanted
@@ -69,10 +71,10 @@ live_few worded r seeking more f live = by_few (nat_lt r.complete r.wanted) refl
 live_few worded r (inside block) more f live = f.1
 live_few worded r lost more f live = absurd f
 
-pub sought_phase : (worded : Bool) (r : Fields) (more : List ℕ) → FollowsNow worded r seeking more → r.complete < r.wanted → r.phase ≡ phases.Seeking
+pub sought_phase : (worded : Bool) (r : Blocks) (more : List ℕ) → FollowsNow worded r seeking more → r.complete < r.wanted → r.phase ≡ phases.Seeking
 sought_phase worded r more f few = f.0 ∙ ap (λ t. if t then phases.Seeking else phases.Done) (lt-ltb r.complete r.wanted few)
 
-pub begun_phase : (worded : Bool) (r : Fields) (block : Block) (more : List ℕ) → FollowsNow worded r (inside block) more → is_in_block r.phase ≡ true
+pub begun_phase : (worded : Bool) (r : Blocks) (block : Block) (more : List ℕ) → FollowsNow worded r (inside block) more → is_in_block r.phase ≡ true
 begun_phase worded r block more f = ap is_in_block f.0 ∙ either (nat_lt r.body.judged r.body.due)
   where
     either : (t : Bool) → is_in_block (if t then phases.Body else phases.AfterLast) ≡ true
@@ -82,15 +84,15 @@ begun_phase worded r block more f = ap is_in_block f.0 ∙ either (nat_lt r.body
 -- ---- outcomes
 
 -- the fault, or what the fields say behind the byte
-abbrev pub ByteOutcome : Fields → Bool → Stand → List ℕ → Fields → Option LayoutFault → Type 0
+abbrev pub ByteOutcome : Blocks → Bool → Stand → List ℕ → Blocks → Option LayoutFault → Type 0
 ByteOutcome r worded stood more next None = FollowsBlocks worded next stood more
 ByteOutcome r worded stood more next (Some fault) = Refuses r fault next
 
-pub refuses_is : (r next : Fields) (fault : LayoutFault) → next ≡ refused r fault → Refuses r fault next
-refuses_is r next fault e = record { phase = ap (λ (z : Fields). z.phase) e; held = ap (λ (z : Fields). z.held) e; layout = ap (λ (z : Fields). z.layout) e; wanted = ap (λ (z : Fields). z.wanted) e }
+pub refuses_is : (r next : Blocks) (fault : LayoutFault) → next ≡ refused r fault → Refuses r fault next
+refuses_is r next fault e = record { phase = ap (λ (z : Blocks). z.phase) e; held = ap (λ (z : Blocks). z.held) e; layout = ap (λ (z : Blocks). z.layout) e; wanted = ap (λ (z : Blocks). z.wanted) e }
 
 -- where the line's words stay or become known, the blocks stay as they are
-pub weaker : (worded less : Bool) (r : Fields) (complete : List Block) (now : Now) (more : List ℕ) → (less ≡ false → worded ≡ false)
+pub weaker : (worded less : Bool) (r : Blocks) (complete : List Block) (now : Now) (more : List ℕ) → (less ≡ false → worded ≡ false)
     → FollowsBlocks worded r (record { complete = complete; now = now }) more → FollowsBlocks less r (record { complete = complete; now = now }) more
 weaker worded less r complete seeking more h f = record { complete = f.complete; now = (f.now.0, λ e. f.now.1 (h e)); instance = f.instance; held = f.held }
 weaker worded less r complete (inside block) more h f = record { complete = f.complete; now = f.now; instance = f.instance; held = f.held }
@@ -151,17 +153,50 @@ mixed_other text b unmixed digit other = mixed_is text b unmixed ∙ by_line (li
 
 -- ---- a digit, or a word byte
 
-pub judged_digit : (r : Fields) (digits : Digits) (kinds : Kinds) (b : ℕ) → is_digit b ≡ true → judged r digits kinds b ≡ (if kinds.has_word && is_in_block r.phase then refused r (MixedLine digits.offset) else r)
-judged_digit r digits kinds b e = ap (λ t. if t then (if kinds.has_word && is_in_block r.phase then refused r (MixedLine digits.offset) else r) else (if is_blank b || is_line_end b then (if is_line_end b then line_ended (last_number_ended r digits) kinds else last_number_ended r digits) else (if kinds.has_digit && is_in_block r.phase then refused r (MixedLine digits.offset) else r))) e
+-- the blocks behind a byte
+abbrev pub judged : Blocks → Line → ℕ → Blocks
+judged r last b = blocks_after r (event_of last b)
 
-judged_other : (r : Fields) (digits : Digits) (kinds : Kinds) (b : ℕ) → is_digit b ≡ false → judged r digits kinds b ≡ (if is_blank b || is_line_end b then (if is_line_end b then line_ended (last_number_ended r digits) kinds else last_number_ended r digits) else (if kinds.has_digit && is_in_block r.phase then refused r (MixedLine digits.offset) else r))
-judged_other r digits kinds b e = ap (λ t. if t then (if kinds.has_word && is_in_block r.phase then refused r (MixedLine digits.offset) else r) else (if is_blank b || is_line_end b then (if is_line_end b then line_ended (last_number_ended r digits) kinds else last_number_ended r digits) else (if kinds.has_digit && is_in_block r.phase then refused r (MixedLine digits.offset) else r))) e
+abbrev pub event_by : Line → Bool → Bool → Bool → Event
+event_by last digit blank end = if digit then mixed_if last last.kinds.has_word
+    else (if blank then blank_event (number_of last.digits)
+    else (if end then events.LineEnded (number_of last.digits) (has_numbers_alone last.kinds)
+    else mixed_if last last.kinds.has_digit))
 
-pub judged_word : (r : Fields) (digits : Digits) (kinds : Kinds) (b : ℕ) → is_digit b ≡ false → (is_blank b || is_line_end b) ≡ false → judged r digits kinds b ≡ (if kinds.has_digit && is_in_block r.phase then refused r (MixedLine digits.offset) else r)
-judged_word r digits kinds b e o = judged_other r digits kinds b e ∙ ap (λ t. if t then (if is_line_end b then line_ended (last_number_ended r digits) kinds else last_number_ended r digits) else (if kinds.has_digit && is_in_block r.phase then refused r (MixedLine digits.offset) else r)) o
+met_if : (test : Bool) (r : Blocks) (last : Line) → blocks_after r (mixed_if last test) ≡ (if test && is_in_block r.phase then refused r (MixedLine last.digits.offset) else r)
+met_if true r last = refl
+met_if false r last = refl
 
-pub judged_blank : (r : Fields) (digits : Digits) (kinds : Kinds) (b : ℕ) → is_digit b ≡ false → (is_blank b || is_line_end b) ≡ true → judged r digits kinds b ≡ (if is_line_end b then line_ended (last_number_ended r digits) kinds else last_number_ended r digits)
-judged_blank r digits kinds b e o = judged_other r digits kinds b e ∙ ap (λ t. if t then (if is_line_end b then line_ended (last_number_ended r digits) kinds else last_number_ended r digits) else (if kinds.has_digit && is_in_block r.phase then refused r (MixedLine digits.offset) else r)) o
+pub judged_digit : (r : Blocks) (last : Line) (b : ℕ) → is_digit b ≡ true → judged r last b ≡ (if last.kinds.has_word && is_in_block r.phase then refused r (MixedLine last.digits.offset) else r)
+judged_digit r last b e = ap (λ t. blocks_after r (event_by last t (is_blank b) (is_line_end b))) e ∙ met_if last.kinds.has_word r last
+
+pub judged_word : (r : Blocks) (last : Line) (b : ℕ) → is_digit b ≡ false → (is_blank b || is_line_end b) ≡ false → judged r last b ≡ (if last.kinds.has_digit && is_in_block r.phase then refused r (MixedLine last.digits.offset) else r)
+judged_word r last b e o = ap (λ t. blocks_after r (event_by last t (is_blank b) (is_line_end b))) e ∙ by_parts (is_blank b) (is_line_end b) o ∙ met_if last.kinds.has_digit r last
+  where
+    by_parts : (x y : Bool) → (x || y) ≡ false → blocks_after r (event_by last false x y) ≡ blocks_after r (mixed_if last last.kinds.has_digit)
+    by_parts true y o = cc
+    by_parts false true o = cc
+    by_parts false false o = refl
+
+pub judged_blank : (r : Blocks) (last : Line) (b : ℕ) → is_digit b ≡ false → (is_blank b || is_line_end b) ≡ true
+    → judged r last b ≡ (if is_line_end b then line_ended (last_number_ended r (number_of last.digits)) (has_numbers_alone last.kinds) else last_number_ended r (number_of last.digits))
+judged_blank r last b e o = by_end (is_line_end b) refl
+  where
+    by_number : (number : Option Number) → blocks_after r (blank_event number) ≡ last_number_ended r number
+    by_number None = refl
+    by_number (Some number) = refl
+
+    left_of : (x y : Bool) → (x || y) ≡ true → y ≡ false → x ≡ true
+    left_of true y e f = refl
+    left_of false true e f = cc
+    left_of false false e f = cc
+
+    by_end : (t : Bool) → is_line_end b ≡ t → judged r last b ≡ (if t then line_ended (last_number_ended r (number_of last.digits)) (has_numbers_alone last.kinds) else last_number_ended r (number_of last.digits))
+    by_end true end = subst (λ c. judged r last c ≡ line_ended (last_number_ended r (number_of last.digits)) (has_numbers_alone last.kinds)) (sym (eqb-true b 10 end)) refl
+    by_end false end =
+        ap (λ t. blocks_after r (event_by last t (is_blank b) (is_line_end b))) e
+        ∙ ap (λ t. blocks_after r (event_by last false t (is_line_end b))) (left_of (is_blank b) (is_line_end b) o end)
+        ∙ by_number (number_of last.digits)
 
 -- a byte that ends no line has no fault while a block is sought
 pub sought_fine : (layout : Layout) (text : List ℕ) (b : ℕ) → is_line_end b ≡ false → wrong_size layout text (Some b) ≡ None
@@ -178,7 +213,7 @@ number_fine layout block text b e = ap (λ t. if t then misfit (due_at layout bl
     and_false false = refl
 
 -- refused, or as it was
-stays_or : (r : Fields) (worded : Bool) (stood : Stand) (more : List ℕ) (test : Bool) (offset place : ℕ) → offset ≡ place → FollowsBlocks worded r stood more
+stays_or : (r : Blocks) (worded : Bool) (stood : Stand) (more : List ℕ) (test : Bool) (offset place : ℕ) → offset ≡ place → FollowsBlocks worded r stood more
     → ByteOutcome r worded stood more (if test then refused r (MixedLine offset) else r) (option_or (then_some test (MixedLine place)) None)
 stays_or r worded stood more true offset place e f = refuses_is r (refused r (MixedLine offset)) (MixedLine place) (ap (λ n. refused r (MixedLine n)) e)
 stays_or r worded stood more false offset place e f = f
@@ -193,30 +228,30 @@ and_false_is true false e = refl
 and_false_is false false e = refl
 and_false_is x true e = cc
 
-pub digit_byte : (r : Fields) (text : List ℕ) (b : ℕ) (complete : List Block) (now : Now) (less : Bool) → is_digit b ≡ true → is_live r.phase ≡ true
+pub digit_byte : (r : Blocks) (last : Line) (text : List ℕ) (b : ℕ) (complete : List Block) (now : Now) (less : Bool) → is_digit b ≡ true → is_live r.phase ≡ true
     → (less ≡ false → list_any is_word_byte (open_line text) ≡ false)
-    → FollowsLine r.digits r.kinds text → FollowsBlocks (list_any is_word_byte (open_line text)) r (record { complete = complete; now = now }) (ended_numbers (open_line text))
+    → FollowsLine last.digits last.kinds text → FollowsBlocks (list_any is_word_byte (open_line text)) r (record { complete = complete; now = now }) (ended_numbers (open_line text))
     → GoodNow r.layout now (open_line text)
-    → ByteOutcome r less (record { complete = complete; now = now }) (ended_numbers (open_line text)) (judged r r.digits r.kinds b) (fault_in r.layout now text b)
-digit_byte r text b complete seeking less digit live known line f good =
+    → ByteOutcome r less (record { complete = complete; now = now }) (ended_numbers (open_line text)) (judged r last b) (fault_in r.layout now text b)
+digit_byte r last text b complete seeking less digit live known line f good =
     let few = live_few (list_any is_word_byte (open_line text)) r seeking (ended_numbers (open_line text)) f.now live in
     let phase = sought_phase (list_any is_word_byte (open_line text)) r (ended_numbers (open_line text)) f.now few in
-    let next : judged r r.digits r.kinds b ≡ r = judged_digit r r.digits r.kinds b digit ∙ ap (λ t. if t then refused r (MixedLine r.digits.offset) else r) (and_false_is r.kinds.has_word (is_in_block r.phase) (ap is_in_block phase)) in
+    let next : judged r last b ≡ r = judged_digit r last b digit ∙ ap (λ t. if t then refused r (MixedLine last.digits.offset) else r) (and_false_is last.kinds.has_word (is_in_block r.phase) (ap is_in_block phase)) in
     let fine = sought_fine r.layout text b (digit-no_line_end b digit) in
-    subst (λ o. ByteOutcome r less (record { complete = complete; now = seeking }) (ended_numbers (open_line text)) (judged r r.digits r.kinds b) o) (sym fine)
+    subst (λ o. ByteOutcome r less (record { complete = complete; now = seeking }) (ended_numbers (open_line text)) (judged r last b) o) (sym fine)
     (subst (λ z. FollowsBlocks less z (record { complete = complete; now = seeking }) (ended_numbers (open_line text))) (sym next)
     (weaker (list_any is_word_byte (open_line text)) less r complete seeking (ended_numbers (open_line text)) known f))
-digit_byte r text b complete (inside block) less digit live known line f good =
+digit_byte r last text b complete (inside block) less digit live known line f good =
     let phase = begun_phase (list_any is_word_byte (open_line text)) r block (ended_numbers (open_line text)) f.now in
     let word = line.has_word in
-    let next : judged r r.digits r.kinds b ≡ (if list_any is_word_byte (open_line text) then refused r (MixedLine r.digits.offset) else r) =
-    judged_digit r r.digits r.kinds b digit ∙ ap (λ t. if t then refused r (MixedLine r.digits.offset) else r) (and_true_is r.kinds.has_word (is_in_block r.phase) phase ∙ word) in
+    let next : judged r last b ≡ (if list_any is_word_byte (open_line text) then refused r (MixedLine last.digits.offset) else r) =
+    judged_digit r last b digit ∙ ap (λ t. if t then refused r (MixedLine last.digits.offset) else r) (and_true_is last.kinds.has_word (is_in_block r.phase) phase ∙ word) in
     let blank : (is_blank b || is_line_end b) ≡ false = no_blank b digit in
     let fault : fault_in r.layout (inside block) text b ≡ option_or (then_some (list_any is_word_byte (open_line text)) (MixedLine (length text))) None =
     ap (λ o. option_or o (wrong_number r.layout block text (Some b))) (mixed_digit text b good.unmixed digit) ∙ ap (λ o. option_or (then_some (list_any is_word_byte (open_line text)) (MixedLine (length text))) o) (number_fine r.layout block text b blank) in
-    subst (λ o. ByteOutcome r less (record { complete = complete; now = inside block }) (ended_numbers (open_line text)) (judged r r.digits r.kinds b) o) (sym fault)
+    subst (λ o. ByteOutcome r less (record { complete = complete; now = inside block }) (ended_numbers (open_line text)) (judged r last b) o) (sym fault)
     (subst (λ z. ByteOutcome r less (record { complete = complete; now = inside block }) (ended_numbers (open_line text)) z (option_or (then_some (list_any is_word_byte (open_line text)) (MixedLine (length text))) None)) (sym next)
-    (stays_or r less (record { complete = complete; now = inside block }) (ended_numbers (open_line text)) (list_any is_word_byte (open_line text)) r.digits.offset (length text) line.offset
+    (stays_or r less (record { complete = complete; now = inside block }) (ended_numbers (open_line text)) (list_any is_word_byte (open_line text)) last.digits.offset (length text) line.offset
     (weaker (list_any is_word_byte (open_line text)) less r complete (inside block) (ended_numbers (open_line text)) known f)))
   where
     no_blank : (b : ℕ) → is_digit b ≡ true → (is_blank b || is_line_end b) ≡ false
@@ -227,4 +262,4 @@ digit_byte r text b complete (inside block) less digit live known line f good =
 
         by_all : (b == 32) ≡ false → (b == 9) ≡ false → (b == 13) ≡ false → (b == 10) ≡ false → (is_blank b || is_line_end b) ≡ false
         by_all p q s t = let or_false : (x y z w : Bool) → x ≡ false → y ≡ false → z ≡ false → w ≡ false → ((x || y || z) || w) ≡ false = λ x y z w p q s t. rw (p, q, s, t) refl in or_false _ _ _ _ p q s t
-digit_byte r text b complete lost less digit live known line f good = absurd good
+digit_byte r last text b complete lost less digit live known line f good = absurd good

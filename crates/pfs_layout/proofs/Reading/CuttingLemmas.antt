@@ -2,8 +2,7 @@
 use Rattle.std.proofs.Common.{◌≡◌, ℕ, List, Result, Ok, Err, refl, sym}
 use Rattle.pfs_base.specs.Problem.{Problem}
 use Rattle.pfs_layout.specs.declared.fault.LayoutFault.{LayoutFault}
-use Rattle.pfs_layout.specs.declared.fields.Fields.{Fields}
-use Rattle.pfs_layout.specs.Reader.{FinishMeets}
+use Rattle.pfs_layout.specs.Reader.{Fields, FinishMeets}
 
 pub same_answers : (one other : Fields) (text : List ℕ) (answer second : Result Problem LayoutFault)
     → one.layout ≡ other.layout → one.wanted ≡ other.wanted

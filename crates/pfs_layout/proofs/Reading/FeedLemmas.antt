@@ -15,7 +15,7 @@ use Rattle.pfs_layout.specs.declared.fault.LayoutFault.{LayoutFault}
 use Rattle.pfs_layout.specs.declared.fault.LayoutFault.TheVariants.{TimeRange, MachineNumber, SizeRange, MixedLine, TooLong, Memory}
 use Rattle.pfs_layout.specs.declared.fields.Phase.{Phase}
 use Rattle.pfs_layout.specs.declared.fields.Phase.TheVariants as phases
-use Rattle.pfs_layout.specs.declared.fields.Fields.{Fields}
+use Rattle.pfs_layout.specs.declared.fields.Blocks.{Blocks}
 use Rattle.pfs_layout.specs.declared.fields.Progress.{Progress}
 use Rattle.pfs_layout.specs.Bytes.{is_blank, is_line_end, is_word_byte}
 use Rattle.pfs_layout.specs.Lines.{ended_lines, open_line, is_mixed, is_number_line, numbers, ended_numbers, last_digits}
@@ -24,7 +24,7 @@ use Rattle.pfs_layout.specs.Block.{Due, any_time, machine_number, nothing, due_a
 use Rattle.pfs_layout.specs.Stand.{Now, seeking, inside, lost, stand}
 use Rattle.pfs_layout.specs.Refuse.{too_long, mixed_line, misfit, wrong_number, size_fault, wrong_size, ends_early, faults, fault_behind, byte_fault}
 use Rattle.pfs_layout.specs.Step.{is_live, refused}
-use Rattle.pfs_layout.specs.Reader.{block_read, FollowsNow, Follows, IsRefused, StandsIn, StandsAfter, IsReader, TakeMeets, FeedMeets, progress_of, EndsWantedSize}
+use Rattle.pfs_layout.specs.Reader.{Fields, fields, block_read, FollowsNow, Follows, IsRefused, StandsIn, StandsAfter, IsReader, TakeMeets, FeedMeets, progress_of, EndsWantedSize}
 use Rattle.pfs_layout.proofs.Published.PlaceLemmas.{byte_fault-push}
 use Rattle.pfs_layout.proofs.Files.SoundLemmas.{stand_of}
 use Rattle.pfs_layout.proofs.Files.GrowLemmas.{fewer_before}
@@ -116,7 +116,7 @@ fine_more layout k text (b ∷ more) right enough =
     let then_enough : k ≤ length (stand_of layout (text ++ b ∷ [])).complete = (let f = fewer_before layout text (b ∷ []) in omega arith) in
     ap (byte_fault layout k) (sym (append_assoc text (b ∷ []) more)) ∙ fine_more layout k (text ++ b ∷ []) more here then_enough
 
-done_now : (worded : Bool) (r : Fields) (now : Now) (more : List ℕ) → FollowsNow worded r now more → r.phase ≡ phases.Done → r.wanted ≤ r.complete
+done_now : (worded : Bool) (r : Blocks) (now : Now) (more : List ℕ) → FollowsNow worded r now more → r.phase ≡ phases.Done → r.wanted ≤ r.complete
 done_now worded r seeking more f e = either (nat_lt r.complete r.wanted) refl (sym e ∙ f.0)
   where
     either : (t : Bool) → nat_lt r.complete r.wanted ≡ t → phases.Done ≡ (if t then phases.Seeking else phases.Done) → r.wanted ≤ r.complete
@@ -132,7 +132,7 @@ done_now worded r lost more f e = absurd f
 -- a done reader has the wanted block
 pub done_enough : (r : Fields) (text : List ℕ) → Follows r text → r.phase ≡ phases.Done → r.wanted ≤ length (stand_of r.layout text).complete
 done_enough r text f e =
-    let h = done_now (list_any is_word_byte (open_line text)) r (stand_of r.layout text).now (ended_numbers (open_line text)) f.blocks.now e in
+    let h = done_now (list_any is_word_byte (open_line text)) r.blocks (stand_of r.layout text).now (ended_numbers (open_line text)) f.blocks.now e in
     let c = f.blocks.complete in
     omega arith
 
@@ -265,19 +265,19 @@ long_fault : (r : Fields) (text : List ℕ) (b : ℕ) → Follows r text → is_
 unfolding fault_behind
 long_fault r text b f live full =
     ap (λ t. if t then first_some (faults r.layout r.wanted (stand_of r.layout text).now text (Some b)) else None)
-    (lt-ltb (length (stand_of r.layout text).complete) r.wanted (let c = f.blocks.complete in let l = live_few (list_any is_word_byte (open_line text)) r (stand_of r.layout text).now (ended_numbers (open_line text)) f.blocks.now live in omega arith))
+    (lt-ltb (length (stand_of r.layout text).complete) r.wanted (let c = f.blocks.complete in let l = live_few (list_any is_word_byte (open_line text)) r.blocks (stand_of r.layout text).now (ended_numbers (open_line text)) f.blocks.now live in omega arith))
     ∙ by_now (stand_of r.layout text).now f.blocks.now
   where
     at : (length text == LONGEST_INPUT) ≡ true
     at = eq-eqb (length text) LONGEST_INPUT full
 
-    by_now : (now : Now) → FollowsNow (list_any is_word_byte (open_line text)) r now (ended_numbers (open_line text)) → first_some (faults r.layout r.wanted now text (Some b)) ≡ Some TooLong
+    by_now : (now : Now) → FollowsNow (list_any is_word_byte (open_line text)) r.blocks now (ended_numbers (open_line text)) → first_some (faults r.layout r.wanted now text (Some b)) ≡ Some TooLong
     by_now seeking n = ap (λ t. first_some (then_some (t && true) TooLong ∷ wrong_size r.layout text (Some b) ∷ ends_early r.layout r.wanted text (Some b) ∷ [])) at
     by_now (inside block) n = ap (λ t. first_some (then_some (t && true) TooLong ∷ mixed_line text (Some b) ∷ wrong_number r.layout block text (Some b) ∷ ends_early r.layout r.wanted text (Some b) ∷ [])) at
     by_now lost n = absurd n
 
 pub long_meets : (old : Fields) (text piece : List ℕ) (room : ℕ) (mid : Fields) → TakeMeets old text (take room piece) room mid → is_live old.phase ≡ true → StandsAfter old text → old.digits.offset + room ≡ LONGEST_INPUT → room < length piece
-    → is_live mid.phase ≡ true → FeedMeets old text piece (Err TooLong) (refused mid TooLong)
+    → is_live mid.phase ≡ true → FeedMeets old text piece (Err TooLong) (fields mid.last (refused mid.blocks TooLong))
 unfolding block_read
 long_meets old text piece room mid m was s full within live =
     let no_memory = live-memory mid.phase live in
@@ -287,7 +287,7 @@ long_meets old text piece room mid m was s full within live =
     let follows : Follows mid (text ++ take room piece) = live_follows mid (text ++ take room piece) live stands in
     let b : ℕ = get_or piece room 0 in
     let long : length (text ++ take room piece) ≡ LONGEST_INPUT = omega (arith, length-append text (take room piece), before.last_line.offset) in
-    let stood : IsRefused (refused mid TooLong) (text ++ piece) TooLong = record {
+    let stood : IsRefused (fields mid.last (refused mid.blocks TooLong)) (text ++ piece) TooLong = record {
       front = text ++ take room piece;
       byte = b;
       rest = drop (room + 1) piece;
@@ -296,7 +296,7 @@ long_meets old text piece room mid m was s full within live =
       here = long_fault mid (text ++ take room piece) b follows live long;
       held = follows.blocks.held;
     } in
-    let is : byte_fault old.layout old.wanted (text ++ piece) ≡ Some TooLong = same_place old mid (text ++ piece) (m.layout) (m.wanted) ∙ refused_fault (refused mid TooLong) (text ++ piece) TooLong stood in
+    let is : byte_fault old.layout old.wanted (text ++ piece) ≡ Some TooLong = same_place old mid (text ++ piece) (m.layout) (m.wanted) ∙ refused_fault (fields mid.last (refused mid.blocks TooLong)) (text ++ piece) TooLong stood in
     record {
       ok = tt;
       layout = m.layout;
@@ -328,7 +328,7 @@ front_meets_as old text piece front room used new m e within few =
     front_meets old text piece room used new (subst (λ xs. TakeMeets old text xs used new) e m) within (omega arith)
 
 pub long_meets_as : (old : Fields) (text piece front : List ℕ) (room used : ℕ) (mid : Fields) → TakeMeets old text front used mid → front ≡ take room piece → is_live old.phase ≡ true → StandsAfter old text → old.digits.offset + room ≡ LONGEST_INPUT → room < length piece
-    → (is_live mid.phase ≡ true → used ≡ length front) → is_live mid.phase ≡ true → FeedMeets old text piece (Err TooLong) (refused mid TooLong)
+    → (is_live mid.phase ≡ true → used ≡ length front) → is_live mid.phase ≡ true → FeedMeets old text piece (Err TooLong) (fields mid.last (refused mid.blocks TooLong))
 long_meets_as old text piece front room used mid m e was s full within whole live =
     let size : length front ≡ room = ap length e ∙ length-take room piece ∙ (let least : min room (length piece) ≡ room = omega arith in least) in
     let all : used ≡ room = whole live ∙ size in

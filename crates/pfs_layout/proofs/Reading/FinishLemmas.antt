@@ -16,7 +16,7 @@ use Rattle.pfs_layout.specs.declared.fault.LayoutFault.{LayoutFault}
 use Rattle.pfs_layout.specs.declared.fault.LayoutFault.TheVariants.{NoBlock, SizeRange, Truncated, TooLong}
 use Rattle.pfs_layout.specs.declared.scan.Kinds.{Kinds}
 use Rattle.pfs_layout.specs.declared.fields.Phase.TheVariants as phases
-use Rattle.pfs_layout.specs.declared.fields.Fields.{Fields}
+use Rattle.pfs_layout.specs.declared.fields.Blocks.{Blocks}
 use Rattle.pfs_layout.specs.Bytes.{is_digit, is_line_end, is_word_byte}
 use Rattle.pfs_layout.specs.Lines.{lines, ended_lines, open_line, is_mixed, is_number_line, numbers, ended_numbers, last_digits}
 use Rattle.pfs_layout.specs.Size.{Size, is_within_limits}
@@ -113,7 +113,7 @@ same_size_fault : (kept stated : Option Size) (place : ℕ) → Clips kept state
 same_size_fault kept None place c = ap (λ k. size_fault k place) c
 same_size_fault kept (Some size) place c = ap (λ k. size_fault k place) c ∙ ap (λ t. then_some (not t) (SizeRange place)) (same_within size)
 
-pub sought_told : (r : Fields) (complete : List Block) (line : List ℕ) (kinds : Kinds) (place : ℕ) → FollowsBlocks (list_any is_word_byte line) r (record { complete = complete; now = seeking }) (numbers line)
+pub sought_told : (r : Blocks) (complete : List Block) (line : List ℕ) (kinds : Kinds) (place : ℕ) → FollowsBlocks (list_any is_word_byte line) r (record { complete = complete; now = seeking }) (numbers line)
     → r.phase ≡ phases.Seeking → r.line ≡ place → (kinds.has_digit && not kinds.has_word) ≡ is_number_line line
     → end_fault kinds r ≡ sought_fault r.layout (length complete) line place
 sought_told r complete line kinds place f phase at same =
@@ -149,11 +149,11 @@ unfolding numbers
 no_numbers_on line e = ap numbers (nil_from_length line (eqb-true (length line) 0 e))
 
 -- what the end leaves of a block that is begun
-pub record BegunEnd (r : Fields) (kinds : Kinds) (text : List ℕ) : Type 0 where
+pub record BegunEnd (r : Blocks) (kinds : Kinds) (text : List ℕ) : Type 0 where
   pub early : ends_early r.layout r.wanted text None ≡ end_fault kinds r
   pub instance : end_fault kinds r ≡ None → r.instance ≡ option_map (instance_of r.layout) (slice_get (stand r.layout (lines text)).complete (r.wanted - 1))
 
-pub begun_told : (worded : Bool) (r : Fields) (text : List ℕ) (complete : List Block) (block : Block) (kinds : Kinds) → FollowsBlocks worded r (record { complete = complete; now = inside block }) (numbers (open_line text))
+pub begun_told : (worded : Bool) (r : Blocks) (text : List ℕ) (complete : List Block) (block : Block) (kinds : Kinds) → FollowsBlocks worded r (record { complete = complete; now = inside block }) (numbers (open_line text))
     → stand r.layout (ended_lines text) ≡ record { complete = complete; now = inside block } → length block.numbers < due_count r.layout block.size
     → is_mixed (open_line text) ≡ false → are_due r.layout block.size (block.numbers ++ numbers (open_line text)) ≡ true
     → BegunEnd r kinds text

@@ -10,13 +10,12 @@ use Rattle.pfs_layout.specs.declared.fault.LayoutFault.{LayoutFault}
 use Rattle.pfs_layout.specs.declared.fault.LayoutFault.TheVariants.{Memory}
 use Rattle.pfs_layout.specs.declared.fields.Phase.{Phase}
 use Rattle.pfs_layout.specs.declared.fields.Phase.TheVariants as phases
-use Rattle.pfs_layout.specs.declared.fields.Fields.{Fields}
 use Rattle.pfs_layout.specs.declared.fields.Progress.{Progress}
 use Rattle.pfs_layout.specs.Lines.{ended_lines, open_line, is_mixed, numbers, ended_numbers}
 use Rattle.pfs_layout.specs.Block.{due_count, are_due}
 use Rattle.pfs_layout.specs.Stand.{Block, Now, seeking, inside, lost, Stand, after_line, stand_after, stand}
 use Rattle.pfs_layout.specs.Refuse.{byte_fault}
-use Rattle.pfs_layout.specs.Reader.{block_begun_by, block_of, block_read, time_count, known_size, most_times, HoldsFew, Follows, StandsIn, StandsAfter, FeedMeets}
+use Rattle.pfs_layout.specs.Reader.{Fields, block_begun_by, block_of, block_read, time_count, known_size, most_times, HoldsFew, Follows, StandsIn, StandsAfter, FeedMeets}
 use Rattle.pfs_layout.proofs.Files.SoundLemmas.{GoodNow, stand-push, stand_of, sound}
 use Rattle.pfs_layout.proofs.Reading.TableLemmas.{length-times_among}
 use Rattle.pfs_layout.proofs.Files.FrontLemmas.{due_few}

@@ -12,10 +12,9 @@ use Rattle.pfs_layout.specs.declared.layout.Layout.TheVariants.{Taillard, OrLib}
 use Rattle.pfs_layout.specs.declared.fault.LayoutFault.{LayoutFault}
 use Rattle.pfs_layout.specs.declared.fault.LayoutFault.TheVariants.{SizeRange}
 use Rattle.pfs_layout.specs.declared.scan.TheConstants.{CEILING}
-use Rattle.pfs_layout.specs.declared.scan.Kinds.{Kinds}
 use Rattle.pfs_layout.specs.declared.size_line.SizeLine.{SizeLine}
 use Rattle.pfs_layout.specs.declared.fields.Phase.TheVariants as phases
-use Rattle.pfs_layout.specs.declared.fields.Fields.{Fields}
+use Rattle.pfs_layout.specs.declared.fields.Blocks.{Blocks}
 use Rattle.pfs_layout.specs.Bytes.{is_digit, is_word_byte}
 use Rattle.pfs_layout.specs.Lines.{is_mixed, is_number_line, numbers}
 use Rattle.pfs_layout.specs.Size.{Size, is_within_limits}
@@ -143,7 +142,7 @@ due_some : (layout : Layout) (size : Size) → is_within_limits size ≡ true �
 due_some Taillard size within = let w = size_within size within in product_some size.jobs size.machines w.sizes.some_job w.sizes.some_machine
 due_some OrLib size within = let w = size_within size within in let p = product_some size.jobs size.machines w.sizes.some_job w.sizes.some_machine in omega arith
 
-begun_follows : (r : Fields) (complete : List Block) (size : Size) (more : List ℕ) → r.complete ≡ length complete → r.complete < r.wanted → is_within_limits size ≡ true
+begun_follows : (r : Blocks) (complete : List Block) (size : Size) (more : List ℕ) → r.complete ≡ length complete → r.complete < r.wanted → is_within_limits size ≡ true
     → r.held ≡ time_count r.layout (block_of r.wanted (record { complete = complete; now = seeking }) more)
     → FollowsBlocks false (block_begun r size) (record { complete = complete; now = inside (record { size = size; numbers = [] }) }) []
 begun_follows r complete size more count few within held =
@@ -170,14 +169,14 @@ begun_follows r complete size more count few within held =
 -- ---- outcomes
 
 -- only the fault is new
-pub record Refuses (old : Fields) (fault : LayoutFault) (new : Fields) : Type 0 where
+pub record Refuses (old : Blocks) (fault : LayoutFault) (new : Blocks) : Type 0 where
   pub phase : new.phase ≡ phases.Refused fault
   pub held : new.held ≡ old.held
   pub layout : new.layout ≡ old.layout
   pub wanted : new.wanted ≡ old.wanted
 
 -- the fault, or what the fields say behind the line
-abbrev pub LineOutcome : Fields → Stand → Fields → Option LayoutFault → Type 0
+abbrev pub LineOutcome : Blocks → Stand → Blocks → Option LayoutFault → Type 0
 LineOutcome r stood next None = FollowsBlocks false next stood []
 LineOutcome r stood next (Some fault) = Refuses r fault next
 
@@ -185,7 +184,7 @@ holds_none : HoldsNumbers no_numbers []
 holds_none = record { count = refl; values = λ i low few. absurd (omega arith) }
 
 -- the size line of a sought block
-size_step : (stated : Option Size) (r : Fields) (complete : List Block) (more : List ℕ) (kept : Option Size) (line : ℕ) → Clips kept stated → r.complete ≡ length complete → r.complete < r.wanted
+size_step : (stated : Option Size) (r : Blocks) (complete : List Block) (more : List ℕ) (kept : Option Size) (line : ℕ) → Clips kept stated → r.complete ≡ length complete → r.complete < r.wanted
     → r.held ≡ time_count r.layout (block_of r.wanted (record { complete = complete; now = seeking }) more)
     → LineOutcome r (record { complete = complete; now = after_size stated }) (size_judged r kept (size_fault kept line)) (size_fault stated line)
 size_step None r complete more kept line clips count few held =
@@ -202,20 +201,20 @@ size_step (Some size) r complete more kept line clips count few held =
     by_within false e = record { phase = refl; held = refl; layout = refl; wanted = refl }
 
 -- a line behind which the next block is sought
-pub sought_line : (r : Fields) (complete : List Block) (line : List ℕ) (kinds : Kinds) → FollowsBlocks (list_any is_word_byte line) r (record { complete = complete; now = seeking }) (numbers line)
+pub sought_line : (r : Blocks) (complete : List Block) (line : List ℕ) (numbered : Bool) → FollowsBlocks (list_any is_word_byte line) r (record { complete = complete; now = seeking }) (numbers line)
     → r.phase ≡ phases.Seeking → r.complete < r.wanted
-    → (kinds.has_digit && not kinds.has_word) ≡ is_number_line line
-    → LineOutcome r (stand_after r.layout (record { complete = complete; now = seeking }) line) (line_ended r kinds)
+    → numbered ≡ is_number_line line
+    → LineOutcome r (stand_after r.layout (record { complete = complete; now = seeking }) line) (line_ended r numbered)
     (if is_number_line line then size_fault (stated_size r.layout (numbers line)) r.line else None)
 unfolding line_ended stand_after
-sought_line r complete line kinds f phase few same = by_kind (is_number_line line) refl
+sought_line r complete line numbered f phase few same = by_kind (is_number_line line) refl
   where
     Claim : Bool → Type 0
     Claim t = LineOutcome r (record { complete = complete; now = if t then after_size (stated_size r.layout (numbers line)) else seeking })
         (if t then size_line_ended (at_next_line r) r.size_line r.line else at_next_line r) (if t then size_fault (stated_size r.layout (numbers line)) r.line else None)
 
-    next : line_ended_in r.phase r kinds ≡ (if is_number_line line then size_line_ended (at_next_line r) r.size_line r.line else at_next_line r)
-    next = ap (λ p. line_ended_in p r kinds) phase ∙ ap (λ t. if t then size_line_ended (at_next_line r) r.size_line r.line else at_next_line r) same
+    next : line_ended_in r.phase r numbered ≡ (if is_number_line line then size_line_ended (at_next_line r) r.size_line r.line else at_next_line r)
+    next = ap (λ p. line_ended_in p r numbered) phase ∙ ap (λ t. if t then size_line_ended (at_next_line r) r.size_line r.line else at_next_line r) same
 
     no_word : (a b : Bool) → (a && not b) ≡ true → b ≡ false
     no_word true true e = cc
@@ -236,7 +235,7 @@ sought_line r complete line kinds f phase few same = by_kind (is_number_line lin
     claim false e = record { complete = f.complete; now = (f.now.0, λ plain. holds_none); instance = f.instance; held = f.held }
 
     by_kind : (t : Bool) → is_number_line line ≡ t
-        → LineOutcome r (record { complete = complete; now = if is_number_line line then after_size (stated_size r.layout (numbers line)) else seeking }) (line_ended_in r.phase r kinds)
+        → LineOutcome r (record { complete = complete; now = if is_number_line line then after_size (stated_size r.layout (numbers line)) else seeking }) (line_ended_in r.phase r numbered)
         (if is_number_line line then size_fault (stated_size r.layout (numbers line)) r.line else None)
     by_kind t e =
         subst (λ z. LineOutcome r (record { complete = complete; now = if is_number_line line then after_size (stated_size r.layout (numbers line)) else seeking }) z (if is_number_line line then size_fault (stated_size r.layout (numbers line)) r.line else None)) (sym next)
@@ -248,12 +247,12 @@ pub full_or_not : (layout : Layout) (complete : List Block) (block : Block) → 
     → after_numbers layout complete block ≡ (if length block.numbers == due_count layout block.size then (let s : Stand = record { complete = complete ++ block ∷ []; now = seeking } in s) else record { complete = complete; now = inside block })
 full_or_not layout complete block due = ap (λ t. if t then (if length block.numbers == due_count layout block.size then (let s : Stand = record { complete = complete ++ block ∷ []; now = seeking } in s) else record { complete = complete; now = inside block }) else record { complete = complete; now = lost }) due
 
-pub body_line : {worded : Bool} (r : Fields) (complete : List Block) (block : Block) (line : List ℕ) (kinds : Kinds) → FollowsBlocks worded r (record { complete = complete; now = inside block }) (numbers line)
+pub body_line : {worded : Bool} (r : Blocks) (complete : List Block) (block : Block) (line : List ℕ) (numbered : Bool) → FollowsBlocks worded r (record { complete = complete; now = inside block }) (numbers line)
     → is_mixed line ≡ false → are_due r.layout block.size (block.numbers ++ numbers line) ≡ true
-    → FollowsBlocks false (line_ended r kinds) (stand_after r.layout (record { complete = complete; now = inside block }) line) []
+    → FollowsBlocks false (line_ended r numbered) (stand_after r.layout (record { complete = complete; now = inside block }) line) []
 unfolding line_ended stand_after
-body_line {worded} r complete block line kinds f unmixed due =
-    subst (λ s. FollowsBlocks false (line_ended_in r.phase r kinds) s []) (sym stands) (by_full (nat_lt r.body.judged r.body.due) refl)
+body_line {worded} r complete block line numbered f unmixed due =
+    subst (λ s. FollowsBlocks false (line_ended_in r.phase r numbered) s []) (sym stands) (by_full (nat_lt r.body.judged r.body.due) refl)
   where
     whole : Block
     whole = record { size = block.size; numbers = block.numbers ++ numbers line }
@@ -277,13 +276,13 @@ body_line {worded} r complete block line kinds f unmixed due =
     begun more ns = ap (λ t. if t then (if length complete + 1 == r.wanted then Some (let b : Block = record { size = block.size; numbers = ns ++ more } in b) else None) else slice_get complete (r.wanted - 1)) (lt-ltb (length complete) r.wanted few)
 
     by_full : (t : Bool) → nat_lt r.body.judged r.body.due ≡ t
-        → FollowsBlocks false (line_ended_in r.phase r kinds)
+        → FollowsBlocks false (line_ended_in r.phase r numbered)
         (if length (block.numbers ++ numbers line) == due_count r.layout block.size then (let s : Stand = record { complete = complete ++ record { size = block.size; numbers = block.numbers ++ numbers line } ∷ []; now = seeking } in s) else record { complete = complete; now = inside (record { size = block.size; numbers = block.numbers ++ numbers line }) }) []
     by_full true e =
         let less : r.body.judged < r.body.due = ltb-true r.body.judged r.body.due e in
         let not_full : (length (block.numbers ++ numbers line) == due_count r.layout block.size) ≡ false = ne_eqb _ _ (λ z. let total = body.due in omega (arith, count)) in
         let phase : r.phase ≡ phases.Body = f.now.0 ∙ ap (λ t. if t then phases.Body else phases.AfterLast) e in
-        let next : line_ended_in r.phase r kinds ≡ at_next_line r = ap (λ p. line_ended_in p r kinds) phase in
+        let next : line_ended_in r.phase r numbered ≡ at_next_line r = ap (λ p. line_ended_in p r numbered) phase in
         let same : block_of r.wanted (record { complete = complete; now = inside block }) (numbers line) ≡ block_of r.wanted (record { complete = complete; now = inside (record { size = block.size; numbers = block.numbers ++ numbers line }) }) [] =
         begun (numbers line) block.numbers ∙ ap (λ ns. if length complete + 1 == r.wanted then Some (let b : Block = record { size = block.size; numbers = ns } in b) else None) (sym (append-nil (block.numbers ++ numbers line))) ∙ sym (begun [] (block.numbers ++ numbers line)) in
         let counts : length block.numbers + length (numbers line) ≡ length (block.numbers ++ numbers line) + length {A = ℕ} [] = omega (arith, length-append block.numbers (numbers line)) in
@@ -299,7 +298,7 @@ body_line {worded} r complete block line kinds f unmixed due =
         let all : r.body.due ≤ r.body.judged = ltb-false r.body.judged r.body.due e in
         let full : (length (block.numbers ++ numbers line) == due_count r.layout block.size) ≡ true = eq-eqb _ _ (let total = body.due in let most = body.few in omega (arith, count)) in
         let phase : r.phase ≡ phases.AfterLast = f.now.0 ∙ ap (λ t. if t then phases.Body else phases.AfterLast) e in
-        let next : line_ended_in r.phase r kinds ≡ block_ended (at_next_line r) = ap (λ p. line_ended_in p r kinds) phase in
+        let next : line_ended_in r.phase r numbered ≡ block_ended (at_next_line r) = ap (λ p. line_ended_in p r numbered) phase in
         let pushed : length (complete ++ whole ∷ []) ≡ length complete + 1 = length_push complete whole in
         let same : block_of r.wanted (record { complete = complete; now = inside block }) (numbers line) ≡ block_of r.wanted (record { complete = complete ++ whole ∷ []; now = seeking }) [] =
         begun (numbers line) block.numbers ∙ sym (ended pushed) in

@@ -15,7 +15,7 @@ use Rattle.pfs_layout.specs.declared.scan.TheConstants.{CEILING}
 use Rattle.pfs_layout.specs.declared.body.Body.{Body}
 use Rattle.pfs_layout.specs.declared.fields.Phase.{Phase}
 use Rattle.pfs_layout.specs.declared.fields.Phase.TheVariants as phases
-use Rattle.pfs_layout.specs.declared.fields.Fields.{Fields}
+use Rattle.pfs_layout.specs.declared.fields.Blocks.{Blocks}
 use Rattle.pfs_layout.specs.Size.{Size}
 use Rattle.pfs_layout.specs.Block.{any_time, machine_number, nothing, due_count, pair_due, due_at}
 use Rattle.pfs_layout.specs.Stand.{Block, Now, seeking, inside, lost, place_of_time, instance_of}
@@ -26,7 +26,7 @@ use Rattle.pfs_layout.proofs.Files.SizeLemmas.{size_within}
 use Rattle.pfs_layout.proofs.Reading.NumberLemmas.{holds_push, time_behind, machine_behind, Keeping, keeping_time, keeping_machine}
 
 -- the fault, or what the fields say with the number
-abbrev pub NumberOutcome : Bool → Fields → List Block → Now → List ℕ → ℕ → Fields → Option LayoutFault → Type 0
+abbrev pub NumberOutcome : Bool → Blocks → List Block → Now → List ℕ → ℕ → Blocks → Option LayoutFault → Type 0
 NumberOutcome worded r complete now more v next None = FollowsBlocks worded next (record { complete = complete; now = now }) (more ++ v ∷ [])
 NumberOutcome worded r complete now more v next (Some fault) = next ≡ refused r fault
 
@@ -42,7 +42,7 @@ sought_phase : (v : Bool) (phase : Phase) → phase ≡ (if v then phases.Seekin
 sought_phase true phase e live = e
 sought_phase false phase e live = absurd (let dead : is_live phase ≡ false = ap is_live e in cc)
 
-sought_number : {worded : Bool} (r : Fields) (complete : List Block) (more : List ℕ) (v first : ℕ) → FollowsBlocks worded r (record { complete = complete; now = seeking }) more
+sought_number : {worded : Bool} (r : Blocks) (complete : List Block) (more : List ℕ) (v first : ℕ) → FollowsBlocks worded r (record { complete = complete; now = seeking }) more
     → is_live r.phase ≡ true → length r.size_line.values ≡ 5
     → FollowsBlocks worded (number_ended r (min CEILING v) first) (record { complete = complete; now = seeking }) (more ++ v ∷ [])
 unfolding number_ended
@@ -59,7 +59,7 @@ sought_number {worded} r complete more v first f live five =
 -- ---- a number is due
 
 -- what is kept of the block that is begun
-pub keeping_of : (r : Fields) (complete : List Block) (block : Block) (more : List ℕ) → length complete < r.wanted
+pub keeping_of : (r : Blocks) (complete : List Block) (block : Block) (more : List ℕ) → length complete < r.wanted
     → r.instance ≡ option_map (instance_of r.layout) (block_of r.wanted (record { complete = complete; now = inside block }) more)
     → r.held ≡ time_count r.layout (block_of r.wanted (record { complete = complete; now = inside block }) more)
     → Keeping r.layout (length complete + 1 == r.wanted) (record { size = block.size; numbers = block.numbers ++ more }) r.instance r.held
@@ -73,7 +73,7 @@ keeping_of r complete block more few i h =
         ap (λ t. if t then (if length complete + 1 == wanted then Some (let b : Block = record { size = block.size; numbers = block.numbers ++ more } in b) else None) else slice_get complete (wanted - 1)) (lt-ltb (length complete) wanted few)
 
 -- and what that says of the block with one number more
-kept_with : (r : Fields) (complete : List Block) (block : Block) (more : List ℕ) (v : ℕ) (kept : Option Problem) (count : ℕ) → length complete < r.wanted
+kept_with : (r : Blocks) (complete : List Block) (block : Block) (more : List ℕ) (v : ℕ) (kept : Option Problem) (count : ℕ) → length complete < r.wanted
     → Keeping r.layout (length complete + 1 == r.wanted) (record { size = block.size; numbers = (block.numbers ++ more) ++ v ∷ [] }) kept count
     → (kept ≡ option_map (instance_of r.layout) (block_of r.wanted (record { complete = complete; now = inside block }) (more ++ v ∷ [])))
     × (count ≡ time_count r.layout (block_of r.wanted (record { complete = complete; now = inside block }) (more ++ v ∷ [])))
@@ -105,7 +105,7 @@ time_place OrLib size body n f more odd =
     let e : n ≡ body.judged = sym f.judged in
     rw (← m) (omega arith)
 
-time_follows : {worded : Bool} (r : Fields) (complete : List Block) (block : Block) (more : List ℕ) (v : ℕ) → FollowsBlocks worded r (record { complete = complete; now = inside block }) more
+time_follows : {worded : Bool} (r : Blocks) (complete : List Block) (block : Block) (more : List ℕ) (v : ℕ) → FollowsBlocks worded r (record { complete = complete; now = inside block }) more
     → r.body.judged < r.body.due → (r.layout ≡ OrLib → r.body.judged % 2 ≡ 1)
     → FollowsBlocks worded (counted (stored r v) (after_time r.layout r.body)) (record { complete = complete; now = inside block }) (more ++ v ∷ [])
 time_follows {worded} r complete block more v f due odd =
@@ -126,7 +126,7 @@ time_follows {worded} r complete block more v f due odd =
       held = kept.1;
     }
 
-machine_follows : {worded : Bool} (r : Fields) (complete : List Block) (block : Block) (more : List ℕ) (v : ℕ) → r.layout ≡ OrLib → FollowsBlocks worded r (record { complete = complete; now = inside block }) more
+machine_follows : {worded : Bool} (r : Blocks) (complete : List Block) (block : Block) (more : List ℕ) (v : ℕ) → r.layout ≡ OrLib → FollowsBlocks worded r (record { complete = complete; now = inside block }) more
     → r.body.judged < r.body.due → r.body.judged % 2 ≡ 0
     → FollowsBlocks worded (counted r (after_machine r.body)) (record { complete = complete; now = inside block }) (more ++ v ∷ [])
 machine_follows {worded} r complete block more v layout f due even =
@@ -154,7 +154,7 @@ machine_follows {worded} r complete block more v layout f due even =
     }
 
 -- a time is due
-time_step : {worded : Bool} (r : Fields) (complete : List Block) (block : Block) (more : List ℕ) (v first : ℕ) → FollowsBlocks worded r (record { complete = complete; now = inside block }) more
+time_step : {worded : Bool} (r : Blocks) (complete : List Block) (block : Block) (more : List ℕ) (v first : ℕ) → FollowsBlocks worded r (record { complete = complete; now = inside block }) more
     → r.body.judged < r.body.due → (r.layout ≡ OrLib → r.body.judged % 2 ≡ 1)
     → NumberOutcome worded r complete (inside block) more v (time_judged r (min CEILING v) first) (misfit any_time v first)
 time_step {worded} r complete block more v first f due odd = by_range (nat_lt LONGEST_TIME v) refl
@@ -176,7 +176,7 @@ time_step {worded} r complete block more v first f due odd = by_range (nat_lt LO
         (subst (λ z. FollowsBlocks worded z (record { complete = complete; now = inside block }) (more ++ v ∷ [])) (sym next_v) (time_follows r complete block more v f due odd))
 
 -- the number of a machine is due
-machine_step : {worded : Bool} (r : Fields) (complete : List Block) (block : Block) (more : List ℕ) (v first : ℕ) → r.layout ≡ OrLib → FollowsBlocks worded r (record { complete = complete; now = inside block }) more
+machine_step : {worded : Bool} (r : Blocks) (complete : List Block) (block : Block) (more : List ℕ) (v first : ℕ) → r.layout ≡ OrLib → FollowsBlocks worded r (record { complete = complete; now = inside block }) more
     → r.body.judged < r.body.due → r.body.judged % 2 ≡ 0
     → NumberOutcome worded r complete (inside block) more v (machine_judged r (min CEILING v) first) (misfit (machine_number r.body.machine) v first)
 machine_step {worded} r complete block more v first layout f due even = by_same (v == r.body.machine) refl
@@ -198,7 +198,7 @@ machine_step {worded} r complete block more v first layout f due even = by_same 
         (subst (λ z. FollowsBlocks worded z (record { complete = complete; now = inside block }) (more ++ v ∷ [])) (sym next) (machine_follows r complete block more v layout f due even))
 
 -- a number is due at all
-due_step : {worded : Bool} (layout : Layout) (r : Fields) (complete : List Block) (block : Block) (more : List ℕ) (v first : ℕ) → r.layout ≡ layout → FollowsBlocks worded r (record { complete = complete; now = inside block }) more
+due_step : {worded : Bool} (layout : Layout) (r : Blocks) (complete : List Block) (block : Block) (more : List ℕ) (v first : ℕ) → r.layout ≡ layout → FollowsBlocks worded r (record { complete = complete; now = inside block }) more
     → r.body.judged < r.body.due → NumberOutcome worded r complete (inside block) more v (body_judged r (min CEILING v) first) (misfit (due_at layout block.size (length block.numbers + length more)) v first)
 unfolding due_at
 due_step {worded} Taillard r complete block more v first layout f due =
@@ -258,7 +258,7 @@ unfolding due_at
 extra_step Taillard size k v first h = ap (λ t. misfit (if t then any_time else nothing) v first) (le-ltb k (size.jobs * size.machines) h)
 extra_step OrLib size k v first h = ap (λ t. misfit (if t then pair_due size k else nothing) v first) (le-ltb k (2 * (size.jobs * size.machines)) h)
 
-begun_number : {worded : Bool} (r : Fields) (complete : List Block) (block : Block) (more : List ℕ) (v first : ℕ) → FollowsBlocks worded r (record { complete = complete; now = inside block }) more
+begun_number : {worded : Bool} (r : Blocks) (complete : List Block) (block : Block) (more : List ℕ) (v first : ℕ) → FollowsBlocks worded r (record { complete = complete; now = inside block }) more
     → NumberOutcome worded r complete (inside block) more v (number_ended r (min CEILING v) first) (misfit (due_at r.layout block.size (length block.numbers + length more)) v first)
 unfolding number_ended
 begun_number {worded} r complete block more v first f = by_due (nat_lt r.body.judged r.body.due) refl
@@ -280,7 +280,7 @@ begun_number {worded} r complete block more v first f = by_due (nat_lt r.body.ju
         (ap (λ p. number_ended_in p r (min CEILING v) first) phase)
 
 -- a number more, wherever it stands
-pub number_step : {worded : Bool} (r : Fields) (complete : List Block) (now : Now) (more : List ℕ) (v first : ℕ) → FollowsBlocks worded r (record { complete = complete; now = now }) more
+pub number_step : {worded : Bool} (r : Blocks) (complete : List Block) (now : Now) (more : List ℕ) (v first : ℕ) → FollowsBlocks worded r (record { complete = complete; now = now }) more
     → is_live r.phase ≡ true → length r.size_line.values ≡ 5
     → NumberOutcome worded r complete now more v (number_ended r (min CEILING v) first) (misfit_in r.layout now more v first)
 number_step {worded} r complete seeking more v first f live five = sought_number r complete more v first f live five

@@ -14,7 +14,7 @@ use Rattle.pfs_layout.specs.declared.fault.LayoutFault.{LayoutFault}
 use Rattle.pfs_layout.specs.declared.fault.LayoutFault.TheVariants.{NoBlock, Truncated, Memory}
 use Rattle.pfs_layout.specs.declared.fields.Phase.{Phase}
 use Rattle.pfs_layout.specs.declared.fields.Phase.TheVariants as phases
-use Rattle.pfs_layout.specs.declared.fields.Fields.{Fields}
+use Rattle.pfs_layout.specs.declared.fields.Blocks.{Blocks}
 use Rattle.pfs_layout.specs.Bytes.{is_digit, is_line_end, is_word_byte}
 use Rattle.pfs_layout.specs.Lines.{lines, ended_lines, open_line, is_number_line, numbers, ended_numbers}
 use Rattle.pfs_layout.specs.Block.{due_count, stated_size, are_due}
@@ -22,13 +22,13 @@ use Rattle.pfs_layout.specs.Stand.{Block, Now, seeking, inside, lost, Stand, sta
 use Rattle.pfs_layout.specs.File.{File}
 use Rattle.pfs_layout.specs.Laws.{ExactlyOne}
 use Rattle.pfs_layout.specs.Refuse.{mixed_line, size_fault, ends_early, faults, fault_behind, refusal, accepted, Refuse}
-use Rattle.pfs_layout.specs.Step.{is_live, last_number_ended, end_fault_in, end_fault, at_end}
-use Rattle.pfs_layout.specs.Reader.{block_begun_by, block_of, FollowsBlocks, Follows, StandsIn, StandsAfter, IsReader, FinishMeets}
-use Rattle.pfs_layout.proofs.Published.PlaceLemmas.{refusal_is, refusal_end}
+use Rattle.pfs_layout.specs.Step.{is_live, number_of, last_number_ended, end_fault_in, end_fault, at_end}
+use Rattle.pfs_layout.specs.Reader.{Fields, block_begun_by, block_of, FollowsBlocks, Follows, StandsIn, StandsAfter, IsReader, FinishMeets}
+use Rattle.pfs_layout.proofs.Published.PlaceLemmas.{refusal_is}
 use Rattle.pfs_layout.proofs.Files.SoundLemmas.{GoodNow, GoodBody, stand_of, sound}
 use Rattle.pfs_layout.proofs.Files.StandLemmas.{IsBegun, Fits, made}
 use Rattle.pfs_layout.proofs.Files.GrowLemmas.{Extends, grows}
-use Rattle.pfs_layout.proofs.Files.EndLemmas.{byte_fault_refuses}
+use Rattle.pfs_layout.proofs.Files.EndLemmas.{refusal_end, byte_fault_refuses}
 use Rattle.pfs_layout.proofs.Published.LawLemmas.{accepted_law, one_verdict}
 use Rattle.pfs_layout.proofs.Reading.StepLemmas.{keeps_last, refused_memory}
 use Rattle.pfs_layout.proofs.Reading.ByteSteps.{live_few, sought_phase}
@@ -38,8 +38,8 @@ use Rattle.pfs_layout.proofs.Reading.FinishLemmas.{stand_lines, sought_fault, so
 
 -- what the end of the input is for a reader that has met no fault at a byte
 pub record EndOutcome (r : Fields) (text : List ℕ) : Type 0 where
-  pub fault : fault_behind r.layout r.wanted text None ≡ end_fault r.kinds (at_end r)
-  pub instance : end_fault r.kinds (at_end r) ≡ None → (at_end r).instance ≡ option_map (instance_of r.layout) (slice_get (stand r.layout (lines text)).complete (r.wanted - 1))
+  pub fault : fault_behind r.layout r.wanted text None ≡ end_fault r.kinds (at_end r.last r.blocks)
+  pub instance : end_fault r.kinds (at_end r.last r.blocks) ≡ None → (at_end r.last r.blocks).instance ≡ option_map (instance_of r.layout) (slice_get (stand r.layout (lines text)).complete (r.wanted - 1))
 
 sought_some : (layout : Layout) (count : ℕ) (line : List ℕ) (place : ℕ) → sought_fault layout count line place ≡ None → ⊥
 sought_some layout count line place e = by_kind (is_number_line line) e
@@ -52,8 +52,8 @@ sought_some layout count line place e = by_kind (is_number_line line) e
     by_kind true e = or_some (size_fault (stated_size layout (numbers line)) place) (Truncated 0) e
     by_kind false e = cc
 
-at_end_live : (r : Fields) → is_live r.phase ≡ true → at_end r ≡ last_number_ended r r.digits
-at_end_live r live = ap (λ t. if t then last_number_ended r r.digits else r) live
+at_end_live : (r : Fields) → is_live r.phase ≡ true → at_end r.last r.blocks ≡ last_number_ended r.blocks (number_of r.digits)
+at_end_live r live = ap (λ t. if t then last_number_ended r.blocks (number_of r.digits) else r.blocks) live
 
 live_end : (r : Fields) (text : List ℕ) → Follows r text → is_live r.phase ≡ true → EndOutcome r text
 unfolding fault_behind mixed_line
@@ -63,7 +63,7 @@ live_end r text f live = by_now (stand_of r.layout text).now refl
     complete = (stand_of r.layout text).complete
 
     few : length (stand_of r.layout text).complete < r.wanted
-    few = let c = f.blocks.complete in let l = live_few (list_any is_word_byte (open_line text)) r (stand_of r.layout text).now (ended_numbers (open_line text)) f.blocks.now live in omega arith
+    few = let c = f.blocks.complete in let l = live_few (list_any is_word_byte (open_line text)) r.blocks (stand_of r.layout text).now (ended_numbers (open_line text)) f.blocks.now live in omega arith
 
     good : GoodNow r.layout (stand_of r.layout text).now (open_line text)
     good = sound r.layout r.wanted text f.sound few
@@ -74,25 +74,25 @@ live_end r text f live = by_now (stand_of r.layout text).now refl
     standing : (now : Now) → (stand_of r.layout text).now ≡ now → stand_of r.layout text ≡ record { complete = (stand_of r.layout text).complete; now = now }
     standing now e = ap (λ n. let s : Stand = record { complete = (stand_of r.layout text).complete; now = n } in s) e
 
-    blocks_at : (now : Now) → (stand_of r.layout text).now ≡ now → FollowsBlocks (list_any is_word_byte (open_line text)) r (record { complete = (stand_of r.layout text).complete; now = now }) (ended_numbers (open_line text))
-    blocks_at now e = subst (λ s. FollowsBlocks (list_any is_word_byte (open_line text)) r s (ended_numbers (open_line text))) (standing now e) f.blocks
+    blocks_at : (now : Now) → (stand_of r.layout text).now ≡ now → FollowsBlocks (list_any is_word_byte (open_line text)) r.blocks (record { complete = (stand_of r.layout text).complete; now = now }) (ended_numbers (open_line text))
+    blocks_at now e = subst (λ s. FollowsBlocks (list_any is_word_byte (open_line text)) r.blocks s (ended_numbers (open_line text))) (standing now e) f.blocks
 
     by_now : (now : Now) → (stand_of r.layout text).now ≡ now → EndOutcome r text
     by_now seeking e =
         let worded = list_any is_word_byte (open_line text) in
-        let keeps = keeps_last r r.digits live in
-        let one = number_part worded r text (stand_of r.layout text).complete seeking live f.five_values f.last_line (blocks_at seeking e) in
-        let few_then : (last_number_ended r r.digits).complete < (last_number_ended r r.digits).wanted = (let c = f.blocks.complete in omega (arith, keeps.complete, keeps.wanted, few)) in
-        let phase = sought_phase worded (last_number_ended r r.digits) (numbers (open_line text)) one.now few_then in
+        let keeps = keeps_last r.blocks (number_of r.digits) live in
+        let one = number_part worded r.blocks r.last text (stand_of r.layout text).complete seeking live f.five_values f.last_line (blocks_at seeking e) in
+        let few_then : (last_number_ended r.blocks (number_of r.digits)).complete < (last_number_ended r.blocks (number_of r.digits)).wanted = (let c = f.blocks.complete in omega (arith, keeps.complete, keeps.wanted, few)) in
+        let phase = sought_phase worded (last_number_ended r.blocks (number_of r.digits)) (numbers (open_line text)) one.now few_then in
         let kind : (r.kinds.has_digit && not r.kinds.has_word) ≡ is_number_line (open_line text) = ap (λ t. t && not r.kinds.has_word) f.last_line.has_digit ∙ ap (λ t. list_any is_digit (open_line text) && not t) f.last_line.has_word in
-        let told : end_fault r.kinds (at_end r) ≡ sought_fault r.layout (length (stand_of r.layout text).complete) (open_line text) (1 + count_by is_line_end text) =
-        ap (end_fault r.kinds) (at_end_live r live) ∙ sought_told (last_number_ended r r.digits) (stand_of r.layout text).complete (open_line text) r.kinds (1 + count_by is_line_end text) one phase (keeps.line ∙ f.line) kind
+        let told : end_fault r.kinds (at_end r.last r.blocks) ≡ sought_fault r.layout (length (stand_of r.layout text).complete) (open_line text) (1 + count_by is_line_end text) =
+        ap (end_fault r.kinds) (at_end_live r live) ∙ sought_told (last_number_ended r.blocks (number_of r.digits)) (stand_of r.layout text).complete (open_line text) r.kinds (1 + count_by is_line_end text) one phase (keeps.line ∙ f.line) kind
         ∙ ap (λ l. sought_fault l (length (stand_of r.layout text).complete) (open_line text) (1 + count_by is_line_end text)) keeps.layout in
         record {
           fault = place ∙ ap (λ n. first_some (faults r.layout r.wanted n text None)) e ∙ sought_end r.layout r.wanted text (stand_of r.layout text).complete (standing seeking e) few ∙ sym told;
           instance = λ none. absurd (sought_some r.layout (length (stand_of r.layout text).complete) (open_line text) (1 + count_by is_line_end text) (sym told ∙ none));
         }
-    by_now (inside block) e = by_fault (number_fault r.layout (inside block) text) refl (number_part (list_any is_word_byte (open_line text)) r text (stand_of r.layout text).complete (inside block) live f.five_values f.last_line (blocks_at (inside block) e))
+    by_now (inside block) e = by_fault (number_fault r.layout (inside block) text) refl (number_part (list_any is_word_byte (open_line text)) r.blocks r.last text (stand_of r.layout text).complete (inside block) live f.five_values f.last_line (blocks_at (inside block) e))
       where
         body : GoodBody r.layout block (open_line text)
         body = subst (λ n. GoodNow r.layout n (open_line text)) e good
@@ -106,25 +106,25 @@ live_end r text f live = by_now (stand_of r.layout text).now refl
         at_place : fault_behind r.layout r.wanted text None ≡ option_or (number_fault r.layout (inside block) text) (ends_early r.layout r.wanted text None)
         at_place = place ∙ ap (λ n. first_some (faults r.layout r.wanted n text None)) e ∙ begun_end r.layout r.wanted text block
 
-        by_fault : (o : Option LayoutFault) → number_fault r.layout (inside block) text ≡ o → NumberPart (list_any is_word_byte (open_line text)) r (stand_of r.layout text).complete (inside block) (numbers (open_line text)) (last_number_ended r r.digits) o → EndOutcome r text
+        by_fault : (o : Option LayoutFault) → number_fault r.layout (inside block) text ≡ o → NumberPart (list_any is_word_byte (open_line text)) r.blocks (stand_of r.layout text).complete (inside block) (numbers (open_line text)) (last_number_ended r.blocks (number_of r.digits)) o → EndOutcome r text
         by_fault (Some fault) n o =
-            let told : end_fault r.kinds (at_end r) ≡ Some fault = ap (end_fault r.kinds) (at_end_live r live ∙ o) in
+            let told : end_fault r.kinds (at_end r.last r.blocks) ≡ Some fault = ap (end_fault r.kinds) (at_end_live r live ∙ o) in
             record {
               fault = at_place ∙ ap (λ x. option_or x (ends_early r.layout r.wanted text None)) n ∙ sym told;
               instance = λ none. absurd (let bad = sym told ∙ none in cc);
             }
         by_fault None n o =
-            let keeps = keeps_last r r.digits live in
-            let r1 = last_number_ended r r.digits in
+            let keeps = keeps_last r.blocks (number_of r.digits) live in
+            let r1 = last_number_ended r.blocks (number_of r.digits) in
             let stands : stand r1.layout (ended_lines text) ≡ record { complete = (stand_of r.layout text).complete; now = inside block } = ap (λ l. stand l (ended_lines text)) keeps.layout ∙ standing (inside block) e in
             let short_then : length block.numbers < due_count r1.layout block.size = subst (λ l. length block.numbers < due_count l block.size) (sym keeps.layout) short in
             let due : are_due r1.layout block.size (block.numbers ++ numbers (open_line text)) ≡ true = ap (λ l. are_due l block.size (block.numbers ++ numbers (open_line text))) keeps.layout ∙ due_line r.layout block text body n in
             let end : BegunEnd r1 r.kinds text = begun_told (list_any is_word_byte (open_line text)) r1 text (stand_of r.layout text).complete block r.kinds o stands short_then body.unmixed due in
-            let same : end_fault r.kinds (at_end r) ≡ end_fault r.kinds r1 = ap (end_fault r.kinds) (at_end_live r live) in
+            let same : end_fault r.kinds (at_end r.last r.blocks) ≡ end_fault r.kinds r1 = ap (end_fault r.kinds) (at_end_live r live) in
             record {
               fault = at_place ∙ ap (λ x. option_or x (ends_early r.layout r.wanted text None)) n
                   ∙ ap (λ l. ends_early l r.wanted text None) (sym keeps.layout) ∙ ap (λ k. ends_early r1.layout k text None) (sym keeps.wanted) ∙ end.early ∙ sym same;
-              instance = λ none. ap (λ (z : Fields). z.instance) (at_end_live r live) ∙ end.instance (sym same ∙ none)
+              instance = λ none. ap (λ (z : Blocks). z.instance) (at_end_live r live) ∙ end.instance (sym same ∙ none)
                   ∙ ap (λ l. option_map (instance_of l) (slice_get (stand l (lines text)).complete (r1.wanted - 1))) keeps.layout ∙ ap (λ k. option_map (instance_of r.layout) (slice_get (stand r.layout (lines text)).complete (k - 1))) keeps.wanted;
             }
     by_now lost e = absurd (subst (λ n. GoodNow r.layout n (open_line text)) e good)
@@ -134,14 +134,14 @@ done_end : (r : Fields) (text : List ℕ) → Follows r text → r.phase ≡ pha
 unfolding fault_behind
 done_end r text f e =
     let enough = done_enough r text f e in
-    let here : at_end r ≡ r = ap (λ p. if is_live p then last_number_ended r r.digits else r) e in
-    let told : end_fault r.kinds (at_end r) ≡ None = ap (end_fault r.kinds) here ∙ ap (λ p. end_fault_in p r.kinds r) e in
+    let here : at_end r.last r.blocks ≡ r.blocks = ap (λ p. if is_live p then last_number_ended r.blocks (number_of r.digits) else r.blocks) e in
+    let told : end_fault r.kinds (at_end r.last r.blocks) ≡ None = ap (end_fault r.kinds) here ∙ ap (λ p. end_fault_in p r.kinds r.blocks) e in
     let some = f.some in
     let within : r.wanted - 1 < length (stand_of r.layout text).complete = omega arith in
     let more = longer (is_empty (open_line text)) in
     record {
       fault = ap (λ t. if t then first_some (faults r.layout r.wanted (stand_of r.layout text).now text None) else None) (le-ltb (length (stand_of r.layout text).complete) r.wanted enough) ∙ sym told;
-      instance = λ none. ap (λ (z : Fields). z.instance) here ∙ f.blocks.instance
+      instance = λ none. ap (λ (z : Blocks). z.instance) here ∙ f.blocks.instance
           ∙ ap (option_map (instance_of r.layout)) (whole_block enough
           ∙ sym (ap (λ (s : Stand). slice_get s.complete (r.wanted - 1)) (stand_lines r.layout text) ∙ ap (λ bs. slice_get bs (r.wanted - 1)) more.1 ∙ slice_get-append (stand_of r.layout text).complete more.0 (r.wanted - 1) within));
     }
@@ -188,22 +188,22 @@ some_wanted layout (suc k) text b fault e = omega arith
 some_wanted layout zero text b fault e = absurd (let none = ap (λ t. if t then first_some (faults layout zero (stand layout (ended_lines text)).now text (Some b)) else None) (le-ltb (length (stand layout (ended_lines text)).complete) zero (omega arith)) in let bad = sym none ∙ e in cc)
 
 -- of a reader that has met no fault at a byte
-outcome_fault : (r : Fields) (text : List ℕ) (fault : LayoutFault) → Follows r text → EndOutcome r text → end_fault r.kinds (at_end r) ≡ Some fault → FinishMeets r text (Err fault)
+outcome_fault : (r : Fields) (text : List ℕ) (fault : LayoutFault) → Follows r text → EndOutcome r text → end_fault r.kinds (at_end r.last r.blocks) ≡ Some fault → FinishMeets r text (Err fault)
 outcome_fault r text fault f o e =
     let is : refusal r.layout text r.wanted ≡ Some fault = refusal_end r.layout r.wanted text ∙ ap (λ x. option_or x (fault_behind r.layout r.wanted text None)) f.sound ∙ o.fault ∙ e in
     meets_refused r text fault f.some ((refusal_is r.layout text r.wanted fault).0 is)
 
-outcome_none : (r : Fields) (text : List ℕ) → Follows r text → EndOutcome r text → end_fault r.kinds (at_end r) ≡ None
-    → (problem : Problem) × ((at_end r).instance ≡ Some problem) × FinishMeets r text (Ok problem)
+outcome_none : (r : Fields) (text : List ℕ) → Follows r text → EndOutcome r text → end_fault r.kinds (at_end r.last r.blocks) ≡ None
+    → (problem : Problem) × ((at_end r.last r.blocks).instance ≡ Some problem) × FinishMeets r text (Ok problem)
 unfolding accepted
 outcome_none r text f o e =
     let none : refusal r.layout text r.wanted ≡ None = refusal_end r.layout r.wanted text ∙ ap (λ x. option_or x (fault_behind r.layout r.wanted text None)) f.sound ∙ o.fault ∙ e in
-    let same : accepted r.layout text r.wanted ≡ (at_end r).instance = ap (λ x. if is_none x then option_map (instance_of r.layout) (slice_get (stand r.layout (lines text)).complete (r.wanted - 1)) else None) none ∙ sym (o.instance e) in
+    let same : accepted r.layout text r.wanted ≡ (at_end r.last r.blocks).instance = ap (λ x. if is_none x then option_map (instance_of r.layout) (slice_get (stand r.layout (lines text)).complete (r.wanted - 1)) else None) none ∙ sym (o.instance e) in
     by_verdict none same (one_verdict r.layout text r.wanted f.some)
   where
-    by_verdict : refusal r.layout text r.wanted ≡ None → accepted r.layout text r.wanted ≡ (at_end r).instance
+    by_verdict : refusal r.layout text r.wanted ≡ None → accepted r.layout text r.wanted ≡ (at_end r.last r.blocks).instance
         → (ExactlyOne (File limits r.layout text r.wanted) × ((fault : LayoutFault) → Refuse r.layout text r.wanted fault → ⊥)) ⊎ (ExactlyOne (Refuse r.layout text r.wanted) × ((problem : Problem) → File limits r.layout text r.wanted problem → ⊥))
-        → (problem : Problem) × ((at_end r).instance ≡ Some problem) × FinishMeets r text (Ok problem)
+        → (problem : Problem) × ((at_end r.last r.blocks).instance ≡ Some problem) × FinishMeets r text (Ok problem)
     by_verdict none same (inl holds) =
         let is : accepted r.layout text r.wanted ≡ Some holds.0.one = (accepted_law r.layout text r.wanted holds.0.one f.some).1 holds.0.has in
         (holds.0.one, sym same ∙ is, meets_accepted r text holds.0.one f.some holds.0.has)
@@ -211,8 +211,8 @@ outcome_none r text f o e =
 
 -- where a reader stands, the end of the input is judged so
 abbrev pub FinishTells : Fields → List ℕ → Type 0
-FinishTells r text = ((fault : LayoutFault) → end_fault r.kinds (at_end r) ≡ Some fault → FinishMeets r text (Err fault))
-    × (end_fault r.kinds (at_end r) ≡ None → (problem : Problem) × ((at_end r).instance ≡ Some problem) × FinishMeets r text (Ok problem))
+FinishTells r text = ((fault : LayoutFault) → end_fault r.kinds (at_end r.last r.blocks) ≡ Some fault → FinishMeets r text (Err fault))
+    × (end_fault r.kinds (at_end r.last r.blocks) ≡ None → (problem : Problem) × ((at_end r.last r.blocks).instance ≡ Some problem) × FinishMeets r text (Ok problem))
 
 follows_tells : (r : Fields) (text : List ℕ) → Follows r text → EndOutcome r text → FinishTells r text
 follows_tells r text f o = (λ fault e. outcome_fault r text fault f o e, λ e. outcome_none r text f o e)
@@ -226,8 +226,8 @@ finish_tells r text s = by_phase r.phase refl s
     by_phase phases.AfterLast e f = follows_tells r text f (live_end r text f (ap is_live e))
     by_phase phases.Done e f = follows_tells r text f (done_end r text f e)
     by_phase (phases.Refused fault) e f =
-        let here : at_end r ≡ r = ap (λ p. if is_live p then last_number_ended r r.digits else r) e in
-        let told : end_fault r.kinds (at_end r) ≡ Some fault = ap (end_fault r.kinds) here ∙ ap (λ p. end_fault_in p r.kinds r) e in
+        let here : at_end r.last r.blocks ≡ r.blocks = ap (λ p. if is_live p then last_number_ended r.blocks (number_of r.digits) else r.blocks) e in
+        let told : end_fault r.kinds (at_end r.last r.blocks) ≡ Some fault = ap (end_fault r.kinds) here ∙ ap (λ p. end_fault_in p r.kinds r.blocks) e in
         let some = some_wanted r.layout r.wanted f.front f.byte fault f.here in
         let refuses : Refuse r.layout text r.wanted fault = subst (λ xs. Refuse r.layout xs r.wanted fault) (append-nil text) (byte_fault_refuses r.layout r.wanted text [] fault (refused_fault r text fault f)) in
         (λ other h. meets_as other (same_some (sym told ∙ h)) (meets_refused r text fault some refuses), λ h. absurd (let bad = sym told ∙ h in cc))
@@ -241,19 +241,19 @@ finish_tells r text s = by_phase r.phase refl s
 -- a reader that is done has a file
 pub finish_done : (r : Fields) (text : List ℕ) → Follows r text → r.phase ≡ phases.Done → (problem : Problem) × File limits r.layout text r.wanted problem
 finish_done r text f e =
-    let here : at_end r ≡ r = ap (λ p. if is_live p then last_number_ended r r.digits else r) e in
-    let told : end_fault r.kinds (at_end r) ≡ None = ap (end_fault r.kinds) here ∙ ap (λ p. end_fault_in p r.kinds r) e in
+    let here : at_end r.last r.blocks ≡ r.blocks = ap (λ p. if is_live p then last_number_ended r.blocks (number_of r.digits) else r.blocks) e in
+    let told : end_fault r.kinds (at_end r.last r.blocks) ≡ None = ap (end_fault r.kinds) here ∙ ap (λ p. end_fault_in p r.kinds r.blocks) e in
     let found = outcome_none r text f (done_end r text f e) told in
     (found.0, (found.2.file found.0).0 refl)
 
 -- where the input may end here, the instance is there
-pub end_has_instance : (r : Fields) → IsReader r → end_fault r.kinds (at_end r) ≡ None → (at_end r).instance ≡ None → ⊥
+pub end_has_instance : (r : Fields) → IsReader r → end_fault r.kinds (at_end r.last r.blocks) ≡ None → (at_end r.last r.blocks).instance ≡ None → ⊥
 end_has_instance r some told none = by_memory (refused_memory r.phase)
   where
     by_memory : (r.phase ≡ phases.Refused Memory) ⊎ (r.phase ≢ phases.Refused Memory) → ⊥
     by_memory (inl e) =
-        let here : at_end r ≡ r = ap (λ p. if is_live p then last_number_ended r r.digits else r) e in
-        let refused : end_fault r.kinds (at_end r) ≡ Some Memory = ap (end_fault r.kinds) here ∙ ap (λ p. end_fault_in p r.kinds r) e in
+        let here : at_end r.last r.blocks ≡ r.blocks = ap (λ p. if is_live p then last_number_ended r.blocks (number_of r.digits) else r.blocks) e in
+        let refused : end_fault r.kinds (at_end r.last r.blocks) ≡ Some Memory = ap (end_fault r.kinds) here ∙ ap (λ p. end_fault_in p r.kinds r.blocks) e in
         (let bad = sym told ∙ refused in cc)
     by_memory (inr other) =
         let at = some.stands other in

@@ -13,7 +13,6 @@ use Rattle.pfs_layout.specs.declared.fault.LayoutFault.{LayoutFault}
 use Rattle.pfs_layout.specs.declared.fault.LayoutFault.TheVariants.{Read, Memory}
 use Rattle.pfs_layout.specs.declared.fields.Phase.{Phase}
 use Rattle.pfs_layout.specs.declared.fields.Phase.TheVariants as phases
-use Rattle.pfs_layout.specs.declared.fields.Fields.{Fields}
 use Rattle.pfs_layout.specs.declared.fields.Progress.{Progress}
 use Rattle.pfs_layout.specs.declared.reader.TheConstants.{PIECE}
 use Rattle.pfs_layout.specs.Bytes.{is_word_byte}
@@ -22,7 +21,7 @@ use Rattle.pfs_layout.specs.Stand.{stand}
 use Rattle.pfs_layout.specs.File.{File}
 use Rattle.pfs_layout.specs.Refuse.{Refuse, byte_fault}
 use Rattle.pfs_layout.specs.Step.{is_live}
-use Rattle.pfs_layout.specs.Reader.{Follows, IsRefused, StandsIn, StandsAfter, EndsWantedSize, FeedMeets, FinishMeets, IsUndecided, ReadsAsFar, Reading}
+use Rattle.pfs_layout.specs.Reader.{Fields, Follows, IsRefused, StandsIn, StandsAfter, EndsWantedSize, FeedMeets, FinishMeets, IsUndecided, ReadsAsFar, Reading}
 use Rattle.pfs_layout.proofs.Files.EndLemmas.{byte_fault_refuses, free_behind}
 use Rattle.pfs_layout.proofs.Files.InputFaults.{is_input_fault}
 use Rattle.pfs_layout.proofs.Files.SoundLemmas.{stand_of}
@@ -124,7 +123,7 @@ reading_done layout k first left next r new piece progress outcome t c m ended m
 undecided : (r : Fields) (text : List ℕ) → is_live r.phase ≡ true → StandsAfter r text → IsUndecided r.layout r.wanted text
 undecided r text live s =
     let f = live_follows r text live s in
-    let few : r.complete < r.wanted = live_few (list_any is_word_byte (open_line text)) r (stand_of r.layout text).now (ended_numbers (open_line text)) f.blocks.now live in
+    let few : r.complete < r.wanted = live_few (list_any is_word_byte (open_line text)) r.blocks (stand_of r.layout text).now (ended_numbers (open_line text)) f.blocks.now live in
     let count : r.complete ≡ length (stand r.layout (ended_lines text)).complete = f.blocks.complete in
     record { sound = f.sound; incomplete = omega arith }
 

@@ -14,85 +14,78 @@ use Rattle.pfs_layout.specs.declared.layout.Layout.{Layout}
 use Rattle.pfs_layout.specs.declared.layout.Layout.TheVariants.{Taillard, OrLib}
 use Rattle.pfs_layout.specs.declared.fault.LayoutFault.{LayoutFault}
 use Rattle.pfs_layout.specs.declared.fault.LayoutFault.TheVariants.{MixedLine}
-use Rattle.pfs_layout.specs.declared.scan.Digits.{Digits}
-use Rattle.pfs_layout.specs.declared.scan.Kinds.{Kinds}
+use Rattle.pfs_layout.specs.declared.scan.Line.{Line}
+use Rattle.pfs_layout.specs.declared.scan.Number.{Number}
 use Rattle.pfs_layout.specs.declared.fields.Phase.{Phase}
 use Rattle.pfs_layout.specs.declared.fields.Phase.TheVariants as phases
-use Rattle.pfs_layout.specs.declared.fields.Fields.{Fields}
+use Rattle.pfs_layout.specs.declared.fields.Blocks.{Blocks}
 use Rattle.pfs_layout.specs.Bytes.{is_digit, is_blank, is_line_end, is_word_byte}
 use Rattle.pfs_layout.specs.Lines.{ended_parts, open_line, numbers, ended_numbers}
 use Rattle.pfs_layout.specs.Size.{Size, is_within_limits}
 use Rattle.pfs_layout.specs.Block.{due_count}
 use Rattle.pfs_layout.specs.Stand.{Block, Now, seeking, inside, lost, Stand, stand_after, instance_of}
 use Rattle.pfs_layout.specs.Refuse.{fault_behind, byte_fault}
-use Rattle.pfs_layout.specs.Step.{is_live, is_in_block, refused, digits_after, kinds_after, number_ended, last_number_ended, line_ended, judged, with_line, stepped, CanCount, IsReady, times_in}
-use Rattle.pfs_layout.specs.Reader.{block_read, time_count, FollowsBody, FollowsNow, FollowsBlocks, Follows, StandsIn, StandsAfter, IsReader}
+use Rattle.pfs_layout.specs.Step.{is_live, is_in_block, refused, line_after, has_numbers_alone, number_of, last_number_ended, line_ended, CanCount, IsReady, times_in}
+use Rattle.pfs_layout.specs.Reader.{Fields, fields, block_read, time_count, FollowsBody, FollowsNow, FollowsBlocks, Follows, StandsIn, StandsAfter, IsReader}
 use Rattle.pfs_layout.proofs.Files.LineLemmas.{open_part-push, ended_numbers-push}
 use Rattle.pfs_layout.proofs.Published.PlaceLemmas.{byte_fault-push}
 use Rattle.pfs_layout.proofs.Files.SoundLemmas.{GoodNow, stand_of, stand_of-push, sound}
-use Rattle.pfs_layout.proofs.Reading.StepLemmas.{live-memory, keeps_last, KeepsNumbers, keeps_numbers, ends_line}
+use Rattle.pfs_layout.proofs.Reading.StepLemmas.{live-memory, keeps_last, last_numbers, ends_line}
 use Rattle.pfs_layout.proofs.Files.SizeLemmas.{size_within}
 use Rattle.pfs_layout.proofs.Reading.TableLemmas.{length-times_among}
 use Rattle.pfs_layout.proofs.Reading.NumberLemmas.{Keeping}
 use Rattle.pfs_layout.proofs.Reading.NumberSteps.{keeping_of}
 use Rattle.pfs_layout.proofs.Reading.LineSteps.{Refuses}
 use Rattle.pfs_layout.proofs.Reading.ScanLemmas.{count_push, line_push, digit-no_line_end}
-use Rattle.pfs_layout.proofs.Reading.ByteSteps.{fault_in, place_fault, live_few, ByteOutcome, digit_byte, judged_digit, judged_word, judged_blank}
+use Rattle.pfs_layout.proofs.Reading.ByteSteps.{fault_in, place_fault, live_few, ByteOutcome, digit_byte, judged, judged_digit, judged_word, judged_blank}
 use Rattle.pfs_layout.proofs.Reading.EndSteps.{word_byte, blank_byte, end_byte}
 
 -- ---- what a byte leaves as it is
 
-pub record Carries (old new : Fields) (ends : Bool) : Type 0 where
+pub record Carries (old new : Blocks) (ends : Bool) : Type 0 where
   pub layout : new.layout ≡ old.layout
   pub wanted : new.wanted ≡ old.wanted
   pub line : new.line ≡ old.line + (if ends then 1 else 0)
   pub few : new.size_line.count ≤ old.size_line.count + 1
   pub five : length new.size_line.values ≡ length old.size_line.values ⊎ (length new.size_line.values ≡ 5)
 
-carries_same : (r : Fields) (ends : Bool) → ends ≡ false → Carries r r ends
-carries_same r ends e = record { layout = refl; wanted = refl; line = let z : r.line ≡ r.line + 0 = omega arith in z ∙ ap (λ t. r.line + (if t then 1 else 0)) (sym e); few = omega arith; five = inl refl }
+carries_if : (test : Bool) (r : Blocks) (fault : LayoutFault) (ends : Bool) → ends ≡ false → Carries r (if test then refused r fault else r) ends
+carries_if true r fault true e = cc
+carries_if false r fault true e = cc
+carries_if true r fault false e = record { layout = refl; wanted = refl; line = omega arith; few = omega arith; five = inl refl }
+carries_if false r fault false e = record { layout = refl; wanted = refl; line = omega arith; few = omega arith; five = inl refl }
 
-carries_if : (test : Bool) (r : Fields) (fault : LayoutFault) (ends : Bool) → ends ≡ false → Carries r (if test then refused r fault else r) ends
-carries_if true r fault ends e = record { layout = refl; wanted = refl; line = let z : r.line ≡ r.line + 0 = omega arith in z ∙ ap (λ t. r.line + (if t then 1 else 0)) (sym e); few = omega arith; five = inl refl }
-carries_if false r fault ends e = carries_same r ends e
+carries_end : (r : Blocks) (number : Option Number) (numbers : Bool) (t : Bool) → is_live r.phase ≡ true
+    → Carries r (if t then line_ended (last_number_ended r number) numbers else last_number_ended r number) t
+carries_end r number numbers true live =
+    let keeps = keeps_last r number live in
+    let ends = ends_line (last_number_ended r number) numbers in
+    let none = ends.size_line in
+    record {
+      layout = ends.layout ∙ keeps.layout;
+      wanted = ends.wanted ∙ keeps.wanted;
+      line = ends.line ∙ ap (λ n. n + 1) keeps.line;
+      few = subst (λ l. l.count ≤ r.size_line.count + 1) (sym none) (omega arith);
+      five = inr (subst (λ l. length l.values ≡ 5) (sym none) refl);
+    }
+carries_end r number numbers false live =
+    let keeps = keeps_last r number live in
+    let ns = last_numbers r number in
+    record { layout = keeps.layout; wanted = keeps.wanted; line = keeps.line ∙ (let z : r.line ≡ r.line + 0 = omega arith in z); few = ns.few; five = inl ns.five }
 
-last_numbers : (r : Fields) (digits : Digits) → KeepsNumbers r (last_number_ended r digits)
-last_numbers r digits = by_none (digits.first == digits.offset)
+pub carries : (r : Blocks) (last : Line) (b : ℕ) → is_live r.phase ≡ true → Carries r (judged r last b) (is_line_end b)
+carries r last b live = by_digit (is_digit b) refl
   where
-    by_none : (t : Bool) → KeepsNumbers r (if t then r else number_ended r digits.value digits.first)
-    by_none true = record { few = omega arith; five = refl }
-    by_none false = keeps_numbers r digits.value digits.first
-
-pub carries : (r : Fields) (b : ℕ) → is_live r.phase ≡ true → Carries r (judged r r.digits r.kinds b) (is_line_end b)
-carries r b live = by_digit (is_digit b) refl
-  where
-    by_end : (t : Bool) → is_line_end b ≡ t → Carries r (if t then line_ended (last_number_ended r r.digits) r.kinds else last_number_ended r r.digits) t
-    by_end true e =
-        let keeps = keeps_last r r.digits live in
-        let ends = ends_line (last_number_ended r r.digits) r.kinds in
-        let none = ends.size_line in
-        record {
-          layout = ends.layout ∙ keeps.layout;
-          wanted = ends.wanted ∙ keeps.wanted;
-          line = ends.line ∙ ap (λ n. n + 1) keeps.line;
-          few = subst (λ l. l.count ≤ r.size_line.count + 1) (sym none) (omega arith);
-          five = inr (subst (λ l. length l.values ≡ 5) (sym none) refl);
-        }
-    by_end false e =
-        let keeps = keeps_last r r.digits live in
-        let ns = last_numbers r r.digits in
-        record { layout = keeps.layout; wanted = keeps.wanted; line = keeps.line ∙ (let z : r.line ≡ r.line + 0 = omega arith in z); few = ns.few; five = inl ns.five }
-
-    by_blank : (t : Bool) → is_digit b ≡ false → (is_blank b || is_line_end b) ≡ t → Carries r (judged r r.digits r.kinds b) (is_line_end b)
-    by_blank true d e = subst (λ z. Carries r z (is_line_end b)) (sym (judged_blank r r.digits r.kinds b d e)) (by_end (is_line_end b) refl)
-    by_blank false d e = subst (λ z. Carries r z (is_line_end b)) (sym (judged_word r r.digits r.kinds b d e)) (carries_if (r.kinds.has_digit && is_in_block r.phase) r (MixedLine r.digits.offset) (is_line_end b) (right_of (is_blank b) (is_line_end b) e))
+    by_blank : (t : Bool) → is_digit b ≡ false → (is_blank b || is_line_end b) ≡ t → Carries r (judged r last b) (is_line_end b)
+    by_blank true d e = subst (λ z. Carries r z (is_line_end b)) (sym (judged_blank r last b d e)) (carries_end r (number_of last.digits) (has_numbers_alone last.kinds) (is_line_end b) live)
+    by_blank false d e = subst (λ z. Carries r z (is_line_end b)) (sym (judged_word r last b d e)) (carries_if (last.kinds.has_digit && is_in_block r.phase) r (MixedLine last.digits.offset) (is_line_end b) (right_of (is_blank b) (is_line_end b) e))
       where
         right_of : (x y : Bool) → (x || y) ≡ false → y ≡ false
         right_of true y e = cc
         right_of false y e = e
 
-    by_digit : (t : Bool) → is_digit b ≡ t → Carries r (judged r r.digits r.kinds b) (is_line_end b)
-    by_digit true d = subst (λ z. Carries r z (is_line_end b)) (sym (judged_digit r r.digits r.kinds b d)) (carries_if (r.kinds.has_word && is_in_block r.phase) r (MixedLine r.digits.offset) (is_line_end b) (digit-no_line_end b d))
+    by_digit : (t : Bool) → is_digit b ≡ t → Carries r (judged r last b) (is_line_end b)
+    by_digit true d = subst (λ z. Carries r z (is_line_end b)) (sym (judged_digit r last b d)) (carries_if (last.kinds.has_word && is_in_block r.phase) r (MixedLine last.digits.offset) (is_line_end b) (digit-no_line_end b d))
     by_digit false d = by_blank (is_blank b || is_line_end b) d refl
 
 -- ---- the blocks behind a byte
@@ -141,51 +134,51 @@ word_there text b d o = ap (list_any is_word_byte) (line_on text b (right_of (is
     by_all false false false false p q = refl
 
 outcome : (r : Fields) (text : List ℕ) (b : ℕ) → Follows r text → is_live r.phase ≡ true → GoodNow r.layout (stand_of r.layout text).now (open_line text)
-    → ByteOutcome r (list_any is_word_byte (open_line (text ++ b ∷ []))) (stand_of r.layout (text ++ b ∷ [])) (ended_numbers (open_line (text ++ b ∷ []))) (judged r r.digits r.kinds b) (fault_in r.layout (stand_of r.layout text).now text b)
+    → ByteOutcome r.blocks (list_any is_word_byte (open_line (text ++ b ∷ []))) (stand_of r.layout (text ++ b ∷ [])) (ended_numbers (open_line (text ++ b ∷ []))) (judged r.blocks r.last b) (fault_in r.layout (stand_of r.layout text).now text b)
 outcome r text b f live good = by_digit (is_digit b) refl
   where
     stood : Stand
     stood = stand_of r.layout text
 
     Goal : Bool → Stand → List ℕ → Type 0
-    Goal worded stood' more = ByteOutcome r worded stood' more (judged r r.digits r.kinds b) (fault_in r.layout (stand_of r.layout text).now text b)
+    Goal worded stood' more = ByteOutcome r.blocks worded stood' more (judged r.blocks r.last b) (fault_in r.layout (stand_of r.layout text).now text b)
 
     by_end : (t : Bool) → is_digit b ≡ false → (is_blank b || is_line_end b) ≡ true → is_line_end b ≡ t
-        → ByteOutcome r (list_any is_word_byte (open_line (text ++ b ∷ []))) (stand_of r.layout (text ++ b ∷ [])) (ended_numbers (open_line (text ++ b ∷ []))) (judged r r.digits r.kinds b) (fault_in r.layout (stand_of r.layout text).now text b)
+        → ByteOutcome r.blocks (list_any is_word_byte (open_line (text ++ b ∷ []))) (stand_of r.layout (text ++ b ∷ [])) (ended_numbers (open_line (text ++ b ∷ []))) (judged r.blocks r.last b) (fault_in r.layout (stand_of r.layout text).now text b)
     by_end true d o e =
         let line = line_end text b e in
         let worded : false ≡ list_any is_word_byte (open_line (text ++ b ∷ [])) = ap (list_any is_word_byte) (sym line) in
         let more : [] ≡ ended_numbers (open_line (text ++ b ∷ [])) = sym no_numbers_yet ∙ ap ended_numbers (sym line) in
-        subst (λ w. ByteOutcome r w (stand_of r.layout (text ++ b ∷ [])) (ended_numbers (open_line (text ++ b ∷ []))) (judged r r.digits r.kinds b) (fault_in r.layout (stand_of r.layout text).now text b)) worded
-        (subst (λ s. ByteOutcome r false s (ended_numbers (open_line (text ++ b ∷ []))) (judged r r.digits r.kinds b) (fault_in r.layout (stand_of r.layout text).now text b)) (sym (stand_end r.layout text b e))
-        (subst (λ ns. ByteOutcome r false (stand_after r.layout (stand_of r.layout text) (open_line text)) ns (judged r r.digits r.kinds b) (fault_in r.layout (stand_of r.layout text).now text b)) more
-        (end_byte r text b (stand_of r.layout text).complete (stand_of r.layout text).now d e live f.five_values f.line f.last_line f.blocks good)))
+        subst (λ w. ByteOutcome r.blocks w (stand_of r.layout (text ++ b ∷ [])) (ended_numbers (open_line (text ++ b ∷ []))) (judged r.blocks r.last b) (fault_in r.layout (stand_of r.layout text).now text b)) worded
+        (subst (λ s. ByteOutcome r.blocks false s (ended_numbers (open_line (text ++ b ∷ []))) (judged r.blocks r.last b) (fault_in r.layout (stand_of r.layout text).now text b)) (sym (stand_end r.layout text b e))
+        (subst (λ ns. ByteOutcome r.blocks false (stand_after r.layout (stand_of r.layout text) (open_line text)) ns (judged r.blocks r.last b) (fault_in r.layout (stand_of r.layout text).now text b)) more
+        (end_byte r.blocks r.last text b (stand_of r.layout text).complete (stand_of r.layout text).now d e live f.five_values f.line f.last_line f.blocks good)))
     by_end false d o e =
-        subst (λ s. ByteOutcome r (list_any is_word_byte (open_line (text ++ b ∷ []))) s (ended_numbers (open_line (text ++ b ∷ []))) (judged r r.digits r.kinds b) (fault_in r.layout (stand_of r.layout text).now text b)) (sym (stand_on r.layout text b e))
-        (subst (λ ns. ByteOutcome r (list_any is_word_byte (open_line (text ++ b ∷ []))) (stand_of r.layout text) ns (judged r r.digits r.kinds b) (fault_in r.layout (stand_of r.layout text).now text b)) (sym (numbers_on text b false e d))
-        (blank_byte r text b (stand_of r.layout text).complete (stand_of r.layout text).now (list_any is_word_byte (open_line (text ++ b ∷ []))) d o e live f.five_values (words_before text b e) f.last_line f.blocks good))
+        subst (λ s. ByteOutcome r.blocks (list_any is_word_byte (open_line (text ++ b ∷ []))) s (ended_numbers (open_line (text ++ b ∷ []))) (judged r.blocks r.last b) (fault_in r.layout (stand_of r.layout text).now text b)) (sym (stand_on r.layout text b e))
+        (subst (λ ns. ByteOutcome r.blocks (list_any is_word_byte (open_line (text ++ b ∷ []))) (stand_of r.layout text) ns (judged r.blocks r.last b) (fault_in r.layout (stand_of r.layout text).now text b)) (sym (numbers_on text b false e d))
+        (blank_byte r.blocks r.last text b (stand_of r.layout text).complete (stand_of r.layout text).now (list_any is_word_byte (open_line (text ++ b ∷ []))) d o e live f.five_values (words_before text b e) f.last_line f.blocks good))
 
     by_blank : (t : Bool) → is_digit b ≡ false → (is_blank b || is_line_end b) ≡ t
-        → ByteOutcome r (list_any is_word_byte (open_line (text ++ b ∷ []))) (stand_of r.layout (text ++ b ∷ [])) (ended_numbers (open_line (text ++ b ∷ []))) (judged r r.digits r.kinds b) (fault_in r.layout (stand_of r.layout text).now text b)
+        → ByteOutcome r.blocks (list_any is_word_byte (open_line (text ++ b ∷ []))) (stand_of r.layout (text ++ b ∷ [])) (ended_numbers (open_line (text ++ b ∷ []))) (judged r.blocks r.last b) (fault_in r.layout (stand_of r.layout text).now text b)
     by_blank true d o = by_end (is_line_end b) d o refl
     by_blank false d o =
         let e : is_line_end b ≡ false = right_of (is_blank b) (is_line_end b) o in
-        subst (λ w. ByteOutcome r w (stand_of r.layout (text ++ b ∷ [])) (ended_numbers (open_line (text ++ b ∷ []))) (judged r r.digits r.kinds b) (fault_in r.layout (stand_of r.layout text).now text b)) (sym (word_there text b d o))
-        (subst (λ s. ByteOutcome r true s (ended_numbers (open_line (text ++ b ∷ []))) (judged r r.digits r.kinds b) (fault_in r.layout (stand_of r.layout text).now text b)) (sym (stand_on r.layout text b e))
-        (subst (λ ns. ByteOutcome r true (stand_of r.layout text) ns (judged r r.digits r.kinds b) (fault_in r.layout (stand_of r.layout text).now text b)) (sym (numbers_on text b false e d))
-        (word_byte r text b (stand_of r.layout text).complete (stand_of r.layout text).now d o live f.last_line f.blocks good)))
+        subst (λ w. ByteOutcome r.blocks w (stand_of r.layout (text ++ b ∷ [])) (ended_numbers (open_line (text ++ b ∷ []))) (judged r.blocks r.last b) (fault_in r.layout (stand_of r.layout text).now text b)) (sym (word_there text b d o))
+        (subst (λ s. ByteOutcome r.blocks true s (ended_numbers (open_line (text ++ b ∷ []))) (judged r.blocks r.last b) (fault_in r.layout (stand_of r.layout text).now text b)) (sym (stand_on r.layout text b e))
+        (subst (λ ns. ByteOutcome r.blocks true (stand_of r.layout text) ns (judged r.blocks r.last b) (fault_in r.layout (stand_of r.layout text).now text b)) (sym (numbers_on text b false e d))
+        (word_byte r.blocks r.last text b (stand_of r.layout text).complete (stand_of r.layout text).now d o live f.last_line f.blocks good)))
       where
         right_of : (x y : Bool) → (x || y) ≡ false → y ≡ false
         right_of true y e = cc
         right_of false y e = e
 
     by_digit : (t : Bool) → is_digit b ≡ t
-        → ByteOutcome r (list_any is_word_byte (open_line (text ++ b ∷ []))) (stand_of r.layout (text ++ b ∷ [])) (ended_numbers (open_line (text ++ b ∷ []))) (judged r r.digits r.kinds b) (fault_in r.layout (stand_of r.layout text).now text b)
+        → ByteOutcome r.blocks (list_any is_word_byte (open_line (text ++ b ∷ []))) (stand_of r.layout (text ++ b ∷ [])) (ended_numbers (open_line (text ++ b ∷ []))) (judged r.blocks r.last b) (fault_in r.layout (stand_of r.layout text).now text b)
     by_digit true d =
         let e = digit-no_line_end b d in
-        subst (λ s. ByteOutcome r (list_any is_word_byte (open_line (text ++ b ∷ []))) s (ended_numbers (open_line (text ++ b ∷ []))) (judged r r.digits r.kinds b) (fault_in r.layout (stand_of r.layout text).now text b)) (sym (stand_on r.layout text b e))
-        (subst (λ ns. ByteOutcome r (list_any is_word_byte (open_line (text ++ b ∷ []))) (stand_of r.layout text) ns (judged r r.digits r.kinds b) (fault_in r.layout (stand_of r.layout text).now text b)) (sym (numbers_on text b true e d))
-        (digit_byte r text b (stand_of r.layout text).complete (stand_of r.layout text).now (list_any is_word_byte (open_line (text ++ b ∷ []))) d live (words_before text b e) f.last_line f.blocks good))
+        subst (λ s. ByteOutcome r.blocks (list_any is_word_byte (open_line (text ++ b ∷ []))) s (ended_numbers (open_line (text ++ b ∷ []))) (judged r.blocks r.last b) (fault_in r.layout (stand_of r.layout text).now text b)) (sym (stand_on r.layout text b e))
+        (subst (λ ns. ByteOutcome r.blocks (list_any is_word_byte (open_line (text ++ b ∷ []))) (stand_of r.layout text) ns (judged r.blocks r.last b) (fault_in r.layout (stand_of r.layout text).now text b)) (sym (numbers_on text b true e d))
+        (digit_byte r.blocks r.last text b (stand_of r.layout text).complete (stand_of r.layout text).now (list_any is_word_byte (open_line (text ++ b ∷ []))) d live (words_before text b e) f.last_line f.blocks good))
     by_digit false d = by_blank (is_blank b || is_line_end b) d refl
 
 -- ---- where a reader stands
@@ -194,7 +187,7 @@ outcome r text b f live good = by_digit (is_digit b) refl
 pub stands_of : (r : Fields) (text : List ℕ) → Follows r text → StandsAfter r text
 stands_of r text f = by_now (stand_of r.layout text).now f.blocks.now
   where
-    by_now : (now : Now) → FollowsNow (list_any is_word_byte (open_line text)) r now (ended_numbers (open_line text)) → StandsIn r.phase r text
+    by_now : (now : Now) → FollowsNow (list_any is_word_byte (open_line text)) r.blocks now (ended_numbers (open_line text)) → StandsIn r.phase r text
     by_now seeking n = subst (λ p. StandsIn p r text) (sym n.0) (either (nat_lt r.complete r.wanted))
       where
         either : (t : Bool) → StandsIn (if t then phases.Seeking else phases.Done) r text
@@ -218,20 +211,11 @@ live_follows r text live s = by_phase r.phase live s
     by_phase phases.Done live s = s
     by_phase (phases.Refused fault) live s = cc
 
--- the last line matters to the blocks by its words alone
-relabel : (worded : Bool) (r : Fields) (stood : Stand) (more : List ℕ) (digits : Digits) (kinds : Kinds) → FollowsBlocks worded r stood more → FollowsBlocks worded (with_line r digits kinds) stood more
-relabel worded r stood more digits kinds f = record { complete = f.complete; now = by_now stood.now f.now; instance = f.instance; held = f.held }
-  where
-    by_now : (now : Now) → FollowsNow worded r now more → FollowsNow worded (with_line r digits kinds) now more
-    by_now seeking n = n
-    by_now (inside block) n = n
-    by_now lost n = n
-
-refuse_stands : (r next : Fields) (text : List ℕ) (b : ℕ) (fault : LayoutFault) (digits : Digits) (kinds : Kinds) → Follows r text
-    → fault_behind r.layout r.wanted text (Some b) ≡ Some fault → Refuses r fault next → StandsAfter (with_line next digits kinds) (text ++ b ∷ [])
+refuse_stands : (r : Fields) (next : Blocks) (text : List ℕ) (b : ℕ) (fault : LayoutFault) (last : Line) → Follows r text
+    → fault_behind r.layout r.wanted text (Some b) ≡ Some fault → Refuses r.blocks fault next → StandsAfter (fields last next) (text ++ b ∷ [])
 unfolding block_read
-refuse_stands r next text b fault digits kinds f here n =
-    subst (λ p. StandsIn p (with_line next digits kinds) (text ++ b ∷ [])) (sym n.phase) (record {
+refuse_stands r next text b fault last f here n =
+    subst (λ p. StandsIn p (fields last next) (text ++ b ∷ [])) (sym n.phase) (record {
       front = text;
       byte = b;
       rest = [];
@@ -241,10 +225,10 @@ refuse_stands r next text b fault digits kinds f here n =
       held = n.held ∙ f.blocks.held ∙ ap (λ k. time_count r.layout (block_read r.layout k text)) (sym n.wanted) ∙ ap (λ l. time_count l (block_read l next.wanted text)) (sym n.layout);
     })
 
-follow_stands : (r next : Fields) (text : List ℕ) (b : ℕ) → Follows r text → length text < LONGEST_INPUT
-    → fault_behind r.layout r.wanted text (Some b) ≡ None → Carries r next (is_line_end b)
+follow_stands : (r : Fields) (next : Blocks) (text : List ℕ) (b : ℕ) → Follows r text → length text < LONGEST_INPUT
+    → fault_behind r.layout r.wanted text (Some b) ≡ None → Carries r.blocks next (is_line_end b)
     → FollowsBlocks (list_any is_word_byte (open_line (text ++ b ∷ []))) next (stand_of r.layout (text ++ b ∷ [])) (ended_numbers (open_line (text ++ b ∷ [])))
-    → Follows (with_line next (digits_after r.digits b) (kinds_after r.kinds b)) (text ++ b ∷ [])
+    → Follows (fields (line_after r.last b) next) (text ++ b ∷ [])
 follow_stands r next text b f short here c blocks =
     let sound_then : byte_fault r.layout r.wanted (text ++ b ∷ []) ≡ None = byte_fault-push r.layout r.wanted text b ∙ ap (λ o. option_or o (fault_behind r.layout r.wanted text (Some b))) f.sound ∙ here in
     let count : length (text ++ b ∷ []) ≡ length text + 1 = length_push text b in
@@ -256,8 +240,7 @@ follow_stands r next text b f short here c blocks =
       line = c.line ∙ ap (λ n. n + (if is_line_end b then 1 else 0)) f.line ∙ one_more (count_by is_line_end text) (if is_line_end b then 1 else 0) ∙ ap (λ n. 1 + n) (sym (count_push text b));
       few_numbers = omega (arith, c.few, f.few_numbers);
       five_values = five c.five;
-      blocks = relabel (list_any is_word_byte (open_line (text ++ b ∷ []))) next (stand_of next.layout (text ++ b ∷ [])) (ended_numbers (open_line (text ++ b ∷ []))) (digits_after r.digits b) (kinds_after r.kinds b)
-          (subst (λ l. FollowsBlocks (list_any is_word_byte (open_line (text ++ b ∷ []))) next (stand_of l (text ++ b ∷ [])) (ended_numbers (open_line (text ++ b ∷ [])))) (sym c.layout) blocks);
+      blocks = subst (λ l. FollowsBlocks (list_any is_word_byte (open_line (text ++ b ∷ []))) next (stand_of l (text ++ b ∷ [])) (ended_numbers (open_line (text ++ b ∷ [])))) (sym c.layout) blocks;
     }
   where
     one_more : (n k : ℕ) → (1 + n) + k ≡ 1 + (n + k)
@@ -268,18 +251,21 @@ follow_stands r next text b f short here c blocks =
     five (inr e) = e
 
 -- one byte more
+abbrev pub stepped : Fields → ℕ → Fields
+stepped r b = fields (line_after r.last b) (judged r.blocks r.last b)
+
 pub step_stands : (r : Fields) (text : List ℕ) (b : ℕ) → Follows r text → is_live r.phase ≡ true → length text < LONGEST_INPUT → StandsAfter (stepped r b) (text ++ b ∷ [])
 step_stands r text b f live short =
-    let few : length (stand_of r.layout text).complete < r.wanted = (let c = f.blocks.complete in let l = live_few (list_any is_word_byte (open_line text)) r (stand_of r.layout text).now (ended_numbers (open_line text)) f.blocks.now live in omega arith) in
+    let few : length (stand_of r.layout text).complete < r.wanted = (let c = f.blocks.complete in let l = live_few (list_any is_word_byte (open_line text)) r.blocks (stand_of r.layout text).now (ended_numbers (open_line text)) f.blocks.now live in omega arith) in
     by_fault (fault_behind r.layout r.wanted text (Some b)) refl
-    (subst (λ o. ByteOutcome r (list_any is_word_byte (open_line (text ++ b ∷ []))) (stand_of r.layout (text ++ b ∷ [])) (ended_numbers (open_line (text ++ b ∷ []))) (judged r r.digits r.kinds b) o)
+    (subst (λ o. ByteOutcome r.blocks (list_any is_word_byte (open_line (text ++ b ∷ []))) (stand_of r.layout (text ++ b ∷ [])) (ended_numbers (open_line (text ++ b ∷ []))) (judged r.blocks r.last b) o)
     (sym (place_fault r.layout r.wanted text b few short)) (outcome r text b f live (sound r.layout r.wanted text f.sound few)))
   where
     by_fault : (o : Option LayoutFault) → fault_behind r.layout r.wanted text (Some b) ≡ o
-        → ByteOutcome r (list_any is_word_byte (open_line (text ++ b ∷ []))) (stand_of r.layout (text ++ b ∷ [])) (ended_numbers (open_line (text ++ b ∷ []))) (judged r r.digits r.kinds b) o
+        → ByteOutcome r.blocks (list_any is_word_byte (open_line (text ++ b ∷ []))) (stand_of r.layout (text ++ b ∷ [])) (ended_numbers (open_line (text ++ b ∷ []))) (judged r.blocks r.last b) o
         → StandsAfter (stepped r b) (text ++ b ∷ [])
-    by_fault None e o = stands_of (stepped r b) (text ++ b ∷ []) (follow_stands r (judged r r.digits r.kinds b) text b f short e (carries r b live) o)
-    by_fault (Some fault) e o = refuse_stands r (judged r r.digits r.kinds b) text b fault (digits_after r.digits b) (kinds_after r.kinds b) f e o
+    by_fault None e o = stands_of (stepped r b) (text ++ b ∷ []) (follow_stands r (judged r.blocks r.last b) text b f short e (carries r.blocks r.last b live) o)
+    by_fault (Some fault) e o = refuse_stands r (judged r.blocks r.last b) text b fault (line_after r.last b) f e o
 
 -- ---- what a live reader may do next
 
@@ -295,7 +281,7 @@ due_few : (layout : Layout) (size : Size) → is_within_limits size ≡ true →
 due_few Taillard size within = let w = size_within size within in let p = mul-le-mul w.sizes.few_jobs w.sizes.few_machines in omega arith
 due_few OrLib size within = let w = size_within size within in let p = mul-le-mul w.sizes.few_jobs w.sizes.few_machines in omega arith
 
-begun_ready : (worded : Bool) (r : Fields) (complete : List Block) (block : Block) (more : List ℕ) → FollowsBlocks worded r (record { complete = complete; now = inside block }) more → r.phase ≡ phases.Body → CanCount r
+begun_ready : (worded : Bool) (r : Blocks) (complete : List Block) (block : Block) (more : List ℕ) → FollowsBlocks worded r (record { complete = complete; now = inside block }) more → r.phase ≡ phases.Body → CanCount r
 begun_ready worded r complete block more f e = by_due (nat_lt r.body.judged r.body.due) refl f.now.0
   where
     body : FollowsBody r.layout block.size (length block.numbers + length more) r.body
@@ -332,7 +318,7 @@ begun_ready worded r complete block more f e = by_due (nat_lt r.body.judged r.bo
         }
     by_due false t p = absurd (let bad : phases.Body ≡ phases.AfterLast = sym e ∙ p in cc)
 
-can_count : (worded : Bool) (r : Fields) (complete : List Block) (now : Now) (more : List ℕ) → FollowsBlocks worded r (record { complete = complete; now = now }) more → r.phase ≡ phases.Body → CanCount r
+can_count : (worded : Bool) (r : Blocks) (complete : List Block) (now : Now) (more : List ℕ) → FollowsBlocks worded r (record { complete = complete; now = now }) more → r.phase ≡ phases.Body → CanCount r
 can_count worded r complete seeking more f e = absurd (either (nat_lt r.complete r.wanted) (sym e ∙ f.now.0))
   where
     either : (t : Bool) → phases.Body ≡ (if t then phases.Seeking else phases.Done) → ⊥
@@ -341,28 +327,27 @@ can_count worded r complete seeking more f e = absurd (either (nat_lt r.complete
 can_count worded r complete (inside block) more f e = begun_ready worded r complete block more f e
 can_count worded r complete lost more f e = absurd f.now
 
-pub follows_ready : (r : Fields) (text : List ℕ) → Follows r text → is_live r.phase ≡ true → length text < LONGEST_INPUT → IsReady r
+pub follows_ready : (r : Fields) (text : List ℕ) → Follows r text → is_live r.phase ≡ true → length text < LONGEST_INPUT → IsReady r.blocks
 follows_ready r text f live short = record {
-  can = can_count (list_any is_word_byte (open_line text)) r (stand_of r.layout text).complete (stand_of r.layout text).now (ended_numbers (open_line text)) f.blocks;
+  live = live;
+  can = can_count (list_any is_word_byte (open_line text)) r.blocks (stand_of r.layout text).complete (stand_of r.layout text).now (ended_numbers (open_line text)) f.blocks;
   count = omega (arith, f.few_numbers);
-  complete = live_few (list_any is_word_byte (open_line text)) r (stand_of r.layout text).now (ended_numbers (open_line text)) f.blocks.now live;
+  complete = live_few (list_any is_word_byte (open_line text)) r.blocks (stand_of r.layout text).now (ended_numbers (open_line text)) f.blocks.now live;
   line = omega (arith, f.line, count_by-le-length is_line_end text);
-  offset = omega (arith, f.last_line.offset);
-  value = let v = f.last_line.value in omega arith;
 }
 
 -- what the judgement of the last number needs
-pub record IsEndReady (r : Fields) : Type 0 where
+pub record IsEndReady (r : Blocks) : Type 0 where
   pub can : r.phase ≡ phases.Body → CanCount r
   pub count : r.size_line.count ≤ LONGEST_INPUT
   pub complete : r.complete < r.wanted
 
-pub end_ready : (r : Fields) (text : List ℕ) → Follows r text → is_live r.phase ≡ true → IsEndReady r
+pub end_ready : (r : Fields) (text : List ℕ) → Follows r text → is_live r.phase ≡ true → IsEndReady r.blocks
 end_ready r text f live = record {
-  can = can_count (list_any is_word_byte (open_line text)) r (stand_of r.layout text).complete (stand_of r.layout text).now (ended_numbers (open_line text)) f.blocks;
+  can = can_count (list_any is_word_byte (open_line text)) r.blocks (stand_of r.layout text).complete (stand_of r.layout text).now (ended_numbers (open_line text)) f.blocks;
   count = omega (arith, f.few_numbers, f.short);
-  complete = live_few (list_any is_word_byte (open_line text)) r (stand_of r.layout text).now (ended_numbers (open_line text)) f.blocks.now live;
+  complete = live_few (list_any is_word_byte (open_line text)) r.blocks (stand_of r.layout text).now (ended_numbers (open_line text)) f.blocks.now live;
 }
 
-pub reader_end_ready : (r : Fields) → IsReader r → is_live r.phase ≡ true → IsEndReady r
+pub reader_end_ready : (r : Fields) → IsReader r → is_live r.phase ≡ true → IsEndReady r.blocks
 reader_end_ready r some live = let s = some.stands (live-memory r.phase live) in end_ready r s.0 (live_follows r s.0 live s.1) live

@@ -1,7 +1,6 @@
 -- A reader holds no more times than the wanted block has.
 use Rattle.std.proofs.Common.{sym, subst}
-use Rattle.pfs_layout.specs.declared.fields.Fields.{Fields}
-use Rattle.pfs_layout.specs.Reader.{HoldsFew}
+use Rattle.pfs_layout.specs.Reader.{Fields, HoldsFew}
 use Rattle.pfs_layout.proofs.Reading.HeldLemmas.{holds_few}
 use Rattle.pfs_layout.proofs.reader.BlockReader.held.Goals as goal
 

@@ -1,10 +1,14 @@
 -- A new reader stands after no bytes.
-use Rattle.std.proofs.Common.{refl, []}
-use Rattle.pfs_layout.proofs.Reading.NewLemmas.{follows_new}
+use Rattle.std.proofs.Common.{[], ap}
+use Rattle.pfs_layout.specs.declared.fields.Blocks.{Blocks}
+use Rattle.pfs_layout.proofs.Reading.NewLemmas.{new_stands}
 use Rattle.pfs_layout.proofs.reader.BlockReader.new.Goals as goal
 
 pub returns-clause-stands : goal.returns-clause-stands
-returns-clause-stands c = follows_new _ (record { wanted = c.requires.some; complete = refl; offset = refl; first = refl; value = refl; has_digit = refl; has_word = refl; line = refl; phase = refl; size_line = c.new.ensures; instance = refl; held = refl })
+returns-clause-stands c = new_stands c.args.layout c.args.block c.new.result c.new-2.result c.new.ensures c.new-2.ensures c.requires.some
 
 pub invariant_of-result : goal.invariant_of-result
-invariant_of-result c = record { stands = λ other. ([], follows_new _ (record { wanted = c.requires.some; complete = refl; offset = refl; first = refl; value = refl; has_digit = refl; has_word = refl; line = refl; phase = refl; size_line = c.new.ensures; instance = refl; held = refl })); none = λ h. refl }
+invariant_of-result c = record {
+  stands = λ other. ([], new_stands c.args.layout c.args.block c.new.result c.new-2.result c.new.ensures c.new-2.ensures c.requires.some);
+  none = λ h. ap (λ (r : Blocks). r.held) c.new-2.ensures;
+}
