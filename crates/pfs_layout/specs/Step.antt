@@ -67,12 +67,15 @@ blank_event (Some number) = events.NumberEnded number
 abbrev pub mixed_if : Line → Bool → Event
 mixed_if line is_mixed = if is_mixed then events.Mixed line.digits.offset else events.Quiet
 
+abbrev pub digit_event : Line → Event
+digit_event line = mixed_if line line.kinds.has_word
+
+abbrev pub other_event : Line → ℕ → Event
+other_event line b = if is_line_end b then events.LineEnded (number_of line.digits) (has_numbers_alone line.kinds) else mixed_if line line.kinds.has_digit
+
 -- what a byte means behind the line
 abbrev pub event_of : Line → ℕ → Event
-event_of line b = if is_digit b then mixed_if line line.kinds.has_word
-    else (if is_blank b then blank_event (number_of line.digits)
-    else (if is_line_end b then events.LineEnded (number_of line.digits) (has_numbers_alone line.kinds)
-    else mixed_if line line.kinds.has_digit))
+event_of line b = if is_digit b then digit_event line else (if is_blank b then blank_event (number_of line.digits) else other_event line b)
 
 -- ---- a line that may be a size line
 

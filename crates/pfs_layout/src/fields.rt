@@ -5,7 +5,7 @@ ghost use Rattle.pfs_layout.specs.Step.{refused, is_live as live_test, is_in_blo
 ghost use Rattle.pfs_layout.specs.Reader.{fields, StandsAfter, IsReader, TakeMeets, FeedMeets, progress_of};
 
 use crate::body::Body;
-use crate::scan::{Event, Kinds, Line, Number, is_blank};
+use crate::scan::{Event, Kinds, Line, Number, is_blank, is_digit};
 use crate::size_line::{SizeLine, Stated};
 use crate::{Layout, LayoutFault};
 use pfs_base::{BaseFault, Instance, LONGEST_INPUT, LONGEST_TIME};
@@ -347,11 +347,19 @@ impl Blocks {
             → TakeMeets (fields last.old self.old) text piece.now (last.new.digits.offset - last.old.digits.offset) (fields last.new self.new) }
     {
         let mut line = *last;
-        // Digits and blanks, the most bytes, step on by themselves: so the compiler makes a short loop of each.
+        // Each branch steps on by itself: so the compiler makes a short loop of each.
         for b in piece {
             let b = *b;
-            if line.is_quiet(b) {
+            if is_digit(b) {
+                let event = line.digit_event();
                 line.push(b);
+                if let Event::Quiet = event {
+                    continue;
+                }
+                self.after(alloc, event);
+                if !self.is_live() {
+                    break;
+                }
                 continue;
             }
             if is_blank(b) {
@@ -366,7 +374,7 @@ impl Blocks {
                 }
                 continue;
             }
-            let event = line.event(b);
+            let event = line.other_event(b);
             line.push(b);
             if let Event::Quiet = event {
                 continue;

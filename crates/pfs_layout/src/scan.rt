@@ -2,7 +2,8 @@
 //! few instructions.
 ghost use Rattle.std.specs.Prelude.{◌≡◌, ◌<◌, ◌≤◌, ◌&&◌, not, true};
 ghost use Rattle.pfs_layout.specs.Bytes.{is_digit as digit_test, is_blank as blank_test};
-ghost use Rattle.pfs_layout.specs.Step.{no_line, digits_after, kinds_after, line_after, blank_after, has_numbers_alone, number_of, blank_event as blank_event_of, mixed_if as mixed_event, event_of};
+ghost use Rattle.pfs_layout.specs.Step.{no_line, digits_after, kinds_after, line_after, blank_after, has_numbers_alone, number_of};
+ghost use Rattle.pfs_layout.specs.Step.{mixed_if as mixed_event, digit_event as digit_event_of, blank_event as blank_event_of, other_event as other_event_of};
 
 use pfs_base::{GREATEST_NOTE, LONGEST_INPUT};
 
@@ -180,32 +181,12 @@ impl Line {
         };
     }
 
-    /// Whether a byte is a digit of a line without a word byte: it means nothing.
+    /// What a digit behind the line means.
     #[inline(always)]
-    pub fn is_quiet(self, b: u8) -> bool
-        ensures is { result ≡ (digit_test b && not self.kinds.has_word) }
-        ensures quiet { result ≡ true → event_of self b ≡ Event.Quiet }
+    pub fn digit_event(self) -> Event
+        ensures { result ≡ digit_event_of self }
     {
-        is_digit(b) && !self.kinds.has_word
-    }
-
-    /// What a byte behind the line means.
-    #[inline(always)]
-    pub fn event(self, b: u8) -> Event
-        ensures { result ≡ event_of self b }
-    {
-        if is_digit(b) {
-            self.mixed_if(self.kinds.has_word)
-        } else if is_blank(b) {
-            self.blank_event()
-        } else if b == LINE_END {
-            Event::LineEnded {
-                number: self.digits.number(),
-                is_number_line: self.kinds.is_number_line(),
-            }
-        } else {
-            self.mixed_if(self.kinds.has_digit)
-        }
+        self.mixed_if(self.kinds.has_word)
     }
 
     /// What a blank behind the line means.
@@ -216,6 +197,21 @@ impl Line {
         match self.digits.number() {
             Some(number) => Event::NumberEnded(number),
             None => Event::Quiet,
+        }
+    }
+
+    /// What a byte behind the line means that is no digit and no blank.
+    #[inline(always)]
+    pub fn other_event(self, b: u8) -> Event
+        ensures { result ≡ other_event_of self b }
+    {
+        if b == LINE_END {
+            Event::LineEnded {
+                number: self.digits.number(),
+                is_number_line: self.kinds.is_number_line(),
+            }
+        } else {
+            self.mixed_if(self.kinds.has_digit)
         }
     }
 

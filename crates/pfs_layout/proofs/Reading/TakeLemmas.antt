@@ -16,7 +16,7 @@ use Rattle.pfs_layout.specs.declared.fields.Blocks.{Blocks}
 use Rattle.pfs_layout.specs.Bytes.{is_word_byte, is_digit, is_blank, is_line_end}
 use Rattle.pfs_layout.specs.Lines.{ended_lines, open_line, ended_numbers}
 use Rattle.pfs_layout.specs.Stand.{Block, Now, seeking, inside, lost, Stand, stand}
-use Rattle.pfs_layout.specs.Step.{is_live, line_after, blank_after, number_of, blank_event, mixed_if, event_of, blocks_after, is_line_ended, KeepsHeld, LacksMemory, IsReady}
+use Rattle.pfs_layout.specs.Step.{is_live, line_after, blank_after, digit_event, other_event, number_of, blank_event, mixed_if, event_of, blocks_after, is_line_ended, KeepsHeld, LacksMemory, IsReady}
 use Rattle.pfs_layout.specs.Reader.{Fields, fields, block_begun_by, block_of, time_count, FollowsNow, Follows, StandsAfter, EndsWantedSize, TakeMeets}
 use Rattle.pfs_layout.proofs.Files.SoundLemmas.{stand_of}
 use Rattle.pfs_layout.proofs.Reading.StepLemmas.{live-memory, refused_memory}
@@ -167,7 +167,13 @@ ends_line_at last b e = by_kind (is_digit b) (is_blank b) (is_line_end b) refl e
     by_kind false false true is e = eqb-true b 10 is
     by_kind false false false is e = absurd (let no = no_mixed last.kinds.has_digit in cc)
 
--- ---- blanks
+-- ---- what a byte means, by its kind
+
+pub digit_means : (last : Line) (b : ℕ) → is_digit b ≡ true → event_of last b ≡ digit_event last
+digit_means last b e = ap (λ t. event_by last t (is_blank b) (is_line_end b)) e
+
+pub other_means : (last : Line) (b : ℕ) → is_digit b ≡ false → is_blank b ≡ false → event_of last b ≡ other_event last b
+other_means last b d e = ap (λ t. event_by last t (is_blank b) (is_line_end b)) d ∙ ap (λ t. event_by last false t (is_line_end b)) e
 
 -- a blank is one of three bytes
 at_blank : (P : ℕ → Type 0) → P 32 → P 9 → P 13 → (b : ℕ) → is_blank b ≡ true → P b
