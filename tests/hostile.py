@@ -23,7 +23,7 @@ MOST_SECONDS = 60
 # The limits, and how long the longest texts within them are.
 MOST_JOBS, MOST_MACHINES, LONGEST_TIME = 5_000, 200, 1_000_000_000
 LONGEST_TEXT = 14_450_028
-LONGEST_ORDER_TEXT = 50_039
+LONGEST_ORDER_TEXT = 50_044
 
 THREE = b"number of jobs\n3 2 0 0 0\n3 2 4\n2 5 1\n"
 BEST = b"order2 3 2\n2 1 3\nmakespan 10\n"
@@ -283,7 +283,8 @@ def greatest(at):
         file.writelines(ones_convert(*shop))
     check("the longest text", os.path.getsize(back) == LONGEST_TEXT, f"{os.path.getsize(back)} bytes")
     at.run("value, the longest text", ["value", "--layout", "orlib", back], ones_value(*shop), b"", 0, 4 * times)
-    text = b"order %d\n%s\nmakespan %s\n" % (MOST_JOBS, b" ".join([b"9" * 9] * MOST_JOBS), b"9" * 18)
+    jobs = b" ".join([b"9" * 9] * MOST_JOBS)
+    text = b"order2 %d %d\n%s\nmakespan %s\n" % (MOST_JOBS, MOST_MACHINES, jobs, b"9" * 18)
     check("the longest order text", len(text) == LONGEST_ORDER_TEXT, f"{len(text)} bytes")
     pathlib.Path(order).write_bytes(text)
     told = b"pfs: order file job out of range at place 1\n"

@@ -16,7 +16,7 @@ use Rattle.pfs_layout.specs.Size.{Size, is_within_limits}
 use Rattle.pfs_layout.specs.Lines.{lines, ended_lines, open_line, is_mixed, is_number_line, numbers, ended_numbers}
 use Rattle.pfs_layout.specs.Lines.{last_digits}
 use Rattle.pfs_layout.specs.Block.{Due, any_time, machine_number, nothing, stated_size, due_at}
-use Rattle.pfs_layout.specs.Stand.{Block, Now, seeking, inside, lost, Stand, stand, times_among, instance_of}
+use Rattle.pfs_layout.specs.Stand.{Block, Now, seeking, inside, lost, stand, times_among, instance_of}
 
 -- A place is told by the bytes before it and the byte at it, or None at the end.
 
@@ -87,12 +87,10 @@ faults layout k (inside block) before next =
 faults layout k lost before next = []
 
 -- the fault of a place, where the lines that are ended before it leave fewer than k blocks
-abbrev pub fault_where : Layout → ℕ → Stand → List ℕ → Option ℕ → Option LayoutFault
-fault_where layout k stood before next =
-    if nat_lt (length stood.complete) k then first_some (faults layout k stood.now before next) else None
-
 unfoldable pub fault_behind : Layout → ℕ → List ℕ → Option ℕ → Option LayoutFault
-fault_behind layout k before next = fault_where layout k (stand layout (ended_lines before)) before next
+fault_behind layout k before next =
+    let reached = stand layout (ended_lines before) in
+    if nat_lt (length reached.complete) k then first_some (faults layout k reached.now before next) else None
 
 abbrev pub fault_at : Layout → ℕ → List ℕ → ℕ → Option LayoutFault
 fault_at layout k input place = fault_behind layout k (take place input) (slice_get input place)

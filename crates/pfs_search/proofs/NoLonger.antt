@@ -15,5 +15,6 @@ pub no_longer_law : NoLongerLaw
 no_longer_law shop passes zero take jobs words = omega arith
 no_longer_law shop passes (suc rounds) take jobs words =
     let once = kept_no_longer shop jobs (after_passes shop passes (rebuilt shop jobs (front take words))) in
-    let rest = no_longer_law shop passes rounds take (after_round shop passes jobs (front take words)) (behind take words) in
+    let once_more = after_round shop passes jobs (front take words) in
+    let rest = no_longer_law shop passes rounds take once_more (behind take words) in
     omega arith

@@ -13,7 +13,8 @@ invariant-loop-job g l =
       same_shop : g.B.Bench.shop l.bench ≡ shop;
       fits : Fits (g.B.Bench.shop l.bench) (g.I.Inserter.sizes l.inserter) l.seq.size;
       counted : g.B.Bench.counted l.bench
-          ≡ g.B.Bench.counted l.fn.bench + insertions_cost g.I.Inserter.cost shop.machines (length l.fn.seq.jobs) l.job-index;
+          ≡ g.B.Bench.counted l.fn.bench
+          + insertions_cost g.I.Inserter.cost shop.machines (length l.fn.seq.jobs) l.job-index;
       together : IsSequence shop.jobs (drop l.job-index l.jobs ++ l.seq.jobs);
       count : length l.seq.jobs ≡ length l.fn.seq.jobs + l.job-index;
       order : with_jobs shop l.seq.jobs (drop l.job-index l.jobs) ≡ with_jobs shop l.fn.seq.jobs l.jobs;

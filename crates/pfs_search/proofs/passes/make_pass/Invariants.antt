@@ -12,7 +12,8 @@ invariant-loop-job g l =
     record {
       same_shop : g.B.Bench.shop l.bench ≡ shop;
       fits : Fits (g.B.Bench.shop l.bench) (g.I.Inserter.sizes l.inserter) l.seq.size;
-      counted : g.B.Bench.counted l.bench ≡ g.B.Bench.counted l.fn.bench + l.job * g.I.Inserter.cost shop.jobs shop.machines;
+      counted : g.B.Bench.counted l.bench
+          ≡ g.B.Bench.counted l.fn.bench + l.job * g.I.Inserter.cost shop.jobs shop.machines;
       count : length l.seq.jobs ≡ shop.jobs;
       order : l.seq.jobs ≡ fold (moved shop) l.fn.seq.jobs (all_jobs l.job);
       span : g.B.Span.Length.number l.span ≡ makespan shop l.seq.jobs;

@@ -12,7 +12,8 @@ invariant-loop-done g l =
     record {
       same_shop : g.B.Bench.shop l.bench ≡ shop;
       fits : Fits (g.B.Bench.shop l.bench) (g.I.Inserter.sizes l.inserter) l.seq.size;
-      counted : g.B.Bench.counted l.bench ≡ g.B.Bench.counted l.fn.bench + l._done * pass_cost_on g.I.Inserter.cost shop;
+      counted : g.B.Bench.counted l.bench
+          ≡ g.B.Bench.counted l.fn.bench + l._done * pass_cost_on g.I.Inserter.cost shop;
       count : length l.seq.jobs ≡ shop.jobs;
       order : l.seq.jobs ≡ after_passes shop l._done l.fn.seq.jobs;
       span : g.B.Span.Length.number l.span ≡ makespan shop l.seq.jobs;

@@ -17,14 +17,16 @@ best-requires-clause-absent g c =
     let rest = ap (λ (s : Sequence). s.jobs) c.remove_at.ensures.rest in
     let found = c.place_of-place.ensures in
     subst (λ js. Contains js c.args.job → ⊥) (sym rest)
-    (absent-remove c.args.seq.now.size c.place_of-place.result c.args.job c.args.seq.now.jobs c.size-size.ensures.sequence found.within (sym found.job))
+    (absent-remove c.args.seq.now.size c.place_of-place.result c.args.job c.args.seq.now.jobs
+    c.size-size.ensures.sequence found.within (sym found.job))
 
 pub insert_at-requires-clause-absent : goal.insert_at-requires-clause-absent
 insert_at-requires-clause-absent g c =
     let rest = ap (λ (s : Sequence). s.jobs) c.remove_at.ensures.rest in
     let found = c.place_of-place.ensures in
     subst (λ js. Contains js c.args.job → ⊥) (sym rest)
-    (absent-remove c.args.seq.now.size c.place_of-place.result c.args.job c.args.seq.now.jobs c.size-size.ensures.sequence found.within (sym found.job))
+    (absent-remove c.args.seq.now.size c.place_of-place.result c.args.job c.args.seq.now.jobs
+    c.size-size.ensures.sequence found.within (sym found.job))
 
 pub returns-clause-jobs : goal.returns-clause-jobs
 returns-clause-jobs g c =
@@ -36,7 +38,8 @@ returns-clause-jobs g c =
     ap (λ (s : Sequence). s.jobs) c.insert_at.ensures
     ∙ ap (λ place. insert left place job) c.in_ok-best.ensures.best.place_is
     ∙ ap (λ js. with_job shop js job) rest
-    ∙ sym (moved_is shop c.args.seq.now.size c.place_of-place.result job c.args.seq.now.jobs c.size-size.ensures.sequence found.within (sym found.job))
+    ∙ sym (moved_is shop c.args.seq.now.size c.place_of-place.result job c.args.seq.now.jobs
+    c.size-size.ensures.sequence found.within (sym found.job))
 
 pub returns-clause-count : goal.returns-clause-count
 returns-clause-count g c =

@@ -29,16 +29,22 @@ loop-place-preserved g c =
     let shop = g.B.Bench.shop c.args.bench.now in
     let place = c.loop-place.place in
     let invariant = c.loop-place.invariant in
-    let many = length c.args.seq.now.jobs + 1 in
-    let inserted : c.insert_at.new.self ≡ record { size = c.args.seq.now.size; jobs = insert c.args.seq.now.jobs place c.args.job } =
-    c.insert_at.ensures ∙ ap (λ (s : Sequence). record { size = s.size; jobs = insert s.jobs place c.args.job }) c.copy_from.ensures in
+    let count = length c.args.seq.now.jobs + 1 in
+    let inserted : c.insert_at.new.self
+    ≡ record { size = c.args.seq.now.size; jobs = insert c.args.seq.now.jobs place c.args.job } =
+    c.insert_at.ensures
+    ∙ ap (λ (s : Sequence). record { size = s.size; jobs = insert s.jobs place c.args.job }) c.copy_from.ensures in
     let jobs = ap (λ (s : Sequence). s.jobs) inserted in
-    let long = ap length jobs ∙ length-insert c.args.seq.now.jobs place c.args.job (omega (arith, c.len-place-end.ensures.value)) in
-    let cells : length c.insert_at.new.self.jobs * (g.B.Bench.shop c.loop-place.bench).machines ≡ many * shop.machines =
-    ap (λ n. n * (g.B.Bench.shop c.loop-place.bench).machines) long ∙ ap (λ (s : FlowShop). many * s.machines) invariant.same_shop in
+    let long = ap length jobs
+    ∙ length-insert c.args.seq.now.jobs place c.args.job (omega (arith, c.len-place-end.ensures.value)) in
+    let cells : length c.insert_at.new.self.jobs * (g.B.Bench.shop c.loop-place.bench).machines
+    ≡ count * shop.machines =
+    ap (λ n. n * (g.B.Bench.shop c.loop-place.bench).machines) long
+    ∙ ap (λ (s : FlowShop). count * s.machines) invariant.same_shop in
     let counted = c.in-Ok.ensures.counted in
     let so_far = invariant.counted in
-    let span = c.in-Ok.ensures.value ∙ ap (λ s. makespan s c.insert_at.new.self.jobs) invariant.same_shop ∙ ap (makespan shop) jobs in
+    let span = c.in-Ok.ensures.value ∙ ap (λ s. makespan s c.insert_at.new.self.jobs) invariant.same_shop
+    ∙ ap (makespan shop) jobs in
     record {
       same_shop = c.in-Ok.ensures.shop ∙ invariant.same_shop;
       own_jobs = ap (λ (s : Sequence). s.size) inserted ∙ c.requires.fits.seq_jobs ∙ sym c.requires.fits.own_jobs;

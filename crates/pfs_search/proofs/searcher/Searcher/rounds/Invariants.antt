@@ -22,7 +22,8 @@ invariant-loop-done g l =
       counted : g.B.Bench.counted l.bench
           ≡ g.B.Bench.counted l.fn.bench + l.done * round_cost_on g.I.Inserter.cost shop l.take l.passes;
       order_jobs : length l.kept.order ≡ (g.B.Bench.shop l.bench).jobs;
-      order : l.kept.order ≡ after_rounds shop l.passes l.done l.take l.fn.kept.order (words_of (l.done * l.take) stream);
+      order : l.kept.order
+          ≡ after_rounds shop l.passes l.done l.take l.fn.kept.order (words_of (l.done * l.take) stream);
       span : number l.kept.span ≡ makespan shop l.kept.order;
       falls : number l.kept.span ≤ number l.fn.kept.span;
       stream : g.R.Rng.stream l.rng ≡ stream_after (l.done * l.take) stream;
