@@ -100,7 +100,7 @@ def main():
             jobs = " ".join(str(job + 1) for job in order)
             each = take * (2 * len(times) - take) + passes * len(times) * (2 * len(times) - 1)
             cells = 2 * len(times[0]) * (len(times) ** 2 + rounds * each)
-            assert printed == f"order {len(order)}\n{jobs}\nmakespan {length}\ncells {cells}\n", (case, printed)
+            assert printed == f"order2 {len(order)} {len(times[0])}\n{jobs}\nmakespan {length}\ncells {cells}\n", (case, printed)
             entries.append({"file": text_of(times), "rounds": rounds, "take": take, "seed": seed, "passes": passes, "printed": printed})
     (HERE / "expected").mkdir(exist_ok=True)
     (HERE / "expected" / "searches.json").write_text(json.dumps(entries, indent=1) + "\n")

@@ -431,7 +431,7 @@ def long_lines(desk):
     check("a long number", (ELEVEN, b"", 0), desk.run(VALUE.split(" ") + ["--block", one]))
     check("a long number that is too great", usage, desk.run(VALUE.split(" ") + ["--block", "9" * LONGEST_WORD]))
     zeros = "--seed=" + "0" * (LONGEST_WORD - 7)
-    check("a long seed", (FILES["best"], b"", 0), desk.run(SOLVE.split(" ") + [zeros]))
+    check("a long seed", (FILES["best2"], b"", 0), desk.run(SOLVE.split(" ") + [zeros]))
     path = "./" * ((4_095 - 5) // 2) + "three"
     check("the longest path", (ELEVEN, b"", 0), desk.run(["value", "--layout", "taillard", path]))
 

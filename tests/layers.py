@@ -42,7 +42,7 @@ LAYERS = [
      [VALUE, SOLVE, CHECK, TABLE, CONVERT]),
     ("generate", edit("pfs_layout/src/generator.rt", "    let notes = Notes {", "seed > 0", "LayoutFault::Memory"),
      [GENERATE]),
-    ("read_order", edit("pfs_order/src/reading.rt", "    let mut seq = Seq::new(alloc, count)?;", "count > 0",
+    ("read_order", edit("pfs_order/src/reading.rt", "    let mut seq = Seq::new(alloc, head.jobs)?;", "head.jobs > 0",
                         "OrderFault::Memory"), [CHECK, TABLE]),
     ("makespan", edit("pfs_audit/src/recurrence.rt", "    let zero = bench.zero();", "machines > 0",
                       "AuditFault::Memory"), [VALUE]),

@@ -26,6 +26,8 @@ BUGS = [
     ("the bound leaves out the times behind a machine",
      ("pfs_audit/src/bounds.rt", "        sums.after[machine] = sums.after[machine].min(total - through);",
       "        sums.after[machine] = sums.after[machine].min(0);")),
+    ("an order file may state more machines than there are",
+     ("pfs_audit/src/verdicts.rt", "        && order != machines", "        && order < machines")),
     ("an order file may state a makespan of nineteen digits",
      ("pfs_order/src/reading.rt", "const GREATEST_MAKESPAN: u64 = 999_999_999_999_999_999;",
       "const GREATEST_MAKESPAN: u64 = 9_999_999_999_999_999_999;")),

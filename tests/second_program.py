@@ -10,9 +10,9 @@ import sys
 
 MOST_BYTES = 67_108_864
 MOST_ORDER_BYTES = 65_536
-MOST_JOBS = 2_000
+MOST_JOBS = 5_000
 MOST_MACHINES = 200
-MOST_TIME = 1_000_000
+MOST_TIME = 1_000_000_000
 MOST_NOTE = 4_294_967_295
 
 USAGE = b"""pfs: usage
@@ -30,6 +30,8 @@ UNREADABLE = object()
 DIGITS = re.compile(rb"[0-9]+")
 DIGIT = re.compile(rb"[0-9]")
 WORD_BYTE = re.compile(rb"[^0-9 \t\r]")
+# The names of an order file's first line, one for each version, and the limits of the numbers behind it, from 1 on.
+FIRST_LINES = {b"order": [MOST_JOBS], b"order2": [MOST_JOBS, MOST_MACHINES]}
 JOB = re.compile(rb"0|[1-9][0-9]{0,8}")
 MAKESPAN = re.compile(rb"0|[1-9][0-9]{0,17}")
 
@@ -252,7 +254,7 @@ def read_line(body, line, offset, ends):
 # Order files
 
 def read_order(text):
-    """The jobs of an order file, counted from 1, and the makespan that it states."""
+    """The jobs of an order file, counted from 1, the machines, if it states them, and the makespan that it states."""
     if text is UNREADABLE:
         raise Stop(b"pfs: order file read failed\n", 4)
     if len(text) > MOST_ORDER_BYTES:
@@ -266,7 +268,8 @@ def read_order(text):
             raise refused(b"order file job out of range at place %d", place + 1)
         if job in jobs[:place]:
             raise refused(b"order file job repeated at place %d", place + 1)
-    return jobs, int(parts[2].removeprefix(b"makespan "))
+    _, *machines = first_line(parts[0])
+    return jobs, machines[0] if machines else None, int(parts[2].removeprefix(b"makespan "))
 
 
 def longest_front(text):
@@ -287,10 +290,11 @@ def can_be_completed(front):
     if len(ended) > 3 or (len(ended) == 3 and last != b""):
         return False
     if len(ended) == 0:
-        return begins_named(last, b"order ", is_size)
-    if not ended[0].startswith(b"order ") or not is_size(ended[0][6:]):
+        return any(begins_first_line(last, name + b" ", limits) for name, limits in FIRST_LINES.items())
+    sizes = first_line(ended[0])
+    if not sizes:
         return False
-    size = int(ended[0][6:])
+    size = sizes[0]
     if len(ended) == 1:
         *jobs, last_job = last.split(b" ")
         return len(jobs) < size and all(map(JOB.fullmatch, jobs)) and bool(last_job == b"" or JOB.fullmatch(last_job))
@@ -307,8 +311,25 @@ def begins_named(line, name, is_numeral):
     return name.startswith(line) or (line.startswith(name) and bool(is_numeral(line[len(name):])))
 
 
-def is_size(digits):
-    return bool(re.fullmatch(rb"[1-9][0-9]{0,3}", digits)) and int(digits) <= MOST_JOBS
+def first_line(line):
+    """The numbers of a whole first line; a line that is none has none."""
+    name, *words = line.split(b" ")
+    limits = FIRST_LINES.get(name, [])
+    is_one = len(words) == len(limits) and all(map(is_size, words, limits))
+    return list(map(int, words)) if is_one else []
+
+
+def begins_first_line(line, name, limits):
+    """Whether a line of this name and of as many numbers as there are limits begins so."""
+    if name.startswith(line):
+        return True
+    *ended, last = line[len(name):].split(b" ")
+    return (line.startswith(name) and len(ended) < len(limits) and all(map(is_size, ended, limits))
+            and (last == b"" or is_size(last, limits[len(ended)])))
+
+
+def is_size(digits, most):
+    return bool(re.fullmatch(rb"[1-9][0-9]{0,3}", digits)) and int(digits) <= most
 
 
 # Orders, whose jobs count from 0
@@ -413,8 +434,10 @@ def numbers(values):
     return b" ".join(b"%d" % value for value in values) + b"\n"
 
 
-def order_text(order, length):
-    return b"order %d\n" % len(order) + numbers(job + 1 for job in order) + b"makespan %d\n" % length
+def order_text(order, machines, length):
+    """An order file of version 1, or of version 2 where the machines are stated."""
+    first = b"order %d\n" % len(order) if machines is None else b"order2 %d %d\n" % (len(order), machines)
+    return first + numbers(job + 1 for job in order) + b"makespan %d\n" % length
 
 
 def canonical(shop, layout):
@@ -436,7 +459,7 @@ def solved(shop, options):
     for _ in range(options[b"--rounds"]):
         words = [random.next_word() for _ in range(take)]
         order = after_round(shop, order, words, options[b"--passes"])
-    text = order_text(order, makespan(shop, order))
+    text = order_text(order, shop.machines, makespan(shop, order))
     if not options[b"--cells"]:
         return text
     cells = 2 * shop.machines * shop.jobs**2
@@ -446,10 +469,10 @@ def solved(shop, options):
     return text + b"cells %d\n" % cells
 
 
-def checked(shop, jobs, stated):
+def checked(shop, jobs, machines, stated):
     """The verdict on an order file, and the exit status."""
-    if len(jobs) != shop.jobs:
-        return wrong_size(shop, jobs)
+    if wrong := misfit(shop, jobs, machines):
+        return wrong, 1
     computed = makespan(shop, [job - 1 for job in jobs])
     if stated != computed:
         return b"wrong makespan\nstated %d\ncomputed %d\n" % (stated, computed), 1
@@ -458,13 +481,18 @@ def checked(shop, jobs, stated):
     return text + (b"optimal\n" if computed == bound else b""), 0
 
 
-def wrong_size(shop, jobs):
-    return b"wrong size\norder %d\njobs %d\n" % (len(jobs), shop.jobs), 1
-
-
-def tabled(shop, jobs):
+def misfit(shop, jobs, machines):
+    """What is told where an order doesn't fit: its size before the machines that are stated for it."""
     if len(jobs) != shop.jobs:
-        return wrong_size(shop, jobs)
+        return b"wrong size\norder %d\njobs %d\n" % (len(jobs), shop.jobs)
+    if machines not in (None, shop.machines):
+        return b"wrong machines\norder %d\nmachines %d\n" % (machines, shop.machines)
+    return b""
+
+
+def tabled(shop, jobs, machines):
+    if wrong := misfit(shop, jobs, machines):
+        return wrong, 1
     order = [job - 1 for job in jobs]
     text = b"table %d %d\n" % (shop.jobs, shop.machines)
     for job, ends in zip(order, ends_of(shop, order)):
@@ -497,8 +525,8 @@ def run(words, stdin, files):
         return solved(shop, options), 0
     if command == b"convert":
         return canonical(shop, options[b"--to"]), 0
-    jobs, stated = read_order(texts[1])
-    return checked(shop, jobs, stated) if command == b"check" else tabled(shop, jobs)
+    jobs, machines, stated = read_order(texts[1])
+    return checked(shop, jobs, machines, stated) if command == b"check" else tabled(shop, jobs, machines)
 
 
 def answer(words, stdin, files):

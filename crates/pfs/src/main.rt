@@ -3,15 +3,15 @@
 
 ghost use Rattle.std.specs.Prelude.{◌≡◌, false, IfOk};
 ghost use Rattle.pfs_base.specs.declared.limits.TheConstants.{MOST_BLOCKS};
-ghost use Rattle.pfs_desk.specs.Jobs.{IsFrom1To, IsWithinLimits};
+ghost use Rattle.pfs_desk.specs.Jobs.{AreOptions, IsFrom1To, IsWithinLimits};
 
 mod output;
 
 use crate::output::Counted;
 use pfs_base::{FromRead, Sink, ToWrite, WriteFault, put};
 use pfs_desk::{
-    DeskFault, Job, Outcome, PathText, UsageFault, plan, run_check, run_convert, run_generate,
-    run_solve, run_table, run_value, status, write_fault,
+    DeskFault, Job, Outcome, PathText, SolveOptions, UsageFault, plan, run_check, run_convert,
+    run_generate, run_solve, run_table, run_value, status, write_fault,
 };
 use pfs_layout::Layout;
 use std::fs::File;
@@ -129,10 +129,7 @@ fn run_job<W: Sink>(rt: &HostRuntime, job: &Job, writer: &mut W) -> Result<Outco
             block,
             options,
             file,
-        } => {
-            let mut file = open(rt, file)?;
-            Ok(run_solve(rt.alloc(), &mut file, *layout, *block, options, writer)?)
-        }
+        } => print_order(rt, *layout, *block, options, file, writer),
         Job::Check {
             layout,
             block,
@@ -150,10 +147,7 @@ fn run_job<W: Sink>(rt: &HostRuntime, job: &Job, writer: &mut W) -> Result<Outco
             target,
             block,
             file,
-        } => {
-            let mut file = open(rt, file)?;
-            Ok(run_convert(rt.alloc(), &mut file, *source, *target, *block, writer)?)
-        }
+        } => print_converted(rt, *source, *target, *block, file, writer),
         Job::Generate {
             jobs,
             machines,
@@ -182,6 +176,23 @@ fn print_value<W: Sink>(
         }
     };
     Ok(outcome)
+}
+
+// Prints the order that a search finds.
+fn print_order<W: Sink>(
+    rt: &HostRuntime,
+    layout: Layout,
+    block: usize,
+    options: &SolveOptions,
+    file: &PathText,
+    writer: &mut W,
+) -> Result<Outcome, Stop>
+    requires within { IsFrom1To MOST_BLOCKS block }
+    requires options { AreOptions options.now }
+    requires writing { W.has_failed writer.old ≡ false }
+{
+    let mut file = open(rt, file)?;
+    Ok(run_solve(rt.alloc(), &mut file, layout, block, options, writer)?)
 }
 
 // Prints the verdict on an order file. Both files are open before one is read.
@@ -214,6 +225,22 @@ fn print_table<W: Sink>(
 {
     let (mut file, mut orders) = (open(rt, file)?, open(rt, order_file)?);
     Ok(run_table(rt.alloc(), &mut file, layout, block, &mut orders, writer)?)
+}
+
+// Prints the instance of a file in another layout.
+fn print_converted<W: Sink>(
+    rt: &HostRuntime,
+    source: Layout,
+    target: Layout,
+    block: usize,
+    file: &PathText,
+    writer: &mut W,
+) -> Result<Outcome, Stop>
+    requires within { IsFrom1To MOST_BLOCKS block }
+    requires writing { W.has_failed writer.old ≡ false }
+{
+    let mut file = open(rt, file)?;
+    Ok(run_convert(rt.alloc(), &mut file, source, target, block, writer)?)
 }
 
 fn open(rt: &HostRuntime, path: &PathText) -> Result<FromRead<File>, Stop>

@@ -1,18 +1,33 @@
--- The verdict on an order and the makespan that is stated for it.
-use Rattle.std.specs.Prelude.{length, nat_eq, if◌then◌else◌}
+-- The verdict on an order and on what is stated for it.
+use Rattle.std.specs.Prelude.{◌≡◌, ℕ, length, nat_eq, Option, Some, None, IfSome, if◌then◌else◌}
 use Rattle.pfs_base.specs.FlowShop.{FlowShop}
 use Rattle.pfs_base.specs.Paths.{makespan}
 use Rattle.pfs_order.specs.Sequence.{StatedOrder}
 use Rattle.pfs_audit.specs.Bound.{bound_of}
 use Rattle.pfs_audit.specs.declared.verdicts.Verdict.{Verdict}
-use Rattle.pfs_audit.specs.declared.verdicts.Verdict.TheVariants.{Valid, WrongSize, WrongMakespan}
+use Rattle.pfs_audit.specs.declared.verdicts.Verdict.TheVariants.{Valid, WrongSize, WrongMachines, WrongMakespan}
 
--- the verdict on an order of the right size
+-- the order has as many jobs as there are, and no other number of machines is stated for it
+pub record Fits (shop : FlowShop) (file : StatedOrder) : Type 0 where
+  pub jobs : length file.order ≡ shop.jobs
+  pub machines : IfSome file.machines (λ stated. stated ≡ shop.machines)
+
+-- the verdict on an order that fits
 abbrev pub verdict_on_order : FlowShop → StatedOrder → Verdict
 verdict_on_order shop file =
-    if nat_eq file.makespan (makespan shop file.order) then Valid file.makespan (bound_of shop) else WrongMakespan file.makespan (makespan shop file.order)
+    if nat_eq file.makespan (makespan shop file.order)
+    then Valid file.makespan (bound_of shop)
+    else WrongMakespan file.makespan (makespan shop file.order)
 
--- the size is judged first, then the makespan
+-- the verdict on an order of the right size, for which this number of machines is stated, or none
+abbrev pub verdict_on_machines : FlowShop → StatedOrder → Option ℕ → Verdict
+verdict_on_machines shop file None = verdict_on_order shop file
+verdict_on_machines shop file (Some stated) =
+    if nat_eq stated shop.machines then verdict_on_order shop file else WrongMachines stated shop.machines
+
+-- the size is judged first, then a number of machines that is stated, then the makespan
 abbrev pub verdict_on : FlowShop → StatedOrder → Verdict
 verdict_on shop file =
-    if nat_eq (length file.order) shop.jobs then verdict_on_order shop file else WrongSize (length file.order) shop.jobs
+    if nat_eq (length file.order) shop.jobs
+    then verdict_on_machines shop file file.machines
+    else WrongSize (length file.order) shop.jobs

@@ -1,8 +1,8 @@
 //! What the definitions say of some shops.
-ghost use Rattle.std.specs.Prelude.{◌≡◌, [], ◌∷◌};
+ghost use Rattle.std.specs.Prelude.{◌≡◌, [], ◌∷◌, Some, None};
 ghost use Rattle.pfs_base.specs.Paths.{makespan};
 ghost use Rattle.pfs_audit.specs.Bound.{bound_of};
-ghost use Rattle.pfs_audit.specs.Examples.{three_jobs, unit_times, table_of};
+ghost use Rattle.pfs_audit.specs.Examples.{three_jobs, unit_times, stated, table_of};
 ghost use Rattle.pfs_audit.specs.Schedule.{least_end, least_start};
 ghost use Rattle.pfs_audit.specs.Verdicts.{verdict_on};
 
@@ -25,8 +25,11 @@ pub fn schedule()
 
 /// Verdicts of each kind.
 pub fn verdicts()
-    ensures shortest { verdict_on three_jobs (record { order = 1 ∷ 0 ∷ 2 ∷ []; makespan = 10 }) ≡ Verdict.Valid 10 10 }
-    ensures longer { verdict_on three_jobs (record { order = 0 ∷ 1 ∷ 2 ∷ []; makespan = 11 }) ≡ Verdict.Valid 11 10 }
-    ensures wrong { verdict_on three_jobs (record { order = 1 ∷ 0 ∷ 2 ∷ []; makespan = 9 }) ≡ Verdict.WrongMakespan 9 10 }
-    ensures size { verdict_on three_jobs (record { order = 1 ∷ 0 ∷ []; makespan = 10 }) ≡ Verdict.WrongSize 2 3 }
+    ensures shortest { verdict_on three_jobs (stated (1 ∷ 0 ∷ 2 ∷ []) None 10) ≡ Verdict.Valid 10 10 }
+    ensures longer { verdict_on three_jobs (stated (0 ∷ 1 ∷ 2 ∷ []) None 11) ≡ Verdict.Valid 11 10 }
+    ensures wrong { verdict_on three_jobs (stated (1 ∷ 0 ∷ 2 ∷ []) None 9) ≡ Verdict.WrongMakespan 9 10 }
+    ensures size { verdict_on three_jobs (stated (1 ∷ 0 ∷ []) None 10) ≡ Verdict.WrongSize 2 3 }
+    ensures for_two { verdict_on three_jobs (stated (1 ∷ 0 ∷ 2 ∷ []) (Some 2) 10) ≡ Verdict.Valid 10 10 }
+    ensures for_three { verdict_on three_jobs (stated (1 ∷ 0 ∷ 2 ∷ []) (Some 3) 9) ≡ Verdict.WrongMachines 3 2 }
+    ensures size_first { verdict_on three_jobs (stated (0 ∷ 1 ∷ []) (Some 3) 9) ≡ Verdict.WrongSize 2 3 }
 {}

@@ -1,8 +1,8 @@
 //! The verdict on an order file.
-ghost use Rattle.std.specs.Prelude.{◌≡◌, ℕ, length, IfOk};
+ghost use Rattle.std.specs.Prelude.{◌≡◌, ℕ, IfOk};
 ghost use Rattle.pfs_base.specs.Paths.{makespan};
 ghost use Rattle.pfs_audit.specs.Bound.{IsLowerBound};
-ghost use Rattle.pfs_audit.specs.Verdicts.{verdict_on};
+ghost use Rattle.pfs_audit.specs.Verdicts.{Fits, verdict_on};
 
 use crate::bounds::bound;
 use crate::fault::AuditFault;
@@ -18,16 +18,20 @@ pub enum Verdict {
     Valid { makespan: u64, bound: u64 },
     /// The order has another number of jobs than the instance.
     WrongSize { order: usize, jobs: usize },
+    /// The order file states another number of machines than the instance has.
+    WrongMachines { order: usize, machines: usize },
     /// The stated makespan isn't the one that was computed for the order.
     WrongMakespan { stated: u64, computed: u64 },
 }
 
-/// Judges an order file: first the size of its order, then the makespan that it states. It asks for the
-/// memory of `makespan`, and for none where the size is wrong.
+/// Judges an order file: first the size of its order, then the number of machines where it states one, then
+/// the makespan that it states. It asks for the memory of `makespan`, and for none where the size or the
+/// number of machines is wrong.
 pub fn check(alloc: Global, instance: &Instance, file: &OrderFile) -> Result<Verdict, AuditFault>
     ensures verdict { IfOk result (λ verdict. verdict ≡ verdict_on instance.now.shop file.now) }
-    ensures shortest { IfOk result (λ verdict. (most : ℕ) → verdict ≡ Verdict.Valid most most → IsLowerBound instance.now.shop (makespan instance.now.shop file.now.order)) }
-    ensures size_first { result ≡ Err AuditFault.Memory → length file.now.order ≡ instance.now.shop.jobs }
+    ensures shortest { IfOk result (λ verdict. (most : ℕ) → verdict ≡ Verdict.Valid most most
+        → IsLowerBound instance.now.shop (makespan instance.now.shop file.now.order)) }
+    ensures sizes_first { result ≡ Err AuditFault.Memory → Fits instance.now.shop file.now }
 {
     let order = file.order();
     let jobs = instance.jobs();
@@ -36,6 +40,12 @@ pub fn check(alloc: Global, instance: &Instance, file: &OrderFile) -> Result<Ver
             order: order.len(),
             jobs,
         });
+    }
+    let machines = instance.machines();
+    if let Some(order) = file.machines()
+        && order != machines
+    {
+        return Ok(Verdict::WrongMachines { order, machines });
     }
     let mut bench = instance.metered();
     let span = makespan(alloc, &mut bench, order.seq())?;

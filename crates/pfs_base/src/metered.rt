@@ -114,11 +114,12 @@ impl Shop for Metered<'_> {
 }
 
 impl<'a> Metered<'a> {
-    /// A bench that has counted no cell. The times are those of job 0 on each machine, then those of
-    /// job 1, and so on.
+    // A bench that has counted no cell. The times are those of job 0 on each machine, then those of
+    // job 1, and so on.
     pub(crate) fn new(jobs: usize, machines: usize, times: &'a [u32]) -> Metered<'a>
         requires { IsWithin limits (record { jobs = jobs; machines = machines; times = times.now }) }
-        ensures shop { ⟦<Metered<'a> as Bench>⟧.shop result ≡ record { jobs = jobs; machines = machines; times = times.now } }
+        ensures shop { ⟦<Metered<'a> as Bench>⟧.shop result
+            ≡ record { jobs = jobs; machines = machines; times = times.now } }
         ensures counted { ⟦<Metered<'a> as Bench>⟧.counted result ≡ 0 }
     {
         Metered {
@@ -149,7 +150,8 @@ fn greater(a: u64, b: u64) -> u64
 }
 
 // The greatest sum of two lengths that stand at the same place of two rows. Whole chunks of four are added
-// and compared lane by lane, and what is left over length by length.
+// and compared lane by lane, and what is left over length by length, in a loop of which the compiler knows that
+// it has at most three turns, so that it makes no lanes of it.
 #[inline(always)]
 fn greatest_sum(a: &[Span], b: &[Span]) -> u64
     requires equal { length a.now ≡ length b.now }
@@ -161,8 +163,9 @@ fn greatest_sum(a: &[Span], b: &[Span]) -> u64
         lanes = lanes.simd_max(lanes_of(a, 4 * chunk) + lanes_of(b, 4 * chunk));
     }
     let mut most = greatest_lane(lanes);
-    for place in a.len() - a.len() % 4..a.len() {
-        most = greater(most, sum(a[place], b[place]));
+    let whole = a.len() - a.len() % 4;
+    for left in 0..a.len() % 4 {
+        most = greater(most, sum(a[whole + left], b[whole + left]));
     }
     most
 }

@@ -25,7 +25,10 @@ use std::{env, io};
 
 const FILE: &[u8] = b"title :\n3 2 0 0 0\nprocessing times :\n3 2 4\n2 5 1\n";
 
-const ORDER: &[u8] = b"order 3\n2 1 3\nmakespan 10\n";
+const ORDER: &[u8] = b"order2 3 2\n2 1 3\nmakespan 10\n";
+
+/// The same order for another number of machines.
+const OTHER_MACHINES: &[u8] = b"order2 3 3\n2 1 3\nmakespan 10\n";
 
 const NOTES: Notes = Notes {
     seed: 0,
@@ -139,7 +142,8 @@ fn answer_of(rt: &HostRuntime, name: &str) -> Result<(), Stop> {
         "read_order" => read_order_call(rt),
         "makespan" => makespan_call(rt),
         "table" => table_call(rt),
-        "check" => check_call(rt),
+        "check" => check_call(rt, ORDER),
+        "check_machines" => check_call(rt, OTHER_MACHINES),
         "afresh" => afresh_call(rt),
         "heads_tails" => heads_tails_call(rt),
         "neh" => neh_call(rt),
@@ -149,7 +153,8 @@ fn answer_of(rt: &HostRuntime, name: &str) -> Result<(), Stop> {
         "search" => search_call(rt),
         "run_value" => run_value_call(rt),
         "run_check" => run_check_call(rt),
-        "run_table" => run_table_call(rt),
+        "run_table" => run_table_call(rt, ORDER),
+        "run_table_machines" => run_table_call(rt, OTHER_MACHINES),
         "run_solve" => run_solve_call(rt),
         "run_convert" => run_convert_call(rt),
         "run_generate" => run_generate_call(rt),
@@ -171,8 +176,8 @@ fn three_jobs(alloc: Global) -> Result<Instance, Stop>
     Ok(instance)
 }
 
-fn read_the_order(alloc: Global) -> Result<OrderFile, Stop> {
-    Ok(read_order(alloc, &mut FromRead::new(ORDER))?)
+fn read_the_order(alloc: Global, text: &[u8]) -> Result<OrderFile, Stop> {
+    Ok(read_order(alloc, &mut FromRead::new(text))?)
 }
 
 fn instance_call(rt: &HostRuntime) -> Result<(), Stop> {
@@ -249,8 +254,12 @@ fn identity_call(rt: &HostRuntime) -> Result<(), Stop> {
 }
 
 fn read_order_call(rt: &HostRuntime) -> Result<(), Stop> {
-    let file = read_the_order(rt.alloc())?;
-    println!(rt; "{} jobs, makespan {}", file.order().len(), file.makespan())?;
+    let file = read_the_order(rt.alloc(), ORDER)?;
+    let (jobs, machines) = (file.order().len(), file.machines());
+    println!(rt;
+        "{jobs} jobs, {machines:?} machines, makespan {}",
+        file.makespan()
+    )?;
     Ok(())
 }
 
@@ -299,9 +308,9 @@ fn table_call(rt: &HostRuntime) -> Result<(), Stop> {
     Ok(())
 }
 
-fn check_call(rt: &HostRuntime) -> Result<(), Stop> {
+fn check_call(rt: &HostRuntime, order: &[u8]) -> Result<(), Stop> {
     let instance = three_jobs(rt.alloc())?;
-    let file = read_the_order(rt.alloc())?;
+    let file = read_the_order(rt.alloc(), order)?;
     let verdict = match check(rt.alloc(), &instance, &file) {
         Ok(verdict) => verdict,
         Err(AuditFault::Memory) => {
@@ -311,6 +320,9 @@ fn check_call(rt: &HostRuntime) -> Result<(), Stop> {
     };
     match verdict {
         Verdict::Valid { makespan, bound } => println!(rt; "valid {makespan} {bound}")?,
+        Verdict::WrongMachines { order, machines } => {
+            println!(rt; "wrong machines {order} {machines}")?
+        }
         Verdict::WrongSize { .. } | Verdict::WrongMakespan { .. } => println!(rt; "wrong")?,
     }
     Ok(())
@@ -347,9 +359,9 @@ fn run_check_call(rt: &HostRuntime) -> Result<(), Stop> {
     print_fault(rt, answer)
 }
 
-fn run_table_call(rt: &HostRuntime) -> Result<(), Stop> {
+fn run_table_call(rt: &HostRuntime, order: &[u8]) -> Result<(), Stop> {
     let mut reader = FromRead::new(FILE);
-    let mut orders = FromRead::new(ORDER);
+    let mut orders = FromRead::new(order);
     let mut writer = ToWrite::new(io::writer(rt));
     let answer = run_table(
         rt.alloc(),

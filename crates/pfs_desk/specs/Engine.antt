@@ -17,7 +17,7 @@ use Rattle.pfs_order.specs.Sequence.{StatedOrder}
 use Rattle.pfs_order.specs.OrderFile.{IsOrderFile, ReadsOrderAsFar, RefusesUnlessFailed}
 use Rattle.pfs_order.specs.declared.fault.OrderFault.{OrderFault}
 use Rattle.pfs_order.specs.declared.fault.OrderFault.TheVariants as order_faults
-use Rattle.pfs_audit.specs.Verdicts.{verdict_on}
+use Rattle.pfs_audit.specs.Verdicts.{Fits, verdict_on}
 use Rattle.pfs_desk.specs.declared.fault.Outcome.{Outcome}
 use Rattle.pfs_desk.specs.declared.fault.Outcome.TheVariants.{Done}
 use Rattle.pfs_desk.specs.declared.fault.DeskFault.{DeskFault}
@@ -101,10 +101,11 @@ abbrev pub WantsBehindFirst : Layout → Option (List ℕ) → ℕ → DeskFault
 WantsBehindFirst layout file block faults.Memory = (problem : Problem) × Holds layout file block problem
 WantsBehindFirst layout file block others = ⊤
 
--- memory is asked for behind both files, and the order file states an order
+-- memory is asked for behind both files, and the order file states an order that fits the instance
 abbrev pub WantsBehindSecond : Layout → Option (List ℕ) → ℕ → Option (List ℕ) → DeskFault → Type 0
 WantsBehindSecond layout file block order_file faults.Memory =
     (problem : Problem) × (stated : StatedOrder) × Holds layout file block problem × States order_file stated
+    × Fits problem.shop stated
 WantsBehindSecond layout file block order_file others = ⊤
 
 -- a block of the instance file holds a problem with fewer jobs than are to be taken out in a round
@@ -197,4 +198,4 @@ pub record TableOutput (layout : Layout) (file : Option (List ℕ)) (block : ℕ
   pub stated : StatedOrder
   pub holds : Holds layout file block problem
   pub states : States order_file stated
-  pub prints : TablePrints problem.shop stated.order outcome text
+  pub prints : TablePrints problem.shop stated outcome text

@@ -95,10 +95,14 @@ AsksForJob names word words (job.Generate jobs machines seed) = (word ≡ codes 
 abbrev pub IsFrom1To : ℕ → ℕ → Type 0
 IsFrom1To most number = (1 ≤ number) × (number ≤ most)
 
+-- what a search is asked for is within the limits
+abbrev pub AreOptions : SolveOptions → Type 0
+AreOptions options = (options.rounds ≤ MOST_ROUNDS) × IfSome options.take (IsFrom1To MOST_JOBS) × (options.passes ≤ MOST_PASSES)
+
 -- a job's numbers are within the limits; a generator's seed may be out of its own
 abbrev pub IsWithinLimits : Job → Type 0
 IsWithinLimits (job.Value layout block file) = IsFrom1To MOST_BLOCKS block
-IsWithinLimits (job.Solve layout block options file) = IsFrom1To MOST_BLOCKS block × (options.rounds ≤ MOST_ROUNDS) × IfSome options.take (IsFrom1To MOST_JOBS) × (options.passes ≤ MOST_PASSES)
+IsWithinLimits (job.Solve layout block options file) = IsFrom1To MOST_BLOCKS block × AreOptions options
 IsWithinLimits (job.Check layout block file order_file) = IsFrom1To MOST_BLOCKS block
 IsWithinLimits (job.Table layout block file order_file) = IsFrom1To MOST_BLOCKS block
 IsWithinLimits (job.Convert source target block file) = IsFrom1To MOST_BLOCKS block

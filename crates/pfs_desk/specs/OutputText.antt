@@ -1,14 +1,16 @@
 -- What each command prints.
-use Rattle.std.specs.Prelude.{◌≡◌, ◌≢◌, ℕ, ◌+◌, ◌<◌, nat_eq, List, [], ◌∷◌, ◌++◌, length, slice_index, if◌then◌else◌, codes}
+use Rattle.std.specs.Prelude.{◌≡◌, ◌≢◌, ℕ, ◌+◌, ◌<◌, nat_eq, List, [], ◌∷◌, ◌++◌, length, slice_index, Some}
+use Rattle.std.specs.Prelude.{if◌then◌else◌, codes}
 use Rattle.std.specs.List.{flat_map}
 use Rattle.pfs_base.specs.FlowShop.{FlowShop}
 use Rattle.pfs_base.specs.Lists.{below}
 use Rattle.pfs_base.specs.Paths.{makespan}
 use Rattle.pfs_base.specs.Text.{with_line_end, spaced, named_number}
-use Rattle.pfs_order.specs.Sequence.{all_jobs}
+use Rattle.pfs_order.specs.Sequence.{StatedOrder, all_jobs}
 use Rattle.pfs_audit.specs.Schedule.{Timing, start_in, end_in, end_of, last_end, IsLeastSchedule}
+use Rattle.pfs_audit.specs.Verdicts.{Fits}
 use Rattle.pfs_audit.specs.declared.verdicts.Verdict.{Verdict}
-use Rattle.pfs_audit.specs.declared.verdicts.Verdict.TheVariants.{Valid, WrongSize, WrongMakespan}
+use Rattle.pfs_audit.specs.declared.verdicts.Verdict.TheVariants.{Valid, WrongSize, WrongMachines, WrongMakespan}
 use Rattle.pfs_desk.specs.declared.fault.Outcome.{Outcome}
 use Rattle.pfs_desk.specs.declared.fault.Outcome.TheVariants.{Done, CheckFailed}
 
@@ -28,15 +30,20 @@ valid_text makespan bound = finding (codes "valid") (codes "makespan") makespan 
 abbrev pub wrong_size_text : ℕ → ℕ → List ℕ
 wrong_size_text order jobs = finding (codes "wrong size") (codes "order") order (codes "jobs") jobs
 
+abbrev pub wrong_machines_text : ℕ → ℕ → List ℕ
+wrong_machines_text order machines = finding (codes "wrong machines") (codes "order") order (codes "machines") machines
+
 abbrev pub verdict_text : Verdict → List ℕ
 verdict_text (Valid makespan bound) = valid_text makespan bound
 verdict_text (WrongSize order jobs) = wrong_size_text order jobs
+verdict_text (WrongMachines order machines) = wrong_machines_text order machines
 verdict_text (WrongMakespan stated computed) = finding (codes "wrong makespan") (codes "stated") stated (codes "computed") computed
 
--- a check fails exactly where the size or the makespan is wrong
+-- a check fails exactly where the size, the number of machines or the makespan is wrong
 abbrev pub outcome_of : Verdict → Outcome
 outcome_of (Valid makespan bound) = Done
 outcome_of (WrongSize order jobs) = CheckFailed
+outcome_of (WrongMachines order machines) = CheckFailed
 outcome_of (WrongMakespan stated computed) = CheckFailed
 
 -- the job at a row, counted from 1, and its starts and ends, machine by machine
@@ -56,7 +63,11 @@ pub record IsLeastTable (shop : FlowShop) (order : List ℕ) (timing : Timing) :
   pub ends : (row machine : ℕ) → row < length order → machine < shop.machines → end_in timing row machine ≡ end_of shop order (start_in timing) row machine
   pub makespan : last_end timing ≡ makespan shop order
 
--- an order's table, or that the order has a wrong size
-pub record TablePrints (shop : FlowShop) (order : List ℕ) (outcome : Outcome) (text : List ℕ) : Type 0 where
-  pub right : length order ≡ shop.jobs → (outcome ≡ Done) × ((timing : Timing) × IsLeastTable shop order timing × (text ≡ table_text timing))
-  pub wrong : length order ≢ shop.jobs → (outcome ≡ CheckFailed) × (text ≡ wrong_size_text (length order) shop.jobs)
+-- the table of an order that fits, or that the order has a wrong size, or else that wrong machines are stated for it
+pub record TablePrints (shop : FlowShop) (file : StatedOrder) (outcome : Outcome) (text : List ℕ) : Type 0 where
+  pub fits : Fits shop file
+      → (outcome ≡ Done) × ((timing : Timing) × IsLeastTable shop file.order timing × (text ≡ table_text timing))
+  pub wrong_size : length file.order ≢ shop.jobs
+      → (outcome ≡ CheckFailed) × (text ≡ wrong_size_text (length file.order) shop.jobs)
+  pub wrong_machines : length file.order ≡ shop.jobs → (stated : ℕ) → file.machines ≡ Some stated
+      → stated ≢ shop.machines → (outcome ≡ CheckFailed) × (text ≡ wrong_machines_text stated shop.machines)

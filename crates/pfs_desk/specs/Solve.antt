@@ -38,10 +38,11 @@ abbrev pub rounds_cells : FlowShop → ℕ → ℕ → ℕ → ℕ
 rounds_cells shop rounds many passes =
     rounds * (2 * many * shop.machines * (2 * shop.jobs - many)) + rounds * (passes * shop.jobs * shop.machines * (4 * shop.jobs - 2))
 
--- an order and its makespan as an order file, and behind it, where that is asked for, a count of cells
-unfoldable pub solution_text : List ℕ → ℕ → Bool → ℕ → List ℕ
-solution_text order makespan with_cells cells =
-    file_text order makespan ++ (if with_cells then named_number (codes "cells") cells else [])
+-- an order and its makespan as an order file that states the machines too, and behind it, where that is asked for, a
+-- count of cells
+unfoldable pub solution_text : List ℕ → ℕ → ℕ → Bool → ℕ → List ℕ
+solution_text order machines makespan with_cells cells =
+    file_text order (Some machines) makespan ++ (if with_cells then named_number (codes "cells") cells else [])
 
 -- what a search of so many rounds finds: an order and its makespan, and the count of its cells
 pub record IsFound (shop : FlowShop) (rounds many passes seed : ℕ) (order : List ℕ) (span cells : ℕ) : Type 0 where
@@ -71,4 +72,4 @@ pub record IsSolution (shop : FlowShop) (options : SolveOptions) (text : List �
   pub taken : many ≡ take_for options.take shop.jobs
   pub few_taken : many ≤ shop.jobs
   pub found : IsFound shop options.rounds many options.passes options.seed order span cells
-  pub spelled : text ≡ solution_text order span options.cells cells
+  pub spelled : text ≡ solution_text order shop.machines span options.cells cells

@@ -1,15 +1,17 @@
 //! From the words of a command line to what they ask for.
 ghost use Rattle.std.specs.Prelude.{◌≡◌, [], ◌∷◌, None, List, IfOk, codes, map, string_bytes};
 ghost use Rattle.clap.specs.Words.{Text};
-ghost use Rattle.pfs_desk.specs.Jobs.{AsksFor, AsksForNothing, IsWithinLimits};
+ghost use Rattle.pfs_desk.specs.Jobs.{AsksFor, AsksForNothing, IsFrom1To, IsWithinLimits};
+ghost use Rattle.pfs_desk.specs.Parses.{AsksToAudit, IsAudit};
 
 use self::commands::{
     audit_command, convert_command, generate_command, solve_command, value_command,
 };
 use self::values::{flag_in, layout_in, matches_for, number_in, number_in_if, path_in};
-use crate::job::Job;
+use crate::job::{Job, PathText};
 use crate::solve_options::SolveOptions;
 use crate::usage::UsageFault;
+use pfs_base::MOST_BLOCKS;
 use pfs_layout::Layout;
 use std::alloc::Global;
 
@@ -91,13 +93,12 @@ fn plan_check(alloc: Global, words: &[String]) -> Result<Job, UsageFault>
     ensures usage { result ≡ Err UsageFault.Usage
         → AsksForNothing (codes "check") (map string_bytes words.now) }
 {
-    let command = audit_command(alloc, "check", LAYOUT_NAMES.as_slice())?;
-    let matches = matches_for(command, words)?;
+    let audit = plan_audit(alloc, "check", words)?;
     Ok(Job::Check {
-        layout: layout_in(&matches, "layout"),
-        block: number_in(&matches, "block") as usize,
-        file: path_in(alloc, &matches, "file")?,
-        order_file: path_in(alloc, &matches, "order")?,
+        layout: audit.layout,
+        block: audit.block,
+        file: audit.file,
+        order_file: audit.order_file,
     })
 }
 
@@ -107,9 +108,36 @@ fn plan_table(alloc: Global, words: &[String]) -> Result<Job, UsageFault>
     ensures usage { result ≡ Err UsageFault.Usage
         → AsksForNothing (codes "table") (map string_bytes words.now) }
 {
-    let command = audit_command(alloc, "table", LAYOUT_NAMES.as_slice())?;
-    let matches = matches_for(command, words)?;
+    let audit = plan_audit(alloc, "table", words)?;
     Ok(Job::Table {
+        layout: audit.layout,
+        block: audit.block,
+        file: audit.file,
+        order_file: audit.order_file,
+    })
+}
+
+// What a command with an order file is asked for.
+#[derive(Drop)]
+struct Audit {
+    layout: Layout,
+    block: usize,
+    file: PathText,
+    order_file: PathText,
+}
+
+// What the words behind the name of a command with an order file ask for.
+fn plan_audit(alloc: Global, name: &str, words: &[String]) -> Result<Audit, UsageFault>
+    requires { IsAudit name.now }
+    ensures ok { IfOk result (λ audit. AsksToAudit name.now (map string_bytes words.now)
+        audit.layout audit.block audit.file audit.order_file) }
+    ensures within { IfOk result (λ audit. IsFrom1To MOST_BLOCKS audit.block) }
+    ensures usage { result ≡ Err UsageFault.Usage
+        → AsksForNothing name.now (map string_bytes words.now) }
+{
+    let command = audit_command(alloc, name, LAYOUT_NAMES.as_slice())?;
+    let matches = matches_for(command, words)?;
+    Ok(Audit {
         layout: layout_in(&matches, "layout"),
         block: number_in(&matches, "block") as usize,
         file: path_in(alloc, &matches, "file")?,

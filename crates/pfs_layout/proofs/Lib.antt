@@ -1,41 +1,8 @@
 pub mod Published
-pub mod BlockLemmas
-pub mod ByteSteps
-pub mod CanonicalFile
-pub mod CanonicalLemmas
 mod Computing
-pub mod CutLemmas
-mod CuttingLemmas
-pub mod DueLemmas
-pub mod EndLemmas
-pub mod EndSteps
-pub mod FeedLemmas
-pub mod FileLemmas
-pub mod FinishLemmas
-pub mod FrontLemmas
+mod Options
+mod Tables
+pub mod Files
 pub mod GeneratorLemmas
-pub mod GrowLemmas
-pub mod HeldLemmas
-pub mod InputFaults
-pub mod LineLemmas
-pub mod LineSteps
-pub mod LoseLemmas
-pub mod NewLemmas
-pub mod NumberLemmas
-pub mod NumberSteps
-pub mod OutcomeLemmas
-pub mod ReadLemmas
-pub mod ReadNames
-pub mod ReaderLemmas
-pub mod RoundLemmas
-pub mod ScanLemmas
-pub mod SizeLemmas
-pub mod SoundLemmas
-pub mod StandLemmas
-pub mod StepLemmas
-pub mod TableLemmas
-pub mod TakeLemmas
-pub mod ToldLemmas
-pub mod VerdictLemmas
-mod WideLemmas
-pub mod WritingLemmas
+pub mod Reading
+pub mod Texts

@@ -1,5 +1,6 @@
 -- A block of an instance file: a size line, and the numbers that are due in its body.
-use Rattle.std.specs.Prelude.{ℕ, ◌*◌, ◌/◌, ◌%◌, Bool, false, ◌==◌, nat_lt, nat_le, List, [], ◌∷◌, map, flat_map, Option, Some, None, if◌then◌else◌}
+use Rattle.std.specs.Prelude.{ℕ, ◌*◌, ◌/◌, ◌%◌, Bool, false, ◌==◌, nat_lt, nat_le, List, [], ◌∷◌, map, flat_map, Option}
+use Rattle.std.specs.Prelude.{Some, None, if◌then◌else◌}
 use Rattle.std.specs.List.{list_all, enumerate_from}
 use Rattle.pfs_base.specs.declared.limits.TheConstants.{LONGEST_TIME}
 use Rattle.pfs_base.specs.FlowShop.{FlowShop, time_of}
@@ -25,9 +26,12 @@ due layout shop = flat_map (due_row layout shop) (below (row_count layout shop))
 
 -- the size that the numbers of a size line state, where they are as many as the layout says
 unfoldable pub stated_size : Layout → List ℕ → Option Size
-stated_size Taillard (jobs ∷ machines ∷ seed ∷ upper ∷ lower ∷ []) = Some (record { jobs = jobs; machines = machines; notes = record { seed = seed; upper = upper; lower = lower } })
-stated_size OrLib (jobs ∷ machines ∷ []) = Some (record { jobs = jobs; machines = machines; notes = record { seed = 0; upper = 0; lower = 0 } })
-stated_size layout others = None
+stated_size Taillard (jobs ∷ machines ∷ seed ∷ upper ∷ lower ∷ []) =
+    Some (record { jobs = jobs; machines = machines; notes = record { seed = seed; upper = upper; lower = lower } })
+stated_size Taillard others = None
+stated_size OrLib (jobs ∷ machines ∷ []) =
+    Some (record { jobs = jobs; machines = machines; notes = record { seed = 0; upper = 0; lower = 0 } })
+stated_size OrLib others = None
 
 -- how many numbers are due
 abbrev pub due_count : Layout → Size → ℕ
@@ -59,4 +63,5 @@ is_due nothing number = false
 -- the numbers are the first of some list that is due
 unfoldable pub are_due : Layout → Size → List ℕ → Bool
 unfolding due_at
-are_due layout size numbers = list_all (λ placed. is_due (due_at layout size placed.0) placed.1) (enumerate_from 0 numbers)
+are_due layout size numbers =
+    list_all (λ placed. is_due (due_at layout size placed.0) placed.1) (enumerate_from 0 numbers)

@@ -1,5 +1,5 @@
 -- The one text of an instance that is written, in each layout.
-use Rattle.std.specs.Prelude.{ℕ, List, [], ◌∷◌, ◌++◌, flat_map, codes}
+use Rattle.std.specs.Prelude.{ℕ, ◌≤◌, List, [], ◌∷◌, ◌++◌, length, flat_map, codes}
 use Rattle.pfs_base.specs.FlowShop.{FlowShop}
 use Rattle.pfs_base.specs.Limits.{limits}
 use Rattle.pfs_base.specs.Lists.{below}
@@ -22,7 +22,8 @@ row_lines layout shop = flat_map (row_line layout shop) (below (row_count layout
 abbrev pub head_lines : Layout → Size → List ℕ
 head_lines Taillard size =
     with_line_end (codes "number of jobs, number of machines, initial seed, upper bound and lower bound :")
-    ++ with_line_end (spaced (size.jobs ∷ size.machines ∷ size.notes.seed ∷ size.notes.upper ∷ size.notes.lower ∷ []))
+    ++ with_line_end
+    (spaced (size.jobs ∷ size.machines ∷ size.notes.seed ∷ size.notes.upper ∷ size.notes.lower ∷ []))
     ++ with_line_end (codes "processing times :")
 head_lines OrLib size =
     with_line_end (codes "flow shop instance")
@@ -40,3 +41,8 @@ as_written OrLib problem = record { shop = problem.shop; notes = record { seed =
 abbrev pub CanonicalLaw : Type 0
 CanonicalLaw = (layout : Layout) (problem : Problem) → IsInstance limits problem
     → File limits layout (canonical_text layout problem) 1 (as_written layout problem)
+
+-- no text that is written is longer than what is read
+abbrev pub TextsFit : Type 0
+TextsFit = (layout : Layout) (problem : Problem) → IsInstance limits problem
+    → length (canonical_text layout problem) ≤ limits.input

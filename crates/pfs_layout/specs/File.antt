@@ -43,7 +43,8 @@ abbrev pub IsSomeBlock : Limits → Layout → List (List ℕ) → Type 0
 IsSomeBlock limits layout block = (problem : Problem) × IsBlock limits layout problem block
 
 -- k blocks, the last of which is the problem's
-pub record AreBlocks (limits : Limits) (layout : Layout) (k : ℕ) (problem : Problem) (text : List (List ℕ)) : Type 0 where
+pub record AreBlocks (limits : Limits) (layout : Layout) (k : ℕ) (problem : Problem) (text : List (List ℕ))
+    : Type 0 where
   pub earlier : List (List (List ℕ))
   pub own : List (List ℕ)
   pub parts : text ≡ flat_map (λ block. block) earlier ++ own

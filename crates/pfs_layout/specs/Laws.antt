@@ -29,9 +29,11 @@ pub record Completes (layout : Layout) (input : List ℕ) (k : ℕ) (problem : P
 
 -- files are told by where their lines lead
 abbrev pub FileStands : Type 0
-FileStands = (layout : Layout) (input : List ℕ) (k : ℕ) (problem : Problem) → File limits layout input k problem ↔ Completes layout input k problem
+FileStands = (layout : Layout) (input : List ℕ) (k : ℕ) (problem : Problem)
+    → File limits layout input k problem ↔ Completes layout input k problem
 
--- a front of the input ends with byte 10 or is the whole input, and the next block is sought behind it, k being complete
+-- a front of the input ends with byte 10 or is the whole input, and the next block is sought behind it, k being
+-- complete
 pub record Seeks (layout : Layout) (input : List ℕ) (k : ℕ) : Type 0 where
   pub text : List ℕ
   pub rest : List ℕ
@@ -43,7 +45,8 @@ pub record Seeks (layout : Layout) (input : List ℕ) (k : ℕ) : Type 0 where
 
 -- where an input holds a file of some problem
 abbrev pub SomeFile : Type 0
-SomeFile = (layout : Layout) (input : List ℕ) (k : ℕ) → 1 ≤ k → ((problem : Problem) × File limits layout input k problem) ↔ Seeks layout input k
+SomeFile = (layout : Layout) (input : List ℕ) (k : ℕ) → 1 ≤ k
+    → ((problem : Problem) × File limits layout input k problem) ↔ Seeks layout input k
 
 -- something has the property, and nothing else has it
 pub record ExactlyOne {A : Type 0} (P : A → Type 0) : Type 0 where
@@ -59,27 +62,34 @@ OneVerdict = (layout : Layout) (input : List ℕ) (k : ℕ) → 1 ≤ k
 
 -- which problem's file an input holds can be computed
 abbrev pub AcceptedLaw : Type 0
-AcceptedLaw = (layout : Layout) (input : List ℕ) (k : ℕ) (problem : Problem) → 1 ≤ k → accepted layout input k ≡ Some problem ↔ File limits layout input k problem
+AcceptedLaw = (layout : Layout) (input : List ℕ) (k : ℕ) (problem : Problem) → 1 ≤ k
+    → accepted layout input k ≡ Some problem ↔ File limits layout input k problem
 
 -- an input has at most one fault
 abbrev pub OneFault : Type 0
-OneFault = (layout : Layout) (input : List ℕ) (k : ℕ) (one other : LayoutFault) → Refuse layout input k one → Refuse layout input k other → one ≡ other
+OneFault = (layout : Layout) (input : List ℕ) (k : ℕ) (one other : LayoutFault)
+    → Refuse layout input k one → Refuse layout input k other → one ≡ other
 
 -- which fault it has can be computed
 abbrev pub RefusalLaw : Type 0
-RefusalLaw = (layout : Layout) (input : List ℕ) (k : ℕ) (fault : LayoutFault) → refusal layout input k ≡ Some fault ↔ Refuse layout input k fault
+RefusalLaw = (layout : Layout) (input : List ℕ) (k : ℕ) (fault : LayoutFault)
+    → refusal layout input k ≡ Some fault ↔ Refuse layout input k fault
 
 -- a fault at a byte stays, whatever follows
 abbrev pub FaultStays : Type 0
-FaultStays = (layout : Layout) (text more : List ℕ) (k : ℕ) (fault : LayoutFault) → byte_fault layout k text ≡ Some fault → Refuse layout (text ++ more) k fault
+FaultStays = (layout : Layout) (text more : List ℕ) (k : ℕ) (fault : LayoutFault)
+    → byte_fault layout k text ≡ Some fault → Refuse layout (text ++ more) k fault
 
 -- the first fault at a byte is the fault, where its place is a byte
 abbrev pub ByteFaultLaw : Type 0
-ByteFaultLaw = (layout : Layout) (text : List ℕ) (k : ℕ) (fault : LayoutFault) → byte_fault layout k text ≡ Some fault ↔ ((refused : Refuse layout text k fault) × (refused.place < length text))
+ByteFaultLaw = (layout : Layout) (text : List ℕ) (k : ℕ) (fault : LayoutFault)
+    → byte_fault layout k text ≡ Some fault
+    ↔ ((refused : Refuse layout text k fault) × (refused.place < length text))
 
 -- where the ended lines of a text without a fault at a byte complete k blocks, what follows is free
 abbrev pub FreeBehind : Type 0
-FreeBehind = (layout : Layout) (text more : List ℕ) (k : ℕ) (problem : Problem) → 1 ≤ k → byte_fault layout k text ≡ None → k ≤ length (stand layout (ended_lines text)).complete
+FreeBehind = (layout : Layout) (text more : List ℕ) (k : ℕ) (problem : Problem) → 1 ≤ k
+    → byte_fault layout k text ≡ None → k ≤ length (stand layout (ended_lines text)).complete
     → File limits layout text k problem ↔ File limits layout (text ++ more) k problem
 
 -- no limit is lower
@@ -92,11 +102,22 @@ pub record IsWider (narrow wide : Limits) : Type 0 where
 
 -- wider limits keep every file
 abbrev pub WiderLimits : Type 0
-WiderLimits = (narrow wide : Limits) (layout : Layout) (input : List ℕ) (k : ℕ) (problem : Problem) → IsWider narrow wide → File narrow layout input k problem → File wide layout input k problem
+WiderLimits = (narrow wide : Limits) (layout : Layout) (input : List ℕ) (k : ℕ) (problem : Problem)
+    → IsWider narrow wide → File narrow layout input k problem → File wide layout input k problem
+
+-- the limits of versions before: fewer jobs and shorter times
+abbrev pub earlier_limits : Limits
+earlier_limits = record { jobs = 2000; machines = 200; time = 1000000; note = 4294967295; input = 67108864 }
+
+-- what was a file under them is a file of the same problem
+abbrev pub EarlierFiles : Type 0
+EarlierFiles = (layout : Layout) (input : List ℕ) (k : ℕ) (problem : Problem)
+    → File earlier_limits layout input k problem → File limits layout input k problem
 
 -- the numbers that are due give a problem back
 abbrev pub DueAndBack : Type 0
-DueAndBack = (layout : Layout) (problem : Problem) → length problem.shop.times ≡ problem.shop.jobs * problem.shop.machines
+DueAndBack = (layout : Layout) (problem : Problem)
+    → length problem.shop.times ≡ problem.shop.jobs * problem.shop.machines
     → instance_of layout (record { size = size_of problem; numbers = due layout problem.shop }) ≡ problem
 
 -- numbers begin what is due for a problem of this size
@@ -109,4 +130,5 @@ pub record BeginDue (layout : Layout) (size : Size) (numbers : List ℕ) : Type 
   pub begin : due layout problem.shop ≡ numbers ++ rest
 
 abbrev pub DueFronts : Type 0
-DueFronts = (layout : Layout) (size : Size) (numbers : List ℕ) → IsTrue (are_due layout size numbers) ↔ BeginDue layout size numbers
+DueFronts = (layout : Layout) (size : Size) (numbers : List ℕ)
+    → IsTrue (are_due layout size numbers) ↔ BeginDue layout size numbers

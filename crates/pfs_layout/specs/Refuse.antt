@@ -1,5 +1,7 @@
 -- Which fault an instance file has, and where.
-use Rattle.std.specs.Prelude.{◌≡◌, ℕ, ◌+◌, ◌-◌, ◌<◌, ◌≤◌, Bool, ◌&&◌, ◌||◌, not, ◌==◌, nat_lt, List, [], ◌∷◌, ◌++◌, length, take, map, count_by, Option, Some, None, is_some, is_none, option_map, if◌then◌else◌, slice_get}
+use Rattle.std.specs.Prelude.{◌≡◌, ℕ, ◌+◌, ◌-◌, ◌<◌, ◌≤◌, Bool, ◌&&◌, ◌||◌, not, ◌==◌, nat_lt, List, [], ◌∷◌, ◌++◌}
+use Rattle.std.specs.Prelude.{length, take, map, count_by, Option, Some, None, is_some, is_none, option_map}
+use Rattle.std.specs.Prelude.{if◌then◌else◌, slice_get}
 use Rattle.std.specs.Bool.{then_some}
 use Rattle.std.specs.Str.Parse.{digits_value}
 use Rattle.pfs_base.specs.declared.limits.TheConstants.{LONGEST_TIME, LONGEST_INPUT}
@@ -7,10 +9,12 @@ use Rattle.pfs_base.specs.Lists.{below, is_empty, first_some}
 use Rattle.pfs_base.specs.Problem.{Problem}
 use Rattle.pfs_layout.specs.declared.layout.Layout.{Layout}
 use Rattle.pfs_layout.specs.declared.fault.LayoutFault.{LayoutFault}
-use Rattle.pfs_layout.specs.declared.fault.LayoutFault.TheVariants.{NoBlock, SizeCount, SizeRange, MixedLine, TimeRange, MachineNumber, ExtraNumber, Truncated, TooLong}
+use Rattle.pfs_layout.specs.declared.fault.LayoutFault.TheVariants.{NoBlock, SizeCount, SizeRange, MixedLine, TimeRange}
+use Rattle.pfs_layout.specs.declared.fault.LayoutFault.TheVariants.{MachineNumber, ExtraNumber, Truncated, TooLong}
 use Rattle.pfs_layout.specs.Bytes.{is_blank, is_line_end}
 use Rattle.pfs_layout.specs.Size.{Size, is_within_limits}
-use Rattle.pfs_layout.specs.Lines.{lines, ended_lines, open_line, is_mixed, is_number_line, numbers, ended_numbers, last_digits}
+use Rattle.pfs_layout.specs.Lines.{lines, ended_lines, open_line, is_mixed, is_number_line, numbers, ended_numbers}
+use Rattle.pfs_layout.specs.Lines.{last_digits}
 use Rattle.pfs_layout.specs.Block.{Due, any_time, machine_number, nothing, stated_size, due_at}
 use Rattle.pfs_layout.specs.Stand.{Block, Now, seeking, inside, lost, Stand, stand, times_among, instance_of}
 
@@ -33,7 +37,9 @@ too_long before next = then_some (length before == LONGEST_INPUT && is_some next
 -- the byte is the first by which its line holds both a digit and a word byte
 unfoldable pub mixed_line : List ℕ → Option ℕ → Option LayoutFault
 mixed_line before None = None
-mixed_line before (Some byte) = then_some (not (is_mixed (open_line before)) && is_mixed (open_line before ++ byte ∷ [])) (MixedLine (length before))
+mixed_line before (Some byte) =
+    let line = open_line before in
+    then_some (not (is_mixed line) && is_mixed (line ++ byte ∷ [])) (MixedLine (length before))
 
 -- a number isn't what is due
 abbrev pub misfit : Due → ℕ → ℕ → Option LayoutFault
@@ -43,8 +49,11 @@ misfit nothing number offset = Some (ExtraNumber offset)
 
 -- a number ends that isn't what is due behind the block's numbers and the earlier ones of its line
 unfoldable pub wrong_number : Layout → Block → List ℕ → Option ℕ → Option LayoutFault
-wrong_number layout block before next = if ends_number before next
-    then misfit (due_at layout block.size (length block.numbers + length (ended_numbers (open_line before)))) (digits_value 10 (last_digits before)) (length before - length (last_digits before))
+wrong_number layout block before next =
+    let place = length block.numbers + length (ended_numbers (open_line before)) in
+    let offset = length before - length (last_digits before) in
+    if ends_number before next
+    then misfit (due_at layout block.size place) (digits_value 10 (last_digits before)) offset
     else None
 
 -- what a number line states has a wrong count of numbers, or one out of its limit
@@ -64,18 +73,23 @@ missing layout k complete (inside block) = Some (Truncated (length (times_among 
 missing layout k complete lost = None
 
 unfoldable pub ends_early : Layout → ℕ → List ℕ → Option ℕ → Option LayoutFault
-ends_early layout k before None = let end = stand layout (lines before) in missing layout k (length end.complete) end.now
+ends_early layout k before None =
+    let end = stand layout (lines before) in missing layout k (length end.complete) end.now
 ends_early layout k before (Some byte) = None
 
 -- the faults that such a place can have, each where it has it, the first in order first
 abbrev pub faults : Layout → ℕ → Now → List ℕ → Option ℕ → List (Option LayoutFault)
-faults layout k seeking before next = too_long before next ∷ wrong_size layout before next ∷ ends_early layout k before next ∷ []
-faults layout k (inside block) before next = too_long before next ∷ mixed_line before next ∷ wrong_number layout block before next ∷ ends_early layout k before next ∷ []
+faults layout k seeking before next =
+    too_long before next ∷ wrong_size layout before next ∷ ends_early layout k before next ∷ []
+faults layout k (inside block) before next =
+    too_long before next ∷ mixed_line before next ∷ wrong_number layout block before next
+    ∷ ends_early layout k before next ∷ []
 faults layout k lost before next = []
 
 -- the fault of a place, where the lines that are ended before it leave fewer than k blocks
 abbrev pub fault_where : Layout → ℕ → Stand → List ℕ → Option ℕ → Option LayoutFault
-fault_where layout k stood before next = if nat_lt (length stood.complete) k then first_some (faults layout k stood.now before next) else None
+fault_where layout k stood before next =
+    if nat_lt (length stood.complete) k then first_some (faults layout k stood.now before next) else None
 
 unfoldable pub fault_behind : Layout → ℕ → List ℕ → Option ℕ → Option LayoutFault
 fault_behind layout k before next = fault_where layout k (stand layout (ended_lines before)) before next
@@ -97,7 +111,8 @@ refusal layout input k = first_some (map (fault_at layout k input) (below (lengt
 -- the problem of the k-th block of an input that isn't refused, computed
 unfoldable pub accepted : Layout → List ℕ → ℕ → Option Problem
 unfolding refusal
-accepted layout input k = if is_none (refusal layout input k) then option_map (instance_of layout) (slice_get (stand layout (lines input)).complete (k - 1)) else None
+accepted layout input k = if is_none (refusal layout input k)
+    then option_map (instance_of layout) (slice_get (stand layout (lines input)).complete (k - 1)) else None
 
 -- the first fault at a byte of a text
 unfoldable pub byte_fault : Layout → ℕ → List ℕ → Option LayoutFault

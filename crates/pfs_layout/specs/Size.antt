@@ -30,4 +30,5 @@ is_between least most n = nat_le least n && nat_le n most
 -- each number that a size line states is in its limit
 abbrev pub is_within_limits : Size → Bool
 is_within_limits size = is_between 1 MOST_JOBS size.jobs && is_between 1 MOST_MACHINES size.machines
-    && nat_le size.notes.seed GREATEST_NOTE && nat_le size.notes.upper GREATEST_NOTE && nat_le size.notes.lower GREATEST_NOTE
+    && nat_le size.notes.seed GREATEST_NOTE && nat_le size.notes.upper GREATEST_NOTE
+    && nat_le size.notes.lower GREATEST_NOTE

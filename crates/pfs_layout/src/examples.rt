@@ -8,7 +8,8 @@ ghost use Rattle.pfs_layout.specs.File.{File};
 ghost use Rattle.pfs_layout.specs.Refuse.{refusal, accepted};
 ghost use Rattle.pfs_layout.specs.CanonicalText.{canonical_text};
 ghost use Rattle.pfs_layout.specs.Generator.{generated};
-ghost use Rattle.pfs_layout.specs.Examples.{heading, ending_with, three_jobs_file, three_jobs_with, three_jobs, with_returns, two_blocks_file, one_job};
+ghost use Rattle.pfs_layout.specs.Examples.{heading, ending_with, three_jobs_file, three_jobs_with, three_jobs};
+ghost use Rattle.pfs_layout.specs.Examples.{with_returns, two_blocks_file, one_job};
 
 use crate::{Layout, LayoutFault};
 
@@ -34,26 +35,36 @@ pub fn spellings()
     ensures unended { accepted Layout.Taillard (take 120 three_jobs_file) 1 ≡ Some three_jobs }
     ensures no_words { accepted Layout.Taillard (codes "3 2 0 0 0\n3 2\n4\n2 5 1") 1 ≡ Some three_jobs }
     ensures carriage_returns { accepted Layout.Taillard (with_returns three_jobs_file) 1 ≡ Some three_jobs }
-    ensures leading_zeros { accepted Layout.Taillard (heading ++ codes "03 2 0 0 0\nprocessing times :\n" ++ replicate 60 48 ++ codes "3 2 4\n2 5 1\n") 1 ≡ Some three_jobs }
+    ensures leading_zeros { accepted Layout.Taillard
+        (heading ++ codes "03 2 0 0 0\nprocessing times :\n" ++ replicate 60 48 ++ codes "3 2 4\n2 5 1\n") 1
+        ≡ Some three_jobs }
     ensures mixed_title { accepted Layout.Taillard (codes "5x " ++ three_jobs_file) 1 ≡ Some three_jobs }
     ensures mixed_line_before { accepted Layout.Taillard (codes "x 5\n" ++ three_jobs_file) 1 ≡ Some three_jobs }
-    ensures one_line { accepted Layout.Taillard (codes "3 2 0 0 0\n3 2 4 2 5 1\nwhat follows is free, 5x") 1 ≡ Some three_jobs }
+    ensures one_line { accepted Layout.Taillard (codes "3 2 0 0 0\n3 2 4 2 5 1\nwhat follows is free, 5x") 1
+        ≡ Some three_jobs }
 {}
 
 /// A line of a body with a word byte.
 pub fn mixed_lines()
     ensures behind_digit { refusal Layout.Taillard (ending_with (codes "2 5x 1")) 1 ≡ Some (LayoutFault.MixedLine 118) }
-    ensures before_digit { refusal Layout.Taillard (ending_with (codes "x 2 5 1")) 1 ≡ Some (LayoutFault.MixedLine 117) }
-    ensures extra_number { refusal Layout.Taillard (ending_with (codes "2 5 1 7x")) 1 ≡ Some (LayoutFault.MixedLine 122) }
-    ensures greatest_byte { refusal Layout.Taillard (ending_with (codes "2 5 1" ++ 255 ∷ [])) 1 ≡ Some (LayoutFault.MixedLine 120) }
+    ensures before_digit { refusal Layout.Taillard (ending_with (codes "x 2 5 1")) 1
+        ≡ Some (LayoutFault.MixedLine 117) }
+    ensures extra_number { refusal Layout.Taillard (ending_with (codes "2 5 1 7x")) 1
+        ≡ Some (LayoutFault.MixedLine 122) }
+    ensures greatest_byte { refusal Layout.Taillard (ending_with (codes "2 5 1" ++ 255 ∷ [])) 1
+        ≡ Some (LayoutFault.MixedLine 120) }
 {}
 
 /// Numbers that aren't what is due.
 pub fn wrong_numbers()
-    ensures longest { accepted Layout.Taillard (ending_with (codes "2 5 1000000")) 1 ≡ Some (three_jobs_with 1000000) }
-    ensures too_long { refusal Layout.Taillard (ending_with (codes "2 5 1000001")) 1 ≡ Some (LayoutFault.TimeRange 119) }
-    ensures forty_digits { refusal Layout.Taillard (ending_with (codes "2 5 " ++ replicate 40 57)) 1 ≡ Some (LayoutFault.TimeRange 119) }
-    ensures before_word { refusal Layout.Taillard (codes "1 1 0 0 0\n9999999999 x") 1 ≡ Some (LayoutFault.TimeRange 10) }
+    ensures longest { accepted Layout.Taillard (ending_with (codes "2 5 1000000000")) 1
+        ≡ Some (three_jobs_with 1000000000) }
+    ensures too_long { refusal Layout.Taillard (ending_with (codes "2 5 1000000001")) 1
+        ≡ Some (LayoutFault.TimeRange 119) }
+    ensures forty_digits { refusal Layout.Taillard (ending_with (codes "2 5 " ++ replicate 40 57)) 1
+        ≡ Some (LayoutFault.TimeRange 119) }
+    ensures before_word { refusal Layout.Taillard (codes "1 1 0 0 0\n9999999999 x") 1
+        ≡ Some (LayoutFault.TimeRange 10) }
     ensures by_word { refusal Layout.Taillard (codes "1 1 0 0 0\n9999999999x") 1 ≡ Some (LayoutFault.MixedLine 20) }
     ensures machine { refusal Layout.OrLib (codes "d\n1 2\n0 3 2 4\n") 1 ≡ Some (LayoutFault.MachineNumber 10) }
     ensures extra { refusal Layout.Taillard (ending_with (codes "2 5 1 7")) 1 ≡ Some (LayoutFault.ExtraNumber 121) }
@@ -61,13 +72,14 @@ pub fn wrong_numbers()
 
 /// Size lines with a wrong count of numbers, or with a number out of its limit.
 pub fn size_lines()
-    ensures greatest { refusal Layout.Taillard (codes "2000 200 4294967295 0 0") 1 ≡ Some (LayoutFault.Truncated 0) }
+    ensures greatest { refusal Layout.Taillard (codes "5000 200 4294967295 0 0") 1 ≡ Some (LayoutFault.Truncated 0) }
     ensures count { refusal Layout.Taillard (codes "3 2") 1 ≡ Some (LayoutFault.SizeCount 1) }
-    ensures jobs { refusal Layout.Taillard (codes "\n2001 1 0 0 0") 1 ≡ Some (LayoutFault.SizeRange 2) }
+    ensures jobs { refusal Layout.Taillard (codes "\n5001 1 0 0 0") 1 ≡ Some (LayoutFault.SizeRange 2) }
     ensures no_machine { refusal Layout.OrLib (codes "1 0\n") 1 ≡ Some (LayoutFault.SizeRange 1) }
     ensures note { refusal Layout.Taillard (codes "1 1 4294967296 0 0") 1 ≡ Some (LayoutFault.SizeRange 1) }
-    ensures forty_digits { refusal Layout.Taillard (codes "3 2 0 0 " ++ replicate 40 57) 1 ≡ Some (LayoutFault.SizeRange 1) }
-    ensures count_first { refusal Layout.Taillard (codes "2001 1") 1 ≡ Some (LayoutFault.SizeCount 1) }
+    ensures forty_digits { refusal Layout.Taillard (codes "3 2 0 0 " ++ replicate 40 57) 1
+        ≡ Some (LayoutFault.SizeRange 1) }
+    ensures count_first { refusal Layout.Taillard (codes "5001 1") 1 ≡ Some (LayoutFault.SizeCount 1) }
 {}
 
 /// Several blocks.
@@ -83,20 +95,28 @@ pub fn several_blocks()
 /// Files that are cut at each byte.
 pub fn cuts()
     ensures three_jobs { map (λ cut. refusal Layout.Taillard (take cut three_jobs_file) 1) (below 122)
-        ≡ replicate 81 (Some (LayoutFault.NoBlock 0)) ++ replicate 8 (Some (LayoutFault.SizeCount 2)) ++ replicate 21 (Some (LayoutFault.Truncated 0))
-        ++ replicate 2 (Some (LayoutFault.Truncated 1)) ++ replicate 2 (Some (LayoutFault.Truncated 2)) ++ replicate 2 (Some (LayoutFault.Truncated 3))
-        ++ replicate 2 (Some (LayoutFault.Truncated 4)) ++ replicate 2 (Some (LayoutFault.Truncated 5)) ++ replicate 2 None }
+        ≡ replicate 81 (Some (LayoutFault.NoBlock 0)) ++ replicate 8 (Some (LayoutFault.SizeCount 2))
+        ++ replicate 21 (Some (LayoutFault.Truncated 0))
+        ++ replicate 2 (Some (LayoutFault.Truncated 1)) ++ replicate 2 (Some (LayoutFault.Truncated 2))
+        ++ replicate 2 (Some (LayoutFault.Truncated 3))
+        ++ replicate 2 (Some (LayoutFault.Truncated 4)) ++ replicate 2 (Some (LayoutFault.Truncated 5))
+        ++ replicate 2 None }
     ensures two_blocks { map (λ cut. refusal Layout.OrLib (take cut two_blocks_file) 2) (below 81)
-        ≡ replicate 30 (Some (LayoutFault.NoBlock 0)) ++ replicate 2 (Some (LayoutFault.SizeCount 5)) ++ replicate 4 (Some (LayoutFault.Truncated 0))
-        ++ replicate 13 (Some (LayoutFault.NoBlock 1)) ++ replicate 2 (Some (LayoutFault.SizeCount 9)) ++ replicate 4 (Some (LayoutFault.Truncated 0))
-        ++ replicate 4 (Some (LayoutFault.Truncated 1)) ++ replicate 4 (Some (LayoutFault.Truncated 2)) ++ replicate 4 (Some (LayoutFault.Truncated 3))
-        ++ replicate 4 (Some (LayoutFault.Truncated 4)) ++ replicate 4 (Some (LayoutFault.Truncated 5)) ++ replicate 6 None }
+        ≡ replicate 30 (Some (LayoutFault.NoBlock 0)) ++ replicate 2 (Some (LayoutFault.SizeCount 5))
+        ++ replicate 4 (Some (LayoutFault.Truncated 0))
+        ++ replicate 13 (Some (LayoutFault.NoBlock 1)) ++ replicate 2 (Some (LayoutFault.SizeCount 9))
+        ++ replicate 4 (Some (LayoutFault.Truncated 0))
+        ++ replicate 4 (Some (LayoutFault.Truncated 1)) ++ replicate 4 (Some (LayoutFault.Truncated 2))
+        ++ replicate 4 (Some (LayoutFault.Truncated 3))
+        ++ replicate 4 (Some (LayoutFault.Truncated 4)) ++ replicate 4 (Some (LayoutFault.Truncated 5))
+        ++ replicate 6 None }
 {}
 
 /// What is written of the three jobs, in each layout.
 pub fn canonical_texts()
     ensures by_machine { canonical_text Layout.Taillard three_jobs ≡ three_jobs_file }
-    ensures by_job { canonical_text Layout.OrLib three_jobs ≡ codes "flow shop instance\n3 2\n0 3 1 2\n0 2 1 5\n0 4 1 1\n" }
+    ensures by_job { canonical_text Layout.OrLib three_jobs
+        ≡ codes "flow shop instance\n3 2\n0 3 1 2\n0 2 1 5\n0 4 1 1\n" }
 {}
 
 /// Times that are drawn, machine by machine.

@@ -1,20 +1,20 @@
 -- The jobs of a text of the grammar, place by place.
-use Rattle.std.proofs.Common.{◌≡◌, ℕ, ◌+◌, ◌-◌, ◌<◌, ◌≤◌, ◌^◌, ◌⊎◌, inl, inr, List, [], ◌∷◌, ◌++◌, length, take, drop, map, get_or, Contains, refl, sym, ◌∙◌, ap, subst, arith, codes, below_more}
+use Rattle.std.proofs.Common.{◌≡◌, ℕ, ◌+◌, ◌-◌, ◌<◌, ◌≤◌, ◌^◌, ◌⊎◌, inl, inr, List, [], ◌∷◌, ◌++◌, length, take, drop, map, get_or, Contains, refl, sym, ◌∙◌, ap, subst, arith, codes, below_more, Option}
 use Rattle.std.specs.Fmt.{decimal}
 use Rattle.std.specs.Char.{digit_value}
 use Rattle.std.specs.List.{All}
 use Rattle.std.proofs.lemmas.List.{append_assoc, append_cancel_left, length-map, length-take-le, map-append, take_more, take_all, drop_more, get_or-map, length-drop}
 use Rattle.std.proofs.lemmas.List.Edits.{insert_end}
 use Rattle.std.proofs.lemmas.List.Elements.{All-get_or}
-use Rattle.pfs_base.specs.declared.limits.TheConstants.{MOST_JOBS}
 use Rattle.pfs_order.specs.declared.fault.OrderFault.{OrderFault}
 use Rattle.pfs_order.specs.declared.fault.OrderFault.TheVariants.{Syntax, JobRange, Repeated, TooLong, Read, Memory}
 use Rattle.pfs_base.specs.Text.{spaced}
 use Rattle.pfs_order.specs.Sequence.{Sequence, IsSequence}
 use Rattle.pfs_order.specs.OrderFile.{HasText, IsText, IsJob, IsRepeated, AreRightBefore}
-use Rattle.pfs_order.specs.Pieces.{IsNumeral, IsPieceFault, RefusesJob, RefusesJobs, counted, last_line}
+use Rattle.pfs_order.specs.Pieces.{IsNumeral, IsPieceFault, RefusesJob, RefusesJobs, IsHead, counted, last_line}
 use Rattle.pfs_order.proofs.Numerals.{cut_at, decimal_lacks, decimal_one}
-use Rattle.pfs_order.proofs.OrderTexts.{IsShort, same_count, same_jobs, text_shape, ten_10, ten_32}
+use Rattle.pfs_order.proofs.OrderTexts.{IsShort, same_number, same_jobs, text_shape, ten_10, ten_32}
+use Rattle.pfs_order.proofs.Stages.{head_of, same_line}
 use Rattle.pfs_order.proofs.Published.Sequences.{IsSequence-nil, IsSequence-insert}
 
 pub numbers : List ℕ → List ℕ
@@ -61,25 +61,25 @@ unfolding job_end
 end_lacks [] = ten_10
 end_lacks (k ∷ more) = ten_32
 
--- a text is that of one list of jobs and one makespan
-pub one_text : (text jobs others : List ℕ) (makespan other : ℕ) → HasText text jobs makespan → HasText text others other → (jobs ≡ others) × (makespan ≡ other)
-one_text text jobs others makespan other h k =
-    let few = h.few_jobs in
-    let low = k.few_jobs in
+-- a text is that of one list of jobs, one number of machines or none, and one makespan
+pub one_text : (text jobs others : List ℕ) (machines stated : Option ℕ) (makespan other : ℕ) → HasText text jobs machines makespan → HasText text others stated other
+    → (jobs ≡ others) × (machines ≡ stated) × (makespan ≡ other)
+one_text text jobs others machines stated makespan other h k =
     let line : List ℕ = spaced jobs ++ 10 ∷ last_line makespan in
     let next : List ℕ = spaced others ++ 10 ∷ last_line other in
-    let e : counted (length jobs) line ≡ counted (length others) next = sym (text_shape jobs makespan) ∙ sym h.spelled ∙ k.spelled ∙ text_shape others other in
-    let r = same_count (length jobs) line next (length others) (omega arith) (omega arith) e in
-    let t = same_jobs jobs others (last_line makespan) (last_line other) h.short_jobs k.short_jobs r.0 r.1 in
+    let e : counted (length jobs) machines line ≡ counted (length others) stated next = sym (text_shape jobs machines makespan) ∙ sym h.spelled ∙ k.spelled ∙ text_shape others stated other in
+    let r = same_line (length jobs) (length others) machines stated line next (head_of h) (head_of k) e in
+    let t = same_jobs jobs others (last_line makespan) (last_line other) h.short_jobs k.short_jobs r.0 r.2 in
     let last : decimal makespan ++ 10 ∷ [] ≡ decimal other ++ 10 ∷ [] = append_cancel_left (codes "makespan ") (decimal makespan ++ 10 ∷ []) (decimal other ++ 10 ∷ []) t.1 in
-    let u = cut_at 10 (decimal makespan) (decimal other) [] [] (decimal_lacks 10 makespan ten_10 h.short_makespan) (decimal_lacks 10 other ten_10 k.short_makespan) last in
-    (t.0, decimal_one makespan other h.short_makespan k.short_makespan u.0)
+    let u = same_number 10 makespan other [] [] ten_10 h.short_makespan k.short_makespan last in
+    (t.0, r.1, u.0)
 
 -- the jobs before a place were read and judged
 pub record IsJudging (count : ℕ) (text : List ℕ) (at place : ℕ) (seq : Sequence) : Type 0 where
   pub jobs : List ℕ
+  pub machines : Option ℕ
   pub makespan : ℕ
-  pub has : HasText text jobs makespan
+  pub has : HasText text jobs machines makespan
   pub every : length jobs ≡ count
   pub within : at ≤ length text
   pub sized : seq.size ≡ count
@@ -89,13 +89,13 @@ pub record IsJudging (count : ℕ) (text : List ℕ) (at place : ℕ) (seq : Seq
   pub distinct : (k : ℕ) → k < place → ¬ IsRepeated jobs k
   pub rest : place < count → drop at text ≡ spaced (drop place jobs) ++ 10 ∷ last_line makespan
 
-pub judging_start : (count : ℕ) (text : List ℕ) (start : ℕ) (seq : Sequence) → IsText text → text ≡ counted count (drop start text) → count ≤ MOST_JOBS → start ≤ length text
+pub judging_start : (count : ℕ) (machines : Option ℕ) (text : List ℕ) (start : ℕ) (seq : Sequence) → IsText text → text ≡ counted count machines (drop start text) → IsHead count machines → start ≤ length text
     → seq ≡ record { size = count; jobs = [] } → IsJudging count text start 0 seq
-judging_start count text start seq (jobs, (makespan, has)) e few within is =
-    let low = has.few_jobs in
-    let r = same_count count (drop start text) (spaced jobs ++ 10 ∷ last_line makespan) (length jobs) (omega arith) (omega arith) (sym e ∙ has.spelled ∙ text_shape jobs makespan) in
+judging_start count machines text start seq (jobs, (stated, (makespan, has))) e h within is =
+    let r = same_line count (length jobs) machines stated (drop start text) (spaced jobs ++ 10 ∷ last_line makespan) h (head_of has) (sym e ∙ has.spelled ∙ text_shape jobs stated makespan) in
     record {
       jobs = jobs;
+      machines = stated;
       makespan = makespan;
       has = has;
       every = sym r.0;
@@ -105,7 +105,7 @@ judging_start count text start seq (jobs, (makespan, has)) e few within is =
       taken = subst (λ (s : Sequence). [] ≡ map (λ job. job + 1) s.jobs) (sym is) refl;
       in_range = λ k h. absurd (omega arith);
       distinct = λ k h. absurd (omega arith);
-      rest = λ _. r.1;
+      rest = λ _. r.2;
     }
 
 judged_length : (count : ℕ) (text : List ℕ) (at place : ℕ) (seq : Sequence) → IsJudging count text at place seq → place ≤ count → length seq.jobs ≡ place
@@ -178,7 +178,7 @@ refused_here count text at place seq end number next (JobRange p) h lt ends smal
     let size : length seq.jobs ≡ place = judged_length count text at place seq h (omega arith) in
     let every = h.every in
     let sized = h.sized in
-    (h.jobs, (h.makespan, (h.has, (place, (omega arith, right_before count text at place seq h lt, λ w. let low = w.0 in let high = w.1 in out (omega arith, omega arith))))))
+    (h.jobs, (h.machines, (h.makespan, (h.has, (place, (omega arith, right_before count text at place seq h lt, λ w. let low = w.0 in let high = w.1 in out (omega arith, omega arith)))))))
 refused_here count text at place seq end number next (Repeated p) h lt ends small read (is, low, high, among) =
     let here = job_here count text at place seq end number next h lt ends small read in
     let same : number ≡ get_or h.jobs place 0 = here.same in
@@ -188,7 +188,7 @@ refused_here count text at place seq end number next (Repeated p) h lt ends smal
     let number_is : number - 1 + 1 ≡ get_or h.jobs place 0 = omega arith in
     let there : Contains (take place h.jobs) (get_or h.jobs place 0) =
     subst (λ xs. Contains xs (get_or h.jobs place 0)) (sym h.taken) (subst (λ k. Contains (map (λ job. job + 1) seq.jobs) k) number_is (contains_up seq.jobs (number - 1) among)) in
-    (h.jobs, (h.makespan, (h.has, (place, (omega arith, right_before count text at place seq h lt, (omega arith, omega arith), there)))))
+    (h.jobs, (h.machines, (h.makespan, (h.has, (place, (omega arith, right_before count text at place seq h lt, (omega arith, omega arith), there))))))
 refused_here count text at place seq end number next (Syntax p) h lt ends small read f = absurd f
 refused_here count text at place seq end number next TooLong h lt ends small read f = absurd f
 refused_here count text at place seq end number next Read h lt ends small read f = absurd f
@@ -210,6 +210,7 @@ judging_more count text at place seq new end number next h lt ends small read wi
     ∙ ap (λ k. map (λ job. job + 1) seq.jobs ++ k ∷ []) (let k : get_or h.jobs place 0 ≡ number - 1 + 1 = omega arith in k) ∙ sym (map-append (λ job. job + 1) seq.jobs ((number - 1) ∷ [])) in
     record {
       jobs = h.jobs;
+      machines = h.machines;
       makespan = h.makespan;
       has = h.has;
       every = h.every;
@@ -224,10 +225,10 @@ judging_more count text at place seq new end number next h lt ends small read wi
 
 -- all were taken
 pub judged_all : (count : ℕ) (text : List ℕ) (at place : ℕ) (seq : Sequence) → IsJudging count text at place seq → place ≡ count
-    → (length seq.jobs ≡ seq.size) × IsSequence (length seq.jobs) seq.jobs × ((jobs : List ℕ) (makespan : ℕ) → HasText text jobs makespan → jobs ≡ map (λ job. job + 1) seq.jobs)
+    → (length seq.jobs ≡ seq.size) × IsSequence (length seq.jobs) seq.jobs × ((jobs : List ℕ) (machines : Option ℕ) (makespan : ℕ) → HasText text jobs machines makespan → jobs ≡ map (λ job. job + 1) seq.jobs)
 judged_all count text at place seq h is =
     let every = h.every in
     let size : length seq.jobs ≡ place = judged_length count text at place seq h (omega arith) in
     let all : length seq.jobs ≡ count = omega arith in
     let whole : h.jobs ≡ map (λ job. job + 1) seq.jobs = sym (take_all place h.jobs (omega arith)) ∙ h.taken in
-    (all ∙ sym h.sized, subst (λ n. IsSequence n seq.jobs) (sym all) h.sequence, λ jobs makespan has. (one_text text jobs h.jobs makespan h.makespan has h.has).0 ∙ whole)
+    (all ∙ sym h.sized, subst (λ n. IsSequence n seq.jobs) (sym all) h.sequence, λ jobs machines makespan has. (one_text text jobs h.jobs machines h.machines makespan h.makespan has h.has).0 ∙ whole)

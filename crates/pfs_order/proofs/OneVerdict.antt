@@ -1,5 +1,5 @@
 -- Each input is an order file or is refused.
-use Rattle.std.proofs.Common.{◌≡◌, ◌≢◌, ℕ, zero, suc, ◌+◌, ◌-◌, ◌<◌, ◌≤◌, ◌⊎◌, inl, inr, List, [], ◌∷◌, false, length, take, map, get_or, refl, sym, ◌∙◌, subst, arith, eqb, below_more}
+use Rattle.std.proofs.Common.{◌≡◌, ◌≢◌, ℕ, zero, suc, ◌+◌, ◌-◌, ◌<◌, ◌≤◌, ◌⊎◌, inl, inr, List, [], ◌∷◌, false, length, take, map, get_or, refl, sym, ◌∙◌, subst, arith, eqb, below_more, Option}
 use Rattle.std.specs.List.{All}
 use Rattle.std.proofs.lemmas.Bool.{cases_eq, cases_lt, ne_eqb}
 use Rattle.std.proofs.lemmas.List.{get_or-map, length-map, length-take-le, get_or-take, get_or_default}
@@ -117,17 +117,17 @@ some_verdict input = elim (cases_lt LONGEST_ORDER_FILE (length input)) [
   | inl long ↦ inr (TooLong, long)
   | inr short ↦ elim (text_or_fault input) [
     | inr fault ↦ inr (Syntax fault.0, (short, fault.1))
-    | inl text ↦ of_jobs text.0 text.1.0 text.1.1
+    | inl text ↦ of_jobs text.0 text.1.0 text.1.1.0 text.1.1.1
   ]
 ]
   where
-    of_right : (jobs : List ℕ) (makespan : ℕ) → HasText input jobs makespan → AreRight jobs ⊎ JobFault jobs → ((file : StatedOrder) × IsOrderFile input file) ⊎ ((fault : OrderFault) × RefusesOrder input fault)
-    of_right jobs makespan h (inl right) =
-        let file : StatedOrder = record { order = lowered jobs; makespan = makespan } in
+    of_right : (jobs : List ℕ) (machines : Option ℕ) (makespan : ℕ) → HasText input jobs machines makespan → AreRight jobs ⊎ JobFault jobs → ((file : StatedOrder) × IsOrderFile input file) ⊎ ((fault : OrderFault) × RefusesOrder input fault)
+    of_right jobs machines makespan h (inl right) =
+        let file : StatedOrder = record { order = lowered jobs; machines = machines; makespan = makespan } in
         let same : map (λ job. job + 1) (lowered jobs) ≡ jobs = raised jobs (All-from_get_or (λ job. 1 ≤ job) jobs 0 (λ i lt. (right.in_range i lt).0)) in
-        inl (file, record { is_order = right_order jobs right; has_text = subst (λ xs. HasText input xs makespan) (sym same) h })
-    of_right jobs makespan h (inr (inl (place, fault))) = inr (JobRange place, (jobs, (makespan, (h, fault))))
-    of_right jobs makespan h (inr (inr (place, fault))) = inr (Repeated place, (jobs, (makespan, (h, fault))))
+        inl (file, record { is_order = right_order jobs right; has_text = subst (λ xs. HasText input xs machines makespan) (sym same) h })
+    of_right jobs machines makespan h (inr (inl (place, fault))) = inr (JobRange place, (jobs, (machines, (makespan, (h, fault)))))
+    of_right jobs machines makespan h (inr (inr (place, fault))) = inr (Repeated place, (jobs, (machines, (makespan, (h, fault)))))
 
-    of_jobs : (jobs : List ℕ) (makespan : ℕ) → HasText input jobs makespan → ((file : StatedOrder) × IsOrderFile input file) ⊎ ((fault : OrderFault) × RefusesOrder input fault)
-    of_jobs jobs makespan h = of_right jobs makespan h (judged jobs (length jobs) 0 (omega arith) (λ k lt. absurd (omega arith)) (λ k lt. absurd (omega arith)))
+    of_jobs : (jobs : List ℕ) (machines : Option ℕ) (makespan : ℕ) → HasText input jobs machines makespan → ((file : StatedOrder) × IsOrderFile input file) ⊎ ((fault : OrderFault) × RefusesOrder input fault)
+    of_jobs jobs machines makespan h = of_right jobs machines makespan h (judged jobs (length jobs) 0 (omega arith) (λ k lt. absurd (omega arith)) (λ k lt. absurd (omega arith)))

@@ -1,12 +1,13 @@
 -- The texts of the grammar of order files, piece by piece.
-use Rattle.std.proofs.Common.{◌≡◌, ℕ, ◌+◌, ◌<◌, ◌≤◌, ◌^◌, List, [], ◌∷◌, ◌++◌, suc, length, refl, sym, ◌∙◌, ap, arith, codes, lit≤}
+use Rattle.std.proofs.Common.{◌≡◌, ◌≢◌, ℕ, ◌+◌, ◌<◌, ◌≤◌, ◌^◌, List, [], ◌∷◌, ◌++◌, suc, length, get_or, refl, sym, ◌∙◌, ap, arith, codes, lit≤, Option, Some, None}
 use Rattle.std.specs.Fmt.{decimal}
 use Rattle.std.specs.Char.{digit_value}
 use Rattle.std.specs.List.{All}
 use Rattle.std.proofs.lemmas.List.{append_assoc, append_cancel_left}
 use Rattle.std.proofs.lemmas.List.Elements.{All-head, All-tail}
 use Rattle.pfs_base.specs.Text.{spaced}
-use Rattle.pfs_order.specs.OrderText.{order_text}
+use Rattle.pfs_order.specs.OrderText.{first_line, order_text}
+use Rattle.pfs_order.specs.Sequence.{AreMachines}
 use Rattle.pfs_order.specs.Pieces.{counted, last_line}
 use Rattle.pfs_order.proofs.Numerals.{cut_at, decimal_lacks, decimal_one}
 
@@ -19,14 +20,26 @@ abbrev pub before : List ℕ → List ℕ → List ℕ
 before [] rest = rest
 before (job ∷ jobs) rest = decimal job ++ 32 ∷ before jobs rest
 
-pub text_shape : (jobs : List ℕ) (makespan : ℕ) → order_text jobs makespan ≡ counted (length jobs) (spaced jobs ++ 10 ∷ last_line makespan)
+-- the first line, and what follows it
+counted_is : (count : ℕ) (machines : Option ℕ) (rest : List ℕ) → first_line count machines ++ rest ≡ counted count machines rest
+counted_is count None rest = ap (λ xs. codes "order " ++ xs) (append_assoc (decimal count) (10 ∷ []) rest)
+counted_is count (Some machines) rest =
+    ap (λ xs. codes "order2 " ++ xs) (append_assoc (decimal count ++ 32 ∷ decimal machines) (10 ∷ []) rest ∙ append_assoc (decimal count) (32 ∷ decimal machines) (10 ∷ rest))
+
+pub text_shape : (jobs : List ℕ) (machines : Option ℕ) (makespan : ℕ) → order_text jobs machines makespan ≡ counted (length jobs) machines (spaced jobs ++ 10 ∷ last_line makespan)
 unfolding order_text
-text_shape jobs makespan =
-    let first : List ℕ = decimal (length jobs) in
+text_shape jobs machines makespan =
+    let first : List ℕ = first_line (length jobs) machines in
     let last : List ℕ = last_line makespan in
-    append_assoc (codes "order " ++ (first ++ 10 ∷ [])) (spaced jobs ++ 10 ∷ []) last
-    ∙ ap (λ xs. (codes "order " ++ (first ++ 10 ∷ [])) ++ xs) (append_assoc (spaced jobs) (10 ∷ []) last)
-    ∙ ap (λ xs. codes "order " ++ xs) (append_assoc first (10 ∷ []) (spaced jobs ++ 10 ∷ last))
+    append_assoc first (spaced jobs ++ 10 ∷ []) last
+    ∙ ap (λ xs. first ++ xs) (append_assoc (spaced jobs) (10 ∷ []) last)
+    ∙ counted_is (length jobs) machines (spaced jobs ++ 10 ∷ last)
+
+pub counted-append : (count : ℕ) (machines : Option ℕ) (rest more : List ℕ) → counted count machines rest ++ more ≡ counted count machines (rest ++ more)
+counted-append count None rest more = ap (λ xs. codes "order " ++ xs) (append_assoc (decimal count) (10 ∷ rest) more)
+counted-append count (Some machines) rest more =
+    ap (λ xs. codes "order2 " ++ xs)
+    (append_assoc (decimal count) (32 ∷ (decimal machines ++ 10 ∷ rest)) more ∙ ap (λ xs. decimal count ++ 32 ∷ xs) (append_assoc (decimal machines) (10 ∷ rest) more))
 
 pub ten_10 : 10 ≤ digit_value 10
 ten_10 = lit≤ tt
@@ -75,12 +88,36 @@ same_jobs (j ∷ i ∷ jobs) (k ∷ l ∷ others) line more p q h e =
     let u : i ∷ jobs ≡ l ∷ others = t.0 in
     (cc, t.1)
 
--- the count that a text begins with
-pub same_count : (count : ℕ) (rest other : List ℕ) (n : ℕ) → count < 10 ^ 18 → n < 10 ^ 18 → counted count rest ≡ counted n other → (count ≡ n) × (rest ≡ other)
-same_count count rest other n h k e =
-    let f : decimal count ++ 10 ∷ rest ≡ decimal n ++ 10 ∷ other = append_cancel_left (codes "order ") (decimal count ++ 10 ∷ rest) (decimal n ++ 10 ∷ other) e in
-    let r = cut_at 10 (decimal count) (decimal n) rest other (decimal_lacks 10 count ten_10 h) (decimal_lacks 10 n ten_10 k) f in
-    (decimal_one count n h k r.0, r.1)
+-- a number and the byte that ends it, twice
+pub same_number : (end m n : ℕ) (rest other : List ℕ) → 10 ≤ digit_value end → m < 10 ^ 18 → n < 10 ^ 18 → decimal m ++ end ∷ rest ≡ decimal n ++ end ∷ other → (m ≡ n) × (rest ≡ other)
+same_number end m n rest other no_digit h k e =
+    let r = cut_at end (decimal m) (decimal n) rest other (decimal_lacks end m no_digit h) (decimal_lacks end n no_digit k) e in
+    (decimal_one m n h k r.0, r.1)
+
+pub some_machines : (machines : ℕ) → AreMachines (Some machines) → machines < 10 ^ 18
+some_machines machines h = let few = h.1 in omega arith
+
+-- no first line of one version is one of the other
+no_other : (count : ℕ) (rest : List ℕ) (n machines : ℕ) (other : List ℕ) → counted count None rest ≢ counted n (Some machines) other
+no_other count rest n machines other e =
+    let space : ℕ = 32 in
+    let two : ℕ = 50 in
+    let byte : space ≡ two = ap (λ xs. get_or xs 5 0) e in
+    absurd (omega arith)
+
+-- what the first line of a text states
+pub same_head : (count : ℕ) (machines : Option ℕ) (rest other : List ℕ) (n : ℕ) (stated : Option ℕ) → count < 10 ^ 18 → n < 10 ^ 18 → AreMachines machines → AreMachines stated
+    → counted count machines rest ≡ counted n stated other → (count ≡ n) × (machines ≡ stated) × (rest ≡ other)
+same_head count None rest other n None h k p q e =
+    let r = same_number 10 count n rest other ten_10 h k (append_cancel_left (codes "order ") (decimal count ++ 10 ∷ rest) (decimal n ++ 10 ∷ other) e) in
+    (r.0, refl, r.1)
+same_head count None rest other n (Some m) h k p q e = absurd (no_other count rest n m other e)
+same_head count (Some m) rest other n None h k p q e = absurd (no_other n other count m rest (sym e))
+same_head count (Some m) rest other n (Some l) h k p q e =
+    let f = append_cancel_left (codes "order2 ") (decimal count ++ 32 ∷ (decimal m ++ 10 ∷ rest)) (decimal n ++ 32 ∷ (decimal l ++ 10 ∷ other)) e in
+    let r = same_number 32 count n (decimal m ++ 10 ∷ rest) (decimal l ++ 10 ∷ other) ten_32 h k f in
+    let s = same_number 10 m l rest other ten_10 (some_machines m p) (some_machines l q) r.1 in
+    (r.0, ap Some s.0, s.1)
 
 -- jobs, of which more follow, joined
 pub before-spaced : (done : List ℕ) (job : ℕ) (jobs rest : List ℕ) → before done (spaced (job ∷ jobs) ++ rest) ≡ spaced (done ++ job ∷ jobs) ++ rest

@@ -3,3 +3,4 @@ pub mod OrderLaws
 pub mod OrderText
 pub mod Pieces
 pub mod Sequence
+pub mod VersionOne

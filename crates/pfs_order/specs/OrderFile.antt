@@ -6,20 +6,21 @@ use Rattle.pfs_base.specs.declared.limits.TheConstants.{MOST_JOBS, LONGEST_ORDER
 use Rattle.pfs_order.specs.declared.fault.OrderFault.{OrderFault}
 use Rattle.pfs_order.specs.declared.fault.OrderFault.TheVariants.{Syntax, JobRange, Repeated, TooLong, Read, Memory}
 use Rattle.pfs_order.specs.OrderText.{order_text}
-use Rattle.pfs_order.specs.Sequence.{IsSequence, StatedOrder}
+use Rattle.pfs_order.specs.Sequence.{IsSequence, StatedOrder, AreMachines}
 
--- the text is that of these job numerals, of at most nine digits each, and of this makespan; the values of
--- the jobs may be wrong
-pub record HasText (text jobs : List ℕ) (makespan : ℕ) : Type 0 where
+-- the text is that of these job numerals, of at most nine digits each, of these machines if they are stated,
+-- and of this makespan; the values of the jobs may be wrong
+pub record HasText (text jobs : List ℕ) (machines : Option ℕ) (makespan : ℕ) : Type 0 where
   pub some_job : 1 ≤ length jobs
   pub few_jobs : length jobs ≤ MOST_JOBS
   pub short_jobs : All (λ job. job < 10 ^ 9) jobs
+  pub stated_machines : AreMachines machines
   pub short_makespan : makespan < 10 ^ 18
-  pub spelled : text ≡ order_text jobs makespan
+  pub spelled : text ≡ order_text jobs machines makespan
 
--- a text of the grammar
+-- a text of the grammar, in one of the versions
 abbrev pub IsText : List ℕ → Type 0
-IsText text = (jobs : List ℕ) × ((makespan : ℕ) × HasText text jobs makespan)
+IsText text = (jobs : List ℕ) × ((machines : Option ℕ) × ((makespan : ℕ) × HasText text jobs machines makespan))
 
 -- some text of a grammar begins so
 abbrev pub CanBeCompleted : (List ℕ → Type 0) → List ℕ → Type 0
@@ -57,7 +58,8 @@ IsJobFault jobs _ = ⊥
 
 -- the input is a text of the grammar whose jobs have this fault
 abbrev pub HasJobFault : List ℕ → OrderFault → Type 0
-HasJobFault input fault = (jobs : List ℕ) × ((makespan : ℕ) × (HasText input jobs makespan × IsJobFault jobs fault))
+HasJobFault input fault = (jobs : List ℕ) × ((machines : Option ℕ) × ((makespan : ℕ)
+    × (HasText input jobs machines makespan × IsJobFault jobs fault)))
 
 -- the whole input is refused so; a failed read and want of memory say nothing of it
 abbrev pub RefusesOrder : List ℕ → OrderFault → Type 0
@@ -68,10 +70,11 @@ RefusesOrder input (Repeated place) = HasJobFault input (Repeated place)
 RefusesOrder input Read = ⊥
 RefusesOrder input Memory = ⊥
 
--- the whole input is the text of an order of all jobs, which count from 0 in it, and a makespan
+-- the whole input is the text of an order of all jobs, which count from 0 in it, machines if they are stated,
+-- and a makespan
 pub record IsOrderFile (input : List ℕ) (file : StatedOrder) : Type 0 where
   pub is_order : IsSequence (length file.order) file.order
-  pub has_text : HasText input (map (λ job. job + 1) file.order) file.makespan
+  pub has_text : HasText input (map (λ job. job + 1) file.order) file.machines file.makespan
 
 -- the refusal of an input, unless a failed read or want of memory is told, which say nothing of it
 abbrev pub RefusesUnlessFailed : List ℕ → OrderFault → Type 0

@@ -1,22 +1,26 @@
 -- Laws of order files and of how other inputs are refused.
-use Rattle.std.specs.Prelude.{◌≡◌, ℕ, ◌<◌, ◌≤◌, ◌^◌, List, ◌∷◌, ◌++◌, length, take, ◌⊎◌}
+use Rattle.std.specs.Prelude.{◌≡◌, ℕ, ◌<◌, ◌≤◌, ◌^◌, ◌↔◌, List, ◌∷◌, ◌++◌, length, take, ◌⊎◌, Option, None}
 use Rattle.pfs_base.specs.Limits.{limits}
 use Rattle.pfs_base.specs.declared.limits.TheConstants.{LONGEST_ORDER_FILE}
 use Rattle.pfs_order.specs.declared.fault.OrderFault.{OrderFault}
 use Rattle.pfs_order.specs.OrderText.{file_text}
 use Rattle.pfs_order.specs.OrderFile.{IsText, IsOrderFile, IsSyntaxFault, RefusesOrder}
-use Rattle.pfs_order.specs.Sequence.{StatedOrder, IsSequence, IsSize}
+use Rattle.pfs_order.specs.Sequence.{StatedOrder, IsSequence, IsSize, AreMachines}
+use Rattle.pfs_order.specs.VersionOne.{IsVersionOne}
 
 -- what is written of an order is its order file
 abbrev pub WrittenIsRead : Type 0
-WrittenIsRead = (order : List ℕ) (makespan : ℕ) → IsSize limits (length order) → IsSequence (length order) order → makespan < 10 ^ 18
-    → IsOrderFile (file_text order makespan) (record { order = order; makespan = makespan })
+WrittenIsRead = (order : List ℕ) (machines : Option ℕ) (makespan : ℕ) → IsSize limits (length order)
+    → IsSequence (length order) order → AreMachines machines → makespan < 10 ^ 18
+    → IsOrderFile (file_text order machines makespan)
+    (record { order = order; machines = machines; makespan = makespan })
 
 -- and no other text is
 abbrev pub OnlyWritten : Type 0
-OnlyWritten = (input : List ℕ) (file : StatedOrder) → IsOrderFile input file → input ≡ file_text file.order file.makespan
+OnlyWritten = (input : List ℕ) (file : StatedOrder) → IsOrderFile input file
+    → input ≡ file_text file.order file.machines file.makespan
 
--- an input states at most one order and one makespan
+-- an input states at most one order, one makespan, and one number of machines or none
 abbrev pub OneOrderFile : Type 0
 OneOrderFile = (input : List ℕ) (one other : StatedOrder) → IsOrderFile input one → IsOrderFile input other → one ≡ other
 
@@ -47,3 +51,9 @@ TextOrFault = (input : List ℕ) → IsText input ⊎ ((offset : ℕ) × IsSynta
 -- each input is an order file or is refused; by the laws above, in one way
 abbrev pub SomeVerdict : Type 0
 SomeVerdict = (input : List ℕ) → ((file : StatedOrder) × IsOrderFile input file) ⊎ ((fault : OrderFault) × RefusesOrder input fault)
+
+-- the order files of version 1 are those that state no machines, with the same order and makespan
+abbrev pub VersionOneIsRead : Type 0
+VersionOneIsRead = (input order : List ℕ) (makespan : ℕ)
+    → IsVersionOne input order makespan
+    ↔ IsOrderFile input (record { order = order; machines = None; makespan = makespan })

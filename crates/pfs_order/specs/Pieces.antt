@@ -6,7 +6,9 @@ use Rattle.pfs_base.specs.declared.limits.TheConstants.{MOST_JOBS}
 use Rattle.pfs_base.specs.Text.{spaced}
 use Rattle.pfs_order.specs.declared.fault.OrderFault.{OrderFault}
 use Rattle.pfs_order.specs.declared.fault.OrderFault.TheVariants.{Syntax, JobRange, Repeated, Memory}
-use Rattle.pfs_order.specs.Sequence.{Sequence}
+use Rattle.pfs_order.specs.declared.reading.Version.{Version}
+use Rattle.pfs_order.specs.declared.reading.Version.TheVariants.{One, Two}
+use Rattle.pfs_order.specs.Sequence.{Sequence, AreMachines}
 use Rattle.pfs_order.specs.OrderFile.{IsText, IsFaultOf, IsSyntaxFault, HasJobFault, RefusesOrder}
 
 -- a text begins with one of some pieces
@@ -36,24 +38,41 @@ abbrev pub numeral_of : Option ℕ → List ℕ
 numeral_of None = []
 numeral_of (Some n) = decimal n
 
--- the first line, with this count of jobs, and what follows it
-abbrev pub counted : ℕ → List ℕ → List ℕ
-counted count rest = codes "order " ++ (decimal count ++ 10 ∷ rest)
+-- what the first line of a version begins with
+abbrev pub opening : Version → List ℕ
+opening One = codes "order "
+opening Two = codes "order2 "
+
+-- the byte behind the count of jobs
+abbrev pub count_end : Version → ℕ
+count_end One = 10
+count_end Two = 32
+
+-- the first line, with this count of jobs and these machines if they are stated, and what follows it
+abbrev pub counted : ℕ → Option ℕ → List ℕ → List ℕ
+counted count None rest = codes "order " ++ (decimal count ++ 10 ∷ rest)
+counted count (Some machines) rest = codes "order2 " ++ (decimal count ++ 32 ∷ (decimal machines ++ 10 ∷ rest))
 
 -- the last line
 abbrev pub last_line : ℕ → List ℕ
 last_line makespan = codes "makespan " ++ (decimal makespan ++ 10 ∷ [])
 
--- so many job numerals
-pub record AreJobs (count : ℕ) (jobs : List ℕ) : Type 0 where
+-- what a first line may state
+pub record IsHead (count : ℕ) (machines : Option ℕ) : Type 0 where
   pub some : 1 ≤ count
   pub few : count ≤ MOST_JOBS
+  pub stated : AreMachines machines
+
+-- so many job numerals behind such a first line
+pub record AreJobs (count : ℕ) (machines : Option ℕ) (jobs : List ℕ) : Type 0 where
+  pub head : IsHead count machines
   pub short : All (λ job. job < 10 ^ 9) jobs
   pub every : length jobs ≡ count
 
 -- the text has the first line, the line of so many jobs, and then what stands at an offset
-abbrev pub HasJobs : ℕ → List ℕ → ℕ → Type 0
-HasJobs count text at = (jobs : List ℕ) × (AreJobs count jobs × (text ≡ counted count (spaced jobs ++ 10 ∷ drop at text)))
+abbrev pub HasJobs : ℕ → Option ℕ → List ℕ → ℕ → Type 0
+HasJobs count machines text at = (jobs : List ℕ)
+    × (AreJobs count machines jobs × (text ≡ counted count machines (spaced jobs ++ 10 ∷ drop at text)))
 
 -- why a job number, which counts from 1, can't follow those of a sequence
 abbrev pub RefusesJob : Sequence → ℕ → OrderFault → Type 0

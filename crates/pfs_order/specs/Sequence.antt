@@ -1,17 +1,23 @@
 -- Sequences of distinct jobs. Jobs count from 0.
-use Rattle.std.specs.Prelude.{ℕ, ◌<◌, ◌≤◌, List, nat_eq}
+use Rattle.std.specs.Prelude.{ℕ, ◌<◌, ◌≤◌, List, Option, IfSome, nat_eq}
 use Rattle.std.specs.List.{All, IsDistinct, range_with_len}
 use Rattle.pfs_base.specs.Limits.{Limits}
+use Rattle.pfs_base.specs.declared.limits.TheConstants.{MOST_MACHINES}
 
 -- how many jobs there are, and which of them stand in the sequence, in order
 pub record Sequence : Type 0 where
   pub size : ℕ
   pub jobs : List ℕ
 
--- an order of all jobs, and the makespan that is stated for it
+-- an order of all jobs, and the makespan that is stated for it; how many machines there are may be stated too
 pub record StatedOrder : Type 0 where
   pub order : List ℕ
+  pub machines : Option ℕ
   pub makespan : ℕ
+
+-- where a number of machines is stated, so many are accepted
+abbrev pub AreMachines : Option ℕ → Type 0
+AreMachines machines = IfSome machines (λ m. (1 ≤ m) × (m ≤ MOST_MACHINES))
 
 -- distinct jobs below the size
 pub record IsSequence (size : ℕ) (jobs : List ℕ) : Type 0 where

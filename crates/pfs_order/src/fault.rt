@@ -5,8 +5,8 @@ use thiserror::Error;
 /// Why a sequence or an order could not be made, or an order file not be read.
 #[derive(Clone, Copy, Debug, PartialEq, Eq, Error)]
 pub enum OrderFault {
-    /// The input is no text of the grammar of order files. The offset is the length of the longest front
-    /// of the input with which some text of that grammar begins.
+    /// The input is no text of the grammar of order files, in either version. The offset is the length of
+    /// the longest front of the input with which some text of that grammar begins.
     #[error("Syntax")]
     Syntax { offset: usize },
     /// The job number at a place, counted from 1, is 0 or greater than the number of jobs.

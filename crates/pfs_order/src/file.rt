@@ -1,36 +1,43 @@
 //! What an order file states.
 ghost use Rattle.std.specs.Prelude.{◌≡◌, ◌<◌, ◌^◌, length};
 ghost use Rattle.pfs_base.specs.Limits.{limits};
-ghost use Rattle.pfs_order.specs.Sequence.{IsSequence, IsSize};
+ghost use Rattle.pfs_order.specs.Sequence.{IsSequence, IsSize, AreMachines};
 
 use crate::order::Order;
 use std::marker::Model;
 
-/// An order, and the makespan that its file states for it, which need not be the right one.
+/// An order, and the makespan that its file states for it, which need not be the right one. A file of
+/// version 2 states how many machines there are too.
 #[derive(Drop)]
 pub struct OrderFile {
     order: Order,
+    machines: Option<usize>,
     makespan: u64,
 }
 
 impl Model for OrderFile {
     ghost use Rattle.std.specs.Prelude.{◌<◌, ◌^◌};
-    ghost use Rattle.pfs_order.specs.Sequence.{StatedOrder};
+    ghost use Rattle.pfs_order.specs.Sequence.{StatedOrder, AreMachines};
 
     ghost Value = { StatedOrder };
 
-    ghost view = { λ a. record { order = a.order; makespan = a.makespan } };
+    ghost view = { λ a. record { order = a.order; machines = a.machines; makespan = a.makespan } };
 
-    ghost invariant = { λ a. a.makespan < 10 ^ 18 };
+    ghost invariant = { λ a. (a.makespan < 10 ^ 18) × AreMachines a.machines };
 }
 
 impl OrderFile {
     /// What a file states. The makespan has at most eighteen digits, as in a file.
-    pub(crate) fn new(order: Order, makespan: u64) -> OrderFile
-        requires { makespan < 10 ^ 18 }
-        ensures { result ≡ record { order = order; makespan = makespan } }
+    pub(crate) fn new(order: Order, machines: Option<usize>, makespan: u64) -> OrderFile
+        requires short { makespan < 10 ^ 18 }
+        requires stated { AreMachines machines }
+        ensures { result ≡ record { order = order; machines = machines; makespan = makespan } }
     {
-        OrderFile { order, makespan }
+        OrderFile {
+            order,
+            machines,
+            makespan,
+        }
     }
 
     /// The order that the file states. Its jobs count from 0 here, and from 1 in the file.
@@ -42,6 +49,14 @@ impl OrderFile {
         // Called for what it ensures of every order.
         let _ = self.order.len();
         &self.order
+    }
+
+    /// How many machines the file states; a file of version 1 states none.
+    pub fn machines(&self) -> Option<usize>
+        ensures value { result ≡ self.now.machines }
+        ensures accepted { AreMachines result }
+    {
+        self.machines
     }
 
     /// The makespan as the file states it.

@@ -1,5 +1,6 @@
 //! Laws about the definitions alone.
 ghost use Rattle.pfs_order.specs.OrderLaws.{WrittenIsRead, OnlyWritten, OneOrderFile, OneRefusal, NoneIsBoth, TextsFit, CutText, LongerText, TextOrFault, SomeVerdict};
+ghost use Rattle.pfs_order.specs.OrderLaws.{VersionOneIsRead};
 
 /// What is written of an order and a makespan is their order file.
 pub fn written_is_read()
@@ -11,7 +12,7 @@ pub fn only_written()
     ensures { OnlyWritten }
 {}
 
-/// An input is the order file of at most one order and one makespan.
+/// An input is the order file of at most one order and one makespan, and states the machines or doesn't.
 pub fn one_order_file()
     ensures { OneOrderFile }
 {}
@@ -49,4 +50,10 @@ pub fn text_or_fault()
 /// Each input is an order file or is refused, and so, by the laws above, in exactly one way.
 pub fn some_verdict()
     ensures { SomeVerdict }
+{}
+
+/// The order files of version 1 are read with the same order and makespan as before version 2, and state
+/// no machines; no others do.
+pub fn version_one_is_read()
+    ensures { VersionOneIsRead }
 {}

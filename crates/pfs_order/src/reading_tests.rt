@@ -7,6 +7,8 @@ use std::test::Fail;
 
 const TEXT: &[u8] = b"order 3\n2 1 3\nmakespan 10\n";
 
+const SECOND_TEXT: &[u8] = b"order2 3 2\n2 1 3\nmakespan 10\n";
+
 // A reader of a text that gives at most so many bytes at once, and fails after so many calls.
 #[derive(Drop)]
 struct Given {
@@ -73,7 +75,7 @@ impl Source for Endless {
 
 // What the order file of a text is, where the reader gives so many bytes at once and fails after so
 // many calls.
-fn read_text(
+pub(crate) fn read_text(
     alloc: Global,
     text: &[u8],
     at_once: usize,
@@ -95,13 +97,19 @@ fn read_text(
     read_order(alloc, &mut reader)
 }
 
-// Whether the answer is an order file of these jobs and this makespan.
-fn states(answer: &Result<OrderFile, OrderFault>, jobs: &[usize], makespan: u64) -> bool {
+// Whether the answer is an order file of these jobs, these machines if any, and this makespan.
+pub(crate) fn states(
+    answer: &Result<OrderFile, OrderFault>,
+    jobs: &[usize],
+    machines: Option<usize>,
+    makespan: u64,
+) -> bool {
     match answer {
         Ok(file) => {
             let order = file.order();
             order.len() == jobs.len()
                 && (0..order.len()).all(|place| order.at(place) == jobs[place])
+                && file.machines() == machines
                 && file.makespan() == makespan
         }
         Err(_) => false,
@@ -120,24 +128,54 @@ fn is_refused(answer: &Result<OrderFile, OrderFault>, fault: OrderFault) -> bool
 fn reads_order_files(rt: HostRuntime) {
     for at_once in [1, 7, 100] {
         let answer = read_text(rt.alloc(), TEXT, at_once, 100);
-        assert!(rt; states(&answer, &[1, 0, 2], 10), "{at_once} at once");
+        assert!(rt; states(&answer, &[1, 0, 2], None, 10), "{at_once} at once");
     }
     let identity = b"order 3\n1 2 3\nmakespan 0\n";
-    assert!(rt; states(&read_text(rt.alloc(), identity, 100, 100), &[0, 1, 2], 0));
+    assert!(rt;
+        states(
+            &read_text(rt.alloc(), identity, 100, 100),
+            &[0, 1, 2],
+            None,
+            0
+        )
+    );
+}
+
+#[test]
+fn reads_order_files_of_version_2(rt: HostRuntime) {
+    for at_once in [1, 7, 100] {
+        let answer = read_text(rt.alloc(), SECOND_TEXT, at_once, 100);
+        assert!(rt;
+            states(&answer, &[1, 0, 2], Some(2), 10),
+            "{at_once} at once"
+        );
+    }
+    let cases: [(&[u8], usize, u64); 3] = [
+        (b"order2 3 2\n1 2 3\nmakespan 0\n", 2, 0),
+        (b"order2 3 1\n1 2 3\nmakespan 9\n", 1, 9),
+        (b"order2 3 200\n1 2 3\nmakespan 9\n", 200, 9),
+    ];
+    for (text, machines, makespan) in cases {
+        let answer = read_text(rt.alloc(), text, 100, 100);
+        assert!(rt;
+            states(&answer, &[0, 1, 2], Some(machines), makespan),
+            "{machines} machines"
+        );
+    }
 }
 
 #[test]
 fn refuses_other_texts(rt: HostRuntime) {
     let syntax = |offset| OrderFault::Syntax { offset };
-    let cases: [(&[u8], OrderFault); 24] = [
+    let cases: [(&[u8], OrderFault); 41] = [
         (b"", syntax(0)),
         (b"order", syntax(5)),
         (b"order 3", syntax(7)),
         (b"order 0\n", syntax(6)),
         (b"order 03\n2 1 3\nmakespan 10\n", syntax(6)),
-        (b"order 2001\n", syntax(9)),
+        (b"order 5001\n", syntax(9)),
+        (b"order 2001\n", syntax(11)),
         (b"order 3\r\n2 1 3\nmakespan 10\n", syntax(7)),
-        (b"order2 3 2\n2 1 3\nmakespan 10\n", syntax(5)),
         (b"order 3\n2  1", syntax(10)),
         (b"order 3\n2 1\nmakespan 10\n", syntax(11)),
         (b"order 3\n2 1 3 4\nmakespan 10\n", syntax(13)),
@@ -175,6 +213,29 @@ fn refuses_other_texts(rt: HostRuntime) {
             OrderFault::JobRange { place: 2 },
         ),
         (b"order 3\n1 1 4\nmakespan x\n", syntax(23)),
+        (b"order2", syntax(6)),
+        (b"order3 3\n2 1 3\nmakespan 10\n", syntax(5)),
+        (b"order22 3 2\n2 1 3\nmakespan 10\n", syntax(6)),
+        (b"order2\n2 1 3\nmakespan 10\n", syntax(6)),
+        (b"order2 3\n2 1 3\nmakespan 10\n", syntax(8)),
+        (b"order2 03 2\n2 1 3\nmakespan 10\n", syntax(7)),
+        (b"order2 0 2\n", syntax(7)),
+        (b"order2 5001 2\n", syntax(10)),
+        (b"order2 3 02\n2 1 3\nmakespan 10\n", syntax(9)),
+        (b"order2 3 0\n2 1 3\nmakespan 10\n", syntax(9)),
+        (b"order2 3 201\n2 1 3\nmakespan 10\n", syntax(11)),
+        (b"order2 3 2 \n2 1 3\nmakespan 10\n", syntax(10)),
+        (b"order2 3  2\n2 1 3\nmakespan 10\n", syntax(9)),
+        (b"order 3 2\n2 1 3\nmakespan 10\n", syntax(7)),
+        (b"order2 3 2\n2 1 3\nmakespan 10\n\n", syntax(29)),
+        (
+            b"order2 3 2\n2 1 4\nmakespan 10\n",
+            OrderFault::JobRange { place: 3 },
+        ),
+        (
+            b"order2 3 2\n2 2 3\nmakespan 1\n",
+            OrderFault::Repeated { place: 2 },
+        ),
     ];
     for (text, fault) in cases {
         for at_once in [1, 100] {
@@ -186,12 +247,16 @@ fn refuses_other_texts(rt: HostRuntime) {
 
 #[test]
 fn refuses_a_cut_order_file_where_it_ends(rt: HostRuntime) {
-    for cut in 0..TEXT.len() {
-        let answer = read_text(rt.alloc(), &TEXT[..cut], 100, 100);
-        assert!(rt;
-            is_refused(&answer, OrderFault::Syntax { offset: cut }),
-            "at {cut}"
-        );
+    assert_eq!(rt; TEXT.len(), 26);
+    assert_eq!(rt; SECOND_TEXT.len(), 29);
+    for text in [TEXT, SECOND_TEXT] {
+        for cut in 0..text.len() {
+            let answer = read_text(rt.alloc(), &text[..cut], 100, 100);
+            assert!(rt;
+                is_refused(&answer, OrderFault::Syntax { offset: cut }),
+                "at {cut}"
+            );
+        }
     }
 }
 
@@ -221,6 +286,7 @@ fn tells_a_failed_read(rt: HostRuntime) {
         states(
             &read_text(rt.alloc(), TEXT, 1, TEXT.len() + 1),
             &[1, 0, 2],
+            None,
             10
         )
     );

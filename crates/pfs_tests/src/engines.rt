@@ -12,6 +12,17 @@ const TITLE: &[u8] =
 
 const GOOD_ORDER: &[u8] = b"order 3\n2 1 3\nmakespan 10\n";
 
+/// Order files of version 2 that fit the three-job instance, or state one machine more, or another size too.
+const FITTING: &[u8] = b"order2 3 2\n2 1 3\nmakespan 10\n";
+
+const OTHER_MACHINES: &[u8] = b"order2 3 3\n2 1 3\nmakespan 9\n";
+
+const OTHER_SIZES: &[u8] = b"order2 2 3\n1 2\nmakespan 9\n";
+
+const WRONG_MACHINES: &[u8] = b"wrong machines\norder 3\nmachines 2\n";
+
+const WRONG_SIZE: &[u8] = b"wrong size\norder 2\njobs 3\n";
+
 /// Checks what `value` answers and prints for block 1 of a file in Taillard's layout.
 fn assert_value(
     rt: &impl Abort,
@@ -55,6 +66,20 @@ fn value_accepts_every_spelling(rt: HostRuntime) {
 }
 
 #[test]
+fn value_prints_long_makespans(rt: HostRuntime) {
+    let files: [(&[u8], &[u8]); 2] = [
+        (b"3 2 0 0 0\n3 2 4\n2 5 1000001\n", b"makespan 1000011\n"),
+        (
+            b"3 2 0 0 0\n3 2 4\n2 5 1000000000\n",
+            b"makespan 1000000010\n",
+        ),
+    ];
+    for (file, text) in files {
+        assert_value(&rt, rt.alloc(), file, Ok(Outcome::Done), text);
+    }
+}
+
+#[test]
 fn refused_files_have_status_2_and_print_nothing(rt: HostRuntime) {
     let files: [&[u8]; 8] = [
         b"",
@@ -63,7 +88,7 @@ fn refused_files_have_status_2_and_print_nothing(rt: HostRuntime) {
         b"3 2 0 0 0\nprocessing times :\n3 2 4\nx 2 5 1\n",
         b"3 2 0 0 0\nprocessing times :\n3 2 4\n2 5 1 7\n",
         b"3 2 0 0 0\nprocessing times :\n3 2 4\n2 5",
-        b"3 2 0 0 0\nprocessing times :\n3 2 4\n2 5 1000001\n",
+        b"3 2 0 0 0\nprocessing times :\n3 2 4\n2 5 1000000001\n",
         b"3 2\n3 2 4\n2 5 1\n",
     ];
     for file in files {
@@ -147,7 +172,7 @@ fn check_prints_its_verdict(rt: HostRuntime) {
         alloc,
         b"order 2\n1 2\nmakespan 9\n",
         failed,
-        b"wrong size\norder 2\njobs 3\n",
+        WRONG_SIZE,
     );
     let syntax = OrderFault::Syntax { offset: 6 };
     assert_check(
@@ -160,13 +185,55 @@ fn check_prints_its_verdict(rt: HostRuntime) {
 }
 
 #[test]
+fn check_judges_stated_machines_behind_the_size(rt: HostRuntime) {
+    let failed = Ok(Outcome::CheckFailed);
+    let alloc = rt.alloc();
+    let verdicts: [(&[u8], Result<Outcome, DeskFault>, &[u8]); 4] = [
+        (
+            FITTING,
+            Ok(Outcome::Done),
+            b"valid\nmakespan 10\nbound 10\noptimal\n",
+        ),
+        (OTHER_MACHINES, failed, WRONG_MACHINES),
+        (OTHER_SIZES, failed, WRONG_SIZE),
+        (
+            b"order2 3 2\n2 1 3\nmakespan 9\n",
+            failed,
+            b"wrong makespan\nstated 9\ncomputed 10\n",
+        ),
+    ];
+    for (order, answer, text) in verdicts {
+        assert_check(&rt, alloc, order, answer, text);
+    }
+}
+
+#[test]
+fn check_tells_how_far_a_first_line_can_be_completed(rt: HostRuntime) {
+    let orders: [(&[u8], usize); 5] = [
+        (b"order2 3\n2 1 3\nmakespan 10\n", 8),
+        (b"order2 3 02\n2 1 3\nmakespan 10\n", 9),
+        (b"order2 3 201\n2 1 3\nmakespan 10\n", 11),
+        (b"order3 3\n2 1 3\nmakespan 10\n", 5),
+        (b"order 3 2\n2 1 3\nmakespan 10\n", 7),
+    ];
+    for (order, offset) in orders {
+        let syntax = OrderFault::Syntax { offset };
+        assert_check(&rt, rt.alloc(), order, Err(DeskFault::Order(syntax)), b"");
+    }
+}
+
+#[test]
 fn table_prints_when_each_operation_starts_and_ends(rt: HostRuntime) {
     let text = b"table 3 2\n2 0 2 2 7\n1 2 5 7 9\n3 5 9 9 10\nmakespan 10\n";
-    let wrong = b"wrong size\norder 2\njobs 3\n";
-    let orders: [(&[u8], Outcome, &[u8]); 3] = [
+    let failed = Outcome::CheckFailed;
+    let orders: [(&[u8], Outcome, &[u8]); 7] = [
         (GOOD_ORDER, Outcome::Done, text),
         (b"order 3\n2 1 3\nmakespan 9\n", Outcome::Done, text),
-        (b"order 2\n1 2\nmakespan 9\n", Outcome::CheckFailed, wrong),
+        (b"order 2\n1 2\nmakespan 9\n", failed, WRONG_SIZE),
+        (FITTING, Outcome::Done, text),
+        (b"order2 3 2\n2 1 3\nmakespan 9\n", Outcome::Done, text),
+        (OTHER_MACHINES, failed, WRONG_MACHINES),
+        (OTHER_SIZES, failed, WRONG_SIZE),
     ];
     for (order, outcome, printed) in orders {
         let mut writer = Taken::new(256, 5);

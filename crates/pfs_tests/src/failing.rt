@@ -12,7 +12,11 @@ use std::test::Fail;
 /// More calls than any of these texts takes, a byte a call.
 pub const CALLS: u64 = 150;
 
+/// An order file of version 1.
 pub const ORDER: &[u8] = b"order 3\n2 1 3\nmakespan 10\n";
+
+/// The same order in version 2, which states the machines too.
+pub const ORDER2: &[u8] = b"order2 3 2\n2 1 3\nmakespan 10\n";
 
 const VALUE: &[u8] = b"makespan 11\n";
 
@@ -45,11 +49,20 @@ fn read_block_reads_up_to_its_answer(rt: HostRuntime) {
 }
 
 /// Order files, how many bytes of them are given a call, the call that shows the answer, and the fault.
-const ORDER_FILES: [(&[u8], usize, u64, Option<OrderFault>); 5] = [
+const ORDER_FILES: [(&[u8], usize, u64, Option<OrderFault>); 9] = [
     (ORDER, 1, 27, None),
     (ORDER, 10, 4, None),
     (ORDER, 26, 2, None),
+    (ORDER2, 1, 30, None),
+    (ORDER2, 10, 4, None),
+    (ORDER2, 29, 2, None),
     (b"order 03\n", 1, 10, Some(OrderFault::Syntax { offset: 6 })),
+    (
+        b"order2 3 02\n",
+        1,
+        13,
+        Some(OrderFault::Syntax { offset: 9 }),
+    ),
     (b"", 1, 1, Some(OrderFault::Syntax { offset: 0 })),
 ];
 
@@ -141,11 +154,17 @@ fn write_block_writes_up_to_the_end(rt: HostRuntime) -> Result<(), Fail> {
 #[test]
 fn write_order_writes_up_to_the_end(rt: HostRuntime) -> Result<(), Fail> {
     let order = Order::identity(rt.alloc(), 3)?;
-    for most in [1, 5, 256] {
-        for call in 1..CALLS {
-            let mut writer = Taken::until(call, most);
-            let fault = write_order(&mut writer, &order, 11).err();
-            assert_taken(&rt, &writer, b"order 3\n1 2 3\nmakespan 11\n", call, fault);
+    let versions: [(Option<usize>, &[u8]); 2] = [
+        (None, b"order 3\n1 2 3\nmakespan 11\n"),
+        (Some(2), b"order2 3 2\n1 2 3\nmakespan 11\n"),
+    ];
+    for (machines, text) in versions {
+        for most in [1, 5, 256] {
+            for call in 1..CALLS {
+                let mut writer = Taken::until(call, most);
+                let fault = write_order(&mut writer, &order, machines, 11).err();
+                assert_taken(&rt, &writer, text, call, fault);
+            }
         }
     }
     Ok(())

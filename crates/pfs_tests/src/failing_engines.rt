@@ -2,7 +2,7 @@
 //! made again, and none behind a failure or the end.
 ghost use Rattle.std.specs.Prelude.{◌≡◌, false};
 
-use crate::failing::{CALLS, ORDER, assert_taken};
+use crate::failing::{CALLS, ORDER, ORDER2, assert_taken};
 use crate::fakes::{Broken, Pieces, Taken};
 use crate::texts::{BY_JOB, BY_MACHINE, FIVE_JOBS};
 use pfs_base::{FromRead, Sink, Source, ToWrite, WriteFault};
@@ -51,8 +51,15 @@ const READING_ORDERS: [Engine; 2] = [Engine::Check, Engine::Table];
 /// How many bytes of `BY_MACHINE` are given a call, and how many calls it takes to its end.
 const READS: [(usize, u64); 3] = [(1, 121), (16, 8), (121, 1)];
 
-/// How many bytes of `ORDER` are given a call, and how many calls it takes to see that nothing is behind it.
-const ORDER_READS: [(usize, u64); 3] = [(1, 27), (10, 4), (26, 2)];
+/// Order files, how many bytes of them are given a call, and how many calls it takes to see that nothing is behind.
+const ORDER_READS: [(&[u8], usize, u64); 6] = [
+    (ORDER, 1, 27),
+    (ORDER, 10, 4),
+    (ORDER, 26, 2),
+    (ORDER2, 1, 30),
+    (ORDER2, 10, 4),
+    (ORDER2, 29, 2),
+];
 
 impl Engine {
     /// Runs this engine on what it reads of these.
@@ -78,11 +85,11 @@ impl Engine {
         }
     }
 
-    /// What this engine prints of the three-job instance and `ORDER`.
+    /// What this engine prints of the three-job instance and its order in either version.
     fn text(self) -> &'static [u8] {
         match self {
             Engine::Value => b"makespan 11\n",
-            Engine::Solve => ORDER,
+            Engine::Solve => ORDER2,
             Engine::Check => b"valid\nmakespan 10\nbound 10\noptimal\n",
             Engine::Table => b"table 3 2\n2 0 2 2 7\n1 2 5 7 9\n3 5 9 9 10\nmakespan 10\n",
             Engine::Convert => BY_JOB,
@@ -167,10 +174,10 @@ fn each_engine_reads_its_instance_up_to_the_end_of_the_block(rt: HostRuntime) {
 #[test]
 fn each_engine_reads_its_order_up_to_the_end(rt: HostRuntime) {
     for engine in READING_ORDERS {
-        for (most, calls) in ORDER_READS {
+        for (order, most, calls) in ORDER_READS {
             for call in 1..CALLS {
                 let mut reader = Pieces::whole(BY_MACHINE);
-                let mut orders = Pieces::new(ORDER, most, Some(call));
+                let mut orders = Pieces::new(order, most, Some(call));
                 let mut writer = Taken::new(256, 256);
                 let answer = engine.run(rt.alloc(), &mut reader, &mut orders, &mut writer);
                 let done = (reader.calls(), orders.calls());

@@ -8,8 +8,8 @@ use pfs_search::MOST_PASSES;
 use std::alloc::Global;
 use std::process::Abort;
 
-/// What `solve` prints of the three-job instance, in 26 bytes.
-const THREE_JOBS: &[u8] = b"order 3\n2 1 3\nmakespan 10\n";
+/// What `solve` prints of the three-job instance, in 29 bytes.
+const THREE_JOBS: &[u8] = b"order2 3 2\n2 1 3\nmakespan 10\n";
 
 /// NEH alone, and its count.
 const COUNTED: SolveOptions = SolveOptions {
@@ -51,19 +51,22 @@ fn assert_solve(rt: &impl Abort, alloc: Global, file: &[u8], options: SolveOptio
 #[test]
 fn solve_prints_nehs_order(rt: HostRuntime) {
     let alloc = rt.alloc();
-    assert_eq!(rt; THREE_JOBS.len(), 26);
+    assert_eq!(rt; THREE_JOBS.len(), 29);
     assert_solve(&rt, alloc, BY_MACHINE, PLAIN, THREE_JOBS);
     let rows: [(&[u8], &[u8]); 5] = [
-        (BY_MACHINE, b"order 3\n2 1 3\nmakespan 10\ncells 36\n"),
+        (BY_MACHINE, b"order2 3 2\n2 1 3\nmakespan 10\ncells 36\n"),
         (
             b"3 2 0 0 0\n1 1 1\n1 1 1\n",
-            b"order 3\n3 2 1\nmakespan 4\ncells 36\n",
+            b"order2 3 2\n3 2 1\nmakespan 4\ncells 36\n",
         ),
-        (b"1 1 0 0 0\n0\n", b"order 1\n1\nmakespan 0\ncells 2\n"),
-        (b"2 1 0 0 0\n5 3\n", b"order 2\n2 1\nmakespan 8\ncells 8\n"),
+        (b"1 1 0 0 0\n0\n", b"order2 1 1\n1\nmakespan 0\ncells 2\n"),
+        (
+            b"2 1 0 0 0\n5 3\n",
+            b"order2 2 1\n2 1\nmakespan 8\ncells 8\n",
+        ),
         (
             b"3 3 0 0 0\n3 3 0\n1 0 6\n0 1 0\n",
-            b"order 3\n3 2 1\nmakespan 7\ncells 54\n",
+            b"order2 3 3\n3 2 1\nmakespan 7\ncells 54\n",
         ),
     ];
     for (file, text) in rows {
@@ -81,13 +84,13 @@ fn solve_plays_rounds(rt: HostRuntime) {
             passes: 0,
             cells: true,
         };
-        let text = b"order 3\n2 1 3\nmakespan 10\ncells 196\n";
+        let text = b"order2 3 2\n2 1 3\nmakespan 10\ncells 196\n";
         assert_solve(&rt, rt.alloc(), BY_MACHINE, options, text);
         let options = SolveOptions {
             take: None,
             ..options
         };
-        let text = b"order 3\n2 1 3\nmakespan 10\ncells 216\n";
+        let text = b"order2 3 2\n2 1 3\nmakespan 10\ncells 216\n";
         assert_solve(&rt, rt.alloc(), BY_MACHINE, options, text);
     }
 }
@@ -101,13 +104,13 @@ fn solve_makes_passes_in_rounds_alone(rt: HostRuntime) {
         passes: 1,
         cells: true,
     };
-    let text = b"order 3\n2 1 3\nmakespan 10\ncells 496\n";
+    let text = b"order2 3 2\n2 1 3\nmakespan 10\ncells 496\n";
     assert_solve(&rt, rt.alloc(), BY_MACHINE, options, text);
     let options = SolveOptions {
         passes: 1,
         ..COUNTED
     };
-    let text = b"order 3\n2 1 3\nmakespan 10\ncells 36\n";
+    let text = b"order2 3 2\n2 1 3\nmakespan 10\ncells 36\n";
     assert_solve(&rt, rt.alloc(), BY_MACHINE, options, text);
 }
 
@@ -120,7 +123,7 @@ fn solve_plays_a_round_on_one_job(rt: HostRuntime) {
         passes: 0,
         cells: true,
     };
-    let text = b"order 1\n1\nmakespan 0\ncells 4\n";
+    let text = b"order2 1 1\n1\nmakespan 0\ncells 4\n";
     assert_solve(&rt, rt.alloc(), b"1 1 0 0 0\n0\n", options, text);
 }
 

@@ -3,7 +3,8 @@ ghost use Rattle.std.specs.Prelude.{◌≡◌, ◌+◌, ◌<◌, ◌≤◌, fals
 ghost use Rattle.pfs_base.specs.Sends.{Sends};
 ghost use Rattle.pfs_desk.specs.Engine.{Writes, CheckOutput, JudgesFirst, JudgesSecond, ReadsFirst, ReadsSecond};
 ghost use Rattle.pfs_desk.specs.Engine.{TellsRead, TellsOrderRead, RefusesNoSeed, RefusesNoTake, WantsBehindSecond};
-ghost use Rattle.pfs_desk.specs.OutputText.{finding, valid_text, wrong_size_text, verdict_text, outcome_of};
+ghost use Rattle.pfs_desk.specs.OutputText.{finding, valid_text, wrong_size_text, wrong_machines_text};
+ghost use Rattle.pfs_desk.specs.OutputText.{verdict_text, outcome_of};
 
 use crate::fault::{DeskFault, Outcome};
 use pfs_audit::{Verdict, check};
@@ -53,7 +54,8 @@ fn outcome_on(verdict: Verdict) -> Outcome
 {
     match verdict {
         Verdict::Valid { .. } => Outcome::Done,
-        Verdict::WrongSize { .. } | Verdict::WrongMakespan { .. } => Outcome::CheckFailed,
+        Verdict::WrongSize { .. } | Verdict::WrongMachines { .. } | Verdict::WrongMakespan { .. } =>
+            Outcome::CheckFailed,
     }
 }
 
@@ -65,6 +67,7 @@ fn put_verdict<W: Sink>(writer: &mut W, verdict: Verdict) -> Result<u64, WriteFa
     match verdict {
         Verdict::Valid { makespan, bound } => put_valid(writer, makespan, bound),
         Verdict::WrongSize { order, jobs } => put_wrong_size(writer, order, jobs),
+        Verdict::WrongMachines { order, machines } => put_wrong_machines(writer, order, machines),
         Verdict::WrongMakespan { stated, computed } => {
             put_finding(
                 writer,
@@ -95,6 +98,26 @@ pub(super) fn put_wrong_size<W: Sink>(
         order as u64,
         b"jobs",
         jobs as u64,
+    )
+}
+
+/// Writes that another number of machines is stated for an order than the instance has.
+pub(super) fn put_wrong_machines<W: Sink>(
+    writer: &mut W,
+    order: usize,
+    machines: usize,
+) -> Result<u64, WriteFault>
+    requires { W.has_failed writer.old ≡ false }
+    ensures { Sends (W.written writer.old) (W.written writer.new) (W.has_failed writer.new)
+        0 (wrong_machines_text order machines) result }
+{
+    put_finding(
+        writer,
+        b"wrong machines",
+        b"order",
+        order as u64,
+        b"machines",
+        machines as u64,
     )
 }
 

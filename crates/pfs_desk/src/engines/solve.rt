@@ -10,7 +10,9 @@ ghost use Rattle.pfs_desk.specs.Solve.{take_for as take_of};
 use crate::fault::{DeskFault, Outcome};
 use crate::solve_options::{DEFAULT_TAKE, MOST_ROUNDS, SolveOptions};
 use pfs_base::print::put_named;
-use pfs_base::{Bench, Instance, Length, MOST_BLOCKS, Shop, Sink, Source, WriteFault};
+use pfs_base::{
+    Bench, Instance, Length, MOST_BLOCKS, MOST_MACHINES, Shop, Sink, Source, WriteFault,
+};
 use pfs_insert::HeadsTails;
 use pfs_layout::{Layout, read_block};
 use pfs_order::{Order, write_order};
@@ -19,7 +21,7 @@ use rand_core::SeedableRng;
 use rand_pcg::Pcg32;
 use std::alloc::Global;
 
-/// Reads a block of an instance file, and prints as an order file what a search finds: NEH's order (Nawaz,
+/// Reads a block of an instance file, and prints as an order file of version 2 what a search finds: NEH's order (Nawaz,
 /// Enscore, Ham 1983), followed by rounds of iterated greedy (Ruiz, Stützle 2007), by heads and tails
 /// (Taillard 1990). Where the count is asked for, it is one line more. Blocks count from 1. A take that is
 /// asked for is judged once the block is read, also where there are no rounds, and before more memory is
@@ -54,7 +56,7 @@ pub fn run_solve<R: Source, W: Sink>(
     let many = take_for(options.take, instance.jobs())?;
     let (rounds, passes) = (options.rounds, options.passes);
     let solution = solution_of(alloc, &instance, rounds, many, passes, options.seed)?;
-    put_solution(writer, &solution, options.cells)?;
+    put_solution(writer, instance.machines(), &solution, options.cells)?;
     Ok(Outcome::Done)
 }
 
@@ -141,20 +143,24 @@ fn search<B: Shop>(
     Ok(kept)
 }
 
-// Writes an order and its makespan as an order file, and behind it, where that is asked for, the count.
+// Writes an order and its makespan as an order file that states the machines too, and behind it, where that is
+// asked for, the count.
 fn put_solution<W: Sink>(
     writer: &mut W,
+    machines: usize,
     solution: &Solution,
     with_cells: bool,
 ) -> Result<u64, WriteFault>
     requires working { W.has_failed writer.old ≡ false }
+    requires some { 1 ≤ machines }
+    requires few { machines ≤ MOST_MACHINES }
     requires stated { solution.now.makespan < 10 ^ 18 }
     ensures { Sends (W.written writer.old) (W.written writer.new) (W.has_failed writer.new)
-        0 (solution_text solution.now.order solution.now.makespan with_cells solution.now.cells) result }
+        0 (solution_text solution.now.order machines solution.now.makespan with_cells solution.now.cells) result }
 {
     // Called for what it says of an order: how many jobs it has at most, each once.
     let _jobs = solution.order.len();
-    let sent = write_order(writer, &solution.order, solution.makespan)?;
+    let sent = write_order(writer, &solution.order, Some(machines), solution.makespan)?;
     if with_cells {
         put_named(writer, b"cells", solution.cells, sent)
     } else {

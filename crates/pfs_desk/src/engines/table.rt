@@ -7,7 +7,7 @@ ghost use Rattle.pfs_desk.specs.Engine.{TellsRead, TellsOrderRead, RefusesNoSeed
 ghost use Rattle.pfs_desk.specs.OutputText.{row_text, table_text};
 ghost use Rattle.pfs_desk.specs.Printable.{IsPrintable};
 
-use crate::engines::check::put_wrong_size;
+use crate::engines::check::{put_wrong_machines, put_wrong_size};
 use crate::fault::{DeskFault, Outcome};
 use pfs_audit::{TimeTable, table};
 use pfs_base::print::{put_named, put_next, put_number};
@@ -17,8 +17,9 @@ use pfs_order::read_order;
 use std::alloc::Global;
 
 /// Reads a block of an instance file and then an order file, and prints when each operation of the order
-/// starts and ends, each as early as it can. Blocks count from 1. The makespan that the order file states
-/// isn't looked at.
+/// starts and ends, each as early as it can. Blocks count from 1. The size of the order is judged first, then
+/// the number of machines where the order file states one, before the memory of the table is asked for. The
+/// makespan that it states isn't looked at.
 pub fn run_table<R: Source, O: Source, W: Sink>(
     alloc: Global,
     reader: &mut R,
@@ -50,6 +51,13 @@ pub fn run_table<R: Source, O: Source, W: Sink>(
     let jobs = instance.jobs();
     if order.len() != jobs {
         put_wrong_size(writer, order.len(), jobs)?;
+        return Ok(Outcome::CheckFailed);
+    }
+    let machines = instance.machines();
+    if let Some(stated) = file.machines()
+        && stated != machines
+    {
+        put_wrong_machines(writer, stated, machines)?;
         return Ok(Outcome::CheckFailed);
     }
     let table = table(alloc, &instance, order)?;

@@ -45,8 +45,9 @@ pub(super) fn layout_in(matches: &ArgMatches<'_>, id: &str) -> Layout
     ensures { SaysLayout (rows_of (found_of matches.now)) id.now result }
 {
     match text_in(matches, id) {
+        "taillard" => Layout::Taillard,
         "orlib" => Layout::OrLib,
-        _ => Layout::Taillard,
+        _ => unreachable!(),
     }
 }
 

@@ -1,5 +1,5 @@
 -- One input, one answer.
-use Rattle.std.proofs.Common.{◌≡◌, ℕ, ◌+◌, ◌-◌, ◌*◌, ◌<◌, ◌≤◌, ◌^◌, ◌⊎◌, inl, inr, List, [], ◌∷◌, ◌++◌, true, false, length, take, drop, map, get_or, refl, sym, ◌∙◌, ap, subst, arith, lit≤, lit<, eqb}
+use Rattle.std.proofs.Common.{◌≡◌, ℕ, ◌+◌, ◌-◌, ◌*◌, ◌<◌, ◌≤◌, ◌^◌, ◌⊎◌, inl, inr, List, [], ◌∷◌, ◌++◌, true, false, length, take, drop, map, get_or, refl, sym, ◌∙◌, ap, subst, arith, lit≤, lit<, eqb, Option, Some, None}
 use Rattle.std.specs.Fmt.{decimal}
 use Rattle.std.specs.List.{All}
 use Rattle.std.proofs.lemmas.Bool.{cases_order, eq-eqb}
@@ -13,13 +13,13 @@ use Rattle.pfs_order.specs.declared.fault.OrderFault.{OrderFault}
 use Rattle.pfs_order.specs.declared.fault.OrderFault.TheVariants.{Syntax, JobRange, Repeated, TooLong, Read, Memory}
 use Rattle.pfs_base.specs.Text.{spaced}
 use Rattle.pfs_order.specs.OrderText.{file_text}
-use Rattle.pfs_order.specs.Sequence.{StatedOrder, IsSequence, IsSize}
+use Rattle.pfs_order.specs.Sequence.{StatedOrder, IsSequence, IsSize, AreMachines}
 use Rattle.pfs_order.specs.OrderFile.{IsText, IsFaultOf, IsSyntaxFault, IsJob, IsRepeated, AreRightBefore, IsJobFault, HasJobFault, RefusesOrder, IsOrderFile}
-use Rattle.pfs_order.specs.Pieces.{last_line}
+use Rattle.pfs_order.specs.Pieces.{IsHead, counted, last_line}
 use Rattle.pfs_order.proofs.Faults.{fault_here}
 use Rattle.pfs_order.proofs.Jobs.{one_text}
-use Rattle.pfs_order.proofs.OrderTexts.{IsShort, text_shape}
-use Rattle.pfs_order.proofs.Stages.{more_fault}
+use Rattle.pfs_order.proofs.OrderTexts.{IsShort, text_shape, some_machines}
+use Rattle.pfs_order.proofs.Stages.{head_of, more_fault}
 
 -- How long a text is.
 
@@ -34,15 +34,25 @@ length_spaced (j ∷ k ∷ jobs) h =
     let rest = length_spaced (k ∷ jobs) (All-tail IsShort j (k ∷ jobs) h) in
     omega (arith, length-append (decimal j) (32 ∷ spaced (k ∷ jobs)))
 
+length_counted : (count : ℕ) (machines : Option ℕ) (rest : List ℕ) → IsHead count machines → length (counted count machines rest) ≤ 60 + length rest
+length_counted count None rest h =
+    let few = h.few in
+    let size = length-decimal-le_wide 18 count (lit< tt) (omega arith) (omega arith) in
+    omega (arith, length-append (decimal count) (10 ∷ rest))
+length_counted count (Some m) rest h =
+    let few = h.few in
+    let size = length-decimal-le_wide 18 count (lit< tt) (omega arith) (omega arith) in
+    let more = length-decimal-le_wide 18 m (lit< tt) (some_machines m h.stated) (omega arith) in
+    omega (arith, length-append (decimal count) (32 ∷ (decimal m ++ 10 ∷ rest)), length-append (decimal m) (10 ∷ rest))
+
 pub text_fits : (text : List ℕ) → IsText text → length text ≤ LONGEST_ORDER_FILE
-text_fits text (jobs, (makespan, h)) =
+text_fits text (jobs, (machines, (makespan, h))) =
     let few = h.few_jobs in
     let short = h.short_makespan in
-    let count = length-decimal-le_wide 18 (length jobs) (lit< tt) (omega arith) (omega arith) in
     let last = length-decimal-le_wide 18 makespan (lit< tt) short (omega arith) in
     let line = length_spaced jobs h.short_jobs in
     let rest : List ℕ = spaced jobs ++ 10 ∷ last_line makespan in
-    omega (arith, ap length (h.spelled ∙ text_shape jobs makespan), length-append (decimal (length jobs)) (10 ∷ rest), length-append (spaced jobs) (10 ∷ last_line makespan), length-append (decimal makespan) (10 ∷ []))
+    omega (arith, ap length (h.spelled ∙ text_shape jobs machines makespan), length_counted (length jobs) machines rest (head_of h), length-append (spaced jobs) (10 ∷ last_line makespan), length-append (decimal makespan) (10 ∷ []))
 
 -- Cut and longer texts.
 
@@ -88,11 +98,14 @@ one_job_fault jobs (Repeated p) Memory h k = absurd k
 -- Refusals.
 
 has_fault : (input : List ℕ) (one other : OrderFault) → HasJobFault input one → HasJobFault input other → one ≡ other
-has_fault input one other (jobs, (makespan, (h, f))) (others, (number, (k, g))) =
-    one_job_fault jobs one other f (subst (λ xs. IsJobFault xs other) (sym (one_text input jobs others makespan number h k).0) g)
+has_fault input one other (jobs, (machines, (makespan, (h, f)))) (others, (stated, (number, (k, g)))) =
+    one_job_fault jobs one other f (subst (λ xs. IsJobFault xs other) (sym (one_text input jobs others machines stated makespan number h k).0) g)
 
 is_text : (input : List ℕ) (fault : OrderFault) → HasJobFault input fault → IsText input
-is_text input fault (jobs, (makespan, (h, f))) = (jobs, (makespan, h))
+is_text input fault (jobs, (machines, (makespan, (h, f)))) = (jobs, (machines, (makespan, h)))
+
+file_text_is : (input : List ℕ) (file : StatedOrder) → IsOrderFile input file → IsText input
+file_text_is input file h = (map (λ job. job + 1) file.order, (file.machines, (file.makespan, h.has_text)))
 
 one_offset : (input : List ℕ) (p q : ℕ) → IsSyntaxFault input p → IsSyntaxFault input q → p ≡ q
 one_offset input p q h k = let low = k.longest p h.within h.completed in let high = h.longest q k.within k.completed in omega arith
@@ -162,14 +175,14 @@ no_job_fault order Read h f = f
 no_job_fault order Memory h f = f
 
 not_job_fault : (input : List ℕ) (file : StatedOrder) (fault : OrderFault) → IsOrderFile input file → ¬ HasJobFault input fault
-not_job_fault input file fault h (jobs, (makespan, (k, f))) =
-    no_job_fault file.order fault h.is_order (subst (λ xs. IsJobFault xs fault) (one_text input jobs (numbered file.order) makespan file.makespan k h.has_text).0 f)
+not_job_fault input file fault h (jobs, (machines, (makespan, (k, f)))) =
+    no_job_fault file.order fault h.is_order (subst (λ xs. IsJobFault xs fault) (one_text input jobs (numbered file.order) machines file.machines makespan file.makespan k h.has_text).0 f)
 
 pub not_both : (input : List ℕ) (file : StatedOrder) (fault : OrderFault) → IsOrderFile input file → ¬ RefusesOrder input fault
-not_both input file (Syntax p) h k = k.1.no_text (numbered file.order, (file.makespan, h.has_text))
+not_both input file (Syntax p) h k = k.1.no_text (file_text_is input file h)
 not_both input file (JobRange p) h k = not_job_fault input file (JobRange p) h k
 not_both input file (Repeated p) h k = not_job_fault input file (Repeated p) h k
-not_both input file TooLong h k = let few = text_fits input (numbered file.order, (file.makespan, h.has_text)) in absurd (omega arith)
+not_both input file TooLong h k = let few = text_fits input (file_text_is input file h) in absurd (omega arith)
 not_both input file Read h k = k
 not_both input file Memory h k = k
 
@@ -177,18 +190,18 @@ unnumbered : (order : List ℕ) → map (λ job. job - 1) (numbered order) ≡ o
 unnumbered [] = refl
 unnumbered (job ∷ order) = let first : job + 1 - 1 ≡ job = omega arith in let rest = unnumbered order in cc
 
-stated_same : (order other : List ℕ) (makespan number : ℕ) → order ≡ other → makespan ≡ number
-    → (let one : StatedOrder = record { order = order; makespan = makespan } in let two : StatedOrder = record { order = other; makespan = number } in one ≡ two)
-stated_same order other makespan number e f = cc
+stated_same : (order other : List ℕ) (machines stated : Option ℕ) (makespan number : ℕ) → order ≡ other → machines ≡ stated → makespan ≡ number
+    → (let one : StatedOrder = record { order = order; machines = machines; makespan = makespan } in let two : StatedOrder = record { order = other; machines = stated; makespan = number } in one ≡ two)
+stated_same order other machines stated makespan number e f g = cc
 
 pub one_file : (input : List ℕ) (one other : StatedOrder) → IsOrderFile input one → IsOrderFile input other → one ≡ other
 one_file input one other h k =
-    let same = one_text input (numbered one.order) (numbered other.order) one.makespan other.makespan h.has_text k.has_text in
-    stated_same one.order other.order one.makespan other.makespan (sym (unnumbered one.order) ∙ ap (map (λ job. job - 1)) same.0 ∙ unnumbered other.order) same.1
+    let same = one_text input (numbered one.order) (numbered other.order) one.machines other.machines one.makespan other.makespan h.has_text k.has_text in
+    stated_same one.order other.order one.machines other.machines one.makespan other.makespan (sym (unnumbered one.order) ∙ ap (map (λ job. job - 1)) same.0 ∙ unnumbered other.order) same.1 same.2
 
-pub written_file : (order : List ℕ) (makespan : ℕ) → IsSize limits (length order) → IsSequence (length order) order → makespan < 10 ^ 18
-    → IsOrderFile (file_text order makespan) (record { order = order; makespan = makespan })
-written_file order makespan size h small =
+pub written_file : (order : List ℕ) (machines : Option ℕ) (makespan : ℕ) → IsSize limits (length order) → IsSequence (length order) order → AreMachines machines → makespan < 10 ^ 18
+    → IsOrderFile (file_text order machines makespan) (record { order = order; machines = machines; makespan = makespan })
+written_file order machines makespan size h stated small =
     let some = size.some in
     let few = size.few in
     let same : length (numbered order) ≡ length order = length-map order (λ (job : ℕ). job + 1) in
@@ -198,6 +211,7 @@ written_file order makespan size h small =
         some_job = omega arith;
         few_jobs = omega arith;
         short_jobs = All-map IsShort (λ job. job + 1) order (All-weaker (λ job. job < length order) (λ job. IsShort (job + 1)) (λ job lt. omega arith) order h.in_range);
+        stated_machines = stated;
         short_makespan = small;
         spelled = refl;
       };

@@ -71,58 +71,64 @@ greatest_lane-most-requires-clause-in_limit c =
     let small = first_small a b c.requires.equal c.requires.in_limit (4 * whole) (omega arith) in
     omega arith
 
-pub loop-place-init : goal.loop-place-init
-loop-place-init c =
+-- how many lengths stand in whole chunks
+abbrev whole_of : List ℕ → ℕ
+whole_of a = length a - length a % 4
+
+pub loop-left-init : goal.loop-left-init
+loop-left-init c =
     let a = c.args.a.now in
     let b = c.args.b.now in
     let whole = c.loop-chunk.chunk in
     let end = c.loop-chunk.auto.chunk-end in
     let done = c.loop-chunk-test.false in
-    let all : 4 * whole ≡ length a - length a % 4 = omega arith in
+    let all : 4 * whole ≡ whole_of a + 0 = omega arith in
     record {
       most_is = c.greatest_lane-most.ensures ∙ lanes_told a b c.requires.equal c.requires.in_limit whole c.loop-chunk.lanes (omega arith) c.loop-chunk.invariant.lanes_are ∙ ap (most_to a b) all;
     }
 
 pub sum-requires : goal.sum-requires
 sum-requires c =
-    let inside = c.loop-place-test.true in
-    let small = each_small c.args.a.now c.args.b.now c.requires.equal c.requires.in_limit c.loop-place.place inside in
-    let read = sum_read c.args.a.now c.args.b.now c.loop-place.place c.index-a-place.result c.index-b-place.result c.requires.equal inside in
-    let one = c.index-a-place.is in
-    let two = c.index-b-place.is in
+    let inside : whole_of c.args.a.now + c.loop-left.left < length c.args.a.now = omega (arith, c.loop-left-test.true) in
+    let small = each_small c.args.a.now c.args.b.now c.requires.equal c.requires.in_limit (whole_of c.args.a.now + c.loop-left.left) inside in
+    let read = sum_read c.args.a.now c.args.b.now (whole_of c.args.a.now + c.loop-left.left) c.index-a-whole.result c.index-b-whole.result c.requires.equal inside in
+    let one = c.index-a-whole.is in
+    let two = c.index-b-whole.is in
     omega arith
 
 pub greater-most-requires-clause-a : goal.greater-most-requires-clause-a
 greater-most-requires-clause-a c =
-    let inside = c.loop-place-test.true in
-    let told = c.loop-place.invariant.most_is in
-    let small = first_small c.args.a.now c.args.b.now c.requires.equal c.requires.in_limit c.loop-place.place (omega arith) in
+    let inside : whole_of c.args.a.now + c.loop-left.left < length c.args.a.now = omega (arith, c.loop-left-test.true) in
+    let told = c.loop-left.invariant.most_is in
+    let small = first_small c.args.a.now c.args.b.now c.requires.equal c.requires.in_limit (whole_of c.args.a.now + c.loop-left.left) (omega arith) in
     omega arith
 
 pub greater-most-requires-clause-b : goal.greater-most-requires-clause-b
 greater-most-requires-clause-b c =
-    let inside = c.loop-place-test.true in
-    let small = each_small c.args.a.now c.args.b.now c.requires.equal c.requires.in_limit c.loop-place.place inside in
-    let read = sum_read c.args.a.now c.args.b.now c.loop-place.place c.index-a-place.result c.index-b-place.result c.requires.equal inside in
-    let one = c.index-a-place.is in
-    let two = c.index-b-place.is in
+    let inside : whole_of c.args.a.now + c.loop-left.left < length c.args.a.now = omega (arith, c.loop-left-test.true) in
+    let small = each_small c.args.a.now c.args.b.now c.requires.equal c.requires.in_limit (whole_of c.args.a.now + c.loop-left.left) inside in
+    let read = sum_read c.args.a.now c.args.b.now (whole_of c.args.a.now + c.loop-left.left) c.index-a-whole.result c.index-b-whole.result c.requires.equal inside in
+    let one = c.index-a-whole.is in
+    let two = c.index-b-whole.is in
     let sum = c.sum.ensures in
     omega arith
 
-pub loop-place-preserved : goal.loop-place-preserved
-loop-place-preserved c =
+pub loop-left-preserved : goal.loop-left-preserved
+loop-left-preserved c =
     let a = c.args.a.now in
     let b = c.args.b.now in
-    let inside = c.loop-place-test.true in
-    let read = sum_read a b c.loop-place.place c.index-a-place.result c.index-b-place.result c.requires.equal inside in
-    let one = c.index-a-place.is in
-    let two = c.index-b-place.is in
-    let sum : c.sum.result ≡ sum_at a b c.loop-place.place = omega (arith, c.sum.ensures) in
-    record { most_is = c.greater-most.ensures ∙ ap (λ m. max m c.sum.result) c.loop-place.invariant.most_is ∙ ap (max (most_to a b c.loop-place.place)) sum ∙ ap (most_to a b) (sym (add-one c.loop-place.place)) }
+    let inside : whole_of c.args.a.now + c.loop-left.left < length c.args.a.now = omega (arith, c.loop-left-test.true) in
+    let read = sum_read a b (whole_of c.args.a.now + c.loop-left.left) c.index-a-whole.result c.index-b-whole.result c.requires.equal inside in
+    let one = c.index-a-whole.is in
+    let two = c.index-b-whole.is in
+    let place = whole_of a + c.loop-left.left in
+    let next : place + 1 ≡ whole_of a + (c.loop-left.left + 1) = omega arith in
+    let sum : c.sum.result ≡ sum_at a b (whole_of c.args.a.now + c.loop-left.left) = omega (arith, c.sum.ensures) in
+    record { most_is = c.greater-most.ensures ∙ ap (λ m. max m c.sum.result) c.loop-left.invariant.most_is ∙ ap (max (most_to a b (whole_of c.args.a.now + c.loop-left.left))) sum ∙ ap (most_to a b) (sym (add-one place) ∙ next) }
 
 pub returns : goal.returns
 returns c =
-    let done = c.loop-place-test.false in
+    let done = c.loop-left-test.false in
     let whole = c.loop-chunk.auto.chunk-end in
-    let all : c.loop-place.place ≡ length c.args.a.now = omega (arith, c.loop-place.auto.place-end) in
-    c.loop-place.invariant.most_is ∙ ap (most_to c.args.a.now c.args.b.now) all ∙ most_is c.args.a.now c.args.b.now c.requires.equal
+    let all : (whole_of c.args.a.now + c.loop-left.left) ≡ length c.args.a.now = omega (arith, c.loop-left.auto.left-end) in
+    c.loop-left.invariant.most_is ∙ ap (most_to c.args.a.now c.args.b.now) all ∙ most_is c.args.a.now c.args.b.now c.requires.equal

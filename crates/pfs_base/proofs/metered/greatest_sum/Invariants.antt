@@ -1,4 +1,4 @@
-use Rattle.std.proofs.Common.{◌≡◌, [], ◌∷◌}
+use Rattle.std.proofs.Common.{◌≡◌, ◌+◌, ◌-◌, ◌%◌, [], ◌∷◌, length}
 use Rattle.pfs_base.proofs.Sums.{lane_most, most_to}
 use Rattle.pfs_base.proofs.metered.greatest_sum.Given as goal
 
@@ -7,7 +7,7 @@ invariant-loop-chunk l = record {
   lanes_are : l.lanes ≡ lane_most l.a l.b l.chunk 0 ∷ lane_most l.a l.b l.chunk 1 ∷ lane_most l.a l.b l.chunk 2 ∷ lane_most l.a l.b l.chunk 3 ∷ [];
 }
 
-abbrev pub invariant-loop-place : goal.invariant-loop-place
-invariant-loop-place l = record {
-  most_is : l.most ≡ most_to l.a l.b l.place;
+abbrev pub invariant-loop-left : goal.invariant-loop-left
+invariant-loop-left l = record {
+  most_is : l.most ≡ most_to l.a l.b (length l.a - length l.a % 4 + l.left);
 }

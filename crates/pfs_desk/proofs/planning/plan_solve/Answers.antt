@@ -97,7 +97,9 @@ returns-clause-within c =
     let is = c.in_ok-solve_command.ensures in
     let parse = c.in_ok-matches.ensures.ok in (
       number_in_range command form _ matches is parse 1 block_rule 1 MOST_BLOCKS c.number_in-4.result refl refl refl c.number_in-4.ensures,
-      (number_in_range command form _ matches is parse 2 rounds_rule 0 MOST_ROUNDS c.number_in.result refl refl refl c.number_in.ensures).1,
-      number_if_in_range command form _ matches is parse 3 take_rule 1 MOST_JOBS c.number_in_if.result refl refl refl c.number_in_if.ensures,
-      (number_in_range command form _ matches is parse 5 passes_rule 0 MOST_PASSES c.number_in-3.result refl refl refl c.number_in-3.ensures).1,
+      (
+        (number_in_range command form _ matches is parse 2 rounds_rule 0 MOST_ROUNDS c.number_in.result refl refl refl c.number_in.ensures).1,
+        number_if_in_range command form _ matches is parse 3 take_rule 1 MOST_JOBS c.number_in_if.result refl refl refl c.number_in_if.ensures,
+        (number_in_range command form _ matches is parse 5 passes_rule 0 MOST_PASSES c.number_in-3.result refl refl refl c.number_in-3.ensures).1,
+      ),
     )

@@ -1,6 +1,6 @@
 use Rattle.std.proofs.Common.{refl, [], ◌∷◌, inl, codes, lit≤}
 use Rattle.pfs_layout.specs.Examples.{three_jobs_file, three_jobs}
-use Rattle.pfs_layout.proofs.SizeLemmas.{all_short}
+use Rattle.pfs_layout.proofs.Files.SizeLemmas.{all_short}
 use Rattle.pfs_layout.proofs.Computing.{computing}
 use Rattle.pfs_layout.proofs.examples.three_jobs.Goals as goal
 
@@ -26,7 +26,8 @@ returns-clause-file c = record {
   short = lit≤ tt;
   blocks = record {
     earlier = [];
-    own = codes "number of jobs, number of machines, initial seed, upper bound and lower bound :" ∷ codes "3 2 0 0 0" ∷ codes "processing times :" ∷ codes "3 2 4" ∷ codes "2 5 1" ∷ [];
+    own = codes "number of jobs, number of machines, initial seed, upper bound and lower bound :" ∷ codes "3 2 0 0 0"
+        ∷ codes "processing times :" ∷ codes "3 2 4" ∷ codes "2 5 1" ∷ [];
     parts = refl;
     count = refl;
     each = tt;

@@ -1,4 +1,4 @@
-use Rattle.pfs_layout.proofs.EndLemmas.{byte_fault_law}
+use Rattle.pfs_layout.proofs.Files.EndLemmas.{byte_fault_law}
 use Rattle.pfs_layout.proofs.laws.byte_fault.Goals as goal
 
 pub returns : goal.returns

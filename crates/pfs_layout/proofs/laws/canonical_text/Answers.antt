@@ -1,4 +1,4 @@
-use Rattle.pfs_layout.proofs.CanonicalFile.{canonical_law}
+use Rattle.pfs_layout.proofs.Texts.CanonicalFile.{canonical_law}
 use Rattle.pfs_layout.proofs.laws.canonical_text.Goals as goal
 
 pub returns : goal.returns

@@ -1,4 +1,4 @@
-use Rattle.pfs_layout.proofs.EndLemmas.{fault_stays}
+use Rattle.pfs_layout.proofs.Files.EndLemmas.{fault_stays}
 use Rattle.pfs_layout.proofs.laws.fault_stays.Goals as goal
 
 pub returns : goal.returns

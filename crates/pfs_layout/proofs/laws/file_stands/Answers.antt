@@ -1,4 +1,4 @@
-use Rattle.pfs_layout.proofs.FileLemmas.{file_stands}
+use Rattle.pfs_layout.proofs.Files.FileLemmas.{file_stands}
 use Rattle.pfs_layout.proofs.laws.file_stands.Goals as goal
 
 pub returns : goal.returns

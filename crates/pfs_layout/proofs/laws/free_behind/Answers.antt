@@ -1,4 +1,4 @@
-use Rattle.pfs_layout.proofs.EndLemmas.{free_behind}
+use Rattle.pfs_layout.proofs.Files.EndLemmas.{free_behind}
 use Rattle.pfs_layout.proofs.laws.free_behind.Goals as goal
 
 pub returns : goal.returns

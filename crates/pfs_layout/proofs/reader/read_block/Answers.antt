@@ -5,9 +5,9 @@ use Rattle.pfs_base.specs.declared.limits.TheConstants.{LONGEST_INPUT}
 use Rattle.pfs_layout.specs.declared.reader.TheConstants.{PIECE}
 use Rattle.pfs_layout.specs.Refuse.{Refuse}
 use Rattle.pfs_layout.specs.declared.fault.LayoutFault.TheVariants.{Read, SeedRange}
-use Rattle.pfs_layout.proofs.ReadNames.{finish_named, feed_named, same_answer, never_failed}
-use Rattle.pfs_layout.proofs.ToldLemmas.{told, file_told, refused_told}
-use Rattle.pfs_layout.proofs.ReadLemmas.{reads_failed, reads_ended, reads_fault, reading_start, reading_more, reading_short, reading_fault, reading_done}
+use Rattle.pfs_layout.proofs.Reading.ReadNames.{finish_named, feed_named, same_answer, never_failed}
+use Rattle.pfs_layout.proofs.Reading.ToldLemmas.{told, file_told, refused_told}
+use Rattle.pfs_layout.proofs.Reading.ReadLemmas.{reads_failed, reads_ended, reads_fault, reading_start, reading_more, reading_short, reading_fault, reading_done}
 use Rattle.pfs_layout.proofs.reader.read_block.Goals as goal
 
 pub pieces-init : goal.pieces-init

@@ -10,8 +10,8 @@ pub returns-in_err-next-clause-fault : goal.returns-in_err-next-clause-fault
 returns-in_err-next-clause-fault c =
     let p = err_from_is_err_and c.from_residual.result c.from_residual.ensures.1 in
     let (done, (short, counted, read)) = c.loop-place.invariant.read in
-    let among : IsAmongJobs c.args.count done = record { some = c.requires.some; few = c.requires.few; short = short; fewer = omega arith } in
-    rw (p.1, p.2) (space_fault c.args.count done c.args.text.now c.loop-place.at c.in_err-next.field-0.0 among (omega arith) c.loop-place.invariant.within read c.in_err-next.ensures.fault)
+    let among : IsAmongJobs c.args.head.jobs c.args.head.machines done = record { head = c.requires.head; short = short; fewer = omega arith } in
+    rw (p.1, p.2) (space_fault c.args.head.jobs c.args.head.machines done c.args.text.now c.loop-place.at c.in_err-next.field-0.0 among (omega arith) c.loop-place.invariant.within read c.in_err-next.ensures.fault)
 
 pub loop-place-preserved : goal.loop-place-preserved
 loop-place-preserved c =
@@ -20,15 +20,15 @@ loop-place-preserved c =
     let small : IsShort job = omega (arith, c.in_ok-next.ensures.in_range.1) in
     record {
       within = c.in_ok-next.ensures.within;
-      read = (done ++ job ∷ [], (All-push IsShort done job short small, omega (arith, length-append done (job ∷ [])), next_read c.args.count job done c.args.text.now c.loop-place.at c.in_ok-next.next read c.in_ok-next.ensures.read));
+      read = (done ++ job ∷ [], (All-push IsShort done job short small, omega (arith, length-append done (job ∷ [])), next_read c.args.head.jobs c.args.head.machines job done c.args.text.now c.loop-place.at c.in_ok-next.next read c.in_ok-next.ensures.read));
     }
 
 pub returns-in_err-next-2-clause-fault : goal.returns-in_err-next-2-clause-fault
 returns-in_err-next-2-clause-fault c =
     let p = err_from_is_err_and c.from_residual-in_err-next-2.result c.from_residual-in_err-next-2.ensures.1 in
     let (done, (short, counted, read)) = c.loop-place.invariant.read in
-    let among : IsAmongJobs c.args.count done = record { some = c.requires.some; few = c.requires.few; short = short; fewer = omega arith } in
-    rw (p.1, p.2) (end_fault c.args.count done c.args.text.now c.loop-place.at c.in_err-next-2.field-0.0 among (omega arith) c.loop-place.invariant.within read c.in_err-next-2.ensures.fault)
+    let among : IsAmongJobs c.args.head.jobs c.args.head.machines done = record { head = c.requires.head; short = short; fewer = omega arith } in
+    rw (p.1, p.2) (end_fault c.args.head.jobs c.args.head.machines done c.args.text.now c.loop-place.at c.in_err-next-2.field-0.0 among (omega arith) c.loop-place.invariant.within read c.in_err-next-2.ensures.fault)
 
 pub returns-clause-read : goal.returns-clause-read
 returns-clause-read c =
@@ -37,7 +37,7 @@ returns-clause-read c =
     let small : IsShort job = omega (arith, c.in_ok-next-2.ensures.in_range.1) in (
       done ++ job ∷ [],
       (
-        record { some = c.requires.some; few = c.requires.few; short = All-push IsShort done job short small; every = omega (arith, length-append done (job ∷ [])) },
-        last_read c.args.count job done c.args.text.now c.loop-place.at c.in_ok-next-2.next read c.in_ok-next-2.ensures.read,
+        record { head = c.requires.head; short = All-push IsShort done job short small; every = omega (arith, length-append done (job ∷ [])) },
+        last_read c.args.head.jobs c.args.head.machines job done c.args.text.now c.loop-place.at c.in_ok-next-2.next read c.in_ok-next-2.ensures.read,
       ),
     )

@@ -8,12 +8,12 @@ use Rattle.pfs_order.proofs.reading.makespan_line.Goals as goal
 pub returns-in_err-at-clause-fault : goal.returns-in_err-at-clause-fault
 returns-in_err-at-clause-fault c =
     let p = err_from_is_err_and c.from_residual.result c.from_residual.ensures.1 in
-    rw (p.1, p.2) (name_fault c.args.count c.args.text.now c.args.start c.in_err-at.field-0.0 c.requires.jobs c.requires.start c.in_err-at.ensures.fault)
+    rw (p.1, p.2) (name_fault c.args.head.jobs c.args.head.machines c.args.text.now c.args.start c.in_err-at.field-0.0 c.requires.jobs c.requires.start c.in_err-at.ensures.fault)
 
 pub returns-in_err-makespan-clause-fault : goal.returns-in_err-makespan-clause-fault
 returns-in_err-makespan-clause-fault c =
     let p = err_from_is_err_and c.from_residual-in_err-makespan.result c.from_residual-in_err-makespan.ensures.1 in
-    rw (p.1, p.2) (span_fault c.args.count c.args.text.now c.args.start c.in_ok-at.at c.in_err-makespan.field-0.0 c.requires.jobs c.in_ok-at.ensures.read c.in_ok-at.ensures.within c.in_err-makespan.ensures.fault)
+    rw (p.1, p.2) (span_fault c.args.head.jobs c.args.head.machines c.args.text.now c.args.start c.in_ok-at.at c.in_err-makespan.field-0.0 c.requires.jobs c.in_ok-at.ensures.read c.in_ok-at.ensures.within c.in_err-makespan.ensures.fault)
 
 pub returns-then-end-text-clause-fault : goal.returns-then-end-text-clause-fault
 returns-then-end-text-clause-fault c =
@@ -21,17 +21,17 @@ returns-then-end-text-clause-fault c =
     let end : ℕ = c.in_ok-makespan.end in
     let small : c.in_ok-makespan.makespan < 10 ^ 18 = omega (arith, c.in_ok-makespan.ensures.in_range.1) in
     let here : end < length text = c.if-end-text.true in
-    let (front, (whole, (jobs, (has, every, size)))) = end_text c.args.count text c.args.start c.in_ok-at.at end c.in_ok-makespan.makespan c.requires.jobs c.in_ok-at.ensures.read small c.in_ok-makespan.ensures.read c.in_ok-makespan.ensures.within in
+    let (front, (whole, (jobs, (has, every, size)))) = end_text c.args.head.jobs c.args.head.machines text c.args.start c.in_ok-at.at end c.in_ok-makespan.makespan c.requires.jobs c.in_ok-at.ensures.read small c.in_ok-makespan.ensures.read c.in_ok-makespan.ensures.within in
     let split : text ≡ front ++ get_or text end 0 ∷ drop (end + 1) text = whole ∙ ap (λ xs. front ++ xs) (drop_more text end 0 here) in
     subst (λ xs. IsSyntaxFault xs end) (sym split) (subst (λ n. IsSyntaxFault (front ++ get_or text end 0 ∷ drop (end + 1) text) n) size
-    (more_fault front (drop (end + 1) text) (get_or text end 0) (jobs, (c.in_ok-makespan.makespan, has))))
+    (more_fault front (drop (end + 1) text) (get_or text end 0) (jobs, (c.args.head.machines, (c.in_ok-makespan.makespan, has)))))
 
 pub returns-clause-read : goal.returns-clause-read
 returns-clause-read c =
     let text : List ℕ = c.args.text.now in
     let end : ℕ = c.in_ok-makespan.end in
     let small : c.in_ok-makespan.makespan < 10 ^ 18 = omega (arith, c.in_ok-makespan.ensures.in_range.1) in
-    let (front, (whole, (jobs, (has, every, size)))) = end_text c.args.count text c.args.start c.in_ok-at.at end c.in_ok-makespan.makespan c.requires.jobs c.in_ok-at.ensures.read small c.in_ok-makespan.ensures.read c.in_ok-makespan.ensures.within in
+    let (front, (whole, (jobs, (has, every, size)))) = end_text c.args.head.jobs c.args.head.machines text c.args.start c.in_ok-at.at end c.in_ok-makespan.makespan c.requires.jobs c.in_ok-at.ensures.read small c.in_ok-makespan.ensures.read c.in_ok-makespan.ensures.within in
     let none : drop end text ≡ [] = drop_all end text (omega arith) in
     let same : front ≡ text = sym (append-nil front) ∙ ap (λ xs. front ++ xs) (sym none) ∙ sym whole in
-    (jobs, (subst (λ xs. HasText xs jobs c.in_ok-makespan.makespan) same has, every))
+    (jobs, (subst (λ xs. HasText xs jobs c.args.head.machines c.in_ok-makespan.makespan) same has, every))

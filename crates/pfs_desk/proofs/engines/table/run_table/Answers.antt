@@ -1,8 +1,10 @@
-use Rattle.std.proofs.Common.{◌≡◌, List, ℕ, length, ap, ◌∙◌, sym, subst, rules}
+use Rattle.std.proofs.Common.{◌≡◌, length, ap, ◌∙◌, sym, rules}
+use Rattle.pfs_order.specs.Sequence.{StatedOrder}
+use Rattle.pfs_audit.specs.Verdicts.{Fits}
 use Rattle.pfs_desk.specs.declared.fault.Outcome.TheVariants.{Done, CheckFailed}
 use Rattle.pfs_desk.specs.Engine.{WritesFront, TableOutput}
-use Rattle.pfs_desk.specs.OutputText.{wrong_size_text, table_text, TablePrints}
-use Rattle.pfs_desk.proofs.OutputLemmas.{wrong_size_prints, right_size_prints}
+use Rattle.pfs_desk.specs.OutputText.{wrong_size_text, wrong_machines_text, table_text, IsLeastTable}
+use Rattle.pfs_desk.proofs.OutputLemmas.{wrong_size_prints, wrong_machines_prints, fitting_prints, least_of}
 use Rattle.pfs_desk.proofs.engines.table.run_table.Goals as goal
 
 pub returns-in_err-put_wrong_size-clause-written : goal.returns-in_err-put_wrong_size-clause-written
@@ -23,11 +25,39 @@ returns-in_err-put_wrong_size-clause-written g c =
         stated = c.in_ok-file.file;
         holds = c.in_ok-instance.ensures.file;
         states = c.in_ok-file.ensures.accepted;
-        prints = wrong_size_prints c.in_ok-instance.instance.shop c.in_ok-file.file.order size jobs
+        prints = wrong_size_prints c.in_ok-instance.instance.shop c.in_ok-file.file size jobs
             (c.len-then-len-jobs.ensures.value ∙ ap length c.order-order.ensures.value) c.jobs-jobs.ensures.value
             (λ same. c.if-len-jobs.true (c.len.ensures.value ∙ sym c.len-then-len-jobs.ensures.value ∙ same));
       };
       front = c.in_err-put_wrong_size.ensures;
+    }
+    in
+    search rules
+
+pub returns-in_err-put_wrong_machines-clause-written : goal.returns-in_err-put_wrong_machines-clause-written
+returns-in_err-put_wrong_machines-clause-written g c =
+    let file = g.R.Source.left c.args.reader.now in
+    let order_file = g.O.Source.left c.args.order_reader.now in
+    let old = g.W.Sink.written c.args.writer.now in
+    let new = g.W.Sink.written c.put_wrong_machines.new.writer in
+    let failed = g.W.Sink.has_failed c.put_wrong_machines.new.writer in
+    let stated = c.in-Some.stated in
+    let machines = c.machines-machines.result in
+    let size : length c.in_ok-file.file.order ≡ c.in_ok-instance.instance.shop.jobs =
+    ap length (sym c.order-order.ensures.value) ∙ sym c.len.ensures.value ∙ c.if-len-jobs.false ∙ c.jobs-jobs.ensures.value in
+    let front : WritesFront (TableOutput c.args.layout file c.args.block order_file) old new failed c.in_err-put_wrong_machines.field-0.0.written =
+    record {
+      outcome = CheckFailed;
+      text = wrong_machines_text stated machines;
+      is_output = record {
+        problem = c.in_ok-instance.instance;
+        stated = c.in_ok-file.file;
+        holds = c.in_ok-instance.ensures.file;
+        states = c.in_ok-file.ensures.accepted;
+        prints = wrong_machines_prints c.in_ok-instance.instance.shop c.in_ok-file.file stated machines size
+            (sym c.machines.ensures.value ∙ c.in-Some.is) c.machines-machines.ensures.value c.if-stated-machines.true;
+      };
+      front = c.in_err-put_wrong_machines.ensures;
     }
     in
     search rules
@@ -41,52 +71,54 @@ returns-in_err-put_table-clause-written g c =
     let failed = g.W.Sink.has_failed c.put_table.new.writer in
     let shop = c.in_ok-instance.instance.shop in
     let timing = c.in_ok-table.table in
-    let order = c.order-order.result.now in
-    let Prints : List ℕ → Type 0 = λ jobs. TablePrints shop jobs Done (table_text timing) in
-    let size : length order ≡ shop.jobs = sym c.len.ensures.value ∙ c.if-len-jobs.false ∙ c.jobs-jobs.ensures.value in
+    let stated : StatedOrder = c.in_ok-file.file in
+    let fits : Fits shop stated = search rules in
+    let least : IsLeastTable shop c.order-order.result.now timing = record {
+      jobs = c.in_ok-table.ensures.jobs;
+      machines = c.in_ok-table.ensures.machines;
+      earliest = c.in_ok-table.ensures.starts;
+      ends = c.in_ok-table.ensures.ends;
+      makespan = c.in_ok-table.ensures.makespan;
+    }
+    in
     let front : WritesFront (TableOutput c.args.layout file c.args.block order_file) old new failed c.in_err-put_table.field-0.0.written =
     record {
       outcome = Done;
       text = table_text timing;
       is_output = record {
         problem = c.in_ok-instance.instance;
-        stated = c.in_ok-file.file;
+        stated = stated;
         holds = c.in_ok-instance.ensures.file;
         states = c.in_ok-file.ensures.accepted;
-        prints = subst Prints c.order-order.ensures.value (right_size_prints shop order timing size (record {
-          jobs = c.in_ok-table.ensures.jobs;
-          machines = c.in_ok-table.ensures.machines;
-          earliest = c.in_ok-table.ensures.starts;
-          ends = c.in_ok-table.ensures.ends;
-          makespan = c.in_ok-table.ensures.makespan;
-        }));
+        prints = fitting_prints shop stated timing fits (least_of shop c.order-order.result.now stated.order timing c.order-order.ensures.value least);
       };
       front = c.in_err-put_table.ensures;
     }
     in
     search rules
 
-pub returns-clause-written : goal.returns-clause-written
-returns-clause-written g c =
+pub returns-2-clause-written : goal.returns-2-clause-written
+returns-2-clause-written g c =
     let shop = c.in_ok-instance.instance.shop in
     let timing = c.in_ok-table.table in
-    let order = c.order-order.result.now in
-    let Prints : List ℕ → Type 0 = λ jobs. TablePrints shop jobs Done (table_text timing) in
-    let size : length order ≡ shop.jobs = sym c.len.ensures.value ∙ c.if-len-jobs.false ∙ c.jobs-jobs.ensures.value in
+    let stated : StatedOrder = c.in_ok-file.file in
+    let fits : Fits shop stated = search rules in
+    let least : IsLeastTable shop c.order-order.result.now timing = record {
+      jobs = c.in_ok-table.ensures.jobs;
+      machines = c.in_ok-table.ensures.machines;
+      earliest = c.in_ok-table.ensures.starts;
+      ends = c.in_ok-table.ensures.ends;
+      makespan = c.in_ok-table.ensures.makespan;
+    }
+    in
     record {
       text = table_text timing;
       is_output = record {
         problem = c.in_ok-instance.instance;
-        stated = c.in_ok-file.file;
+        stated = stated;
         holds = c.in_ok-instance.ensures.file;
         states = c.in_ok-file.ensures.accepted;
-        prints = subst Prints c.order-order.ensures.value (right_size_prints shop order timing size (record {
-          jobs = c.in_ok-table.ensures.jobs;
-          machines = c.in_ok-table.ensures.machines;
-          earliest = c.in_ok-table.ensures.starts;
-          ends = c.in_ok-table.ensures.ends;
-          makespan = c.in_ok-table.ensures.makespan;
-        }));
+        prints = fitting_prints shop stated timing fits (least_of shop c.order-order.result.now stated.order timing c.order-order.ensures.value least);
       };
       working = c.in_ok-put_table.ensures.working;
       bytes = c.in_ok-put_table.ensures.bytes;

@@ -5,11 +5,11 @@ use Rattle.pfs_layout.specs.declared.layout.Layout.{Layout}
 use Rattle.pfs_layout.specs.declared.layout.Layout.TheVariants.{Taillard, OrLib}
 use Rattle.pfs_desk.proofs.planning.values.layout_in.Goals as goal
 
--- a layout that is not OrLib is Taillard
-other_layout : (layout : Layout) (said : Text) (found : Option Text) → found ≡ Some (layout_name layout) → found ≡ Some said → (said ≡ codes "orlib" → ⊥)
-    → found ≡ Some (codes "taillard")
-other_layout Taillard said found is says not = is
-other_layout OrLib said found is says not = absurd (not (ap (λ o. unwrap_or o said) (sym says ∙ is)))
+-- each layout's name is one of these
+no_other : (layout : Layout) (said : Text) (found : Option Text) → found ≡ Some (layout_name layout) → found ≡ Some said
+    → (said ≡ codes "taillard" → ⊥) → (said ≡ codes "orlib" → ⊥) → ⊥
+no_other Taillard said found is says one other = one (ap (λ o. unwrap_or o said) (sym says ∙ is))
+no_other OrLib said found is says one other = other (ap (λ o. unwrap_or o said) (sym says ∙ is))
 
-pub returns-in_default : goal.returns-in_default
-returns-in_default c = other_layout c.requires.0 c.text_in.result.now _ c.requires.1 c.text_in.ensures c.in_default.not-orlib
+pub unreachable-requires : goal.unreachable-requires
+unreachable-requires c = no_other c.requires.0 c.text_in.result.now _ c.requires.1 c.text_in.ensures c.in_default.not-taillard c.in_default.not-orlib

@@ -1,7 +1,7 @@
 -- The judgement of a number wants no memory.
 use Rattle.std.proofs.Common.{sym, ◌∙◌, ap}
 use Rattle.pfs_layout.specs.declared.fields.Blocks.{Blocks}
-use Rattle.pfs_layout.proofs.StepLemmas.{keeps_number}
+use Rattle.pfs_layout.proofs.Reading.StepLemmas.{keeps_number}
 use Rattle.pfs_layout.proofs.fields.Blocks.after.Goals as goal
 
 pub returns-in-NumberEnded-clause-memory : goal.returns-in-NumberEnded-clause-memory

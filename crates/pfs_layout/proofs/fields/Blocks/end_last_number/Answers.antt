@@ -1,7 +1,7 @@
 -- The judgement of a number leaves lines and blocks as they are.
 use Rattle.std.proofs.Common.{sym, subst}
 use Rattle.pfs_layout.specs.Step.{Keeps}
-use Rattle.pfs_layout.proofs.StepLemmas.{keeps_number}
+use Rattle.pfs_layout.proofs.Reading.StepLemmas.{keeps_number}
 use Rattle.pfs_layout.proofs.fields.Blocks.end_last_number.Goals as goal
 
 pub returns-in-Some-clause-kept : goal.returns-in-Some-clause-kept

@@ -8,9 +8,9 @@ use Rattle.pfs_layout.specs.declared.fields.Phase.TheVariants as phases
 use Rattle.pfs_layout.specs.declared.fields.Blocks.{Blocks}
 use Rattle.pfs_layout.specs.Step.{is_live}
 use Rattle.pfs_layout.specs.Reader.{fields, FeedMeets}
-use Rattle.pfs_layout.proofs.StepLemmas.{live-memory}
-use Rattle.pfs_layout.proofs.ReaderLemmas.{live_follows}
-use Rattle.pfs_layout.proofs.FeedLemmas.{feed_of, reader_of, idle_meets, front_meets_as, long_meets_as, long_stands}
+use Rattle.pfs_layout.proofs.Reading.StepLemmas.{live-memory}
+use Rattle.pfs_layout.proofs.Reading.ReaderLemmas.{live_follows}
+use Rattle.pfs_layout.proofs.Reading.FeedLemmas.{feed_of, reader_of, idle_meets, front_meets_as, long_meets_as, long_stands}
 use Rattle.pfs_layout.proofs.fields.Blocks.feed.Goals as goal
 
 pub returns-then-not-is_live-clause-meets : goal.returns-then-not-is_live-clause-meets

@@ -1,7 +1,7 @@
 -- A live reader can judge the last number.
 use Rattle.std.proofs.Common.{sym, ◌∙◌}
 use Rattle.pfs_layout.specs.Reader.{fields}
-use Rattle.pfs_layout.proofs.ReaderLemmas.{reader_end_ready}
+use Rattle.pfs_layout.proofs.Reading.ReaderLemmas.{reader_end_ready}
 use Rattle.pfs_layout.proofs.fields.Blocks.judge_end.Goals as goal
 
 pub end_last_number-requires-clause-can : goal.end_last_number-requires-clause-can

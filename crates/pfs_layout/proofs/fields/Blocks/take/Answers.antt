@@ -1,7 +1,7 @@
 -- Each byte leads on, and the last one ends the piece or the reading.
 use Rattle.std.proofs.Common.{get_or, sym, ◌∙◌, arith}
 use Rattle.pfs_layout.specs.Reader.{fields}
-use Rattle.pfs_layout.proofs.TakeLemmas.{taken_ready, taken_quiet, taken_event, taken_end, digit_means, blank_means, blank_leads, other_means}
+use Rattle.pfs_layout.proofs.Reading.TakeLemmas.{taken_ready, taken_quiet, taken_event, taken_end, digit_means, blank_means, blank_leads, other_means}
 use Rattle.pfs_layout.proofs.fields.Blocks.take.Goals as goal
 
 -- ---- a digit

@@ -3,8 +3,8 @@ use Rattle.std.proofs.Common.{◌≡◌, ◌++◌, sym, subst}
 use Rattle.std.specs.Prelude.{IfErr}
 use Rattle.pfs_layout.specs.declared.fields.Phase.TheVariants as phases
 use Rattle.pfs_layout.specs.Reader.{Fields, fields, StandsAfter, HoldsFew}
-use Rattle.pfs_layout.proofs.FeedLemmas.{memory_nowhere}
-use Rattle.pfs_layout.proofs.HeldLemmas.{feed_few}
+use Rattle.pfs_layout.proofs.Reading.FeedLemmas.{memory_nowhere}
+use Rattle.pfs_layout.proofs.Reading.HeldLemmas.{feed_few}
 use Rattle.pfs_layout.proofs.reader.BlockReader.feed.Goals as goal
 
 pub returns-clause-nowhere : goal.returns-clause-nowhere

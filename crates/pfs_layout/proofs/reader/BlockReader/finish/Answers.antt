@@ -5,7 +5,7 @@ use Rattle.pfs_base.specs.Problem.{Problem}
 use Rattle.pfs_layout.specs.declared.fields.Blocks.{Blocks}
 use Rattle.pfs_layout.specs.Step.{end_fault, at_end}
 use Rattle.pfs_layout.specs.Reader.{Fields, fields, StandsAfter, FinishMeets}
-use Rattle.pfs_layout.proofs.OutcomeLemmas.{finish_tells, end_has_instance}
+use Rattle.pfs_layout.proofs.Reading.OutcomeLemmas.{finish_tells, end_has_instance}
 use Rattle.pfs_layout.proofs.reader.BlockReader.finish.Goals as goal
 
 same_problem : {a b : Problem} → ◌≡◌ {A = Option Problem} (Some a) (Some b) → a ≡ b

@@ -1,7 +1,7 @@
 -- A reader holds no more times than the wanted block has.
 use Rattle.std.proofs.Common.{sym, subst}
 use Rattle.pfs_layout.specs.Reader.{Fields, HoldsFew}
-use Rattle.pfs_layout.proofs.HeldLemmas.{holds_few}
+use Rattle.pfs_layout.proofs.Reading.HeldLemmas.{holds_few}
 use Rattle.pfs_layout.proofs.reader.BlockReader.held.Goals as goal
 
 pub returns-clause-few : goal.returns-clause-few

@@ -1,7 +1,7 @@
 -- A new reader stands after no bytes.
 use Rattle.std.proofs.Common.{[], ap}
 use Rattle.pfs_layout.specs.declared.fields.Blocks.{Blocks}
-use Rattle.pfs_layout.proofs.NewLemmas.{new_stands}
+use Rattle.pfs_layout.proofs.Reading.NewLemmas.{new_stands}
 use Rattle.pfs_layout.proofs.reader.BlockReader.new.Goals as goal
 
 pub returns-clause-stands : goal.returns-clause-stands

@@ -1,0 +1,123 @@
+-- Where lines begin and end in a text.
+use Rattle.std.proofs.Common.{◌≡◌, ℕ, Bool, true, false, List, [], ◌∷◌, ◌++◌, refl, sym, ap, ◌⊎◌, inl, inr}
+use Rattle.std.proofs.Common.{if◌then◌else◌}
+use Rattle.std.specs.List.{list_any, slice_split}
+use Rattle.std.proofs.lemmas.Bool.{cases_Bool, or_parts}
+use Rattle.std.proofs.lemmas.List.{append_assoc, append-nil}
+use Rattle.pfs_base.specs.Lists.{is_empty}
+use Rattle.pfs_layout.specs.Bytes.{is_line_end}
+use Rattle.pfs_layout.specs.Lines.{lines, ended_parts, open_part, ended_lines, open_line}
+use Rattle.pfs_layout.proofs.Files.SoundLemmas.{open_line-none}
+use Rattle.pfs_layout.proofs.Files.LineLemmas.{split_some}
+
+front_nil : {A : Type 0} (xs ys : List A) → xs ++ ys ≡ [] → xs ≡ []
+front_nil [] ys e = refl
+front_nil (x ∷ xs) ys e = cc
+
+module _ (p : ℕ → Bool) where
+  -- a part, what ends it, and the rest
+  slice_split-part : (part : List ℕ) (c : ℕ) (rest : List ℕ) → list_any p part ≡ false → p c ≡ true
+      → slice_split p (part ++ c ∷ rest) ≡ part ∷ slice_split p rest
+  slice_split-part [] c rest none e = rw e
+  slice_split-part (x ∷ part) c rest none e =
+      let parts = or_parts (p x) (list_any p part) none in rw (parts.0, slice_split-part part c rest parts.1 e)
+
+  ended_parts-part : (part : List ℕ) (c : ℕ) (rest : List ℕ) → list_any p part ≡ false → p c ≡ true
+      → ended_parts p (part ++ c ∷ rest) ≡ part ∷ ended_parts p rest
+  unfolding ended_parts
+  ended_parts-part part c rest none e = let s = split_some p rest in rw (slice_split-part part c rest none e, s.is)
+
+  pub open_part-part : (part : List ℕ) (c : ℕ) (rest : List ℕ) → list_any p part ≡ false → p c ≡ true
+      → open_part p (part ++ c ∷ rest) ≡ open_part p rest
+  unfolding open_part
+  open_part-part part c rest none e = let s = split_some p rest in rw (slice_split-part part c rest none e, s.is)
+
+  -- a list that nothing ends is open
+  slice_split-open : (part : List ℕ) → list_any p part ≡ false → slice_split p part ≡ part ∷ []
+  slice_split-open [] none = refl
+  slice_split-open (x ∷ part) none =
+      let parts = or_parts (p x) (list_any p part) none in rw (parts.0, slice_split-open part parts.1)
+
+-- what follows the last line end, if it isn't empty
+abbrev pub last_line : List ℕ → List (List ℕ)
+last_line line = if is_empty line then [] else line ∷ []
+
+pub lines-parts : (text : List ℕ) → lines text ≡ ended_lines text ++ last_line (open_line text)
+unfolding lines
+lines-parts text = refl
+
+-- the lines of a line, its end and the rest
+pub lines-line : (line : List ℕ) (c : ℕ) (rest : List ℕ) → list_any is_line_end line ≡ false → is_line_end c ≡ true
+    → lines (line ++ c ∷ rest) ≡ line ∷ lines rest
+lines-line line c rest none e =
+    rw (lines-parts (line ++ c ∷ rest), lines-parts rest, ended_parts-part is_line_end line c rest none e)
+    (rw (open_part-part is_line_end line c rest none e))
+
+pub lines-open : (line : List ℕ) → list_any is_line_end line ≡ false → lines line ≡ last_line line
+unfolding lines ended_parts open_part
+lines-open line none = rw (slice_split-open is_line_end line none)
+
+-- the first line of a text, and the rest if it is ended
+pub data FirstLine (text : List ℕ) : Type 0 where
+  unended : list_any is_line_end text ≡ false → FirstLine text
+  ended : (line : List ℕ) (c : ℕ) (rest : List ℕ) → text ≡ line ++ c ∷ rest → list_any is_line_end line ≡ false
+      → is_line_end c ≡ true → FirstLine text
+
+pub first_line : (text : List ℕ) → FirstLine text
+first_line [] = unended refl
+first_line (b ∷ text) = by_end (first_line text) (cases_Bool (is_line_end b))
+  where
+    by_end : FirstLine text → (is_line_end b ≡ true) ⊎ (is_line_end b ≡ false) → FirstLine (b ∷ text)
+    by_end rest (inl e) = ended [] b text refl refl e
+    by_end (unended none) (inr e) = unended (rw (e, none))
+    by_end (ended line c rest is none at) (inr e) = ended (b ∷ line) c rest (ap (λ xs. b ∷ xs) is) (rw (e, none)) at
+
+-- a front of a text that is some of its lines
+pub record Front (text : List ℕ) (some : List (List ℕ)) : Type 0 where
+  pub front : List ℕ
+  pub rest : List ℕ
+  pub whole : text ≡ front ++ rest
+  pub are : lines front ≡ some
+  pub ended : (open_line front ≡ []) ⊎ (rest ≡ [])
+
+pub lines-none : lines [] ≡ []
+unfolding lines ended_parts open_part
+lines-none = refl
+
+pub front_of_lines : (text : List ℕ) (some more : List (List ℕ)) → lines text ≡ some ++ more → Front text some
+front_of_lines text [] more e =
+    record { front = []; rest = text; whole = refl; are = lines-none; ended = inl open_line-none }
+front_of_lines text (line ∷ some) more e =
+    by_first (first_line text) (λ rest h. front_of_lines rest some more h)
+  where
+    only : (v : Bool) → is_empty text ≡ v → list_any is_line_end text ≡ false
+        → (if v then [] else text ∷ []) ≡ line ∷ (some ++ more) → Front text (line ∷ some)
+    only true empty none h = cc
+    only false empty none h =
+        let nothing : some ≡ [] = front_nil some more (cc) in
+        let same : text ≡ line = cc in
+        record {
+          front = text;
+          rest = [];
+          whole = sym (append-nil text);
+          are = rw (lines-open text none, empty, nothing, same);
+          ended = inr refl;
+        }
+
+    by_first : FirstLine text → ((rest : List ℕ) → lines rest ≡ some ++ more → Front rest some)
+        → Front text (line ∷ some)
+    by_first (unended none) shorter = only (is_empty text) refl none (rw (lines-open text none) at e)
+    by_first (ended first c rest is none at) shorter =
+        let parts = rw (is, lines-line first c rest none at) at e in
+        let f = shorter rest (cc) in
+        let same : first ≡ line = cc in
+        record {
+          front = first ++ c ∷ f.front;
+          rest = f.rest;
+          whole = rw (append_assoc first (c ∷ f.front) f.rest, ← f.whole) is;
+          are = rw (lines-line first c f.front none at, f.are) (ap (λ l. l ∷ some) same);
+          ended = elim f.ended [
+            | inl h ↦ inl (rw (open_part-part is_line_end first c f.front none at) h)
+            | inr h ↦ inr h
+          ];
+        }

@@ -1,0 +1,4 @@
+-- Canonical texts: what is written, and that it is a file.
+pub mod CanonicalFile
+pub mod CanonicalLemmas
+pub mod WritingLemmas
