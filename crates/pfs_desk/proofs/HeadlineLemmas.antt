@@ -7,8 +7,8 @@ use Rattle.pfs_base.specs.Problem.{Problem}
 use Rattle.pfs_layout.specs.declared.fault.LayoutFault.{LayoutFault}
 use Rattle.pfs_layout.specs.declared.fault.LayoutFault.TheVariants as layout_faults
 use Rattle.pfs_layout.specs.declared.layout.Layout.{Layout}
-use Rattle.pfs_layout.specs.File.{File}
-use Rattle.pfs_layout.specs.Refuse.{Refuse}
+use Rattle.pfs_layout.specs.File.{IsInstanceFile}
+use Rattle.pfs_layout.specs.Refuse.{RefusesInstance}
 use Rattle.pfs_layout.proofs.Published.LawLemmas.{one_verdict}
 use Rattle.pfs_layout.proofs.Published.PlaceLemmas.{one_fault}
 use Rattle.pfs_desk.specs.declared.fault.DeskFault.{DeskFault}
@@ -21,14 +21,14 @@ use Rattle.pfs_desk.specs.Solve.{take_for, IsSolution}
 
 -- a block of a file holds one problem
 one_problem : (layout : Layout) (file : List ℕ) (block : ℕ) → 1 ≤ block → (problem other : Problem)
-    → File limits layout file block problem → File limits layout file block other → problem ≡ other
+    → IsInstanceFile limits layout file block problem → IsInstanceFile limits layout file block other → problem ≡ other
 one_problem layout file block some problem other holds holds_other =
     ⊎_elim (λ accepted. accepted.0.no_other problem holds ∙ sym (accepted.0.no_other other holds_other))
     (λ refused. absurd (refused.1 problem holds)) (one_verdict layout file block some)
 
 -- and is not refused then
 not_both : (layout : Layout) (file : List ℕ) (block : ℕ) → 1 ≤ block → (problem : Problem) (fault : LayoutFault)
-    → File limits layout file block problem → Refuse layout file block fault → ⊥
+    → IsInstanceFile limits layout file block problem → RefusesInstance layout file block fault → ⊥
 not_both layout file block some problem fault holds refuses =
     ⊎_elim (λ accepted. accepted.1 fault refuses) (λ refused. refused.1 problem holds) (one_verdict layout file block some)
 
@@ -56,7 +56,7 @@ module _ (layout : Layout) (file : List ℕ) (block : ℕ) (some : 1 ≤ block) 
   Answers result = Solves layout file block options old new reader_failed writer_failed result
 
   -- too many are asked for a problem that allows as many as are taken
-  too_many_taken : (problem other : Problem) (asked : ℕ) → File limits layout file block problem → File limits layout file block other
+  too_many_taken : (problem other : Problem) (asked : ℕ) → IsInstanceFile limits layout file block problem → IsInstanceFile limits layout file block other
       → take_for options.take other.shop.jobs ≤ other.shop.jobs → options.take ≡ Some asked → problem.shop.jobs < asked → ⊥
   too_many_taken problem other asked holds holds_other few is above =
       let same = ap (λ (p : Problem). p.shop.jobs) (one_problem layout file block some problem other holds holds_other) in
@@ -105,10 +105,10 @@ module _ (layout : Layout) (file : List ℕ) (block : ℕ) (some : 1 ≤ block) 
     };
   }
 
-  with_refused_file : (fault : LayoutFault) → WritesNothing old new writer_failed → (fault ≢ layout_faults.Read → fault ≢ layout_faults.Memory → Refuse layout file block fault)
+  with_refused_file : (fault : LayoutFault) → WritesNothing old new writer_failed → (fault ≢ layout_faults.Read → fault ≢ layout_faults.Memory → RefusesInstance layout file block fault)
       → (refusal fault ≡ refusal layout_faults.Read → reader_failed ≡ true) → Answers (refusal fault)
   with_refused_file fault nothing refuses failed =
-      let told : ReadsOn reader_failed (refusal fault) → Refuse layout file block fault =
+      let told : ReadsOn reader_failed (refusal fault) → RefusesInstance layout file block fault =
       λ reads. refuses (λ e. true_is_not_false (sym (failed (ap refusal e)) ∙ reads.reading)) (λ e. reads.room (ap refusal e)) in
       record {
         accepted = λ problem holds few runs. absurd (not_both layout file block some problem fault holds (told runs.reads));

@@ -9,10 +9,10 @@ use Rattle.pfs_layout.specs.declared.fault.LayoutFault.{LayoutFault}
 use Rattle.pfs_layout.specs.declared.fault.LayoutFault.TheVariants as layout_faults
 use Rattle.pfs_layout.specs.declared.layout.Layout.TheVariants.{Taillard}
 use Rattle.pfs_layout.specs.CanonicalText.{canonical_text}
-use Rattle.pfs_layout.specs.File.{File}
+use Rattle.pfs_layout.specs.File.{IsInstanceFile}
 use Rattle.pfs_layout.specs.Generator.{generated}
 use Rattle.pfs_layout.specs.Reader.{ReadsAsFar}
-use Rattle.pfs_layout.specs.Refuse.{Refuse}
+use Rattle.pfs_layout.specs.Refuse.{RefusesInstance}
 use Rattle.pfs_order.specs.Sequence.{StatedOrder}
 use Rattle.pfs_order.specs.OrderFile.{IsOrderFile, ReadsOrderAsFar, RefusesUnlessFailed}
 use Rattle.pfs_order.specs.declared.fault.OrderFault.{OrderFault}
@@ -29,11 +29,11 @@ use Rattle.pfs_desk.specs.OutputText.{value_text, verdict_text, outcome_of, Tabl
 
 -- a block of an instance file holds this problem
 abbrev pub Holds : Layout → Option (List ℕ) → ℕ → Problem → Type 0
-Holds layout file block problem = IfSome file (λ bytes. File limits layout bytes block problem)
+Holds layout file block problem = IfSome file (λ bytes. IsInstanceFile limits layout bytes block problem)
 
 -- an instance file has this fault in front of the end of the block, unless its reading failed or wanted memory
 abbrev pub RefusesFirst : Layout → Option (List ℕ) → ℕ → LayoutFault → Type 0
-RefusesFirst layout file block fault = fault ≢ layout_faults.Read → fault ≢ layout_faults.Memory → IfSome file (λ bytes. Refuse layout bytes block fault)
+RefusesFirst layout file block fault = fault ≢ layout_faults.Read → fault ≢ layout_faults.Memory → IfSome file (λ bytes. RefusesInstance layout bytes block fault)
 
 -- the instance file is judged first
 abbrev pub JudgesFirst : Layout → Option (List ℕ) → ℕ → DeskFault → Type 0

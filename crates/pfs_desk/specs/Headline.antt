@@ -6,8 +6,8 @@ use Rattle.pfs_base.specs.Problem.{Problem}
 use Rattle.pfs_layout.specs.declared.fault.LayoutFault.{LayoutFault}
 use Rattle.pfs_layout.specs.declared.fault.LayoutFault.TheVariants as layout_faults
 use Rattle.pfs_layout.specs.declared.layout.Layout.{Layout}
-use Rattle.pfs_layout.specs.File.{File}
-use Rattle.pfs_layout.specs.Refuse.{Refuse}
+use Rattle.pfs_layout.specs.File.{IsInstanceFile}
+use Rattle.pfs_layout.specs.Refuse.{RefusesInstance}
 use Rattle.pfs_desk.specs.declared.fault.DeskFault.{DeskFault}
 use Rattle.pfs_desk.specs.declared.fault.DeskFault.TheVariants as faults
 use Rattle.pfs_desk.specs.declared.fault.Outcome.{Outcome}
@@ -40,11 +40,11 @@ pub record TellsFault (fault : DeskFault) (old new : Option (List ℕ)) (result 
 
 pub record Solves (layout : Layout) (file : List ℕ) (block : ℕ) (options : SolveOptions) (old new : Option (List ℕ)) (reader_failed writer_failed : Bool) (result : Result Outcome DeskFault) : Type 0 where
   -- of every accepted instance with as many jobs as are to be taken out the solution is printed
-  pub accepted : (problem : Problem) → File limits layout file block problem → take_for options.take problem.shop.jobs ≤ problem.shop.jobs
+  pub accepted : (problem : Problem) → IsInstanceFile limits layout file block problem → take_for options.take problem.shop.jobs ≤ problem.shop.jobs
       → RunsOn reader_failed writer_failed result → PrintsSolution problem options old new result
   -- every other file is refused by its fault
-  pub refused : (fault : LayoutFault) → Refuse layout file block fault
+  pub refused : (fault : LayoutFault) → RefusesInstance layout file block fault
       → ReadsOn reader_failed result → TellsFault (faults.Layout fault) old new result
   -- and so is a take that is asked for, of more jobs than there are
-  pub too_many : (problem : Problem) (asked : ℕ) → File limits layout file block problem → options.take ≡ Some asked → problem.shop.jobs < asked
+  pub too_many : (problem : Problem) (asked : ℕ) → IsInstanceFile limits layout file block problem → options.take ≡ Some asked → problem.shop.jobs < asked
       → ReadsOn reader_failed result → TellsFault (faults.TakeRange asked problem.shop.jobs) old new result

@@ -9,7 +9,7 @@ use Rattle.pfs_layout.specs.declared.layout.Layout.{Layout}
 use Rattle.pfs_layout.specs.declared.layout.Layout.TheVariants.{Taillard, OrLib}
 use Rattle.pfs_layout.specs.Size.{Size, size_of}
 use Rattle.pfs_layout.specs.Block.{due_row, row_count}
-use Rattle.pfs_layout.specs.File.{IsInstance, File}
+use Rattle.pfs_layout.specs.File.{IsInstance, IsInstanceFile}
 
 -- each row of the body on a line
 abbrev pub row_line : Layout → FlowShop → ℕ → List ℕ
@@ -40,7 +40,7 @@ as_written OrLib problem = record { shop = problem.shop; notes = record { seed =
 -- what is written is an instance file, and holds the problem
 abbrev pub CanonicalLaw : Type 0
 CanonicalLaw = (layout : Layout) (problem : Problem) → IsInstance limits problem
-    → File limits layout (canonical_text layout problem) 1 (as_written layout problem)
+    → IsInstanceFile limits layout (canonical_text layout problem) 1 (as_written layout problem)
 
 -- no text that is written is longer than what is read
 abbrev pub TextsFit : Type 0

@@ -9,9 +9,9 @@ use Rattle.pfs_layout.specs.declared.fault.LayoutFault.{LayoutFault}
 use Rattle.pfs_layout.specs.Lines.{lines, ended_lines, open_line}
 use Rattle.pfs_layout.specs.Size.{Size, size_of}
 use Rattle.pfs_layout.specs.Block.{due, are_due}
-use Rattle.pfs_layout.specs.File.{File}
+use Rattle.pfs_layout.specs.File.{IsInstanceFile}
 use Rattle.pfs_layout.specs.Stand.{Block, seeking, stand, instance_of}
-use Rattle.pfs_layout.specs.Refuse.{Refuse, refusal, accepted, byte_fault}
+use Rattle.pfs_layout.specs.Refuse.{RefusesInstance, refusal, accepted, byte_fault}
 
 -- a front of the input, whose last line ends with byte 10 or with the input, leads to k complete blocks,
 -- the last of which is the problem's
@@ -30,7 +30,7 @@ pub record Completes (layout : Layout) (input : List ℕ) (k : ℕ) (problem : P
 -- files are told by where their lines lead
 abbrev pub FileStands : Type 0
 FileStands = (layout : Layout) (input : List ℕ) (k : ℕ) (problem : Problem)
-    → File limits layout input k problem ↔ Completes layout input k problem
+    → IsInstanceFile limits layout input k problem ↔ Completes layout input k problem
 
 -- a front of the input ends with byte 10 or is the whole input, and the next block is sought behind it, k being
 -- complete
@@ -46,7 +46,7 @@ pub record Seeks (layout : Layout) (input : List ℕ) (k : ℕ) : Type 0 where
 -- where an input holds a file of some problem
 abbrev pub SomeFile : Type 0
 SomeFile = (layout : Layout) (input : List ℕ) (k : ℕ) → 1 ≤ k
-    → ((problem : Problem) × File limits layout input k problem) ↔ Seeks layout input k
+    → ((problem : Problem) × IsInstanceFile limits layout input k problem) ↔ Seeks layout input k
 
 -- something has the property, and nothing else has it
 pub record ExactlyOne {A : Type 0} (P : A → Type 0) : Type 0 where
@@ -57,40 +57,40 @@ pub record ExactlyOne {A : Type 0} (P : A → Type 0) : Type 0 where
 -- an input holds the file of exactly one problem and has no fault, or it has exactly one fault and holds no file
 abbrev pub OneVerdict : Type 0
 OneVerdict = (layout : Layout) (input : List ℕ) (k : ℕ) → 1 ≤ k
-    → (ExactlyOne (File limits layout input k) × ((fault : LayoutFault) → ¬ Refuse layout input k fault))
-    ⊎ (ExactlyOne (Refuse layout input k) × ((problem : Problem) → ¬ File limits layout input k problem))
+    → (ExactlyOne (IsInstanceFile limits layout input k) × ((fault : LayoutFault) → ¬ RefusesInstance layout input k fault))
+    ⊎ (ExactlyOne (RefusesInstance layout input k) × ((problem : Problem) → ¬ IsInstanceFile limits layout input k problem))
 
 -- which problem's file an input holds can be computed
 abbrev pub AcceptedLaw : Type 0
 AcceptedLaw = (layout : Layout) (input : List ℕ) (k : ℕ) (problem : Problem) → 1 ≤ k
-    → accepted layout input k ≡ Some problem ↔ File limits layout input k problem
+    → accepted layout input k ≡ Some problem ↔ IsInstanceFile limits layout input k problem
 
 -- an input has at most one fault
 abbrev pub OneFault : Type 0
 OneFault = (layout : Layout) (input : List ℕ) (k : ℕ) (one other : LayoutFault)
-    → Refuse layout input k one → Refuse layout input k other → one ≡ other
+    → RefusesInstance layout input k one → RefusesInstance layout input k other → one ≡ other
 
 -- which fault it has can be computed
 abbrev pub RefusalLaw : Type 0
 RefusalLaw = (layout : Layout) (input : List ℕ) (k : ℕ) (fault : LayoutFault)
-    → refusal layout input k ≡ Some fault ↔ Refuse layout input k fault
+    → refusal layout input k ≡ Some fault ↔ RefusesInstance layout input k fault
 
 -- a fault at a byte stays, whatever follows
 abbrev pub FaultStays : Type 0
 FaultStays = (layout : Layout) (text more : List ℕ) (k : ℕ) (fault : LayoutFault)
-    → byte_fault layout k text ≡ Some fault → Refuse layout (text ++ more) k fault
+    → byte_fault layout k text ≡ Some fault → RefusesInstance layout (text ++ more) k fault
 
 -- the first fault at a byte is the fault, where its place is a byte
 abbrev pub ByteFaultLaw : Type 0
 ByteFaultLaw = (layout : Layout) (text : List ℕ) (k : ℕ) (fault : LayoutFault)
     → byte_fault layout k text ≡ Some fault
-    ↔ ((refused : Refuse layout text k fault) × (refused.place < length text))
+    ↔ ((refused : RefusesInstance layout text k fault) × (refused.place < length text))
 
 -- where the ended lines of a text without a fault at a byte complete k blocks, what follows is free
 abbrev pub FreeBehind : Type 0
 FreeBehind = (layout : Layout) (text more : List ℕ) (k : ℕ) (problem : Problem) → 1 ≤ k
     → byte_fault layout k text ≡ None → k ≤ length (stand layout (ended_lines text)).complete
-    → File limits layout text k problem ↔ File limits layout (text ++ more) k problem
+    → IsInstanceFile limits layout text k problem ↔ IsInstanceFile limits layout (text ++ more) k problem
 
 -- no limit is lower
 pub record IsWider (narrow wide : Limits) : Type 0 where
@@ -103,7 +103,7 @@ pub record IsWider (narrow wide : Limits) : Type 0 where
 -- wider limits keep every file
 abbrev pub WiderLimits : Type 0
 WiderLimits = (narrow wide : Limits) (layout : Layout) (input : List ℕ) (k : ℕ) (problem : Problem)
-    → IsWider narrow wide → File narrow layout input k problem → File wide layout input k problem
+    → IsWider narrow wide → IsInstanceFile narrow layout input k problem → IsInstanceFile wide layout input k problem
 
 -- the limits of versions before: fewer jobs and shorter times
 abbrev pub earlier_limits : Limits
@@ -112,7 +112,7 @@ earlier_limits = record { jobs = 2000; machines = 200; time = 1000000; note = 42
 -- what was a file under them is a file of the same problem
 abbrev pub EarlierFiles : Type 0
 EarlierFiles = (layout : Layout) (input : List ℕ) (k : ℕ) (problem : Problem)
-    → File earlier_limits layout input k problem → File limits layout input k problem
+    → IsInstanceFile earlier_limits layout input k problem → IsInstanceFile limits layout input k problem
 
 -- the numbers that are due give a problem back
 abbrev pub DueAndBack : Type 0

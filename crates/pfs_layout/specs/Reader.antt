@@ -25,9 +25,9 @@ use Rattle.pfs_layout.specs.Lines.{ended_lines, open_line, ended_numbers, last_d
 use Rattle.pfs_layout.specs.Size.{Size, is_within_limits}
 use Rattle.pfs_layout.specs.Block.{due_count}
 use Rattle.pfs_layout.specs.Stand.{Block, Now, seeking, inside, lost, Stand, stand, times_among, instance_of}
-use Rattle.pfs_layout.specs.File.{File}
+use Rattle.pfs_layout.specs.File.{IsInstanceFile}
 use Rattle.pfs_layout.specs.Step.{is_live}
-use Rattle.pfs_layout.specs.Refuse.{Refuse, fault_behind, byte_fault}
+use Rattle.pfs_layout.specs.Refuse.{RefusesInstance, fault_of_place, byte_fault}
 
 -- what a reader holds: the last line so far, and the blocks
 pub record Fields : Type 0 where
@@ -127,7 +127,7 @@ pub record IsRefused (r : Fields) (text : List ℕ) (fault : LayoutFault) : Type
   pub rest : List ℕ
   pub whole : text ≡ front ++ byte ∷ rest
   pub sound : byte_fault r.layout r.wanted front ≡ None
-  pub here : fault_behind r.layout r.wanted front (Some byte) ≡ Some fault
+  pub here : fault_of_place r.layout r.wanted front (Some byte) ≡ Some fault
   pub held : r.held ≡ time_count r.layout (block_read r.layout r.wanted front)
 
 abbrev pub StandsIn : Phase → Fields → List ℕ → Type 0
@@ -206,8 +206,8 @@ pub record FeedMeets (old : Fields) (text piece : List ℕ) (outcome : Result Pr
 
 -- what finish owes
 pub record FinishMeets (old : Fields) (text : List ℕ) (outcome : Result Problem LayoutFault) : Type 0 where
-  pub file : (problem : Problem) → (outcome ≡ Ok problem) ↔ File limits old.layout text old.wanted problem
-  pub refused : (fault : LayoutFault) → (outcome ≡ Err fault) ↔ Refuse old.layout text old.wanted fault
+  pub file : (problem : Problem) → (outcome ≡ Ok problem) ↔ IsInstanceFile limits old.layout text old.wanted problem
+  pub refused : (fault : LayoutFault) → (outcome ≡ Err fault) ↔ RefusesInstance old.layout text old.wanted fault
 
 -- ---- how far an input is read
 

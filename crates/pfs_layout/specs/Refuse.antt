@@ -87,16 +87,16 @@ faults layout k (inside block) before next =
 faults layout k lost before next = []
 
 -- the fault of a place, where the lines that are ended before it leave fewer than k blocks
-unfoldable pub fault_behind : Layout → ℕ → List ℕ → Option ℕ → Option LayoutFault
-fault_behind layout k before next =
+unfoldable pub fault_of_place : Layout → ℕ → List ℕ → Option ℕ → Option LayoutFault
+fault_of_place layout k before next =
     let reached = stand layout (ended_lines before) in
     if nat_lt (length reached.complete) k then first_some (faults layout k reached.now before next) else None
 
 abbrev pub fault_at : Layout → ℕ → List ℕ → ℕ → Option LayoutFault
-fault_at layout k input place = fault_behind layout k (take place input) (slice_get input place)
+fault_at layout k input place = fault_of_place layout k (take place input) (slice_get input place)
 
 -- the fault of the first place that has one
-pub record Refuse (layout : Layout) (input : List ℕ) (k : ℕ) (fault : LayoutFault) : Type 0 where
+pub record RefusesInstance (layout : Layout) (input : List ℕ) (k : ℕ) (fault : LayoutFault) : Type 0 where
   pub place : ℕ
   pub within : place ≤ length input
   pub here : fault_at layout k input place ≡ Some fault

@@ -4,7 +4,7 @@ ghost use Rattle.pfs_base.specs.Limits.{limits};
 ghost use Rattle.pfs_base.specs.Lists.{below};
 ghost use Rattle.pfs_layout.specs.Lines.{lines, open_line, numbers};
 ghost use Rattle.pfs_layout.specs.Block.{due};
-ghost use Rattle.pfs_layout.specs.File.{File};
+ghost use Rattle.pfs_layout.specs.File.{IsInstanceFile};
 ghost use Rattle.pfs_layout.specs.Refuse.{refusal, accepted};
 ghost use Rattle.pfs_layout.specs.CanonicalText.{canonical_text};
 ghost use Rattle.pfs_layout.specs.Generator.{generated};
@@ -26,7 +26,7 @@ pub fn three_jobs()
     ensures length { length three_jobs_file ≡ 121 }
     ensures by_machine { due Layout.Taillard three_jobs.shop ≡ 3 ∷ 2 ∷ 4 ∷ 2 ∷ 5 ∷ 1 ∷ [] }
     ensures by_job { due Layout.OrLib three_jobs.shop ≡ 0 ∷ 3 ∷ 1 ∷ 2 ∷ 0 ∷ 2 ∷ 1 ∷ 5 ∷ 0 ∷ 4 ∷ 1 ∷ 1 ∷ [] }
-    ensures file { File limits Layout.Taillard three_jobs_file 1 three_jobs }
+    ensures file { IsInstanceFile limits Layout.Taillard three_jobs_file 1 three_jobs }
     ensures accepted { accepted Layout.Taillard three_jobs_file 1 ≡ Some three_jobs }
 {}
 

@@ -2,8 +2,8 @@
 ghost use Rattle.std.specs.Prelude.{◌≡◌, ◌≢◌, ◌↔◌, ℕ, ◌+◌, ◌≤◌, List, [], ◌++◌, length, true, false, IfOk, IfErr, IfSome};
 ghost use Rattle.std.specs.Result.{result_err};
 ghost use Rattle.pfs_base.specs.Limits.{limits};
-ghost use Rattle.pfs_layout.specs.File.{File};
-ghost use Rattle.pfs_layout.specs.Refuse.{Refuse};
+ghost use Rattle.pfs_layout.specs.File.{IsInstanceFile};
+ghost use Rattle.pfs_layout.specs.Refuse.{RefusesInstance};
 ghost use Rattle.pfs_layout.specs.Step.{is_live as live_test};
 ghost use Rattle.pfs_layout.specs.Reader.{StandsAfter, HoldsFew, FeedMeets, FinishMeets, ReadsAsFar, progress_of};
 
@@ -114,9 +114,9 @@ pub fn read_block<R: Source>(
     requires few { block ≤ MOST_BLOCKS }
     requires working { R.has_failed reader.old ≡ false }
     ensures file { IfOk result (λ instance.
-        IfSome (R.left reader.old) (λ bytes. File limits layout bytes block instance)) }
+        IfSome (R.left reader.old) (λ bytes. IsInstanceFile limits layout bytes block instance)) }
     ensures refused { IfErr result (λ fault. fault ≢ LayoutFault.Read → fault ≢ LayoutFault.Memory
-        → IfSome (R.left reader.old) (λ bytes. Refuse layout bytes block fault)) }
+        → IfSome (R.left reader.old) (λ bytes. RefusesInstance layout bytes block fault)) }
     ensures read { result ≡ Err LayoutFault.Read ↔ (R.has_failed reader.new ≡ true) }
     ensures no_seed { result ≢ Err LayoutFault.SeedRange }
     ensures as_far { IfSome (R.left reader.old) (λ bytes. ReadsAsFar layout block bytes (R.left reader.new) (result_err result)) }

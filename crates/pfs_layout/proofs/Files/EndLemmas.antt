@@ -5,7 +5,7 @@ use Rattle.pfs_base.proofs.Published.Lists.{by_push}
 use Rattle.pfs_layout.specs.declared.layout.Layout.{Layout}
 use Rattle.pfs_layout.specs.declared.fault.LayoutFault.{LayoutFault}
 use Rattle.pfs_layout.specs.Laws.{Completes, FaultStays, ByteFaultLaw, FreeBehind}
-use Rattle.pfs_layout.specs.Refuse.{fault_at, byte_fault, Refuse}
+use Rattle.pfs_layout.specs.Refuse.{fault_at, byte_fault, RefusesInstance}
 use Rattle.pfs_layout.proofs.Files.FileLemmas.{file_completes, completes_file}
 use Rattle.pfs_layout.proofs.Files.SoundLemmas.{stand_of}
 use Rattle.pfs_layout.proofs.Files.VerdictLemmas.{EndedHolds, first_enough, from_enough, one_held}
@@ -20,7 +20,7 @@ byte_fault-more layout k text more fault e =
     (λ more b h. rw (← append_assoc text more (b ∷ []), byte_fault-push layout k (text ++ more) b, h)) more
 
 pub byte_fault_refuses : (layout : Layout) (k : ℕ) (text more : List ℕ) (fault : LayoutFault)
-    → byte_fault layout k text ≡ Some fault → Refuse layout (text ++ more) k fault
+    → byte_fault layout k text ≡ Some fault → RefusesInstance layout (text ++ more) k fault
 byte_fault_refuses layout k text more fault e =
     (refusal_is layout (text ++ more) k fault).0
     (rw (refusal_end layout k (text ++ more), byte_fault-more layout k text more fault e))

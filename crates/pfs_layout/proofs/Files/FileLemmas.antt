@@ -7,7 +7,7 @@ use Rattle.pfs_base.specs.Limits.{limits}
 use Rattle.pfs_base.specs.Problem.{Problem}
 use Rattle.pfs_layout.specs.declared.layout.Layout.{Layout}
 use Rattle.pfs_layout.specs.Lines.{lines}
-use Rattle.pfs_layout.specs.File.{IsBlock, IsSomeBlock, File}
+use Rattle.pfs_layout.specs.File.{IsBlock, IsSomeBlock, IsInstanceFile}
 use Rattle.pfs_layout.specs.Stand.{Block, completed, stand, instance_of}
 use Rattle.pfs_layout.specs.Laws.{Completes, FileStands}
 use Rattle.pfs_layout.proofs.Files.BlockLemmas.{file_leads}
@@ -16,7 +16,7 @@ use Rattle.pfs_layout.proofs.Files.RoundLemmas.{block_of, instance_due}
 use Rattle.pfs_layout.proofs.Files.StandLemmas.{AreOf, IsMade, made}
 
 pub file_completes : (layout : Layout) (input : List ℕ) (k : ℕ) (problem : Problem)
-    → File limits layout input k problem → Completes layout input k problem
+    → IsInstanceFile limits layout input k problem → Completes layout input k problem
 unfolding stand
 file_completes layout input k problem f =
     let lead = file_leads layout k problem (lines f.text) f.blocks in
@@ -63,7 +63,7 @@ last_are layout (first ∷ all) (block ∷ earlier) own are =
     }
 
 pub completes_file : (layout : Layout) (input : List ℕ) (k : ℕ) (problem : Problem)
-    → Completes layout input k problem → File limits layout input k problem
+    → Completes layout input k problem → IsInstanceFile limits layout input k problem
 completes_file layout input k problem c =
     let m : IsMade layout (lines c.text) (completed c.earlier c.own) = rw c.stands at (made layout (lines c.text)) in
     let flat : List (List (List ℕ)) → List (List ℕ) = flat_map (λ block. block) in

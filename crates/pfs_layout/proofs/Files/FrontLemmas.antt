@@ -20,9 +20,9 @@ unfolding due_at
 nothing_there layout size k h = rw (le-ltb k (due_count layout size) h)
 
 -- no more numbers than that pass
-pub due_few : (layout : Layout) (size : Size) (numbers : List ℕ) → are_due layout size numbers ≡ true
+pub no_more_than_due : (layout : Layout) (size : Size) (numbers : List ℕ) → are_due layout size numbers ≡ true
     → length numbers ≤ due_count layout size
-due_few layout size numbers all = elim (cases_lt (due_count layout size) (length numbers)) [
+no_more_than_due layout size numbers all = elim (cases_lt (due_count layout size) (length numbers)) [
   | inr h ↦ h
   | inl h ↦
       let right = due_number layout size numbers (due_count layout size) all h in
@@ -52,7 +52,7 @@ filled layout size numbers = numbers ++ drop (length numbers) (idle_due layout s
 module _ (layout : Layout) (size : Size) (numbers : List ℕ) (all : are_due layout size numbers ≡ true) where
   length-filled : length (filled layout size numbers) ≡ due_count layout size
   unfolding filled
-  length-filled = simp (length-append, length-drop, length-idle_due) (omega (arith, due_few layout size numbers all))
+  length-filled = simp (length-append, length-drop, length-idle_due) (omega (arith, no_more_than_due layout size numbers all))
 
   filled_passes : are_due layout size (filled layout size numbers) ≡ true
   unfolding filled

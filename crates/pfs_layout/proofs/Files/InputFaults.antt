@@ -20,7 +20,7 @@ use Rattle.pfs_layout.specs.Size.{Size, is_within_limits}
 use Rattle.pfs_layout.specs.Block.{Due, any_time, machine_number, nothing, due_at, stated_size}
 use Rattle.pfs_layout.specs.Stand.{Stand, Now, seeking, inside, lost, stand, times_among}
 use Rattle.pfs_layout.specs.Refuse.{too_long, mixed_line, misfit, ends_line, ends_number, wrong_number, size_fault}
-use Rattle.pfs_layout.specs.Refuse.{wrong_size, missing, ends_early, faults, fault_behind, Refuse}
+use Rattle.pfs_layout.specs.Refuse.{wrong_size, missing, ends_early, faults, fault_of_place, RefusesInstance}
 
 abbrev pub is_input_fault : LayoutFault → Bool
 is_input_fault (NoBlock found) = true
@@ -104,13 +104,13 @@ of_faults layout k (inside block) text next =
     )
 of_faults layout k lost text next = of_none
 
-pub of_place : (layout : Layout) (k : ℕ) (text : List ℕ) (next : Option ℕ) → OfInput (fault_behind layout k text next)
-unfolding fault_behind
+pub of_place : (layout : Layout) (k : ℕ) (text : List ℕ) (next : Option ℕ) → OfInput (fault_of_place layout k text next)
+unfolding fault_of_place
 of_place layout k text next =
     let before : Stand = stand layout (ended_lines text) in
     of_or_none (nat_lt (length before.complete) k) _ (of_faults layout k before.now text next)
 
 -- a refused input has a fault of the input
-pub refused_input : (layout : Layout) (input : List ℕ) (k : ℕ) (fault : LayoutFault) → Refuse layout input k fault
+pub refused_input : (layout : Layout) (input : List ℕ) (k : ℕ) (fault : LayoutFault) → RefusesInstance layout input k fault
     → is_input_fault fault ≡ true
 refused_input layout input k fault refused = of_place layout k _ _ fault refused.here

@@ -25,7 +25,7 @@ use Rattle.pfs_layout.specs.Block.{due_count}
 use Rattle.pfs_layout.specs.Stand.{Block, Now, seeking, inside, lost, Stand, standing, completed, begun, with_line}
 use Rattle.pfs_layout.specs.Stand.{after_size, after_numbers, after_line, stand_after, stand}
 use Rattle.pfs_layout.specs.Refuse.{mixed_line, misfit, ends_line, ends_number, wrong_number, size_fault, wrong_size}
-use Rattle.pfs_layout.specs.Refuse.{faults, fault_behind, byte_fault}
+use Rattle.pfs_layout.specs.Refuse.{faults, fault_of_place, byte_fault}
 use Rattle.pfs_layout.proofs.Files.LineLemmas.{ended_parts-push, open_part-push, ended_numbers-push, numbers_is}
 use Rattle.pfs_layout.proofs.Published.PlaceLemmas.{byte_fault-push}
 use Rattle.pfs_layout.proofs.Options.{then_some_none, all_none, or_none}
@@ -254,10 +254,10 @@ sound_start layout k right few = tt
 
 sound_more : (layout : Layout) (k : ℕ) (text : List ℕ) (b : ℕ) → IsSound layout k text
     → IsSound layout k (text ++ b ∷ [])
-unfolding fault_behind stand_after
+unfolding fault_of_place stand_after
 sound_more layout k text b sound right few =
     let before : Stand = stand_of layout text in
-    let rights = or_none (byte_fault layout k text) (fault_behind layout k text (Some b))
+    let rights = or_none (byte_fault layout k text) (fault_of_place layout k text (Some b))
     (rw byte_fault-push at right) in
     let here : length before.complete < k → first_some (faults layout k before.now text (Some b)) ≡ None =
     λ fewer. rw (lt-ltb _ k fewer) at rights.1 in

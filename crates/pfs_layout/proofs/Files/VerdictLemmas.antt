@@ -18,7 +18,7 @@ use Rattle.pfs_layout.specs.Bytes.{is_line_end}
 use Rattle.pfs_layout.specs.Lines.{lines, ended_lines, open_line, ended_parts}
 use Rattle.pfs_layout.specs.Stand.{Block, Now, seeking, inside, lost, Stand, standing, completed, after_line}
 use Rattle.pfs_layout.specs.Stand.{stand_after, stand, instance_of}
-use Rattle.pfs_layout.specs.Refuse.{too_long, missing, ends_early, faults, fault_behind, fault_at, refusal, accepted}
+use Rattle.pfs_layout.specs.Refuse.{too_long, missing, ends_early, faults, fault_of_place, fault_at, refusal, accepted}
 use Rattle.pfs_layout.specs.Laws.{Completes}
 use Rattle.pfs_layout.proofs.Published.PlaceLemmas.{fault_at-append, fault_at-byte, fault_at-end, no_byte_fault}
 use Rattle.pfs_layout.proofs.Published.PlaceLemmas.{no_fault, not_refused, slice_get-at}
@@ -82,9 +82,9 @@ module _ (layout : Layout) (k : ℕ) where
   good_now : (text : List ℕ) → Faultless text → Few text → GoodNow layout (stand_of layout text).now (open_line text)
   good_now text right few = sound layout k text (no_byte_fault layout k text right) few
 
-  none_of_faults : (text : List ℕ) (next : Option ℕ) → Few text → fault_behind layout k text next ≡ None
+  none_of_faults : (text : List ℕ) (next : Option ℕ) → Few text → fault_of_place layout k text next ≡ None
       → first_some (faults layout k (stand_of layout text).now text next) ≡ None
-  unfolding fault_behind
+  unfolding fault_of_place
   none_of_faults text next few right = rw (lt-ltb _ k few) at right
 
   -- ---- without a fault there is a file
@@ -203,7 +203,7 @@ module _ (layout : Layout) (k : ℕ) where
   early_end (inside block) complete good e = cc
   early_end lost complete good e = absurd good
 
-  from_end : (input : List ℕ) → Faultless input → Few input → fault_behind layout k input None ≡ None → Holds input
+  from_end : (input : List ℕ) → Faultless input → Few input → fault_of_place layout k input None ≡ None → Holds input
   unfolding stand_after ends_early
   from_end input right few last = elim (cases_Bool (is_empty (open_line input))) [
     | inl empty ↦
@@ -248,16 +248,16 @@ module _ (layout : Layout) (k : ℕ) where
 
   -- ---- a file has no fault
 
-  has_fault : (text : List ℕ) (next : Option ℕ) (fault : LayoutFault) → fault_behind layout k text next ≡ Some fault
+  has_fault : (text : List ℕ) (next : Option ℕ) (fault : LayoutFault) → fault_of_place layout k text next ≡ Some fault
       → Few text × (first_some (faults layout k (stand_of layout text).now text next) ≡ Some fault)
-  unfolding fault_behind
+  unfolding fault_of_place
   has_fault text next fault e =
       let parts = if_some (nat_lt (length (stand_of layout text).complete) k) _ fault e in
       (ltb-true (length (stand_of layout text).complete) k parts.0, parts.1)
 
   -- behind a fault at a byte all is lost
   byte_loses : (before : List ℕ) (b : ℕ) (after : List ℕ) (fault : LayoutFault) → length before < LONGEST_INPUT
-      → fault_behind layout k before (Some b) ≡ Some fault → (stand layout (lines (before ++ b ∷ after))).now ≡ lost
+      → fault_of_place layout k before (Some b) ≡ Some fault → (stand layout (lines (before ++ b ∷ after))).now ≡ lost
   unfolding stand_after ends_early
   byte_loses before b after fault short e = elim (cases_Bool (is_line_end b)) [
     | inl ends ↦ behind (open_line before) (lines after) (ends_here ends refl)
@@ -284,7 +284,7 @@ module _ (layout : Layout) (k : ℕ) where
 
   end_is_right : (input : List ℕ) (blocks : List Block) (fault : LayoutFault)
       → stand layout (lines input) ≡ standing blocks seeking → length blocks ≡ k
-      → fault_behind layout k input None ≡ Some fault → ⊥
+      → fault_of_place layout k input None ≡ Some fault → ⊥
   unfolding stand_after ends_early
   end_is_right input blocks fault stands count e =
       let reached : Stand = stand_of layout input in
@@ -320,7 +320,7 @@ module _ (layout : Layout) (k : ℕ) where
       at_byte fault e p =
           let whole : input ≡ p.before ++ p.byte ∷ (p.after ++ c.rest) =
           rw (c.whole, p.whole) (append_assoc p.before (p.byte ∷ p.after) c.rest) in
-          let there : fault_behind layout k p.before (Some p.byte) ≡ Some fault =
+          let there : fault_of_place layout k p.before (Some p.byte) ≡ Some fault =
           sym (fault_at-byte layout k p.before p.byte (p.after ++ c.rest)) ∙ rw (← p.at, whole) at e in
           let longer = length-append p.before (p.byte ∷ p.after) in
           let away = byte_loses p.before p.byte p.after fault (omega (arith, c.short, ap length p.whole)) there in

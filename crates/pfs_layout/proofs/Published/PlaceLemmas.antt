@@ -8,7 +8,7 @@ use Rattle.std.proofs.lemmas.Option.{slice_get_past}
 use Rattle.pfs_base.proofs.Published.Lists.{slice_get-append, map-range_with_len-same}
 use Rattle.pfs_layout.specs.declared.layout.Layout.{Layout}
 use Rattle.pfs_layout.specs.declared.fault.LayoutFault.{LayoutFault}
-use Rattle.pfs_layout.specs.Refuse.{fault_at, fault_behind, refusal, byte_fault, Refuse}
+use Rattle.pfs_layout.specs.Refuse.{fault_at, fault_of_place, refusal, byte_fault, RefusesInstance}
 use Rattle.pfs_layout.proofs.Options.{first_push, first_not_found, IsFirst, one_first, first_is, none_first}
 
 -- a place within a text has the fault that it has in each longer text
@@ -23,18 +23,18 @@ slice_get-at (x ∷ xs) y ys = slice_get-at xs y ys
 
 -- the place of a byte, and the end
 pub fault_at-byte : (layout : Layout) (k : ℕ) (before : List ℕ) (b : ℕ) (after : List ℕ)
-    → fault_at layout k (before ++ b ∷ after) (length before) ≡ fault_behind layout k before (Some b)
+    → fault_at layout k (before ++ b ∷ after) (length before) ≡ fault_of_place layout k before (Some b)
 fault_at-byte layout k before b after =
     rw (take_at before (b ∷ after) (length before) refl, slice_get-at before b after)
 
 pub fault_at-end : (layout : Layout) (k : ℕ) (text : List ℕ)
-    → fault_at layout k text (length text) ≡ fault_behind layout k text None
+    → fault_at layout k text (length text) ≡ fault_of_place layout k text None
 fault_at-end layout k text =
     rw (take_all (length text) text (omega arith), slice_get_past text (length text) (omega arith))
 
 -- the first fault at a byte of a text with one more byte
 pub byte_fault-push : (layout : Layout) (k : ℕ) (text : List ℕ) (b : ℕ) → byte_fault layout k (text ++ b ∷ [])
-    ≡ option_or (byte_fault layout k text) (fault_behind layout k text (Some b))
+    ≡ option_or (byte_fault layout k text) (fault_of_place layout k text (Some b))
 unfolding byte_fault
 byte_fault-push layout k text b =
     let f : ℕ → Option LayoutFault = fault_at layout k (text ++ b ∷ []) in
@@ -45,7 +45,7 @@ byte_fault-push layout k text b =
 
 -- the fault of an input is the first at a byte, or else that at the end
 pub refusal_end : (layout : Layout) (k : ℕ) (input : List ℕ)
-    → refusal layout input k ≡ option_or (byte_fault layout k input) (fault_behind layout k input None)
+    → refusal layout input k ≡ option_or (byte_fault layout k input) (fault_of_place layout k input None)
 unfolding refusal byte_fault
 refusal_end layout k input =
     let size : length input + 1 ≡ suc (length input) = omega arith in
@@ -53,13 +53,13 @@ refusal_end layout k input =
 
 -- ---- the first place that has a fault
 
-first_of : (layout : Layout) (input : List ℕ) (k : ℕ) (fault : LayoutFault) (r : Refuse layout input k fault)
+first_of : (layout : Layout) (input : List ℕ) (k : ℕ) (fault : LayoutFault) (r : RefusesInstance layout input k fault)
     → IsFirst (fault_at layout k input) r.place fault
 first_of layout input k fault r = record { here = r.here; before = r.first }
 
 -- what refusal computes is the fault of the first place that has one
 pub refusal_is : (layout : Layout) (input : List ℕ) (k : ℕ) (fault : LayoutFault)
-    → refusal layout input k ≡ Some fault ↔ Refuse layout input k fault
+    → refusal layout input k ≡ Some fault ↔ RefusesInstance layout input k fault
 unfolding refusal
 refusal_is layout input k fault =
     let is = first_is (fault_at layout k input) (length input + 1) fault in (
@@ -70,7 +70,7 @@ refusal_is layout input k fault =
 
 -- the fault at a byte is the fault of a place that is a byte
 pub byte_fault_is : (layout : Layout) (k : ℕ) (text : List ℕ) (fault : LayoutFault)
-    → byte_fault layout k text ≡ Some fault ↔ ((r : Refuse layout text k fault) × (r.place < length text))
+    → byte_fault layout k text ≡ Some fault ↔ ((r : RefusesInstance layout text k fault) × (r.place < length text))
 unfolding byte_fault
 byte_fault_is layout k text fault =
     let is = first_is (fault_at layout k text) (length text) fault in (
@@ -83,7 +83,7 @@ byte_fault_is layout k text fault =
 
 -- at most one fault
 pub one_fault : (layout : Layout) (input : List ℕ) (k : ℕ) (one other : LayoutFault)
-    → Refuse layout input k one → Refuse layout input k other → one ≡ other
+    → RefusesInstance layout input k one → RefusesInstance layout input k other → one ≡ other
 one_fault layout input k one other r s =
     one_first (fault_at layout k input) r.place s.place one other
     (first_of layout input k one r) (first_of layout input k other s)

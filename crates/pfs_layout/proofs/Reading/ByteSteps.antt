@@ -21,7 +21,7 @@ use Rattle.pfs_layout.specs.Bytes.{is_digit, is_blank, is_line_end, is_word_byte
 use Rattle.pfs_layout.specs.Lines.{ended_lines, open_line, is_mixed, is_number_line, numbers, ended_numbers, last_digits}
 use Rattle.pfs_layout.specs.Block.{due_at, stated_size}
 use Rattle.pfs_layout.specs.Stand.{Block, Now, seeking, inside, lost, Stand, stand}
-use Rattle.pfs_layout.specs.Refuse.{mixed_line, misfit, wrong_number, size_fault, wrong_size, ends_early, faults, fault_behind}
+use Rattle.pfs_layout.specs.Refuse.{mixed_line, misfit, wrong_number, size_fault, wrong_size, ends_early, faults, fault_of_place}
 use Rattle.pfs_layout.specs.Step.{is_live, is_in_block, refused, last_number_ended, line_ended, has_numbers_alone, number_of, blank_event, mixed_if, event_of, blocks_after}
 use Rattle.pfs_layout.specs.Reader.{FollowsLine, FollowsNow, FollowsBlocks}
 use Rattle.pfs_layout.proofs.Files.SoundLemmas.{GoodNow}
@@ -46,8 +46,8 @@ first_of_one (Some x) = refl
 first_of_one None = refl
 
 pub place_fault : (layout : Layout) (k : ℕ) (text : List ℕ) (b : ℕ) → length (stand layout (ended_lines text)).complete < k → length text < LONGEST_INPUT
-    → fault_behind layout k text (Some b) ≡ fault_in layout (stand layout (ended_lines text)).now text b
-unfolding fault_behind ends_early
+    → fault_of_place layout k text (Some b) ≡ fault_in layout (stand layout (ended_lines text)).now text b
+unfolding fault_of_place ends_early
 place_fault layout k text b few short =
     ap (λ t. if t then first_some (faults layout k (stand layout (ended_lines text)).now text (Some b)) else None) (lt-ltb (length (stand layout (ended_lines text)).complete) k few)
     ∙ by_now (stand layout (ended_lines text)).now

@@ -22,7 +22,7 @@ use Rattle.pfs_layout.specs.Lines.{ended_lines, open_line, is_mixed, is_number_l
 use Rattle.pfs_layout.specs.Size.{Size, is_within_limits}
 use Rattle.pfs_layout.specs.Block.{Due, any_time, machine_number, nothing, due_at, stated_size}
 use Rattle.pfs_layout.specs.Stand.{Now, seeking, inside, lost, stand}
-use Rattle.pfs_layout.specs.Refuse.{too_long, mixed_line, misfit, wrong_number, size_fault, wrong_size, ends_early, faults, fault_behind, byte_fault}
+use Rattle.pfs_layout.specs.Refuse.{too_long, mixed_line, misfit, wrong_number, size_fault, wrong_size, ends_early, faults, fault_of_place, byte_fault}
 use Rattle.pfs_layout.specs.Step.{is_live, refused}
 use Rattle.pfs_layout.specs.Reader.{Fields, fields, block_read, FollowsNow, Follows, IsRefused, StandsIn, StandsAfter, IsReader, TakeMeets, FeedMeets, progress_of, EndsWantedSize}
 use Rattle.pfs_layout.proofs.Published.PlaceLemmas.{byte_fault-push}
@@ -76,8 +76,8 @@ no_memory_in layout k (inside block) text b =
     (λ e. cc)))
 no_memory_in layout k lost text b = λ e. cc
 
-no_memory_behind : (layout : Layout) (k : ℕ) (text : List ℕ) (b : ℕ) → NoMemory (fault_behind layout k text (Some b))
-unfolding fault_behind
+no_memory_behind : (layout : Layout) (k : ℕ) (text : List ℕ) (b : ℕ) → NoMemory (fault_of_place layout k text (Some b))
+unfolding fault_of_place
 no_memory_behind layout k text b = no_memory_or_none (nat_lt (length (stand layout (ended_lines text)).complete) k) (first_some (faults layout k (stand layout (ended_lines text)).now text (Some b))) (no_memory_in layout k (stand layout (ended_lines text)).now text b)
 
 -- a reader that was refused memory stands behind no text
@@ -89,7 +89,7 @@ memory_nowhere r text e s = let refused : IsRefused r text Memory = subst (λ p.
 -- a refused reader's fault is that of the text
 pub refused_fault : (r : Fields) (text : List ℕ) (fault : LayoutFault) → IsRefused r text fault → byte_fault r.layout r.wanted text ≡ Some fault
 refused_fault r text fault f =
-    let here : byte_fault r.layout r.wanted (f.front ++ f.byte ∷ []) ≡ Some fault = byte_fault-push r.layout r.wanted f.front f.byte ∙ ap (λ o. option_or o (fault_behind r.layout r.wanted f.front (Some f.byte))) f.sound ∙ f.here in
+    let here : byte_fault r.layout r.wanted (f.front ++ f.byte ∷ []) ≡ Some fault = byte_fault-push r.layout r.wanted f.front f.byte ∙ ap (λ o. option_or o (fault_of_place r.layout r.wanted f.front (Some f.byte))) f.sound ∙ f.here in
     ap (byte_fault r.layout r.wanted) (f.whole ∙ sym (append_assoc f.front (f.byte ∷ []) f.rest)) ∙ byte_fault-more r.layout r.wanted (f.front ++ f.byte ∷ []) f.rest fault here
 
 -- a refused reader stands behind every longer text
@@ -104,15 +104,15 @@ refused_more r text more fault f = record {
   held = f.held;
 }
 
-enough_fine : (layout : Layout) (k : ℕ) (text : List ℕ) (b : ℕ) → k ≤ length (stand_of layout text).complete → fault_behind layout k text (Some b) ≡ None
-unfolding fault_behind
+enough_fine : (layout : Layout) (k : ℕ) (text : List ℕ) (b : ℕ) → k ≤ length (stand_of layout text).complete → fault_of_place layout k text (Some b) ≡ None
+unfolding fault_of_place
 enough_fine layout k text b enough = ap (λ t. if t then first_some (faults layout k (stand layout (ended_lines text)).now text (Some b)) else None) (le-ltb (length (stand_of layout text).complete) k enough)
 
 -- no byte behind the wanted block has a fault
 pub fine_more : (layout : Layout) (k : ℕ) (text more : List ℕ) → byte_fault layout k text ≡ None → k ≤ length (stand_of layout text).complete → byte_fault layout k (text ++ more) ≡ None
 fine_more layout k text [] right enough = ap (byte_fault layout k) (append-nil text) ∙ right
 fine_more layout k text (b ∷ more) right enough =
-    let here : byte_fault layout k (text ++ b ∷ []) ≡ None = byte_fault-push layout k text b ∙ ap (λ o. option_or o (fault_behind layout k text (Some b))) right ∙ enough_fine layout k text b enough in
+    let here : byte_fault layout k (text ++ b ∷ []) ≡ None = byte_fault-push layout k text b ∙ ap (λ o. option_or o (fault_of_place layout k text (Some b))) right ∙ enough_fine layout k text b enough in
     let then_enough : k ≤ length (stand_of layout (text ++ b ∷ [])).complete = (let f = fewer_before layout text (b ∷ []) in omega arith) in
     ap (byte_fault layout k) (sym (append_assoc text (b ∷ []) more)) ∙ fine_more layout k (text ++ b ∷ []) more here then_enough
 
@@ -261,8 +261,8 @@ front_meets old text piece room used new m within few = record {
 }
 
 -- the limit is reached, and a byte follows
-long_fault : (r : Fields) (text : List ℕ) (b : ℕ) → Follows r text → is_live r.phase ≡ true → length text ≡ LONGEST_INPUT → fault_behind r.layout r.wanted text (Some b) ≡ Some TooLong
-unfolding fault_behind
+long_fault : (r : Fields) (text : List ℕ) (b : ℕ) → Follows r text → is_live r.phase ≡ true → length text ≡ LONGEST_INPUT → fault_of_place r.layout r.wanted text (Some b) ≡ Some TooLong
+unfolding fault_of_place
 long_fault r text b f live full =
     ap (λ t. if t then first_some (faults r.layout r.wanted (stand_of r.layout text).now text (Some b)) else None)
     (lt-ltb (length (stand_of r.layout text).complete) r.wanted (let c = f.blocks.complete in let l = live_few (list_any is_word_byte (open_line text)) r.blocks (stand_of r.layout text).now (ended_numbers (open_line text)) f.blocks.now live in omega arith))

@@ -18,7 +18,7 @@ use Rattle.pfs_layout.specs.Refuse.{byte_fault}
 use Rattle.pfs_layout.specs.Reader.{Fields, block_begun_by, block_of, block_read, time_count, known_size, most_times, HoldsFew, Follows, StandsIn, StandsAfter, FeedMeets}
 use Rattle.pfs_layout.proofs.Files.SoundLemmas.{GoodNow, stand-push, stand_of, sound}
 use Rattle.pfs_layout.proofs.Reading.TableLemmas.{length-times_among}
-use Rattle.pfs_layout.proofs.Files.FrontLemmas.{due_few}
+use Rattle.pfs_layout.proofs.Files.FrontLemmas.{no_more_than_due}
 use Rattle.pfs_layout.proofs.Reading.StepLemmas.{refused_memory}
 
 -- ---- a block that isn't longer than it is due
@@ -84,7 +84,7 @@ block_few layout k complete now line all good = by_place (nat_lt (length complet
   where
     begun : (now : Now) → GoodNow layout now line → IsFew layout (block_begun_by now (ended_numbers line))
     begun seeking good = omega arith
-    begun (inside block) good = few_of layout (record { size = block.size; numbers = block.numbers ++ ended_numbers line }) (due_few layout block.size (block.numbers ++ ended_numbers line) good.due)
+    begun (inside block) good = few_of layout (record { size = block.size; numbers = block.numbers ++ ended_numbers line }) (no_more_than_due layout block.size (block.numbers ++ ended_numbers line) good.due)
     begun lost good = absurd good
 
     by_next : (v : Bool) → GoodNow layout now line → IsFew layout (if v then block_begun_by now (ended_numbers line) else None)

@@ -19,9 +19,9 @@ use Rattle.pfs_layout.specs.Bytes.{is_digit, is_line_end, is_word_byte}
 use Rattle.pfs_layout.specs.Lines.{lines, ended_lines, open_line, is_number_line, numbers, ended_numbers}
 use Rattle.pfs_layout.specs.Block.{due_count, stated_size, are_due}
 use Rattle.pfs_layout.specs.Stand.{Block, Now, seeking, inside, lost, Stand, stand, stand_after, instance_of}
-use Rattle.pfs_layout.specs.File.{File}
+use Rattle.pfs_layout.specs.File.{IsInstanceFile}
 use Rattle.pfs_layout.specs.Laws.{ExactlyOne}
-use Rattle.pfs_layout.specs.Refuse.{mixed_line, size_fault, ends_early, faults, fault_behind, refusal, accepted, Refuse}
+use Rattle.pfs_layout.specs.Refuse.{mixed_line, size_fault, ends_early, faults, fault_of_place, refusal, accepted, RefusesInstance}
 use Rattle.pfs_layout.specs.Step.{is_live, number_of, last_number_ended, end_fault_in, end_fault, at_end}
 use Rattle.pfs_layout.specs.Reader.{Fields, block_begun_by, block_of, FollowsBlocks, Follows, StandsIn, StandsAfter, IsReader, FinishMeets}
 use Rattle.pfs_layout.proofs.Published.PlaceLemmas.{refusal_is, refusal_end}
@@ -38,7 +38,7 @@ use Rattle.pfs_layout.proofs.Reading.FinishLemmas.{stand_lines, sought_fault, so
 
 -- what the end of the input is for a reader that has met no fault at a byte
 pub record EndOutcome (r : Fields) (text : List ℕ) : Type 0 where
-  pub fault : fault_behind r.layout r.wanted text None ≡ end_fault r.kinds (at_end r.last r.blocks)
+  pub fault : fault_of_place r.layout r.wanted text None ≡ end_fault r.kinds (at_end r.last r.blocks)
   pub instance : end_fault r.kinds (at_end r.last r.blocks) ≡ None → (at_end r.last r.blocks).instance ≡ option_map (instance_of r.layout) (slice_get (stand r.layout (lines text)).complete (r.wanted - 1))
 
 sought_some : (layout : Layout) (count : ℕ) (line : List ℕ) (place : ℕ) → sought_fault layout count line place ≡ None → ⊥
@@ -56,7 +56,7 @@ at_end_live : (r : Fields) → is_live r.phase ≡ true → at_end r.last r.bloc
 at_end_live r live = ap (λ t. if t then last_number_ended r.blocks (number_of r.digits) else r.blocks) live
 
 live_end : (r : Fields) (text : List ℕ) → Follows r text → is_live r.phase ≡ true → EndOutcome r text
-unfolding fault_behind mixed_line
+unfolding fault_of_place mixed_line
 live_end r text f live = by_now (stand_of r.layout text).now refl
   where
     complete : List Block
@@ -68,7 +68,7 @@ live_end r text f live = by_now (stand_of r.layout text).now refl
     good : GoodNow r.layout (stand_of r.layout text).now (open_line text)
     good = sound r.layout r.wanted text f.sound few
 
-    place : fault_behind r.layout r.wanted text None ≡ first_some (faults r.layout r.wanted (stand_of r.layout text).now text None)
+    place : fault_of_place r.layout r.wanted text None ≡ first_some (faults r.layout r.wanted (stand_of r.layout text).now text None)
     place = ap (λ t. if t then first_some (faults r.layout r.wanted (stand_of r.layout text).now text None) else None) (lt-ltb (length (stand_of r.layout text).complete) r.wanted few)
 
     standing : (now : Now) → (stand_of r.layout text).now ≡ now → stand_of r.layout text ≡ record { complete = (stand_of r.layout text).complete; now = now }
@@ -103,7 +103,7 @@ live_end r text f live = by_now (stand_of r.layout text).now refl
         short : length block.numbers < due_count r.layout block.size
         short = let b = (blocks_at (inside block) e).now.3 in let few = b.few in let other : length block.numbers ≢ due_count r.layout block.size = begun.short in omega (arith, b.due, b.judged)
 
-        at_place : fault_behind r.layout r.wanted text None ≡ option_or (number_fault r.layout (inside block) text) (ends_early r.layout r.wanted text None)
+        at_place : fault_of_place r.layout r.wanted text None ≡ option_or (number_fault r.layout (inside block) text) (ends_early r.layout r.wanted text None)
         at_place = place ∙ ap (λ n. first_some (faults r.layout r.wanted n text None)) e ∙ begun_end r.layout r.wanted text block
 
         by_fault : (o : Option LayoutFault) → number_fault r.layout (inside block) text ≡ o → NumberPart (list_any is_word_byte (open_line text)) r.blocks (stand_of r.layout text).complete (inside block) (numbers (open_line text)) (last_number_ended r.blocks (number_of r.digits)) o → EndOutcome r text
@@ -131,7 +131,7 @@ live_end r text f live = by_now (stand_of r.layout text).now refl
 
 -- a reader that is done
 done_end : (r : Fields) (text : List ℕ) → Follows r text → r.phase ≡ phases.Done → EndOutcome r text
-unfolding fault_behind
+unfolding fault_of_place
 done_end r text f e =
     let enough = done_enough r text f e in
     let here : at_end r.last r.blocks ≡ r.blocks = ap (λ p. if is_live p then last_number_ended r.blocks (number_of r.digits) else r.blocks) e in
@@ -155,54 +155,54 @@ done_end r text f e =
 
 -- ---- the verdict
 
-meets_refused : (r : Fields) (text : List ℕ) (fault : LayoutFault) → 1 ≤ r.wanted → Refuse r.layout text r.wanted fault → FinishMeets r text (Err fault)
+meets_refused : (r : Fields) (text : List ℕ) (fault : LayoutFault) → 1 ≤ r.wanted → RefusesInstance r.layout text r.wanted fault → FinishMeets r text (Err fault)
 meets_refused r text fault some is = by_verdict (one_verdict r.layout text r.wanted some)
   where
     same_error : {a b : LayoutFault} → ◌≡◌ {A = Result Problem LayoutFault} (Err a) (Err b) → a ≡ b
     same_error z = cc
 
-    by_verdict : (ExactlyOne (File limits r.layout text r.wanted) × ((fault : LayoutFault) → Refuse r.layout text r.wanted fault → ⊥)) ⊎ (ExactlyOne (Refuse r.layout text r.wanted) × ((problem : Problem) → File limits r.layout text r.wanted problem → ⊥)) → FinishMeets r text (Err fault)
+    by_verdict : (ExactlyOne (IsInstanceFile limits r.layout text r.wanted) × ((fault : LayoutFault) → RefusesInstance r.layout text r.wanted fault → ⊥)) ⊎ (ExactlyOne (RefusesInstance r.layout text r.wanted) × ((problem : Problem) → IsInstanceFile limits r.layout text r.wanted problem → ⊥)) → FinishMeets r text (Err fault)
     by_verdict (inl holds) = absurd (holds.1 fault is)
     by_verdict (inr refuses) = record {
       file = λ problem. (λ z. absurd (cc), λ file. absurd (refuses.1 problem file));
-      refused = λ other. (λ z. subst (Refuse r.layout text r.wanted) (same_error z) is, λ o. ap Err (refuses.0.no_other fault is ∙ sym (refuses.0.no_other other o)));
+      refused = λ other. (λ z. subst (RefusesInstance r.layout text r.wanted) (same_error z) is, λ o. ap Err (refuses.0.no_other fault is ∙ sym (refuses.0.no_other other o)));
     }
 
-meets_accepted : (r : Fields) (text : List ℕ) (problem : Problem) → 1 ≤ r.wanted → File limits r.layout text r.wanted problem → FinishMeets r text (Ok problem)
+meets_accepted : (r : Fields) (text : List ℕ) (problem : Problem) → 1 ≤ r.wanted → IsInstanceFile limits r.layout text r.wanted problem → FinishMeets r text (Ok problem)
 meets_accepted r text problem some is = by_verdict (one_verdict r.layout text r.wanted some)
   where
     same_ok : {a b : Problem} → ◌≡◌ {A = Result Problem LayoutFault} (Ok a) (Ok b) → a ≡ b
     same_ok z = cc
 
-    by_verdict : (ExactlyOne (File limits r.layout text r.wanted) × ((fault : LayoutFault) → Refuse r.layout text r.wanted fault → ⊥)) ⊎ (ExactlyOne (Refuse r.layout text r.wanted) × ((problem : Problem) → File limits r.layout text r.wanted problem → ⊥)) → FinishMeets r text (Ok problem)
+    by_verdict : (ExactlyOne (IsInstanceFile limits r.layout text r.wanted) × ((fault : LayoutFault) → RefusesInstance r.layout text r.wanted fault → ⊥)) ⊎ (ExactlyOne (RefusesInstance r.layout text r.wanted) × ((problem : Problem) → IsInstanceFile limits r.layout text r.wanted problem → ⊥)) → FinishMeets r text (Ok problem)
     by_verdict (inl holds) = record {
-      file = λ other. (λ z. subst (File limits r.layout text r.wanted) (same_ok z) is, λ o. ap Ok (holds.0.no_other problem is ∙ sym (holds.0.no_other other o)));
+      file = λ other. (λ z. subst (IsInstanceFile limits r.layout text r.wanted) (same_ok z) is, λ o. ap Ok (holds.0.no_other problem is ∙ sym (holds.0.no_other other o)));
       refused = λ fault. (λ z. absurd (cc), λ o. absurd (holds.1 fault o));
     }
     by_verdict (inr refuses) = absurd (refuses.1 problem is)
 
 -- a refused reader's wanted number is at least 1
-some_wanted : (layout : Layout) (k : ℕ) (text : List ℕ) (b : ℕ) (fault : LayoutFault) → fault_behind layout k text (Some b) ≡ Some fault → 1 ≤ k
-unfolding fault_behind
+some_wanted : (layout : Layout) (k : ℕ) (text : List ℕ) (b : ℕ) (fault : LayoutFault) → fault_of_place layout k text (Some b) ≡ Some fault → 1 ≤ k
+unfolding fault_of_place
 some_wanted layout (suc k) text b fault e = omega arith
 some_wanted layout zero text b fault e = absurd (let none = ap (λ t. if t then first_some (faults layout zero (stand layout (ended_lines text)).now text (Some b)) else None) (le-ltb (length (stand layout (ended_lines text)).complete) zero (omega arith)) in let bad = sym none ∙ e in cc)
 
 -- of a reader that has met no fault at a byte
 outcome_fault : (r : Fields) (text : List ℕ) (fault : LayoutFault) → Follows r text → EndOutcome r text → end_fault r.kinds (at_end r.last r.blocks) ≡ Some fault → FinishMeets r text (Err fault)
 outcome_fault r text fault f o e =
-    let is : refusal r.layout text r.wanted ≡ Some fault = refusal_end r.layout r.wanted text ∙ ap (λ x. option_or x (fault_behind r.layout r.wanted text None)) f.sound ∙ o.fault ∙ e in
+    let is : refusal r.layout text r.wanted ≡ Some fault = refusal_end r.layout r.wanted text ∙ ap (λ x. option_or x (fault_of_place r.layout r.wanted text None)) f.sound ∙ o.fault ∙ e in
     meets_refused r text fault f.some ((refusal_is r.layout text r.wanted fault).0 is)
 
 outcome_none : (r : Fields) (text : List ℕ) → Follows r text → EndOutcome r text → end_fault r.kinds (at_end r.last r.blocks) ≡ None
     → (problem : Problem) × ((at_end r.last r.blocks).instance ≡ Some problem) × FinishMeets r text (Ok problem)
 unfolding accepted
 outcome_none r text f o e =
-    let none : refusal r.layout text r.wanted ≡ None = refusal_end r.layout r.wanted text ∙ ap (λ x. option_or x (fault_behind r.layout r.wanted text None)) f.sound ∙ o.fault ∙ e in
+    let none : refusal r.layout text r.wanted ≡ None = refusal_end r.layout r.wanted text ∙ ap (λ x. option_or x (fault_of_place r.layout r.wanted text None)) f.sound ∙ o.fault ∙ e in
     let same : accepted r.layout text r.wanted ≡ (at_end r.last r.blocks).instance = ap (λ x. if is_none x then option_map (instance_of r.layout) (slice_get (stand r.layout (lines text)).complete (r.wanted - 1)) else None) none ∙ sym (o.instance e) in
     by_verdict none same (one_verdict r.layout text r.wanted f.some)
   where
     by_verdict : refusal r.layout text r.wanted ≡ None → accepted r.layout text r.wanted ≡ (at_end r.last r.blocks).instance
-        → (ExactlyOne (File limits r.layout text r.wanted) × ((fault : LayoutFault) → Refuse r.layout text r.wanted fault → ⊥)) ⊎ (ExactlyOne (Refuse r.layout text r.wanted) × ((problem : Problem) → File limits r.layout text r.wanted problem → ⊥))
+        → (ExactlyOne (IsInstanceFile limits r.layout text r.wanted) × ((fault : LayoutFault) → RefusesInstance r.layout text r.wanted fault → ⊥)) ⊎ (ExactlyOne (RefusesInstance r.layout text r.wanted) × ((problem : Problem) → IsInstanceFile limits r.layout text r.wanted problem → ⊥))
         → (problem : Problem) × ((at_end r.last r.blocks).instance ≡ Some problem) × FinishMeets r text (Ok problem)
     by_verdict none same (inl holds) =
         let is : accepted r.layout text r.wanted ≡ Some holds.0.one = (accepted_law r.layout text r.wanted holds.0.one f.some).1 holds.0.has in
@@ -229,7 +229,7 @@ finish_tells r text s = by_phase r.phase refl s
         let here : at_end r.last r.blocks ≡ r.blocks = ap (λ p. if is_live p then last_number_ended r.blocks (number_of r.digits) else r.blocks) e in
         let told : end_fault r.kinds (at_end r.last r.blocks) ≡ Some fault = ap (end_fault r.kinds) here ∙ ap (λ p. end_fault_in p r.kinds r.blocks) e in
         let some = some_wanted r.layout r.wanted f.front f.byte fault f.here in
-        let refuses : Refuse r.layout text r.wanted fault = subst (λ xs. Refuse r.layout xs r.wanted fault) (append-nil text) (byte_fault_refuses r.layout r.wanted text [] fault (refused_fault r text fault f)) in
+        let refuses : RefusesInstance r.layout text r.wanted fault = subst (λ xs. RefusesInstance r.layout xs r.wanted fault) (append-nil text) (byte_fault_refuses r.layout r.wanted text [] fault (refused_fault r text fault f)) in
         (λ other h. meets_as other (same_some (sym told ∙ h)) (meets_refused r text fault some refuses), λ h. absurd (let bad = sym told ∙ h in cc))
       where
         same_some : {a b : LayoutFault} → ◌≡◌ {A = Option LayoutFault} (Some a) (Some b) → a ≡ b
@@ -239,7 +239,7 @@ finish_tells r text s = by_phase r.phase refl s
         meets_as other z m = subst (λ g. FinishMeets r text (Err g)) z m
 
 -- a reader that is done has a file
-pub finish_done : (r : Fields) (text : List ℕ) → Follows r text → r.phase ≡ phases.Done → (problem : Problem) × File limits r.layout text r.wanted problem
+pub finish_done : (r : Fields) (text : List ℕ) → Follows r text → r.phase ≡ phases.Done → (problem : Problem) × IsInstanceFile limits r.layout text r.wanted problem
 finish_done r text f e =
     let here : at_end r.last r.blocks ≡ r.blocks = ap (λ p. if is_live p then last_number_ended r.blocks (number_of r.digits) else r.blocks) e in
     let told : end_fault r.kinds (at_end r.last r.blocks) ≡ None = ap (end_fault r.kinds) here ∙ ap (λ p. end_fault_in p r.kinds r.blocks) e in

@@ -18,15 +18,15 @@ use Rattle.pfs_layout.specs.declared.reader.TheConstants.{PIECE}
 use Rattle.pfs_layout.specs.Bytes.{is_word_byte}
 use Rattle.pfs_layout.specs.Lines.{ended_lines, open_line, ended_numbers}
 use Rattle.pfs_layout.specs.Stand.{stand}
-use Rattle.pfs_layout.specs.File.{File}
-use Rattle.pfs_layout.specs.Refuse.{Refuse, byte_fault}
+use Rattle.pfs_layout.specs.File.{IsInstanceFile}
+use Rattle.pfs_layout.specs.Refuse.{RefusesInstance, byte_fault}
 use Rattle.pfs_layout.specs.Step.{is_live}
 use Rattle.pfs_layout.specs.Reader.{Fields, Follows, IsRefused, StandsIn, StandsAfter, EndsWantedSize, FeedMeets, FinishMeets, IsUndecided, ReadsAsFar, Reading}
 use Rattle.pfs_layout.proofs.Files.EndLemmas.{byte_fault_refuses, free_behind}
 use Rattle.pfs_layout.proofs.Files.InputFaults.{is_input_fault}
 use Rattle.pfs_layout.proofs.Files.SoundLemmas.{stand_of}
 use Rattle.pfs_layout.proofs.Reading.ByteSteps.{live_few}
-use Rattle.pfs_layout.proofs.Reading.ToldLemmas.{told}
+use Rattle.pfs_layout.proofs.Reading.ToldLemmas.{known}
 use Rattle.pfs_layout.proofs.Reading.ReadNames.{finish_named, feed_named}
 use Rattle.pfs_layout.proofs.Reading.ReaderLemmas.{live_follows}
 use Rattle.pfs_layout.proofs.Reading.FeedLemmas.{refused_fault, done_enough}
@@ -84,14 +84,14 @@ reading_short layout k first left r t = let f = live_follows r t.front t.live t.
 
 -- the piece has a fault
 pub reading_fault : (layout : Layout) (k : ℕ) (first left next : Option (List ℕ)) (r new : Fields) (piece : List ℕ) (fault : LayoutFault) (t : Reading layout k first left r) → Consumes left next piece
-    → FeedMeets r t.front piece (Err fault) new → fault ≢ Memory → (text : List ℕ) → first ≡ Some text → Refuse layout text k fault
+    → FeedMeets r t.front piece (Err fault) new → fault ≢ Memory → (text : List ℕ) → first ≡ Some text → RefusesInstance layout text k fault
 reading_fault layout k first left next r new piece fault t c m other text e =
     let rest = t.told text e in
     let more = left_behind left next piece rest.0 rest.1 c in
     let is : byte_fault r.layout r.wanted (t.front ++ piece) ≡ Some fault = (m.exact (λ z. other (same_error z)) fault).0 refl in
-    let refuses : Refuse r.layout ((t.front ++ piece) ++ more.0) r.wanted fault = byte_fault_refuses r.layout r.wanted (t.front ++ piece) more.0 fault is in
+    let refuses : RefusesInstance r.layout ((t.front ++ piece) ++ more.0) r.wanted fault = byte_fault_refuses r.layout r.wanted (t.front ++ piece) more.0 fault is in
     let whole : (t.front ++ piece) ++ more.0 ≡ text = append_assoc t.front piece more.0 ∙ ap (λ xs. t.front ++ xs) (sym more.2) ∙ sym rest.2 in
-    subst (λ l. Refuse l text k fault) t.layout_is (subst (λ n. Refuse r.layout text n fault) t.wanted_is (subst (λ xs. Refuse r.layout xs r.wanted fault) whole refuses))
+    subst (λ l. RefusesInstance l text k fault) t.layout_is (subst (λ n. RefusesInstance r.layout text n fault) t.wanted_is (subst (λ xs. RefusesInstance r.layout xs r.wanted fault) whole refuses))
   where
     same_error : {a b : LayoutFault} → ◌≡◌ {A = Result Progress LayoutFault} (Err a) (Err b) → a ≡ b
     same_error z = cc
@@ -99,7 +99,7 @@ reading_fault layout k first left next r new piece fault t c m other text e =
 -- the wanted block has ended in the piece
 pub reading_done : (layout : Layout) (k : ℕ) (first left next : Option (List ℕ)) (r new : Fields) (piece : List ℕ) (progress : Progress) (outcome : Result Problem LayoutFault) (t : Reading layout k first left r) → Consumes left next piece
     → FeedMeets r t.front piece (Ok progress) new → progress.done ≡ true → ((text : List ℕ) → StandsAfter new text → FinishMeets new text outcome)
-    → (text : List ℕ) → first ≡ Some text → (problem : Problem) × (outcome ≡ Ok problem) × File limits layout text k problem
+    → (text : List ℕ) → first ≡ Some text → (problem : Problem) × (outcome ≡ Ok problem) × IsInstanceFile limits layout text k problem
 reading_done layout k first left next r new piece progress outcome t c m ended meets text e =
     let rest = t.told text e in
     let more = left_behind left next piece rest.0 rest.1 c in
@@ -107,14 +107,14 @@ reading_done layout k first left next r new piece progress outcome t c m ended m
     let phase : new.phase ≡ phases.Done = m.done.0 ended in
     let follows : Follows new front = subst (λ p. StandsIn p new front) phase m.ok.1 in
     let found = finish_done new front follows phase in
-    let file : File limits new.layout (front ++ (drop progress.used piece ++ more.0)) new.wanted found.0 =
+    let file : IsInstanceFile limits new.layout (front ++ (drop progress.used piece ++ more.0)) new.wanted found.0 =
     (free_behind new.layout front (drop progress.used piece ++ more.0) new.wanted found.0 follows.some follows.sound (done_enough new front follows phase)).0 found.1 in
     let whole : front ++ (drop progress.used piece ++ more.0) ≡ text =
     sym (append_assoc front (drop progress.used piece) more.0) ∙ ap (λ xs. xs ++ more.0) (append_assoc t.front (take progress.used piece) (drop progress.used piece) ∙ ap (λ xs. t.front ++ xs) (take-append-drop progress.used piece))
     ∙ append_assoc t.front piece more.0 ∙ ap (λ xs. t.front ++ xs) (sym more.2) ∙ sym rest.2 in (
       found.0,
       ((meets front m.ok.1).file found.0).1 found.1,
-      subst (λ l. File limits l text k found.0) (m.layout ∙ t.layout_is) (subst (λ n. File limits new.layout text n found.0) (m.wanted ∙ t.wanted_is) (subst (λ xs. File limits new.layout xs new.wanted found.0) whole file)),
+      subst (λ l. IsInstanceFile limits l text k found.0) (m.layout ∙ t.layout_is) (subst (λ n. IsInstanceFile limits new.layout text n found.0) (m.wanted ∙ t.wanted_is) (subst (λ xs. IsInstanceFile limits new.layout xs new.wanted found.0) whole file)),
     )
 
 -- ---- how far is read
@@ -131,7 +131,7 @@ undecided r text live s =
 pub reads_piece : (layout : Layout) (k : ℕ) (first left next : Option (List ℕ)) (r : Fields) (piece : List ℕ) (fault : Option LayoutFault) (t : Reading layout k first left r) → Consumes left next piece → length piece ≤ PIECE
     → (fault ≡ Some Read → piece ≡ []) → (fault ≡ Some Memory → (n : ℕ) × (n < length piece) × EndsWantedSize layout k (t.front ++ take n piece) (slice_index piece n))
     → IfSome first (λ bytes. ReadsAsFar layout k bytes next fault)
-reads_piece layout k first left next r piece fault t c size failed memory = told (λ bytes. ReadsAsFar layout k bytes next fault) first (λ text e.
+reads_piece layout k first left next r piece fault t c size failed memory = known (λ bytes. ReadsAsFar layout k bytes next fault) first (λ text e.
     let rest = t.told text e in
     let more = left_behind left next piece rest.0 rest.1 c in
     record {

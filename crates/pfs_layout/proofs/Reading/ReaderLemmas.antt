@@ -24,7 +24,7 @@ use Rattle.pfs_layout.specs.Lines.{ended_parts, open_line, numbers, ended_number
 use Rattle.pfs_layout.specs.Size.{Size, is_within_limits}
 use Rattle.pfs_layout.specs.Block.{due_count}
 use Rattle.pfs_layout.specs.Stand.{Block, Now, seeking, inside, lost, Stand, stand_after, instance_of}
-use Rattle.pfs_layout.specs.Refuse.{fault_behind, byte_fault}
+use Rattle.pfs_layout.specs.Refuse.{fault_of_place, byte_fault}
 use Rattle.pfs_layout.specs.Step.{is_live, is_in_block, refused, line_after, has_numbers_alone, number_of, last_number_ended, line_ended, CanCount, IsReady, times_in}
 use Rattle.pfs_layout.specs.Reader.{Fields, fields, block_read, time_count, FollowsBody, FollowsNow, FollowsBlocks, Follows, StandsIn, StandsAfter, IsReader}
 use Rattle.pfs_layout.proofs.Files.LineLemmas.{open_part-push, ended_numbers-push}
@@ -212,7 +212,7 @@ live_follows r text live s = by_phase r.phase live s
     by_phase (phases.Refused fault) live s = cc
 
 refuse_stands : (r : Fields) (next : Blocks) (text : List ℕ) (b : ℕ) (fault : LayoutFault) (last : Line) → Follows r text
-    → fault_behind r.layout r.wanted text (Some b) ≡ Some fault → Refuses r.blocks fault next → StandsAfter (fields last next) (text ++ b ∷ [])
+    → fault_of_place r.layout r.wanted text (Some b) ≡ Some fault → Refuses r.blocks fault next → StandsAfter (fields last next) (text ++ b ∷ [])
 unfolding block_read
 refuse_stands r next text b fault last f here n =
     subst (λ p. StandsIn p (fields last next) (text ++ b ∷ [])) (sym n.phase) (record {
@@ -221,16 +221,16 @@ refuse_stands r next text b fault last f here n =
       rest = [];
       whole = refl;
       sound = ap (λ l. byte_fault l next.wanted text) n.layout ∙ ap (λ k. byte_fault r.layout k text) n.wanted ∙ f.sound;
-      here = ap (λ l. fault_behind l next.wanted text (Some b)) n.layout ∙ ap (λ k. fault_behind r.layout k text (Some b)) n.wanted ∙ here;
+      here = ap (λ l. fault_of_place l next.wanted text (Some b)) n.layout ∙ ap (λ k. fault_of_place r.layout k text (Some b)) n.wanted ∙ here;
       held = n.held ∙ f.blocks.held ∙ ap (λ k. time_count r.layout (block_read r.layout k text)) (sym n.wanted) ∙ ap (λ l. time_count l (block_read l next.wanted text)) (sym n.layout);
     })
 
 follow_stands : (r : Fields) (next : Blocks) (text : List ℕ) (b : ℕ) → Follows r text → length text < LONGEST_INPUT
-    → fault_behind r.layout r.wanted text (Some b) ≡ None → Carries r.blocks next (is_line_end b)
+    → fault_of_place r.layout r.wanted text (Some b) ≡ None → Carries r.blocks next (is_line_end b)
     → FollowsBlocks (list_any is_word_byte (open_line (text ++ b ∷ []))) next (stand_of r.layout (text ++ b ∷ [])) (ended_numbers (open_line (text ++ b ∷ [])))
     → Follows (fields (line_after r.last b) next) (text ++ b ∷ [])
 follow_stands r next text b f short here c blocks =
-    let sound_then : byte_fault r.layout r.wanted (text ++ b ∷ []) ≡ None = byte_fault-push r.layout r.wanted text b ∙ ap (λ o. option_or o (fault_behind r.layout r.wanted text (Some b))) f.sound ∙ here in
+    let sound_then : byte_fault r.layout r.wanted (text ++ b ∷ []) ≡ None = byte_fault-push r.layout r.wanted text b ∙ ap (λ o. option_or o (fault_of_place r.layout r.wanted text (Some b))) f.sound ∙ here in
     let count : length (text ++ b ∷ []) ≡ length text + 1 = length_push text b in
     record {
       some = let w = c.wanted in let s = f.some in omega arith;
@@ -257,11 +257,11 @@ stepped r b = fields (line_after r.last b) (judged r.blocks r.last b)
 pub step_stands : (r : Fields) (text : List ℕ) (b : ℕ) → Follows r text → is_live r.phase ≡ true → length text < LONGEST_INPUT → StandsAfter (stepped r b) (text ++ b ∷ [])
 step_stands r text b f live short =
     let few : length (stand_of r.layout text).complete < r.wanted = (let c = f.blocks.complete in let l = live_few (list_any is_word_byte (open_line text)) r.blocks (stand_of r.layout text).now (ended_numbers (open_line text)) f.blocks.now live in omega arith) in
-    by_fault (fault_behind r.layout r.wanted text (Some b)) refl
+    by_fault (fault_of_place r.layout r.wanted text (Some b)) refl
     (subst (λ o. ByteOutcome r.blocks (list_any is_word_byte (open_line (text ++ b ∷ []))) (stand_of r.layout (text ++ b ∷ [])) (ended_numbers (open_line (text ++ b ∷ []))) (judged r.blocks r.last b) o)
     (sym (place_fault r.layout r.wanted text b few short)) (outcome r text b f live (sound r.layout r.wanted text f.sound few)))
   where
-    by_fault : (o : Option LayoutFault) → fault_behind r.layout r.wanted text (Some b) ≡ o
+    by_fault : (o : Option LayoutFault) → fault_of_place r.layout r.wanted text (Some b) ≡ o
         → ByteOutcome r.blocks (list_any is_word_byte (open_line (text ++ b ∷ []))) (stand_of r.layout (text ++ b ∷ [])) (ended_numbers (open_line (text ++ b ∷ []))) (judged r.blocks r.last b) o
         → StandsAfter (stepped r b) (text ++ b ∷ [])
     by_fault None e o = stands_of (stepped r b) (text ++ b ∷ []) (follow_stands r (judged r.blocks r.last b) text b f short e (carries r.blocks r.last b live) o)

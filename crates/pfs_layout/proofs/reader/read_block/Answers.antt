@@ -3,10 +3,10 @@ use Rattle.std.proofs.Common.{refl, rules, ◌≡◌, ℕ, List, ◌+◌, ◌-�
 use Rattle.std.proofs.lemmas.List.{length-take-le}
 use Rattle.pfs_base.specs.declared.limits.TheConstants.{LONGEST_INPUT}
 use Rattle.pfs_layout.specs.declared.reader.TheConstants.{PIECE}
-use Rattle.pfs_layout.specs.Refuse.{Refuse}
+use Rattle.pfs_layout.specs.Refuse.{RefusesInstance}
 use Rattle.pfs_layout.specs.declared.fault.LayoutFault.TheVariants.{Read, SeedRange}
 use Rattle.pfs_layout.proofs.Reading.ReadNames.{finish_named, feed_named, same_answer, never_failed}
-use Rattle.pfs_layout.proofs.Reading.ToldLemmas.{told, file_told, refused_told}
+use Rattle.pfs_layout.proofs.Reading.ToldLemmas.{known, file_known, refused_known}
 use Rattle.pfs_layout.proofs.Reading.ReadLemmas.{reads_failed, reads_ended, reads_fault, reading_start, reading_more, reading_short, reading_fault, reading_done}
 use Rattle.pfs_layout.proofs.reader.read_block.Goals as goal
 
@@ -28,14 +28,14 @@ pieces-preserved g c =
 pub returns-in-Err-clause-refused : goal.returns-in-Err-clause-refused
 returns-in-Err-clause-refused g c =
     let t = c.pieces.invariant.reading in
-    λ read memory. told (λ bytes. Refuse c.args.layout bytes c.args.block c.in-Err.fault) (g.R.Source.left c.args.reader.now)
+    λ read memory. known (λ bytes. RefusesInstance c.args.layout bytes c.args.block c.in-Err.fault) (g.R.Source.left c.args.reader.now)
     (λ text e. reading_fault _ _ _ _ _ c.pieces.taker c.feed.new.self (take c.in-Some.n c.read.new.buf) c.in-Err.fault t
     c.in-Some.ensures.bytes.1 (c.in-Err.ensures.meets t.front t.stands) memory text e)
 
 pub returns-then-progress-clause-file : goal.returns-then-progress-clause-file
 returns-then-progress-clause-file g c =
     let t = c.pieces.invariant.reading in
-    file_told c.args.layout c.args.block (g.R.Source.left c.args.reader.now) c.finish-then-progress.result (λ text e.
+    file_known c.args.layout c.args.block (g.R.Source.left c.args.reader.now) c.finish-then-progress.result (λ text e.
     let found = reading_done _ _ _ _ _ c.pieces.taker c.feed.new.self (take c.in-Some.n c.read.new.buf) c.in-Ok.progress c.finish-then-progress.result t
     c.in-Some.ensures.bytes.1 (c.in-Ok.ensures.meets t.front t.stands) c.if-progress.true c.finish-then-progress.ensures.meets text e in
     rw found.1 found.2)
@@ -43,7 +43,7 @@ returns-then-progress-clause-file g c =
 pub returns-then-progress-clause-refused : goal.returns-then-progress-clause-refused
 returns-then-progress-clause-refused g c =
     let t = c.pieces.invariant.reading in
-    refused_told c.args.layout c.args.block (g.R.Source.left c.args.reader.now) c.finish-then-progress.result (λ text e.
+    refused_known c.args.layout c.args.block (g.R.Source.left c.args.reader.now) c.finish-then-progress.result (λ text e.
     let found = reading_done _ _ _ _ _ c.pieces.taker c.feed.new.self (take c.in-Some.n c.read.new.buf) c.in-Ok.progress c.finish-then-progress.result t
     c.in-Some.ensures.bytes.1 (c.in-Ok.ensures.meets t.front t.stands) c.if-progress.true c.finish-then-progress.ensures.meets text e in
     rw found.1 tt)
