@@ -16,6 +16,9 @@ import sys
 import tempfile
 import time
 
+sys.dont_write_bytecode = True
+from checks import Checks  # noqa: E402
+
 TOP = pathlib.Path(__file__).resolve().parent.parent
 SCRIPTS = TOP / "share" / "completions"
 LAYOUTS = {"taillard", "orlib"}
@@ -65,17 +68,8 @@ bindkey '^I' offer
 print ready
 """
 
-passed = 0
-failed = 0
-
-
-def check(name, wanted, got):
-    global passed, failed
-    if wanted == got:
-        passed += 1
-    else:
-        failed += 1
-        print(f"{name}: wanted {wanted!r}, got {got!r}")
+checks = Checks("completions")
+check = checks.equal
 
 
 def commands(program):
@@ -214,8 +208,7 @@ def main():
                 # where no path may stand, zsh tells the options that may
                 beside = {word for word in got if word.startswith("--")} if line.endswith(" ") else set()
                 check(f"{name}, {line!r}", wanted, got - beside)
-    print(f"completions: {passed} passed, {failed} failed")
-    return 1 if failed else 0
+    return checks.end()
 
 
 if __name__ == "__main__":

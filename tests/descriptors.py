@@ -19,6 +19,7 @@ import termios
 import time
 
 sys.dont_write_bytecode = True
+from checks import Checks  # noqa: E402
 from command_lines import FILES, LINES, THREE_JOBS, USAGE
 
 TOP = pathlib.Path(__file__).resolve().parent.parent
@@ -37,17 +38,8 @@ MIXED = "value --layout taillard mixed"
 ELEVEN = b"makespan 11\n"
 VALID = b"valid\nmakespan 10\nbound 10\noptimal\n"
 
-passed = 0
-failed = 0
-
-
-def check(name, wanted, got):
-    global passed, failed
-    if wanted == got:
-        passed += 1
-    else:
-        failed += 1
-        print(f"{name}: wanted {wanted!r}, got {got!r}")
+checks = Checks("descriptors and signals")
+check = checks.equal
 
 
 def refusal(line, status=4):
@@ -445,8 +437,7 @@ def main():
         for part in (closed, inputs, paths_of_descriptors, no_usual_files, readers_gone, writes_that_would_wait,
                      named_pipes, signals, shrinking, no_permission, few_descriptors, long_lines):
             part(desk)
-    print(f"descriptors and signals: {passed} passed, {failed} failed")
-    return 1 if failed else 0
+    return checks.end()
 
 
 if __name__ == "__main__":

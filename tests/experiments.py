@@ -19,6 +19,7 @@ import time
 import xml.etree.ElementTree as ET
 
 sys.dont_write_bytecode = True
+from checks import Checks  # noqa: E402
 from gantt import has_matplotlib  # noqa: E402
 
 TOP = pathlib.Path(__file__).resolve().parent.parent
@@ -50,17 +51,8 @@ case "$1" in solve) echo "$*" >> NOTES; sleep 0.3;; esac
 exec {PFS} "$@"
 """
 
-passed = 0
-failed = 0
-
-
-def check(name, wanted, got):
-    global passed, failed
-    if wanted == got:
-        passed += 1
-    else:
-        failed += 1
-        print(f"experiments, {name}: wanted {wanted!r}, got {got!r}")
+checks = Checks("experiments")
+check = checks.equal
 
 
 def tool(folder, *words, env=None):
@@ -656,8 +648,7 @@ def main():
             start = time.monotonic()
             test(pathlib.Path(folder, test.__name__))
             print(f"{test.__name__} {time.monotonic() - start:.1f} s") if sys.argv[1:] else None
-    print(f"experiments: {passed} passed, {failed} failed")
-    return 1 if failed else 0
+    return checks.end()
 
 
 if __name__ == "__main__":

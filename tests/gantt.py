@@ -11,6 +11,9 @@ import sys
 import tempfile
 import xml.etree.ElementTree as ET
 
+sys.dont_write_bytecode = True
+from checks import Checks  # noqa: E402
+
 TOP = pathlib.Path(__file__).resolve().parent.parent
 GANTT = str(TOP / "tools" / "gantt")
 PFS = str(TOP / "crates" / "pfs" / "out" / "pfs")
@@ -35,17 +38,8 @@ BAD = [
     THREE.replace("makespan 10", "makespan 11"), THREE.replace("makespan 10", "makespan"),
 ]
 
-passed = 0
-failed = 0
-
-
-def check(name, is_right, told=""):
-    global passed, failed
-    if is_right:
-        passed += 1
-    else:
-        failed += 1
-        print(f"gantt, {name}: {told}")
+checks = Checks("gantt")
+check = checks.holds
 
 
 def gantt(folder, words, text=""):
@@ -270,8 +264,7 @@ def main():
         printed_by_pfs(folder)
         kinds_of_picture(folder)
         refusals(folder)
-    print(f"gantt: {passed} passed, {failed} failed")
-    return 1 if failed else 0
+    return checks.end()
 
 
 if __name__ == "__main__":

@@ -13,6 +13,7 @@ import sys
 import tempfile
 
 sys.dont_write_bytecode = True
+from checks import Checks  # noqa: E402
 
 TOP = pathlib.Path(__file__).resolve().parent.parent
 MIB = 1 << 20
@@ -38,17 +39,8 @@ ORDER_TOO_LONG = b"pfs: order file too long\n"
 FILLS = [(b"7", COUNT), (b" ", NONE), (b"\n", NONE), (b"x", NONE), (b"\0", NONE), (b"\xff", NONE), (b"7 ", COUNT)]
 COMMANDS = ["value", "solve", "check", "table", "convert"]
 
-passed = 0
-failed = 0
-
-
-def check(name, is_right, told):
-    global passed, failed
-    if is_right:
-        passed += 1
-    else:
-        failed += 1
-        print(f"{name}: {told}")
+checks = Checks("hostile files")
+check = checks.holds
 
 
 # Files
@@ -302,8 +294,7 @@ def main():
         one_line(at)
         many_lines(at)
         greatest(at)
-    print(f"hostile files: {passed} passed, {failed} failed")
-    return 1 if failed else 0
+    return checks.end()
 
 
 if __name__ == "__main__":

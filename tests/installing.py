@@ -14,6 +14,7 @@ import tempfile
 import time
 
 sys.dont_write_bytecode = True
+from checks import Checks  # noqa: E402
 from command_lines import THREE_JOBS
 
 TOP = pathlib.Path(__file__).resolve().parent.parent
@@ -30,17 +31,8 @@ PLACES = {
     "share/fish/vendor_completions.d/pfs.fish": "share/completions/pfs.fish",
 }
 
-passed = 0
-failed = 0
-
-
-def check(name, wanted, got):
-    global passed, failed
-    if wanted == got:
-        passed += 1
-    else:
-        failed += 1
-        print(f"{name}: wanted {wanted!r}, got {got!r}")
+checks = Checks("installing")
+check = checks.equal
 
 
 def run(*words, **how):
@@ -233,8 +225,7 @@ def main():
             print(f"tarball and package: skipped, as there is no {', '.join(missing)}")
         else:
             distributed(folder)
-    print(f"installing: {passed} passed, {failed} failed")
-    return 1 if failed else 0
+    return checks.end()
 
 
 if __name__ == "__main__":

@@ -4,7 +4,6 @@ must print what the page shows. The manual page has the lines of the usage text,
 the faults of docs/FORMATS.md; mandoc finds nothing wrong with it. What a tool is missing for is skipped by name.
 
 usage: tests/pages.py [PROGRAM]"""
-import difflib
 import os
 import pathlib
 import re
@@ -12,6 +11,9 @@ import shutil
 import subprocess
 import sys
 import tempfile
+
+sys.dont_write_bytecode = True
+from checks import Checks  # noqa: E402
 
 TOP = pathlib.Path(__file__).resolve().parent.parent
 PAGE = TOP / "share" / "pfs.1"
@@ -25,21 +27,8 @@ NEEDS = {
     "make taillard": ("make", ["make", "--version"]),
 }
 
-passed = 0
-failed = 0
-
-
-def check(name, wanted, got):
-    global passed, failed
-    if wanted == got:
-        passed += 1
-        return
-    failed += 1
-    if isinstance(wanted, str):
-        print(f"{name}:")
-        print(*difflib.unified_diff(wanted.splitlines(), got.splitlines(), "wanted", "got", lineterm=""), sep="\n")
-    else:
-        print(f"{name}: wanted {wanted!r}, got {got!r}")
+checks = Checks("pages")
+check = checks.equal
 
 
 def commands(text):
@@ -220,8 +209,7 @@ def main():
         print("lint, synopsis and examples of pfs.1: skipped, as there is no mandoc")
     else:
         manual(program)
-    print(f"pages: {passed} passed, {failed} failed")
-    return 1 if failed else 0
+    return checks.end()
 
 
 if __name__ == "__main__":

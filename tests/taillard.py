@@ -9,6 +9,7 @@ import sys
 import tempfile
 
 sys.dont_write_bytecode = True
+from checks import Checks  # noqa: E402
 from command_lines import generated  # noqa: E402
 
 TOP = pathlib.Path(__file__).resolve().parent.parent
@@ -16,17 +17,8 @@ PFS = str(TOP / "crates" / "pfs" / "out" / "pfs")
 SIZES = [(20, 5), (20, 10), (20, 20), (50, 5), (50, 10), (50, 20), (100, 5), (100, 10), (100, 20), (200, 10),
          (200, 20), (500, 20)]
 
-passed = 0
-failed = 0
-
-
-def check(name, wanted, got):
-    global passed, failed
-    if wanted == got:
-        passed += 1
-    else:
-        failed += 1
-        print(f"taillard, {name}: wanted {wanted!r}, got {got!r}")
+checks = Checks("taillard")
+check = checks.equal
 
 
 def printed(*words):
@@ -59,8 +51,7 @@ def main():
             check(f"{row['instance']}, bound", wanted, bound_of(folder, str(shop), jobs))
             times = generated(jobs, machines, int(row["time_seed"])) == shop.read_bytes()
             check(f"{row['instance']}, times", True, times)
-    print(f"taillard: {passed} passed, {failed} failed")
-    return 1 if failed else 0
+    return checks.end()
 
 
 if __name__ == "__main__":
