@@ -1,5 +1,7 @@
 -- What the fields of a reader say of the bytes that it has read.
-use Rattle.std.specs.Prelude.{◌≡◌, ◌≢◌, ◌↔◌, ℕ, ◌+◌, ◌-◌, ◌*◌, ◌/◌, ◌<◌, ◌≤◌, min, Bool, true, false, nat_lt, List, [], ◌∷◌, ◌++◌, length, take, count_by, slice_index, Option, Some, None, option_map, Result, Ok, Err, IfOk, IfErr, IsTrue, IsFalse, if◌then◌else◌, ◌==◌, slice_get}
+use Rattle.std.specs.Prelude.{◌≡◌, ◌≢◌, ◌↔◌, ℕ, ◌+◌, ◌-◌, ◌*◌, ◌/◌, ◌<◌, ◌≤◌, min, Bool, true, false, nat_lt, List, []}
+use Rattle.std.specs.Prelude.{◌∷◌, ◌++◌, length, take, count_by, slice_index, Option, Some, None, option_map, Result}
+use Rattle.std.specs.Prelude.{Ok, Err, IfOk, IfErr, IsTrue, IsFalse, if◌then◌else◌, ◌==◌, slice_get}
 use Rattle.std.specs.List.{list_any}
 use Rattle.std.specs.Str.Parse.{digits_value}
 use Rattle.pfs_base.specs.declared.limits.TheConstants.{LONGEST_INPUT}

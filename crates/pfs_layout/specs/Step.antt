@@ -1,7 +1,9 @@
 -- What one byte does to what a reader keeps: what it means behind the last line, and what such an event does to
 -- the blocks. But for `is_live`, whether a further byte is wanted, only the contracts of private functions speak
 -- of it: what a reader's fields say of the bytes that it has read stands in `Reader`.
-use Rattle.std.specs.Prelude.{◌≡◌, ◌≢◌, ℕ, ◌+◌, ◌-◌, ◌*◌, ◌/◌, ◌%◌, ◌<◌, ◌≤◌, min, Bool, true, false, not, ◌&&◌, ◌||◌, ◌==◌, nat_lt, replicate, slice_index, slice_set, Option, Some, None, is_some, option_map, IfSome, if◌then◌else◌}
+use Rattle.std.specs.Prelude.{◌≡◌, ◌≢◌, ℕ, ◌+◌, ◌-◌, ◌*◌, ◌/◌, ◌%◌, ◌<◌, ◌≤◌, min, Bool, true, false, not, ◌&&◌, ◌||◌}
+use Rattle.std.specs.Prelude.{◌==◌, nat_lt, replicate, slice_index, slice_set, Option, Some, None, is_some, option_map}
+use Rattle.std.specs.Prelude.{IfSome, if◌then◌else◌}
 use Rattle.std.specs.Option.{option_or}
 use Rattle.pfs_base.specs.declared.limits.TheConstants.{LONGEST_TIME, LONGEST_INPUT}
 use Rattle.pfs_base.specs.FlowShop.{with_time}
@@ -9,7 +11,8 @@ use Rattle.pfs_base.specs.Problem.{Problem}
 use Rattle.pfs_layout.specs.declared.layout.Layout.{Layout}
 use Rattle.pfs_layout.specs.declared.layout.Layout.TheVariants.{Taillard, OrLib}
 use Rattle.pfs_layout.specs.declared.fault.LayoutFault.{LayoutFault}
-use Rattle.pfs_layout.specs.declared.fault.LayoutFault.TheVariants.{NoBlock, MixedLine, TimeRange, MachineNumber, ExtraNumber, Truncated, Memory}
+use Rattle.pfs_layout.specs.declared.fault.LayoutFault.TheVariants.{NoBlock, MixedLine, TimeRange, MachineNumber}
+use Rattle.pfs_layout.specs.declared.fault.LayoutFault.TheVariants.{ExtraNumber, Truncated, Memory}
 use Rattle.pfs_layout.specs.declared.scan.Digits.{Digits}
 use Rattle.pfs_layout.specs.declared.scan.Kinds.{Kinds}
 use Rattle.pfs_layout.specs.declared.scan.Line.{Line}
@@ -30,7 +33,10 @@ use Rattle.pfs_layout.specs.Refuse.{size_fault}
 -- ---- the last line so far
 
 abbrev pub no_line : Line
-no_line = record { digits = record { offset = 0; first = 0; value = 0 }; kinds = record { has_digit = false; has_word = false } }
+no_line = record {
+  digits = record { offset = 0; first = 0; value = 0 };
+  kinds = record { has_digit = false; has_word = false };
+}
 
 abbrev pub digits_after : Digits → ℕ → Digits
 digits_after d b = record {
@@ -50,7 +56,9 @@ line_after line b = record { digits = digits_after line.digits b; kinds = kinds_
 
 -- a blank more
 abbrev pub blank_after : Line → Line
-blank_after line = record line { digits = record { offset = line.digits.offset + 1; first = line.digits.offset + 1; value = 0 } }
+blank_after line = record line {
+  digits = record { offset = line.digits.offset + 1; first = line.digits.offset + 1; value = 0 };
+}
 
 -- a number line so far
 abbrev pub has_numbers_alone : Kinds → Bool
@@ -71,11 +79,15 @@ abbrev pub digit_event : Line → Event
 digit_event line = mixed_if line line.kinds.has_word
 
 abbrev pub other_event : Line → ℕ → Event
-other_event line b = if is_line_end b then events.LineEnded (number_of line.digits) (has_numbers_alone line.kinds) else mixed_if line line.kinds.has_digit
+other_event line b = if is_line_end b
+    then events.LineEnded (number_of line.digits) (has_numbers_alone line.kinds)
+    else mixed_if line line.kinds.has_digit
 
 -- what a byte means behind the line
 abbrev pub event_of : Line → ℕ → Event
-event_of line b = if is_digit b then digit_event line else (if is_blank b then blank_event (number_of line.digits) else other_event line b)
+event_of line b = if is_digit b
+    then digit_event line
+    else (if is_blank b then blank_event (number_of line.digits) else other_event line b)
 
 -- ---- a line that may be a size line
 

@@ -1,7 +1,13 @@
 //! The blocks that a reader has read, and what an event of the last line does to them.
-ghost use Rattle.std.specs.Prelude.{◌≡◌, ◌≢◌, ◌+◌, ◌-◌, ◌*◌, ◌<◌, ◌≤◌, true, false, ◌==◌, ℕ, List, length, replicate, Some, None, IfOk, IfErr, OnOk, OnErr, IfSome, option_map, is_some, if◌then◌else◌};
+ghost use Rattle.std.specs.Prelude.{◌≡◌, ◌≢◌, ◌+◌, ◌-◌, ◌*◌, ◌<◌, ◌≤◌, true, false, ◌==◌, ℕ, List, length, replicate};
+ghost use Rattle.std.specs.Prelude.{Some, None, IfOk, IfErr, OnOk, OnErr, IfSome, option_map, is_some, if◌then◌else◌};
 ghost use Rattle.pfs_layout.specs.Size.{is_within_limits};
-ghost use Rattle.pfs_layout.specs.Step.{refused, is_live as live_test, is_in_block, CanCount, with_problem_time, stored, counted, time_judged, machine_judged, body_judged, number_ended, size_given, empty_problem, no_blocks, block_begun, size_line_ended, block_ended, line_ended, last_number_ended, mixed_met, blocks_after, is_line_ended, end_fault, end_fault_in, at_end, IsReady, Keeps, KeepsHeld, LacksMemory};
+ghost use Rattle.pfs_layout.specs.Step.{refused, is_live as live_test, is_in_block, CanCount, with_problem_time};
+ghost use Rattle.pfs_layout.specs.Step.{stored, counted, time_judged, machine_judged, body_judged, number_ended};
+ghost use Rattle.pfs_layout.specs.Step.{size_given, empty_problem, no_blocks, block_begun, size_line_ended};
+ghost use Rattle.pfs_layout.specs.Step.{block_ended, line_ended, last_number_ended, mixed_met, blocks_after};
+ghost use Rattle.pfs_layout.specs.Step.{is_line_ended, end_fault, end_fault_in, at_end, IsReady, Keeps, KeepsHeld};
+ghost use Rattle.pfs_layout.specs.Step.{LacksMemory};
 ghost use Rattle.pfs_layout.specs.Reader.{fields, StandsAfter, IsReader, TakeMeets, FeedMeets, progress_of};
 
 use crate::body::Body;
@@ -306,7 +312,8 @@ impl Blocks {
     fn after(&mut self, alloc: Global, event: Event)
         requires ready { IsReady self.old }
         ensures judged { self.new.phase ≢ Phase.Refused LayoutFault.Memory → self.new ≡ blocks_after self.old event }
-        ensures memory { self.new.phase ≡ Phase.Refused LayoutFault.Memory → (is_line_ended event ≡ true) × LacksMemory self.old (blocks_after self.old event) }
+        ensures memory { self.new.phase ≡ Phase.Refused LayoutFault.Memory
+            → (is_line_ended event ≡ true) × LacksMemory self.old (blocks_after self.old event) }
         ensures kept { self.new.phase ≡ Phase.Refused LayoutFault.Memory → KeepsHeld self.old self.new }
     {
         match event {
@@ -341,21 +348,24 @@ impl Blocks {
         requires stands { (text : List ℕ) × StandsAfter (fields last.old self.old) text }
         requires room { last.old.digits.offset + length piece.now ≤ LONGEST_INPUT }
         ensures within { last.new.digits.offset ≤ last.old.digits.offset + length piece.now }
-        ensures whole { live_test self.new.phase ≡ true → last.new.digits.offset ≡ last.old.digits.offset + length piece.now }
+        ensures whole { live_test self.new.phase ≡ true
+            → last.new.digits.offset ≡ last.old.digits.offset + length piece.now }
         ensures onward { last.old.digits.offset ≤ last.new.digits.offset }
         ensures meets { (text : List ℕ) → StandsAfter (fields last.old self.old) text
-            → TakeMeets (fields last.old self.old) text piece.now (last.new.digits.offset - last.old.digits.offset) (fields last.new self.new) }
+            → TakeMeets (fields last.old self.old) text piece.now
+            (last.new.digits.offset - last.old.digits.offset) (fields last.new self.new) }
     {
         let mut line = *last;
         // Each branch steps on by itself: so the compiler makes a short loop of each.
         for b in piece {
             let b = *b;
+            if line.is_quiet(b) {
+                line.push(b);
+                continue;
+            }
             if is_digit(b) {
                 let event = line.digit_event();
                 line.push(b);
-                if let Event::Quiet = event {
-                    continue;
-                }
                 self.after(alloc, event);
                 if !self.is_live() {
                     break;
@@ -396,11 +406,13 @@ impl Blocks {
     ) -> Result<Progress, LayoutFault>
         requires { IsReader (fields last.old self.old) }
         ensures reader { IsReader (fields last.new self.new) }
-        ensures idle { live_test self.old.phase ≡ false → (result ≡ progress_of self.old.phase 0) × (last.new ≡ last.old) × (self.new ≡ self.old) }
+        ensures idle { live_test self.old.phase ≡ false
+            → (result ≡ progress_of self.old.phase 0) × (last.new ≡ last.old) × (self.new ≡ self.old) }
         ensures whole { IfOk result (λ progress. progress.done ≡ false → progress.used ≡ length piece.now) }
         ensures stays { IfErr result (λ fault. self.new.phase ≡ Phase.Refused fault) }
         ensures moved { IfOk result (λ progress. last.new.digits.offset ≡ last.old.digits.offset + progress.used) }
-        ensures meets { (text : List ℕ) → StandsAfter (fields last.old self.old) text → FeedMeets (fields last.old self.old) text piece.now result (fields last.new self.new) }
+        ensures meets { (text : List ℕ) → StandsAfter (fields last.old self.old) text
+            → FeedMeets (fields last.old self.old) text piece.now result (fields last.new self.new) }
     {
         if !self.is_live() {
             return self.progress(0);

@@ -2,8 +2,10 @@
 //! few instructions.
 ghost use Rattle.std.specs.Prelude.{◌≡◌, ◌<◌, ◌≤◌, ◌&&◌, not, true};
 ghost use Rattle.pfs_layout.specs.Bytes.{is_digit as digit_test, is_blank as blank_test};
-ghost use Rattle.pfs_layout.specs.Step.{no_line, digits_after, kinds_after, line_after, blank_after, has_numbers_alone, number_of};
-ghost use Rattle.pfs_layout.specs.Step.{mixed_if as mixed_event, digit_event as digit_event_of, blank_event as blank_event_of, other_event as other_event_of};
+ghost use Rattle.pfs_layout.specs.Step.{no_line, digits_after, kinds_after, line_after, blank_after, has_numbers_alone};
+ghost use Rattle.pfs_layout.specs.Step.{number_of};
+ghost use Rattle.pfs_layout.specs.Step.{mixed_if as mixed_event, digit_event as digit_event_of};
+ghost use Rattle.pfs_layout.specs.Step.{blank_event as blank_event_of, other_event as other_event_of};
 
 use pfs_base::{GREATEST_NOTE, LONGEST_INPUT};
 
@@ -179,6 +181,14 @@ impl Line {
             first: offset,
             value: 0,
         };
+    }
+
+    /// Whether a byte is a digit of a line without a word byte: it means nothing.
+    #[inline(always)]
+    pub fn is_quiet(self, b: u8) -> bool
+        ensures { result ≡ (digit_test b && not self.kinds.has_word) }
+    {
+        is_digit(b) && !self.kinds.has_word
     }
 
     /// What a digit behind the line means.

@@ -1,8 +1,8 @@
 -- Where a reader stands within a piece.
-use Rattle.std.proofs.Common.{◌≡◌, ◌≢◌, ℕ, ◌+◌, ◌<◌, ◌≤◌, Bool, true, false, List, [], ◌∷◌, ◌++◌, length, take, get_or, refl, sym, ◌∙◌, ap, subst, arith, Option, Some, None, if◌then◌else◌, nat_lt, ◌⊎◌, inl, inr, ◌||◌}
+use Rattle.std.proofs.Common.{◌≡◌, ◌≢◌, ℕ, ◌+◌, ◌<◌, ◌≤◌, Bool, true, false, not, ◌&&◌, List, [], ◌∷◌, ◌++◌, length, take, get_or, refl, sym, ◌∙◌, ap, subst, arith, Option, Some, None, if◌then◌else◌, nat_lt, ◌⊎◌, inl, inr, ◌||◌}
 use Rattle.std.specs.Prelude.{◌-◌, ◌==◌, slice_get}
 use Rattle.std.specs.List.{list_any}
-use Rattle.std.proofs.lemmas.Bool.{cases_eq, lt-ltb, eqb-true, or_cases}
+use Rattle.std.proofs.lemmas.Bool.{cases_eq, lt-ltb, eqb-true, or_cases, and_parts, not-true}
 use Rattle.std.proofs.lemmas.List.{append_assoc, append-nil, take_more}
 use Rattle.pfs_base.specs.declared.limits.TheConstants.{LONGEST_INPUT}
 use Rattle.pfs_layout.specs.declared.fault.LayoutFault.TheVariants.{Memory}
@@ -171,6 +171,11 @@ ends_line_at last b e = by_kind (is_digit b) (is_blank b) (is_line_end b) refl e
 
 pub digit_means : (last : Line) (b : ℕ) → is_digit b ≡ true → event_of last b ≡ digit_event last
 digit_means last b e = ap (λ t. event_by last t (is_blank b) (is_line_end b)) e
+
+pub quiet_means : (last : Line) (b : ℕ) → (is_digit b && not last.kinds.has_word) ≡ true → event_of last b ≡ events.Quiet
+quiet_means last b e =
+    let parts = and_parts (is_digit b) (not last.kinds.has_word) e in
+    digit_means last b parts.0 ∙ ap (mixed_if last) (not-true last.kinds.has_word parts.1)
 
 pub other_means : (last : Line) (b : ℕ) → is_digit b ≡ false → is_blank b ≡ false → event_of last b ≡ other_event last b
 other_means last b d e = ap (λ t. event_by last t (is_blank b) (is_line_end b)) d ∙ ap (λ t. event_by last false t (is_line_end b)) e

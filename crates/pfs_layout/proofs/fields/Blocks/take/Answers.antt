@@ -1,15 +1,15 @@
 -- Each byte leads on, and the last one ends the piece or the reading.
 use Rattle.std.proofs.Common.{get_or, sym, ◌∙◌, arith}
 use Rattle.pfs_layout.specs.Reader.{fields}
-use Rattle.pfs_layout.proofs.Reading.TakeLemmas.{taken_ready, taken_quiet, taken_event, taken_end, digit_means, blank_means, blank_leads, other_means}
+use Rattle.pfs_layout.proofs.Reading.TakeLemmas.{taken_ready, taken_quiet, taken_event, taken_end, quiet_means, digit_means, blank_means, blank_leads, other_means}
 use Rattle.pfs_layout.proofs.fields.Blocks.take.Goals as goal
 
 -- ---- a digit
 
-pub loop-b-preserved-in-Quiet : goal.loop-b-preserved-in-Quiet
-loop-b-preserved-in-Quiet c =
+pub loop-b-preserved-then-is_quiet : goal.loop-b-preserved-then-is_quiet
+loop-b-preserved-then-is_quiet c =
     taken_quiet (fields c.args.last.now c.args.self.now) c.loop-b.line c.push.new.self c.loop-b.self c.args.piece.now c.loop-b.b-index c.loop-b.invariant (omega arith) c.requires.room
-    ((digit_means c.loop-b.line (get_or c.args.piece.now c.loop-b.b-index 0) (sym c.is_digit.ensures ∙ c.if-is_digit.true)) ∙ sym c.digit_event-event.ensures ∙ c.in-Quiet.is) c.push.ensures
+    (quiet_means c.loop-b.line (get_or c.args.piece.now c.loop-b.b-index 0) (sym c.is_quiet.ensures ∙ c.if-is_quiet.true)) c.push.ensures
 
 pub after-requires : goal.after-requires
 after-requires c = record {
@@ -18,20 +18,20 @@ after-requires c = record {
 
 pub loop-b-preserved-then-is_digit : goal.loop-b-preserved-then-is_digit
 loop-b-preserved-then-is_digit c =
-    taken_event (fields c.args.last.now c.args.self.now) c.loop-b.line c.push.new.self c.loop-b.self c.after.new.self c.digit_event-event.result c.args.piece.now c.loop-b.b-index c.loop-b.invariant (omega arith) c.requires.room
-    (c.digit_event-event.ensures ∙ sym (digit_means c.loop-b.line (get_or c.args.piece.now c.loop-b.b-index 0) (sym c.is_digit.ensures ∙ c.if-is_digit.true))) c.push.ensures c.after.ensures.judged (sym c.is_live.ensures ∙ c.if-not-is_live.false)
+    taken_event (fields c.args.last.now c.args.self.now) c.loop-b.line c.push-then-is_digit.new.self c.loop-b.self c.after.new.self c.digit_event-event.result c.args.piece.now c.loop-b.b-index c.loop-b.invariant (omega arith) c.requires.room
+    (c.digit_event-event.ensures ∙ sym (digit_means c.loop-b.line (get_or c.args.piece.now c.loop-b.b-index 0) (sym c.is_digit.ensures ∙ c.if-is_digit.true))) c.push-then-is_digit.ensures c.after.ensures.judged (sym c.is_live.ensures ∙ c.if-not-is_live.false)
 
 pub returns-then-not-is_live-clause-meets : goal.returns-then-not-is_live-clause-meets
 returns-then-not-is_live-clause-meets c =
-    taken_end (fields c.args.last.now c.args.self.now) c.loop-b.line c.push.new.self c.loop-b.self c.after.new.self c.digit_event-event.result c.args.piece.now c.loop-b.b-index c.loop-b.invariant (omega arith) c.requires.room
-    (c.digit_event-event.ensures ∙ sym (digit_means c.loop-b.line (get_or c.args.piece.now c.loop-b.b-index 0) (sym c.is_digit.ensures ∙ c.if-is_digit.true))) c.push.ensures c.after.ensures.judged c.after.ensures.memory c.after.ensures.kept
+    taken_end (fields c.args.last.now c.args.self.now) c.loop-b.line c.push-then-is_digit.new.self c.loop-b.self c.after.new.self c.digit_event-event.result c.args.piece.now c.loop-b.b-index c.loop-b.invariant (omega arith) c.requires.room
+    (c.digit_event-event.ensures ∙ sym (digit_means c.loop-b.line (get_or c.args.piece.now c.loop-b.b-index 0) (sym c.is_digit.ensures ∙ c.if-is_digit.true))) c.push-then-is_digit.ensures c.after.ensures.judged c.after.ensures.memory c.after.ensures.kept
 
 -- ---- a blank
 
-pub loop-b-preserved-in-Quiet-event : goal.loop-b-preserved-in-Quiet-event
-loop-b-preserved-in-Quiet-event c =
+pub loop-b-preserved-in-Quiet : goal.loop-b-preserved-in-Quiet
+loop-b-preserved-in-Quiet c =
     taken_quiet (fields c.args.last.now c.args.self.now) c.loop-b.line c.push_blank.new.self c.loop-b.self c.args.piece.now c.loop-b.b-index c.loop-b.invariant (omega arith) c.requires.room
-    ((blank_means c.loop-b.line (get_or c.args.piece.now c.loop-b.b-index 0) (sym c.is_blank.ensures ∙ c.if-is_blank.true)) ∙ sym c.blank_event-event.ensures ∙ c.in-Quiet-event.is) (c.push_blank.ensures ∙ sym (blank_leads c.loop-b.line (get_or c.args.piece.now c.loop-b.b-index 0) (sym c.is_blank.ensures ∙ c.if-is_blank.true)))
+    ((blank_means c.loop-b.line (get_or c.args.piece.now c.loop-b.b-index 0) (sym c.is_blank.ensures ∙ c.if-is_blank.true)) ∙ sym c.blank_event-event.ensures ∙ c.in-Quiet.is) (c.push_blank.ensures ∙ sym (blank_leads c.loop-b.line (get_or c.args.piece.now c.loop-b.b-index 0) (sym c.is_blank.ensures ∙ c.if-is_blank.true)))
 
 pub after-requires-then-is_blank : goal.after-requires-then-is_blank
 after-requires-then-is_blank c = record {
@@ -50,10 +50,10 @@ returns-then-not-is_live-2-clause-meets c =
 
 -- ---- any other byte
 
-pub loop-b-preserved-in-Quiet-event-2 : goal.loop-b-preserved-in-Quiet-event-2
-loop-b-preserved-in-Quiet-event-2 c =
+pub loop-b-preserved-in-Quiet-event : goal.loop-b-preserved-in-Quiet-event
+loop-b-preserved-in-Quiet-event c =
     taken_quiet (fields c.args.last.now c.args.self.now) c.loop-b.line c.push-in-loop-b.new.self c.loop-b.self c.args.piece.now c.loop-b.b-index c.loop-b.invariant (omega arith) c.requires.room
-    ((other_means c.loop-b.line (get_or c.args.piece.now c.loop-b.b-index 0) (sym c.is_digit.ensures ∙ c.if-is_digit.false) (sym c.is_blank.ensures ∙ c.if-is_blank.false)) ∙ sym c.other_event-event.ensures ∙ c.in-Quiet-event-2.is) c.push-in-loop-b.ensures
+    ((other_means c.loop-b.line (get_or c.args.piece.now c.loop-b.b-index 0) (sym c.is_digit.ensures ∙ c.if-is_digit.false) (sym c.is_blank.ensures ∙ c.if-is_blank.false)) ∙ sym c.other_event-event.ensures ∙ c.in-Quiet-event.is) c.push-in-loop-b.ensures
 
 pub after-requires-in-loop-b : goal.after-requires-in-loop-b
 after-requires-in-loop-b c = record {
