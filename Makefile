@@ -3,14 +3,16 @@
 #             programs; then runs the built programs on command lines, on searches that another program has
 #             answered, and with each growth of memory refused in turn, and checks what must not compile; then
 #             closed descriptors and signals, files of 64 MiB, random input, and copies that refuse memory; then
-#             completions, installation, and the examples of README and of the manual page
+#             completions, installation, the examples of README and of the manual page, pictures, Taillard's
+#             instances, and experiments
 # make fuzz   compares the built program with a second program on random input, for so many MINUTES
 # make install    puts the program, the manual page and the completions below PREFIX, an absolute path (and that
 #                 below DESTDIR); it proves and builds first where the program isn't there or a source is newer
 # make uninstall  takes them away, and the folders that are empty then
 # make dist       a tarball and a Debian package for machines without the kit, in the folder DIST (needs git and
 #                 dpkg-deb)
-.PHONY: run test fuzz install uninstall dist
+# make taillard   writes Taillard's 120 instances into experiments/out/taillard
+.PHONY: run test fuzz install uninstall dist taillard
 MINUTES = 5
 DIST = dist
 PREFIX = /usr/local
@@ -29,8 +31,10 @@ test:
 fuzz: run
 	tests/fuzz.py --seconds $$((60 * $(MINUTES)))
 
-$(PROGRAM): crates.txt $(shell find crates \( -name out -o -name must-fail \) -prune -o -type f -print)
+$(PROGRAM): crates.txt $(shell find crates \( -name out -o -name must-fail -o -name pfs_calls -o -name pfs_tests \) \
+    -prune -o -type f -print)
 	cd crates/pfs && rt run < stdin
+	touch $@  # rt leaves a program that is the same as it is
 
 install: $(PROGRAM)
 	install -D -m 755 $(PROGRAM) "$(DESTDIR)$(PREFIX)/bin/pfs"
@@ -45,3 +49,6 @@ uninstall:
 
 dist: $(PROGRAM)
 	tools/dist "$(DIST)"
+
+taillard: run
+	experiments/taillard experiments/out/taillard

@@ -161,7 +161,7 @@ private:
     }
 
     void judge_time() {
-        if (value > 1000000) {
+        if (value > 1000000000) {
             refuse("time out of range at", first, "");
             return;
         }
@@ -212,7 +212,7 @@ private:
             refuse("size line", line, " has a wrong count");
             return;
         }
-        bool fits = 1 <= values[0] && values[0] <= 2000 && 1 <= values[1] && values[1] <= 200;
+        bool fits = 1 <= values[0] && values[0] <= 5000 && 1 <= values[1] && values[1] <= 200;
         if (layout == Layout::Taillard) {
             fits = fits && values[2] < CEILING && values[3] < CEILING && values[4] < CEILING;
         }

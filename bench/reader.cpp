@@ -5,10 +5,10 @@
 #include <cstdlib>
 #include <fcntl.h>
 
-static uint32_t makespan(const Instance& instance) {
-    std::vector<uint32_t> ends(instance.machines, 0);
+static uint64_t makespan(const Instance& instance) {
+    std::vector<uint64_t> ends(instance.machines, 0);
     for (size_t job = 0; job < instance.jobs; ++job) {
-        uint32_t before = 0;
+        uint64_t before = 0;
         for (size_t machine = 0; machine < instance.machines; ++machine) {
             before = std::max(before, ends[machine]) + instance.time(job, machine);
             ends[machine] = before;
@@ -33,6 +33,6 @@ int main(int count, char** words) {
     if (fault.status != 0) {
         return tell(fault);
     }
-    std::printf("makespan %u\n", makespan(instance));
+    std::printf("makespan %llu\n", (unsigned long long)makespan(instance));
     return 0;
 }

@@ -1,8 +1,9 @@
 // solve [FORM] LAYOUT BLOCK ROUNDS TAKE SEED PASSES [FILE]: NEH's order of a block, and rounds of iterated greedy behind
 // it, as `pfs solve --cells` prints them; a TAKE of 0 is the smaller of 4 and the number of jobs. Without FILE it
-// reads standard input. It is written from the definitions, over flat tables of 32-bit integers. FORM says how the
-// best place is found: `plain`, which is also meant without it, by one row in a loop over the machines; `rows64` and
-// `rows32` by the loops of pfs, over lengths of so many bits.
+// reads standard input. It is written from the definitions, over flat tables of integers. FORM says how the best place
+// is found: `plain64` and `plain32` by one row in a loop over the machines, `rows64` and `rows32` by the loops of pfs,
+// over lengths of so many bits. Without it `plain32` is meant where every path of the shop fits into 32 bits, else
+// `plain64`; where one doesn't fit, `plain32` and `rows32` are refused.
 #include "block_reader.hpp"
 
 #include <cstdlib>
@@ -50,17 +51,18 @@ using Jobs = std::vector<uint32_t>;
 
 struct Placed {
     size_t place;
-    uint32_t makespan;
+    uint64_t makespan;
 };
 
 // Inserts jobs at their best places (Taillard 1990), one row in a loop, and counts the cells computed.
+template <typename Length>
 class PlainInserter {
 public:
     explicit PlainInserter(const Instance& shop)
         : shop(shop), heads((shop.jobs + 1) * shop.machines), tails((shop.jobs + 1) * shop.machines) {}
 
     // Puts the job at the earliest place of the partial order that gives the least makespan.
-    uint32_t insert(Jobs& order, uint32_t job) {
+    uint64_t insert(Jobs& order, uint32_t job) {
         Placed placed = best(order, job);
         order.insert(order.begin() + (ptrdiff_t)placed.place, job);
         return placed.makespan;
@@ -74,11 +76,11 @@ private:
     Placed best(const Jobs& order, uint32_t job) {
         fill_heads(order);
         fill_tails(order);
-        Placed placed{0, UINT32_MAX};
+        Placed placed{0, UINT64_MAX};
         for (size_t place = 0; place <= order.size(); ++place) {
-            uint32_t makespan = makespan_at(place, job);
-            if (makespan < placed.makespan) {
-                placed = Placed{place, makespan};
+            Length makespan = makespan_at(place, job);
+            if ((uint64_t)makespan < placed.makespan) {
+                placed = Placed{place, (uint64_t)makespan};
             }
         }
         return placed;
@@ -89,11 +91,11 @@ private:
         size_t machines = shop.machines;
         for (size_t row = 0; row < order.size(); ++row) {
             const uint32_t* time = times(order[row]);
-            const uint32_t* above = &heads[row * machines];
-            uint32_t* here = &heads[(row + 1) * machines];
-            uint32_t before = 0;
+            const Length* above = &heads[row * machines];
+            Length* here = &heads[(row + 1) * machines];
+            Length before = 0;
             for (size_t machine = 0; machine < machines; ++machine) {
-                before = std::max(above[machine], before) + time[machine];
+                before = std::max(above[machine], before) + (Length)time[machine];
                 here[machine] = before;
             }
             cells += machines;
@@ -107,11 +109,11 @@ private:
         std::fill_n(&tails[order.size() * machines], machines, 0);
         for (size_t row = order.size(); row-- > 0;) {
             const uint32_t* time = times(order[row]);
-            const uint32_t* below = &tails[(row + 1) * machines];
-            uint32_t* here = &tails[row * machines];
-            uint32_t behind = 0;
+            const Length* below = &tails[(row + 1) * machines];
+            Length* here = &tails[row * machines];
+            Length behind = 0;
             for (size_t machine = machines; machine-- > 0;) {
-                behind = std::max(below[machine], behind) + time[machine];
+                behind = std::max(below[machine], behind) + (Length)time[machine];
                 here[machine] = behind;
             }
             cells += machines;
@@ -119,24 +121,24 @@ private:
     }
 
     // The makespan with the job at this place.
-    uint32_t makespan_at(size_t place, uint32_t job) {
+    Length makespan_at(size_t place, uint32_t job) {
         size_t machines = shop.machines;
         const uint32_t* time = times(job);
-        const uint32_t* head = &heads[place * machines];
-        const uint32_t* tail = &tails[place * machines];
-        uint32_t before = 0;
-        uint32_t makespan = 0;
+        const Length* head = &heads[place * machines];
+        const Length* tail = &tails[place * machines];
+        Length before = 0;
+        Length makespan = 0;
         for (size_t machine = 0; machine < machines; ++machine) {
-            before = std::max(head[machine], before) + time[machine];
-            makespan = std::max(makespan, before + tail[machine]);
+            before = std::max(head[machine], before) + (Length)time[machine];
+            makespan = std::max<Length>(makespan, before + tail[machine]);
         }
         cells += 2 * machines;
         return makespan;
     }
 
     const Instance& shop;
-    std::vector<uint32_t> heads;
-    std::vector<uint32_t> tails;
+    std::vector<Length> heads;
+    std::vector<Length> tails;
 };
 
 // The same with the loops of pfs: three rows of tails in one loop, and two rows of heads and two inserted rows in
@@ -149,7 +151,7 @@ public:
           tails(heads + shop.jobs * shop.machines), put(tails + shop.jobs * shop.machines) {}
 
     // Puts the job at the earliest place of the partial order that gives the least makespan.
-    uint32_t insert(Jobs& order, uint32_t job) {
+    uint64_t insert(Jobs& order, uint32_t job) {
         Placed placed = best(order, job);
         order.insert(order.begin() + (ptrdiff_t)placed.place, job);
         return placed.makespan;
@@ -170,7 +172,7 @@ private:
         for (size_t from = jobs % 3; from > 0; --from) {
             one_tail(order, from);
         }
-        Placed placed{0, UINT32_MAX};
+        Placed placed{0, UINT64_MAX};
         for (size_t place = 0; place + 2 <= jobs; place += 2) {
             two_places(order, job, place);
             better(placed, place, joined(put, tail(order, place)));
@@ -187,8 +189,8 @@ private:
     }
 
     static void better(Placed& placed, size_t place, Length makespan) {
-        if ((uint32_t)makespan < placed.makespan) {
-            placed = Placed{place, (uint32_t)makespan};
+        if ((uint64_t)makespan < placed.makespan) {
+            placed = Placed{place, (uint64_t)makespan};
         }
     }
 
@@ -288,8 +290,8 @@ static Jobs ranking(const Instance& shop) {
 
 // Each job, in the order of the numbers, leaves the order and goes back at its best place.
 template <typename Inserter>
-static uint32_t pass(Inserter& inserter, Jobs& order) {
-    uint32_t length = 0;
+static uint64_t pass(Inserter& inserter, Jobs& order) {
+    uint64_t length = 0;
     for (uint32_t job = 0; job < order.size(); ++job) {
         order.erase(std::find(order.begin(), order.end(), job));
         length = inserter.insert(order, job);
@@ -300,7 +302,7 @@ static uint32_t pass(Inserter& inserter, Jobs& order) {
 // A round of iterated greedy (Ruiz and Stuetzle 2007): takes a job out for each word, puts them back in the same
 // order, makes the passes, and keeps the result unless it is longer.
 template <typename Inserter>
-static void round_of(Inserter& inserter, const Jobs& words, uint64_t passes, Jobs& kept, uint32_t& makespan) {
+static void round_of(Inserter& inserter, const Jobs& words, uint64_t passes, Jobs& kept, uint64_t& makespan) {
     Jobs order = kept;
     Jobs taken;
     for (uint32_t word : words) {
@@ -308,7 +310,7 @@ static void round_of(Inserter& inserter, const Jobs& words, uint64_t passes, Job
         taken.push_back(*place);
         order.erase(place);
     }
-    uint32_t length = 0;
+    uint64_t length = 0;
     for (uint32_t job : taken) {
         length = inserter.insert(order, job);
     }
@@ -326,7 +328,7 @@ template <typename Inserter>
 static int search(const Instance& shop, uint64_t rounds, uint64_t take, uint64_t passes, Pcg32 random) {
     Inserter inserter(shop);
     Jobs kept;
-    uint32_t makespan = 0;
+    uint64_t makespan = 0;
     for (uint32_t job : ranking(shop)) {
         makespan = inserter.insert(kept, job);
     }
@@ -341,21 +343,28 @@ static int search(const Instance& shop, uint64_t rounds, uint64_t take, uint64_t
     for (size_t place = 0; place < kept.size(); ++place) {
         std::printf("%s%u", place == 0 ? "" : " ", kept[place] + 1);
     }
-    std::printf("\nmakespan %u\ncells %llu\n", makespan, (unsigned long long)inserter.cells);
+    std::printf("\nmakespan %llu\ncells %llu\n", (unsigned long long)makespan, (unsigned long long)inserter.cells);
     return 0;
+}
+
+// Whether every path of the shop fits into 32 bits, also with a sign.
+static bool is_short(const Instance& shop) {
+    uint64_t longest = *std::max_element(shop.times.begin(), shop.times.end());
+    return (shop.jobs + shop.machines - 1) * longest <= INT32_MAX;
 }
 
 int main(int count, char** words) {
     std::string form = count > 1 ? words[1] : "";
-    if (form == "plain" || form == "rows64" || form == "rows32") {
+    if (form == "plain64" || form == "plain32" || form == "rows64" || form == "rows32") {
         --count;
         ++words;
     } else {
-        form = "plain";
+        form = "";
     }
     Layout layout;
     if (count < 7 || count > 8 || !layout_named(words[1], layout)) {
-        std::fprintf(stderr, "usage: solve [plain|rows64|rows32] LAYOUT BLOCK ROUNDS TAKE SEED PASSES [FILE]\n");
+        std::fprintf(stderr, "usage: solve [plain64|plain32|rows64|rows32] LAYOUT BLOCK ROUNDS TAKE SEED PASSES "
+                             "[FILE]\n");
         return 3;
     }
     uint64_t rounds = std::strtoull(words[3], nullptr, 10);
@@ -379,11 +388,21 @@ int main(int count, char** words) {
     if (take == 0) {
         take = std::min<uint64_t>(4, shop.jobs);
     }
+    if (form.empty()) {
+        form = is_short(shop) ? "plain32" : "plain64";
+    }
+    if (form == "plain64") {
+        return search<PlainInserter<int64_t>>(shop, rounds, take, passes, random);
+    }
     if (form == "rows64") {
         return search<RowInserter<int64_t>>(shop, rounds, take, passes, random);
+    }
+    if (!is_short(shop)) {
+        std::fprintf(stderr, "solve: paths need 64 bits\n");
+        return 3;
     }
     if (form == "rows32") {
         return search<RowInserter<int32_t>>(shop, rounds, take, passes, random);
     }
-    return search<PlainInserter>(shop, rounds, take, passes, random);
+    return search<PlainInserter<uint32_t>>(shop, rounds, take, passes, random);
 }

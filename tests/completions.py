@@ -114,6 +114,8 @@ def lines_of(command, options, most_paths):
         yield f"pfs {command} " + "three " * count + needed, files
         yield f"pfs {command} -- " + "three " * count, files
         yield f"pfs {command} {needed}" + "three " * count + "b", files & {"best"}
+        yield f"pfs {command} " + "a=b " * count + needed, files
+        yield f"pfs {command} -- " + "a=b " * count, files
 
 
 def lines(program):

@@ -206,7 +206,7 @@ TITLES = [b"", b" ", b"\t", b"\r", b"+++++", b"processing times :", b"instance",
           b"x" * 80]
 MIXED_TITLES = [b"instance car1", b"Carlier 11x5", b"-5", b"1.5", b"3 2 0 0 0 x", b"x 3 2", b"0\0", b"7\xe9"]
 BLANKS = [b" ", b" ", b" ", b" ", b"  ", b"\t", b"\r", b" \t "]
-TIMES = [0, 1, 2, 3, 5, 8, 99, 999_999, 1_000_000]
+TIMES = [0, 1, 2, 3, 5, 8, 99, 1_000_001, 999_999_999, 1_000_000_000]
 NOTES = [0, 1, 7, 4_294_967_295]
 
 
@@ -235,10 +235,10 @@ class Writer:
         return [self.random.choice(titles) for _ in range(self.random.choice([0, 0, 1, 1, 2, 3]))]
 
     def shop(self):
-        most_jobs, most_machines = self.random.choice([(300, 20), (2_000, 2), (4, 200)]) if self.is_great else (9, 5)
+        most_jobs, most_machines = self.random.choice([(300, 20), (5_000, 2), (4, 200)]) if self.is_great else (9, 5)
         jobs, machines = self.random.randint(1, most_jobs), self.random.randint(1, most_machines)
         shop = second_program.Instance(jobs, machines, [self.random.choice(NOTES) for _ in range(3)])
-        most = self.random.choice([1, 9, 99, 1_000_000])
+        most = self.random.choice([1, 9, 99, 1_000_000_000])
         for row in shop.times:
             for job in range(jobs):
                 row[job] = self.random.choice(TIMES) if self.chance(0.05) else self.random.randint(0, most)
@@ -282,7 +282,7 @@ class Writer:
         if kind < 0.1:
             length = self.random.choice([0, length + 1, max(0, length - 1), 10**18 - 1, 10**18])
         elif kind < 0.2:
-            jobs = list(range(1, self.random.choice([1, 2, shop.jobs + 1, 2_000]) + 1))
+            jobs = list(range(1, self.random.choice([1, 2, shop.jobs + 1, 5_000]) + 1))
         elif kind < 0.35:
             jobs[self.random.randrange(len(jobs))] = self.random.choice([0, 1, shop.jobs, shop.jobs + 1, 999_999_999])
         other = self.random.choice([0, 1, max(0, shop.machines - 1), shop.machines + 1, 200, 201])
@@ -291,7 +291,7 @@ class Writer:
 
 
 BYTES = [b"0", b"1", b"9", b" ", b"\t", b"\r", b"\n", b"\n", b"x", b"-", b".", b"+", b"\0", b"\xff"]
-INSERTED = BYTES + [b"9" * 40, b"0" * 60, b" " * 5_000, b"x" * 4_096, b"0" * 9_000, b"1000001", b"4294967296",
+INSERTED = BYTES + [b"9" * 40, b"0" * 60, b" " * 5_000, b"x" * 4_096, b"0" * 9_000, b"1000000001", b"4294967296",
                     b" 7", b"\n\n", b"order ", b"order2 ", b"makespan 0\n"]
 
 
@@ -321,7 +321,7 @@ def with_number_changed(random, text, start):
     if match is None:
         return text
     value = second_program.value_of(match.group())
-    value = max(0, random.choice([value - 1, value + 1, value * 10, 0, 2_000, 2_001, 200, 201, 1_000_001, 2**32]))
+    value = max(0, random.choice([value - 1, value + 1, value * 10, 0, 5_000, 5_001, 200, 201, 1_000_000_001, 2**32]))
     return text[:match.start()] + b"%d" % value + text[match.end():]
 
 
@@ -380,7 +380,7 @@ class Line:
             rounds = self.random.choice([0, 1, 2, 3, 10, MOST_ROUNDS, 1_000_001])
             options.append(self.option(b"--rounds", self.number(rounds)))
         if self.random.random() < 0.5:
-            take = self.random.choice([1, 2, 3, 4, jobs, jobs + 1, self.random.randint(1, jobs), 2_000, 2_001, 0])
+            take = self.random.choice([1, 2, 3, 4, jobs, jobs + 1, self.random.randint(1, jobs), 5_000, 5_001, 0])
             options.append(self.option(b"--take", self.number(take)))
         if self.random.random() < 0.6:
             seed = self.random.choice(SEEDS + [self.random.randrange(2**64)] * 4)
@@ -406,7 +406,7 @@ class Line:
     def generate(self):
         sizes = [self.random.randint(1, 60), self.random.randint(1, 20)]
         if self.random.random() < 0.1:
-            sizes[self.random.randrange(2)] = self.random.choice([0, 200, 201, 2_000, 2_001])
+            sizes[self.random.randrange(2)] = self.random.choice([0, 200, 201, 5_000, 5_001])
         seed = self.random.choice(DRAWN_SEEDS + [self.random.randint(1, 2_147_483_646)] * 4)
         words = [self.number(value) for value in sizes + [seed]]
         return [b"generate"] + ([b"--"] if self.random.random() < 0.05 else []) + words

@@ -1,8 +1,9 @@
 #!/usr/bin/env python3
 """Files of 64 MiB through each command that reads: the exact answer, in time linear in the file, with no more memory
 than the instance and 16 MiB. The files are of one byte, of digits and blanks, of one line, and of a million lines.
-The program gets no more address space than that. What the kernel says of its resident memory is compared too, and
-counts what its starter had, so little is kept in memory here.
+Then the greatest instance, with the longest times: the exact answer, with what a search or a time table keeps of it
+beside that memory. The program gets no more address space than that. What the kernel says of its resident memory is
+compared too, and counts what its starter had, so little is kept in memory here.
 
 usage: tests/hostile.py [PROGRAM]"""
 import os
@@ -18,6 +19,11 @@ MIB = 1 << 20
 SIZE = 64 * MIB
 MOST_RESIDENT = 16 * MIB
 MOST_SECONDS = 60
+
+# The limits, and how long the longest texts within them are.
+MOST_JOBS, MOST_MACHINES, LONGEST_TIME = 5_000, 200, 1_000_000_000
+LONGEST_TEXT = 14_450_028
+LONGEST_ORDER_TEXT = 50_039
 
 THREE = b"number of jobs\n3 2 0 0 0\n3 2 4\n2 5 1\n"
 BEST = b"order2 3 2\n2 1 3\nmakespan 10\n"
@@ -83,35 +89,46 @@ def write_many_lines(path, jobs, machines, lines):
             file.write(plain * each + time)
 
 
-# What the commands print of jobs that all take 1 on each machine
+def write_greatest(path):
+    """The canonical text of the greatest jobs, machines, notes and times."""
+    times = b" ".join([b"%d" % LONGEST_TIME] * MOST_JOBS) + b"\n"
+    with open(path, "wb") as file:
+        file.write(TITLE)
+        file.write(b"%d %d %d %d %d\nprocessing times :\n" % (MOST_JOBS, MOST_MACHINES, *[2**32 - 1] * 3))
+        for _ in range(MOST_MACHINES):
+            file.write(times)
 
-def ones_value(jobs, machines):
-    yield b"makespan %d\n" % (jobs + machines - 1)
+
+# What the commands print of jobs that all take one unit of time on each machine
+
+def ones_value(jobs, machines, one=1):
+    yield b"makespan %d\n" % (one * (jobs + machines - 1))
 
 
-def ones_solve(jobs, machines):
+def ones_solve(jobs, machines, one=1):
     """Each place is as good as the others, so each job, the lowest numbers first, is put before all others."""
     yield b"order2 %d %d\n" % (jobs, machines)
     yield b" ".join(b"%d" % job for job in range(jobs, 0, -1)) + b"\n"
-    yield b"makespan %d\n" % (jobs + machines - 1)
+    yield b"makespan %d\n" % (one * (jobs + machines - 1))
 
 
-def ones_check(jobs, machines):
-    """On each machine all jobs take `jobs`, and what comes before and behind takes 1 on each of the others."""
-    length = jobs + machines - 1
+def ones_check(jobs, machines, one=1):
+    """On each machine all jobs take `jobs` units, and what comes before and behind takes one on each of the others."""
+    length = one * (jobs + machines - 1)
     yield b"valid\nmakespan %d\nbound %d\noptimal\n" % (length, length)
 
 
-def ones_table(jobs, machines):
+def ones_table(jobs, machines, one=1):
     yield b"table %d %d\n" % (jobs, machines)
     for row in range(jobs):
-        yield b"%d" % (jobs - row) + b"".join(b" %d %d" % (row + at, row + at + 1) for at in range(machines)) + b"\n"
-    yield b"makespan %d\n" % (jobs + machines - 1)
+        spans = b"".join(b" %d %d" % (one * (row + at), one * (row + at + 1)) for at in range(machines))
+        yield b"%d" % (jobs - row) + spans + b"\n"
+    yield b"makespan %d\n" % (one * (jobs + machines - 1))
 
 
-def ones_convert(jobs, machines):
+def ones_convert(jobs, machines, one=1):
     yield b"flow shop instance\n%d %d\n" % (jobs, machines)
-    row = b" ".join(b"%d 1" % machine for machine in range(machines)) + b"\n"
+    row = b" ".join(b"%d %d" % (machine, one) for machine in range(machines)) + b"\n"
     for _ in range(jobs):
         yield row
 
@@ -250,6 +267,29 @@ def many_lines(at):
     at.run(f"no words, {name}", [], ones_value(jobs, machines), b"", 0, 4 * jobs * machines, great)
 
 
+def greatest(at):
+    great, order, back = at.path("great"), at.path("ones"), at.path("back")
+    shop = MOST_JOBS, MOST_MACHINES, LONGEST_TIME
+    times = MOST_JOBS * MOST_MACHINES
+    # A search keeps two lengths for each time and a row more, a time table a start and an end for each.
+    kept = {"solve": 8 * (2 * times + MOST_MACHINES), "table": 16 * times}
+    write_greatest(great)
+    with open(order, "wb") as file:
+        file.writelines(ones_solve(*shop))
+    for command in COMMANDS:
+        words, memory = words_of(command, great, order), 4 * times + kept.get(command, 0)
+        at.run(f"{command}, the greatest instance", words, ONES[command](*shop), b"", 0, memory)
+    with open(back, "wb") as file:
+        file.writelines(ones_convert(*shop))
+    check("the longest text", os.path.getsize(back) == LONGEST_TEXT, f"{os.path.getsize(back)} bytes")
+    at.run("value, the longest text", ["value", "--layout", "orlib", back], ones_value(*shop), b"", 0, 4 * times)
+    text = b"order %d\n%s\nmakespan %s\n" % (MOST_JOBS, b" ".join([b"9" * 9] * MOST_JOBS), b"9" * 18)
+    check("the longest order text", len(text) == LONGEST_ORDER_TEXT, f"{len(text)} bytes")
+    pathlib.Path(order).write_bytes(text)
+    told = b"pfs: order file job out of range at place 1\n"
+    at.run("check, the longest order text", words_of("check", great, order), [], told, 2, 4 * times)
+
+
 def main():
     program = os.path.abspath(sys.argv[1]) if sys.argv[1:] else str(TOP / "crates" / "pfs" / "out" / "pfs")
     with tempfile.TemporaryDirectory(prefix="pfs-hostile-") as folder:
@@ -260,6 +300,7 @@ def main():
         fills(at)
         one_line(at)
         many_lines(at)
+        greatest(at)
     print(f"hostile files: {passed} passed, {failed} failed")
     return 1 if failed else 0
 

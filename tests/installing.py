@@ -216,8 +216,9 @@ def missing_tools():
     for tool in ("git", "rt", "dpkg-deb"):
         if shutil.which(tool) is None:
             yield tool
-        elif tool == "git" and subprocess.run(["git", "-C", TOP, "rev-parse", "HEAD"], capture_output=True).returncode != 0:
-            yield "commit that git tells"
+        elif tool == "git":
+            asked = subprocess.run(["git", "-C", TOP, "rev-parse", "HEAD"], capture_output=True)
+            yield from ["commit that git tells"] * (asked.returncode != 0)
 
 
 def main():

@@ -145,6 +145,9 @@ def each_range(program, source):
         call = ["solve", "--layout", "taillard", "/missing"]
         got = [status_of(program, *call, f"--{name}={number}") for number in (least - 1, least, most, most + 1)]
         check(f"the range of {name}", [3, 4, 4, 3], got)
+    for script in ("_pfs", "pfs.fish"):
+        told = set(ranges((TOP / "share" / "completions" / script).read_text()))
+        check(f"ranges that {script} tells", (True, set()), (told != set(), told - set(options.values())))
     (_, jobs), (_, machines), (_, seed) = ranges(items["Cm generate"])
     for words, wanted in [((jobs, 1, 1), 0), ((jobs + 1, 1, 1), 3), ((1, machines, 1), 0), ((1, machines + 1, 1), 3),
                           ((0, 1, 1), 3), ((1, 0, 1), 3), ((1, 1, seed), 0), ((1, 1, seed + 1), 2), ((1, 1, 0), 2)]:
@@ -174,7 +177,8 @@ def each_limit(program, name, text):
         path = pathlib.Path(folder, "shop")
         for line, wanted in [
             (f"{jobs} 1 0 0 0", "truncated after 0 times"), (f"{jobs + 1} 1 0 0 0", "size line 1 is out of range"),
-            (f"1 {machines} 0 0 0", "truncated after 0 times"), (f"1 {machines + 1} 0 0 0", "size line 1 is out of range"),
+            (f"1 {machines} 0 0 0", "truncated after 0 times"),
+            (f"1 {machines + 1} 0 0 0", "size line 1 is out of range"),
             (f"1 1 0 0 0\n{time}", ""), (f"1 1 0 0 0\n{time + 1}", "time out of range at 10"),
         ]:
             path.write_text(line + "\n")
@@ -187,7 +191,8 @@ def faults():
     table = (TOP / "docs" / "FORMATS.md").read_text().partition("\n## Faults\n")[2]
     told = re.findall(r"\| (?:the usage text: )?`(pfs: [^`]+)`.* \|$", table, re.MULTILINE)
     check("there are faults", True, len(told) > 15)
-    check("faults of the manual page", sorted(told), sorted(re.findall(r'^\.It "(pfs: .*)"$', PAGE.read_text(), re.MULTILINE)))
+    listed = re.findall(r'^\.It "(pfs: .*)"$', PAGE.read_text(), re.MULTILINE)
+    check("faults of the manual page", sorted(told), sorted(listed))
 
 
 def manual(program):

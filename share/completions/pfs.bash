@@ -24,13 +24,13 @@ _pfs() {
         mapfile -t COMPREPLY < <(compgen -W 'value solve check table convert generate' -- "$2")
         return
     fi
-    # what stands between the command and the word; bash takes the sign of --layout=orlib for a word
+    # what stands between the command and the word; bash takes the sign of --layout=orlib, or in a path, for a word
     for ((at = 2; at < COMP_CWORD; ++at)); do
         word=${COMP_WORDS[at]}
-        if [ -n "$is_ended" ]; then
+        if [ "$word" = = ]; then
+            [ -n "$value_of" ] || at=$((at + 1))
+        elif [ -n "$is_ended" ]; then
             paths=$((paths + 1))
-        elif [ "$word" = = ] && [ -n "$value_of" ]; then
-            continue
         elif [ -n "$value_of" ]; then
             value_of=
         elif [ "$word" = -- ]; then

@@ -51,10 +51,13 @@ complete -c pfs -n __fish_is_first_token -a table -d 'When each operation of an 
 complete -c pfs -n __fish_is_first_token -a convert -d 'The instance in another layout'
 complete -c pfs -n __fish_is_first_token -a generate -d 'The instance that the generator of Taillard draws'
 
-complete -c pfs -n '__pfs_is value solve check table; and __pfs_may layout' -l layout -x -a 'taillard orlib' -d 'Layout of the instance file'
-complete -c pfs -n '__pfs_is convert; and __pfs_may from' -l from -x -a 'taillard orlib' -d 'Layout of the instance file'
+complete -c pfs -n '__pfs_is value solve check table; and __pfs_may layout' -l layout -x -a 'taillard orlib' \
+    -d 'Layout of the instance file'
+complete -c pfs -n '__pfs_is convert; and __pfs_may from' -l from -x -a 'taillard orlib' \
+    -d 'Layout of the instance file'
 complete -c pfs -n '__pfs_is convert; and __pfs_may to' -l to -x -a 'taillard orlib' -d 'Layout to print'
-complete -c pfs -n '__pfs_is value solve check table convert; and __pfs_may block' -l block -x -d 'Which block is read, 1 to 1,000'
+complete -c pfs -n '__pfs_is value solve check table convert; and __pfs_may block' -l block -x \
+    -d 'Which block is read, 1 to 1,000'
 complete -c pfs -n '__pfs_is solve; and __pfs_may rounds' -l rounds -x -d 'Rounds of iterated greedy, 0 to 1,000,000'
 complete -c pfs -n '__pfs_is solve; and __pfs_may take' -l take -x -d 'Jobs that a round takes out, 1 to 5,000'
 complete -c pfs -n '__pfs_is solve; and __pfs_may seed' -l seed -x -d 'Seed of the random numbers'

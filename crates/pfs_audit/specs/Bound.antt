@@ -24,7 +24,8 @@ load_of shop machine = sum_by (λ job. time_of shop job machine) (all_jobs shop.
 
 -- the least time before a machine, the machine's load, and the least time after it
 abbrev pub machine_bound : FlowShop → ℕ → ℕ
-machine_bound shop machine = least_on shop 0 machine + load_of shop machine + least_on shop (machine + 1) (shop.machines - (machine + 1))
+machine_bound shop machine =
+    least_on shop 0 machine + load_of shop machine + least_on shop (machine + 1) (shop.machines - (machine + 1))
 
 abbrev pub greatest_total : FlowShop → ℕ
 greatest_total shop = greatest (map (total_of shop) (all_jobs shop.jobs))
@@ -38,7 +39,8 @@ bound_of shop = max (greatest_total shop) (greatest_machine_bound shop)
 
 -- no order of all jobs has a makespan below this number
 abbrev pub IsLowerBound : FlowShop → ℕ → Type 0
-IsLowerBound shop number = (order : List ℕ) → IsSequence shop.jobs order → length order ≡ shop.jobs → number ≤ makespan shop order
+IsLowerBound shop number =
+    (order : List ℕ) → IsSequence shop.jobs order → length order ≡ shop.jobs → number ≤ makespan shop order
 
 abbrev pub BoundLaw : Type 0
 BoundLaw = (shop : FlowShop) → IsLowerBound shop (bound_of shop)

@@ -13,21 +13,26 @@ end_of shop order starts row machine = starts row machine + operation shop order
 
 -- a job is on one machine at a time, and a machine does one job at a time
 pub record IsFeasible (shop : FlowShop) (order : List ℕ) (starts : Starts) : Type 0 where
-  pub one_machine : (row machine : ℕ) → row < length order → machine + 1 < shop.machines → end_of shop order starts row machine ≤ starts row (machine + 1)
-  pub one_job : (row machine : ℕ) → row + 1 < length order → machine < shop.machines → end_of shop order starts row machine ≤ starts (row + 1) machine
+  pub one_machine : (row machine : ℕ) → row < length order → machine + 1 < shop.machines
+      → end_of shop order starts row machine ≤ starts row (machine + 1)
+  pub one_job : (row machine : ℕ) → row + 1 < length order → machine < shop.machines
+      → end_of shop order starts row machine ≤ starts (row + 1) machine
 
 -- no feasible schedule starts an operation earlier
 pub record IsLeastSchedule (shop : FlowShop) (order : List ℕ) (starts : Starts) : Type 0 where
   pub feasible : IsFeasible shop order starts
-  pub least : (others : Starts) → IsFeasible shop order others → (row machine : ℕ) → row < length order → machine < shop.machines → starts row machine ≤ others row machine
+  pub least : (others : Starts) → IsFeasible shop order others
+      → (row machine : ℕ) → row < length order → machine < shop.machines → starts row machine ≤ others row machine
 
 -- every operation has ended by this time
 abbrev pub EndsBy : FlowShop → List ℕ → Starts → ℕ → Type 0
-EndsBy shop order starts time = (row machine : ℕ) → row < length order → machine < shop.machines → end_of shop order starts row machine ≤ time
+EndsBy shop order starts time =
+    (row machine : ℕ) → row < length order → machine < shop.machines → end_of shop order starts row machine ≤ time
 
 -- no feasible schedule has ended before this time
 abbrev pub NoneEndsBefore : FlowShop → List ℕ → ℕ → Type 0
-NoneEndsBefore shop order time = (starts : Starts) (by : ℕ) → IsFeasible shop order starts → EndsBy shop order starts by → time ≤ by
+NoneEndsBefore shop order time =
+    (starts : Starts) (by : ℕ) → IsFeasible shop order starts → EndsBy shop order starts by → time ≤ by
 
 -- the heaviest path to an operation
 abbrev pub least_end : FlowShop → List ℕ → ℕ → ℕ → ℕ
@@ -39,16 +44,20 @@ least_start shop order row machine = least_end shop order row machine - operatio
 
 -- these starts are the least schedule, and it ends by the makespan
 abbrev pub LeastScheduleLaw : Type 0
-LeastScheduleLaw = (shop : FlowShop) (order : List ℕ) → IsLeastSchedule shop order (least_start shop order) × EndsBy shop order (least_start shop order) (makespan shop order)
+LeastScheduleLaw = (shop : FlowShop) (order : List ℕ)
+    → IsLeastSchedule shop order (least_start shop order)
+    × EndsBy shop order (least_start shop order) (makespan shop order)
 
 -- two least schedules start each operation at one time
 abbrev pub OneLeastSchedule : Type 0
-OneLeastSchedule = (shop : FlowShop) (order : List ℕ) (one other : Starts) → IsLeastSchedule shop order one → IsLeastSchedule shop order other
+OneLeastSchedule = (shop : FlowShop) (order : List ℕ) (one other : Starts)
+    → IsLeastSchedule shop order one → IsLeastSchedule shop order other
     → (row machine : ℕ) → row < length order → machine < shop.machines → one row machine ≡ other row machine
 
 -- no feasible schedule ends before the makespan
 abbrev pub NoneEndsEarlier : Type 0
-NoneEndsEarlier = (shop : FlowShop) (order : List ℕ) → 1 ≤ shop.machines → NoneEndsBefore shop order (makespan shop order)
+NoneEndsEarlier =
+    (shop : FlowShop) (order : List ℕ) → 1 ≤ shop.machines → NoneEndsBefore shop order (makespan shop order)
 
 -- a time table: the jobs in their order, and when each operation starts and ends, row by row
 pub record Timing : Type 0 where
@@ -67,7 +76,8 @@ end_in timing row machine = slice_index timing.ends (row * timing.machines + mac
 
 -- each operation ends its time after its start
 abbrev pub EndsInTime : FlowShop → List ℕ → Timing → Type 0
-EndsInTime shop order timing = (row machine : ℕ) → row < length order → machine < shop.machines → end_in timing row machine ≡ end_of shop order (start_in timing) row machine
+EndsInTime shop order timing = (row machine : ℕ) → row < length order → machine < shop.machines
+    → end_in timing row machine ≡ end_of shop order (start_in timing) row machine
 
 -- the end of the last job on the last machine
 abbrev pub last_end : Timing → ℕ
@@ -83,4 +93,5 @@ pub record IsWhole (timing : Timing) : Type 0 where
 -- a list of so many rows of values, one for each machine, row by row
 pub record AreRows (value : ℕ → ℕ → ℕ) (machines rows : ℕ) (items : List ℕ) : Type 0 where
   pub size : length items ≡ rows * machines
-  pub entries : (row machine : ℕ) → row < rows → machine < machines → slice_index items (row * machines + machine) ≡ value row machine
+  pub entries : (row machine : ℕ) → row < rows → machine < machines
+      → slice_index items (row * machines + machine) ≡ value row machine

@@ -26,4 +26,5 @@ pub record AreSumsOf (shop : FlowShop) (jobs : ℕ) (sums : Sums) : Type 0 where
   pub longest : sums.longest ≡ greatest (map (total_of shop) (all_jobs jobs))
   pub before : AreOf (least_among shop jobs 0) shop.machines sums.before
   pub load : AreOf (load_among shop jobs) shop.machines sums.load
-  pub after : AreOf (λ machine. least_among shop jobs (machine + 1) (shop.machines - (machine + 1))) shop.machines sums.after
+  pub after :
+      AreOf (λ machine. least_among shop jobs (machine + 1) (shop.machines - (machine + 1))) shop.machines sums.after

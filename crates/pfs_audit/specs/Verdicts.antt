@@ -15,7 +15,9 @@ pub record Fits (shop : FlowShop) (file : StatedOrder) : Type 0 where
 -- the verdict on an order that fits
 abbrev pub verdict_on_order : FlowShop → StatedOrder → Verdict
 verdict_on_order shop file =
-    if nat_eq file.makespan (makespan shop file.order) then Valid file.makespan (bound_of shop) else WrongMakespan file.makespan (makespan shop file.order)
+    if nat_eq file.makespan (makespan shop file.order)
+    then Valid file.makespan (bound_of shop)
+    else WrongMakespan file.makespan (makespan shop file.order)
 
 -- the verdict on an order of the right size, for which this number of machines is stated, or none
 abbrev pub verdict_on_machines : FlowShop → StatedOrder → Option ℕ → Verdict

@@ -6,19 +6,19 @@ ghost use Rattle.pfs_audit.specs.Sums.{AreSumsOf};
 
 use pfs_base::{Instance, LONGEST_TIME, MOST_MACHINES};
 
-/// No job takes longer on all of its machines.
+// No job takes longer on all of its machines.
 const LONGEST_TOTAL: u64 = LONGEST_TIME as u64 * MOST_MACHINES as u64;
 
-/// What the jobs of an instance take together, machine by machine.
+// What the jobs of an instance take together, machine by machine.
 #[derive(Drop)]
 struct Sums {
-    /// The greatest total of a job.
+    // The greatest total of a job.
     longest: u64,
-    /// The least time of a job before each machine.
+    // The least time of a job before each machine.
     before: [u64; MOST_MACHINES],
-    /// The times of all jobs on each machine.
+    // The times of all jobs on each machine.
     load: [u64; MOST_MACHINES],
-    /// The least time of a job after each machine.
+    // The least time of a job after each machine.
     after: [u64; MOST_MACHINES],
 }
 

@@ -2,15 +2,15 @@
 //! file.
 #![tactic(auto)]
 
-pub mod bounds;
-pub mod examples;
-pub mod fault;
+mod bounds;
+mod examples;
+mod fault;
 pub mod laws;
-pub mod recurrence;
+mod recurrence;
 #[cfg(test)]
 mod tests;
-pub mod timetable;
-pub mod verdicts;
+mod timetable;
+mod verdicts;
 
 pub use bounds::bound;
 pub use fault::AuditFault;

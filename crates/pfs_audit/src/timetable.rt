@@ -1,7 +1,9 @@
 //! Time tables of orders.
-ghost use Rattle.std.specs.Prelude.{◌≡◌, ◌+◌, ◌*◌, ◌<◌, ◌≤◌, [], ◌∷◌, ◌++◌, length, slice_index, IfOk, vec_len, vec_capacity};
+ghost use Rattle.std.specs.Prelude.{◌≡◌, ◌+◌, ◌*◌, ◌<◌, ◌≤◌, [], ◌∷◌, ◌++◌, length, slice_index, IfOk};
+ghost use Rattle.std.specs.Prelude.{vec_len, vec_capacity};
 ghost use Rattle.pfs_base.specs.Paths.{makespan};
-ghost use Rattle.pfs_audit.specs.Schedule.{EndsBy, IsLeastSchedule, NoneEndsBefore, least_end, least_start, start_in, end_in, EndsInTime, last_end, IsWhole, AreRows};
+ghost use Rattle.pfs_audit.specs.Schedule.{EndsBy, IsLeastSchedule, NoneEndsBefore, least_end, least_start};
+ghost use Rattle.pfs_audit.specs.Schedule.{start_in, end_in, EndsInTime, last_end, IsWhole, AreRows};
 
 use crate::fault::AuditFault;
 use pfs_base::Instance;
@@ -24,9 +26,19 @@ impl Model for TimeTable {
 
     ghost Value = { Timing };
 
-    ghost view = { λ a. record { jobs = a.jobs.items; machines = a.machines; starts = a.starts.items; ends = a.ends.items } };
+    ghost view = { λ a. record {
+      jobs = a.jobs.items;
+      machines = a.machines;
+      starts = a.starts.items;
+      ends = a.ends.items;
+    } };
 
-    ghost invariant = { λ a. IsWhole (record { jobs = a.jobs.items; machines = a.machines; starts = a.starts.items; ends = a.ends.items }) };
+    ghost invariant = { λ a. IsWhole (record {
+      jobs = a.jobs.items;
+      machines = a.machines;
+      starts = a.starts.items;
+      ends = a.ends.items;
+    }) };
 }
 
 impl TimeTable {
@@ -145,9 +157,11 @@ fn add_row(
     requires row { row < length order.now }
     requires room_for_starts { (row + 1) * instance.now.shop.machines ≤ vec_capacity starts.old }
     requires room_for_ends { (row + 1) * instance.now.shop.machines ≤ vec_capacity ends.old }
-    requires starts { AreRows (least_start instance.now.shop order.now) instance.now.shop.machines row starts.old.items }
+    requires starts { let shop = instance.now.shop in
+        AreRows (least_start shop order.now) shop.machines row starts.old.items }
     requires ends { AreRows (least_end instance.now.shop order.now) instance.now.shop.machines row ends.old.items }
-    ensures starts { AreRows (least_start instance.now.shop order.now) instance.now.shop.machines (row + 1) starts.new.items }
+    ensures starts { let shop = instance.now.shop in
+        AreRows (least_start shop order.now) shop.machines (row + 1) starts.new.items }
     ensures ends { AreRows (least_end instance.now.shop order.now) instance.now.shop.machines (row + 1) ends.new.items }
     ensures room_of_starts { vec_capacity starts.old ≤ vec_capacity starts.new }
     ensures room_of_ends { vec_capacity ends.old ≤ vec_capacity ends.new }

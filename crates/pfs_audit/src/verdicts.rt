@@ -29,7 +29,8 @@ pub enum Verdict {
 /// number of machines is wrong.
 pub fn check(alloc: Global, instance: &Instance, file: &OrderFile) -> Result<Verdict, AuditFault>
     ensures verdict { IfOk result (λ verdict. verdict ≡ verdict_on instance.now.shop file.now) }
-    ensures shortest { IfOk result (λ verdict. (most : ℕ) → verdict ≡ Verdict.Valid most most → IsLowerBound instance.now.shop (makespan instance.now.shop file.now.order)) }
+    ensures shortest { IfOk result (λ verdict. (most : ℕ) → verdict ≡ Verdict.Valid most most
+        → IsLowerBound instance.now.shop (makespan instance.now.shop file.now.order)) }
     ensures sizes_first { result ≡ Err AuditFault.Memory → Fits instance.now.shop file.now }
 {
     let order = file.order();

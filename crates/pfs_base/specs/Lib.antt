@@ -3,6 +3,7 @@ pub mod FlowShop
 pub mod Joins
 pub mod Limits
 pub mod Lists
+pub mod Longest
 pub mod Paths
 pub mod Problem
 pub mod Sends

@@ -1,6 +1,7 @@
 -- The limits of what is accepted.
 use Rattle.std.specs.Prelude.{ℕ}
-use Rattle.pfs_base.specs.declared.limits.TheConstants.{MOST_JOBS, MOST_MACHINES, LONGEST_TIME, GREATEST_NOTE, LONGEST_INPUT}
+use Rattle.pfs_base.specs.declared.limits.TheConstants.{MOST_JOBS, MOST_MACHINES, LONGEST_TIME}
+use Rattle.pfs_base.specs.declared.limits.TheConstants.{GREATEST_NOTE, LONGEST_INPUT}
 
 pub record Limits : Type 0 where
   pub jobs : ℕ
@@ -11,4 +12,10 @@ pub record Limits : Type 0 where
 
 -- those of this product
 abbrev pub limits : Limits
-limits = record { jobs = MOST_JOBS; machines = MOST_MACHINES; time = LONGEST_TIME; note = GREATEST_NOTE; input = LONGEST_INPUT }
+limits = record {
+  jobs = MOST_JOBS;
+  machines = MOST_MACHINES;
+  time = LONGEST_TIME;
+  note = GREATEST_NOTE;
+  input = LONGEST_INPUT;
+}

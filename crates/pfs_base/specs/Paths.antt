@@ -1,6 +1,7 @@
 -- Paths through the operations of a sequence of jobs, and the makespan, which is the weight of the
 -- heaviest one.
-use Rattle.std.specs.Prelude.{◌≡◌, ℕ, zero, suc, ◌+◌, ◌-◌, ◌<◌, ◌≤◌, max, List, [], ◌∷◌, ◌++◌, length, map, fold, sum_by, slice_index}
+use Rattle.std.specs.Prelude.{◌≡◌, ℕ, zero, suc, ◌+◌, ◌-◌, ◌<◌, ◌≤◌, max}
+use Rattle.std.specs.Prelude.{List, [], ◌∷◌, ◌++◌, length, map, fold, sum_by, slice_index}
 use Rattle.pfs_base.specs.FlowShop.{FlowShop, time_of}
 
 -- a row, which is a place of the sequence, and a machine
@@ -25,7 +26,8 @@ paths zero zero row machine = ((row, machine) ∷ []) ∷ []
 paths zero (suc ons) row machine = map (λ path. (row, machine) ∷ path) (paths zero ons row (suc machine))
 paths (suc downs) zero row machine = map (λ path. (row, machine) ∷ path) (paths downs zero (suc row) machine)
 paths (suc downs) (suc ons) row machine =
-    map (λ path. (row, machine) ∷ path) (paths downs (suc ons) (suc row) machine ++ paths (suc downs) ons row (suc machine))
+    map (λ path. (row, machine) ∷ path)
+    (paths downs (suc ons) (suc row) machine ++ paths (suc downs) ons row (suc machine))
 
 -- the greatest number of a list, and 0 of none
 abbrev pub greatest : List ℕ → ℕ
@@ -64,14 +66,16 @@ abbrev pub MakespanLaw : Type 0
 MakespanLaw = (shop : FlowShop) (jobs : List ℕ) → IsMakespan shop jobs (makespan shop jobs)
 
 abbrev pub OneMakespan : Type 0
-OneMakespan = (shop : FlowShop) (jobs : List ℕ) (one other : ℕ) → IsMakespan shop jobs one → IsMakespan shop jobs other → one ≡ other
+OneMakespan = (shop : FlowShop) (jobs : List ℕ) (one other : ℕ)
+    → IsMakespan shop jobs one → IsMakespan shop jobs other → one ≡ other
 
 -- when the operations end by the usual recurrence, rows and machines counted from 1, and 0 outside the table
 pub record AreEnds (shop : FlowShop) (jobs : List ℕ) (ends : ℕ → ℕ → ℕ) : Type 0 where
   pub no_row : (machine : ℕ) → ends 0 machine ≡ 0
   pub no_machine : (row : ℕ) → ends row 0 ≡ 0
   pub step : (row machine : ℕ) → row < length jobs → machine < shop.machines
-      → ends (row + 1) (machine + 1) ≡ max (ends row (machine + 1)) (ends (row + 1) machine) + operation shop jobs row machine
+      → ends (row + 1) (machine + 1)
+      ≡ max (ends row (machine + 1)) (ends (row + 1) machine) + operation shop jobs row machine
 
 abbrev pub RecurrenceLaw : Type 0
 RecurrenceLaw = (shop : FlowShop) (jobs : List ℕ) (ends : ℕ → ℕ → ℕ) → 1 ≤ shop.machines → AreEnds shop jobs ends

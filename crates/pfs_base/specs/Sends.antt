@@ -10,7 +10,8 @@ pub record SendsAll (old new : Option (List ℕ)) (failed : Bool) (sent : ℕ) (
   pub bytes : Appends old new text
 
 -- the writer has failed, and a front of the text went out, with which `reached` bytes were sent
-pub record SendsFront (old new : Option (List ℕ)) (failed : Bool) (sent : ℕ) (text : List ℕ) (reached : ℕ) : Type 0 where
+pub record SendsFront (old new : Option (List ℕ)) (failed : Bool) (sent : ℕ) (text : List ℕ) (reached : ℕ)
+    : Type 0 where
   pub stopped : failed ≡ true
   pub from : sent ≤ reached
   pub within : reached ≤ sent + length text

@@ -45,8 +45,10 @@ pub trait Bench {
         requires job { job < (shop self.old).jobs }
         requires machine { machine < (shop self.old).machines }
         requires room { counted self.old + 1 < 2 ^ 64 }
-        requires in_limit { max (Self.Span.number a) (Self.Span.number b) + time_of (shop self.old) job machine ≤ SPAN_MAX }
-        ensures value { Self.Span.number result ≡ max (Self.Span.number a) (Self.Span.number b) + time_of (shop self.old) job machine }
+        requires in_limit { max (Self.Span.number a) (Self.Span.number b)
+            + time_of (shop self.old) job machine ≤ SPAN_MAX }
+        ensures value { Self.Span.number result
+            ≡ max (Self.Span.number a) (Self.Span.number b) + time_of (shop self.old) job machine }
         ensures counted { counted self.new ≡ counted self.old + 1 }
         ensures shop { shop self.new ≡ shop self.old };
 

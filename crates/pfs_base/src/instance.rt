@@ -38,7 +38,10 @@ impl Model for Instance {
 
     ghost Value = { Problem };
 
-    ghost view = { λ a. record { shop = record { jobs = a.jobs; machines = a.machines; times = a.times.items }; notes = a.notes } };
+    ghost view = { λ a. record {
+      shop = record { jobs = a.jobs; machines = a.machines; times = a.times.items };
+      notes = a.notes;
+    } };
 
     ghost invariant = { λ a. IsWithin limits (record { jobs = a.jobs; machines = a.machines; times = a.times.items }) };
 }

@@ -1,5 +1,9 @@
 //! Laws about the definitions alone.
+ghost use Rattle.std.specs.Prelude.{◌≡◌, ◌≤◌};
+ghost use Rattle.pfs_base.specs.Longest.{longest_makespan, NoneLonger};
 ghost use Rattle.pfs_base.specs.Paths.{HeaviestLaw, MakespanLaw, OneMakespan, RecurrenceLaw};
+
+use crate::bench::SPAN_MAX;
 
 /// Between any two cells, of which the second is neither above nor before the first, some path has the weight of the
 /// heaviest path, and no path weighs more.
@@ -21,4 +25,12 @@ pub fn one_makespan()
 /// the same job's operation on the machine before and of the job before on the same machine.
 pub fn recurrence()
     ensures { RecurrenceLaw }
+{}
+
+/// Within the limits no makespan is greater than 5,199,000,000,000, which is far below the greatest length that a
+/// bench makes.
+pub fn makespans_fit()
+    ensures none_longer { NoneLonger }
+    ensures number { longest_makespan ≡ 5199000000000 }
+    ensures in_limit { longest_makespan ≤ SPAN_MAX }
 {}

@@ -2,16 +2,16 @@
 //! computes with lengths of time, and readers and writers that may fail.
 #![tactic(auto)]
 
-pub mod bench;
-pub mod device;
-pub mod from_read;
-pub mod instance;
+mod bench;
+mod device;
+mod from_read;
+mod instance;
 pub mod laws;
-pub mod limits;
-pub mod metered;
-pub mod notes;
+mod limits;
+mod metered;
+mod notes;
 pub mod print;
-pub mod to_write;
+mod to_write;
 
 pub use bench::{Bench, Length, SPAN_MAX, Shop};
 pub use device::{Sink, Source, WriteFault, put};

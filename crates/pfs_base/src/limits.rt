@@ -1,13 +1,13 @@
 //! The limits of what is accepted.
 
 /// The greatest number of jobs.
-pub const MOST_JOBS: usize = 2000;
+pub const MOST_JOBS: usize = 5000;
 
 /// The greatest number of machines.
 pub const MOST_MACHINES: usize = 200;
 
 /// The longest time of a job on a machine.
-pub const LONGEST_TIME: u32 = 1_000_000;
+pub const LONGEST_TIME: u32 = 1_000_000_000;
 
 /// The greatest seed and the greatest published bound in a size line of Taillard's layout.
 pub const GREATEST_NOTE: u32 = 4_294_967_295;

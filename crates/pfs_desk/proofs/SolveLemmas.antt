@@ -1,20 +1,21 @@
 -- What a search finds, counts and prints.
-use Rattle.std.proofs.Common.{◌≡◌, ℕ, zero, suc, ◌+◌, ◌-◌, ◌*◌, ◌<◌, ◌≤◌, ◌^◌, Bool, true, false, List, [], ◌∷◌, ◌++◌, Option, Some, length, map, get_or, cond, codes, refl, sym, subst, ap, ◌∙◌, arith, lit<, lit≤}
+use Rattle.std.proofs.Common.{◌≡◌, ℕ, zero, suc, ◌+◌, ◌-◌, ◌*◌, ◌<◌, ◌≤◌, ◌^◌, Bool, true, false, List, [], ◌∷◌, ◌++◌, Option}
+use Rattle.std.proofs.Common.{Some, length, map, get_or, cond, codes, refl, sym, subst, ap, ◌∙◌, arith, lit<, lit≤}
 use Rattle.std.proofs.lemmas.List.{append-nil}
-use Rattle.std.proofs.Math.Nat.{mul-le-mul, mul-le-mul_left, mul-le-mul_right}
+use Rattle.std.proofs.Math.Nat.{mul-le-mul, mul-le-mul_left}
 use Rattle.rand_core.specs.Pcg32Seed.{pcg32_seed}
 use Rattle.rand_core.specs.Steps.{stream_of, steps_u32, first_words}
 use Rattle.rand_core.specs.Stream.{Stream}
 use Rattle.rand_core.proofs.StepsLemmas.{next_u32-stream_of}
 use Rattle.rand_pcg.specs.Lcg.{Lcg}
 use Rattle.rand_pcg.specs.Pcg.{pcg32, pcg32_of_seed}
-use Rattle.pfs_base.specs.declared.limits.TheConstants.{MOST_JOBS, MOST_MACHINES, LONGEST_TIME, LONGEST_ORDER_FILE}
+use Rattle.pfs_base.specs.declared.limits.TheConstants.{MOST_JOBS, MOST_MACHINES, LONGEST_ORDER_FILE}
 use Rattle.pfs_base.specs.Limits.{limits}
 use Rattle.pfs_base.specs.FlowShop.{FlowShop, IsWithin}
-use Rattle.pfs_base.specs.Paths.{makespan, operation}
+use Rattle.pfs_base.specs.Paths.{makespan}
 use Rattle.pfs_base.specs.Sends.{SendsFront}
 use Rattle.pfs_base.specs.Text.{named_number}
-use Rattle.pfs_base.proofs.Published.Heads.{head_le, makespan_is, time_of-le}
+use Rattle.pfs_base.proofs.Published.Heads.{none_longer}
 use Rattle.pfs_base.proofs.Published.SendsLemmas.{front_of}
 use Rattle.pfs_order.specs.OrderText.{file_text}
 use Rattle.pfs_order.specs.Sequence.{IsSequence, IsSize}
@@ -26,6 +27,7 @@ use Rattle.pfs_search.specs.Neh.{neh_order}
 use Rattle.pfs_search.proofs.Published.CostSums.{costs_law}
 use Rattle.pfs_search.specs.declared.passes.TheConstants.{MOST_PASSES}
 use Rattle.pfs_desk.specs.declared.solve_options.TheConstants.{MOST_ROUNDS}
+use Rattle.pfs_desk.specs.MostCells.{most_neh_cells, most_rounds_cells, FewNehCells, FewRoundsCells}
 use Rattle.pfs_desk.specs.Solve.{words_for, neh_cells, rounds_cells, solution_text, IsFound}
 
 -- ---- words
@@ -72,8 +74,8 @@ rounds_cells_few shop rounds many passes few =
 through : (a b c : ℕ) → a ≤ b → b ≤ c → a ≤ c
 through a b c h k = omega arith
 
-below_room : (cells bound most : ℕ) → cells ≤ bound → bound ≤ most → most < 2 ^ 62 → cells < 2 ^ 62
-below_room cells bound most h k room = omega arith
+below_room : (cells most : ℕ) → cells ≤ most → most < 2 ^ 62 → cells < 2 ^ 62
+below_room cells most h room = omega arith
 
 width_within : (jobs most : ℕ) → jobs ≤ most → 4 * jobs - 2 ≤ 4 * most - 2
 width_within jobs most h = omega arith
@@ -81,39 +83,34 @@ width_within jobs most h = omega arith
 sum_within : (a b most_a most_b : ℕ) → a ≤ most_a → b ≤ most_b → a + b ≤ most_a + most_b
 sum_within a b most_a most_b h k = omega arith
 
-cells_within : (jobs machines most_jobs most_machines : ℕ) → jobs ≤ most_jobs → machines ≤ most_machines
-    → jobs + (machines - 1) ≤ most_jobs + most_machines
-cells_within jobs machines most_jobs most_machines h k = omega arith
+-- at most so many cells are counted
+pub few_neh_cells : FewNehCells
+few_neh_cells shop within =
+    mul-le-mul (mul-le-mul_left 2 within.sizes.few_machines) (mul-le-mul within.sizes.few_jobs within.sizes.few_jobs)
+
+pub few_rounds_cells : FewRoundsCells
+few_rounds_cells shop rounds many passes within few short scarce =
+    let taken = through many shop.jobs MOST_JOBS few within.sizes.few_jobs in
+    let moved = sum_within many (passes * shop.jobs) MOST_JOBS (MOST_PASSES * MOST_JOBS) taken (mul-le-mul scarce within.sizes.few_jobs) in
+    let width = width_within shop.jobs MOST_JOBS within.sizes.few_jobs in
+    through _ _ most_rounds_cells (rounds_cells_few shop rounds many passes few)
+    (mul-le-mul (mul-le-mul (mul-le-mul short moved) within.sizes.few_machines) width)
 
 -- so many cells can be counted
 pub neh_room : (shop : FlowShop) → IsWithin limits shop → neh_cost heads_tails_cost shop.jobs shop.machines < 2 ^ 62
 neh_room shop within =
-    let many = mul-le-mul (mul-le-mul_left 2 within.sizes.few_machines) (mul-le-mul within.sizes.few_jobs within.sizes.few_jobs) in
-    let most = 2 * MOST_MACHINES * (MOST_JOBS * MOST_JOBS) in
-    below_room _ _ most (subst (λ cells. cells ≤ most) (sym (neh_cells_are shop)) many) (lit≤ tt) (lit< tt)
+    below_room _ most_neh_cells (subst (λ cells. cells ≤ most_neh_cells) (sym (neh_cells_are shop)) (few_neh_cells shop within)) (lit< tt)
 
--- the rounds count at most 323,119,200,000,000,000
 pub rounds_room : (shop : FlowShop) (rounds many passes : ℕ) → IsWithin limits shop → many ≤ shop.jobs → rounds ≤ MOST_ROUNDS → passes ≤ MOST_PASSES →
     rounds * round_cost heads_tails_cost shop.jobs shop.machines many passes < 2 ^ 62
 rounds_room shop rounds many passes within few short scarce =
-    let taken = through many shop.jobs MOST_JOBS few within.sizes.few_jobs in
-    let moved = sum_within many (passes * shop.jobs) MOST_JOBS (MOST_PASSES * MOST_JOBS) taken (mul-le-mul scarce within.sizes.few_jobs) in
-    let width = width_within shop.jobs MOST_JOBS within.sizes.few_jobs in
-    below_room _ _ 323119200000000000 (closed.rounds rounds shop.jobs shop.machines many passes few)
-    (mul-le-mul (mul-le-mul (mul-le-mul short moved) within.sizes.few_machines) width) (lit< tt)
+    below_room _ most_rounds_cells (subst (λ cells. cells ≤ most_rounds_cells) (sym (rounds_cells_are shop rounds many passes few))
+    (few_rounds_cells shop rounds many passes within few short scarce)) (lit< tt)
 
 -- ---- makespans
 
--- a path has at most as many cells as there are jobs and machines
 pub makespan_short : (shop : FlowShop) (order : List ℕ) → IsWithin limits shop → length order ≡ shop.jobs → makespan shop order < 10 ^ 18
-makespan_short shop order within e =
-    let weigh = operation shop order in
-    let times : (row machine : ℕ) → operation shop order row machine ≤ LONGEST_TIME = λ row machine. time_of-le shop within (get_or order row 0) machine in
-    let below = head_le weigh LONGEST_TIME times (length order) (shop.machines - 1) in
-    let cells = cells_within (length order) shop.machines MOST_JOBS MOST_MACHINES (subst (λ n. n ≤ MOST_JOBS) (sym e) within.sizes.few_jobs) within.sizes.few_machines in
-    let all = mul-le-mul_right LONGEST_TIME cells in
-    let is = makespan_is shop order in
-    omega arith
+makespan_short shop order within e = omega (arith, none_longer shop order within (omega (arith, e)))
 
 -- ---- what is found
 

@@ -3,6 +3,7 @@ pub mod Engine
 pub mod FaultText
 pub mod Headline
 pub mod Jobs
+pub mod MostCells
 pub mod OutputText
 pub mod Parses
 pub mod Printable

@@ -21,5 +21,5 @@ pub fn lines_refused()
     ensures unknown_layout { AsksForNothing (codes "value") (codes "--layout" ∷ codes "x" ∷ codes "f" ∷ []) }
     ensures block_1001 { AsksForNothing (codes "value") (codes "--layout" ∷ codes "orlib" ∷ codes "--block" ∷ codes "1001" ∷ codes "f" ∷ []) }
     ensures help { AsksForNothing (codes "value") (codes "--help" ∷ []) }
-    ensures jobs_2001 { AsksForNothing (codes "generate") (codes "2001" ∷ codes "1" ∷ codes "1" ∷ []) }
+    ensures jobs_5001 { AsksForNothing (codes "generate") (codes "5001" ∷ codes "1" ∷ codes "1" ∷ []) }
 {}

@@ -5,6 +5,7 @@ pub mod engines;
 pub mod examples;
 pub mod fault;
 pub mod job;
+pub mod laws;
 pub mod planning;
 pub mod solve_options;
 #[cfg(test)]

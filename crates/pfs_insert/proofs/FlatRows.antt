@@ -57,6 +57,13 @@ module _ {X : Type 0} (number : X → ℕ) (start machines : ℕ) (values : ℕ 
   pub part_told : (rows : List X) (k : ℕ) → machines ≤ k → AreNumbersFrom number rows start machines values → AreNumbers number (take k (drop start rows)) machines values
   part_told rows k few told machine d lt = ap number (get_of_part start k machine rows d (omega arith)) ∙ told machine d lt
 
+  -- a row of a part of a table
+  pub row_of_part : (rows : List X) (k at : ℕ) → at + machines ≤ k → AreNumbersFrom number rows (start + at) machines values
+      → AreNumbersFrom number (take k (drop start rows)) at machines values
+  row_of_part rows k at fits told machine d lt =
+      let same : start + (at + machine) ≡ start + at + machine = omega arith in
+      ap number (get_of_part start k (at + machine) rows d (omega arith) ∙ ap (λ i. get_or rows i d) same) ∙ told machine d lt
+
   -- a row of a table of parts: it lies in the front, it begins what is behind the front, or it replaced a part
   pub left_told : (front back : List X) → start + machines ≤ length front → AreNumbersFrom number front start machines values → AreNumbersFrom number (front ++ back) start machines values
   left_told front back fits told machine d lt = ap number (get_or_append_left front back d (start + machine) (omega arith)) ∙ told machine d lt

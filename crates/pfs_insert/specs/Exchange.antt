@@ -12,11 +12,15 @@ heaviest_front shop jobs row machine = heaviest (operation shop jobs) 0 0 row ma
 -- the heaviest back path, which begins at a machine of a row, and 0 behind the last row
 abbrev pub heaviest_back : FlowShop → List ℕ → ℕ → ℕ → ℕ
 heaviest_back shop jobs row machine =
-    if nat_lt row (length jobs) then heaviest (operation shop jobs) row machine (length jobs - 1) (shop.machines - 1) else 0
+    if nat_lt row (length jobs)
+    then heaviest (operation shop jobs) row machine (length jobs - 1) (shop.machines - 1)
+    else 0
 
 -- a path leaves the inserted row at one machine
 abbrev pub ExchangeLaw : Type 0
 ExchangeLaw =
     (shop : FlowShop) (jobs : List ℕ) (job place : ℕ) → 1 ≤ shop.machines → place ≤ length jobs →
     makespan_with shop jobs job place
-    ≡ greatest (map (λ machine. heaviest_front shop (insert jobs place job) place machine + heaviest_back shop jobs place machine) (range_with_len 0 shop.machines))
+    ≡ greatest (map
+    (λ machine. heaviest_front shop (insert jobs place job) place machine + heaviest_back shop jobs place machine)
+    (range_with_len 0 shop.machines))

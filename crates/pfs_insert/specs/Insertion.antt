@@ -7,7 +7,8 @@ use Rattle.pfs_base.specs.Paths.{makespan}
 -- the first of the numbers below `count` whose value is at most that of each
 abbrev pub first_least : (ℕ → ℕ) → ℕ → ℕ
 first_least value count =
-    position_or_len (λ place. list_all (λ other. nat_le (value place) (value other)) (range_with_len 0 count)) (range_with_len 0 count)
+    let places = range_with_len 0 count in
+    position_or_len (λ place. list_all (λ other. nat_le (value place) (value other)) places) places
 
 -- the makespan with a job put at a place of the sequence
 abbrev pub makespan_with : FlowShop → List ℕ → ℕ → ℕ → ℕ
@@ -33,7 +34,8 @@ pub record IsBest {X : Type 0} (number : X → ℕ) (value : ℕ → ℕ) (count
   pub value_is : number span ≡ value place
 
 abbrev pub BestPlaceLaw : Type 0
-BestPlaceLaw = (shop : FlowShop) (jobs : List ℕ) (job : ℕ) → IsFirstLeast (makespan_with shop jobs job) (length jobs + 1) (best_place shop jobs job)
+BestPlaceLaw = (shop : FlowShop) (jobs : List ℕ) (job : ℕ)
+    → IsFirstLeast (makespan_with shop jobs job) (length jobs + 1) (best_place shop jobs job)
 
 -- the cells of one insertion that makes so many jobs, where each place is evaluated afresh
 abbrev pub afresh_cost : ℕ → ℕ → ℕ

@@ -1,4 +1,5 @@
 pub mod Examples
 pub mod Exchange
+pub mod Inserter
 pub mod Insertion
 pub mod Rows

@@ -23,8 +23,10 @@ pub struct Afresh<B> {
 impl<B: Bench> Afresh<B> {
     /// An inserter for shops of the bench's sizes. It asks for the memory of a sequence of all jobs.
     pub fn new(alloc: Global, bench: &B) -> Result<Afresh<B>, InsertFault>
-        ensures jobs { IfOk result (λ made. ⟦<Afresh<B> as Inserter<B>>⟧.jobs made ≡ (B.shop bench.now).jobs) }
-        ensures machines { IfOk result (λ made. ⟦<Afresh<B> as Inserter<B>>⟧.machines made ≡ (B.shop bench.now).machines) }
+        ensures jobs { IfOk result (λ made.
+            (⟦<Afresh<B> as Inserter<B>>⟧.sizes made).jobs ≡ (B.shop bench.now).jobs) }
+        ensures machines { IfOk result (λ made.
+            (⟦<Afresh<B> as Inserter<B>>⟧.sizes made).machines ≡ (B.shop bench.now).machines) }
     {
         match Seq::new(alloc, bench.jobs()) {
             Ok(seq) => Ok(Afresh {
@@ -38,9 +40,7 @@ impl<B: Bench> Afresh<B> {
 }
 
 impl<B: Bench> Inserter<B> for Afresh<B> {
-    ghost jobs = { λ a. a.seq.size };
-
-    ghost machines = { λ a. a.machines };
+    ghost sizes = { λ a. record { jobs = a.seq.size; machines = a.machines } };
 
     ghost cost = { afresh_cost };
 

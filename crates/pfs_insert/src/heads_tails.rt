@@ -1,7 +1,8 @@
 //! The fast way to find the best place: heads and tails (Taillard, 1990).
-ghost use Rattle.std.specs.Prelude.{◌≡◌, ℕ, ◌+◌, ◌-◌, ◌*◌, ◌<◌, ◌≤◌, ◌^◌, length, false, vec_len, Contains, IfOk};
-ghost use Rattle.pfs_insert.specs.Insertion.{best_place, heads_tails_cost, makespan_with};
-ghost use Rattle.pfs_insert.specs.Rows.{AreNumbers, AreNumbersFrom};
+ghost use Rattle.std.specs.Prelude.{◌≡◌, ◌+◌, ◌<◌, ◌^◌, length, false, Contains, IfOk};
+ghost use Rattle.pfs_insert.specs.Insertion.{heads_tails_cost};
+ghost use Rattle.pfs_insert.specs.Inserter.{IsBestPlace, sizes_of};
+ghost use Rattle.pfs_insert.specs.Rows.{IsTable};
 
 use crate::fault::InsertFault;
 use crate::inserter::{Inserter, Placed};
@@ -21,11 +22,11 @@ pub struct HeadsTails<B: Bench> {
     bench: PhantomData<B>,
 }
 
-/// A table of 2n + 1 rows of m lengths, for n jobs on m machines: a row of zeros, n - 1 rows of heads,
-/// n - 1 rows of tails, a row of zeros, and the inserted row. The heads of a sequence begin behind the
-/// first row, and its tails end before the second row of zeros. Where a loop computes the heads of two jobs,
-/// the first one's aren't stored: in their row stands the inserted row before the second job. The rows that a
-/// loop borrows are disjoint parts of the table, and none is copied.
+// A table of 2n + 1 rows of m lengths, for n jobs on m machines: a row of zeros, n - 1 rows of heads,
+// n - 1 rows of tails, a row of zeros, and the inserted row. The heads of a sequence begin behind the
+// first row, and its tails end before the second row of zeros. Where a loop computes the heads of two jobs,
+// the first one's aren't stored: in their row stands the inserted row before the second job. The rows that a
+// loop borrows are disjoint parts of the table, and none is copied.
 #[derive(Drop)]
 struct Table<S: Length> {
     jobs: usize,
@@ -34,25 +35,23 @@ struct Table<S: Length> {
 }
 
 impl<S: Length> Model for Table<S> {
-    ghost use Rattle.std.specs.Prelude.{◌≡◌, ◌+◌, ◌-◌, ◌*◌, vec_len};
-    ghost use Rattle.pfs_insert.specs.Rows.{Sizes, AreNumbers, AreNumbersFrom};
+    ghost use Rattle.pfs_insert.specs.Inserter.{Sizes};
+    ghost use Rattle.pfs_insert.specs.Rows.{IsTable};
 
     ghost Value = { Sizes };
 
     ghost view = { λ a. record { jobs = a.jobs; machines = a.machines } };
 
-    ghost invariant = { λ a. record {
-      size : vec_len a.lengths ≡ (2 * a.jobs + 1) * a.machines;
-      no_head : AreNumbers S.number a.lengths.items a.machines (λ machine. 0);
-      no_tail : AreNumbersFrom S.number a.lengths.items ((2 * a.jobs - 1) * a.machines) a.machines (λ machine. 0);
-    } };
+    ghost invariant = { λ a. IsTable S.number (record { jobs = a.jobs; machines = a.machines }) a.lengths.items };
 }
 
 impl<B: Bench> HeadsTails<B> {
     /// An inserter for shops of the bench's sizes. It asks for the memory of its table.
     pub fn new(alloc: Global, bench: &B) -> Result<HeadsTails<B>, InsertFault>
-        ensures jobs { IfOk result (λ made. ⟦<HeadsTails<B> as Inserter<B>>⟧.jobs made ≡ (B.shop bench.now).jobs) }
-        ensures machines { IfOk result (λ made. ⟦<HeadsTails<B> as Inserter<B>>⟧.machines made ≡ (B.shop bench.now).machines) }
+        ensures jobs { IfOk result (λ made.
+            (⟦<HeadsTails<B> as Inserter<B>>⟧.sizes made).jobs ≡ (B.shop bench.now).jobs) }
+        ensures machines { IfOk result (λ made.
+            (⟦<HeadsTails<B> as Inserter<B>>⟧.sizes made).machines ≡ (B.shop bench.now).machines) }
     {
         let jobs = bench.jobs();
         let machines = bench.machines();
@@ -77,9 +76,7 @@ impl<B: Bench> HeadsTails<B> {
 }
 
 impl<B: Bench> Inserter<B> for HeadsTails<B> {
-    ghost jobs = { λ a. a.table.jobs };
-
-    ghost machines = { λ a. a.table.machines };
+    ghost sizes = { λ a. a.table };
 
     ghost cost = { heads_tails_cost };
 
@@ -108,21 +105,19 @@ fn best_in_table<B: Bench>(
     requires job { job < (B.shop bench.old).jobs }
     requires absent { Contains seq.now.jobs job → ⊥ }
     requires size { seq.now.size ≡ (B.shop bench.old).jobs }
-    requires table { length table.old ≡ (2 * (B.shop bench.old).jobs + 1) * (B.shop bench.old).machines }
-    requires no_head { AreNumbers B.Span.number table.old (B.shop bench.old).machines (λ machine. 0) }
-    requires no_tail { AreNumbersFrom B.Span.number table.old ((2 * (B.shop bench.old).jobs - 1) * (B.shop bench.old).machines) (B.shop bench.old).machines (λ machine. 0) }
-    requires room { B.counted bench.old + heads_tails_cost (length seq.now.jobs + 1) (B.shop bench.old).machines < 2 ^ 64 }
-    ensures place { result.place ≡ best_place (B.shop bench.old) seq.now.jobs job }
-    ensures within { result.place ≤ length seq.now.jobs }
-    ensures span { B.Span.number result.span ≡ makespan_with (B.shop bench.old) seq.now.jobs job result.place }
-    ensures no_head { AreNumbers B.Span.number table.new (B.shop bench.old).machines (λ machine. 0) }
-    ensures no_tail { AreNumbersFrom B.Span.number table.new ((2 * (B.shop bench.old).jobs - 1) * (B.shop bench.old).machines) (B.shop bench.old).machines (λ machine. 0) }
-    ensures counted { B.counted bench.new ≡ B.counted bench.old + heads_tails_cost (length seq.now.jobs + 1) (B.shop bench.old).machines }
+    requires table { IsTable B.Span.number (sizes_of (B.shop bench.old)) table.old }
+    requires room { B.counted bench.old
+        + heads_tails_cost (length seq.now.jobs + 1) (B.shop bench.old).machines < 2 ^ 64 }
+    ensures best { IsBestPlace (B.shop bench.old) seq.now.jobs job result.place (B.Span.number result.span) }
+    ensures table { IsTable B.Span.number (sizes_of (B.shop bench.old)) table.new }
+    ensures counted { B.counted bench.new
+        ≡ B.counted bench.old + heads_tails_cost (length seq.now.jobs + 1) (B.shop bench.old).machines }
     ensures shop { B.shop bench.new ≡ B.shop bench.old }
 {
     let machines = bench.machines();
     let (heads, rest) = table.split_at_mut(seq.size() * machines);
     let (tails, put) = rest.split_at_mut(seq.size() * machines);
     fill_tails(bench, seq, tails);
-    best_by_rows(bench, seq, job, heads, tails, put)
+    let first = seq.size() - 1 - seq.len();
+    best_by_rows(bench, seq, job, heads, &tails[first * machines..], put)
 }

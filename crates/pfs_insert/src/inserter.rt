@@ -1,7 +1,7 @@
 //! What every inserter promises.
-ghost use Rattle.std.specs.Prelude.{◌≡◌, ℕ, ◌+◌, ◌<◌, ◌≤◌, ◌^◌, length, Bool, false, Contains, IsOk, IfOk, OnOk, OnErr, insert};
-ghost use Rattle.pfs_base.specs.Paths.{makespan};
-ghost use Rattle.pfs_insert.specs.Insertion.{best_place, IsBest};
+ghost use Rattle.std.specs.Prelude.{◌≡◌, ℕ, ◌+◌, ◌<◌, ◌^◌, length, Bool, false, Contains, IsOk, IfOk};
+ghost use Rattle.pfs_insert.specs.Insertion.{IsBest};
+ghost use Rattle.pfs_insert.specs.Inserter.{Counts, Fits, IsBestPlace, Sizes};
 
 use crate::fault::InsertFault;
 use pfs_base::{Bench, Length};
@@ -18,11 +18,8 @@ pub struct Placed<S> {
 
 /// Finds the best place for a job, on a bench whose shop has the sizes that the inserter was made for.
 pub trait Inserter<B: Bench> {
-    /// How many jobs the shops have that it was made for.
-    ghost jobs: { Self → ℕ };
-
-    /// How many machines they have.
-    ghost machines: { Self → ℕ };
+    /// How many jobs and machines the shops have that it was made for.
+    ghost sizes: { Self → Sizes };
 
     /// The cells that one insertion counts, by the number of jobs with the inserted one, and by the
     /// number of machines.
@@ -40,29 +37,25 @@ pub trait Inserter<B: Bench> {
         seq: &Seq,
         job: usize,
     ) -> Result<Placed<B::Span>, InsertFault>
+        requires fits { Fits (B.shop bench.old) (sizes self.old) seq.now.size }
         requires job { job < seq.now.size }
         requires absent { Contains seq.now.jobs job → ⊥ }
-        requires seq_jobs { seq.now.size ≡ (B.shop bench.old).jobs }
-        requires own_jobs { jobs self.old ≡ (B.shop bench.old).jobs }
-        requires own_machines { machines self.old ≡ (B.shop bench.old).machines }
         requires room { B.counted bench.old + cost (length seq.now.jobs + 1) (B.shop bench.old).machines < 2 ^ 64 }
-        ensures place { IfOk result (λ best. best.place ≡ best_place (B.shop bench.old) seq.now.jobs job) }
-        ensures within { IfOk result (λ best. best.place ≤ length seq.now.jobs) }
-        ensures span { IfOk result (λ best. B.Span.number best.span ≡ makespan (B.shop bench.old) (insert seq.now.jobs best.place job)) }
-        ensures counted { OnOk result (B.counted bench.new ≡ B.counted bench.old + cost (length seq.now.jobs + 1) (B.shop bench.old).machines) }
-        ensures fault_low { OnErr result (B.counted bench.old ≤ B.counted bench.new) }
-        ensures fault_high { OnErr result (B.counted bench.new ≤ B.counted bench.old + cost (length seq.now.jobs + 1) (B.shop bench.old).machines) }
+        ensures best { IfOk result (λ best.
+            IsBestPlace (B.shop bench.old) seq.now.jobs job best.place (B.Span.number best.span)) }
+        ensures cells { Counts result (B.counted bench.old) (B.counted bench.new)
+            (cost (length seq.now.jobs + 1) (B.shop bench.old).machines) }
         ensures succeeds { can_refuse ≡ false → IsOk result }
         ensures shop { B.shop bench.new ≡ B.shop bench.old }
-        ensures same_jobs { jobs self.new ≡ jobs self.old }
-        ensures same_machines { machines self.new ≡ machines self.old };
+        ensures still_fits { Fits (B.shop bench.new) (sizes self.new) seq.now.size };
 }
 
 // The better of the best place so far, of those before a place, and the place itself: of places that are
 // as good as one another the first.
 #[inline(always)]
 pub(crate) fn better<S: Length>(best: Placed<S>, place: usize, span: S) -> Placed<S>
-    ensures { (value : ℕ → ℕ) → (0 < place → IsBest S.number value place best.place best.span) → S.number span ≡ value place → IsBest S.number value (place + 1) result.place result.span }
+    ensures { (value : ℕ → ℕ) → (0 < place → IsBest S.number value place best.place best.span)
+        → S.number span ≡ value place → IsBest S.number value (place + 1) result.place result.span }
 {
     if place == 0 || span < best.span {
         Placed { place, span }

@@ -1,11 +1,11 @@
 //! The best place for a job in a sequence: what an inserter promises, and the inserters that keep it.
 #![tactic(auto)]
 
-pub mod afresh;
-pub mod examples;
-pub mod fault;
-pub mod heads_tails;
-pub mod inserter;
+mod afresh;
+mod examples;
+mod fault;
+mod heads_tails;
+mod inserter;
 pub mod laws;
 mod places;
 mod rows;

@@ -1,36 +1,36 @@
 //! The places of a sequence, tried by rows of heads and tails.
 ghost use Rattle.std.specs.Prelude.{◌≡◌, ℕ, ◌+◌, ◌-◌, ◌*◌, ◌<◌, ◌≤◌, ◌^◌, length};
-ghost use Rattle.pfs_insert.specs.Insertion.{best_place, makespan_with, IsBest};
-ghost use Rattle.pfs_insert.specs.Rows.{HasHead, HasTails, IsPut};
+ghost use Rattle.pfs_insert.specs.Insertion.{IsBest, makespan_with};
+ghost use Rattle.pfs_insert.specs.Rows.{AreParts, HasBacks, HasHead, IsPartial, IsPut, KeepsHeads};
 
 use crate::inserter::{Placed, better};
 use crate::rows::{fill_head, fill_two_places};
 use pfs_base::{Bench, Length};
 use pfs_order::Seq;
 
-/// The best place of a job in a sequence whose rows of tails are filled, and the makespan with the job
-/// there. The rows of heads are filled as the places go on; `put` takes the inserted row.
+// The best place of a job in a sequence, and the makespan with the job there. `backs` has the rows of tails,
+// from that of the first place on; the rows of heads are filled as the places go on; `put` takes the inserted
+// row.
 #[inline(always)]
 pub(crate) fn best_by_rows<B: Bench>(
     bench: &mut B,
     seq: &Seq,
     job: usize,
     heads: &mut [B::Span],
-    tails: &[B::Span],
+    backs: &[B::Span],
     put: &mut [B::Span],
 ) -> Placed<B::Span>
     requires job { job < (B.shop bench.old).jobs }
-    requires size { seq.now.size ≡ (B.shop bench.old).jobs }
-    requires few { length seq.now.jobs < (B.shop bench.old).jobs }
-    requires heads { length heads.old ≡ (B.shop bench.old).jobs * (B.shop bench.old).machines }
-    requires tails { length tails.now ≡ (B.shop bench.old).jobs * (B.shop bench.old).machines }
-    requires put { length put.old ≡ (B.shop bench.old).machines }
+    requires partial { IsPartial (B.shop bench.old) seq.now }
+    requires parts { AreParts (B.shop bench.old) seq.now.jobs heads.old backs.now put.old }
     requires no_head { HasHead B.Span.number (B.shop bench.old) seq.now.jobs heads.old 0 }
-    requires backs { HasTails B.Span.number (B.shop bench.old) seq.now.jobs tails.now 0 }
+    requires backs { HasBacks B.Span.number (B.shop bench.old) seq.now.jobs backs.now }
     requires room { B.counted bench.old + (3 * length seq.now.jobs + 2) * (B.shop bench.old).machines < 2 ^ 64 }
-    ensures best { IsBest B.Span.number (makespan_with (B.shop bench.old) seq.now.jobs job) (length seq.now.jobs + 1) result.place result.span }
+    ensures best { IsBest B.Span.number (makespan_with (B.shop bench.old) seq.now.jobs job)
+        (length seq.now.jobs + 1) result.place result.span }
     ensures no_head { HasHead B.Span.number (B.shop bench.old) seq.now.jobs heads.new 0 }
-    ensures counted { B.counted bench.new ≡ B.counted bench.old + (3 * length seq.now.jobs + 2) * (B.shop bench.old).machines }
+    ensures counted { B.counted bench.new
+        ≡ B.counted bench.old + (3 * length seq.now.jobs + 2) * (B.shop bench.old).machines }
     ensures shop { B.shop bench.new ≡ B.shop bench.old }
 {
     let len = seq.len();
@@ -39,13 +39,13 @@ pub(crate) fn best_by_rows<B: Bench>(
         span: bench.zero(),
     };
     for pair in 0..len / 2 {
-        best = try_two_places(bench, seq, job, 2 * pair, heads, tails, put, best);
+        best = try_two_places(bench, seq, job, 2 * pair, heads, backs, put, best);
     }
     for place in len / 2 * 2..len {
         add_head(bench, seq, place, heads);
     }
     for place in len / 2 * 2..len + 1 {
-        best = try_place(bench, seq, job, place, heads, tails, put, best);
+        best = try_place(bench, seq, job, place, heads, backs, put, best);
     }
     best
 }
@@ -59,24 +59,23 @@ fn try_two_places<B: Bench>(
     job: usize,
     place: usize,
     heads: &mut [B::Span],
-    tails: &[B::Span],
+    backs: &[B::Span],
     put: &mut [B::Span],
     best: Placed<B::Span>,
 ) -> Placed<B::Span>
     requires job { job < (B.shop bench.old).jobs }
     requires place { place + 2 ≤ length seq.now.jobs }
-    requires size { seq.now.size ≡ (B.shop bench.old).jobs }
-    requires few { length seq.now.jobs < (B.shop bench.old).jobs }
-    requires heads { length heads.old ≡ (B.shop bench.old).jobs * (B.shop bench.old).machines }
-    requires tails { length tails.now ≡ (B.shop bench.old).jobs * (B.shop bench.old).machines }
-    requires put { length put.old ≡ (B.shop bench.old).machines }
+    requires partial { IsPartial (B.shop bench.old) seq.now }
+    requires parts { AreParts (B.shop bench.old) seq.now.jobs heads.old backs.now put.old }
     requires head { HasHead B.Span.number (B.shop bench.old) seq.now.jobs heads.old place }
-    requires backs { HasTails B.Span.number (B.shop bench.old) seq.now.jobs tails.now 0 }
-    requires best { 0 < place → IsBest B.Span.number (makespan_with (B.shop bench.old) seq.now.jobs job) place best.place best.span }
+    requires backs { HasBacks B.Span.number (B.shop bench.old) seq.now.jobs backs.now }
+    requires best { 0 < place
+        → IsBest B.Span.number (makespan_with (B.shop bench.old) seq.now.jobs job) place best.place best.span }
     requires room { B.counted bench.old + 6 * (B.shop bench.old).machines < 2 ^ 64 }
-    ensures best { IsBest B.Span.number (makespan_with (B.shop bench.old) seq.now.jobs job) (place + 2) result.place result.span }
+    ensures best { IsBest B.Span.number (makespan_with (B.shop bench.old) seq.now.jobs job)
+        (place + 2) result.place result.span }
     ensures head { HasHead B.Span.number (B.shop bench.old) seq.now.jobs heads.new (place + 2) }
-    ensures kept { (row : ℕ) → row ≤ place → HasHead B.Span.number (B.shop bench.old) seq.now.jobs heads.old row → HasHead B.Span.number (B.shop bench.old) seq.now.jobs heads.new row }
+    ensures kept { KeepsHeads B.Span.number (B.shop bench.old) seq.now.jobs heads.old heads.new place }
     ensures counted { B.counted bench.new ≡ B.counted bench.old + 6 * (B.shop bench.old).machines }
     ensures shop { B.shop bench.new ≡ B.shop bench.old }
 {
@@ -93,9 +92,9 @@ fn try_two_places<B: Bench>(
         next,
         &mut behind[..machines],
     );
-    let span = makespan_by_rows(bench, seq, job, place, put, tails);
+    let span = makespan_by_rows(bench, seq, job, place, put, backs);
     let best = better(best, place, span);
-    let span = makespan_by_rows(bench, seq, job, place + 1, next, tails);
+    let span = makespan_by_rows(bench, seq, job, place + 1, next, backs);
     better(best, place + 1, span)
 }
 
@@ -103,13 +102,12 @@ fn try_two_places<B: Bench>(
 #[inline(always)]
 fn add_head<B: Bench>(bench: &mut B, seq: &Seq, place: usize, heads: &mut [B::Span])
     requires place { place < length seq.now.jobs }
-    requires size { seq.now.size ≡ (B.shop bench.old).jobs }
-    requires few { length seq.now.jobs < (B.shop bench.old).jobs }
+    requires partial { IsPartial (B.shop bench.old) seq.now }
     requires heads { length heads.old ≡ (B.shop bench.old).jobs * (B.shop bench.old).machines }
     requires head { HasHead B.Span.number (B.shop bench.old) seq.now.jobs heads.old place }
     requires room { B.counted bench.old + (B.shop bench.old).machines < 2 ^ 64 }
     ensures head { HasHead B.Span.number (B.shop bench.old) seq.now.jobs heads.new (place + 1) }
-    ensures kept { (row : ℕ) → row ≤ place → HasHead B.Span.number (B.shop bench.old) seq.now.jobs heads.old row → HasHead B.Span.number (B.shop bench.old) seq.now.jobs heads.new row }
+    ensures kept { KeepsHeads B.Span.number (B.shop bench.old) seq.now.jobs heads.old heads.new place }
     ensures counted { B.counted bench.new ≡ B.counted bench.old + (B.shop bench.old).machines }
     ensures shop { B.shop bench.new ≡ B.shop bench.old }
 {
@@ -131,22 +129,21 @@ fn try_place<B: Bench>(
     job: usize,
     place: usize,
     heads: &[B::Span],
-    tails: &[B::Span],
+    backs: &[B::Span],
     put: &mut [B::Span],
     best: Placed<B::Span>,
 ) -> Placed<B::Span>
     requires job { job < (B.shop bench.old).jobs }
     requires place { place ≤ length seq.now.jobs }
-    requires size { seq.now.size ≡ (B.shop bench.old).jobs }
-    requires few { length seq.now.jobs < (B.shop bench.old).jobs }
-    requires heads { length heads.now ≡ (B.shop bench.old).jobs * (B.shop bench.old).machines }
-    requires tails { length tails.now ≡ (B.shop bench.old).jobs * (B.shop bench.old).machines }
-    requires put { length put.old ≡ (B.shop bench.old).machines }
+    requires partial { IsPartial (B.shop bench.old) seq.now }
+    requires parts { AreParts (B.shop bench.old) seq.now.jobs heads.now backs.now put.old }
     requires head { HasHead B.Span.number (B.shop bench.old) seq.now.jobs heads.now place }
-    requires backs { HasTails B.Span.number (B.shop bench.old) seq.now.jobs tails.now 0 }
-    requires best { 0 < place → IsBest B.Span.number (makespan_with (B.shop bench.old) seq.now.jobs job) place best.place best.span }
+    requires backs { HasBacks B.Span.number (B.shop bench.old) seq.now.jobs backs.now }
+    requires best { 0 < place
+        → IsBest B.Span.number (makespan_with (B.shop bench.old) seq.now.jobs job) place best.place best.span }
     requires room { B.counted bench.old + 2 * (B.shop bench.old).machines < 2 ^ 64 }
-    ensures best { IsBest B.Span.number (makespan_with (B.shop bench.old) seq.now.jobs job) (place + 1) result.place result.span }
+    ensures best { IsBest B.Span.number (makespan_with (B.shop bench.old) seq.now.jobs job)
+        (place + 1) result.place result.span }
     ensures counted { B.counted bench.new ≡ B.counted bench.old + 2 * (B.shop bench.old).machines }
     ensures shop { B.shop bench.new ≡ B.shop bench.old }
 {
@@ -157,7 +154,7 @@ fn try_place<B: Bench>(
         &heads[place * machines..(place + 1) * machines],
         put,
     );
-    let span = makespan_by_rows(bench, seq, job, place, put, tails);
+    let span = makespan_by_rows(bench, seq, job, place, put, backs);
     better(best, place, span)
 }
 
@@ -169,22 +166,20 @@ fn makespan_by_rows<B: Bench>(
     job: usize,
     place: usize,
     put: &[B::Span],
-    tails: &[B::Span],
+    backs: &[B::Span],
 ) -> B::Span
     requires job { job < (B.shop bench.old).jobs }
     requires place { place ≤ length seq.now.jobs }
-    requires size { seq.now.size ≡ (B.shop bench.old).jobs }
-    requires few { length seq.now.jobs < (B.shop bench.old).jobs }
-    requires tails { length tails.now ≡ (B.shop bench.old).jobs * (B.shop bench.old).machines }
+    requires partial { IsPartial (B.shop bench.old) seq.now }
+    requires long { length backs.now ≡ (length seq.now.jobs + 1) * (B.shop bench.old).machines }
     requires width { length put.now ≡ (B.shop bench.old).machines }
     requires put { IsPut B.Span.number (B.shop bench.old) seq.now.jobs job place put.now }
-    requires backs { HasTails B.Span.number (B.shop bench.old) seq.now.jobs tails.now 0 }
+    requires backs { HasBacks B.Span.number (B.shop bench.old) seq.now.jobs backs.now }
     requires room { B.counted bench.old + (B.shop bench.old).machines < 2 ^ 64 }
     ensures value { B.Span.number result ≡ makespan_with (B.shop bench.old) seq.now.jobs job place }
     ensures counted { B.counted bench.new ≡ B.counted bench.old + (B.shop bench.old).machines }
     ensures shop { B.shop bench.new ≡ B.shop bench.old }
 {
     let machines = bench.machines();
-    let row = seq.size() - 1 - seq.len() + place;
-    bench.join_rows(put, &tails[row * machines..(row + 1) * machines])
+    bench.join_rows(put, &backs[place * machines..(place + 1) * machines])
 }

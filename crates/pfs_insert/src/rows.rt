@@ -1,10 +1,10 @@
 //! Rows of lengths, each computed from the row beside it.
-ghost use Rattle.std.specs.Prelude.{◌≡◌, ℕ, ◌+◌, ◌-◌, ◌*◌, ◌<◌, ◌^◌, length};
-ghost use Rattle.pfs_insert.specs.Rows.{head_row, tail_row, AreNumbers, AreBack, AreShort};
+ghost use Rattle.std.specs.Prelude.{◌≡◌, ◌+◌, ◌*◌, ◌<◌, ◌^◌, [], ◌∷◌, length};
+ghost use Rattle.pfs_insert.specs.Rows.{AreHeadsAfter, AreShort, AreTailsBefore};
 
 use pfs_base::{Bench, Length};
 
-/// Fills a job's row from the row of heads above it: its row of heads, or the row of a job that is inserted.
+// Fills a job's row from the row of heads above it: its row of heads, or the row of a job that is inserted.
 #[inline(always)]
 pub(crate) fn fill_head<B: Bench>(bench: &mut B, job: usize, above: &[B::Span], row: &mut [B::Span])
     requires job { job < (B.shop bench.old).jobs }
@@ -12,8 +12,7 @@ pub(crate) fn fill_head<B: Bench>(bench: &mut B, job: usize, above: &[B::Span], 
     requires row_width { length row.old ≡ (B.shop bench.old).machines }
     requires above_short { AreShort B.Span.number above.now (B.shop bench.old).machines }
     requires room { B.counted bench.old + (B.shop bench.old).machines < 2 ^ 64 }
-    ensures row { (heads : ℕ → ℕ) → AreNumbers B.Span.number above.now (B.shop bench.old).machines heads
-        → AreNumbers B.Span.number row.new (B.shop bench.old).machines (head_row (B.shop bench.old) job heads) }
+    ensures row { AreHeadsAfter B.Span.number (B.shop bench.old) above.now (job ∷ []) row.new }
     ensures counted { B.counted bench.new ≡ B.counted bench.old + (B.shop bench.old).machines }
     ensures shop { B.shop bench.new ≡ B.shop bench.old }
 {
@@ -24,7 +23,7 @@ pub(crate) fn fill_head<B: Bench>(bench: &mut B, job: usize, above: &[B::Span], 
     }
 }
 
-/// Fills a job's row of tails from the row below it, from the last machine on.
+// Fills a job's row of tails from the row below it, from the last machine on.
 #[inline(always)]
 pub(crate) fn fill_tail<B: Bench>(bench: &mut B, job: usize, below: &[B::Span], row: &mut [B::Span])
     requires job { job < (B.shop bench.old).jobs }
@@ -32,8 +31,7 @@ pub(crate) fn fill_tail<B: Bench>(bench: &mut B, job: usize, below: &[B::Span], 
     requires row_width { length row.old ≡ (B.shop bench.old).machines }
     requires below_short { AreShort B.Span.number below.now (B.shop bench.old).machines }
     requires room { B.counted bench.old + (B.shop bench.old).machines < 2 ^ 64 }
-    ensures row { (tails : ℕ → ℕ) → AreBack B.Span.number below.now ((B.shop bench.old).machines - 1) tails
-        → AreBack B.Span.number row.new ((B.shop bench.old).machines - 1) (tail_row (B.shop bench.old) job tails) }
+    ensures row { AreTailsBefore B.Span.number (B.shop bench.old) below.now (job ∷ []) row.new }
     ensures counted { B.counted bench.new ≡ B.counted bench.old + (B.shop bench.old).machines }
     ensures shop { B.shop bench.new ≡ B.shop bench.old }
 {
@@ -44,7 +42,7 @@ pub(crate) fn fill_tail<B: Bench>(bench: &mut B, job: usize, below: &[B::Span], 
     }
 }
 
-/// Fills the rows of tails of three jobs, each from the row below it, from the last machine on.
+// Fills the rows of tails of three jobs, each from the row below it, from the last machine on.
 #[inline(always)]
 pub(crate) fn fill_three_tails<B: Bench>(
     bench: &mut B,
@@ -65,12 +63,9 @@ pub(crate) fn fill_three_tails<B: Bench>(
     requires last_width { length last.old ≡ (B.shop bench.old).machines }
     requires below_short { AreShort B.Span.number below.now (B.shop bench.old).machines }
     requires room { B.counted bench.old + 3 * (B.shop bench.old).machines < 2 ^ 64 }
-    ensures row { (tails : ℕ → ℕ) → AreBack B.Span.number below.now ((B.shop bench.old).machines - 1) tails
-        → AreBack B.Span.number row.new ((B.shop bench.old).machines - 1) (tail_row (B.shop bench.old) first tails) }
-    ensures next { (tails : ℕ → ℕ) → AreBack B.Span.number below.now ((B.shop bench.old).machines - 1) tails
-        → AreBack B.Span.number next.new ((B.shop bench.old).machines - 1) (tail_row (B.shop bench.old) second (tail_row (B.shop bench.old) first tails)) }
-    ensures last { (tails : ℕ → ℕ) → AreBack B.Span.number below.now ((B.shop bench.old).machines - 1) tails
-        → AreBack B.Span.number last.new ((B.shop bench.old).machines - 1) (tail_row (B.shop bench.old) third (tail_row (B.shop bench.old) second (tail_row (B.shop bench.old) first tails))) }
+    ensures row { AreTailsBefore B.Span.number (B.shop bench.old) below.now (first ∷ []) row.new }
+    ensures next { AreTailsBefore B.Span.number (B.shop bench.old) below.now (first ∷ second ∷ []) next.new }
+    ensures last { AreTailsBefore B.Span.number (B.shop bench.old) below.now (first ∷ second ∷ third ∷ []) last.new }
     ensures counted { B.counted bench.new ≡ B.counted bench.old + 3 * (B.shop bench.old).machines }
     ensures shop { B.shop bench.new ≡ B.shop bench.old }
 {
@@ -87,8 +82,8 @@ pub(crate) fn fill_three_tails<B: Bench>(
     }
 }
 
-/// Fills the rows of a job that is inserted before the first of two jobs, and before the second, and the
-/// second one's row of heads. The first one's row of heads is used as it comes, and isn't stored.
+// Fills the rows of a job that is inserted before the first of two jobs, and before the second, and the
+// second one's row of heads. The first one's row of heads is used as it comes, and isn't stored.
 #[inline(always)]
 pub(crate) fn fill_two_places<B: Bench>(
     bench: &mut B,
@@ -109,12 +104,9 @@ pub(crate) fn fill_two_places<B: Bench>(
     requires head_width { length head.old ≡ (B.shop bench.old).machines }
     requires above_short { AreShort B.Span.number above.now (B.shop bench.old).machines }
     requires room { B.counted bench.old + 4 * (B.shop bench.old).machines < 2 ^ 64 }
-    ensures row { (heads : ℕ → ℕ) → AreNumbers B.Span.number above.now (B.shop bench.old).machines heads
-        → AreNumbers B.Span.number row.new (B.shop bench.old).machines (head_row (B.shop bench.old) job heads) }
-    ensures next { (heads : ℕ → ℕ) → AreNumbers B.Span.number above.now (B.shop bench.old).machines heads
-        → AreNumbers B.Span.number next.new (B.shop bench.old).machines (head_row (B.shop bench.old) job (head_row (B.shop bench.old) first heads)) }
-    ensures head { (heads : ℕ → ℕ) → AreNumbers B.Span.number above.now (B.shop bench.old).machines heads
-        → AreNumbers B.Span.number head.new (B.shop bench.old).machines (head_row (B.shop bench.old) second (head_row (B.shop bench.old) first heads)) }
+    ensures row { AreHeadsAfter B.Span.number (B.shop bench.old) above.now (job ∷ []) row.new }
+    ensures next { AreHeadsAfter B.Span.number (B.shop bench.old) above.now (first ∷ job ∷ []) next.new }
+    ensures head { AreHeadsAfter B.Span.number (B.shop bench.old) above.now (first ∷ second ∷ []) head.new }
     ensures counted { B.counted bench.new ≡ B.counted bench.old + 4 * (B.shop bench.old).machines }
     ensures shop { B.shop bench.new ≡ B.shop bench.old }
 {

@@ -1,19 +1,19 @@
 //! The rows of tails of a sequence, filled from its last job on.
 ghost use Rattle.std.specs.Prelude.{◌≡◌, ℕ, ◌+◌, ◌-◌, ◌*◌, ◌<◌, ◌≤◌, ◌^◌, length};
-ghost use Rattle.pfs_insert.specs.Rows.{AreNumbersFrom, HasTails};
+ghost use Rattle.pfs_insert.specs.Rows.{AreNumbersFrom, HasTails, IsPartial};
 
 use crate::rows::{fill_tail, fill_three_tails};
 use pfs_base::{Bench, Length};
 use pfs_order::Seq;
 
-/// Fills the rows of tails of a sequence. The rows are those of the tails of n - 1 jobs, and the row of
-/// zeros behind them; those of the sequence end before the row of zeros.
+// Fills the rows of tails of a sequence. The rows are those of the tails of n - 1 jobs, and the row of
+// zeros behind them; those of the sequence end before the row of zeros.
 #[inline(always)]
 pub(crate) fn fill_tails<B: Bench>(bench: &mut B, seq: &Seq, rows: &mut [B::Span])
-    requires size { seq.now.size ≡ (B.shop bench.old).jobs }
-    requires few { length seq.now.jobs < (B.shop bench.old).jobs }
+    requires partial { IsPartial (B.shop bench.old) seq.now }
     requires rows { length rows.old ≡ (B.shop bench.old).jobs * (B.shop bench.old).machines }
-    requires no_tail { AreNumbersFrom B.Span.number rows.old (((B.shop bench.old).jobs - 1) * (B.shop bench.old).machines) (B.shop bench.old).machines (λ machine. 0) }
+    requires no_tail { let shop = B.shop bench.old in
+        AreNumbersFrom B.Span.number rows.old ((shop.jobs - 1) * shop.machines) shop.machines (λ machine. 0) }
     requires room { B.counted bench.old + length seq.now.jobs * (B.shop bench.old).machines < 2 ^ 64 }
     ensures tails { HasTails B.Span.number (B.shop bench.old) seq.now.jobs rows.new 0 }
     ensures counted { B.counted bench.new ≡ B.counted bench.old + length seq.now.jobs * (B.shop bench.old).machines }
@@ -33,8 +33,7 @@ pub(crate) fn fill_tails<B: Bench>(bench: &mut B, seq: &Seq, rows: &mut [B::Span
 fn add_three_tails<B: Bench>(bench: &mut B, seq: &Seq, rows: &mut [B::Span], from: usize)
     requires some { 3 ≤ from }
     requires from { from ≤ length seq.now.jobs }
-    requires size { seq.now.size ≡ (B.shop bench.old).jobs }
-    requires few { length seq.now.jobs < (B.shop bench.old).jobs }
+    requires partial { IsPartial (B.shop bench.old) seq.now }
     requires rows { length rows.old ≡ (B.shop bench.old).jobs * (B.shop bench.old).machines }
     requires tails { HasTails B.Span.number (B.shop bench.old) seq.now.jobs rows.old from }
     requires room { B.counted bench.old + 3 * (B.shop bench.old).machines < 2 ^ 64 }
@@ -67,8 +66,7 @@ fn add_three_tails<B: Bench>(bench: &mut B, seq: &Seq, rows: &mut [B::Span], fro
 #[inline(always)]
 fn add_tail<B: Bench>(bench: &mut B, seq: &Seq, rows: &mut [B::Span], place: usize)
     requires place { place < length seq.now.jobs }
-    requires size { seq.now.size ≡ (B.shop bench.old).jobs }
-    requires few { length seq.now.jobs < (B.shop bench.old).jobs }
+    requires partial { IsPartial (B.shop bench.old) seq.now }
     requires rows { length rows.old ≡ (B.shop bench.old).jobs * (B.shop bench.old).machines }
     requires tails { HasTails B.Span.number (B.shop bench.old) seq.now.jobs rows.old (place + 1) }
     requires room { B.counted bench.old + (B.shop bench.old).machines < 2 ^ 64 }

@@ -1,5 +1,7 @@
 pub mod Published
 mod Computing
+mod Options
+mod Tables
 pub mod Files
 pub mod GeneratorLemmas
 pub mod Reading

@@ -28,9 +28,10 @@ due layout shop = flat_map (due_row layout shop) (below (row_count layout shop))
 unfoldable pub stated_size : Layout → List ℕ → Option Size
 stated_size Taillard (jobs ∷ machines ∷ seed ∷ upper ∷ lower ∷ []) =
     Some (record { jobs = jobs; machines = machines; notes = record { seed = seed; upper = upper; lower = lower } })
+stated_size Taillard others = None
 stated_size OrLib (jobs ∷ machines ∷ []) =
     Some (record { jobs = jobs; machines = machines; notes = record { seed = 0; upper = 0; lower = 0 } })
-stated_size layout others = None
+stated_size OrLib others = None
 
 -- how many numbers are due
 abbrev pub due_count : Layout → Size → ℕ

@@ -1,5 +1,5 @@
 -- The one text of an instance that is written, in each layout.
-use Rattle.std.specs.Prelude.{ℕ, List, [], ◌∷◌, ◌++◌, flat_map, codes}
+use Rattle.std.specs.Prelude.{ℕ, ◌≤◌, List, [], ◌∷◌, ◌++◌, length, flat_map, codes}
 use Rattle.pfs_base.specs.FlowShop.{FlowShop}
 use Rattle.pfs_base.specs.Limits.{limits}
 use Rattle.pfs_base.specs.Lists.{below}
@@ -41,3 +41,8 @@ as_written OrLib problem = record { shop = problem.shop; notes = record { seed =
 abbrev pub CanonicalLaw : Type 0
 CanonicalLaw = (layout : Layout) (problem : Problem) → IsInstance limits problem
     → File limits layout (canonical_text layout problem) 1 (as_written layout problem)
+
+-- no text that is written is longer than what is read
+abbrev pub TextsFit : Type 0
+TextsFit = (layout : Layout) (problem : Problem) → IsInstance limits problem
+    → length (canonical_text layout problem) ≤ limits.input

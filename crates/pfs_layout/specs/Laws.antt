@@ -105,6 +105,15 @@ abbrev pub WiderLimits : Type 0
 WiderLimits = (narrow wide : Limits) (layout : Layout) (input : List ℕ) (k : ℕ) (problem : Problem)
     → IsWider narrow wide → File narrow layout input k problem → File wide layout input k problem
 
+-- the limits of versions before: fewer jobs and shorter times
+abbrev pub earlier_limits : Limits
+earlier_limits = record { jobs = 2000; machines = 200; time = 1000000; note = 4294967295; input = 67108864 }
+
+-- what was a file under them is a file of the same problem
+abbrev pub EarlierFiles : Type 0
+EarlierFiles = (layout : Layout) (input : List ℕ) (k : ℕ) (problem : Problem)
+    → File earlier_limits layout input k problem → File limits layout input k problem
+
 -- the numbers that are due give a problem back
 abbrev pub DueAndBack : Type 0
 DueAndBack = (layout : Layout) (problem : Problem)

@@ -57,8 +57,9 @@ pub fn mixed_lines()
 
 /// Numbers that aren't what is due.
 pub fn wrong_numbers()
-    ensures longest { accepted Layout.Taillard (ending_with (codes "2 5 1000000")) 1 ≡ Some (three_jobs_with 1000000) }
-    ensures too_long { refusal Layout.Taillard (ending_with (codes "2 5 1000001")) 1
+    ensures longest { accepted Layout.Taillard (ending_with (codes "2 5 1000000000")) 1
+        ≡ Some (three_jobs_with 1000000000) }
+    ensures too_long { refusal Layout.Taillard (ending_with (codes "2 5 1000000001")) 1
         ≡ Some (LayoutFault.TimeRange 119) }
     ensures forty_digits { refusal Layout.Taillard (ending_with (codes "2 5 " ++ replicate 40 57)) 1
         ≡ Some (LayoutFault.TimeRange 119) }
@@ -71,14 +72,14 @@ pub fn wrong_numbers()
 
 /// Size lines with a wrong count of numbers, or with a number out of its limit.
 pub fn size_lines()
-    ensures greatest { refusal Layout.Taillard (codes "2000 200 4294967295 0 0") 1 ≡ Some (LayoutFault.Truncated 0) }
+    ensures greatest { refusal Layout.Taillard (codes "5000 200 4294967295 0 0") 1 ≡ Some (LayoutFault.Truncated 0) }
     ensures count { refusal Layout.Taillard (codes "3 2") 1 ≡ Some (LayoutFault.SizeCount 1) }
-    ensures jobs { refusal Layout.Taillard (codes "\n2001 1 0 0 0") 1 ≡ Some (LayoutFault.SizeRange 2) }
+    ensures jobs { refusal Layout.Taillard (codes "\n5001 1 0 0 0") 1 ≡ Some (LayoutFault.SizeRange 2) }
     ensures no_machine { refusal Layout.OrLib (codes "1 0\n") 1 ≡ Some (LayoutFault.SizeRange 1) }
     ensures note { refusal Layout.Taillard (codes "1 1 4294967296 0 0") 1 ≡ Some (LayoutFault.SizeRange 1) }
     ensures forty_digits { refusal Layout.Taillard (codes "3 2 0 0 " ++ replicate 40 57) 1
         ≡ Some (LayoutFault.SizeRange 1) }
-    ensures count_first { refusal Layout.Taillard (codes "2001 1") 1 ≡ Some (LayoutFault.SizeCount 1) }
+    ensures count_first { refusal Layout.Taillard (codes "5001 1") 1 ≡ Some (LayoutFault.SizeCount 1) }
 {}
 
 /// Several blocks.

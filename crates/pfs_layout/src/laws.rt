@@ -1,10 +1,11 @@
 //! Laws about the definitions, and one about readers.
 ghost use Rattle.std.specs.Prelude.{◌≡◌, ℕ, List};
 ghost use Rattle.pfs_layout.specs.Reader.{StandsAfter, FinishMeets};
-ghost use Rattle.pfs_layout.specs.CanonicalText.{CanonicalLaw};
+ghost use Rattle.pfs_layout.specs.CanonicalText.{CanonicalLaw, TextsFit};
 ghost use Rattle.pfs_layout.specs.Generator.{SeedsStay, GeneratedWithin};
 ghost use Rattle.pfs_layout.specs.Laws.{FileStands, SomeFile, OneVerdict, OneFault, RefusalLaw, AcceptedLaw};
-ghost use Rattle.pfs_layout.specs.Laws.{FaultStays, ByteFaultLaw, FreeBehind, WiderLimits, DueAndBack, DueFronts};
+ghost use Rattle.pfs_layout.specs.Laws.{FaultStays, ByteFaultLaw, FreeBehind, WiderLimits, EarlierFiles};
+ghost use Rattle.pfs_layout.specs.Laws.{DueAndBack, DueFronts};
 
 use crate::LayoutFault;
 use crate::reader::BlockReader;
@@ -61,10 +62,17 @@ pub fn wider_limits()
     ensures { WiderLimits }
 {}
 
+/// What was an instance file of versions before, which took 2,000 jobs and times of 1,000,000 at most, is one of the
+/// same problem.
+pub fn earlier_files()
+    ensures { EarlierFiles }
+{}
+
 /// The numbers that are due for a problem give it back.
 pub fn due_and_back()
     ensures { DueAndBack }
 {}
+
 /// Numbers pass, place by place, exactly where they begin what is due for some problem of the size.
 pub fn due_fronts()
     ensures { DueFronts }
@@ -74,6 +82,12 @@ pub fn due_fronts()
 /// notes in the OR-Library's layout.
 pub fn canonical_text()
     ensures { CanonicalLaw }
+{}
+
+/// What is written of an instance is within the limit of an instance file. The longest text is that of 5,000 jobs which
+/// take 1,000,000,000 on each of 200 machines, in the OR-Library's layout: 14,450,028 bytes.
+pub fn texts_fit()
+    ensures { TextsFit }
 {}
 
 /// A seed that is drawn is a seed again.

@@ -1,16 +1,12 @@
 -- The three lines of an order file.
-use Rattle.std.proofs.Common.{◌≡◌, ℕ, ◌+◌, ◌<◌, ◌≤◌, ◌^◌, List, ◌++◌, length, map, codes, sym, ◌∙◌, ap, arith, length-append, Option, Some, [], ◌∷◌, decimal}
-use Rattle.std.proofs.lemmas.List.{length-map, append_assoc}
+use Rattle.std.proofs.Common.{◌≡◌, ℕ, ◌+◌, ◌<◌, ◌≤◌, ◌^◌, List, ◌++◌, length, map, codes, sym, ◌∙◌, ap, arith, length-append, Option}
+use Rattle.std.proofs.lemmas.List.{length-map}
 use Rattle.pfs_base.specs.declared.limits.TheConstants.{LONGEST_ORDER_FILE}
 use Rattle.pfs_base.specs.Limits.{limits}
 use Rattle.pfs_base.specs.Text.{spaced, with_line_end, named_number}
 use Rattle.pfs_order.specs.OrderText.{first_line, order_text, file_text}
 use Rattle.pfs_order.specs.Sequence.{IsSequence, IsSize, AreMachines}
 use Rattle.pfs_order.proofs.Published.OrderVerdicts.{text_fits, written_file}
-
--- the parts of the first line of version 2
-pub machines_line : (count machines : ℕ) → ((codes "order2" ++ 32 ∷ decimal count) ++ 32 ∷ decimal machines) ++ 10 ∷ [] ≡ first_line count (Some machines)
-machines_line count machines = ap (λ line. line ++ 10 ∷ []) (append_assoc (codes "order2") (32 ∷ decimal count) (32 ∷ decimal machines))
 
 -- joined, they are its text
 pub order_lines : (order : List ℕ) (count : ℕ) (machines : Option ℕ) (makespan : ℕ) → count ≡ length order

@@ -167,13 +167,14 @@ fn reads_order_files_of_version_2(rt: HostRuntime) {
 #[test]
 fn refuses_other_texts(rt: HostRuntime) {
     let syntax = |offset| OrderFault::Syntax { offset };
-    let cases: [(&[u8], OrderFault); 40] = [
+    let cases: [(&[u8], OrderFault); 41] = [
         (b"", syntax(0)),
         (b"order", syntax(5)),
         (b"order 3", syntax(7)),
         (b"order 0\n", syntax(6)),
         (b"order 03\n2 1 3\nmakespan 10\n", syntax(6)),
-        (b"order 2001\n", syntax(9)),
+        (b"order 5001\n", syntax(9)),
+        (b"order 2001\n", syntax(11)),
         (b"order 3\r\n2 1 3\nmakespan 10\n", syntax(7)),
         (b"order 3\n2  1", syntax(10)),
         (b"order 3\n2 1\nmakespan 10\n", syntax(11)),
@@ -219,7 +220,7 @@ fn refuses_other_texts(rt: HostRuntime) {
         (b"order2 3\n2 1 3\nmakespan 10\n", syntax(8)),
         (b"order2 03 2\n2 1 3\nmakespan 10\n", syntax(7)),
         (b"order2 0 2\n", syntax(7)),
-        (b"order2 2001 2\n", syntax(10)),
+        (b"order2 5001 2\n", syntax(10)),
         (b"order2 3 02\n2 1 3\nmakespan 10\n", syntax(9)),
         (b"order2 3 0\n2 1 3\nmakespan 10\n", syntax(9)),
         (b"order2 3 201\n2 1 3\nmakespan 10\n", syntax(11)),

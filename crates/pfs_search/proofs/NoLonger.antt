@@ -1,5 +1,5 @@
 -- Rounds never make an order longer.
-use Rattle.std.proofs.Common.{ℕ, zero, suc, ◌≤◌, List, take, drop, arith}
+use Rattle.std.proofs.Common.{ℕ, zero, suc, ◌≤◌, List, take as front, drop as behind, arith}
 use Rattle.std.proofs.Math.Dec.{leb}
 use Rattle.std.proofs.lemmas.Bool.{cond_both, leb-true}
 use Rattle.pfs_base.specs.FlowShop.{FlowShop}
@@ -12,8 +12,8 @@ kept_no_longer shop old new =
     (λ test. leb-true (makespan shop new) (makespan shop old) test) (λ _. omega arith)
 
 pub no_longer_law : NoLongerLaw
-no_longer_law shop passes zero many jobs words = omega arith
-no_longer_law shop passes (suc rounds) many jobs words =
-    let once = kept_no_longer shop jobs (after_passes shop passes (rebuilt shop jobs (take many words))) in
-    let rest = no_longer_law shop passes rounds many (after_round shop passes jobs (take many words)) (drop many words) in
+no_longer_law shop passes zero take jobs words = omega arith
+no_longer_law shop passes (suc rounds) take jobs words =
+    let once = kept_no_longer shop jobs (after_passes shop passes (rebuilt shop jobs (front take words))) in
+    let rest = no_longer_law shop passes rounds take (after_round shop passes jobs (front take words)) (behind take words) in
     omega arith

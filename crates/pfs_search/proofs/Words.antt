@@ -1,5 +1,5 @@
 -- The words of a stream, and rounds on them.
-use Rattle.std.proofs.Common.{◌≡◌, ℕ, zero, suc, ◌+◌, ◌*◌, ◌≤◌, List, [], ◌∷◌, ◌++◌, length, take, drop, refl, ap, ◌∙◌, arith, add-one}
+use Rattle.std.proofs.Common.{◌≡◌, ℕ, zero, suc, ◌+◌, ◌*◌, ◌≤◌, List, [], ◌∷◌, ◌++◌, length, take as front, drop as behind, refl, ap, ◌∙◌, arith, add-one}
 use Rattle.std.proofs.lemmas.List.{take_all, take-append-le, drop-append-le, length-drop, nil_from_length}
 use Rattle.rand_core.specs.Stream.{Stream, next_u32}
 use Rattle.pfs_base.specs.FlowShop.{FlowShop}
@@ -34,25 +34,25 @@ stream_after-add zero b s = let e : 0 + b ≡ b = omega arith in ap (λ n. strea
 stream_after-add (suc a) b s = let e : suc a + b ≡ suc (a + b) = omega arith in ap (λ n. stream_after n s) e ∙ stream_after-add a b (next_u32 s).1
 
 -- one round more, on the words behind
-rounds_suc : (shop : FlowShop) (passes n many : ℕ) (jobs ws us : List ℕ) → length ws ≡ n * many → length us ≡ many →
-    after_rounds shop passes (suc n) many jobs (ws ++ us) ≡ after_round shop passes (after_rounds shop passes n many jobs ws) us
-rounds_suc shop passes zero many jobs ws us long one =
+rounds_suc : (shop : FlowShop) (passes n take : ℕ) (jobs ws us : List ℕ) → length ws ≡ n * take → length us ≡ take →
+    after_rounds shop passes (suc n) take jobs (ws ++ us) ≡ after_round shop passes (after_rounds shop passes n take jobs ws) us
+rounds_suc shop passes zero take jobs ws us long one =
     let none = nil_from_length ws (omega arith) in
-    ap (λ l. after_round shop passes jobs (take many (l ++ us))) none ∙ ap (after_round shop passes jobs) (take_all many us (omega arith))
-rounds_suc shop passes (suc n) many jobs ws us long one =
-    let fits : many ≤ length ws = omega arith in
-    let front = ap (after_round shop passes jobs) (take-append-le many ws us fits) in
-    ap (λ l. after_rounds shop passes (suc n) many (after_round shop passes jobs (take many (ws ++ us))) l) (drop-append-le many ws us fits)
-    ∙ ap (λ js. after_rounds shop passes (suc n) many js (drop many ws ++ us)) front
-    ∙ rounds_suc shop passes n many (after_round shop passes jobs (take many ws)) (drop many ws) us (omega (arith, length-drop many ws)) one
+    ap (λ l. after_round shop passes jobs (front take (l ++ us))) none ∙ ap (after_round shop passes jobs) (take_all take us (omega arith))
+rounds_suc shop passes (suc n) take jobs ws us long one =
+    let fits : take ≤ length ws = omega arith in
+    let same = ap (after_round shop passes jobs) (take-append-le take ws us fits) in
+    ap (λ l. after_rounds shop passes (suc n) take (after_round shop passes jobs (front take (ws ++ us))) l) (drop-append-le take ws us fits)
+    ∙ ap (λ js. after_rounds shop passes (suc n) take js (behind take ws ++ us)) same
+    ∙ rounds_suc shop passes n take (after_round shop passes jobs (front take ws)) (behind take ws) us (omega (arith, length-drop take ws)) one
 
-pub rounds_more : (shop : FlowShop) (passes n many : ℕ) (jobs : List ℕ) (s : Stream) →
-    after_rounds shop passes (n + 1) many jobs (words_of ((n + 1) * many) s) ≡ after_round shop passes (after_rounds shop passes n many jobs (words_of (n * many) s)) (words_of many (stream_after (n * many) s))
-rounds_more shop passes n many jobs s =
-    let count : (n + 1) * many ≡ n * many + many = omega arith in
-    ap (λ k. after_rounds shop passes k many jobs (words_of ((n + 1) * many) s)) (add-one n)
-    ∙ ap (after_rounds shop passes (suc n) many jobs) (ap (λ k. words_of k s) count ∙ words_of-add (n * many) many s)
-    ∙ rounds_suc shop passes n many jobs (words_of (n * many) s) (words_of many (stream_after (n * many) s)) (length-words_of (n * many) s) (length-words_of many (stream_after (n * many) s))
+pub rounds_more : (shop : FlowShop) (passes n take : ℕ) (jobs : List ℕ) (s : Stream) →
+    after_rounds shop passes (n + 1) take jobs (words_of ((n + 1) * take) s) ≡ after_round shop passes (after_rounds shop passes n take jobs (words_of (n * take) s)) (words_of take (stream_after (n * take) s))
+rounds_more shop passes n take jobs s =
+    let count : (n + 1) * take ≡ n * take + take = omega arith in
+    ap (λ k. after_rounds shop passes k take jobs (words_of ((n + 1) * take) s)) (add-one n)
+    ∙ ap (after_rounds shop passes (suc n) take jobs) (ap (λ k. words_of k s) count ∙ words_of-add (n * take) take s)
+    ∙ rounds_suc shop passes n take jobs (words_of (n * take) s) (words_of take (stream_after (n * take) s)) (length-words_of (n * take) s) (length-words_of take (stream_after (n * take) s))
 
-pub stream_group : (n many : ℕ) (s : Stream) → stream_after ((n + 1) * many) s ≡ stream_after many (stream_after (n * many) s)
-stream_group n many s = let count : (n + 1) * many ≡ n * many + many = omega arith in ap (λ k. stream_after k s) count ∙ stream_after-add (n * many) many s
+pub stream_group : (n take : ℕ) (s : Stream) → stream_after ((n + 1) * take) s ≡ stream_after take (stream_after (n * take) s)
+stream_group n take s = let count : (n + 1) * take ≡ n * take + take = omega arith in ap (λ k. stream_after k s) count ∙ stream_after-add (n * take) take s

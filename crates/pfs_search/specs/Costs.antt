@@ -7,7 +7,7 @@ use Rattle.pfs_insert.specs.Insertion.{heads_tails_cost}
 
 -- so many insertions, one after the other, into a sequence of so many jobs
 abbrev pub insertions_cost : (ℕ → ℕ → ℕ) → ℕ → ℕ → ℕ → ℕ
-insertions_cost cost machines before many = sum_by (λ count. cost count machines) (range_with_len (before + 1) many)
+insertions_cost cost machines before more = sum_by (λ count. cost count machines) (range_with_len (before + 1) more)
 
 -- NEH: all jobs
 abbrev pub neh_cost : (ℕ → ℕ → ℕ) → ℕ → ℕ → ℕ
@@ -17,17 +17,20 @@ neh_cost cost jobs machines = insertions_cost cost machines 0 jobs
 abbrev pub pass_cost : (ℕ → ℕ → ℕ) → ℕ → ℕ → ℕ
 pass_cost cost jobs machines = jobs * cost jobs machines
 
--- a round: as many jobs as were taken out, and then the passes
+-- a round that takes so many jobs out: as many are put back, and then the passes are made
 abbrev pub round_cost : (ℕ → ℕ → ℕ) → ℕ → ℕ → ℕ → ℕ → ℕ
-round_cost cost jobs machines many passes =
-    insertions_cost cost machines (jobs - many) many + passes * pass_cost cost jobs machines
+round_cost cost jobs machines take passes =
+    insertions_cost cost machines (jobs - take) take + passes * pass_cost cost jobs machines
 
 -- the same on a shop
+abbrev pub neh_cost_on : (ℕ → ℕ → ℕ) → FlowShop → ℕ
+neh_cost_on cost shop = neh_cost cost shop.jobs shop.machines
+
 abbrev pub pass_cost_on : (ℕ → ℕ → ℕ) → FlowShop → ℕ
 pass_cost_on cost shop = pass_cost cost shop.jobs shop.machines
 
 abbrev pub round_cost_on : (ℕ → ℕ → ℕ) → FlowShop → ℕ → ℕ → ℕ
-round_cost_on cost shop many passes = round_cost cost shop.jobs shop.machines many passes
+round_cost_on cost shop take passes = round_cost cost shop.jobs shop.machines take passes
 
 -- an insertion costs as much as one by heads and tails
 abbrev pub CostsAsHeadsTails : (ℕ → ℕ → ℕ) → Type 0
@@ -38,10 +41,11 @@ CostsAsHeadsTails cost = (count machines : ℕ) → 1 ≤ count → cost count m
 pub record HasClosedCosts (cost : ℕ → ℕ → ℕ) : Type 0 where
   pub neh : (jobs machines : ℕ) → neh_cost cost jobs machines ≡ 2 * machines * (jobs * jobs)
   pub pass : (jobs machines : ℕ) → pass_cost cost jobs machines ≡ jobs * machines * (4 * jobs - 2)
-  pub round : (jobs machines many passes : ℕ) → many ≤ jobs
-      → round_cost cost jobs machines many passes ≡ 2 * many * machines * (2 * jobs - many) + passes * jobs * machines * (4 * jobs - 2)
-  pub rounds : (count jobs machines many passes : ℕ) → many ≤ jobs
-      → count * round_cost cost jobs machines many passes ≤ count * (many + passes * jobs) * machines * (4 * jobs - 2)
+  pub round : (jobs machines take passes : ℕ) → take ≤ jobs
+      → round_cost cost jobs machines take passes
+      ≡ 2 * take * machines * (2 * jobs - take) + passes * jobs * machines * (4 * jobs - 2)
+  pub rounds : (count jobs machines take passes : ℕ) → take ≤ jobs
+      → count * round_cost cost jobs machines take passes ≤ count * (take + passes * jobs) * machines * (4 * jobs - 2)
 
 abbrev pub CostsLaw : Type 0
 CostsLaw = (cost : ℕ → ℕ → ℕ) → CostsAsHeadsTails cost → HasClosedCosts cost

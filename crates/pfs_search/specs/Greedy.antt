@@ -1,5 +1,7 @@
 -- Iterated greedy (Ruiz and Stützle 2007): rounds that take some jobs out and put each back at its best place.
-use Rattle.std.specs.Prelude.{◌≡◌, ℕ, zero, suc, ◌%◌, ◌≤◌, not, List, [], ◌∷◌, length, take, drop, fold, filter, nat_le, nat_eq, slice_index, remove, if◌then◌else◌}
+use Rattle.std.specs.Prelude.{◌≡◌, ℕ, zero, suc, ◌%◌, ◌≤◌, not, List, [], ◌∷◌, length, fold, filter}
+use Rattle.std.specs.Prelude.{nat_le, nat_eq, slice_index, remove, if◌then◌else◌}
+use Rattle.std.specs.Prelude.{take as front, drop as behind}
 use Rattle.rand_core.specs.Stream.{Stream, next_u32}
 use Rattle.pfs_base.specs.FlowShop.{FlowShop}
 use Rattle.pfs_base.specs.Paths.{makespan}
@@ -14,7 +16,8 @@ place_of jobs word = word % length jobs
 -- the jobs that the words take out one after the other, in this order
 abbrev pub jobs_taken : List ℕ → List ℕ → List ℕ
 jobs_taken jobs [] = []
-jobs_taken jobs (word ∷ words) = slice_index jobs (place_of jobs word) ∷ jobs_taken (remove jobs (place_of jobs word)) words
+jobs_taken jobs (word ∷ words) =
+    slice_index jobs (place_of jobs word) ∷ jobs_taken (remove jobs (place_of jobs word)) words
 
 -- the jobs that they leave
 abbrev pub jobs_left : List ℕ → List ℕ → List ℕ
@@ -45,11 +48,11 @@ kept_of shop old new = if nat_le (makespan shop new) (makespan shop old) then ne
 abbrev pub after_round : FlowShop → ℕ → List ℕ → List ℕ → List ℕ
 after_round shop passes jobs words = kept_of shop jobs (after_passes shop passes (rebuilt shop jobs words))
 
--- an order after so many rounds, on successive groups of so many words
+-- an order after so many rounds, each of which takes so many jobs out by the next so many words
 abbrev pub after_rounds : FlowShop → ℕ → ℕ → ℕ → List ℕ → List ℕ → List ℕ
-after_rounds shop passes zero many jobs words = jobs
-after_rounds shop passes (suc rounds) many jobs words =
-    after_rounds shop passes rounds many (after_round shop passes jobs (take many words)) (drop many words)
+after_rounds shop passes zero take jobs words = jobs
+after_rounds shop passes (suc rounds) take jobs words =
+    after_rounds shop passes rounds take (after_round shop passes jobs (front take words)) (behind take words)
 
 -- the next so many words of a stream
 abbrev pub words_of : ℕ → Stream → List ℕ
@@ -68,5 +71,5 @@ PassLaw = (shop : FlowShop) (jobs : List ℕ) → IsSequence shop.jobs jobs → 
 
 -- no words make an order longer
 abbrev pub NoLongerLaw : Type 0
-NoLongerLaw = (shop : FlowShop) (passes rounds many : ℕ) (jobs words : List ℕ)
-    → makespan shop (after_rounds shop passes rounds many jobs words) ≤ makespan shop jobs
+NoLongerLaw = (shop : FlowShop) (passes rounds take : ℕ) (jobs words : List ℕ)
+    → makespan shop (after_rounds shop passes rounds take jobs words) ≤ makespan shop jobs

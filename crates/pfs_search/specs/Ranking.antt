@@ -7,7 +7,8 @@ use Rattle.pfs_order.specs.Sequence.{all_jobs}
 
 -- a job has a greater total than another, or an equal total and a lower number
 abbrev pub RanksBefore : FlowShop → ℕ → ℕ → Type 0
-RanksBefore shop job other = (total_of shop other < total_of shop job) ⊎ ((total_of shop job ≡ total_of shop other) × (job < other))
+RanksBefore shop job other =
+    (total_of shop other < total_of shop job) ⊎ ((total_of shop job ≡ total_of shop other) × (job < other))
 
 -- all jobs, each ranked before those behind it
 pub record IsRanking (shop : FlowShop) (jobs : List ℕ) : Type 0 where
@@ -17,7 +18,8 @@ pub record IsRanking (shop : FlowShop) (jobs : List ℕ) : Type 0 where
 -- the same as a test
 abbrev pub ranks_before : FlowShop → ℕ → ℕ → Bool
 ranks_before shop job other =
-    nat_lt (total_of shop other) (total_of shop job) || (nat_eq (total_of shop job) (total_of shop other) && nat_lt job other)
+    nat_lt (total_of shop other) (total_of shop job)
+    || (nat_eq (total_of shop job) (total_of shop other) && nat_lt job other)
 
 -- ranked jobs with one more, before the first that it is ranked before
 abbrev pub ranked_with : FlowShop → List ℕ → ℕ → List ℕ

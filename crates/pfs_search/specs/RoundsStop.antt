@@ -8,7 +8,7 @@ use Rattle.pfs_search.specs.declared.fault.SearchFault.TheVariants.{Memory}
 
 -- so many of the rounds are done and stay, and the words of one more are drawn
 abbrev pub RoundsStop : FlowShop → ℕ → ℕ → ℕ → List ℕ → List ℕ → Stream → Stream → SearchFault → Type 0
-RoundsStop shop passes count many old new before after (Memory done) =
+RoundsStop shop passes count take old new before after (Memory done) =
     (done < count)
-    × (new ≡ after_rounds shop passes done many old (words_of (done * many) before))
-    × (after ≡ stream_after ((done + 1) * many) before)
+    × (new ≡ after_rounds shop passes done take old (words_of (done * take) before))
+    × (after ≡ stream_after ((done + 1) * take) before)

@@ -1,60 +1,64 @@
 //! One round of iterated greedy, and the words of the next.
-ghost use Rattle.std.specs.Prelude.{◌≡◌, ℕ, ◌+◌, ◌<◌, ◌≤◌, ◌^◌, ◌++◌, length, take, vec_len, vec_capacity, false, IsOk, OnOk, OnErr};
+ghost use Rattle.std.specs.Prelude.{◌≡◌, ℕ, ◌+◌, ◌<◌, ◌≤◌, ◌^◌, ◌++◌, length, take};
+ghost use Rattle.std.specs.Prelude.{vec_len, vec_capacity, false, IsOk, OnOk, OnErr};
 ghost use Rattle.pfs_base.specs.Paths.{makespan};
 ghost use Rattle.pfs_order.specs.Sequence.{IsSequence};
+ghost use Rattle.pfs_insert.specs.Inserter.{Counts, Fits};
 ghost use Rattle.pfs_search.specs.Costs.{round_cost_on};
 ghost use Rattle.pfs_search.specs.Greedy.{after_round, jobs_left, jobs_taken, stream_after, words_of};
 
 use crate::insertions::insert_all;
 use crate::kept::Kept;
 use crate::passes::make_passes;
+use crate::workspace::Workspace;
 use pfs_base::{Bench, Length};
 use pfs_insert::{InsertFault, Inserter};
 use pfs_order::Seq;
 use rand_core::Rng;
 use std::alloc::Global;
 
-// One round, in a working sequence and a list that has room.
+// One round, in a workspace whose queue has room for all jobs.
 #[inline(always)]
 pub(crate) fn play_round<B: Bench, I: Inserter<B>>(
     alloc: Global,
-    inserter: &mut I,
+    work: &mut Workspace<I>,
     bench: &mut B,
-    seq: &mut Seq,
-    taken: &mut Vec<usize>,
     kept: &mut Kept<B::Span>,
     words: &[u32],
     passes: u32,
 ) -> Result<(), InsertFault>
-    requires own_jobs { seq.old.size ≡ (B.shop bench.old).jobs }
-    requires inserter_jobs { I.jobs inserter.old ≡ (B.shop bench.old).jobs }
-    requires inserter_machines { I.machines inserter.old ≡ (B.shop bench.old).machines }
-    requires kept_jobs { length kept.old.order ≡ (B.shop bench.old).jobs }
+    requires fits { Fits (B.shop bench.old) (I.sizes work.old.inserter) work.old.seq.size }
+    requires order_jobs { length kept.old.order ≡ (B.shop bench.old).jobs }
     requires kept_span { B.Span.number kept.old.span ≡ makespan (B.shop bench.old) kept.old.order }
     requires some { 1 ≤ length words.now }
     requires few { length words.now ≤ (B.shop bench.old).jobs }
-    requires taken { (B.shop bench.old).jobs ≤ vec_capacity taken.old }
-    requires room { B.counted bench.old + round_cost_on I.cost (B.shop bench.old) (length words.now) passes < 2 ^ 64 }
+    requires queue { (B.shop bench.old).jobs ≤ vec_capacity work.old.queue }
+    requires room { B.counted bench.old
+        + round_cost_on I.cost (B.shop bench.old) (length words.now) passes < 2 ^ 64 }
     ensures order { OnOk result (kept.new.order ≡ after_round (B.shop bench.old) passes kept.old.order words.now) }
     ensures span { B.Span.number kept.new.span ≡ makespan (B.shop bench.old) kept.new.order }
     ensures never_rises { B.Span.number kept.new.span ≤ B.Span.number kept.old.span }
-    ensures counted { OnOk result (B.counted bench.new ≡ B.counted bench.old + round_cost_on I.cost (B.shop bench.old) (length words.now) passes) }
+    ensures cells { Counts result (B.counted bench.old) (B.counted bench.new)
+        (round_cost_on I.cost (B.shop bench.old) (length words.now) passes) }
     ensures unchanged { OnErr result (kept.new ≡ kept.old) }
-    ensures fault_low { OnErr result (B.counted bench.old ≤ B.counted bench.new) }
-    ensures fault_high { OnErr result (B.counted bench.new ≤ B.counted bench.old + round_cost_on I.cost (B.shop bench.old) (length words.now) passes) }
     ensures succeeds { I.can_refuse ≡ false → IsOk result }
     ensures shop { B.shop bench.new ≡ B.shop bench.old }
-    ensures same_size { seq.new.size ≡ seq.old.size }
-    ensures same_jobs { I.jobs inserter.new ≡ I.jobs inserter.old }
-    ensures same_machines { I.machines inserter.new ≡ I.machines inserter.old }
-    ensures same_order_size { length kept.new.order ≡ length kept.old.order }
-    ensures same_room { vec_capacity taken.old ≤ vec_capacity taken.new }
+    ensures still_fits { Fits (B.shop bench.new) (I.sizes work.new.inserter) work.new.seq.size }
+    ensures order_jobs { length kept.new.order ≡ (B.shop bench.new).jobs }
+    ensures same_room { vec_capacity work.old.queue ≤ vec_capacity work.new.queue }
 {
-    take_jobs(kept.order.seq(), seq, taken, words);
-    let rebuilt = insert_all(alloc, inserter, bench, seq, taken)?;
-    let span = make_passes(alloc, inserter, bench, seq, rebuilt, passes)?;
+    take_jobs(kept.order.seq(), &mut work.seq, &mut work.queue, words);
+    let rebuilt = insert_all(alloc, &mut work.inserter, bench, &mut work.seq, &work.queue)?;
+    let span = make_passes(
+        alloc,
+        &mut work.inserter,
+        bench,
+        &mut work.seq,
+        rebuilt,
+        passes,
+    )?;
     if span <= kept.span {
-        kept.order.copy_from(seq);
+        kept.order.copy_from(&work.seq);
         kept.span = span;
     }
     Ok(())
@@ -87,13 +91,13 @@ fn take_jobs(order: &Seq, seq: &mut Seq, taken: &mut Vec<usize>, words: &[u32])
 }
 
 // Writes the next words of a generator over the first of a list.
-pub(crate) fn draw_words<R: Rng>(rng: &mut R, words: &mut Vec<u32>, many: usize)
-    requires { many ≤ vec_len words.old }
-    ensures words { take many words.new.items ≡ words_of many (R.stream rng.old) }
+pub(crate) fn draw_words<R: Rng>(rng: &mut R, words: &mut Vec<u32>, count: usize)
+    requires { count ≤ vec_len words.old }
+    ensures words { take count words.new.items ≡ words_of count (R.stream rng.old) }
     ensures len { vec_len words.new ≡ vec_len words.old }
-    ensures stream { R.stream rng.new ≡ stream_after many (R.stream rng.old) }
+    ensures stream { R.stream rng.new ≡ stream_after count (R.stream rng.old) }
 {
-    for place in 0..many {
+    for place in 0..count {
         words[place] = rng.next_u32();
     }
 }

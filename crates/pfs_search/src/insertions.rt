@@ -1,7 +1,8 @@
 //! Putting jobs one after the other at their best places.
-ghost use Rattle.std.specs.Prelude.{◌≡◌, ℕ, ◌+◌, ◌<◌, ◌≤◌, ◌^◌, ◌++◌, List, [], length, false, IsOk, IfOk, OnOk, OnErr};
+ghost use Rattle.std.specs.Prelude.{◌≡◌, ℕ, ◌+◌, ◌<◌, ◌≤◌, ◌^◌, ◌++◌, List, [], length, false, IsOk, IfOk, OnOk};
 ghost use Rattle.pfs_base.specs.Paths.{makespan};
 ghost use Rattle.pfs_order.specs.Sequence.{IsSequence};
+ghost use Rattle.pfs_insert.specs.Inserter.{Counts, Fits};
 ghost use Rattle.pfs_search.specs.Neh.{with_jobs};
 ghost use Rattle.pfs_search.specs.Costs.{insertions_cost};
 
@@ -29,23 +30,19 @@ pub(crate) fn insert_all<B: Bench, I: Inserter<B>>(
     seq: &mut Seq,
     jobs: &[usize],
 ) -> Result<B::Span, InsertFault>
-    requires own_jobs { seq.old.size ≡ (B.shop bench.old).jobs }
-    requires inserter_jobs { I.jobs inserter.old ≡ (B.shop bench.old).jobs }
-    requires inserter_machines { I.machines inserter.old ≡ (B.shop bench.old).machines }
+    requires fits { Fits (B.shop bench.old) (I.sizes inserter.old) seq.old.size }
     requires some { 1 ≤ length jobs.now }
     requires together { IsSequence seq.old.size (jobs.now ++ seq.old.jobs) }
-    requires room { B.counted bench.old + insertions_cost I.cost (B.shop bench.old).machines (length seq.old.jobs) (length jobs.now) < 2 ^ 64 }
+    requires room { B.counted bench.old
+        + insertions_cost I.cost (B.shop bench.old).machines (length seq.old.jobs) (length jobs.now) < 2 ^ 64 }
     ensures jobs { OnOk result (seq.new.jobs ≡ with_jobs (B.shop bench.old) seq.old.jobs jobs.now) }
     ensures count { OnOk result (length seq.new.jobs ≡ length seq.old.jobs + length jobs.now) }
     ensures span { IfOk result (λ span. B.Span.number span ≡ makespan (B.shop bench.old) seq.new.jobs) }
-    ensures counted { OnOk result (B.counted bench.new ≡ B.counted bench.old + insertions_cost I.cost (B.shop bench.old).machines (length seq.old.jobs) (length jobs.now)) }
-    ensures fault_low { OnErr result (B.counted bench.old ≤ B.counted bench.new) }
-    ensures fault_high { OnErr result (B.counted bench.new ≤ B.counted bench.old + insertions_cost I.cost (B.shop bench.old).machines (length seq.old.jobs) (length jobs.now)) }
+    ensures cells { Counts result (B.counted bench.old) (B.counted bench.new)
+        (insertions_cost I.cost (B.shop bench.old).machines (length seq.old.jobs) (length jobs.now)) }
     ensures succeeds { I.can_refuse ≡ false → IsOk result }
     ensures shop { B.shop bench.new ≡ B.shop bench.old }
-    ensures same_size { seq.new.size ≡ seq.old.size }
-    ensures same_jobs { I.jobs inserter.new ≡ I.jobs inserter.old }
-    ensures same_machines { I.machines inserter.new ≡ I.machines inserter.old }
+    ensures still_fits { Fits (B.shop bench.new) (I.sizes inserter.new) seq.new.size }
 {
     let mut span = bench.zero();
     for job in jobs {

@@ -1,15 +1,16 @@
 //! NEH and rounds of iterated greedy, for any inserter and any bench.
 #![tactic(auto)]
 
-pub mod examples;
-pub mod fault;
+mod examples;
+mod fault;
 mod greedy;
 mod insertions;
-pub mod kept;
+mod kept;
 pub mod laws;
-pub mod passes;
+mod passes;
 mod rankings;
-pub mod searcher;
+mod searcher;
+mod workspace;
 
 pub use fault::SearchFault;
 pub use kept::Kept;

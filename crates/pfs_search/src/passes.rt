@@ -1,6 +1,7 @@
 //! Passes over an order: each job in the order of the numbers leaves its place for its best one.
-ghost use Rattle.std.specs.Prelude.{◌≡◌, ℕ, ◌+◌, ◌*◌, ◌<◌, ◌≤◌, ◌^◌, length, false, IsOk, IfOk, OnOk, OnErr};
+ghost use Rattle.std.specs.Prelude.{◌≡◌, ℕ, ◌+◌, ◌*◌, ◌<◌, ◌^◌, length, false, IsOk, IfOk, OnOk};
 ghost use Rattle.pfs_base.specs.Paths.{makespan};
+ghost use Rattle.pfs_insert.specs.Inserter.{Counts, Fits};
 ghost use Rattle.pfs_search.specs.Costs.{pass_cost_on};
 ghost use Rattle.pfs_search.specs.Greedy.{after_passes, moved, pass};
 
@@ -23,23 +24,18 @@ pub(crate) fn make_passes<B: Bench, I: Inserter<B>>(
     span: B::Span,
     passes: u32,
 ) -> Result<B::Span, InsertFault>
-    requires own_jobs { seq.old.size ≡ (B.shop bench.old).jobs }
+    requires fits { Fits (B.shop bench.old) (I.sizes inserter.old) seq.old.size }
     requires all_jobs { length seq.old.jobs ≡ (B.shop bench.old).jobs }
-    requires inserter_jobs { I.jobs inserter.old ≡ (B.shop bench.old).jobs }
-    requires inserter_machines { I.machines inserter.old ≡ (B.shop bench.old).machines }
     requires span { B.Span.number span ≡ makespan (B.shop bench.old) seq.old.jobs }
     requires room { B.counted bench.old + passes * pass_cost_on I.cost (B.shop bench.old) < 2 ^ 64 }
     ensures jobs { OnOk result (seq.new.jobs ≡ after_passes (B.shop bench.old) passes seq.old.jobs) }
     ensures count { OnOk result (length seq.new.jobs ≡ length seq.old.jobs) }
     ensures span { IfOk result (λ span. B.Span.number span ≡ makespan (B.shop bench.old) seq.new.jobs) }
-    ensures counted { OnOk result (B.counted bench.new ≡ B.counted bench.old + passes * pass_cost_on I.cost (B.shop bench.old)) }
-    ensures fault_low { OnErr result (B.counted bench.old ≤ B.counted bench.new) }
-    ensures fault_high { OnErr result (B.counted bench.new ≤ B.counted bench.old + passes * pass_cost_on I.cost (B.shop bench.old)) }
+    ensures cells { Counts result (B.counted bench.old) (B.counted bench.new)
+        (passes * pass_cost_on I.cost (B.shop bench.old)) }
     ensures succeeds { I.can_refuse ≡ false → IsOk result }
     ensures shop { B.shop bench.new ≡ B.shop bench.old }
-    ensures same_size { seq.new.size ≡ seq.old.size }
-    ensures same_jobs { I.jobs inserter.new ≡ I.jobs inserter.old }
-    ensures same_machines { I.machines inserter.new ≡ I.machines inserter.old }
+    ensures still_fits { Fits (B.shop bench.new) (I.sizes inserter.new) seq.new.size }
 {
     let mut span = span;
     for _done in 0..passes {
@@ -57,23 +53,18 @@ fn make_pass<B: Bench, I: Inserter<B>>(
     seq: &mut Seq,
     span: B::Span,
 ) -> Result<B::Span, InsertFault>
-    requires own_jobs { seq.old.size ≡ (B.shop bench.old).jobs }
+    requires fits { Fits (B.shop bench.old) (I.sizes inserter.old) seq.old.size }
     requires all_jobs { length seq.old.jobs ≡ (B.shop bench.old).jobs }
-    requires inserter_jobs { I.jobs inserter.old ≡ (B.shop bench.old).jobs }
-    requires inserter_machines { I.machines inserter.old ≡ (B.shop bench.old).machines }
     requires span { B.Span.number span ≡ makespan (B.shop bench.old) seq.old.jobs }
     requires room { B.counted bench.old + pass_cost_on I.cost (B.shop bench.old) < 2 ^ 64 }
     ensures jobs { OnOk result (seq.new.jobs ≡ pass (B.shop bench.old) seq.old.jobs) }
     ensures count { OnOk result (length seq.new.jobs ≡ length seq.old.jobs) }
     ensures span { IfOk result (λ span. B.Span.number span ≡ makespan (B.shop bench.old) seq.new.jobs) }
-    ensures counted { OnOk result (B.counted bench.new ≡ B.counted bench.old + pass_cost_on I.cost (B.shop bench.old)) }
-    ensures fault_low { OnErr result (B.counted bench.old ≤ B.counted bench.new) }
-    ensures fault_high { OnErr result (B.counted bench.new ≤ B.counted bench.old + pass_cost_on I.cost (B.shop bench.old)) }
+    ensures cells { Counts result (B.counted bench.old) (B.counted bench.new)
+        (pass_cost_on I.cost (B.shop bench.old)) }
     ensures succeeds { I.can_refuse ≡ false → IsOk result }
     ensures shop { B.shop bench.new ≡ B.shop bench.old }
-    ensures same_size { seq.new.size ≡ seq.old.size }
-    ensures same_jobs { I.jobs inserter.new ≡ I.jobs inserter.old }
-    ensures same_machines { I.machines inserter.new ≡ I.machines inserter.old }
+    ensures still_fits { Fits (B.shop bench.new) (I.sizes inserter.new) seq.new.size }
 {
     let mut span = span;
     for job in 0..seq.size() {
@@ -91,23 +82,18 @@ fn move_job<B: Bench, I: Inserter<B>>(
     seq: &mut Seq,
     job: usize,
 ) -> Result<B::Span, InsertFault>
-    requires own_jobs { seq.old.size ≡ (B.shop bench.old).jobs }
+    requires fits { Fits (B.shop bench.old) (I.sizes inserter.old) seq.old.size }
     requires all_jobs { length seq.old.jobs ≡ (B.shop bench.old).jobs }
     requires job { job < (B.shop bench.old).jobs }
-    requires inserter_jobs { I.jobs inserter.old ≡ (B.shop bench.old).jobs }
-    requires inserter_machines { I.machines inserter.old ≡ (B.shop bench.old).machines }
     requires room { B.counted bench.old + I.cost (B.shop bench.old).jobs (B.shop bench.old).machines < 2 ^ 64 }
     ensures jobs { OnOk result (seq.new.jobs ≡ moved (B.shop bench.old) seq.old.jobs job) }
     ensures count { OnOk result (length seq.new.jobs ≡ length seq.old.jobs) }
     ensures span { IfOk result (λ span. B.Span.number span ≡ makespan (B.shop bench.old) seq.new.jobs) }
-    ensures counted { OnOk result (B.counted bench.new ≡ B.counted bench.old + I.cost (B.shop bench.old).jobs (B.shop bench.old).machines) }
-    ensures fault_low { OnErr result (B.counted bench.old ≤ B.counted bench.new) }
-    ensures fault_high { OnErr result (B.counted bench.new ≤ B.counted bench.old + I.cost (B.shop bench.old).jobs (B.shop bench.old).machines) }
+    ensures cells { Counts result (B.counted bench.old) (B.counted bench.new)
+        (I.cost (B.shop bench.old).jobs (B.shop bench.old).machines) }
     ensures succeeds { I.can_refuse ≡ false → IsOk result }
     ensures shop { B.shop bench.new ≡ B.shop bench.old }
-    ensures same_size { seq.new.size ≡ seq.old.size }
-    ensures same_jobs { I.jobs inserter.new ≡ I.jobs inserter.old }
-    ensures same_machines { I.machines inserter.new ≡ I.machines inserter.old }
+    ensures still_fits { Fits (B.shop bench.new) (I.sizes inserter.new) seq.new.size }
 {
     // Called for what it says of a sequence: that its jobs are distinct.
     let _size = seq.size();

@@ -1,10 +1,12 @@
 //! The searcher: NEH and rounds of iterated greedy.
 ghost use Rattle.std.specs.Prelude.{◌≡◌, ℕ, ◌+◌, ◌*◌, ◌<◌, ◌≤◌, ◌^◌, length, false, IsOk, IfOk, OnOk, OnErr, IfErr};
 ghost use Rattle.pfs_base.specs.Paths.{makespan};
+ghost use Rattle.pfs_insert.specs.Inserter.{Counts};
 ghost use Rattle.pfs_search.specs.Neh.{neh_order};
-ghost use Rattle.pfs_search.specs.Costs.{neh_cost, round_cost_on};
+ghost use Rattle.pfs_search.specs.Costs.{neh_cost_on, round_cost_on};
 ghost use Rattle.pfs_search.specs.Greedy.{after_round, after_rounds, stream_after, words_of};
 ghost use Rattle.pfs_search.specs.RoundsStop.{RoundsStop};
+ghost use Rattle.pfs_search.specs.SearcherView.{AllFit};
 
 use crate::fault::SearchFault;
 use crate::greedy::{draw_words, play_round};
@@ -12,6 +14,7 @@ use crate::insertions::{clear, insert_all};
 use crate::kept::Kept;
 use crate::passes::MOST_PASSES;
 use crate::rankings::rank_jobs;
+use crate::workspace::Workspace;
 use pfs_base::{Bench, Length, MOST_JOBS, Shop};
 use pfs_insert::Inserter;
 use pfs_order::Seq;
@@ -25,10 +28,8 @@ use std::marker::Model;
 #[derive(Drop)]
 pub struct Searcher<I> {
     size: usize,
-    inserter: I,
-    seq: Seq,
+    work: Workspace<I>,
     ranked: Vec<(Reverse<u64>, usize)>,
-    taken: Vec<usize>,
     words: Vec<u32>,
 }
 
@@ -38,12 +39,12 @@ impl<I> Model for Searcher<I> {
 
     ghost Value = { SearcherView I };
 
-    ghost view = { λ a. record { size = a.size; inserter = a.inserter } };
+    ghost view = { λ a. record { size = a.size; inserter = a.work.inserter } };
 
     ghost invariant = { λ a. record {
-      seq : a.seq.size ≡ a.size;
+      seq : a.work.seq.size ≡ a.size;
+      queue : a.size ≤ vec_capacity a.work.queue;
       ranked : a.size ≤ vec_capacity a.ranked;
-      taken : a.size ≤ vec_capacity a.taken;
       words : a.size ≤ vec_len a.words;
     } };
 }
@@ -64,7 +65,7 @@ impl<I> Searcher<I> {
         let Ok(ranked) = Vec::with_capacity(alloc, size) else {
             return Err(SearchFault::Memory { done: 0 });
         };
-        let Ok(taken) = Vec::with_capacity(alloc, size) else {
+        let Ok(queue) = Vec::with_capacity(alloc, size) else {
             return Err(SearchFault::Memory { done: 0 });
         };
         let mut words = Vec::new(alloc);
@@ -73,10 +74,12 @@ impl<I> Searcher<I> {
         }
         Ok(Searcher {
             size,
-            inserter,
-            seq,
+            work: Workspace {
+                inserter,
+                seq,
+                queue,
+            },
             ranked,
-            taken,
             words,
         })
     }
@@ -93,32 +96,26 @@ impl<I> Searcher<I> {
     ) -> Result<(), SearchFault>
     where
         I: Inserter<B>,
-        requires own_jobs { self.old.size ≡ (B.shop bench.old).jobs }
-        requires inserter_jobs { I.jobs self.old.inserter ≡ (B.shop bench.old).jobs }
-        requires inserter_machines { I.machines self.old.inserter ≡ (B.shop bench.old).machines }
-        requires kept_jobs { length kept.old.order ≡ (B.shop bench.old).jobs }
-        requires room { B.counted bench.old + neh_cost I.cost (B.shop bench.old).jobs (B.shop bench.old).machines < 2 ^ 64 }
+        requires fit { AllFit (B.shop bench.old) I.sizes self.old kept.old.order }
+        requires room { B.counted bench.old + neh_cost_on I.cost (B.shop bench.old) < 2 ^ 64 }
         ensures order { OnOk result (kept.new.order ≡ neh_order (B.shop bench.old)) }
         ensures span { OnOk result (B.Span.number kept.new.span ≡ makespan (B.shop bench.old) kept.new.order) }
-        ensures counted { OnOk result (B.counted bench.new ≡ B.counted bench.old + neh_cost I.cost (B.shop bench.old).jobs (B.shop bench.old).machines) }
+        ensures cells { Counts result (B.counted bench.old) (B.counted bench.new)
+            (neh_cost_on I.cost (B.shop bench.old)) }
         ensures fault { IfErr result (λ fault. fault ≡ SearchFault.Memory 0) }
         ensures unchanged { OnErr result (kept.new ≡ kept.old) }
-        ensures fault_low { OnErr result (B.counted bench.old ≤ B.counted bench.new) }
-        ensures fault_high { OnErr result (B.counted bench.new ≤ B.counted bench.old + neh_cost I.cost (B.shop bench.old).jobs (B.shop bench.old).machines) }
         ensures succeeds { I.can_refuse ≡ false → IsOk result }
         ensures shop { B.shop bench.new ≡ B.shop bench.old }
-        ensures same_size { self.new.size ≡ self.old.size }
-        ensures same_jobs { I.jobs self.new.inserter ≡ I.jobs self.old.inserter }
-        ensures same_machines { I.machines self.new.inserter ≡ I.machines self.old.inserter }
-        ensures same_order_size { length kept.new.order ≡ length kept.old.order }
+        ensures still_fit { AllFit (B.shop bench.new) I.sizes self.new kept.new.order }
     {
-        rank_jobs(bench, &mut self.ranked, &mut self.taken);
-        clear(&mut self.seq);
-        let Ok(span) = insert_all(alloc, &mut self.inserter, bench, &mut self.seq, &self.taken)
+        let work = &mut self.work;
+        rank_jobs(bench, &mut self.ranked, &mut work.queue);
+        clear(&mut work.seq);
+        let Ok(span) = insert_all(alloc, &mut work.inserter, bench, &mut work.seq, &work.queue)
         else {
             return Err(SearchFault::Memory { done: 0 });
         };
-        kept.order.copy_from(&self.seq);
+        kept.order.copy_from(&work.seq);
         kept.span = span;
         Ok(())
     }
@@ -138,32 +135,25 @@ impl<I> Searcher<I> {
     ) -> Result<(), SearchFault>
     where
         I: Inserter<B>,
-        requires own_jobs { self.old.size ≡ (B.shop bench.old).jobs }
-        requires inserter_jobs { I.jobs self.old.inserter ≡ (B.shop bench.old).jobs }
-        requires inserter_machines { I.machines self.old.inserter ≡ (B.shop bench.old).machines }
-        requires kept_jobs { length kept.old.order ≡ (B.shop bench.old).jobs }
+        requires fit { AllFit (B.shop bench.old) I.sizes self.old kept.old.order }
         requires kept_span { B.Span.number kept.old.span ≡ makespan (B.shop bench.old) kept.old.order }
         requires some { 1 ≤ length words.now }
         requires few { length words.now ≤ (B.shop bench.old).jobs }
         requires passes { passes ≤ MOST_PASSES }
-        requires room { B.counted bench.old + round_cost_on I.cost (B.shop bench.old) (length words.now) passes < 2 ^ 64 }
+        requires room { B.counted bench.old
+            + round_cost_on I.cost (B.shop bench.old) (length words.now) passes < 2 ^ 64 }
         ensures order { OnOk result (kept.new.order ≡ after_round (B.shop bench.old) passes kept.old.order words.now) }
         ensures span { B.Span.number kept.new.span ≡ makespan (B.shop bench.old) kept.new.order }
         ensures never_rises { B.Span.number kept.new.span ≤ B.Span.number kept.old.span }
-        ensures counted { OnOk result (B.counted bench.new ≡ B.counted bench.old + round_cost_on I.cost (B.shop bench.old) (length words.now) passes) }
+        ensures cells { Counts result (B.counted bench.old) (B.counted bench.new)
+            (round_cost_on I.cost (B.shop bench.old) (length words.now) passes) }
         ensures fault { IfErr result (λ fault. fault ≡ SearchFault.Memory 0) }
         ensures unchanged { OnErr result (kept.new ≡ kept.old) }
-        ensures fault_low { OnErr result (B.counted bench.old ≤ B.counted bench.new) }
-        ensures fault_high { OnErr result (B.counted bench.new ≤ B.counted bench.old + round_cost_on I.cost (B.shop bench.old) (length words.now) passes) }
         ensures succeeds { I.can_refuse ≡ false → IsOk result }
         ensures shop { B.shop bench.new ≡ B.shop bench.old }
-        ensures same_size { self.new.size ≡ self.old.size }
-        ensures same_jobs { I.jobs self.new.inserter ≡ I.jobs self.old.inserter }
-        ensures same_machines { I.machines self.new.inserter ≡ I.machines self.old.inserter }
-        ensures same_order_size { length kept.new.order ≡ length kept.old.order }
+        ensures still_fit { AllFit (B.shop bench.new) I.sizes self.new kept.new.order }
     {
-        let (inserter, seq, taken) = (&mut self.inserter, &mut self.seq, &mut self.taken);
-        match play_round(alloc, inserter, bench, seq, taken, kept, words, passes) {
+        match play_round(alloc, &mut self.work, bench, kept, words, passes) {
             Ok(()) => Ok(()),
             Err(_) => Err(SearchFault::Memory { done: 0 }),
         }
@@ -184,45 +174,29 @@ impl<I> Searcher<I> {
     ) -> Result<(), SearchFault>
     where
         I: Inserter<B>,
-        requires own_jobs { self.old.size ≡ (B.shop bench.old).jobs }
-        requires inserter_jobs { I.jobs self.old.inserter ≡ (B.shop bench.old).jobs }
-        requires inserter_machines { I.machines self.old.inserter ≡ (B.shop bench.old).machines }
-        requires kept_jobs { length kept.old.order ≡ (B.shop bench.old).jobs }
+        requires fit { AllFit (B.shop bench.old) I.sizes self.old kept.old.order }
         requires kept_span { B.Span.number kept.old.span ≡ makespan (B.shop bench.old) kept.old.order }
         requires some { 1 ≤ take }
         requires few { take ≤ (B.shop bench.old).jobs }
         requires passes { passes ≤ MOST_PASSES }
         requires room { B.counted bench.old + count * round_cost_on I.cost (B.shop bench.old) take passes < 2 ^ 64 }
-        ensures order { OnOk result (kept.new.order ≡
-            after_rounds (B.shop bench.old) passes count take kept.old.order (words_of (count * take) (R.stream rng.old))) }
+        ensures order { OnOk result (kept.new.order ≡ after_rounds (B.shop bench.old) passes count take
+            kept.old.order (words_of (count * take) (R.stream rng.old))) }
         ensures span { B.Span.number kept.new.span ≡ makespan (B.shop bench.old) kept.new.order }
         ensures never_rises { B.Span.number kept.new.span ≤ B.Span.number kept.old.span }
-        ensures counted { OnOk result (B.counted bench.new ≡ B.counted bench.old + count * round_cost_on I.cost (B.shop bench.old) take passes) }
+        ensures cells { Counts result (B.counted bench.old) (B.counted bench.new)
+            (count * round_cost_on I.cost (B.shop bench.old) take passes) }
         ensures words { OnOk result (R.stream rng.new ≡ stream_after (count * take) (R.stream rng.old)) }
         ensures fault { IfErr result (RoundsStop (B.shop bench.old) passes count take
             kept.old.order kept.new.order (R.stream rng.old) (R.stream rng.new)) }
-        ensures fault_low { OnErr result (B.counted bench.old ≤ B.counted bench.new) }
-        ensures fault_high { OnErr result (B.counted bench.new ≤ B.counted bench.old + count * round_cost_on I.cost (B.shop bench.old) take passes) }
         ensures succeeds { I.can_refuse ≡ false → IsOk result }
         ensures shop { B.shop bench.new ≡ B.shop bench.old }
-        ensures same_size { self.new.size ≡ self.old.size }
-        ensures same_jobs { I.jobs self.new.inserter ≡ I.jobs self.old.inserter }
-        ensures same_machines { I.machines self.new.inserter ≡ I.machines self.old.inserter }
-        ensures same_order_size { length kept.new.order ≡ length kept.old.order }
+        ensures still_fit { AllFit (B.shop bench.new) I.sizes self.new kept.new.order }
     {
         for done in 0..count {
             draw_words(rng, &mut self.words, take);
-            let (inserter, seq, taken) = (&mut self.inserter, &mut self.seq, &mut self.taken);
-            match play_round(
-                alloc,
-                inserter,
-                bench,
-                seq,
-                taken,
-                kept,
-                &self.words[..take],
-                passes,
-            ) {
+            let drawn = &self.words[..take];
+            match play_round(alloc, &mut self.work, bench, kept, drawn, passes) {
                 Ok(()) => {}
                 Err(_) => return Err(SearchFault::Memory { done }),
             }

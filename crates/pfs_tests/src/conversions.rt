@@ -104,7 +104,7 @@ fn generate_prints_the_published_times(rt: HostRuntime) {
 fn generate_refuses_seeds_out_of_range(rt: HostRuntime) {
     for seed in [0, 2_147_483_647, u64::MAX] {
         let mut writer = Taken::new(256, 256);
-        let result = run_generate(rt.alloc(), 2000, 200, seed, &mut writer);
+        let result = run_generate(rt.alloc(), 5000, 200, seed, &mut writer);
         let fault = DeskFault::Layout(LayoutFault::SeedRange);
         assert_eq!(rt; result, Err(fault), "seed {seed}");
         assert_eq!(rt; status(&fault), 2);

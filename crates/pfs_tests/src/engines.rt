@@ -66,6 +66,20 @@ fn value_accepts_every_spelling(rt: HostRuntime) {
 }
 
 #[test]
+fn value_prints_long_makespans(rt: HostRuntime) {
+    let files: [(&[u8], &[u8]); 2] = [
+        (b"3 2 0 0 0\n3 2 4\n2 5 1000001\n", b"makespan 1000011\n"),
+        (
+            b"3 2 0 0 0\n3 2 4\n2 5 1000000000\n",
+            b"makespan 1000000010\n",
+        ),
+    ];
+    for (file, text) in files {
+        assert_value(&rt, rt.alloc(), file, Ok(Outcome::Done), text);
+    }
+}
+
+#[test]
 fn refused_files_have_status_2_and_print_nothing(rt: HostRuntime) {
     let files: [&[u8]; 8] = [
         b"",
@@ -74,7 +88,7 @@ fn refused_files_have_status_2_and_print_nothing(rt: HostRuntime) {
         b"3 2 0 0 0\nprocessing times :\n3 2 4\nx 2 5 1\n",
         b"3 2 0 0 0\nprocessing times :\n3 2 4\n2 5 1 7\n",
         b"3 2 0 0 0\nprocessing times :\n3 2 4\n2 5",
-        b"3 2 0 0 0\nprocessing times :\n3 2 4\n2 5 1000001\n",
+        b"3 2 0 0 0\nprocessing times :\n3 2 4\n2 5 1000000001\n",
         b"3 2\n3 2 4\n2 5 1\n",
     ];
     for file in files {

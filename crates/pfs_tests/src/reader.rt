@@ -182,7 +182,7 @@ fn numbers_out_of_place_in_the_last_line(rt: HostRuntime) -> Result<(), Fail> {
     let out_of_range = LayoutFault::TimeRange { offset: 119 };
     let ends: [(&[u8], Option<LayoutFault>); 3] = [
         (b"2 5 1 7\n", Some(extra)),
-        (b"2 5 1000001\n", Some(out_of_range)),
+        (b"2 5 1000000001\n", Some(out_of_range)),
         (
             b"2 5 9999999999999999999999999999999999999999\n",
             Some(out_of_range),
@@ -230,22 +230,29 @@ fn a_title_with_a_number(rt: HostRuntime) -> Result<(), Fail> {
 }
 
 #[test]
-fn the_longest_time(rt: HostRuntime) -> Result<(), Fail> {
-    let text = with_end(rt.alloc(), 115, b"2 5 1000000\n")?;
-    let instance = read_bytes(rt.alloc(), &text, Layout::Taillard, 1)?;
-    assert!(rt; has_times(&instance, &[3, 2, 2, 5, 4, 1_000_000]));
+fn long_times(rt: HostRuntime) -> Result<(), Fail> {
+    let ends: [(&[u8], u32); 2] = [
+        (b"2 5 1000001\n", 1_000_001),
+        (b"2 5 1000000000\n", 1_000_000_000),
+    ];
+    for (end, time) in ends {
+        let text = with_end(rt.alloc(), 115, end)?;
+        let instance = read_bytes(rt.alloc(), &text, Layout::Taillard, 1)?;
+        assert!(rt; has_times(&instance, &[3, 2, 2, 5, 4, time]));
+    }
     Ok(())
 }
 
 #[test]
 fn size_lines(rt: HostRuntime) {
-    let cases: [(&[u8], LayoutFault); 6] = [
-        (b"2001 1 0 0 0", LayoutFault::SizeRange { line: 1 }),
+    let cases: [(&[u8], LayoutFault); 7] = [
+        (b"5001 1 0 0 0", LayoutFault::SizeRange { line: 1 }),
+        (b"2001 1 0 0 0", LayoutFault::Truncated { have: 0 }),
         (b"1 1 4294967296 0 0", LayoutFault::SizeRange { line: 1 }),
         (b"3 2", LayoutFault::SizeCount { line: 1 }),
-        (b"2001 1", LayoutFault::SizeCount { line: 1 }),
+        (b"5001 1", LayoutFault::SizeCount { line: 1 }),
         (
-            b"2000 200 4294967295 0 0\n",
+            b"5000 200 4294967295 0 0\n",
             LayoutFault::Truncated { have: 0 },
         ),
         (

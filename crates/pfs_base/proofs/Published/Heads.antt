@@ -1,11 +1,13 @@
 -- The recurrence of heads: the heaviest path to each operation, by those above it and before it.
-use Rattle.std.proofs.Common.{◌≡◌, ℕ, zero, suc, ◌+◌, ◌-◌, ◌*◌, ◌<◌, ◌≤◌, max, List, [], ◌∷◌, length, refl, sym, ap, ◌∙◌, add-one, arith}
+use Rattle.std.proofs.Common.{◌≡◌, ℕ, zero, suc, ◌+◌, ◌-◌, ◌*◌, ◌<◌, ◌≤◌, max, List, [], ◌∷◌, length, refl, sym, ap, ◌∙◌, get_or, add-one, subst, arith}
 use Rattle.std.proofs.Common.{⊎_elim}
+use Rattle.std.proofs.Math.Nat.{mul-le-mul_right}
 use Rattle.std.proofs.lemmas.Bool.{cases_lt}
 use Rattle.std.proofs.lemmas.List.{get_or_past}
 use Rattle.pfs_base.specs.declared.limits.TheConstants.{LONGEST_TIME}
 use Rattle.pfs_base.specs.Limits.{limits}
-use Rattle.pfs_base.specs.FlowShop.{FlowShop, time_of, IsWithin}
+use Rattle.pfs_base.specs.Longest.{longest_makespan, NoneLonger}
+use Rattle.pfs_base.specs.FlowShop.{FlowShop, time_of, AreSizes, IsWithin}
 use Rattle.pfs_base.specs.Paths.{heaviest, operation, makespan}
 use Rattle.pfs_base.proofs.Published.Heaviest.{most, most_here, most_on_last, most_down_last, most_last}
 
@@ -69,3 +71,17 @@ time_of-le shop within job machine =
     let place = job * shop.machines + machine in
     ⊎_elim (λ (inside : place < length shop.times). within.short_times place 0 inside)
     (λ (past : length shop.times ≤ place). let none = get_or_past shop.times place 0 past in omega arith) (cases_lt place (length shop.times))
+
+-- a path has at most as many cells as there are jobs and machines, less one
+cells_few : (jobs all machines : ℕ) → jobs ≤ all → AreSizes limits all machines → jobs + (machines - 1) ≤ limits.jobs + limits.machines - 1
+cells_few jobs all machines few sizes = omega (arith, few, sizes.few_jobs, sizes.some_machine, sizes.few_machines)
+
+pub none_longer : NoneLonger
+none_longer shop jobs within few =
+    let times : (row machine : ℕ) → operation shop jobs row machine ≤ limits.time = λ row machine. time_of-le shop within (get_or jobs row 0) machine in
+    let short = head_le (operation shop jobs) limits.time times (length jobs) (shop.machines - 1) in
+    let cells = mul-le-mul_right limits.time (cells_few (length jobs) shop.jobs shop.machines few within.sizes) in
+    subst (λ span. span ≤ longest_makespan) (sym (makespan_is shop jobs)) (through _ _ _ short cells)
+  where
+    through : (a b c : ℕ) → a ≤ b → b ≤ c → a ≤ c
+    through a b c h k = omega arith

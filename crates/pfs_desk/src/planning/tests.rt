@@ -133,8 +133,8 @@ fn each_command_is_planned(rt: HostRuntime) -> Result<(), Fail> {
         ("value|--layout|orlib|--block|1000|f", "value|O|1000|f"),
         ("solve|--layout|taillard|f", "solve|T|1|0|0|0|0|false|f"),
         (
-            "solve|--layout|orlib|--take|2000|f",
-            "solve|O|1|0|2000|0|0|false|f",
+            "solve|--layout|orlib|--take|5000|f",
+            "solve|O|1|0|5000|0|0|false|f",
         ),
         (
             "solve|--layout|orlib|--block|2|--rounds|1000000|--take|1|--seed|18446744073709551615|--passes|100|--cells|f",
@@ -147,7 +147,8 @@ fn each_command_is_planned(rt: HostRuntime) -> Result<(), Fail> {
             "convert|--to|taillard|--block|3|--from|orlib|f",
             "convert|OT|3|f",
         ),
-        ("generate|2000|200|1", "generate|2000|200|1"),
+        ("generate|2001|1|1", "generate|2001|1|1"),
+        ("generate|5000|200|1", "generate|5000|200|1"),
         ("generate|5|1|873654221", "generate|5|1|873654221"),
         (
             "generate|1|1|18446744073709551615",
@@ -229,7 +230,7 @@ fn other_lines_are_refused(rt: HostRuntime) -> Result<(), Fail> {
         "solve|--layout|orlib|--rounds|1000001|f",
         "solve|--layout|orlib|--rounds=-0|f",
         "solve|--layout|orlib|--take|0|f",
-        "solve|--layout|orlib|--take|2001|f",
+        "solve|--layout|orlib|--take|5001|f",
         "solve|--layout|orlib|--take|3|--take|3|f",
         "solve|--layout|orlib|--seed|18446744073709551616|f",
         "solve|--layout|orlib|--seed|0x1|f",
@@ -248,7 +249,7 @@ fn other_lines_are_refused(rt: HostRuntime) -> Result<(), Fail> {
         "generate|1|1",
         "generate|1|1|1|1",
         "generate|0|1|1",
-        "generate|2001|1|1",
+        "generate|5001|1|1",
         "generate|1|201|1",
         "generate|1|1|-1",
         "generate|1|1|1.0",

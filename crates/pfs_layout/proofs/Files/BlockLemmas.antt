@@ -1,6 +1,7 @@
 -- Where a block leads.
-use Rattle.std.proofs.Common.{◌≡◌, ℕ, ◌+◌, ◌<◌, Bool, true, false, not, ◌&&◌, ◌||◌, List, [], ◌∷◌, ◌++◌, length, fold, flat_map, refl, sym, ◌∙◌, ap, arith, if◌then◌else◌, ◌==◌}
-use Rattle.std.specs.List.{AllByRecursion, list_any, list_all, enumerate_from}
+use Rattle.std.proofs.Common.{◌≡◌, ℕ, ◌+◌, ◌<◌, Bool, true, false, not, List, [], ◌∷◌, ◌++◌, length, fold, flat_map}
+use Rattle.std.proofs.Common.{refl, sym, ◌∙◌, ap, arith, ◌==◌}
+use Rattle.std.specs.List.{AllByRecursion, list_any, list_all}
 use Rattle.std.proofs.lemmas.Bool.{and_parts, eq-eqb, false≢true, ne_eqb, not-true}
 use Rattle.std.proofs.Math.Bool.{or-false}
 use Rattle.std.proofs.lemmas.List.{append_assoc, append-nil, length-append}
@@ -14,8 +15,8 @@ use Rattle.pfs_base.proofs.Published.Lists.{by_push, enumerate_from-append}
 use Rattle.pfs_base.specs.Problem.{Problem}
 use Rattle.pfs_layout.specs.Size.{Size, size_of}
 use Rattle.pfs_layout.specs.Lines.{is_mixed, is_number_line, is_no_digit, values, numbers, ended_numbers, last_digits}
-use Rattle.pfs_layout.specs.Block.{is_due, due_at, are_due, due, stated_size, due_count}
-use Rattle.pfs_layout.specs.Stand.{Block, Now, seeking, inside, lost, Stand, standing, completed, begun, after_line, after_size, after_numbers, stand_after}
+use Rattle.pfs_layout.specs.Block.{are_due, due, due_count}
+use Rattle.pfs_layout.specs.Stand.{Block, seeking, inside, standing, completed, begun, after_line, stand_after}
 use Rattle.pfs_layout.specs.File.{AreBlocks, IsSomeBlock, IsBlock}
 use Rattle.pfs_layout.proofs.Files.LineLemmas.{open_part-push, ended_numbers-push, numbers_is}
 use Rattle.pfs_layout.proofs.Files.SoundLemmas.{values_last}
@@ -28,11 +29,13 @@ numbers_some : (line : List ℕ) → list_any is_digit line ≡ true → 0 < len
 numbers_some = by_push (λ line. list_any is_digit line ≡ true → 0 < length (numbers line))
     (λ e. absurd (false≢true e)) (λ line b h any. step (is_digit b) line b refl h any)
   where
-    step : (d : Bool) (line : List ℕ) (b : ℕ) → is_digit b ≡ d → (list_any is_digit line ≡ true → 0 < length (numbers line))
+    step : (d : Bool) (line : List ℕ) (b : ℕ) → is_digit b ≡ d
+        → (list_any is_digit line ≡ true → 0 < length (numbers line))
         → list_any is_digit (line ++ b ∷ []) ≡ true → 0 < length (numbers (line ++ b ∷ []))
     step true line b e h any =
         let digits : List ℕ = last_digits line ++ b ∷ [] in
-        let some : is_empty digits ≡ false = ne_eqb (length digits) 0 (λ z. omega (arith, length-append (last_digits line) (b ∷ []))) in
+        let some : is_empty digits ≡ false = ne_eqb (length digits) 0
+        (λ z. omega (arith, length-append (last_digits line) (b ∷ []))) in
         let last : length (values (digits ∷ [])) ≡ 1 = ap length (values_last false digits some) in
         rw (numbers_is (line ++ b ∷ []), open_part-push is_no_digit line b, e)
         (omega (arith, length-append (ended_numbers (line ++ b ∷ [])) (values (digits ∷ []))))
@@ -62,7 +65,8 @@ module _ (layout : Layout) (complete : List Block) where
       → list_all (λ line. not (is_mixed line)) front ≡ true → is_number_line last ≡ true
       → (all : List ℕ) → all ≡ ns ++ (flat_map numbers front ++ numbers last)
       → are_due layout size all ≡ true → length all ≡ due_count layout size
-      → fold (stand_after layout) (standing complete (inside (record { size = size; numbers = ns }))) (front ++ last ∷ [])
+      → fold (stand_after layout) (standing complete (inside (record { size = size; numbers = ns })))
+      (front ++ last ∷ [])
       ≡ completed complete (record { size = size; numbers = all })
   unfolding stand_after
   body_fold size ns [] last unmixed numbered all is due count =
@@ -92,7 +96,8 @@ module _ (layout : Layout) (complete : List Block) where
   unfolding stand_after
   block_fold problem block b =
       let tail : List (List ℕ) = b.front ++ b.last ∷ [] in
-      let lines : block ≡ b.skipped ++ (b.size_line ∷ tail) = rw b.parts (append_assoc b.skipped (b.size_line ∷ b.front) _) in
+      let lines : block ≡ b.skipped ++ (b.size_line ∷ tail) =
+      rw b.parts (append_assoc b.skipped (b.size_line ∷ b.front) _) in
       let step : after_line layout complete seeking b.size_line ≡ standing complete (inside (begun (size_of problem))) =
       rw (b.size.number_line, b.size.states, within_size problem b.within) in
       rw (lines, fold-append (stand_after layout) (standing complete seeking) b.skipped (b.size_line ∷ tail))
@@ -122,7 +127,10 @@ blocks_lead layout complete problem (block ∷ earlier) own each b =
       before = first ∷ more.before;
       as_many = omega (arith, more.as_many);
       end = rw (append_assoc block (flat_map (λ block. block) earlier) own)
-          (rw (fold-append (stand_after layout) (standing complete seeking) block rest, block_fold layout complete each.0.0 block each.0.1)
+          (rw (
+            fold-append (stand_after layout) (standing complete seeking) block rest,
+            block_fold layout complete each.0.0 block each.0.1,
+          )
           (rw more.end (simp append_assoc)));
     }
 

@@ -1,21 +1,22 @@
 -- Files, by where their lines lead.
-use Rattle.std.proofs.Common.{◌≡◌, ℕ, ◌+◌, List, [], ◌∷◌, ◌++◌, length, flat_map, refl, sym, ◌∙◌, ap, subst, arith, ◌⊎◌, inl, inr}
+use Rattle.std.proofs.Common.{◌≡◌, ℕ, List, [], ◌∷◌, ◌++◌, length, flat_map, refl, sym, ◌∙◌, ap, arith, inl, inr}
 use Rattle.std.specs.List.{AllByRecursion}
 use Rattle.std.proofs.lemmas.List.{append_assoc, append-nil, length-append}
 use Rattle.std.proofs.lemmas.Grind.{flat_map-append}
 use Rattle.pfs_base.specs.Limits.{limits}
 use Rattle.pfs_base.specs.Problem.{Problem}
 use Rattle.pfs_layout.specs.declared.layout.Layout.{Layout}
-use Rattle.pfs_layout.specs.Lines.{lines, open_line}
+use Rattle.pfs_layout.specs.Lines.{lines}
 use Rattle.pfs_layout.specs.File.{IsBlock, IsSomeBlock, File}
-use Rattle.pfs_layout.specs.Stand.{Block, seeking, stand, instance_of}
+use Rattle.pfs_layout.specs.Stand.{Block, completed, stand, instance_of}
 use Rattle.pfs_layout.specs.Laws.{Completes, FileStands}
 use Rattle.pfs_layout.proofs.Files.BlockLemmas.{file_leads}
-use Rattle.pfs_layout.proofs.Files.CutLemmas.{Front, front_of_lines}
+use Rattle.pfs_layout.proofs.Files.CutLemmas.{front_of_lines}
 use Rattle.pfs_layout.proofs.Files.RoundLemmas.{block_of, instance_due}
 use Rattle.pfs_layout.proofs.Files.StandLemmas.{AreOf, IsMade, made}
 
-pub file_completes : (layout : Layout) (input : List ℕ) (k : ℕ) (problem : Problem) → File limits layout input k problem → Completes layout input k problem
+pub file_completes : (layout : Layout) (input : List ℕ) (k : ℕ) (problem : Problem)
+    → File limits layout input k problem → Completes layout input k problem
 unfolding stand
 file_completes layout input k problem f =
     let lead = file_leads layout k problem (lines f.text) f.blocks in
@@ -43,10 +44,12 @@ record LastOf (layout : Layout) (all : List (List (List ℕ))) (earlier : List B
   pub each : AllByRecursion (IsSomeBlock limits layout) before
   pub is_own : IsBlock limits layout (instance_of layout own) last
 
-last_are : (layout : Layout) (all : List (List (List ℕ))) (earlier : List Block) (own : Block) → AreOf layout all (earlier ++ own ∷ []) → LastOf layout all earlier own
+last_are : (layout : Layout) (all : List (List (List ℕ))) (earlier : List Block) (own : Block)
+    → AreOf layout all (earlier ++ own ∷ []) → LastOf layout all earlier own
 last_are layout [] [] own are = absurd are
 last_are layout [] (block ∷ earlier) own are = absurd are
-last_are layout (last ∷ []) [] own are = record { before = []; last = last; parts = refl; count = refl; each = tt; is_own = are.0 }
+last_are layout (last ∷ []) [] own are =
+    record { before = []; last = last; parts = refl; count = refl; each = tt; is_own = are.0 }
 last_are layout (one ∷ other ∷ all) [] own are = absurd are.1
 last_are layout (first ∷ all) (block ∷ earlier) own are =
     let l = last_are layout all earlier own are.1 in
@@ -59,32 +62,34 @@ last_are layout (first ∷ all) (block ∷ earlier) own are =
       is_own = l.is_own;
     }
 
-pub completes_file : (layout : Layout) (input : List ℕ) (k : ℕ) (problem : Problem) → Completes layout input k problem → File limits layout input k problem
+pub completes_file : (layout : Layout) (input : List ℕ) (k : ℕ) (problem : Problem)
+    → Completes layout input k problem → File limits layout input k problem
 completes_file layout input k problem c =
-    let m : IsMade layout (lines c.text) (record { complete = c.earlier ++ c.own ∷ []; now = seeking }) = subst (IsMade layout (lines c.text)) c.stands (made layout (lines c.text)) in
+    let m : IsMade layout (lines c.text) (completed c.earlier c.own) = rw c.stands at (made layout (lines c.text)) in
     let flat : List (List (List ℕ)) → List (List ℕ) = flat_map (λ block. block) in
     let l = last_are layout m.blocks c.earlier c.own m.each in
     let f = front_of_lines c.text (flat m.blocks) m.tail m.parts in
     record {
       text = f.front;
       rest = f.rest ++ c.rest;
-      whole = c.whole ∙ ap (λ xs. xs ++ c.rest) f.whole ∙ append_assoc f.front f.rest c.rest;
-      ended = by_ends f f.ended c.ended;
+      whole = rw (← append_assoc f.front f.rest c.rest, ← f.whole) c.whole;
+      ended = elim f.ended [
+        | inl e ↦ inl e
+        | inr e ↦
+            let same : c.text ≡ f.front = rw (e, append-nil) at f.whole in
+            elim c.ended [ inl ended ↦ inl (rw same at ended) | inr none ↦ inr (rw (e, none)) ]
+      ];
       short = omega (arith, c.short, ap length f.whole, length-append f.front f.rest);
       blocks = record {
         earlier = l.before;
         own = l.last;
-        parts = f.are ∙ ap flat l.parts ∙ flat_map-append (λ block. block) l.before (l.last ∷ []) ∙ ap (λ ls. flat l.before ++ ls) (append-nil l.last);
-        count = ap (λ n. n + 1) l.count ∙ c.count;
+        parts = f.are ∙ ap flat l.parts
+            ∙ rw (flat_map-append (λ block. block) l.before (l.last ∷ []), append-nil l.last);
+        count = rw (l.count) c.count;
         each = l.each;
-        is_own = subst (λ p. IsBlock limits layout p l.last) (sym c.is) l.is_own;
+        is_own = rw c.is l.is_own;
       };
     }
-  where
-    by_ends : {some : List (List ℕ)} (f : Front c.text some) → (open_line f.front ≡ []) ⊎ (f.rest ≡ []) → (open_line c.text ≡ []) ⊎ (c.rest ≡ []) → (open_line f.front ≡ []) ⊎ (f.rest ++ c.rest ≡ [])
-    by_ends f (inl e) ends = inl e
-    by_ends f (inr e) (inl ended) = inl (ap open_line (sym (append-nil f.front) ∙ ap (λ xs. f.front ++ xs) (sym e) ∙ sym f.whole) ∙ ended)
-    by_ends f (inr e) (inr none) = inr (ap (λ xs. xs ++ c.rest) e ∙ none)
 
 pub file_stands : FileStands
 file_stands layout input k problem = (file_completes layout input k problem, completes_file layout input k problem)

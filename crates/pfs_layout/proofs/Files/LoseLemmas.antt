@@ -1,9 +1,10 @@
 -- A fault at a byte or at the end of the input makes its line one after which all is lost.
-use Rattle.std.proofs.Common.{◌≡◌, ℕ, ◌+◌, ◌-◌, Bool, true, false, not, ◌&&◌, ◌||◌, List, [], ◌∷◌, ◌++◌, length, get_or, count_by, refl, sym, ◌∙◌, ap, subst, arith, Option, Some, None, ◌⊎◌, inl, inr, if◌then◌else◌, ◌==◌}
-use Rattle.std.specs.List.{list_any, slice_split, onto_first}
-use Rattle.std.specs.Bool.{then_some}
+use Rattle.std.proofs.Common.{◌≡◌, ℕ, ◌+◌, Bool, true, false, not, ◌&&◌, ◌||◌, List, [], ◌∷◌, ◌++◌, length}
+use Rattle.std.proofs.Common.{count_by, refl, sym, arith, Option, Some, None, inl, inr}
+use Rattle.std.specs.List.{list_any, slice_split}
 use Rattle.std.specs.Str.Parse.{digits_value}
 use Rattle.std.proofs.lemmas.Bool.{and_parts, cases_Bool, eqb-true, false_from_ne_true, lt-leb, ltb-true, not-true}
+use Rattle.std.proofs.lemmas.Bool.{both_ways}
 use Rattle.std.proofs.lemmas.Bool.Decides.{nat_tests}
 use Rattle.std.proofs.Math.Bool.{or-false}
 use Rattle.std.proofs.lemmas.List.{append_assoc, append-nil, length-append, get_or_push}
@@ -14,13 +15,16 @@ use Rattle.pfs_layout.specs.declared.layout.Layout.{Layout}
 use Rattle.pfs_layout.specs.declared.fault.LayoutFault.{LayoutFault}
 use Rattle.pfs_layout.specs.declared.fault.LayoutFault.TheVariants.{SizeRange}
 use Rattle.pfs_layout.specs.Bytes.{is_digit, is_blank, is_line_end, is_word_byte}
-use Rattle.pfs_layout.specs.Size.{Size, is_within_limits}
-use Rattle.pfs_layout.specs.Lines.{open_line, is_mixed, is_number_line, is_no_digit, values, numbers, ended_numbers, last_digits}
-use Rattle.pfs_layout.specs.Block.{Due, any_time, machine_number, nothing, is_due, due_at, are_due, stated_size, due_count}
-use Rattle.pfs_layout.specs.Stand.{Block, Now, seeking, inside, lost, Stand, after_size, after_numbers, after_line}
-use Rattle.pfs_layout.specs.Refuse.{ends_line, ends_number, too_long, mixed_line, misfit, wrong_number, size_fault, wrong_size, ends_early, faults}
-use Rattle.pfs_layout.proofs.Files.LineLemmas.{IsSome, split_some, numbers_is, values-append}
-use Rattle.pfs_layout.proofs.Files.SoundLemmas.{if_some, values_last, same_last}
+use Rattle.pfs_layout.specs.Size.{Size}
+use Rattle.pfs_layout.specs.Lines.{open_line, is_mixed, is_number_line, is_no_digit, numbers, ended_numbers}
+use Rattle.pfs_layout.specs.Lines.{last_digits}
+use Rattle.pfs_layout.specs.Block.{Due, any_time, machine_number, nothing, is_due, due_at, are_due, stated_size}
+use Rattle.pfs_layout.specs.Stand.{Block, Now, seeking, inside, lost, after_size, after_line}
+use Rattle.pfs_layout.specs.Refuse.{ends_line, ends_number, too_long, mixed_line, misfit, wrong_number, size_fault}
+use Rattle.pfs_layout.specs.Refuse.{wrong_size, ends_early, faults}
+use Rattle.pfs_layout.proofs.Files.LineLemmas.{split_some, numbers_is, values-append}
+use Rattle.pfs_layout.proofs.Files.SoundLemmas.{values_last, same_last}
+use Rattle.pfs_layout.proofs.Options.{alone, if_some, one_of, then_some_some}
 use Rattle.pfs_layout.proofs.Files.BlockLemmas.{are_due_front}
 use Rattle.pfs_layout.proofs.Files.RoundLemmas.{due_number}
 
@@ -47,31 +51,11 @@ pub data LineAt (text : List ℕ) (next : Option ℕ) (line : List ℕ) : Type 0
   goes_on : (b : ℕ) (tail : List ℕ) → next ≡ Some b → is_line_end b ≡ false → line ≡ open_line text ++ b ∷ tail
       → LineAt text next line
 
-then_some_some : {A : Type 0} (c : Bool) (x y : A) → then_some c x ≡ Some y → c ≡ true
-then_some_some true x y e = refl
-then_some_some false x y e = cc
-
--- ---- a size line
+-- ---- what isn't as it should be
 
 size_lost : (o : Option Size) (line : ℕ) (fault : LayoutFault) → size_fault o line ≡ Some fault → after_size o ≡ lost
 size_lost None line fault e = refl
 size_lost (Some size) line fault e = rw (not-true _ (then_some_some _ (SizeRange line) fault e))
-
-wrong_size_lost : (layout : Layout) (complete : List Block) (text : List ℕ) (next : Option ℕ) (fault : LayoutFault)
-    (line : List ℕ) → wrong_size layout text next ≡ Some fault → LineAt text next line
-    → (after_line layout complete seeking line).now ≡ lost
-unfolding wrong_size
-wrong_size_lost layout complete text next fault line e at =
-    let stated : Option Size = stated_size layout (numbers (open_line text)) in
-    let found = if_some (ends_line text next && is_number_line (open_line text))
-    (size_fault stated (1 + count_by is_line_end text)) fault e in
-    let parts = and_parts (ends_line text next) (is_number_line (open_line text)) found.0 in
-    elim at [
-      | ends_here h same ↦ rw (same, parts.1) (size_lost stated (1 + count_by is_line_end text) fault found.1)
-      | goes_on b tail is inner same ↦ let yes = rw is at parts.0 in absurd (cc)
-    ]
-
--- ---- a mixed line
 
 mixed_at_end : (line : List ℕ) (b : ℕ) → is_line_end b ≡ true → is_mixed (line ++ b ∷ []) ≡ is_mixed line
 mixed_at_end line b e =
@@ -83,25 +67,6 @@ mixed_longer line more e =
     let parts = and_parts (list_any is_digit line) (list_any is_word_byte line) e in
     rw (list_any-append is_digit line more, list_any-append is_word_byte line more, parts.0, parts.1)
 
-mixed_line_mixed : (text : List ℕ) (next : Option ℕ) (fault : LayoutFault) (line : List ℕ)
-    → mixed_line text next ≡ Some fault → LineAt text next line → is_mixed line ≡ true
-unfolding mixed_line
-mixed_line_mixed text None fault line e at = cc
-mixed_line_mixed text (Some b) fault line e at =
-    let before : List ℕ = open_line text in
-    let parts = and_parts (not (is_mixed before)) (is_mixed (before ++ b ∷ [])) (then_some_some _ _ fault e) in
-    elim at [
-      | ends_here h same ↦
-          let both = rw (mixed_at_end before b h) at parts.1 in
-          let one = not-true (is_mixed before) parts.0 in
-          absurd (cc)
-      | goes_on c tail is inner same ↦
-          let byte : c ≡ b = cc in
-          rw (same, byte, ← append_assoc before (b ∷ []) tail) (mixed_longer (before ++ b ∷ []) tail parts.1)
-    ]
-
--- ---- a number that isn't due
-
 misfit_not_due : (due : Due) (number offset : ℕ) (fault : LayoutFault) → misfit due number offset ≡ Some fault
     → is_due due number ≡ false
 misfit_not_due any_time number offset fault e =
@@ -112,71 +77,89 @@ misfit_not_due nothing number offset fault e = refl
 blank_no_digit : (b : ℕ) → (is_blank b || is_line_end b) ≡ true → is_no_digit b ≡ true
 blank_no_digit b e = grind (arith, nat_tests)
 
--- the numbers of the line, from its ended ones and the one that ends at the place on
-numbers_at : (text : List ℕ) (next : Option ℕ) (line : List ℕ) → ends_number text next ≡ true → LineAt text next line
-    → (more : List ℕ)
-    × (numbers line ≡ (ended_numbers (open_line text) ++ digits_value 10 (last_digits text) ∷ []) ++ more)
-numbers_at text next line ends at =
-    elim at [
-      | ends_here h same ↦ ([], rw (same, own) (sym (append-nil _)))
-      | goes_on b tail is inner same ↦
-          let both = and_parts (not (is_empty (last_digits text))) (is_blank b || is_line_end b) (rw is at ends) in
-          (numbers tail, rw (same, numbers_break (open_line text) b tail (blank_no_digit b both.1), own))
-    ]
-  where
-    there : (next : Option ℕ) → ends_number text next ≡ true → is_empty (last_digits text) ≡ false
-    there None ends = not-true _ ends
-    there (Some b) ends = not-true _ (and_parts _ (is_blank b || is_line_end b) ends).0
+digits_there : (text : List ℕ) (next : Option ℕ) → ends_number text next ≡ true → is_empty (last_digits text) ≡ false
+digits_there text None ends = not-true _ ends
+digits_there text (Some b) ends = not-true _ (and_parts _ (is_blank b || is_line_end b) ends).0
 
-    own : numbers (open_line text) ≡ ended_numbers (open_line text) ++ digits_value 10 (last_digits text) ∷ []
-    own = rw (numbers_is (open_line text), ← same_last text, values_last false _ (there next ends))
+-- ---- a line at a place with a fault
 
-wrong_number_not_due : (layout : Layout) (block : Block) (text : List ℕ) (next : Option ℕ) (fault : LayoutFault)
-    (line : List ℕ) → wrong_number layout block text next ≡ Some fault → LineAt text next line
-    → are_due layout block.size (block.numbers ++ numbers line) ≡ false
-unfolding wrong_number
-wrong_number_not_due layout block text next fault line e at = false_from_ne_true _ (λ due.
-    let ended : List ℕ = ended_numbers (open_line text) in
-    let value : ℕ = digits_value 10 (last_digits text) in
-    let place : ℕ = length block.numbers + length ended in
-    let found = if_some (ends_number text next) (misfit (due_at layout block.size place) value _) fault e in
-    let has = numbers_at text next line found.0 at in
-    let before : List ℕ = block.numbers ++ ended in
-    let apart : block.numbers ++ numbers line ≡ (before ++ value ∷ []) ++ has.0 = rw has.1 (simp append_assoc) in
-    let front = are_due_front layout block.size (before ++ value ∷ []) has.0 (rw apart at due) in
-    let at_place : length before ≡ place = length-append block.numbers ended in
-    let within = length-append before (value ∷ []) in
-    let yes = due_number layout block.size (before ++ value ∷ []) place front (omega arith) in
-    let here : get_or (before ++ value ∷ []) place 0 ≡ value = get_or_push before value 0 place at_place in
-    let right = rw here at yes in
-    let wrong = misfit_not_due (due_at layout block.size place) value _ fault found.1 in
-    cc)
+module _ (text : List ℕ) (next : Option ℕ) (fault : LayoutFault) (line : List ℕ) (at : LineAt text next line) where
+  wrong_size_lost : (layout : Layout) (complete : List Block) → wrong_size layout text next ≡ Some fault
+      → (after_line layout complete seeking line).now ≡ lost
+  unfolding wrong_size
+  wrong_size_lost layout complete e =
+      let stated : Option Size = stated_size layout (numbers (open_line text)) in
+      let found = if_some (ends_line text next && is_number_line (open_line text))
+      (size_fault stated (1 + count_by is_line_end text)) fault e in
+      let parts = and_parts (ends_line text next) (is_number_line (open_line text)) found.0 in
+      elim at [
+        | ends_here h same ↦ rw (same, parts.1) (size_lost stated (1 + count_by is_line_end text) fault found.1)
+        | goes_on b tail is inner same ↦ let yes = rw is at parts.0 in absurd (cc)
+      ]
 
--- ---- any of them
+  mixed_line_mixed : mixed_line text next ≡ Some fault → is_mixed line ≡ true
+  unfolding mixed_line
+  mixed_line_mixed e = by_next next e at
+    where
+      before : List ℕ
+      before = open_line text
 
-alone : {A : Type 0} (o : Option A) (x : A) → first_some (o ∷ None ∷ []) ≡ Some x → o ≡ Some x
-alone None x e = cc
-alone (Some y) x e = e
+      by_next : (next : Option ℕ) → mixed_line text next ≡ Some fault → LineAt text next line → is_mixed line ≡ true
+      by_next None e at = cc
+      by_next (Some b) e at =
+          let parts = and_parts (not (is_mixed before)) (is_mixed (before ++ b ∷ [])) (then_some_some _ _ fault e) in
+          elim at [
+            | ends_here h same ↦
+                let one = not-true (is_mixed before) parts.0 in
+                absurd (both_ways _ one (rw (mixed_at_end before b h) at parts.1))
+            | goes_on c tail is inner same ↦
+                let byte : c ≡ b = cc in
+                rw (same, byte, ← append_assoc before (b ∷ []) tail) (mixed_longer (before ++ b ∷ []) tail parts.1)
+          ]
 
-one_of : {A : Type 0} (o p : Option A) (x : A) → first_some (o ∷ p ∷ None ∷ []) ≡ Some x → (o ≡ Some x) ⊎ (p ≡ Some x)
-one_of None p x e = inr (alone p x e)
-one_of (Some y) p x e = inl e
+  -- the numbers of the line, from its ended ones and the one that ends at the place on
+  numbers_at : ends_number text next ≡ true → (more : List ℕ)
+      × (numbers line ≡ (ended_numbers (open_line text) ++ digits_value 10 (last_digits text) ∷ []) ++ more)
+  numbers_at ends =
+      let own : numbers (open_line text) ≡ ended_numbers (open_line text) ++ digits_value 10 (last_digits text) ∷ [] =
+      rw (numbers_is (open_line text), ← same_last text, values_last false _ (digits_there text next ends)) in
+      elim at [
+        | ends_here h same ↦ ([], rw (same, own) (sym (append-nil _)))
+        | goes_on b tail is inner same ↦
+            let both = and_parts (not (is_empty (last_digits text))) (is_blank b || is_line_end b) (rw is at ends) in
+            (numbers tail, rw (same, numbers_break (open_line text) b tail (blank_no_digit b both.1), own))
+      ]
 
-not_due_lost : (layout : Layout) (complete : List Block) (block : Block) (line : List ℕ)
-    → are_due layout block.size (block.numbers ++ numbers line) ≡ false
-    → (after_line layout complete (inside block) line).now ≡ lost
-not_due_lost layout complete block line e = grind arith
+  wrong_number_not_due : (layout : Layout) (block : Block) → wrong_number layout block text next ≡ Some fault
+      → are_due layout block.size (block.numbers ++ numbers line) ≡ false
+  unfolding wrong_number
+  wrong_number_not_due layout block e = false_from_ne_true _ (λ due.
+      let ended : List ℕ = ended_numbers (open_line text) in
+      let value : ℕ = digits_value 10 (last_digits text) in
+      let place : ℕ = length block.numbers + length ended in
+      let found = if_some (ends_number text next) (misfit (due_at layout block.size place) value _) fault e in
+      let has = numbers_at found.0 in
+      let before : List ℕ = block.numbers ++ ended in
+      let apart : block.numbers ++ numbers line ≡ (before ++ value ∷ []) ++ has.0 = rw has.1 (simp append_assoc) in
+      let front = are_due_front layout block.size (before ++ value ∷ []) has.0 (rw apart at due) in
+      let at_place : length before ≡ place = length-append block.numbers ended in
+      let within = length-append before (value ∷ []) in
+      let right = due_number layout block.size (before ++ value ∷ []) place front (omega arith) in
+      let wrong = misfit_not_due (due_at layout block.size place) value _ fault found.1 in
+      both_ways _ wrong (rw (get_or_push before value 0 place at_place) at right))
 
-pub loses : (layout : Layout) (k : ℕ) (complete : List Block) (now : Now) (text : List ℕ) (next : Option ℕ)
-    (fault : LayoutFault) (line : List ℕ) → first_some (faults layout k now text next) ≡ Some fault
-    → too_long text next ≡ None → ends_early layout k text next ≡ None → LineAt text next line
-    → (after_line layout complete now line).now ≡ lost
-loses layout k complete seeking text next fault line e long early at =
-    wrong_size_lost layout complete text next fault line (alone _ fault (rw (long, early) at e)) at
-loses layout k complete (inside block) text next fault line e long early at =
-    elim (one_of _ _ fault (rw (long, early) at e)) [
-      | inl mixed ↦ rw (mixed_line_mixed text next fault line mixed at)
-      | inr wrong ↦
-          not_due_lost layout complete block line (wrong_number_not_due layout block text next fault line wrong at)
-    ]
-loses layout k complete lost text next fault line e long early at = refl
+  not_due_lost : (layout : Layout) (complete : List Block) (block : Block)
+      → are_due layout block.size (block.numbers ++ numbers line) ≡ false
+      → (after_line layout complete (inside block) line).now ≡ lost
+  not_due_lost layout complete block e = grind arith
+
+  pub loses : (layout : Layout) (k : ℕ) (complete : List Block) (now : Now)
+      → first_some (faults layout k now text next) ≡ Some fault → too_long text next ≡ None
+      → ends_early layout k text next ≡ None → (after_line layout complete now line).now ≡ lost
+  loses layout k complete seeking e long early =
+      wrong_size_lost layout complete (alone _ fault (rw (long, early) at e))
+  loses layout k complete (inside block) e long early = elim (one_of _ _ fault (rw (long, early) at e)) [
+    | inl mixed ↦ rw (mixed_line_mixed mixed)
+    | inr wrong ↦ not_due_lost layout complete block (wrong_number_not_due layout block wrong)
+  ]
+  loses layout k complete lost e long early = refl

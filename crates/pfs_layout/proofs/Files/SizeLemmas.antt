@@ -14,8 +14,10 @@ pub within_size : (problem : Problem) → IsInstance limits problem → is_withi
 within_size problem is =
     let sizes = is.within.sizes in
     let notes = problem.notes in
-    let jobs = and_from _ _ (le-leb 1 problem.shop.jobs sizes.some_job) (le-leb problem.shop.jobs MOST_JOBS sizes.few_jobs) in
-    let machines = and_from _ _ (le-leb 1 problem.shop.machines sizes.some_machine) (le-leb problem.shop.machines MOST_MACHINES sizes.few_machines) in
+    let jobs = and_from _ _ (le-leb 1 problem.shop.jobs sizes.some_job)
+    (le-leb problem.shop.jobs MOST_JOBS sizes.few_jobs) in
+    let machines = and_from _ _ (le-leb 1 problem.shop.machines sizes.some_machine)
+    (le-leb problem.shop.machines MOST_MACHINES sizes.few_machines) in
     let seed = le-leb notes.seed GREATEST_NOTE is.seed in
     let upper = le-leb notes.upper GREATEST_NOTE is.upper in
     let lower = le-leb notes.lower GREATEST_NOTE is.lower in
@@ -47,7 +49,8 @@ size_within size e =
     }
 
 -- times that pass the test are short
-pub all_short : (times : List ℕ) → list_all (λ time. nat_le time LONGEST_TIME) times ≡ true → All (λ time. time ≤ LONGEST_TIME) times
+pub all_short : (times : List ℕ) → list_all (λ time. nat_le time LONGEST_TIME) times ≡ true
+    → All (λ time. time ≤ LONGEST_TIME) times
 all_short [] e = All-nil (λ time. time ≤ LONGEST_TIME)
 all_short (time ∷ times) e =
     let parts = and_parts (nat_le time LONGEST_TIME) (list_all (λ time. nat_le time LONGEST_TIME) times) e in

@@ -1,11 +1,13 @@
 -- While no byte has a fault, the numbers so far are due and no line of a body is mixed.
-use Rattle.std.proofs.Common.{◌≡◌, ℕ, ◌+◌, ◌-◌, ◌<◌, ◌≤◌, Bool, true, false, not, ◌&&◌, ◌||◌, List, [], ◌∷◌, ◌++◌, length, map, count_by, refl, sym, ◌∙◌, ap, arith, Option, Some, None, ◌⊎◌, inl, inr, if◌then◌else◌, ◌==◌}
-use Rattle.std.specs.List.{list_any, list_all, enumerate_from}
-use Rattle.std.specs.Bool.{then_some}
-use Rattle.std.specs.Option.{option_or}
+use Rattle.std.proofs.Common.{◌≡◌, ℕ, ◌+◌, ◌-◌, ◌<◌, ◌≤◌, Bool, true, false, ◌||◌, List, [], ◌∷◌, ◌++◌, length}
+use Rattle.std.proofs.Common.{count_by, refl, sym, arith, Option, Some, None, if◌then◌else◌, ◌==◌}
+use Rattle.std.specs.List.{list_any}
 use Rattle.std.specs.Str.Parse.{digits_value}
-use Rattle.std.proofs.lemmas.Bool.{and_from, cond_both, eqb-true, false≢true, le-leb, lt-ltb, ltb-false, not-false, not-true}
+use Rattle.std.proofs.lemmas.Bool.{and_from, cond_both, eqb-true, le-leb, lt-ltb, ltb-false, not-false}
+use Rattle.std.proofs.lemmas.Bool.{not-true}
 use Rattle.std.proofs.lemmas.Bool.{or_left, or_parts, or_right}
+use Rattle.std.proofs.lemmas.Bool.{both_ways, cases_Bool, true_from_ne_false}
+use Rattle.std.proofs.Common.{inl, inr}
 use Rattle.std.proofs.lemmas.Grind.{common_steps}
 use Rattle.std.proofs.lemmas.List.{append-nil, append_assoc, length-append}
 use Rattle.std.proofs.lemmas.List.Folds.{list_any-append, list_all-append}
@@ -15,41 +17,18 @@ use Rattle.pfs_layout.specs.Bytes.{is_digit, is_blank, is_line_end, is_word_byte
 use Rattle.pfs_base.specs.declared.limits.TheConstants.{LONGEST_TIME}
 use Rattle.pfs_base.specs.Lists.{is_empty, first_some}
 use Rattle.pfs_base.proofs.Published.Lists.{by_push, enumerate_from-append}
-use Rattle.pfs_layout.specs.Size.{Size, is_within_limits}
-use Rattle.pfs_layout.specs.Lines.{ended_parts, open_part, ended_lines, open_line, is_mixed, is_number_line, is_no_digit, values, numbers, ended_numbers, last_digits}
-use Rattle.pfs_layout.specs.Block.{Due, any_time, machine_number, nothing, is_due, due_at, are_due, stated_size, due_count}
-use Rattle.pfs_layout.specs.Stand.{Block, Now, seeking, inside, lost, Stand, standing, completed, begun, with_line, after_size, after_numbers, after_line, stand_after, stand}
-use Rattle.pfs_layout.specs.Refuse.{mixed_line, misfit, ends_line, ends_number, wrong_number, size_fault, wrong_size, too_long, ends_early, faults, fault_behind, byte_fault}
+use Rattle.pfs_layout.specs.Size.{Size}
+use Rattle.pfs_layout.specs.Lines.{ended_parts, open_part, ended_lines, open_line, is_mixed, is_number_line}
+use Rattle.pfs_layout.specs.Lines.{is_no_digit, values, numbers, ended_numbers, last_digits}
+use Rattle.pfs_layout.specs.Block.{Due, any_time, machine_number, nothing, is_due, due_at, are_due, stated_size}
+use Rattle.pfs_layout.specs.Block.{due_count}
+use Rattle.pfs_layout.specs.Stand.{Block, Now, seeking, inside, lost, Stand, standing, completed, begun, with_line}
+use Rattle.pfs_layout.specs.Stand.{after_size, after_numbers, after_line, stand_after, stand}
+use Rattle.pfs_layout.specs.Refuse.{mixed_line, misfit, ends_line, ends_number, wrong_number, size_fault, wrong_size}
+use Rattle.pfs_layout.specs.Refuse.{faults, fault_behind, byte_fault}
 use Rattle.pfs_layout.proofs.Files.LineLemmas.{ended_parts-push, open_part-push, ended_numbers-push, numbers_is}
 use Rattle.pfs_layout.proofs.Published.PlaceLemmas.{byte_fault-push}
-
--- ---- options
-
-pub then_some_none : {A : Type 0} (c : Bool) (x : A) → then_some c x ≡ None → c ≡ false
-then_some_none true x e = cc
-then_some_none false x e = refl
-
-pub if_some : {A : Type 0} (v : Bool) (o : Option A) (x : A) → (if v then o else None) ≡ Some x → (v ≡ true) × (o ≡ Some x)
-if_some true o x e = (refl, e)
-if_some false o x e = cc
-
-pub cases_option : {A : Type 0} (o : Option A) → (o ≡ None) ⊎ ((x : A) × (o ≡ Some x))
-cases_option None = inl refl
-cases_option (Some x) = inr (x, refl)
-
--- each of them is none
-abbrev pub AllNone : {A : Type 0} → List (Option A) → Type 0
-AllNone [] = Unit {0}
-AllNone (o ∷ os) = (o ≡ None) × AllNone os
-
-pub all_none : {A : Type 0} (os : List (Option A)) → first_some os ≡ None → AllNone os
-all_none [] e = tt
-all_none (None ∷ os) e = (refl, all_none os e)
-all_none (Some x ∷ os) e = cc
-
-or_none : {A : Type 0} (o p : Option A) → option_or o p ≡ None → (o ≡ None) × (p ≡ None)
-or_none None p e = (refl, e)
-or_none (Some x) p e = cc
+use Rattle.pfs_layout.proofs.Options.{then_some_none, all_none, or_none}
 
 -- ---- numbers that are due
 
@@ -83,21 +62,14 @@ open_line-none = refl
 
 -- the last digits of a text are those of its last line
 pub same_last : (text : List ℕ) → last_digits text ≡ last_digits (open_line text)
-same_last = by_push (λ text. last_digits text ≡ last_digits (open_line text)) (rw open_line-none) more
-  where
-    step : (d e : Bool) (text : List ℕ) (b : ℕ) → is_no_digit b ≡ d → (e ≡ true → d ≡ true)
-        → last_digits text ≡ last_digits (open_line text)
-        → (if d then [] else last_digits text ++ b ∷ []) ≡ last_digits (if e then [] else open_line text ++ b ∷ [])
-    step true true text b p r h = sym last_digits-none
-    step false true text b p r h = absurd (false≢true (r refl))
-    step true false text b p r h = rw (open_part-push is_no_digit (open_line text) b, p)
-    step false false text b p r h = rw (open_part-push is_no_digit (open_line text) b, p, h)
-
-    more : (text : List ℕ) (b : ℕ) → last_digits text ≡ last_digits (open_line text)
-        → last_digits (text ++ b ∷ []) ≡ last_digits (open_line (text ++ b ∷ []))
-    more text b h =
-        rw (open_part-push is_no_digit text b, open_part-push is_line_end text b)
-        (step (is_no_digit b) (is_line_end b) text b refl (λ e. rw (eqb-true b 10 e) refl) h)
+same_last = by_push (λ text. last_digits text ≡ last_digits (open_line text)) (rw open_line-none) (λ text b h.
+    let byte = open_part-push is_no_digit text b in
+    elim (cases_Bool (is_line_end b)) [
+      | inl ends ↦
+          let gap : is_no_digit b ≡ true = rw (eqb-true b 10 ends) in
+          rw (byte, open_part-push is_line_end text b, ends, gap) (sym last_digits-none)
+      | inr on ↦ rw (byte, open_part-push is_line_end text b, on, open_part-push is_no_digit (open_line text) b, h)
+    ])
 
 -- ---- what holds while no byte has a fault
 
@@ -113,42 +85,34 @@ GoodNow layout lost line = ⊥
 
 -- a digit at the end of a line is a digit on it
 pub digit_there : (line : List ℕ) → is_empty (last_digits line) ≡ false → list_any is_digit line ≡ true
-digit_there = by_push (λ line. is_empty (last_digits line) ≡ false → list_any is_digit line ≡ true) none more
-  where
-    none : is_empty (last_digits []) ≡ false → list_any is_digit [] ≡ true
-    none h = let e : is_empty (last_digits []) ≡ true = rw last_digits-none in cc
-
-    step : (d : Bool) (line : List ℕ) (b : ℕ) → is_digit b ≡ d
-        → is_empty (if not d then [] else last_digits line ++ b ∷ []) ≡ false
-        → (list_any is_digit line || (is_digit b || false)) ≡ true
-    step true line b e h = or_right _ _ (or_left _ false e)
-    step false line b e h = cc
-
-    more : (line : List ℕ) (b : ℕ) → (is_empty (last_digits line) ≡ false → list_any is_digit line ≡ true)
-        → is_empty (last_digits (line ++ b ∷ [])) ≡ false → list_any is_digit (line ++ b ∷ []) ≡ true
-    more line b h e =
-        rw (list_any-append is_digit line (b ∷ [])) (step (is_digit b) line b refl (rw (← open_part-push is_no_digit line b) e))
+digit_there = by_push (λ line. is_empty (last_digits line) ≡ false → list_any is_digit line ≡ true)
+    (λ none. let nothing = rw last_digits-none at none in absurd (cc))
+    (λ line b h some. elim (cases_Bool (is_digit b)) [
+      | inl digit ↦ rw (list_any-append is_digit line (b ∷ []), digit) (or_right (list_any is_digit line) true refl)
+      | inr gap ↦ let nothing = rw (open_part-push is_no_digit line b, gap) at some in absurd (cc)
+    ])
 
 -- where the number at the end of the line is ended without a fault, all numbers of the line are due
-all_due : (v : Bool) (layout : Layout) (block : Block) (text : List ℕ) (next : Option ℕ)
-    → is_empty (last_digits (open_line text)) ≡ v
+all_due : (layout : Layout) (block : Block) (text : List ℕ) (next : Option ℕ)
     → are_due layout block.size (block.numbers ++ ended_numbers (open_line text)) ≡ true
-    → (v ≡ false → ends_number text next ≡ true)
+    → (is_empty (last_digits (open_line text)) ≡ false → ends_number text next ≡ true)
     → wrong_number layout block text next ≡ None
     → are_due layout block.size (block.numbers ++ numbers (open_line text)) ≡ true
 unfolding wrong_number
-all_due true layout block text next empty due ends right =
-    rw (numbers_is (open_line text), values_last true _ empty, append-nil) due
-all_due false layout block text next empty due ends right =
+all_due layout block text next due ends right =
     let line = open_line text in
     let before : List ℕ = block.numbers ++ ended_numbers line in
-    let place : ℕ = length block.numbers + length (ended_numbers line) in
-    let value : ℕ = digits_value 10 (last_digits text) in
-    let one = misfit_none (due_at layout block.size place) value (length text - length (last_digits text))
-    (rw (ends refl) at right) in
-    let at : length before ≡ place = length-append block.numbers (ended_numbers line) in
-    rw (numbers_is line, values_last false _ empty, ← append_assoc)
-    (are_due-push layout block.size before _ due (rw (at, ← same_last text) one))
+    elim (cases_Bool (is_empty (last_digits line))) [
+      | inl empty ↦ rw (numbers_is line, values_last true _ empty, append-nil) due
+      | inr some ↦
+          let place : ℕ = length block.numbers + length (ended_numbers line) in
+          let offset : ℕ = length text - length (last_digits text) in
+          let one = misfit_none (due_at layout block.size place) (digits_value 10 (last_digits text)) offset
+          (rw (ends some) at right) in
+          let at : length before ≡ place = length-append block.numbers (ended_numbers line) in
+          rw (numbers_is line, values_last false _ some, ← append_assoc)
+          (are_due-push layout block.size before _ due (rw (at, ← same_last text) one))
+    ]
 
 -- digits at the end of a text are ended by a blank and by a line end
 digits_ended : (text : List ℕ) (b : ℕ) → is_empty (last_digits (open_line text)) ≡ false
@@ -156,16 +120,15 @@ digits_ended : (text : List ℕ) (b : ℕ) → is_empty (last_digits (open_line 
 digits_ended text b there ends = rw (same_last text, there) ends
 
 -- on an unmixed line a byte that ends a number is a blank or a line end
-ends_by : (v : Bool) (line : List ℕ) (b : ℕ) → (is_blank b || is_line_end b) ≡ v → is_no_digit b ≡ true
-    → is_mixed (line ++ b ∷ []) ≡ false → is_empty (last_digits line) ≡ false → v ≡ true
-ends_by true line b e no_digit unmixed there = refl
-ends_by false line b e no_digit unmixed there =
+ends_by : (line : List ℕ) (b : ℕ) → is_no_digit b ≡ true → is_mixed (line ++ b ∷ []) ≡ false
+    → is_empty (last_digits line) ≡ false → (is_blank b || is_line_end b) ≡ true
+ends_by line b no_digit unmixed there = true_from_ne_false _ (λ e.
     let blank = or_parts (is_blank b) (is_line_end b) e in
     let word : is_word_byte b ≡ true = rw (not-true (is_digit b) no_digit, blank.0, blank.1) in
     let mixed : is_mixed (line ++ b ∷ []) ≡ true =
     rw (list_any-append is_digit line (b ∷ []), list_any-append is_word_byte line (b ∷ []), digit_there line there)
     (or_right _ _ (or_left _ false word)) in
-    cc
+    both_ways _ unmixed mixed)
 
 -- a body's line with one more byte that isn't its end
 body_push : (layout : Layout) (block : Block) (text : List ℕ) (b : ℕ) → GoodBody layout block (open_line text)
@@ -175,14 +138,14 @@ unfolding mixed_line
 body_push layout block text b good right_line right_number =
     let line = open_line text in
     let unmixed : is_mixed (line ++ b ∷ []) ≡ false = rw good.unmixed at (then_some_none _ _ right_line) in
-    record { due = rw (ended_numbers-push line b) (by_digit (is_no_digit b) refl unmixed); unmixed = unmixed }
-  where
-    by_digit : (v : Bool) → is_no_digit b ≡ v → is_mixed (open_line text ++ b ∷ []) ≡ false
-        → are_due layout block.size
-        (block.numbers ++ (if v then numbers (open_line text) else ended_numbers (open_line text))) ≡ true
-    by_digit true e unmixed = all_due (is_empty (last_digits (open_line text))) layout block text (Some b) refl good.due
-        (λ there. digits_ended text b there (ends_by _ (open_line text) b refl e unmixed there)) right_number
-    by_digit false e unmixed = good.due
+    record {
+      due = rw (ended_numbers-push line b) (elim (cases_Bool (is_no_digit b)) [
+        | inl gap ↦ rw gap (all_due layout block text (Some b) good.due
+            (λ there. digits_ended text b there (ends_by line b gap unmixed there)) right_number)
+        | inr digit ↦ rw digit good.due
+      ]);
+      unmixed = unmixed;
+    }
 
 -- the complete blocks stay
 complete_stays : (layout : Layout) (complete : List Block) (now : Now) (line : List ℕ)
@@ -207,13 +170,16 @@ good_size : (layout : Layout) (line : ℕ) (stated : Option Size) → size_fault
 good_size layout line None e = cc
 good_size layout line (Some size) e = rw (not-false _ (then_some_none _ _ e)) (good_begun layout size)
 
-good_sought : (v : Bool) (layout : Layout) (text : List ℕ) (next : Option ℕ) → ends_line text next ≡ true
-    → is_number_line (open_line text) ≡ v → wrong_size layout text next ≡ None
-    → GoodNow layout (if v then after_size (stated_size layout (numbers (open_line text))) else seeking) []
+good_sought : (layout : Layout) (text : List ℕ) (next : Option ℕ) → ends_line text next ≡ true
+    → wrong_size layout text next ≡ None → GoodNow layout (after_line layout [] seeking (open_line text)).now []
 unfolding wrong_size
-good_sought true layout text next ends e right =
-    good_size layout (1 + count_by is_line_end text) (stated_size layout (numbers (open_line text))) (rw (ends, e) at right)
-good_sought false layout text next ends e right = tt
+good_sought layout text next ends right =
+    let stated : Option Size = stated_size layout (numbers (open_line text)) in
+    elim (cases_Bool (is_number_line (open_line text))) [
+      | inl numbered ↦
+          rw numbered (good_size layout (1 + count_by is_line_end text) stated (rw (ends, numbered) at right))
+      | inr plain ↦ rw plain tt
+    ]
 
 -- after numbers that are due
 good_numbers : (layout : Layout) (complete : List Block) (next : Block) → are_due layout next.size next.numbers ≡ true
@@ -228,12 +194,12 @@ pub good_end : (layout : Layout) (k : ℕ) (complete : List Block) (now : Now) (
     → GoodNow layout now (open_line text) → first_some (faults layout k now text next) ≡ None
     → GoodNow layout (after_line layout complete now (open_line text)).now []
 good_end layout k complete seeking text next ends digits good right =
-    good_sought (is_number_line (open_line text)) layout text next ends refl
+    good_sought layout text next ends
     (all_none (faults layout k seeking text next) right).1.0
 good_end layout k complete (inside block) text next ends digits good right =
     let rights = all_none (faults layout k (inside block) text next) right in
     rw good.unmixed (good_numbers layout complete (with_line block (open_line text))
-    (all_due _ layout block text next refl good.due digits rights.1.1.0))
+    (all_due layout block text next good.due digits rights.1.1.0))
 good_end layout k complete lost text next ends digits good right = good
 
 -- ---- a byte
@@ -286,31 +252,28 @@ sound_start : (layout : Layout) (k : ℕ) → IsSound layout k []
 unfolding ended_parts open_part stand
 sound_start layout k right few = tt
 
-sound_more : (layout : Layout) (k : ℕ) (text : List ℕ) (b : ℕ) → IsSound layout k text → IsSound layout k (text ++ b ∷ [])
+sound_more : (layout : Layout) (k : ℕ) (text : List ℕ) (b : ℕ) → IsSound layout k text
+    → IsSound layout k (text ++ b ∷ [])
 unfolding fault_behind stand_after
-sound_more layout k text b sound right few = by_end (is_line_end b) refl
-  where
-    before : Stand
-    before = stand_of layout text
-
-    rights : (byte_fault layout k text ≡ None) × (fault_behind layout k text (Some b) ≡ None)
-    rights = or_none _ _ (sym (byte_fault-push layout k text b) ∙ right)
-
-    here : length before.complete < k → first_some (faults layout k before.now text (Some b)) ≡ None
-    here fewer = rw (lt-ltb _ k fewer) at rights.1
-
-    by_end : (v : Bool) → is_line_end b ≡ v
-        → GoodNow layout (stand_of layout (text ++ b ∷ [])).now (open_line (text ++ b ∷ []))
-    by_end true e =
-        let less = rw (stand_of-end layout text b e) at few in
-        let fewer : length before.complete < k = omega (arith, complete_stays layout before.complete before.now (open_line text)) in
-        rw (stand_of-end layout text b e, open_line-end text b e)
-        (good_end layout k before.complete before.now text (Some b) e
-        (λ there. digits_ended text b there (or_right _ _ e)) (sound rights.0 fewer) (here fewer))
-    by_end false e =
-        let fewer = rw (stand_of-on layout text b e) at few in
-        rw (stand_of-on layout text b e, open_line-on text b e)
-        (good_byte layout k before.now text b (sound rights.0 fewer) (here fewer))
+sound_more layout k text b sound right few =
+    let before : Stand = stand_of layout text in
+    let rights = or_none (byte_fault layout k text) (fault_behind layout k text (Some b))
+    (rw byte_fault-push at right) in
+    let here : length before.complete < k → first_some (faults layout k before.now text (Some b)) ≡ None =
+    λ fewer. rw (lt-ltb _ k fewer) at rights.1 in
+    elim (cases_Bool (is_line_end b)) [
+      | inl ends ↦
+          let within = rw (stand_of-end layout text b ends) at few in
+          let more = complete_stays layout before.complete before.now (open_line text) in
+          let fewer : length before.complete < k = omega arith in
+          rw (stand_of-end layout text b ends, open_line-end text b ends)
+          (good_end layout k before.complete before.now text (Some b) ends
+          (λ there. digits_ended text b there (or_right _ _ ends)) (sound rights.0 fewer) (here fewer))
+      | inr on ↦
+          let fewer = rw (stand_of-on layout text b on) at few in
+          rw (stand_of-on layout text b on, open_line-on text b on)
+          (good_byte layout k before.now text b (sound rights.0 fewer) (here fewer))
+    ]
 
 pub sound : (layout : Layout) (k : ℕ) (text : List ℕ) → IsSound layout k text
 sound layout k = by_push (IsSound layout k) (sound_start layout k) (sound_more layout k)

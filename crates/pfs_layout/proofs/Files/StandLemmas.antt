@@ -1,5 +1,6 @@
 -- Which lines lead to complete blocks.
-use Rattle.std.proofs.Common.{◌≡◌, ℕ, zero, suc, ◌*◌, ◌≤◌, Bool, true, false, not, ◌&&◌, ◌||◌, List, [], ◌∷◌, ◌++◌, length, flat_map, refl, sym, ◌∙◌, ap, subst, arith, Option, Some, None, if◌then◌else◌, ◌==◌}
+use Rattle.std.proofs.Common.{◌≡◌, ℕ, ◌*◌, ◌≤◌, Bool, true, false, not, ◌||◌, List, [], ◌∷◌, ◌++◌, length, flat_map}
+use Rattle.std.proofs.Common.{refl, sym, ◌∙◌, ap, arith, Option, Some, None, if◌then◌else◌, ◌==◌}
 use Rattle.std.specs.List.{list_any, list_all}
 use Rattle.std.proofs.lemmas.Bool.{cond_both, eqb-false, eqb-true, or_parts, true_from_ne_false}
 use Rattle.std.proofs.Math.Nat.{mul-le-mul}
@@ -12,10 +13,11 @@ use Rattle.pfs_layout.specs.declared.layout.Layout.{Layout}
 use Rattle.pfs_layout.specs.declared.layout.Layout.TheVariants.{Taillard, OrLib}
 use Rattle.pfs_layout.specs.Bytes.{is_digit, is_word_byte}
 use Rattle.pfs_layout.specs.Size.{Size, is_within_limits}
-use Rattle.pfs_layout.specs.Lines.{is_mixed, is_number_line, is_no_digit, values, numbers, ended_numbers, last_digits}
+use Rattle.pfs_layout.specs.Lines.{is_mixed, is_number_line, is_no_digit, numbers}
 use Rattle.pfs_layout.specs.Block.{stated_size, due_count, are_due}
 use Rattle.pfs_layout.specs.File.{IsBlock}
-use Rattle.pfs_layout.specs.Stand.{Block, Now, seeking, inside, lost, Stand, standing, completed, begun, with_line, after_size, after_numbers, after_line, stand_after, stand, instance_of}
+use Rattle.pfs_layout.specs.Stand.{Block, Now, seeking, inside, lost, Stand, standing, completed, begun, with_line}
+use Rattle.pfs_layout.specs.Stand.{after_size, after_numbers, after_line, stand_after, stand, instance_of}
 use Rattle.pfs_layout.proofs.Files.LineLemmas.{numbers_is, ended_numbers-push, open_part-push}
 use Rattle.pfs_layout.proofs.Files.SizeLemmas.{size_within}
 use Rattle.pfs_layout.proofs.Files.SoundLemmas.{stand-push}
@@ -64,7 +66,8 @@ AreOf layout (lines ∷ more) [] = ⊥
 AreOf layout (lines ∷ more) (block ∷ blocks) =
     IsBlock limits layout (instance_of layout block) lines × AreOf layout more blocks
 
-AreOf-push : (layout : Layout) (all : List (List (List ℕ))) (blocks : List Block) (lines : List (List ℕ)) (block : Block)
+AreOf-push : (layout : Layout) (all : List (List (List ℕ))) (blocks : List Block) (lines : List (List ℕ))
+    (block : Block)
     → AreOf layout all blocks → IsBlock limits layout (instance_of layout block) lines
     → AreOf layout (all ++ lines ∷ []) (blocks ++ block ∷ [])
 AreOf-push layout [] [] lines block are is = (is, tt)
@@ -109,7 +112,8 @@ module _ (layout : Layout) (text : List (List ℕ)) (complete : List Block) (lin
 
   -- a size line
   stated : (o : Option Size) → stated_size layout (numbers line) ≡ o → is_number_line line ≡ true
-      → IsMade layout text (standing complete seeking) → IsMade layout (text ++ line ∷ []) (standing complete (after_size o))
+      → IsMade layout text (standing complete seeking) → IsMade layout (text ++ line ∷ [])
+      (standing complete (after_size o))
   stated None s numbered m = grown seeking lost m tt
   stated (Some size) s numbered m = cond_both (is_within_limits size) (inside (begun size)) lost
       (λ now. IsMade layout (text ++ line ∷ []) (standing complete now))
@@ -198,7 +202,8 @@ module _ (layout : Layout) (text : List (List ℕ)) (complete : List Block) (lin
       cond_both (is_mixed line) (standing complete lost) (after_numbers layout complete next) Made
       (λ mixed. grown (inside block) lost m tt)
       (λ unmixed. cond_both (are_due layout block.size next.numbers)
-      (if length next.numbers == due_count layout block.size then completed complete next else standing complete (inside next))
+      (if length next.numbers == due_count layout block.size then completed complete next
+      else standing complete (inside next))
       (standing complete lost) Made
       (λ right. cond_both (length next.numbers == due_count layout block.size) (completed complete next)
       (standing complete (inside next)) Made

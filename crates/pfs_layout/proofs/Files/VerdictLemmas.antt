@@ -1,8 +1,9 @@
 -- An input holds a file exactly where none of its places has a fault.
-use Rattle.std.proofs.Common.{◌≡◌, ℕ, zero, suc, ◌+◌, ◌-◌, ◌<◌, ◌≤◌, Bool, true, false, not, ◌&&◌, List, [], ◌∷◌, ◌++◌, length, take, fold, refl, sym, ◌∙◌, ap, subst, arith, Option, Some, None, is_none, option_map, ◌⊎◌, inl, inr, if◌then◌else◌, ◌==◌, nat_lt}
+use Rattle.std.proofs.Common.{◌≡◌, ℕ, zero, suc, ◌+◌, ◌-◌, ◌<◌, ◌≤◌, true, false, not, List, [], ◌∷◌, ◌++◌, length}
+use Rattle.std.proofs.Common.{take, refl, sym, ◌∙◌, ap, subst, arith, Option, Some, None, ◌⊎◌, inl, inr, ◌==◌, nat_lt}
 use Rattle.std.specs.List.{slice_get}
-use Rattle.std.specs.Bool.{then_some}
-use Rattle.std.proofs.lemmas.Bool.{and_right, cases_Bool, cases_lt, cases_eq, eq-eqb, ne_eqb, lt-ltb, le-ltb, ltb-true, ltb-false, eqb-true}
+use Rattle.std.proofs.lemmas.Bool.{and_right, cases_Bool, cases_lt, cases_eq, eq-eqb, ne_eqb, lt-ltb, le-ltb, ltb-true}
+use Rattle.std.proofs.lemmas.Bool.{ltb-false, eqb-true}
 use Rattle.std.proofs.lemmas.Option.{same_Some}
 use Rattle.std.proofs.Math.Seq.{take-append-add}
 use Rattle.std.proofs.lemmas.List.{append_assoc, append-nil, length-append}
@@ -12,26 +13,30 @@ use Rattle.pfs_base.specs.Problem.{Problem}
 use Rattle.pfs_base.proofs.Published.Lists.{by_push}
 use Rattle.pfs_layout.specs.declared.layout.Layout.{Layout}
 use Rattle.pfs_layout.specs.declared.fault.LayoutFault.{LayoutFault}
-use Rattle.pfs_layout.specs.declared.fault.LayoutFault.TheVariants.{TooLong, NoBlock}
+use Rattle.pfs_layout.specs.declared.fault.LayoutFault.TheVariants.{NoBlock}
 use Rattle.pfs_layout.specs.Bytes.{is_line_end}
 use Rattle.pfs_layout.specs.Lines.{lines, ended_lines, open_line, ended_parts}
-use Rattle.pfs_layout.specs.Stand.{Block, Now, seeking, inside, lost, Stand, standing, completed, after_line, stand_after, stand, instance_of}
-use Rattle.pfs_layout.specs.Refuse.{too_long, mixed_line, wrong_number, wrong_size, missing, ends_early, faults, fault_behind, fault_at, refusal, accepted}
+use Rattle.pfs_layout.specs.Stand.{Block, Now, seeking, inside, lost, Stand, standing, completed, after_line}
+use Rattle.pfs_layout.specs.Stand.{stand_after, stand, instance_of}
+use Rattle.pfs_layout.specs.Refuse.{too_long, missing, ends_early, faults, fault_behind, fault_at, refusal, accepted}
 use Rattle.pfs_layout.specs.Laws.{Completes}
-use Rattle.pfs_layout.proofs.Files.LineLemmas.{open_part-push}
-use Rattle.pfs_layout.proofs.Published.PlaceLemmas.{fault_at-append, fault_at-byte, fault_at-end, no_byte_fault, no_fault, not_refused, slice_get-at}
-use Rattle.pfs_layout.proofs.Files.SoundLemmas.{then_some_none, if_some, cases_option, all_none, GoodNow, good_end, same_last, sound}
+use Rattle.pfs_layout.proofs.Published.PlaceLemmas.{fault_at-append, fault_at-byte, fault_at-end, no_byte_fault}
+use Rattle.pfs_layout.proofs.Published.PlaceLemmas.{no_fault, not_refused, slice_get-at}
+use Rattle.pfs_layout.proofs.Files.SoundLemmas.{GoodNow, good_end, same_last, sound}
+use Rattle.pfs_layout.proofs.Options.{then_some_none, if_some, cases_option, all_none}
 use Rattle.pfs_layout.proofs.Files.SoundLemmas.{stand-push, stand_of, stand_of-end, stand_of-on, open_line-end}
-use Rattle.pfs_layout.proofs.Files.CutLemmas.{lines_are, lines-line}
-use Rattle.pfs_layout.proofs.Files.GrowLemmas.{OneLine, one_line, Extends, grows, fewer_before, no_end, line_on, stand_from, stays_lost}
+use Rattle.pfs_layout.proofs.Files.CutLemmas.{lines-parts, lines-line}
+use Rattle.pfs_layout.proofs.Files.GrowLemmas.{one_line, Extends, grows, fewer_before, no_end, line_on}
+use Rattle.pfs_layout.proofs.Files.GrowLemmas.{stand_from, stays_lost}
 use Rattle.pfs_layout.proofs.Files.LoseLemmas.{LineAt, ends_here, goes_on, loses}
 
 -- the lines of a text that ends with a line end, and of one that doesn't
 lines_ended : (text : List ℕ) → is_empty (open_line text) ≡ true → lines text ≡ ended_lines text
-lines_ended text e = rw (lines_are text, e) (append-nil (ended_lines text))
+lines_ended text e = rw (lines-parts text, e) (append-nil (ended_lines text))
 
-lines_unended : (text : List ℕ) → is_empty (open_line text) ≡ false → lines text ≡ ended_lines text ++ open_line text ∷ []
-lines_unended text e = rw (lines_are text, e)
+lines_unended : (text : List ℕ) → is_empty (open_line text) ≡ false
+    → lines text ≡ ended_lines text ++ open_line text ∷ []
+lines_unended text e = rw (lines-parts text, e)
 
 no_complete : (layout : Layout) → length (stand_of layout []).complete ≡ 0
 unfolding stand ended_parts
@@ -50,7 +55,13 @@ place_of [] place h = absurd (omega arith)
 place_of (x ∷ text) zero h = record { before = []; byte = x; after = text; whole = refl; at = refl }
 place_of (x ∷ text) (suc place) h =
     let p = place_of text place (omega arith) in
-    record { before = x ∷ p.before; byte = p.byte; after = p.after; whole = ap (λ xs. x ∷ xs) p.whole; at = omega arith }
+    record {
+      before = x ∷ p.before;
+      byte = p.byte;
+      after = p.after;
+      whole = ap (λ xs. x ∷ xs) p.whole;
+      at = omega arith;
+    }
 
 module _ (layout : Layout) (k : ℕ) where
   -- no byte of a text has a fault
@@ -78,17 +89,15 @@ module _ (layout : Layout) (k : ℕ) where
 
   -- ---- without a fault there is a file
 
-  not_too_long : (now : Now) (text : List ℕ) (next : Option ℕ) → GoodNow layout now (open_line text)
-      → first_some (faults layout k now text next) ≡ None → too_long text next ≡ None
-  not_too_long seeking text next good right = (all_none (faults layout k seeking text next) right).0
-  not_too_long (inside block) text next good right = (all_none (faults layout k (inside block) text next) right).0
-  not_too_long lost text next good right = absurd good
-
-  not_early : (now : Now) (text : List ℕ) (next : Option ℕ) → GoodNow layout now (open_line text)
-      → first_some (faults layout k now text next) ≡ None → ends_early layout k text next ≡ None
-  not_early seeking text next good right = (all_none (faults layout k seeking text next) right).1.1.0
-  not_early (inside block) text next good right = (all_none (faults layout k (inside block) text next) right).1.1.1.0
-  not_early lost text next good right = absurd good
+  -- the place is not behind the limit, and the input does not end there too early
+  no_others : (now : Now) (text : List ℕ) (next : Option ℕ) → GoodNow layout now (open_line text)
+      → first_some (faults layout k now text next) ≡ None
+      → (too_long text next ≡ None) × (ends_early layout k text next ≡ None)
+  no_others seeking text next good right =
+      let none = all_none (faults layout k seeking text next) right in (none.0, none.1.1.0)
+  no_others (inside block) text next good right =
+      let none = all_none (faults layout k (inside block) text next) right in (none.0, none.1.1.1.0)
+  no_others lost text next good right = absurd good
 
   -- one more byte keeps within the greatest length
   short_more : (text : List ℕ) (b : ℕ) → Faultless (text ++ b ∷ []) → Few text → length text ≤ LONGEST_INPUT
@@ -99,7 +108,7 @@ module _ (layout : Layout) (k : ℕ) where
         let size = length-append text (b ∷ []) in
         let here = rw fault_at-byte at (right (length text) (omega arith)) in
         let none = none_of_faults text (Some b) few here in
-        let short = not_too_long _ text (Some b) (good_now text (faultless_front text (b ∷ []) right) few) none in
+        let short = (no_others _ text (Some b) (good_now text (faultless_front text (b ∷ []) right) few) none).0 in
         let never = rw (eq-eqb (length text) LONGEST_INPUT e) at short in
         absurd (cc)
   ]
@@ -139,14 +148,34 @@ module _ (layout : Layout) (k : ℕ) where
   abbrev pub Holds : List ℕ → Type 0
   Holds input = (problem : Problem) × Completes layout input k problem
 
-  -- k blocks are complete by a line that leaves fewer before it
-  one_block : (complete : List Block) (after : Stand) → OneLine complete after → length complete < k
-      → k ≤ length after.complete
-      → (block : Block) × (length complete + 1 ≡ k) × (after ≡ completed complete block)
-  one_block complete after (inl same) few enough = absurd (omega (arith, ap length same))
-  one_block complete after (inr one) few enough =
-      let size = ap (λ (s : Stand). length s.complete) one.1 in
-      (one.0, omega (arith, size, length-append complete (one.0 ∷ [])), one.1)
+  -- a text by whose last line k blocks are complete, and fewer before it, holds a problem of each input that it begins
+  holds_at : (input text rest line : List ℕ) (before : Stand) → input ≡ text ++ rest → length text ≤ LONGEST_INPUT
+      → length before.complete < k → stand layout (lines text) ≡ after_line layout before.complete before.now line
+      → k ≤ length (stand layout (lines text)).complete → (ended : (open_line text ≡ []) ⊎ (rest ≡ []))
+      → (problem : Problem) × (c : Completes layout input k problem) × (c.text ≡ text)
+  holds_at input text rest line before whole short few reached enough ended =
+      elim (one_line layout before.complete before.now line) [
+        | inl same ↦ let all = rw (reached, same) at enough in absurd (omega arith)
+        | inr one ↦
+            let stands : stand layout (lines text) ≡ completed before.complete one.0 = reached ∙ one.1 in
+            let all = rw stands at enough in
+            let size = length-append before.complete (one.0 ∷ []) in (
+              instance_of layout one.0,
+              record {
+                text = text;
+                rest = rest;
+                whole = whole;
+                ended = ended;
+                short = short;
+                earlier = before.complete;
+                own = one.0;
+                count = omega arith;
+                stands = stands;
+                is = refl;
+              },
+              refl,
+            )
+      ]
 
   -- and the front that does ends with a line end
   abbrev pub EndedHolds : List ℕ → Type 0
@@ -157,30 +186,16 @@ module _ (layout : Layout) (k : ℕ) where
   from_enough input right e = elim (cases_Bool (is_line_end e.byte)) [
     | inr on ↦ let enough = rw (stand_of-on layout e.before e.byte on) at e.enough in absurd (omega (arith, e.few))
     | inl ends ↦
-        let before : Stand = stand_of layout e.before in
         let text : List ℕ = e.before ++ e.byte ∷ [] in
-        let stood = stand_of-end layout e.before e.byte ends in
-        let one = one_block before.complete _ (one_line layout before.complete before.now (open_line e.before)) e.few
-        (rw stood at e.enough) in
         let ended = open_line-end e.before e.byte ends in
+        let same = lines_ended text (ap is_empty ended) in
         let whole : input ≡ text ++ e.after = rw (append_assoc e.before (e.byte ∷ []) e.after) e.whole in
         let right_text : Faultless text = faultless_front text e.after (subst Faultless whole right) in
-        let right_before : Faultless e.before = faultless_front e.before (e.byte ∷ []) right_text in (
-          instance_of layout one.0,
-          record {
-            text = text;
-            rest = e.after;
-            whole = whole;
-            ended = inl ended;
-            short = short_more e.before e.byte right_text e.few (short_few e.before right_before e.few);
-            earlier = before.complete;
-            own = one.0;
-            count = one.1;
-            stands = ap (stand layout) (lines_ended text (ap is_empty ended)) ∙ stood ∙ one.2;
-            is = refl;
-          },
-          ended,
-        )
+        let right_before : Faultless e.before = faultless_front e.before (e.byte ∷ []) right_text in
+        let short = short_more e.before e.byte right_text e.few (short_few e.before right_before e.few) in
+        let held = holds_at input text e.after (open_line e.before) (stand_of layout e.before) whole short e.few
+        (rw same (stand_of-end layout e.before e.byte ends)) (rw same e.enough) (inl ended) in
+        (held.0, held.1, rw held.2 ended)
   ]
 
   early_end : (now : Now) (complete : ℕ) → GoodNow layout now [] → missing layout k complete now ≡ None → k ≤ complete
@@ -192,30 +207,17 @@ module _ (layout : Layout) (k : ℕ) where
   unfolding stand_after ends_early
   from_end input right few last = elim (cases_Bool (is_empty (open_line input))) [
     | inl empty ↦
-        let stood = ap (stand layout) (lines_ended input empty) in
-        let all = rw stood at (enough (rw stood (rw (nothing (open_line input) empty) at good))) in
+        let reached = ap (stand layout) (lines_ended input empty) in
+        let all = rw reached at (enough (rw reached (rw (nothing (open_line input) empty) at good))) in
         absurd (omega arith)
     | inr filled ↦
-        let after : Stand = after_line layout before.complete before.now (open_line input) in
-        let stood : stand layout (lines input) ≡ after = rw (lines_unended input filled) (stand-push layout _ _) in
+        let reached : stand layout (lines input) ≡ stand_after layout before (open_line input) =
+        rw (lines_unended input filled) (stand-push layout _ _) in
         let good_after = good_end layout k before.complete before.now input None (ap not filled)
         (λ there. rw (same_last input, there)) good none in
-        let one = one_block before.complete after (one_line layout before.complete before.now (open_line input)) few
-        (rw stood at (enough (rw stood good_after))) in (
-          instance_of layout one.0,
-          record {
-            text = input;
-            rest = [];
-            whole = sym (append-nil input);
-            ended = inr refl;
-            short = short_few input right few;
-            earlier = before.complete;
-            own = one.0;
-            count = one.1;
-            stands = stood ∙ one.2;
-            is = refl;
-          },
-        )
+        let held = holds_at input input [] (open_line input) before (sym (append-nil input)) (short_few input right few)
+        few reached (enough (rw reached good_after)) (inr refl) in
+        (held.0, held.1)
   ]
     where
       before : Stand
@@ -228,7 +230,7 @@ module _ (layout : Layout) (k : ℕ) where
       none = none_of_faults input None few last
 
       enough : GoodNow layout (stand layout (lines input)).now [] → k ≤ length (stand layout (lines input)).complete
-      enough h = early_end _ _ h (not_early before.now input None good none)
+      enough h = early_end _ _ h (no_others before.now input None good none).1
 
       nothing : (line : List ℕ) → is_empty line ≡ true → line ≡ []
       nothing [] e = refl
@@ -237,7 +239,8 @@ module _ (layout : Layout) (k : ℕ) where
   pub faultless_holds : 1 ≤ k → (input : List ℕ)
       → ((place : ℕ) → place ≤ length input → fault_at layout k input place ≡ None) → Holds input
   faultless_holds some input right = elim (cases_lt (length (stand_of layout input).complete) k) [
-    | inl few ↦ from_end input (λ place h. right place (omega arith)) few (rw fault_at-end at (right (length input) (omega arith)))
+    | inl few ↦ from_end input (λ place h. right place (omega arith)) few
+        (rw fault_at-end at (right (length input) (omega arith)))
     | inr enough ↦
         let held = from_enough input (λ place h. right place (omega arith)) (first_enough some input enough) in
         (held.0, held.1)
@@ -266,32 +269,34 @@ module _ (layout : Layout) (k : ℕ) where
         (rw (append_assoc (open_line before) (b ∷ []) after) at on.are)
   ]
     where
-      stood : Stand
-      stood = stand_of layout before
+      reached : Stand
+      reached = stand_of layout before
 
       behind : (line : List ℕ) (others : List (List ℕ)) → LineAt before (Some b) line
           → lines (open_line before ++ b ∷ after) ≡ line ∷ others
           → (stand layout (lines (before ++ b ∷ after))).now ≡ lost
       behind line others at are =
-          let long : too_long before (Some b) ≡ None = rw (ne_eqb (length before) LONGEST_INPUT (λ same. omega arith)) in
+          let long : too_long before (Some b) ≡ None =
+          rw (ne_eqb (length before) LONGEST_INPUT (λ same. omega arith)) in
           let here = (has_fault before (Some b) fault e).1 in
-          rw (stand_from layout before (b ∷ after), are) (stays_lost layout (stand_after layout stood line) others
-          (loses layout k stood.complete stood.now before (Some b) fault line here long refl at))
+          rw (stand_from layout before (b ∷ after), are) (stays_lost layout (stand_after layout reached line) others
+          (loses before (Some b) fault line at layout k reached.complete reached.now here long refl))
 
   end_is_right : (input : List ℕ) (blocks : List Block) (fault : LayoutFault)
       → stand layout (lines input) ≡ standing blocks seeking → length blocks ≡ k
       → fault_behind layout k input None ≡ Some fault → ⊥
   unfolding stand_after ends_early
   end_is_right input blocks fault stands count e =
-      let stood : Stand = stand_of layout input in
+      let reached : Stand = stand_of layout input in
       let has = has_fault input None fault e in
       let long : too_long input None ≡ None = rw (and_right (length input == LONGEST_INPUT) false refl) in
       let early : ends_early layout k input None ≡ None = rw (stands, le-ltb (length blocks) k (omega arith)) in
       elim (cases_Bool (is_empty (open_line input))) [
         | inl empty ↦ let here = rw (lines_ended input empty) at stands in let few = rw here at has.0 in omega arith
         | inr filled ↦
-            let away = loses layout k stood.complete stood.now input None fault (open_line input) has.1 long early
-            (ends_here (ap not filled) refl) in
+            let here = ends_here (ap not filled) refl in
+            let away = loses input None fault (open_line input) here layout k reached.complete reached.now has.1 long
+            early in
             let lost_there : (stand layout (lines input)).now ≡ lost =
             rw (lines_unended input filled, stand-push layout (ended_lines input) (open_line input)) away in
             let now = rw stands at lost_there in
@@ -363,6 +368,11 @@ module _ (layout : Layout) (k : ℕ) where
   unfolding accepted
   holds_accepted input problem c =
       rw (not_refused layout k input (holds_faultless input problem c), kth_block input problem c, c.is)
+
+  -- an input holds one problem
+  pub one_held : (input : List ℕ) (one other : Problem) → Completes layout input k one → Completes layout input k other
+      → one ≡ other
+  one_held input one other c d = same_Some one other (sym (holds_accepted input one c) ∙ holds_accepted input other d)
 
   pub accepted_holds : 1 ≤ k → (input : List ℕ) (problem : Problem) → accepted layout input k ≡ Some problem
       → Completes layout input k problem

@@ -24,11 +24,11 @@ use Rattle.pfs_layout.specs.Laws.{ExactlyOne}
 use Rattle.pfs_layout.specs.Refuse.{mixed_line, size_fault, ends_early, faults, fault_behind, refusal, accepted, Refuse}
 use Rattle.pfs_layout.specs.Step.{is_live, last_number_ended, end_fault_in, end_fault, at_end}
 use Rattle.pfs_layout.specs.Reader.{block_begun_by, block_of, FollowsBlocks, Follows, StandsIn, StandsAfter, IsReader, FinishMeets}
-use Rattle.pfs_layout.proofs.Published.PlaceLemmas.{refusal_is}
+use Rattle.pfs_layout.proofs.Published.PlaceLemmas.{refusal_is, refusal_end}
 use Rattle.pfs_layout.proofs.Files.SoundLemmas.{GoodNow, GoodBody, stand_of, sound}
 use Rattle.pfs_layout.proofs.Files.StandLemmas.{IsBegun, Fits, made}
 use Rattle.pfs_layout.proofs.Files.GrowLemmas.{Extends, grows}
-use Rattle.pfs_layout.proofs.Files.EndLemmas.{refusal_end, byte_fault_refuses}
+use Rattle.pfs_layout.proofs.Files.EndLemmas.{byte_fault_refuses}
 use Rattle.pfs_layout.proofs.Published.LawLemmas.{accepted_law, one_verdict}
 use Rattle.pfs_layout.proofs.Reading.StepLemmas.{keeps_last, refused_memory}
 use Rattle.pfs_layout.proofs.Reading.ByteSteps.{live_few, sought_phase}

@@ -1,35 +1,33 @@
 -- Which faults a read block can have, and what the bytes that are told say of its answer.
-use Rattle.std.proofs.Common.{◌≡◌, ◌≢◌, ℕ, Bool, true, false, List, [], ◌++◌, Some, refl, sym, ap, ◌∙◌}
+use Rattle.std.proofs.Common.{◌≡◌, ◌≢◌, ℕ, Bool, true, false, List, [], ◌++◌, refl, sym, ◌∙◌}
 use Rattle.std.specs.Prelude.{Result, Err, ◌↔◌}
+use Rattle.std.proofs.lemmas.Bool.{both_ways}
 use Rattle.pfs_base.specs.Problem.{Problem}
 use Rattle.pfs_layout.specs.declared.fault.LayoutFault.{LayoutFault}
 use Rattle.pfs_layout.specs.declared.fault.LayoutFault.TheVariants.{Memory}
 use Rattle.pfs_layout.specs.declared.fields.Fields.{Fields}
 use Rattle.pfs_layout.specs.declared.fields.Progress.{Progress}
-use Rattle.pfs_layout.specs.Refuse.{byte_fault}
 use Rattle.pfs_layout.specs.Reader.{FeedMeets, FinishMeets}
 use Rattle.pfs_layout.proofs.Files.InputFaults.{is_input_fault, refused_input}
 use Rattle.pfs_layout.proofs.Files.EndLemmas.{byte_fault_refuses}
 
 -- the end of an input has no fault but those of inputs
-pub finish_named : (r : Fields) (text : List ℕ) (outcome : Result Problem LayoutFault) (fault : LayoutFault) → FinishMeets r text outcome → is_input_fault fault ≡ false → outcome ≢ Err fault
-finish_named r text outcome fault meets other e = let named = refused_input r.layout text r.wanted fault ((meets.refused fault).0 e) in absurd (clash other named)
-  where
-    clash : {b : Bool} → b ≡ false → b ≡ true → ⊥
-    clash p q = let r : true ≡ false = sym q ∙ p in cc
+pub finish_named : (r : Fields) (text : List ℕ) (outcome : Result Problem LayoutFault) (fault : LayoutFault)
+    → FinishMeets r text outcome → is_input_fault fault ≡ false → outcome ≢ Err fault
+finish_named r text outcome fault meets other e =
+    both_ways _ other (refused_input r.layout text r.wanted fault ((meets.refused fault).0 e))
 
 -- nor has a piece, but for want of memory
-pub feed_named : (r new : Fields) (text piece : List ℕ) (found fault : LayoutFault) → FeedMeets r text piece (Err found) new → fault ≢ Memory → is_input_fault fault ≡ false → found ≢ fault
+pub feed_named : (r new : Fields) (text piece : List ℕ) (found fault : LayoutFault)
+    → FeedMeets r text piece (Err found) new → fault ≢ Memory → is_input_fault fault ≡ false → found ≢ fault
 feed_named r new text piece found fault meets no_memory other e =
-    let is : byte_fault r.layout r.wanted (text ++ piece) ≡ Some found = (meets.exact (λ z. no_memory (sym e ∙ same_error z)) found).0 refl in
-    let named = refused_input r.layout _ r.wanted found (byte_fault_refuses r.layout r.wanted (text ++ piece) [] found is) in
-    absurd (clash (ap is_input_fault e ∙ other) named)
+    let is = (meets.exact (λ z. no_memory (sym e ∙ same_error z)) found).0 refl in
+    let named = refused_input r.layout ((text ++ piece) ++ []) r.wanted found
+    (byte_fault_refuses r.layout r.wanted (text ++ piece) [] found is) in
+    both_ways _ other (rw e at named)
   where
     same_error : {a b : LayoutFault} → ◌≡◌ {A = Result Progress LayoutFault} (Err a) (Err b) → a ≡ b
     same_error z = cc
-
-    clash : {b : Bool} → b ≡ false → b ≡ true → ⊥
-    clash p q = let r : true ≡ false = sym q ∙ p in cc
 
 -- an answer of the same error
 pub same_answer : {a b : LayoutFault} → ◌≡◌ {A = Result Problem LayoutFault} (Err a) (Err b) → a ≡ b
@@ -37,4 +35,4 @@ same_answer z = cc
 
 -- what never holds, exactly where a device that works has failed
 pub never_failed : (P : Type 0) (failed : Bool) → failed ≡ false → ¬ P → P ↔ (failed ≡ true)
-never_failed P failed working never = (λ p. absurd (never p), λ e. absurd (let r : true ≡ false = sym e ∙ working in cc))
+never_failed P failed working never = (λ p. absurd (never p), λ e. absurd (both_ways failed working e))

@@ -10,7 +10,8 @@ use Rattle.pfs_layout.specs.File.{File}
 use Rattle.pfs_layout.specs.Refuse.{Refuse}
 
 -- what holds of every text that is left, where one is told
-pub told : (P : List ℕ → Type 0) (left : Option (List ℕ)) → ((text : List ℕ) → left ≡ Some text → P text) → IfSome left P
+pub told : (P : List ℕ → Type 0) (left : Option (List ℕ)) → ((text : List ℕ) → left ≡ Some text → P text)
+    → IfSome left P
 told P None all = tt
 told P (Some text) all = all text refl
 
@@ -21,7 +22,9 @@ file_told layout k left (Ok problem) all = told (λ text. File limits layout tex
 file_told layout k left (Err fault) all = tt
 
 pub refused_told : (layout : Layout) (k : ℕ) (left : Option (List ℕ)) (result : Result Problem LayoutFault)
-    → ((text : List ℕ) → left ≡ Some text → IfErr result (λ fault. fault ≢ Read → fault ≢ Memory → Refuse layout text k fault))
+    → ((text : List ℕ) → left ≡ Some text → IfErr result
+    (λ fault. fault ≢ Read → fault ≢ Memory → Refuse layout text k fault))
     → IfErr result (λ fault. fault ≢ Read → fault ≢ Memory → IfSome left (λ text. Refuse layout text k fault))
 refused_told layout k left (Ok problem) all = tt
-refused_told layout k left (Err fault) all = λ r m. told (λ text. Refuse layout text k fault) left (λ text e. all text e r m)
+refused_told layout k left (Err fault) all = λ r m. told (λ text. Refuse layout text k fault) left
+    (λ text e. all text e r m)

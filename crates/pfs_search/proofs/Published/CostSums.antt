@@ -1,5 +1,5 @@
 -- Sums of costs over successive counts.
-use Rattle.std.proofs.Common.{◌≡◌, ℕ, zero, suc, ◌+◌, ◌-◌, ◌*◌, ◌<◌, ◌≤◌, [], ◌∷◌, ◌++◌, take, ap, sym, ◌∙◌, add-one, mul-le-mul_left, arith}
+use Rattle.std.proofs.Common.{◌≡◌, ℕ, zero, suc, ◌+◌, ◌-◌, ◌*◌, ◌<◌, ◌≤◌, [], ◌∷◌, ◌++◌, take as front, ap, sym, ◌∙◌, add-one, mul-le-mul_left, arith}
 use Rattle.std.specs.List.{range_with_len, sum_by}
 use Rattle.std.proofs.lemmas.List.{map-id}
 use Rattle.std.proofs.lemmas.List.Sums.{sum_by_push, sum_by_more_le}
@@ -10,9 +10,9 @@ range_more : (a n : ℕ) → range_with_len a (n + 1) ≡ range_with_len a n ++ 
 range_more a n =
     sym (map-id (range_with_len a (n + 1))) ∙ map-range_with_len_more (λ x. x) a n (a + n) (omega arith) ∙ ap (λ l. l ++ (a + n) ∷ []) (map-id (range_with_len a n))
 
-range_take : (a n k : ℕ) → k ≤ n → take k (range_with_len a n) ≡ range_with_len a k
+range_take : (a n k : ℕ) → k ≤ n → front k (range_with_len a n) ≡ range_with_len a k
 range_take a n k le =
-    ap (take k) (sym (map-id (range_with_len a n))) ∙ take-map-range_with_len (λ x. x) a n k le ∙ map-id (range_with_len a k)
+    ap (front k) (sym (map-id (range_with_len a n))) ∙ take-map-range_with_len (λ x. x) a n k le ∙ map-id (range_with_len a k)
 
 -- one more count
 sum_range_more : (cost : ℕ → ℕ) (a n : ℕ) → sum_by cost (range_with_len a (n + 1)) ≡ sum_by cost (range_with_len a n) + cost (a + n)
@@ -40,17 +40,17 @@ insertions_more cost machines before done =
     omega arith
 
 -- those so far and the next are among all
-pub insertions_within : (cost : ℕ → ℕ → ℕ) (machines before many done : ℕ) → done < many →
-    insertions_cost cost machines before done + cost (before + done + 1) machines ≤ insertions_cost cost machines before many
-insertions_within cost machines before many done lt =
-    let le = sum_range_le (λ count. cost count machines) (before + 1) many done lt in
+pub insertions_within : (cost : ℕ → ℕ → ℕ) (machines before take done : ℕ) → done < take →
+    insertions_cost cost machines before done + cost (before + done + 1) machines ≤ insertions_cost cost machines before take
+insertions_within cost machines before take done lt =
+    let le = sum_range_le (λ count. cost count machines) (before + 1) take done lt in
     let same : before + 1 + done ≡ before + done + 1 = omega arith in
     let here = ap (λ count. cost count machines) same in
     omega arith
 
 -- ---- closed forms
 
--- so many insertions into a sequence of `a` jobs
+-- so take insertions into a sequence of `a` jobs
 heads_tails_sum : (cost : ℕ → ℕ → ℕ) → CostsAsHeadsTails cost → (a machines n : ℕ) →
     insertions_cost cost machines a n ≡ 2 * n * machines * (2 * a + n)
 heads_tails_sum cost is a machines zero = omega arith
@@ -73,29 +73,29 @@ pass_closed cost is (suc fewer) machines =
     let all = ap (λ cells. jobs * cells) each in
     omega arith
 
-round_closed : (cost : ℕ → ℕ → ℕ) → CostsAsHeadsTails cost → (jobs machines many passes : ℕ) → many ≤ jobs →
-    round_cost cost jobs machines many passes ≡ 2 * many * machines * (2 * jobs - many) + passes * jobs * machines * (4 * jobs - 2)
-round_closed cost is jobs machines many passes few =
-    let put_back = heads_tails_sum cost is (jobs - many) machines many in
+round_closed : (cost : ℕ → ℕ → ℕ) → CostsAsHeadsTails cost → (jobs machines take passes : ℕ) → take ≤ jobs →
+    round_cost cost jobs machines take passes ≡ 2 * take * machines * (2 * jobs - take) + passes * jobs * machines * (4 * jobs - 2)
+round_closed cost is jobs machines take passes few =
+    let put_back = heads_tails_sum cost is (jobs - take) machines take in
     let passed = ap (λ cells. passes * cells) (pass_closed cost is jobs machines) in
-    let width : 2 * (jobs - many) + many ≡ 2 * jobs - many = omega arith in
-    let closed = ap (λ w. 2 * many * machines * w) width in
+    let width : 2 * (jobs - take) + take ≡ 2 * jobs - take = omega arith in
+    let closed = ap (λ w. 2 * take * machines * w) width in
     omega arith
 
--- those that are put back cost no more than as many insertions into all jobs
-put_back_few : (count jobs machines many : ℕ) → many ≤ jobs → count * (2 * many * machines * (2 * jobs - many)) ≤ count * many * machines * (4 * jobs - 2)
+-- those that are put back cost no more than as take insertions into all jobs
+put_back_few : (count jobs machines take : ℕ) → take ≤ jobs → count * (2 * take * machines * (2 * jobs - take)) ≤ count * take * machines * (4 * jobs - 2)
 put_back_few count jobs machines zero few = omega arith
 put_back_few count jobs machines (suc fewer) few =
-    let many : ℕ = suc fewer in
-    let le : 2 * (2 * jobs - many) ≤ 4 * jobs - 2 = omega arith in
-    let most = mul-le-mul_left (count * many * machines) le in
+    let take : ℕ = suc fewer in
+    let le : 2 * (2 * jobs - take) ≤ 4 * jobs - 2 = omega arith in
+    let most = mul-le-mul_left (count * take * machines) le in
     omega arith
 
-rounds_closed : (cost : ℕ → ℕ → ℕ) → CostsAsHeadsTails cost → (count jobs machines many passes : ℕ) → many ≤ jobs →
-    count * round_cost cost jobs machines many passes ≤ count * (many + passes * jobs) * machines * (4 * jobs - 2)
-rounds_closed cost is count jobs machines many passes few =
-    let closed = ap (λ cells. count * cells) (round_closed cost is jobs machines many passes few) in
-    let put_back = put_back_few count jobs machines many few in
+rounds_closed : (cost : ℕ → ℕ → ℕ) → CostsAsHeadsTails cost → (count jobs machines take passes : ℕ) → take ≤ jobs →
+    count * round_cost cost jobs machines take passes ≤ count * (take + passes * jobs) * machines * (4 * jobs - 2)
+rounds_closed cost is count jobs machines take passes few =
+    let closed = ap (λ cells. count * cells) (round_closed cost is jobs machines take passes few) in
+    let put_back = put_back_few count jobs machines take few in
     omega arith
 
 pub costs_law : CostsLaw

@@ -23,6 +23,6 @@ pub returns-clause-help : goal.returns-clause-help
 unfolding clap_on_literals
 returns-clause-help c = refused some_names (codes "value") _ refl refl (faulty_line some_names (codes "value") _ (value_form some_names) refl (λ none. cc))
 
-pub returns-clause-jobs_2001 : goal.returns-clause-jobs_2001
+pub returns-clause-jobs_5001 : goal.returns-clause-jobs_5001
 unfolding clap_on_literals
-returns-clause-jobs_2001 c = refused some_names (codes "generate") _ refl refl (faulty_line some_names (codes "generate") _ (generate_form) refl (λ none. cc))
+returns-clause-jobs_5001 c = refused some_names (codes "generate") _ refl refl (faulty_line some_names (codes "generate") _ (generate_form) refl (λ none. cc))

@@ -30,7 +30,7 @@ fill_head-requires-clause-above_short g c = λ machine d lt.
     let jobs = c.args.seq.now.jobs in
     let told = above_told g (goal.at.fill_head-requires-clause-above_short g c).After-at machine d lt in
     let is = head_of_is shop jobs c.args.place machine in
-    let short = heads_short shop (g.met.B.Bench.within c.args.bench.now) jobs (omega (arith, c.requires.few)) c.args.place machine (omega (arith, c.requires.place)) lt in
+    let short = heads_short shop (g.met.B.Bench.within c.args.bench.now) jobs (omega (arith, c.requires.partial.few)) c.args.place machine (omega (arith, c.requires.place)) lt in
     omega arith
 
 pub returns-clause-head : goal.returns-clause-head
@@ -45,7 +45,7 @@ returns-clause-head g c =
     let front = c.split_at_mut-front.result.0.now in
     let back = c.split_at_mut-front.result.1.now in
     let new = c.fill_head.new.row in
-    let few = c.requires.few in
+    let few = c.requires.partial.few in
     let inside = c.requires.place in
     let all = c.requires.heads in
     let all_wide = ap (λ w. shop.jobs * w) wide in

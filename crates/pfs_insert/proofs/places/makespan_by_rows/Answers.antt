@@ -9,17 +9,17 @@ use Rattle.pfs_insert.proofs.FlatRows.{row_split, row_le, begins, part_told, mov
 use Rattle.pfs_insert.proofs.Joined.{join_is, greatest_small}
 use Rattle.pfs_insert.proofs.TailRows.{tails_short, put_short}
 use Rattle.pfs_insert.proofs.places.makespan_by_rows.Given.{Over}
-use Rattle.pfs_insert.proofs.places.makespan_by_rows.Goals.{After-len}
+use Rattle.pfs_insert.proofs.places.makespan_by_rows.Goals.{After-machines-machines}
 use Rattle.pfs_insert.proofs.places.makespan_by_rows.Goals as goal
 
 -- the row of tails that the code takes of the table
-abbrev tail_of : (g : Over) (c : After-len g) → List g.row.B-Span.Denot
-tail_of g c =
-    let row = c.size.result - 1 - c.len.result + c.args.place in
-    take ((row + 1) * c.machines-machines.result - row * c.machines-machines.result) (drop (row * c.machines-machines.result) c.args.tails.now)
+abbrev back_of : (g : Over) (c : After-machines-machines g) → List g.row.B-Span.Denot
+back_of g c =
+    let width = c.machines-machines.result in
+    take ((c.args.place + 1) * width - c.args.place * width) (drop (c.args.place * width) c.args.backs.now)
 
-joined : (g : Over) (c : After-len g) →
-    greatest_join g.B.Span.Length.number c.args.put.now (tail_of g c)
+joined : (g : Over) (c : After-machines-machines g) →
+    greatest_join g.B.Span.Length.number c.args.put.now (back_of g c)
     ≡ greatest_sum (g.B.Bench.shop c.args.bench.now).machines (heaviest_front (g.B.Bench.shop c.args.bench.now) (insert c.args.seq.now.jobs c.args.place c.args.job) c.args.place) (heaviest_back (g.B.Bench.shop c.args.bench.now) c.args.seq.now.jobs c.args.place)
 joined g c =
     let number = g.B.Span.Length.number in
@@ -27,24 +27,18 @@ joined g c =
     let jobs = c.args.seq.now.jobs in
     let place = c.args.place in
     let width = c.machines-machines.result in
-    let row = c.size.result - 1 - c.len.result + place in
-    let size = c.size.ensures.value in
-    let sizes = c.requires.size in
-    let every = c.len.ensures.value in
-    let few = c.requires.few in
     let inside = c.requires.place in
     let wide = c.machines-machines.ensures in
-    let one = row_split (row + 1) row 1 width refl in
-    let fits = row_le (row + 1) shop.jobs width (omega arith) in
-    let all = ap (λ w. shop.jobs * w) wide in
-    let table = c.requires.tails in
-    let rest = length-drop (row * width) c.args.tails.now in
-    let k = (row + 1) * width - row * width in
-    let at : row * width ≡ (shop.jobs - 1 - length jobs + place) * shop.machines = begins (omega arith) wide in
-    let told = part_told number (row * width) shop.machines (heaviest_back shop jobs place) c.args.tails.now k (omega arith)
-    (moved number ((shop.jobs - 1 - length jobs + place) * shop.machines) shop.machines _ c.args.tails.now (row * width) (sym at) (c.requires.backs.rows_are place (omega arith) inside)) in
-    join_is number (heaviest_front shop (insert jobs place c.args.job) place) (heaviest_back shop jobs place) shop.machines c.args.put.now (take k (drop (row * width) c.args.tails.now))
-    c.requires.width (length-take-le k (drop (row * width) c.args.tails.now) (omega arith) ∙ omega arith) c.requires.put.row_is told
+    let one = row_split (place + 1) place 1 width refl in
+    let fits = row_le (place + 1) (length jobs + 1) width (omega arith) in
+    let all = ap (λ w. (length jobs + 1) * w) wide in
+    let long = c.requires.long in
+    let rest = length-drop (place * width) c.args.backs.now in
+    let k = (place + 1) * width - place * width in
+    let told = part_told number (place * width) shop.machines (heaviest_back shop jobs place) c.args.backs.now k (omega arith)
+    (moved number (place * shop.machines) shop.machines _ c.args.backs.now (place * width) (sym (begins refl wide)) (c.requires.backs.rows_are place inside)) in
+    join_is number (heaviest_front shop (insert jobs place c.args.job) place) (heaviest_back shop jobs place) shop.machines c.args.put.now (take k (drop (place * width) c.args.backs.now))
+    c.requires.width (length-take-le k (drop (place * width) c.args.backs.now) (omega arith) ∙ omega arith) c.requires.put.row_is told
 
 pub join_rows-requires-clause-in_limit : goal.join_rows-requires-clause-in_limit
 join_rows-requires-clause-in_limit g c =
@@ -52,8 +46,8 @@ join_rows-requires-clause-in_limit g c =
     let jobs = c.args.seq.now.jobs in
     let place = c.args.place in
     let within = g.met.B.Bench.within c.args.bench.now in
-    let few = c.requires.few in
-    let is = joined g (goal.at.join_rows-requires-clause-in_limit g c).After-len in
+    let few = c.requires.partial.few in
+    let is = joined g (goal.at.join_rows-requires-clause-in_limit g c).After-machines-machines in
     let small = greatest_small (λ machine. heaviest_front shop (insert jobs place c.args.job) place machine + heaviest_back shop jobs place machine) ((2 * (MOST_JOBS + MOST_MACHINES) + 1) * LONGEST_TIME) 0 shop.machines
     (λ machine lt.
     let one = put_short shop within jobs (omega arith) c.args.job place machine c.requires.place (omega arith) in
@@ -63,5 +57,5 @@ join_rows-requires-clause-in_limit g c =
 
 pub returns-clause-value : goal.returns-clause-value
 returns-clause-value g c =
-    c.join_rows.ensures.value ∙ joined g (goal.at.returns-clause-value g c).After-len
+    c.join_rows.ensures.value ∙ joined g (goal.at.returns-clause-value g c).After-machines-machines
     ∙ sym (exchange_law (g.B.Bench.shop c.args.bench.now) c.args.seq.now.jobs c.args.job c.args.place (g.met.B.Bench.within c.args.bench.now).sizes.some_machine c.requires.place)

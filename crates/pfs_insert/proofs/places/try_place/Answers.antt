@@ -28,7 +28,7 @@ fill_head-requires-clause-above_short g c = λ machine d lt.
     let jobs = c.args.seq.now.jobs in
     let told = above_told g (goal.at.fill_head-requires-clause-above_short g c).After-machines-machines machine d lt in
     let is = head_of_is shop jobs c.args.place machine in
-    let short = heads_short shop (g.met.B.Bench.within c.args.bench.now) jobs (omega (arith, c.requires.few)) c.args.place machine c.requires.place lt in
+    let short = heads_short shop (g.met.B.Bench.within c.args.bench.now) jobs (omega (arith, c.requires.partial.few)) c.args.place machine c.requires.place lt in
     omega arith
 
 pub makespan_by_rows-span-requires-clause-put : goal.makespan_by_rows-span-requires-clause-put

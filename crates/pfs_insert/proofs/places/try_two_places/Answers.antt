@@ -15,9 +15,9 @@ behind_long g c =
     let shop = g.B.Bench.shop c.args.bench.now in
     let place = c.args.place in
     let width = c.machines-machines.result in
-    let few = c.requires.few in
+    let few = c.requires.partial.few in
     let inside = c.requires.place in
-    let all = c.requires.heads in
+    let all = c.requires.parts.heads_long in
     let wide = ap (λ w. shop.jobs * w) c.machines-machines.ensures in
     let fits = row_le (place + 3) shop.jobs width (omega arith) in
     let three = row_split (place + 3) (place + 1) 2 width (omega arith) in
@@ -58,7 +58,7 @@ fill_two_places-requires-clause-above_short g c = λ machine d lt.
     let jobs = c.args.seq.now.jobs in
     let told = above_told g (goal.at.fill_two_places-requires-clause-above_short g c).After-at-2 machine d lt in
     let is = head_of_is shop jobs c.args.place machine in
-    let short = heads_short shop (g.met.B.Bench.within c.args.bench.now) jobs (omega (arith, c.requires.few)) c.args.place machine (omega (arith, c.requires.place)) lt in
+    let short = heads_short shop (g.met.B.Bench.within c.args.bench.now) jobs (omega (arith, c.requires.partial.few)) c.args.place machine (omega (arith, c.requires.place)) lt in
     omega arith
 
 -- the row of heads between the two places, which isn't stored

@@ -24,9 +24,9 @@ split_is g c =
     let width = c.machines-machines.result in
     let below = c.size.result - c.len.result + c.args.place in
     let size = c.size.ensures.value in
-    let sizes = c.requires.size in
+    let sizes = c.requires.partial.size in
     let every = c.len.ensures.value in
-    let few = c.requires.few in
+    let few = c.requires.partial.few in
     let inside = c.requires.place in
     let all = c.requires.rows in
     let wide = ap (λ w. shop.jobs * w) c.machines-machines.ensures in
@@ -60,7 +60,7 @@ pub fill_tail-requires-clause-below_short : goal.fill_tail-requires-clause-below
 fill_tail-requires-clause-below_short g c = λ machine d lt.
     let shop = g.B.Bench.shop c.args.bench.now in
     let told = below_told g (goal.at.fill_tail-requires-clause-below_short g c).After-at machine d lt in
-    let short = tails_short shop (g.met.B.Bench.within c.args.bench.now) c.args.seq.now.jobs (omega (arith, c.requires.few)) (c.args.place + 1) machine in
+    let short = tails_short shop (g.met.B.Bench.within c.args.bench.now) c.args.seq.now.jobs (omega (arith, c.requires.partial.few)) (c.args.place + 1) machine in
     omega arith
 
 pub returns-clause-tails : goal.returns-clause-tails

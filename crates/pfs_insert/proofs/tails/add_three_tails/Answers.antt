@@ -21,9 +21,9 @@ split_is g c =
     let width = c.machines-machines.result in
     let below = c.size.result - 1 - c.len.result + c.args.from in
     let size = c.size.ensures.value in
-    let sizes = c.requires.size in
+    let sizes = c.requires.partial.size in
     let every = c.len.ensures.value in
-    let few = c.requires.few in
+    let few = c.requires.partial.few in
     let inside = c.requires.from in
     let some = c.requires.some in
     let all = c.requires.rows in
@@ -60,7 +60,7 @@ pub fill_three_tails-requires-clause-below_short : goal.fill_three_tails-require
 fill_three_tails-requires-clause-below_short g c = λ machine d lt.
     let shop = g.B.Bench.shop c.args.bench.now in
     let told = below_told g (goal.at.fill_three_tails-requires-clause-below_short g c).After-at-third machine d lt in
-    let short = tails_short shop (g.met.B.Bench.within c.args.bench.now) c.args.seq.now.jobs (omega (arith, c.requires.few)) c.args.from machine in
+    let short = tails_short shop (g.met.B.Bench.within c.args.bench.now) c.args.seq.now.jobs (omega (arith, c.requires.partial.few)) c.args.from machine in
     omega arith
 
 -- one of the three rows, so many before the one below them

@@ -26,7 +26,8 @@ returns-clause-file c = record {
   short = lit≤ tt;
   blocks = record {
     earlier = [];
-    own = codes "number of jobs, number of machines, initial seed, upper bound and lower bound :" ∷ codes "3 2 0 0 0" ∷ codes "processing times :" ∷ codes "3 2 4" ∷ codes "2 5 1" ∷ [];
+    own = codes "number of jobs, number of machines, initial seed, upper bound and lower bound :" ∷ codes "3 2 0 0 0"
+        ∷ codes "processing times :" ∷ codes "3 2 4" ∷ codes "2 5 1" ∷ [];
     parts = refl;
     count = refl;
     each = tt;

@@ -12,12 +12,13 @@ loop-job-init c = record {
   same_machines = refl;
   every_time = c.jobs-job-end.ensures.within.every_time;
   same_notes = refl;
-  drawn = λ job less. absurd (omega arith);
+  drawn = λ job within. absurd (omega arith);
   others = λ job other n differ. refl;
 }
 
 pub loop-job-preserved : goal.loop-job-preserved
 loop-job-preserved c =
     let so_far = c.loop-job.invariant in
-    let next = drawn_more c.args.seed c.args.instance.now c.args.machine c.loop-job.job c.loop-job.drawn c.loop-job.instance so_far (omega (arith, c.loop-job-test.true, c.jobs-job-end.ensures.value)) c.requires.machine in
+    let next = drawn_more c.args.seed c.args.instance.now c.args.machine c.loop-job.job c.loop-job.drawn
+    c.loop-job.instance so_far (omega (arith, c.loop-job-test.true, c.jobs-job-end.ensures.value)) c.requires.machine in
     rw (c.set.ensures, c.time_from.ensures.value, c.next_seed-drawn.ensures.product) next

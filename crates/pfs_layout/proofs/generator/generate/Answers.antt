@@ -22,20 +22,24 @@ loop-machine-preserved c =
     let before = c.loop-machine.instance in
     let after = c.draw_times-drawn.new.instance in
     let row = c.draw_times-drawn.ensures in
-    let on_machine : DrawnSoFar c.loop-machine.drawn before c.loop-machine.machine c.args.jobs c.draw_times-drawn.result after = record {
+    let on_machine : DrawnSoFar c.loop-machine.drawn before c.loop-machine.machine c.args.jobs c.draw_times-drawn.result
+    after = record {
       last = row.seed ∙ ap (λ draws. seed_after draws c.loop-machine.drawn) so_far.same_jobs;
       below = row.below;
       same_jobs = row.jobs;
       same_machines = row.machines;
-      every_time = row.times ∙ so_far.every_time ∙ ap (λ jobs. jobs * c.args.machines) (sym (row.jobs ∙ so_far.same_jobs))
+      every_time = row.times ∙ so_far.every_time ∙ ap (λ jobs. jobs * c.args.machines)
+          (sym (row.jobs ∙ so_far.same_jobs))
           ∙ ap (λ machines. after.shop.jobs * machines) (sym (row.machines ∙ so_far.same_machines));
       same_notes = row.notes;
-      drawn = λ job less. row.drawn job (omega (arith, so_far.same_jobs));
+      drawn = λ job within. row.drawn job (omega (arith, so_far.same_jobs));
       others = row.others;
     } in
-    machine_more c.args.jobs c.args.machines c.args.seed c.loop-machine.machine c.loop-machine.drawn _ _ _ so_far c.loop-machine-test.true on_machine
+    machine_more c.args.jobs c.args.machines c.args.seed c.loop-machine.machine c.loop-machine.drawn _ _ _ so_far
+    c.loop-machine-test.true on_machine
 
 pub returns-clause-drawn : goal.returns-clause-drawn
 returns-clause-drawn c =
-    let all : c.loop-machine.machine ≡ c.args.machines = omega (arith, c.loop-machine-test.false, c.loop-machine.auto.machine-end) in
-    drawn_all c.args.jobs c.args.machines c.args.seed c.loop-machine.drawn c.loop-machine.instance (omega (arith, c.requires.some_machine)) (rw all at c.loop-machine.invariant)
+    let all : c.loop-machine.machine ≡ c.args.machines =
+    omega (arith, c.loop-machine-test.false, c.loop-machine.auto.machine-end) in
+    drawn_all c.args.jobs c.args.machines c.args.seed _ c.loop-machine.instance (rw all at c.loop-machine.invariant)

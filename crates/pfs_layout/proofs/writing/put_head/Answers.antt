@@ -11,8 +11,10 @@ returns-in_err-sent-in-Taillard g c =
 
 pub returns-in_err-sent-in-Taillard-2 : goal.returns-in_err-sent-in-Taillard-2
 returns-in_err-sent-in-Taillard-2 g c =
-    let answer : c.from_residual-in_err-sent-in-Taillard-2.result ≡ Err c.in_err-sent-in-Taillard-2.field-0.0 = search rules in
-    rw (c.in-Taillard.is, answer) (then_front c.in_ok-sent-in-Taillard.ensures (front_of _ c.in_err-sent-in-Taillard-2.ensures))
+    let answer : c.from_residual-in_err-sent-in-Taillard-2.result ≡ Err c.in_err-sent-in-Taillard-2.field-0.0 =
+    search rules in
+    rw (c.in-Taillard.is, answer) (then_front c.in_ok-sent-in-Taillard.ensures
+    (front_of _ c.in_err-sent-in-Taillard-2.ensures))
 
 pub returns-in_err-sent-in-OrLib : goal.returns-in_err-sent-in-OrLib
 returns-in_err-sent-in-OrLib g c =
@@ -21,10 +23,16 @@ returns-in_err-sent-in-OrLib g c =
 
 pub returns-in_ok-sent-in-Taillard-2 : goal.returns-in_ok-sent-in-Taillard-2
 returns-in_ok-sent-in-Taillard-2 g c =
-    let sizes : List _ = with_line_end (spaced (c.args.jobs ∷ c.args.machines ∷ c.args.notes.seed ∷ c.args.notes.upper ∷ c.args.notes.lower ∷ [])) in
-    let both = then_sends _ _ (with_line_end times_title) c.put-in-Taillard.result c.in_ok-sent-in-Taillard-2.ensures c.put-in-Taillard.ensures in
-    rw c.in-Taillard.is (then_sends _ _ (sizes ++ with_line_end times_title) c.put-in-Taillard.result c.in_ok-sent-in-Taillard.ensures both)
+    let sizes : List _ =
+    with_line_end (spaced (c.args.jobs ∷ c.args.machines ∷ c.args.notes.seed ∷ c.args.notes.upper ∷ c.args.notes.lower
+    ∷ [])) in
+    let both = then_sends _ _
+    (with_line_end times_title) c.put-in-Taillard.result c.in_ok-sent-in-Taillard-2.ensures c.put-in-Taillard.ensures in
+    rw c.in-Taillard.is (then_sends _ _
+    (sizes ++ with_line_end times_title) c.put-in-Taillard.result c.in_ok-sent-in-Taillard.ensures both)
 
 pub returns-in_ok-sent-in-OrLib : goal.returns-in_ok-sent-in-OrLib
 returns-in_ok-sent-in-OrLib g c =
-    rw c.in-OrLib.is (then_sends _ _ (with_line_end (spaced (c.args.jobs ∷ c.args.machines ∷ []))) c.put_numbers-in-OrLib.result c.in_ok-sent-in-OrLib.ensures c.put_numbers-in-OrLib.ensures)
+    rw c.in-OrLib.is (then_sends _ _
+    (with_line_end (spaced (c.args.jobs ∷ c.args.machines ∷ []))) c.put_numbers-in-OrLib.result
+    c.in_ok-sent-in-OrLib.ensures c.put_numbers-in-OrLib.ensures)

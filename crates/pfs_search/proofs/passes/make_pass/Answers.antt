@@ -14,10 +14,8 @@ loop-job-preserved g c =
     let cells = ap (λ (t : FlowShop). g.I.Inserter.cost t.jobs t.machines) invariant.same_shop in
     record {
       same_shop = gives.shop ∙ invariant.same_shop;
-      same_size = gives.same_size ∙ invariant.same_size;
-      same_jobs = gives.same_jobs ∙ invariant.same_jobs;
-      same_machines = gives.same_machines ∙ invariant.same_machines;
-      counted = omega (arith, gives.counted, invariant.counted);
+      fits = gives.still_fits;
+      counted = omega (arith, gives.cells.counted, invariant.counted);
       count = gives.count ∙ invariant.count;
       order = gives.jobs
           ∙ ap (λ (t : FlowShop). moved t c.loop-job.seq.jobs job) invariant.same_shop

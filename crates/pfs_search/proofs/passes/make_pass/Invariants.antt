@@ -1,6 +1,7 @@
 use Rattle.std.proofs.Common.{◌≡◌, ◌+◌, ◌*◌, length, fold}
 use Rattle.pfs_base.specs.Paths.{makespan}
 use Rattle.pfs_order.specs.Sequence.{all_jobs}
+use Rattle.pfs_insert.specs.Inserter.{Fits}
 use Rattle.pfs_search.specs.Greedy.{moved}
 use Rattle.pfs_search.proofs.passes.make_pass.Given as goal
 
@@ -10,9 +11,7 @@ invariant-loop-job g l =
     let shop = g.B.Bench.shop l.fn.bench in
     record {
       same_shop : g.B.Bench.shop l.bench ≡ shop;
-      same_size : l.seq.size ≡ shop.jobs;
-      same_jobs : g.I.Inserter.jobs l.inserter ≡ shop.jobs;
-      same_machines : g.I.Inserter.machines l.inserter ≡ shop.machines;
+      fits : Fits (g.B.Bench.shop l.bench) (g.I.Inserter.sizes l.inserter) l.seq.size;
       counted : g.B.Bench.counted l.bench ≡ g.B.Bench.counted l.fn.bench + l.job * g.I.Inserter.cost shop.jobs shop.machines;
       count : length l.seq.jobs ≡ shop.jobs;
       order : l.seq.jobs ≡ fold (moved shop) l.fn.seq.jobs (all_jobs l.job);

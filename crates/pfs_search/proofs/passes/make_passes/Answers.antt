@@ -14,10 +14,8 @@ loop-done-preserved g c =
     let cells = ap (λ (t : FlowShop). pass_cost_on g.I.Inserter.cost t) invariant.same_shop in
     record {
       same_shop = gives.shop ∙ invariant.same_shop;
-      same_size = gives.same_size ∙ invariant.same_size;
-      same_jobs = gives.same_jobs ∙ invariant.same_jobs;
-      same_machines = gives.same_machines ∙ invariant.same_machines;
-      counted = omega (arith, gives.counted, invariant.counted);
+      fits = gives.still_fits;
+      counted = omega (arith, gives.cells.counted, invariant.counted);
       count = gives.count ∙ invariant.count;
       order = gives.jobs
           ∙ ap (λ (t : FlowShop). pass t c.loop-done.seq.jobs) invariant.same_shop

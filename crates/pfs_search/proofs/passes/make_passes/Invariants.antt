@@ -1,5 +1,6 @@
 use Rattle.std.proofs.Common.{◌≡◌, ◌+◌, ◌*◌, length}
 use Rattle.pfs_base.specs.Paths.{makespan}
+use Rattle.pfs_insert.specs.Inserter.{Fits}
 use Rattle.pfs_search.specs.Costs.{pass_cost_on}
 use Rattle.pfs_search.specs.Greedy.{after_passes}
 use Rattle.pfs_search.proofs.passes.make_passes.Given as goal
@@ -10,9 +11,7 @@ invariant-loop-done g l =
     let shop = g.B.Bench.shop l.fn.bench in
     record {
       same_shop : g.B.Bench.shop l.bench ≡ shop;
-      same_size : l.seq.size ≡ shop.jobs;
-      same_jobs : g.I.Inserter.jobs l.inserter ≡ shop.jobs;
-      same_machines : g.I.Inserter.machines l.inserter ≡ shop.machines;
+      fits : Fits (g.B.Bench.shop l.bench) (g.I.Inserter.sizes l.inserter) l.seq.size;
       counted : g.B.Bench.counted l.bench ≡ g.B.Bench.counted l.fn.bench + l._done * pass_cost_on g.I.Inserter.cost shop;
       count : length l.seq.jobs ≡ shop.jobs;
       order : l.seq.jobs ≡ after_passes shop l._done l.fn.seq.jobs;

@@ -10,7 +10,7 @@ pub place_of-place-requires : goal.place_of-place-requires
 place_of-place-requires g c =
     let size = c.args.seq.now.size in
     Contains-all size c.args.job c.args.seq.now.jobs c.size-size.ensures.sequence
-    (c.requires.all_jobs ∙ sym c.requires.own_jobs) (omega (arith, c.requires.own_jobs, c.requires.job))
+    (c.requires.all_jobs ∙ sym c.requires.fits.seq_jobs) (omega (arith, c.requires.fits.seq_jobs, c.requires.job))
 
 pub best-requires-clause-absent : goal.best-requires-clause-absent
 best-requires-clause-absent g c =
@@ -34,7 +34,7 @@ returns-clause-jobs g c =
     let rest = ap (λ (s : Sequence). s.jobs) c.remove_at.ensures.rest in
     let found = c.place_of-place.ensures in
     ap (λ (s : Sequence). s.jobs) c.insert_at.ensures
-    ∙ ap (λ place. insert left place job) c.in_ok-best.ensures.place
+    ∙ ap (λ place. insert left place job) c.in_ok-best.ensures.best.place_is
     ∙ ap (λ js. with_job shop js job) rest
     ∙ sym (moved_is shop c.args.seq.now.size c.place_of-place.result job c.args.seq.now.jobs c.size-size.ensures.sequence found.within (sym found.job))
 
@@ -44,14 +44,14 @@ returns-clause-count g c =
     let fewer = ap (λ (s : Sequence). length s.jobs) c.remove_at.ensures.rest in
     let gone = length-remove c.args.seq.now.jobs c.place_of-place.result c.place_of-place.ensures.within in
     let more = ap (λ (s : Sequence). length s.jobs) c.insert_at.ensures in
-    let back = length-insert left c.in_ok-best.best.place c.args.job c.in_ok-best.ensures.within in
+    let back = length-insert left c.in_ok-best.best.place c.args.job c.in_ok-best.ensures.best.within in
     omega arith
 
-pub returns-clause-counted : goal.returns-clause-counted
-returns-clause-counted g c =
+pub returns-clause-cells : goal.returns-clause-cells
+returns-clause-cells g c =
     let shop = g.B.Bench.shop c.args.bench.now in
     let fewer = ap (λ (s : Sequence). length s.jobs) c.remove_at.ensures.rest in
     let gone = length-remove c.args.seq.now.jobs c.place_of-place.result c.place_of-place.ensures.within in
     let all : length c.remove_at.new.self.jobs + 1 ≡ shop.jobs = omega (arith, c.requires.all_jobs) in
     let cells = ap (λ n. g.I.Inserter.cost n shop.machines) all in
-    omega (arith, c.in_ok-best.ensures.counted)
+    record { counted = omega (arith, c.in_ok-best.ensures.cells.counted); fault_low = tt; fault_high = tt }

@@ -23,4 +23,4 @@ round-requires-clause-room g c =
     let least = small_neh_by_rows bench.jobs bench.machines (omega (arith, c.requires.jobs)) (omega (arith, c.requires.machines)) in
     let more = small_round_of_passes_by_rows after.jobs after.machines (length c.args.words.now) c.args.passes (omega (arith, c.requires.jobs)) (omega (arith, c.requires.machines))
     (omega arith) c.requires.passes in
-    omega (arith, c.metered-bench.ensures.counted, c.in_ok-neh.ensures.counted)
+    omega (arith, c.metered-bench.ensures.counted, c.in_ok-neh.ensures.cells.counted)

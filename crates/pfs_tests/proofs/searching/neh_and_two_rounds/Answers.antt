@@ -22,4 +22,4 @@ rounds-requires-clause-room g c =
     let old_machines = ap (λ (s : FlowShop). s.machines) c.metered-bench.ensures.shop in
     let least = small_neh bench.jobs bench.machines (omega (arith, c.requires.jobs)) (omega (arith, c.requires.machines)) in
     let more = small_round after.jobs after.machines 1 (omega (arith, c.requires.jobs)) (omega (arith, c.requires.machines)) (omega arith) in
-    omega (arith, c.metered-bench.ensures.counted, c.in_ok-neh.ensures.counted)
+    omega (arith, c.metered-bench.ensures.counted, c.in_ok-neh.ensures.cells.counted)

@@ -1,4 +1,4 @@
-use Rattle.std.proofs.Common.{◌≡◌, ◌≤◌, length, ap, subst, arith}
+use Rattle.std.proofs.Common.{◌≡◌, ◌≤◌, length, ap, subst, ◌∙◌, arith}
 use Rattle.rand_core.specs.Steps.{stream_of, steps_u32}
 use Rattle.rand_pcg.specs.Pcg.{pcg32}
 use Rattle.pfs_base.specs.FlowShop.{FlowShop}
@@ -21,7 +21,7 @@ rounds-requires-clause-room g c =
       neh_room shop (g.met.B.Bench.within c.args.bench.now),
       rounds_room then_shop c.args.rounds c.args.many c.args.passes (g.met.B.Bench.within c.neh.new.bench) few c.requires.rounds c.requires.passes,
       c.requires.fresh,
-      c.in_ok-neh.ensures.counted,
+      c.in_ok-neh.ensures.cells.counted,
     )
 
 pub returns-clause-found : goal.returns-clause-found
@@ -37,17 +37,17 @@ returns-clause-found g c =
     let cells = counted c.rounds.new.bench in
     let stream = stream_of (steps_u32 pcg32) c.seed_from_u64-rng.result in
     let neh_done : NehDone shop neh.order neh_span neh_cells =
-    record { is_order = c.in_ok-neh.ensures.order; is_span = c.in_ok-neh.ensures.span; counted = omega (arith, c.requires.fresh, c.in_ok-neh.ensures.counted) } in
+    record { is_order = c.in_ok-neh.ensures.order; is_span = c.in_ok-neh.ensures.span; counted = omega (arith, c.requires.fresh, c.in_ok-neh.ensures.cells.counted) } in
     let rounds_done : RoundsDone shop c.args.rounds c.args.many c.args.passes stream neh.order neh_span neh_cells kept.order span cells =
     subst (λ s. RoundsDone s c.args.rounds c.args.many c.args.passes stream neh.order neh_span neh_cells kept.order span cells) c.in_ok-neh.ensures.shop
     (record {
       is_order = c.in_ok-rounds.ensures.order;
       is_span = c.in_ok-rounds.ensures.span;
       never_rises = c.in_ok-rounds.ensures.never_rises;
-      counted = c.in_ok-rounds.ensures.counted;
+      counted = c.in_ok-rounds.ensures.cells.counted;
     }) in
     let all : length kept.order ≡ shop.jobs =
-    omega (arith, c.in_ok-rounds.ensures.same_order_size, c.in_ok-neh.ensures.same_order_size, ap length c.new-kept.ensures.order, c.in-Ok.ensures.len, c.jobs.ensures) in
+    c.in_ok-rounds.ensures.still_fit.order_jobs ∙ ap (λ (s : FlowShop). s.jobs) (c.in_ok-rounds.ensures.shop ∙ c.in_ok-neh.ensures.shop) in
     let distinct = subst (λ n. IsSequence n kept.order) all c.len-jobs.ensures.sequence in
     found_is shop c.args.rounds c.args.many c.args.passes c.args.seed c.seed_from_u64-rng.result neh.order neh_span neh_cells kept.order span cells c.requires.few
     c.seed_from_u64-rng.ensures neh_done rounds_done all distinct

@@ -13,15 +13,15 @@ use Rattle.pfs_insert.proofs.afresh.AfreshInserter.best.Goals as goal
 one_more : (a b w : ℕ) → a < b → a * w + w ≤ b * w
 one_more a b w lt = let h : (a + 1) * w ≤ b * w = mul-le-mul_right w (omega arith) in omega arith
 
-pub returns-in-Err-clause-fault_high : goal.returns-in-Err-clause-fault_high
-returns-in-Err-clause-fault_high g c =
+pub returns-in-Err-clause-cells : goal.returns-in-Err-clause-cells
+returns-in-Err-clause-cells g c =
     let shop = g.B.Bench.shop c.args.bench.now in
-    let many = length c.args.seq.now.jobs + 1 in
-    let fits = one_more c.loop-place.place many (many * shop.machines) (omega arith) in
-    let all = mul_assoc many many shop.machines in
+    let count = length c.args.seq.now.jobs + 1 in
+    let fits = one_more c.loop-place.place count (count * shop.machines) (omega arith) in
+    let all = mul_assoc count count shop.machines in
     let so_far = c.loop-place.invariant.counted in
     let after = c.in-Err.ensures.refused in
-    omega arith
+    record { counted = tt; fault_low = omega arith; fault_high = omega arith }
 
 pub loop-place-preserved : goal.loop-place-preserved
 loop-place-preserved g c =
@@ -41,23 +41,34 @@ loop-place-preserved g c =
     let span = c.in-Ok.ensures.value ∙ ap (λ s. makespan s c.insert_at.new.self.jobs) invariant.same_shop ∙ ap (makespan shop) jobs in
     record {
       same_shop = c.in-Ok.ensures.shop ∙ invariant.same_shop;
-      own_jobs = ap (λ (s : Sequence). s.size) inserted ∙ c.requires.seq_jobs ∙ sym c.requires.own_jobs;
+      own_jobs = ap (λ (s : Sequence). s.size) inserted ∙ c.requires.fits.seq_jobs ∙ sym c.requires.fits.own_jobs;
       own_machines = invariant.own_machines;
       counted = omega arith;
       best = λ _. c.better-best.ensures (makespan_with shop c.args.seq.now.jobs c.args.job) invariant.best span;
     }
 
-pub returns-clause-place : goal.returns-clause-place
-returns-clause-place g c =
+pub returns-clause-best : goal.returns-clause-best
+returns-clause-best g c =
     let shop = g.B.Bench.shop c.args.bench.now in
     let value = makespan_with shop c.args.seq.now.jobs c.args.job in
     let all : c.loop-place.place ≡ length c.args.seq.now.jobs + 1 = omega (arith, c.len-place-end.ensures.value) in
-    sym (first_least_is value (length c.args.seq.now.jobs + 1) c.loop-place.best.place
-    (subst (λ n. IsFirstLeast value n c.loop-place.best.place) all ((c.loop-place.invariant.best (omega arith)).first)))
+    let best = c.loop-place.invariant.best (omega arith) in
+    let first = subst (λ n. IsFirstLeast value n c.loop-place.best.place) all best.first in
+    let small = first.within in
+    record {
+      place_is = sym (first_least_is value (length c.args.seq.now.jobs + 1) c.loop-place.best.place first);
+      within = omega arith;
+      span_is = best.value_is;
+    }
 
-pub returns-clause-counted : goal.returns-clause-counted
-returns-clause-counted g c =
+pub returns-clause-cells : goal.returns-clause-cells
+returns-clause-cells g c =
     let shop = g.B.Bench.shop c.args.bench.now in
-    let many = length c.args.seq.now.jobs + 1 in
-    let all : c.loop-place.place ≡ many = omega (arith, c.len-place-end.ensures.value) in
-    c.loop-place.invariant.counted ∙ ap (λ n. g.B.Bench.counted c.args.bench.now + n) (ap (λ n. n * (many * shop.machines)) all ∙ sym (mul_assoc many many shop.machines))
+    let count = length c.args.seq.now.jobs + 1 in
+    let all : c.loop-place.place ≡ count = omega (arith, c.len-place-end.ensures.value) in
+    let cells = ap (λ n. n * (count * shop.machines)) all ∙ sym (mul_assoc count count shop.machines) in
+    record {
+      counted = c.loop-place.invariant.counted ∙ ap (λ n. g.B.Bench.counted c.args.bench.now + n) cells;
+      fault_low = tt;
+      fault_high = tt;
+    }

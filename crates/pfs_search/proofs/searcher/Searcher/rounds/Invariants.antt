@@ -1,6 +1,7 @@
 use Rattle.std.proofs.Common.{◌≡◌, ◌+◌, ◌*◌, ◌≤◌, length, vec_len, vec_capacity}
 use Rattle.pfs_base.specs.Paths.{makespan}
-use Rattle.pfs_search.specs.Costs.{round_cost}
+use Rattle.pfs_insert.specs.Inserter.{Fits}
+use Rattle.pfs_search.specs.Costs.{round_cost_on}
 use Rattle.pfs_search.specs.Greedy.{after_rounds, words_of, stream_after}
 use Rattle.pfs_search.proofs.searcher.Searcher.rounds.Given as goal
 
@@ -14,14 +15,13 @@ invariant-loop-done g l =
     record {
       same_shop : g.B.Bench.shop l.bench ≡ shop;
       size : inside.size ≡ shop.jobs;
-      seq : inside.seq.size ≡ shop.jobs;
+      queue : shop.jobs ≤ vec_capacity inside.work.queue;
       ranked : shop.jobs ≤ vec_capacity inside.ranked;
-      taken : shop.jobs ≤ vec_capacity inside.taken;
       words : shop.jobs ≤ vec_len inside.words;
-      jobs : g.I.Inserter.jobs inside.inserter ≡ shop.jobs;
-      machines : g.I.Inserter.machines inside.inserter ≡ shop.machines;
-      counted : g.B.Bench.counted l.bench ≡ g.B.Bench.counted l.fn.bench + l.done * round_cost g.I.Inserter.cost shop.jobs shop.machines l.take l.passes;
-      order_size : length l.kept.order ≡ shop.jobs;
+      fits : Fits (g.B.Bench.shop l.bench) (g.I.Inserter.sizes inside.work.inserter) inside.work.seq.size;
+      counted : g.B.Bench.counted l.bench
+          ≡ g.B.Bench.counted l.fn.bench + l.done * round_cost_on g.I.Inserter.cost shop l.take l.passes;
+      order_jobs : length l.kept.order ≡ (g.B.Bench.shop l.bench).jobs;
       order : l.kept.order ≡ after_rounds shop l.passes l.done l.take l.fn.kept.order (words_of (l.done * l.take) stream);
       span : number l.kept.span ≡ makespan shop l.kept.order;
       falls : number l.kept.span ≤ number l.fn.kept.span;

@@ -1,0 +1,22 @@
+-- How many cells a search counts at most within the limits.
+use Rattle.std.specs.Prelude.{ℕ, ◌+◌, ◌-◌, ◌*◌, ◌≤◌}
+use Rattle.pfs_base.specs.Limits.{limits}
+use Rattle.pfs_base.specs.FlowShop.{FlowShop, IsWithin}
+use Rattle.pfs_search.specs.declared.passes.TheConstants.{MOST_PASSES}
+use Rattle.pfs_desk.specs.declared.solve_options.TheConstants.{MOST_ROUNDS}
+use Rattle.pfs_desk.specs.Solve.{neh_cells, rounds_cells}
+
+-- NEH: 2mn² at the greatest n and m
+abbrev pub most_neh_cells : ℕ
+most_neh_cells = 2 * limits.machines * (limits.jobs * limits.jobs)
+
+-- rounds: R(d + Ln)m(4n - 2) at the greatest R, L, n and m, and d = n
+abbrev pub most_rounds_cells : ℕ
+most_rounds_cells = MOST_ROUNDS * (limits.jobs + MOST_PASSES * limits.jobs) * limits.machines * (4 * limits.jobs - 2)
+
+abbrev pub FewNehCells : Type 0
+FewNehCells = (shop : FlowShop) → IsWithin limits shop → neh_cells shop ≤ most_neh_cells
+
+abbrev pub FewRoundsCells : Type 0
+FewRoundsCells = (shop : FlowShop) (rounds many passes : ℕ) → IsWithin limits shop → many ≤ shop.jobs
+    → rounds ≤ MOST_ROUNDS → passes ≤ MOST_PASSES → rounds_cells shop rounds many passes ≤ most_rounds_cells
