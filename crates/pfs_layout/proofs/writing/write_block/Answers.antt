@@ -1,6 +1,5 @@
-use Rattle.std.proofs.Common.{rules, ◌≡◌, Err, arith, ◌<◌, ◌^◌}
+use Rattle.std.proofs.Common.{rules, ◌≡◌, Err, arith}
 use Rattle.pfs_base.proofs.Published.SendsOn.{front_of_whole}
-use Rattle.pfs_layout.specs.Size.{Size}
 use Rattle.pfs_layout.proofs.Texts.CanonicalLemmas.{head_short, length-row_lines, head_front}
 use Rattle.pfs_layout.proofs.Texts.CanonicalLemmas.{rows_front, rows_all}
 use Rattle.pfs_layout.proofs.writing.write_block.Goals as goal
