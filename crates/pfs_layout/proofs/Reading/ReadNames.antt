@@ -6,7 +6,6 @@ use Rattle.pfs_base.specs.Problem.{Problem}
 use Rattle.pfs_layout.specs.declared.fault.LayoutFault.{LayoutFault}
 use Rattle.pfs_layout.specs.declared.fault.LayoutFault.TheVariants.{Memory}
 use Rattle.pfs_layout.specs.declared.fields.Progress.{Progress}
-use Rattle.pfs_layout.specs.Refuse.{byte_fault}
 use Rattle.pfs_layout.specs.Reader.{Fields, FeedMeets, FinishMeets}
 use Rattle.pfs_layout.proofs.Files.InputFaults.{is_input_fault, refused_input}
 use Rattle.pfs_layout.proofs.Files.EndLemmas.{byte_fault_refuses}
