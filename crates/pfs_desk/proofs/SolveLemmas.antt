@@ -9,7 +9,7 @@ use Rattle.rand_core.specs.Stream.{Stream}
 use Rattle.rand_core.proofs.StepsLemmas.{next_u32-stream_of}
 use Rattle.rand_pcg.specs.Lcg.{Lcg}
 use Rattle.rand_pcg.specs.Pcg.{pcg32, pcg32_of_seed}
-use Rattle.pfs_base.specs.declared.limits.TheConstants.{MOST_JOBS, LONGEST_ORDER_FILE}
+use Rattle.pfs_base.specs.declared.limits.TheConstants.{MOST_JOBS, MOST_MACHINES, LONGEST_ORDER_FILE}
 use Rattle.pfs_base.specs.Limits.{limits}
 use Rattle.pfs_base.specs.FlowShop.{FlowShop, IsWithin}
 use Rattle.pfs_base.specs.Paths.{makespan}
