@@ -62,7 +62,7 @@ fn same_places(alloc: Global, instance: &Instance) -> Result<bool, Fail> {
     for job in 0..instance.jobs() {
         insertable(instance, &seq, job)?;
         let (_jobs, _machines) = (seq.len(), instance.machines());
-        if !bench.room(2_000_000_000) {
+        if !bench.room(6_000_000_000) {
             return Ok(false);
         }
         let start = bench.cells();
