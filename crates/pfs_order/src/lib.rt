@@ -6,8 +6,6 @@ pub mod file;
 pub mod laws;
 pub mod order;
 pub mod reading;
-#[cfg(test)]
-mod reading_tests;
 pub mod scan;
 pub mod seq;
 #[cfg(test)]
