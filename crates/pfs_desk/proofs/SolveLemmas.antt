@@ -1,6 +1,6 @@
 -- What a search finds, counts and prints.
 use Rattle.std.proofs.Common.{◌≡◌, ℕ, zero, suc, ◌+◌, ◌-◌, ◌*◌, ◌<◌, ◌≤◌, ◌^◌, Bool, true, false, List, [], ◌∷◌, ◌++◌, Option}
-use Rattle.std.proofs.Common.{Some, length, map, get_or, cond, codes, refl, sym, subst, ap, ◌∙◌, arith, lit<, lit≤}
+use Rattle.std.proofs.Common.{Some, length, map, cond, codes, refl, sym, subst, ap, ◌∙◌, arith, lit<}
 use Rattle.std.proofs.lemmas.List.{append-nil}
 use Rattle.std.proofs.Math.Nat.{mul-le-mul, mul-le-mul_left}
 use Rattle.rand_core.specs.Pcg32Seed.{pcg32_seed}
