@@ -1,15 +1,6 @@
--- Small shops, and what order files state.
+-- What order files state, and tables of three rows.
 use Rattle.std.specs.Prelude.{ℕ, List, [], ◌∷◌, Option}
-use Rattle.pfs_base.specs.FlowShop.{FlowShop}
 use Rattle.pfs_order.specs.Sequence.{StatedOrder}
-
--- three jobs on two machines: 3 and 2, 2 and 5, 4 and 1
-abbrev pub three_jobs : FlowShop
-three_jobs = record { jobs = 3; machines = 2; times = 3 ∷ 2 ∷ 2 ∷ 5 ∷ 4 ∷ 1 ∷ [] }
-
--- three jobs on two machines, each of time 1
-abbrev pub unit_times : FlowShop
-unit_times = record { jobs = 3; machines = 2; times = 1 ∷ 1 ∷ 1 ∷ 1 ∷ 1 ∷ 1 ∷ [] }
 
 -- an order, and the machines and the makespan that are stated for it
 abbrev pub stated : List ℕ → Option ℕ → ℕ → StatedOrder

@@ -2,7 +2,8 @@
 ghost use Rattle.std.specs.Prelude.{◌≡◌, [], ◌∷◌, Some, None};
 ghost use Rattle.pfs_base.specs.Paths.{makespan};
 ghost use Rattle.pfs_audit.specs.Bound.{bound_of};
-ghost use Rattle.pfs_audit.specs.Examples.{three_jobs, unit_times, stated, table_of};
+ghost use Rattle.pfs_base.specs.Shops.{three_jobs, unit_times};
+ghost use Rattle.pfs_audit.specs.Examples.{stated, table_of};
 ghost use Rattle.pfs_audit.specs.Schedule.{least_end, least_start};
 ghost use Rattle.pfs_audit.specs.Verdicts.{verdict_on};
 

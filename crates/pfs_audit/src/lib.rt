@@ -7,8 +7,6 @@ mod examples;
 mod fault;
 pub mod laws;
 mod recurrence;
-#[cfg(test)]
-mod tests;
 mod timetable;
 mod verdicts;
 

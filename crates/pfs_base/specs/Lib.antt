@@ -7,4 +7,5 @@ pub mod Longest
 pub mod Paths
 pub mod Problem
 pub mod Sends
+pub mod Shops
 pub mod Text

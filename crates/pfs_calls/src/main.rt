@@ -3,12 +3,10 @@
 //! `tests/run` runs each call with each growth of memory refused in turn.
 #![tactic(auto)]
 
-ghost use Rattle.std.specs.Prelude.{◌≡◌, IfOk};
-
 mod search;
 
 use pfs_audit::{AuditFault, Verdict, check, makespan, table};
-use pfs_base::{BaseFault, Bench, FromRead, Instance, Notes, ToWrite};
+use pfs_base::{BaseFault, Bench, FromRead, Instance, ToWrite};
 use pfs_desk::{
     DeskFault, Outcome, SolveOptions, run_check, run_convert, run_generate, run_solve, run_table,
     run_value,
@@ -17,6 +15,7 @@ use pfs_insert::InsertFault;
 use pfs_layout::{BlockReader, Layout, LayoutFault, generate, read_block};
 use pfs_order::{Order, OrderFault, OrderFile, Seq, read_order};
 use pfs_search::SearchFault;
+use pfs_tests::shops::three_jobs;
 use search::{
     afresh_call, heads_tails_call, neh_call, round_call, rounds_call, search_call, turns_call,
 };
@@ -29,12 +28,6 @@ const ORDER: &[u8] = b"order2 3 2\n2 1 3\nmakespan 10\n";
 
 /// The same order for another number of machines.
 const OTHER_MACHINES: &[u8] = b"order2 3 3\n2 1 3\nmakespan 10\n";
-
-const NOTES: Notes = Notes {
-    seed: 0,
-    upper: 0,
-    lower: 0,
-};
 
 /// Why a call did not answer.
 #[derive(Drop)]
@@ -160,20 +153,6 @@ fn answer_of(rt: &HostRuntime, name: &str) -> Result<(), Stop> {
         "run_generate" => run_generate_call(rt),
         _ => Err(Stop::Other),
     }
-}
-
-// Three jobs on two machines.
-fn three_jobs(alloc: Global) -> Result<Instance, Stop>
-    ensures { IfOk result (λ made. (made.shop.jobs ≡ 3) × (made.shop.machines ≡ 2)) }
-{
-    let mut instance = Instance::new(alloc, 3, 2, NOTES)?;
-    instance.set(0, 0, 3);
-    instance.set(0, 1, 2);
-    instance.set(1, 0, 2);
-    instance.set(1, 1, 5);
-    instance.set(2, 0, 4);
-    instance.set(2, 1, 1);
-    Ok(instance)
 }
 
 fn read_the_order(alloc: Global, text: &[u8]) -> Result<OrderFile, Stop> {

@@ -1,86 +1,13 @@
 //! The calls of the inserters and of the search. A search is refused a growth only where it evaluates each
 //! place afresh; by heads and tails it takes no memory once all is made.
-ghost use Rattle.std.specs.Prelude.{◌≡◌, ℕ, ◌+◌, ◌%◌, ◌^◌, [], ◌∷◌, IfOk};
-ghost use Rattle.rand_core.specs.Steps.{stream_of, steps_u32};
-
-use crate::{NOTES, Stop, three_jobs};
-use pfs_base::{Bench, Instance, Metered, Span};
+use crate::Stop;
+use pfs_base::{Bench, Metered, Span};
 use pfs_insert::{Afresh, HeadsTails, InsertFault, Inserter};
-use pfs_order::{Order, Seq};
+use pfs_order::Order;
 use pfs_search::{Kept, SearchFault, Searcher};
+use pfs_tests::shops::{second_and_first, three_jobs, three_machines, two_jobs};
+use pfs_tests::words::Counting;
 use rand_core::Rng;
-use rand_core::utils::{self, NextWord};
-use std::alloc::Global;
-use std::marker::Model;
-
-// A generator of the words 1, 3, 5, and so on.
-#[derive(Drop)]
-struct Odds(u32);
-
-impl Model for Odds {
-    ghost Value = { ℕ };
-
-    ghost view = { λ a. a.0 };
-}
-
-impl NextWord<u32> for Odds {
-    ghost step = { λ s. (s, (s + 2) % 2 ^ 32) };
-
-    fn next_word(&mut self) -> u32 {
-        let word = self.0;
-        self.0 = word.wrapping_add(2);
-        word
-    }
-}
-
-impl Rng for Odds {
-    ghost stream = { stream_of (steps_u32 (λ s. (s, (s + 2) % 2 ^ 32))) };
-
-    fn next_u32(&mut self) -> u32 {
-        self.next_word()
-    }
-
-    fn next_u64(&mut self) -> u64 {
-        utils::next_u64_via_u32(self)
-    }
-
-    fn fill_bytes(&mut self, dst: &mut [u8]) {
-        utils::fill_bytes_via_u32(self, dst)
-    }
-}
-
-// Two jobs on one machine. All orders are as long, so that a job that is taken out goes back first.
-fn two_jobs(alloc: Global) -> Result<Instance, Stop>
-    ensures { IfOk result (λ made. (made.shop.jobs ≡ 2) × (made.shop.machines ≡ 1)) }
-{
-    let mut instance = Instance::new(alloc, 2, 1, NOTES)?;
-    instance.set(0, 0, 5);
-    instance.set(1, 0, 3);
-    Ok(instance)
-}
-
-// Three jobs on three machines. One order alone is shortest.
-fn three_machines(alloc: Global) -> Result<Instance, Stop>
-    ensures { IfOk result (λ made. (made.shop.jobs ≡ 3) × (made.shop.machines ≡ 3)) }
-{
-    let mut instance = Instance::new(alloc, 3, 3, NOTES)?;
-    instance.set(0, 0, 3);
-    instance.set(1, 0, 3);
-    instance.set(0, 1, 1);
-    instance.set(2, 1, 6);
-    instance.set(1, 2, 1);
-    Ok(instance)
-}
-
-// The second job and then the first, of three.
-fn second_and_first(alloc: Global) -> Result<Seq, Stop>
-    ensures { IfOk result (λ made. made ≡ record { size = 3; jobs = 1 ∷ 0 ∷ [] }) }
-{
-    let mut seq = Seq::new(alloc, 3)?;
-    seq.insert_at(0, 0);
-    seq.insert_at(0, 1);
-    Ok(seq)
-}
 
 // Prints the order and the makespan that a search keeps.
 fn print_order(rt: &HostRuntime, bench: &Metered<'_>, kept: &Kept<Span>) -> Result<(), Stop> {
@@ -180,7 +107,7 @@ pub(crate) fn rounds_call(rt: &HostRuntime) -> Result<(), Stop> {
     let mut searcher = Searcher::new(rt.alloc(), 3, inserter)?;
     let mut kept = Kept::new(Order::identity(rt.alloc(), 3)?, bench.zero());
     searcher.neh(rt.alloc(), &mut bench, &mut kept)?;
-    let mut rng = Odds(1);
+    let mut rng = Counting::new(1, 2);
     match searcher.rounds(rt.alloc(), &mut bench, &mut kept, 5, 2, 0, &mut rng) {
         Ok(()) => {
             print_kept(rt, &bench, &kept)?;
@@ -204,7 +131,7 @@ pub(crate) fn turns_call(rt: &HostRuntime) -> Result<(), Stop> {
     let mut searcher = Searcher::new(rt.alloc(), 2, inserter)?;
     let mut kept = Kept::new(Order::identity(rt.alloc(), 2)?, bench.zero());
     searcher.neh(rt.alloc(), &mut bench, &mut kept)?;
-    let mut rng = Odds(1);
+    let mut rng = Counting::new(1, 2);
     match searcher.rounds(rt.alloc(), &mut bench, &mut kept, 5, 1, 0, &mut rng) {
         Ok(()) => {
             print_kept(rt, &bench, &kept)?;
@@ -230,7 +157,7 @@ pub(crate) fn search_call(rt: &HostRuntime) -> Result<(), Stop> {
         return Err(Stop::Other);
     }
     print_kept(rt, &bench, &kept)?;
-    let mut rng = Odds(1);
+    let mut rng = Counting::new(1, 2);
     if searcher
         .rounds(rt.alloc(), &mut bench, &mut kept, 20, 3, 1, &mut rng)
         .is_err()

@@ -1,16 +1,16 @@
 //! The desk: what each command reads, computes and prints, and the faults that it can end in.
 #![tactic(auto)]
 
-pub mod engines;
-pub mod examples;
-pub mod fault;
-pub mod job;
+mod engines;
+mod examples;
+mod fault;
+mod job;
 pub mod laws;
-pub mod planning;
-pub mod solve_options;
+mod planning;
+mod solve_options;
 #[cfg(test)]
 mod tests;
-pub mod usage;
+mod usage;
 
 pub use engines::check::run_check;
 pub use engines::convert::run_convert;

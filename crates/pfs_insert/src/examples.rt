@@ -1,6 +1,7 @@
 //! What the definitions say of a small shop.
 ghost use Rattle.std.specs.Prelude.{◌≡◌, [], ◌∷◌};
-ghost use Rattle.pfs_insert.specs.Examples.{three_jobs, unit_times, row_of, two_rows};
+ghost use Rattle.pfs_base.specs.Shops.{three_jobs, unit_times};
+ghost use Rattle.pfs_insert.specs.Examples.{row_of, two_rows};
 ghost use Rattle.pfs_insert.specs.Exchange.{heaviest_back, heaviest_front};
 ghost use Rattle.pfs_insert.specs.Insertion.{afresh_cost, best_place, heads_tails_cost, makespan_with, with_job};
 

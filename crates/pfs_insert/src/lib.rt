@@ -10,8 +10,6 @@ pub mod laws;
 mod places;
 mod rows;
 mod tails;
-#[cfg(test)]
-mod tests;
 
 pub use afresh::Afresh;
 pub use fault::InsertFault;

@@ -1,18 +1,16 @@
 //! Sequences of jobs, orders of all jobs, and order files.
 #![tactic(auto)]
 
-pub mod fault;
-pub mod file;
+mod fault;
+mod file;
 pub mod laws;
-pub mod order;
-pub mod reading;
-#[cfg(test)]
-mod reading_tests;
-pub mod scan;
-pub mod seq;
+mod order;
+mod reading;
+mod scan;
+mod seq;
 #[cfg(test)]
 mod tests;
-pub mod writing;
+mod writing;
 
 pub use fault::OrderFault;
 pub use file::OrderFile;

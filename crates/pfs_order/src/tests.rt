@@ -1,52 +1,10 @@
-ghost use Rattle.std.specs.Prelude.{◌≡◌, ◌≤◌, Some, false, IfOk};
+ghost use Rattle.std.specs.Prelude.{◌≤◌};
 ghost use Rattle.pfs_base.specs.declared.limits.TheConstants.{MOST_JOBS};
 
-use crate::reading_tests::{read_text, states};
 use crate::*;
-use pfs_base::{Sink, WriteFault};
-use std::alloc::{AllocError, Global};
+use std::alloc::Global;
 use std::process::Abort;
 use std::test::Fail;
-
-// A writer that takes at most so many bytes at once, and so many in all. Then it fails.
-#[derive(Drop)]
-struct Narrow {
-    bytes: Vec<u8>,
-    at_once: usize,
-    room: usize,
-    failed: bool,
-}
-
-impl Sink for Narrow {
-    ghost written = { λ s. Some s.bytes.items };
-
-    ghost has_failed = { λ s. s.failed };
-
-    fn write(&mut self, bytes: &[u8]) -> Option<usize> {
-        let count = bytes.len().min(self.at_once).min(self.room);
-        if count == 0 || self.bytes.extend_from_slice(&bytes[..count]).is_err() {
-            self.failed = true;
-            return None;
-        }
-        self.room -= count;
-        Some(count)
-    }
-
-    fn failed(&self) -> bool {
-        self.failed
-    }
-}
-
-fn narrow_writer(alloc: Global, at_once: usize, room: usize) -> Result<Narrow, AllocError>
-    ensures { IfOk result (λ writer. writer.failed ≡ false) }
-{
-    Ok(Narrow {
-        bytes: Vec::with_capacity(alloc, 100)?,
-        at_once,
-        room,
-        failed: false,
-    })
-}
 
 // A sequence of these jobs.
 fn seq_of(rt: &impl Abort, alloc: Global, size: usize, jobs: &[usize]) -> Result<Seq, OrderFault>
@@ -102,76 +60,6 @@ fn makes_orders(rt: HostRuntime) -> Result<(), Fail> {
     assert_eq!(rt; full.len(), full.size());
     order.copy_from(&full);
     assert_jobs(&rt, order.seq(), &[1, 0, 2]);
-    Ok(())
-}
-
-#[test]
-fn writes_order_files(rt: HostRuntime) -> Result<(), Fail> {
-    let order = Order::identity(rt.alloc(), 3)?;
-    let mut writer = narrow_writer(rt.alloc(), 100, 100)?;
-    assert_eq!(rt; write_order(&mut writer, &order, None, 0)?, 25);
-    assert_eq!(rt;
-        writer.bytes.as_slice(),
-        b"order 3\n1 2 3\nmakespan 0\n".as_slice()
-    );
-    let mut writer = narrow_writer(rt.alloc(), 100, 100)?;
-    assert_eq!(rt; write_order(&mut writer, &order, Some(2), 0)?, 28);
-    assert_eq!(rt;
-        writer.bytes.as_slice(),
-        b"order2 3 2\n1 2 3\nmakespan 0\n".as_slice()
-    );
-    Ok(())
-}
-
-#[test]
-fn writes_a_front_where_the_writer_fails(rt: HostRuntime) -> Result<(), Fail> {
-    let version_1: &[u8] = b"order 3\n2 1 3\nmakespan 10\n";
-    let version_2: &[u8] = b"order2 3 2\n2 1 3\nmakespan 10\n";
-    let mut order = Order::identity(rt.alloc(), 3)?;
-    let full = seq_of(&rt, rt.alloc(), 3, &[1, 0, 2])?;
-    assert_eq!(rt; order.len(), full.size());
-    assert_eq!(rt; full.len(), full.size());
-    order.copy_from(&full);
-    for (machines, text, at_once) in [
-        (None, version_1, 1),
-        (None, version_1, 100),
-        (Some(2), version_2, 1),
-        (Some(2), version_2, 100),
-    ] {
-        for room in 0..text.len() {
-            let mut writer = narrow_writer(rt.alloc(), at_once, room)?;
-            let answer = write_order(&mut writer, &order, machines, 10);
-            assert_eq!(rt;
-                answer,
-                Err(WriteFault {
-                    written: room as u64
-                }),
-                "{at_once} at once"
-            );
-            assert_eq!(rt; writer.bytes.as_slice(), &text[..room], "{at_once} at once");
-        }
-        let mut writer = narrow_writer(rt.alloc(), at_once, text.len())?;
-        assert_eq!(rt;
-            write_order(&mut writer, &order, machines, 10)?,
-            text.len() as u64
-        );
-        assert_eq!(rt; writer.bytes.as_slice(), text);
-    }
-    assert_eq!(rt; version_1.len(), 26);
-    assert_eq!(rt; version_2.len(), 29);
-    Ok(())
-}
-
-#[test]
-fn reads_what_it_writes(rt: HostRuntime) -> Result<(), Fail> {
-    let order = Order::identity(rt.alloc(), 3)?;
-    for machines in [None, Some(1), Some(2), Some(200)] {
-        let mut writer = narrow_writer(rt.alloc(), 100, 100)?;
-        let sent = write_order(&mut writer, &order, machines, 0)?;
-        assert_eq!(rt; writer.bytes.len() as u64, sent);
-        let answer = read_text(rt.alloc(), &writer.bytes, 100, 100);
-        assert!(rt; states(&answer, &[0, 1, 2], machines, 0), "{machines:?}");
-    }
     Ok(())
 }
 

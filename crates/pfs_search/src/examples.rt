@@ -1,7 +1,7 @@
 //! What the definitions say of small shops.
 ghost use Rattle.std.specs.Prelude.{◌≡◌, ◌+◌, ◌*◌, [], ◌∷◌};
 ghost use Rattle.pfs_base.specs.Paths.{makespan};
-ghost use Rattle.pfs_insert.specs.Examples.{three_jobs, unit_times};
+ghost use Rattle.pfs_base.specs.Shops.{three_jobs, unit_times};
 ghost use Rattle.pfs_insert.specs.Insertion.{heads_tails_cost};
 ghost use Rattle.pfs_search.specs.Costs.{neh_cost, round_cost};
 ghost use Rattle.pfs_search.specs.Examples.{one_job, one_machine, three_machines};

@@ -1,6 +1,6 @@
 //! What the commands read, print and answer, on the three-job instance and its variants.
 use crate::fakes::{Endless, Pieces, Taken};
-use crate::texts::BY_MACHINE;
+use crate::texts::{BY_MACHINE, ORDER, ORDER2};
 use pfs_desk::{DeskFault, Outcome, run_check, run_table, run_value, status};
 use pfs_layout::Layout;
 use pfs_order::OrderFault;
@@ -10,11 +10,7 @@ use std::process::Abort;
 const TITLE: &[u8] =
     b"number of jobs, number of machines, initial seed, upper bound and lower bound :\n";
 
-const GOOD_ORDER: &[u8] = b"order 3\n2 1 3\nmakespan 10\n";
-
-/// Order files of version 2 that fit the three-job instance, or state one machine more, or another size too.
-const FITTING: &[u8] = b"order2 3 2\n2 1 3\nmakespan 10\n";
-
+/// Order files of version 2 that state one machine more than the three-job instance has, or another size too.
 const OTHER_MACHINES: &[u8] = b"order2 3 3\n2 1 3\nmakespan 9\n";
 
 const OTHER_SIZES: &[u8] = b"order2 2 3\n1 2\nmakespan 9\n";
@@ -149,7 +145,7 @@ fn check_prints_its_verdict(rt: HostRuntime) {
     assert_check(
         &rt,
         alloc,
-        GOOD_ORDER,
+        ORDER,
         done,
         b"valid\nmakespan 10\nbound 10\noptimal\n",
     );
@@ -190,7 +186,7 @@ fn check_judges_stated_machines_behind_the_size(rt: HostRuntime) {
     let alloc = rt.alloc();
     let verdicts: [(&[u8], Result<Outcome, DeskFault>, &[u8]); 4] = [
         (
-            FITTING,
+            ORDER2,
             Ok(Outcome::Done),
             b"valid\nmakespan 10\nbound 10\noptimal\n",
         ),
@@ -227,10 +223,10 @@ fn table_prints_when_each_operation_starts_and_ends(rt: HostRuntime) {
     let text = b"table 3 2\n2 0 2 2 7\n1 2 5 7 9\n3 5 9 9 10\nmakespan 10\n";
     let failed = Outcome::CheckFailed;
     let orders: [(&[u8], Outcome, &[u8]); 7] = [
-        (GOOD_ORDER, Outcome::Done, text),
+        (ORDER, Outcome::Done, text),
         (b"order 3\n2 1 3\nmakespan 9\n", Outcome::Done, text),
         (b"order 2\n1 2\nmakespan 9\n", failed, WRONG_SIZE),
-        (FITTING, Outcome::Done, text),
+        (ORDER2, Outcome::Done, text),
         (b"order2 3 2\n2 1 3\nmakespan 9\n", Outcome::Done, text),
         (OTHER_MACHINES, failed, WRONG_MACHINES),
         (OTHER_SIZES, failed, WRONG_SIZE),

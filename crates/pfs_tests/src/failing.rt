@@ -1,7 +1,7 @@
 //! Devices that fail at each call in turn, up to the last that is made and behind it: none is made again, and none
 //! behind a failure or the end.
 use crate::fakes::{Pieces, Taken};
-use crate::texts::{BY_JOB, BY_MACHINE};
+use crate::texts::{BY_JOB, BY_MACHINE, ORDER, ORDER2};
 use pfs_base::{WriteFault, put};
 use pfs_desk::{DeskFault, write_fault};
 use pfs_layout::{Layout, LayoutFault, read_block, write_block};
@@ -11,12 +11,6 @@ use std::test::Fail;
 
 /// More calls than any of these texts takes, a byte a call.
 pub const CALLS: u64 = 150;
-
-/// An order file of version 1.
-pub const ORDER: &[u8] = b"order 3\n2 1 3\nmakespan 10\n";
-
-/// The same order in version 2, which states the machines too.
-pub const ORDER2: &[u8] = b"order2 3 2\n2 1 3\nmakespan 10\n";
 
 const VALUE: &[u8] = b"makespan 11\n";
 

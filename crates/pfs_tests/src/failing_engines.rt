@@ -2,9 +2,9 @@
 //! made again, and none behind a failure or the end.
 ghost use Rattle.std.specs.Prelude.{◌≡◌, false};
 
-use crate::failing::{CALLS, ORDER, ORDER2, assert_taken};
+use crate::failing::{CALLS, assert_taken};
 use crate::fakes::{Broken, Pieces, Taken};
-use crate::texts::{BY_JOB, BY_MACHINE, FIVE_JOBS};
+use crate::texts::{BY_JOB, BY_MACHINE, FIVE_JOBS, ORDER, ORDER2};
 use pfs_base::{FromRead, Sink, Source, ToWrite, WriteFault};
 use pfs_desk::{
     DeskFault, Outcome, SolveOptions, run_check, run_convert, run_generate, run_solve, run_table,

@@ -1,5 +1,5 @@
 //! Readers and writers that are short, or fail at a chosen call, and count their calls.
-ghost use Rattle.std.specs.Prelude.{◌≡◌, ◌+◌, ◌≤◌, false, None};
+ghost use Rattle.std.specs.Prelude.{◌≡◌, ◌+◌, ◌<◌, ◌≤◌, false, None, Some};
 
 use pfs_base::{Sink, Source};
 use std::io;
@@ -14,16 +14,18 @@ pub struct Pieces<'a> {
     calls: u64,
     fails_at: Option<u64>,
     failed: bool,
+    ghost some: { 0 < most },
 }
 
 impl<'a> Pieces<'a> {
-    /// A source that gives at most `most` bytes a call, and fails at this call, if there is one.
+    /// A source that gives at most `most` bytes a call, but not none, and fails at this call, if there is one.
     pub fn new(text: &'a [u8], most: usize, fails_at: Option<u64>) -> Pieces<'a>
-        ensures { ⟦<Pieces<'a> as Source>⟧.has_failed result ≡ false }
+        ensures left { ⟦<Pieces<'a> as Source>⟧.left result ≡ Some text.now }
+        ensures working { ⟦<Pieces<'a> as Source>⟧.has_failed result ≡ false }
     {
         Pieces {
             rest: text,
-            most,
+            most: most.max(1),
             calls: 0,
             fails_at,
             failed: false,
@@ -32,7 +34,8 @@ impl<'a> Pieces<'a> {
 
     /// A source that gives the whole text.
     pub fn whole(text: &'a [u8]) -> Pieces<'a>
-        ensures { ⟦<Pieces<'a> as Source>⟧.has_failed result ≡ false }
+        ensures left { ⟦<Pieces<'a> as Source>⟧.left result ≡ Some text.now }
+        ensures working { ⟦<Pieces<'a> as Source>⟧.has_failed result ≡ false }
     {
         Pieces::new(text, usize::MAX, None)
     }
@@ -44,7 +47,7 @@ impl<'a> Pieces<'a> {
 }
 
 impl Source for Pieces<'_> {
-    ghost left = { λ _. None };
+    ghost left = { λ s. Some s.rest.now };
 
     ghost has_failed = { λ s. s.failed };
 

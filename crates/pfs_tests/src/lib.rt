@@ -4,6 +4,8 @@
 
 pub mod any_bench;
 #[cfg(test)]
+mod audits;
+#[cfg(test)]
 mod base;
 #[cfg(test)]
 mod conversions;
@@ -17,12 +19,18 @@ pub mod fakes;
 #[cfg(test)]
 mod faults;
 #[cfg(test)]
+mod inserting;
+#[cfg(test)]
+mod order_files;
+#[cfg(test)]
 mod reader;
 #[cfg(test)]
 mod searching;
+pub mod shops;
 #[cfg(test)]
 mod solving;
 #[cfg(test)]
 mod texts;
+pub mod words;
 #[cfg(test)]
 mod writers;

@@ -1,25 +1,18 @@
 //! Searches over the plain inserter, whose insertion that makes k jobs on m machines counts k·k·m cells, and by
 //! heads and tails, where it counts (4k-2)·m.
-ghost use Rattle.std.specs.Prelude.{◌≡◌, ◌≤◌, ◌+◌, ◌%◌, ◌^◌, ℕ, length, IfOk};
-ghost use Rattle.rand_core.specs.Steps.{stream_of, steps_u32};
+ghost use Rattle.std.specs.Prelude.{◌≤◌, length};
 
+use crate::shops::{shop, three_jobs, three_machines, two_jobs, unit_times};
+use crate::words::Counting;
 use pfs_audit::makespan;
-use pfs_base::{Bench, Instance, Metered, Notes, Span};
+use pfs_base::{Bench, Instance, Metered, Span};
 use pfs_insert::{Afresh, HeadsTails};
 use pfs_order::Order;
 use pfs_search::{Kept, MOST_PASSES, Searcher};
 use rand_core::Rng;
-use rand_core::utils::{self, NextWord};
 use std::alloc::Global;
-use std::marker::Model;
 use std::process::Abort;
 use std::test::Fail;
-
-const NOTES: Notes = Notes {
-    seed: 0,
-    upper: 0,
-    lower: 0,
-};
 
 // What a search is to keep, jobs counted from 0, and the cells that are to be counted by then.
 #[derive(Drop)]
@@ -27,70 +20,6 @@ struct Wanted<'a> {
     jobs: &'a [usize],
     makespan: u64,
     cells: u64,
-}
-
-// A generator of the words 0, 1, 2, and so on.
-#[derive(Drop)]
-struct Counting(u32);
-
-impl Model for Counting {
-    ghost Value = { ℕ };
-
-    ghost view = { λ a. a.0 };
-}
-
-impl NextWord<u32> for Counting {
-    ghost step = { λ s. (s, (s + 1) % 2 ^ 32) };
-
-    fn next_word(&mut self) -> u32 {
-        let word = self.0;
-        self.0 = word.wrapping_add(1);
-        word
-    }
-}
-
-impl Rng for Counting {
-    ghost stream = { stream_of (steps_u32 (λ s. (s, (s + 1) % 2 ^ 32))) };
-
-    fn next_u32(&mut self) -> u32 {
-        self.next_word()
-    }
-
-    fn next_u64(&mut self) -> u64 {
-        utils::next_u64_via_u32(self)
-    }
-
-    fn fill_bytes(&mut self, dst: &mut [u8]) {
-        utils::fill_bytes_via_u32(self, dst)
-    }
-}
-
-// An instance of at most three jobs and machines, with the times job by job.
-fn shop(
-    rt: &impl Abort,
-    alloc: Global,
-    jobs: usize,
-    machines: usize,
-    times: &[u32],
-) -> Result<Instance, Fail>
-    requires jobs { jobs ≤ 3 }
-    requires machines { machines ≤ 3 }
-    ensures jobs { IfOk result (λ made. made.shop.jobs ≡ jobs) }
-    ensures machines { IfOk result (λ made. made.shop.machines ≡ machines) }
-{
-    let mut instance = Instance::new(alloc, jobs, machines, NOTES)?;
-    assert_eq!(rt; times.len(), jobs * machines);
-    let mut rest = times;
-    for job in 0..jobs {
-        for machine in 0..machines {
-            if let Some((time, more)) = rest.split_first() {
-                assert!(rt; *time <= 6);
-                instance.set(job, machine, *time);
-                rest = more;
-            }
-        }
-    }
-    Ok(instance)
 }
 
 // Asserts that a search keeps what is wanted.
@@ -229,7 +158,7 @@ fn neh_and_two_rounds(
     let inserter = Afresh::new(alloc, &bench)?;
     let mut searcher = Searcher::new(alloc, jobs, inserter)?;
     let mut kept = Kept::new(Order::identity(alloc, jobs)?, bench.zero());
-    let mut rng = Counting(0);
+    let mut rng = Counting::new(0, 1);
     searcher.neh(alloc, &mut bench, &mut kept)?;
     searcher.rounds(alloc, &mut bench, &mut kept, 2, 1, 0, &mut rng)?;
     assert_kept(rt, &bench, &kept, by_rounds);
@@ -239,7 +168,7 @@ fn neh_and_two_rounds(
 
 #[test]
 fn a_round_rebuilds_the_order_of_three_jobs(rt: HostRuntime) -> Result<(), Fail> {
-    let instance = shop(&rt, rt.alloc(), 3, 2, &[3, 2, 2, 5, 4, 1])?;
+    let instance = three_jobs(rt.alloc())?;
     let by_neh = Wanted {
         jobs: &[1, 0, 2],
         makespan: 10,
@@ -255,7 +184,7 @@ fn a_round_rebuilds_the_order_of_three_jobs(rt: HostRuntime) -> Result<(), Fail>
 
 #[test]
 fn ties_go_to_the_lower_job_and_the_earliest_place(rt: HostRuntime) -> Result<(), Fail> {
-    let instance = shop(&rt, rt.alloc(), 3, 2, &[1, 1, 1, 1, 1, 1])?;
+    let instance = unit_times(rt.alloc())?;
     let by_neh = Wanted {
         jobs: &[2, 1, 0],
         makespan: 4,
@@ -271,7 +200,7 @@ fn ties_go_to_the_lower_job_and_the_earliest_place(rt: HostRuntime) -> Result<()
 
 #[test]
 fn an_order_of_the_same_makespan_is_kept(rt: HostRuntime) -> Result<(), Fail> {
-    let instance = shop(&rt, rt.alloc(), 2, 1, &[5, 3])?;
+    let instance = two_jobs(rt.alloc())?;
     let by_neh = Wanted {
         jobs: &[1, 0],
         makespan: 8,
@@ -287,7 +216,7 @@ fn an_order_of_the_same_makespan_is_kept(rt: HostRuntime) -> Result<(), Fail> {
 
 #[test]
 fn taken_jobs_go_back_in_the_order_of_removal(rt: HostRuntime) -> Result<(), Fail> {
-    let instance = shop(&rt, rt.alloc(), 2, 1, &[5, 3])?;
+    let instance = two_jobs(rt.alloc())?;
     let by_neh = Wanted {
         jobs: &[1, 0],
         makespan: 8,
@@ -303,7 +232,7 @@ fn taken_jobs_go_back_in_the_order_of_removal(rt: HostRuntime) -> Result<(), Fai
 
 #[test]
 fn a_longer_order_is_not_kept(rt: HostRuntime) -> Result<(), Fail> {
-    let instance = shop(&rt, rt.alloc(), 3, 3, &[3, 1, 0, 3, 0, 1, 0, 6, 0])?;
+    let instance = three_machines(rt.alloc())?;
     let by_neh = Wanted {
         jobs: &[2, 1, 0],
         makespan: 7,
@@ -327,7 +256,7 @@ fn a_longer_order_is_not_kept(rt: HostRuntime) -> Result<(), Fail> {
 
 #[test]
 fn one_job_goes_out_and_back(rt: HostRuntime) -> Result<(), Fail> {
-    let instance = shop(&rt, rt.alloc(), 1, 1, &[0])?;
+    let instance = shop(rt.alloc(), 1, 1, &[0])?;
     let by_neh = Wanted {
         jobs: &[0],
         makespan: 0,
@@ -343,7 +272,7 @@ fn one_job_goes_out_and_back(rt: HostRuntime) -> Result<(), Fail> {
 
 #[test]
 fn by_rows_a_round_rebuilds_the_order_of_three_jobs(rt: HostRuntime) -> Result<(), Fail> {
-    let instance = shop(&rt, rt.alloc(), 3, 2, &[3, 2, 2, 5, 4, 1])?;
+    let instance = three_jobs(rt.alloc())?;
     let by_neh = Wanted {
         jobs: &[1, 0, 2],
         makespan: 10,
@@ -359,7 +288,7 @@ fn by_rows_a_round_rebuilds_the_order_of_three_jobs(rt: HostRuntime) -> Result<(
 
 #[test]
 fn by_rows_an_order_of_the_same_makespan_is_kept(rt: HostRuntime) -> Result<(), Fail> {
-    let instance = shop(&rt, rt.alloc(), 2, 1, &[5, 3])?;
+    let instance = two_jobs(rt.alloc())?;
     let by_neh = Wanted {
         jobs: &[1, 0],
         makespan: 8,
@@ -375,7 +304,7 @@ fn by_rows_an_order_of_the_same_makespan_is_kept(rt: HostRuntime) -> Result<(), 
 
 #[test]
 fn by_rows_a_longer_order_is_not_kept(rt: HostRuntime) -> Result<(), Fail> {
-    let instance = shop(&rt, rt.alloc(), 3, 3, &[3, 1, 0, 3, 0, 1, 0, 6, 0])?;
+    let instance = three_machines(rt.alloc())?;
     let by_neh = Wanted {
         jobs: &[2, 1, 0],
         makespan: 7,
@@ -399,7 +328,7 @@ fn by_rows_a_longer_order_is_not_kept(rt: HostRuntime) -> Result<(), Fail> {
 
 #[test]
 fn by_rows_one_job_goes_out_and_back(rt: HostRuntime) -> Result<(), Fail> {
-    let instance = shop(&rt, rt.alloc(), 1, 1, &[0])?;
+    let instance = shop(rt.alloc(), 1, 1, &[0])?;
     let by_neh = Wanted {
         jobs: &[0],
         makespan: 0,
@@ -415,7 +344,7 @@ fn by_rows_one_job_goes_out_and_back(rt: HostRuntime) -> Result<(), Fail> {
 
 #[test]
 fn each_round_draws_its_own_words(rt: HostRuntime) -> Result<(), Fail> {
-    let instance = shop(&rt, rt.alloc(), 2, 1, &[5, 3])?;
+    let instance = two_jobs(rt.alloc())?;
     let by_rounds = Wanted {
         jobs: &[0, 1],
         makespan: 8,
@@ -426,7 +355,7 @@ fn each_round_draws_its_own_words(rt: HostRuntime) -> Result<(), Fail> {
 
 #[test]
 fn a_pass_is_made_before_the_comparison(rt: HostRuntime) -> Result<(), Fail> {
-    let instance = shop(&rt, rt.alloc(), 3, 3, &[3, 1, 0, 3, 0, 1, 0, 6, 0])?;
+    let instance = three_machines(rt.alloc())?;
     let without = Wanted {
         jobs: &[1, 2, 0],
         makespan: 10,
@@ -443,7 +372,7 @@ fn a_pass_is_made_before_the_comparison(rt: HostRuntime) -> Result<(), Fail> {
 
 #[test]
 fn by_rows_a_pass_is_made_before_the_comparison(rt: HostRuntime) -> Result<(), Fail> {
-    let instance = shop(&rt, rt.alloc(), 3, 3, &[3, 1, 0, 3, 0, 1, 0, 6, 0])?;
+    let instance = three_machines(rt.alloc())?;
     let without = Wanted {
         jobs: &[1, 2, 0],
         makespan: 10,
@@ -460,7 +389,7 @@ fn by_rows_a_pass_is_made_before_the_comparison(rt: HostRuntime) -> Result<(), F
 
 #[test]
 fn an_order_that_a_pass_makes_equal_is_kept(rt: HostRuntime) -> Result<(), Fail> {
-    let instance = shop(&rt, rt.alloc(), 3, 3, &[3, 1, 0, 3, 0, 1, 0, 6, 0])?;
+    let instance = three_machines(rt.alloc())?;
     let by_neh = Wanted {
         jobs: &[2, 1, 0],
         makespan: 7,
@@ -485,7 +414,7 @@ fn an_order_that_a_pass_makes_equal_is_kept(rt: HostRuntime) -> Result<(), Fail>
 // What a program that evaluates whole orders keeps, of shops with random times.
 #[test]
 fn passes_move_jobs_by_their_numbers(rt: HostRuntime) -> Result<(), Fail> {
-    let instance = shop(&rt, rt.alloc(), 3, 3, &[0, 2, 3, 1, 1, 2, 0, 2, 2])?;
+    let instance = shop(rt.alloc(), 3, 3, &[0, 2, 3, 1, 1, 2, 0, 2, 2])?;
     let afresh = Wanted {
         jobs: &[2, 1, 0],
         makespan: 9,
@@ -498,7 +427,7 @@ fn passes_move_jobs_by_their_numbers(rt: HostRuntime) -> Result<(), Fail> {
         cells: 9 + 48 + 90,
     };
     numbers_and_round_by_rows(&rt, rt.alloc(), &instance, &[9, 9], 1, &by_rows)?;
-    let instance = shop(&rt, rt.alloc(), 3, 3, &[3, 4, 0, 4, 1, 0, 5, 1, 3])?;
+    let instance = shop(rt.alloc(), 3, 3, &[3, 4, 0, 4, 1, 0, 5, 1, 3])?;
     let afresh = Wanted {
         jobs: &[2, 0, 1],
         makespan: 13,

@@ -1,4 +1,4 @@
-//! Files of the instance that the tests share.
+//! Files that the tests share.
 
 /// Three jobs on two machines in Taillard's layout, in 121 bytes.
 pub const BY_MACHINE: &[u8] =
@@ -10,3 +10,9 @@ pub const BY_JOB: &[u8] = b"flow shop instance\n3 2\n0 3 1 2\n0 2 1 5\n0 4 1 1\n
 /// Five jobs on one machine, drawn from the published seed.
 pub const FIVE_JOBS: &[u8] =
     b"number of jobs, number of machines, initial seed, upper bound and lower bound :\n5 1 873654221 0 0\nprocessing times :\n54 83 15 71 77\n";
+
+/// An order file of version 1.
+pub const ORDER: &[u8] = b"order 3\n2 1 3\nmakespan 10\n";
+
+/// The same order in version 2, which states the machines too.
+pub const ORDER2: &[u8] = b"order2 3 2\n2 1 3\nmakespan 10\n";

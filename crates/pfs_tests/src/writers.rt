@@ -2,42 +2,18 @@
 ghost use Rattle.std.specs.Prelude.{◌<◌};
 
 use crate::fakes::Taken;
+use crate::shops::three_jobs;
 use crate::texts::{BY_JOB, BY_MACHINE};
 use pfs_audit::bound;
-use pfs_base::{BaseFault, Instance, LONGEST_TIME, Notes, WriteFault};
+use pfs_base::{Instance, WriteFault};
 use pfs_layout::{Layout, LayoutFault, generate, write_block};
-use std::alloc::Global;
 use std::process::Abort;
 use std::test::Fail;
-
-// Three jobs on two machines.
-fn three_jobs(rt: &impl Abort, alloc: Global) -> Result<Instance, BaseFault> {
-    let notes = Notes {
-        seed: 0,
-        upper: 0,
-        lower: 0,
-    };
-    let mut instance = Instance::new(alloc, 3, 2, notes)?;
-    for (job, machine, time) in [
-        (0, 0, 3),
-        (0, 1, 2),
-        (1, 0, 2),
-        (1, 1, 5),
-        (2, 0, 4),
-        (2, 1, 1),
-    ] {
-        assert!(rt; job < instance.jobs());
-        assert!(rt; machine < instance.machines());
-        assert!(rt; time <= LONGEST_TIME);
-        instance.set(job, machine, time);
-    }
-    Ok(instance)
-}
 
 #[test]
 fn writes_whole_texts(rt: HostRuntime) -> Result<(), Fail> {
     assert_eq!(rt; BY_MACHINE.len(), 121);
-    let instance = three_jobs(&rt, rt.alloc())?;
+    let instance = three_jobs(rt.alloc())?;
     for (layout, text) in [(Layout::Taillard, BY_MACHINE), (Layout::OrLib, BY_JOB)] {
         let mut writer = Taken::new(256, 256);
         write_block(&mut writer, &instance, layout)?;
@@ -48,7 +24,7 @@ fn writes_whole_texts(rt: HostRuntime) -> Result<(), Fail> {
 
 #[test]
 fn writes_a_front_where_the_writer_fails(rt: HostRuntime) -> Result<(), Fail> {
-    let instance = three_jobs(&rt, rt.alloc())?;
+    let instance = three_jobs(rt.alloc())?;
     for (layout, text) in [(Layout::Taillard, BY_MACHINE), (Layout::OrLib, BY_JOB)] {
         for at_once in [1, 256] {
             for room in 0..text.len() {

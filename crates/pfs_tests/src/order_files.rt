@@ -1,104 +1,28 @@
-ghost use Rattle.std.specs.Prelude.{◌≡◌, ◌<◌, ◌≤◌, min, Some, None, false, drop, take, length, vec_len};
+//! Order files that are read and written.
+ghost use Rattle.std.specs.Prelude.{◌<◌};
 
-use crate::*;
-use pfs_base::{LONGEST_ORDER_FILE, Source};
-use std::alloc::{AllocError, Global};
+use crate::fakes::{Endless, Pieces, Taken};
+use crate::shops::sequence_of;
+use crate::texts::{ORDER, ORDER2};
+use pfs_base::{LONGEST_ORDER_FILE, WriteFault};
+use pfs_order::{Order, OrderFault, OrderFile, read_order, write_order};
+use std::alloc::Global;
 use std::test::Fail;
 
-const TEXT: &[u8] = b"order 3\n2 1 3\nmakespan 10\n";
-
-const SECOND_TEXT: &[u8] = b"order2 3 2\n2 1 3\nmakespan 10\n";
-
-// A reader of a text that gives at most so many bytes at once, and fails after so many calls.
-#[derive(Drop)]
-struct Given {
-    text: Vec<u8>,
-    at: usize,
-    at_once: usize,
-    calls: usize,
-    failed: bool,
-    ghost within: { at ≤ vec_len text },
-    ghost some: { 0 < at_once },
-}
-
-impl Source for Given {
-    ghost left = { λ s. Some (drop s.at s.text.items) };
-
-    ghost has_failed = { λ s. s.failed };
-
-    fn read(&mut self, buf: &mut [u8]) -> Option<usize> {
-        if self.calls == 0 {
-            self.failed = true;
-            return None;
-        }
-        self.calls -= 1;
-        let n = take_front(&self.text[self.at..], self.at_once, buf);
-        self.at += n;
-        Some(n)
-    }
-
-    fn failed(&self) -> bool {
-        self.failed
-    }
-}
-
-// Copies as many bytes as are there, as may be copied at once and as have room.
-fn take_front(rest: &[u8], at_once: usize, buf: &mut [u8]) -> usize
-    ensures counted { result ≡ min (min (length rest.now) (length buf.new)) at_once }
-    ensures copied { take result buf.new ≡ take result rest.now }
-{
-    let n = rest.len().min(buf.len()).min(at_once);
-    buf[..n].copy_from_slice(&rest[..n]);
-    n
-}
-
-// A reader that gives one byte for ever.
-#[derive(Drop)]
-struct Endless {
-    byte: u8,
-}
-
-impl Source for Endless {
-    ghost left = { λ _. None };
-
-    ghost has_failed = { λ _. false };
-
-    fn read(&mut self, buf: &mut [u8]) -> Option<usize> {
-        buf.fill(self.byte);
-        Some(buf.len())
-    }
-
-    fn failed(&self) -> bool {
-        false
-    }
-}
-
-// What the order file of a text is, where the reader gives so many bytes at once and fails after so
-// many calls.
-pub(crate) fn read_text(
+// What the order file of a text is, where the reader gives at most so many bytes at once and fails after so many
+// calls.
+fn read_text(
     alloc: Global,
     text: &[u8],
     at_once: usize,
-    calls: usize,
-) -> Result<OrderFile, OrderFault>
-    requires { 0 < at_once }
-{
-    let text = match Vec::from_slice(alloc, text) {
-        Ok(text) => text,
-        Err(AllocError) => return Err(OrderFault::Memory),
-    };
-    let mut reader = Given {
-        text,
-        at: 0,
-        at_once,
-        calls,
-        failed: false,
-    };
+    calls: u64,
+) -> Result<OrderFile, OrderFault> {
+    let mut reader = Pieces::new(text, at_once, Some(calls.saturating_add(1)));
     read_order(alloc, &mut reader)
 }
 
 // Whether the answer is an order file of these jobs, these machines if any, and this makespan.
-pub(crate) fn states(
+fn states(
     answer: &Result<OrderFile, OrderFault>,
     jobs: &[usize],
     machines: Option<usize>,
@@ -127,7 +51,7 @@ fn is_refused(answer: &Result<OrderFile, OrderFault>, fault: OrderFault) -> bool
 #[test]
 fn reads_order_files(rt: HostRuntime) {
     for at_once in [1, 7, 100] {
-        let answer = read_text(rt.alloc(), TEXT, at_once, 100);
+        let answer = read_text(rt.alloc(), ORDER, at_once, 100);
         assert!(rt; states(&answer, &[1, 0, 2], None, 10), "{at_once} at once");
     }
     let identity = b"order 3\n1 2 3\nmakespan 0\n";
@@ -144,7 +68,7 @@ fn reads_order_files(rt: HostRuntime) {
 #[test]
 fn reads_order_files_of_version_2(rt: HostRuntime) {
     for at_once in [1, 7, 100] {
-        let answer = read_text(rt.alloc(), SECOND_TEXT, at_once, 100);
+        let answer = read_text(rt.alloc(), ORDER2, at_once, 100);
         assert!(rt;
             states(&answer, &[1, 0, 2], Some(2), 10),
             "{at_once} at once"
@@ -247,9 +171,9 @@ fn refuses_other_texts(rt: HostRuntime) {
 
 #[test]
 fn refuses_a_cut_order_file_where_it_ends(rt: HostRuntime) {
-    assert_eq!(rt; TEXT.len(), 26);
-    assert_eq!(rt; SECOND_TEXT.len(), 29);
-    for text in [TEXT, SECOND_TEXT] {
+    assert_eq!(rt; ORDER.len(), 26);
+    assert_eq!(rt; ORDER2.len(), 29);
+    for text in [ORDER, ORDER2] {
         for cut in 0..text.len() {
             let answer = read_text(rt.alloc(), &text[..cut], 100, 100);
             assert!(rt;
@@ -262,7 +186,7 @@ fn refuses_a_cut_order_file_where_it_ends(rt: HostRuntime) {
 
 #[test]
 fn refuses_long_inputs(rt: HostRuntime) -> Result<(), Fail> {
-    let mut reader = Endless { byte: 48 };
+    let mut reader = Endless::new(b'0', usize::MAX, false);
     let answer = read_order(rt.alloc(), &mut reader);
     assert!(rt; is_refused(&answer, OrderFault::TooLong));
     let longer = vec![in rt.alloc(); 120; LONGEST_ORDER_FILE + 1]?;
@@ -275,8 +199,8 @@ fn refuses_long_inputs(rt: HostRuntime) -> Result<(), Fail> {
 
 #[test]
 fn tells_a_failed_read(rt: HostRuntime) {
-    for calls in 0..TEXT.len() + 1 {
-        let answer = read_text(rt.alloc(), TEXT, 1, calls);
+    for calls in 0..ORDER.len() as u64 + 1 {
+        let answer = read_text(rt.alloc(), ORDER, 1, calls);
         assert!(rt;
             is_refused(&answer, OrderFault::Read),
             "after {calls} calls"
@@ -284,7 +208,7 @@ fn tells_a_failed_read(rt: HostRuntime) {
     }
     assert!(rt;
         states(
-            &read_text(rt.alloc(), TEXT, 1, TEXT.len() + 1),
+            &read_text(rt.alloc(), ORDER, 1, ORDER.len() as u64 + 1),
             &[1, 0, 2],
             None,
             10
@@ -298,6 +222,69 @@ fn reads_no_further_than_a_byte_behind_the_longest_input(rt: HostRuntime) -> Res
     for (calls, fault) in [(2, OrderFault::Read), (3, OrderFault::TooLong)] {
         let answer = read_text(rt.alloc(), &long, 30_000, calls);
         assert!(rt; is_refused(&answer, fault), "after {calls} calls");
+    }
+    Ok(())
+}
+
+#[test]
+fn writes_order_files(rt: HostRuntime) -> Result<(), Fail> {
+    let order = Order::identity(rt.alloc(), 3)?;
+    let mut writer = Taken::new(100, 100);
+    assert_eq!(rt; write_order(&mut writer, &order, None, 0)?, 25);
+    assert_eq!(rt; writer.bytes(), b"order 3\n1 2 3\nmakespan 0\n".as_slice());
+    let mut writer = Taken::new(100, 100);
+    assert_eq!(rt; write_order(&mut writer, &order, Some(2), 0)?, 28);
+    assert_eq!(rt;
+        writer.bytes(),
+        b"order2 3 2\n1 2 3\nmakespan 0\n".as_slice()
+    );
+    Ok(())
+}
+
+#[test]
+fn writes_a_front_where_the_writer_fails(rt: HostRuntime) -> Result<(), Fail> {
+    let order = Order::from_seq(sequence_of(rt.alloc(), &[1, 0, 2])?)
+        .ok()
+        .ok_or("all jobs")?;
+    for (machines, text, at_once) in [
+        (None, ORDER, 1),
+        (None, ORDER, 100),
+        (Some(2), ORDER2, 1),
+        (Some(2), ORDER2, 100),
+    ] {
+        for room in 0..text.len() {
+            let mut writer = Taken::new(room, at_once);
+            let answer = write_order(&mut writer, &order, machines, 10);
+            assert_eq!(rt;
+                answer,
+                Err(WriteFault {
+                    written: room as u64
+                }),
+                "{at_once} at once"
+            );
+            assert_eq!(rt; writer.bytes(), &text[..room], "{at_once} at once");
+        }
+        let mut writer = Taken::new(text.len(), at_once);
+        assert_eq!(rt;
+            write_order(&mut writer, &order, machines, 10)?,
+            text.len() as u64
+        );
+        assert_eq!(rt; writer.bytes(), text);
+    }
+    assert_eq!(rt; ORDER.len(), 26);
+    assert_eq!(rt; ORDER2.len(), 29);
+    Ok(())
+}
+
+#[test]
+fn reads_what_it_writes(rt: HostRuntime) -> Result<(), Fail> {
+    let order = Order::identity(rt.alloc(), 3)?;
+    for machines in [None, Some(1), Some(2), Some(200)] {
+        let mut writer = Taken::new(100, 100);
+        let sent = write_order(&mut writer, &order, machines, 0)?;
+        assert_eq!(rt; writer.bytes().len() as u64, sent);
+        let answer = read_text(rt.alloc(), writer.bytes(), 100, 100);
+        assert!(rt; states(&answer, &[0, 1, 2], machines, 0), "{machines:?}");
     }
     Ok(())
 }

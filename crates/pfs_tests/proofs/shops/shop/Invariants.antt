@@ -1,14 +1,14 @@
 use Rattle.std.proofs.Common.{◌≡◌}
-use Rattle.pfs_tests.proofs.searching.shop.Given as goal
+use Rattle.pfs_tests.proofs.shops.shop.Given as goal
 
 abbrev pub invariant-loop-job : goal.invariant-loop-job
-invariant-loop-job g l = record {
+invariant-loop-job l = record {
   jobs : l.instance.shop.jobs ≡ l.jobs;
   machines : l.instance.shop.machines ≡ l.machines;
 }
 
 abbrev pub invariant-loop-machine : goal.invariant-loop-machine
-invariant-loop-machine g l = record {
+invariant-loop-machine l = record {
   jobs : l.instance.shop.jobs ≡ l.jobs;
   machines : l.instance.shop.machines ≡ l.machines;
 }

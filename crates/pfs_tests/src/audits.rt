@@ -1,55 +1,9 @@
-//! Worked examples on small shops.
-ghost use Rattle.std.specs.Prelude.{◌≡◌, IfOk};
-
-use crate::{bound, makespan, table};
-use pfs_base::{Bench, Instance, Notes};
-use pfs_order::{Order, Seq};
-use std::alloc::Global;
+//! Makespans, bounds and time tables of small shops.
+use crate::shops::{sequence_of, three_jobs, unit_times};
+use pfs_audit::{bound, makespan, table};
+use pfs_base::Bench;
+use pfs_order::Order;
 use std::test::Fail;
-
-const NOTES: Notes = Notes {
-    seed: 0,
-    upper: 0,
-    lower: 0,
-};
-
-// Three jobs on two machines: 3 and 2, 2 and 5, 4 and 1.
-fn three_jobs(alloc: Global) -> Result<Instance, Fail>
-    ensures jobs { IfOk result (λ instance. instance.shop.jobs ≡ 3) }
-    ensures machines { IfOk result (λ instance. instance.shop.machines ≡ 2) }
-{
-    let mut instance = Instance::new(alloc, 3, 2, NOTES)?;
-    instance.set(0, 0, 3);
-    instance.set(0, 1, 2);
-    instance.set(1, 0, 2);
-    instance.set(1, 1, 5);
-    instance.set(2, 0, 4);
-    instance.set(2, 1, 1);
-    Ok(instance)
-}
-
-// Three jobs on two machines, each of time 1.
-fn unit_times(alloc: Global) -> Result<Instance, Fail> {
-    let mut instance = Instance::new(alloc, 3, 2, NOTES)?;
-    instance.set(0, 0, 1);
-    instance.set(0, 1, 1);
-    instance.set(1, 0, 1);
-    instance.set(1, 1, 1);
-    instance.set(2, 0, 1);
-    instance.set(2, 1, 1);
-    Ok(instance)
-}
-
-// A sequence of some of three jobs.
-fn sequence_of(alloc: Global, jobs: &[usize]) -> Result<Seq, Fail> {
-    let mut seq = Seq::new(alloc, 3)?;
-    for job in jobs {
-        if *job < seq.size() && !seq.has(*job) {
-            seq.insert_at(seq.len(), *job);
-        }
-    }
-    Ok(seq)
-}
 
 #[test]
 fn makespans_count_a_cell_for_each_operation(rt: HostRuntime) -> Result<(), Fail> {

@@ -1,37 +1,12 @@
-//! Worked examples on small shops.
-ghost use Rattle.std.specs.Prelude.{◌≡◌, ◌<◌, ◌≤◌, length, Contains, OnOk};
+//! Jobs that both inserters put into a sequence.
+ghost use Rattle.std.specs.Prelude.{◌≡◌, ◌<◌, length, Contains, OnOk};
 
-use crate::{Afresh, HeadsTails, Inserter};
-use pfs_base::{Bench, Instance, Notes};
+use crate::shops::{drawn_shop, second_and_first, shop, three_jobs};
+use pfs_base::{Bench, Instance};
+use pfs_insert::{Afresh, HeadsTails, Inserter};
 use pfs_order::Seq;
 use std::alloc::Global;
 use std::test::Fail;
-
-const NOTES: Notes = Notes {
-    seed: 0,
-    upper: 0,
-    lower: 0,
-};
-
-// Three jobs on two machines: 3 and 2, 2 and 5, 4 and 1.
-fn three_jobs(alloc: Global) -> Result<Instance, Fail> {
-    let mut instance = Instance::new(alloc, 3, 2, NOTES)?;
-    instance.set(0, 0, 3);
-    instance.set(0, 1, 2);
-    instance.set(1, 0, 2);
-    instance.set(1, 1, 5);
-    instance.set(2, 0, 4);
-    instance.set(2, 1, 1);
-    Ok(instance)
-}
-
-// The second job and then the first, of three.
-fn second_and_first(alloc: Global) -> Result<Seq, Fail> {
-    let mut seq = Seq::new(alloc, 3)?;
-    seq.insert_at(0, 0);
-    seq.insert_at(0, 1);
-    Ok(seq)
-}
 
 // That a job can be inserted.
 fn insertable(instance: &Instance, seq: &Seq, job: usize) -> Result<(), Fail>
@@ -77,21 +52,6 @@ fn by_heads_and_tails(
     Ok((best.place, bench.reveal(best.span), bench.cells()))
 }
 
-// A shop whose times a linear congruence draws, small ones, so that many places are as good as others.
-fn drawn_shop(alloc: Global, jobs: usize, machines: usize, seed: u32) -> Result<Instance, Fail> {
-    let mut instance = Instance::new(alloc, jobs, machines, NOTES)?;
-    let mut state = seed;
-    for job in 0..jobs {
-        for machine in 0..machines {
-            state = state.wrapping_mul(1_103_515_245).wrapping_add(12_345);
-            if job < instance.jobs() && machine < instance.machines() {
-                instance.set(job, machine, state / 65_536 % 8);
-            }
-        }
-    }
-    Ok(instance)
-}
-
 // Puts the jobs of a shop into a sequence, one after the other, by both inserters, and answers whether
 // these gave the same places and makespans, at their costs. Each inserter is the same for all jobs.
 fn same_places(alloc: Global, instance: &Instance) -> Result<bool, Fail> {
@@ -102,7 +62,7 @@ fn same_places(alloc: Global, instance: &Instance) -> Result<bool, Fail> {
     for job in 0..instance.jobs() {
         insertable(instance, &seq, job)?;
         let (_jobs, _machines) = (seq.len(), instance.machines());
-        if !bench.room(2_000_000_000) {
+        if !bench.room(6_000_000_000) {
             return Ok(false);
         }
         let start = bench.cells();
@@ -139,7 +99,7 @@ fn a_third_job_goes_last(rt: HostRuntime) -> Result<(), Fail> {
 
 #[test]
 fn one_job_counts_two_cells(rt: HostRuntime) -> Result<(), Fail> {
-    let instance = Instance::new(rt.alloc(), 1, 1, NOTES)?;
+    let instance = shop(rt.alloc(), 1, 1, &[0])?;
     let seq = Seq::new(rt.alloc(), 1)?;
     assert_eq!(rt;
         by_heads_and_tails(rt.alloc(), &instance, &seq, 0)?,
