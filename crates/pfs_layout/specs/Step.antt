@@ -60,6 +60,13 @@ blank_after line = record line {
   digits = record { offset = line.digits.offset + 1; first = line.digits.offset + 1; value = 0 };
 }
 
+-- a word byte more
+abbrev pub word_after : Line → Line
+word_after line = record {
+  digits = (blank_after line).digits;
+  kinds = record line.kinds { has_word = true };
+}
+
 -- a number line so far
 abbrev pub has_numbers_alone : Kinds → Bool
 has_numbers_alone k = k.has_digit && not k.has_word
@@ -75,19 +82,12 @@ blank_event (Some number) = events.NumberEnded number
 abbrev pub mixed_if : Line → Bool → Event
 mixed_if line is_mixed = if is_mixed then events.Mixed line.digits.offset else events.Quiet
 
-abbrev pub digit_event : Line → Event
-digit_event line = mixed_if line line.kinds.has_word
-
-abbrev pub other_event : Line → ℕ → Event
-other_event line b = if is_line_end b
-    then events.LineEnded (number_of line.digits) (has_numbers_alone line.kinds)
-    else mixed_if line line.kinds.has_digit
-
 -- what a byte means behind the line
 abbrev pub event_of : Line → ℕ → Event
-event_of line b = if is_digit b
-    then digit_event line
-    else (if is_blank b then blank_event (number_of line.digits) else other_event line b)
+event_of line b = if is_digit b then mixed_if line line.kinds.has_word
+    else (if is_blank b then blank_event (number_of line.digits)
+    else (if is_line_end b then events.LineEnded (number_of line.digits) (has_numbers_alone line.kinds)
+    else mixed_if line line.kinds.has_digit))
 
 -- ---- a line that may be a size line
 

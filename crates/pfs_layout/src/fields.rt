@@ -11,7 +11,7 @@ ghost use Rattle.pfs_layout.specs.Step.{LacksMemory};
 ghost use Rattle.pfs_layout.specs.Reader.{fields, StandsAfter, IsReader, TakeMeets, FeedMeets, progress_of};
 
 use crate::body::Body;
-use crate::scan::{Event, Kinds, Line, Number, is_blank, is_digit};
+use crate::scan::{Event, Kinds, Line, Number, is_blank};
 use crate::size_line::{SizeLine, Stated};
 use crate::{Layout, LayoutFault};
 use pfs_base::{BaseFault, Instance, LONGEST_INPUT, LONGEST_TIME};
@@ -359,17 +359,8 @@ impl Blocks {
         // Each branch steps on by itself: so the compiler makes a short loop of each.
         for b in piece {
             let b = *b;
-            if line.is_quiet(b) {
+            if line.is_quiet_digit(b) {
                 line.push(b);
-                continue;
-            }
-            if is_digit(b) {
-                let event = line.digit_event();
-                line.push(b);
-                self.after(alloc, event);
-                if !self.is_live() {
-                    break;
-                }
                 continue;
             }
             if is_blank(b) {
@@ -384,7 +375,11 @@ impl Blocks {
                 }
                 continue;
             }
-            let event = line.other_event(b);
+            if line.is_quiet_word_byte(b) {
+                line.push_word_byte();
+                continue;
+            }
+            let event = line.event(b);
             line.push(b);
             if let Event::Quiet = event {
                 continue;

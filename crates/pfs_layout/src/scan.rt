@@ -1,11 +1,10 @@
 //! The last line so far, and what a byte behind it means. Its parts have no padding, so that a step is a
 //! few instructions.
 ghost use Rattle.std.specs.Prelude.{◌≡◌, ◌<◌, ◌≤◌, ◌&&◌, not, true};
-ghost use Rattle.pfs_layout.specs.Bytes.{is_digit as digit_test, is_blank as blank_test};
-ghost use Rattle.pfs_layout.specs.Step.{no_line, digits_after, kinds_after, line_after, blank_after, has_numbers_alone};
-ghost use Rattle.pfs_layout.specs.Step.{number_of};
-ghost use Rattle.pfs_layout.specs.Step.{mixed_if as mixed_event, digit_event as digit_event_of};
-ghost use Rattle.pfs_layout.specs.Step.{blank_event as blank_event_of, other_event as other_event_of};
+ghost use Rattle.pfs_layout.specs.Bytes.{is_digit as digit_test, is_blank as blank_test, is_word_byte as word_test};
+ghost use Rattle.pfs_layout.specs.Step.{no_line, digits_after, kinds_after, line_after, blank_after, word_after};
+ghost use Rattle.pfs_layout.specs.Step.{has_numbers_alone, number_of, mixed_if as mixed_event};
+ghost use Rattle.pfs_layout.specs.Step.{blank_event as blank_event_of, event_of};
 
 use pfs_base::{GREATEST_NOTE, LONGEST_INPUT};
 
@@ -29,6 +28,14 @@ pub fn is_blank(b: u8) -> bool
     ensures { result ≡ blank_test b }
 {
     b == 32 || b == 9 || b == 13
+}
+
+/// Neither a digit, nor a blank, nor the byte that ends a line.
+#[inline(always)]
+pub fn is_word_byte(b: u8) -> bool
+    ensures { result ≡ word_test b }
+{
+    !(is_digit(b) || is_blank(b) || b == LINE_END)
 }
 
 /// The number that no byte has ended.
@@ -183,20 +190,49 @@ impl Line {
         };
     }
 
+    /// A word byte on.
+    #[inline(always)]
+    pub fn push_word_byte(&mut self)
+        requires { self.old.digits.offset < LONGEST_INPUT }
+        ensures { self.new ≡ word_after self.old }
+    {
+        self.push_blank();
+        self.kinds.has_word = true;
+    }
+
     /// Whether a byte is a digit of a line without a word byte: it means nothing.
     #[inline(always)]
-    pub fn is_quiet(self, b: u8) -> bool
+    pub fn is_quiet_digit(self, b: u8) -> bool
         ensures { result ≡ (digit_test b && not self.kinds.has_word) }
     {
         is_digit(b) && !self.kinds.has_word
     }
 
-    /// What a digit behind the line means.
+    /// Whether a byte is a word byte of a line without a digit: it means nothing.
     #[inline(always)]
-    pub fn digit_event(self) -> Event
-        ensures { result ≡ digit_event_of self }
+    pub fn is_quiet_word_byte(self, b: u8) -> bool
+        ensures { result ≡ (word_test b && not self.kinds.has_digit) }
     {
-        self.mixed_if(self.kinds.has_word)
+        is_word_byte(b) && !self.kinds.has_digit
+    }
+
+    /// What a byte behind the line means.
+    #[inline(always)]
+    pub fn event(self, b: u8) -> Event
+        ensures { result ≡ event_of self b }
+    {
+        if is_digit(b) {
+            self.mixed_if(self.kinds.has_word)
+        } else if is_blank(b) {
+            self.blank_event()
+        } else if b == LINE_END {
+            Event::LineEnded {
+                number: self.digits.number(),
+                is_number_line: self.kinds.is_number_line(),
+            }
+        } else {
+            self.mixed_if(self.kinds.has_digit)
+        }
     }
 
     /// What a blank behind the line means.
@@ -207,21 +243,6 @@ impl Line {
         match self.digits.number() {
             Some(number) => Event::NumberEnded(number),
             None => Event::Quiet,
-        }
-    }
-
-    /// What a byte behind the line means that is no digit and no blank.
-    #[inline(always)]
-    pub fn other_event(self, b: u8) -> Event
-        ensures { result ≡ other_event_of self b }
-    {
-        if b == LINE_END {
-            Event::LineEnded {
-                number: self.digits.number(),
-                is_number_line: self.kinds.is_number_line(),
-            }
-        } else {
-            self.mixed_if(self.kinds.has_digit)
         }
     }
 

@@ -1,5 +1,5 @@
 -- Where a reader stands within a piece.
-use Rattle.std.proofs.Common.{◌≡◌, ◌≢◌, ℕ, ◌+◌, ◌<◌, ◌≤◌, Bool, true, false, not, ◌&&◌, List, [], ◌∷◌, ◌++◌, length, take, get_or, refl, sym, ◌∙◌, ap, subst, arith, Option, Some, None, if◌then◌else◌, nat_lt, ◌⊎◌, inl, inr, ◌||◌}
+use Rattle.std.proofs.Common.{◌≡◌, ◌≢◌, ℕ, ◌+◌, ◌*◌, min, ◌<◌, ◌≤◌, Bool, true, false, not, ◌&&◌, List, [], ◌∷◌, ◌++◌, length, take, get_or, refl, sym, ◌∙◌, ap, subst, arith, Option, Some, None, if◌then◌else◌, nat_lt, ◌⊎◌, inl, inr, ◌||◌}
 use Rattle.std.specs.Prelude.{◌-◌, ◌==◌, slice_get}
 use Rattle.std.specs.List.{list_any}
 use Rattle.std.proofs.lemmas.Bool.{cases_eq, lt-ltb, eqb-true, or_cases, and_parts, not-true}
@@ -16,7 +16,7 @@ use Rattle.pfs_layout.specs.declared.fields.Blocks.{Blocks}
 use Rattle.pfs_layout.specs.Bytes.{is_word_byte, is_digit, is_blank, is_line_end}
 use Rattle.pfs_layout.specs.Lines.{ended_lines, open_line, ended_numbers}
 use Rattle.pfs_layout.specs.Stand.{Block, Now, seeking, inside, lost, Stand, stand}
-use Rattle.pfs_layout.specs.Step.{is_live, line_after, blank_after, digit_event, other_event, number_of, blank_event, mixed_if, event_of, blocks_after, is_line_ended, KeepsHeld, LacksMemory, IsReady}
+use Rattle.pfs_layout.specs.Step.{is_live, line_after, blank_after, word_after, number_of, blank_event, mixed_if, event_of, blocks_after, is_line_ended, KeepsHeld, LacksMemory, IsReady}
 use Rattle.pfs_layout.specs.Reader.{Fields, fields, block_begun_by, block_of, time_count, FollowsNow, Follows, StandsAfter, EndsWantedSize, TakeMeets}
 use Rattle.pfs_layout.proofs.Files.SoundLemmas.{stand_of}
 use Rattle.pfs_layout.proofs.Reading.StepLemmas.{live-memory, refused_memory}
@@ -169,16 +169,48 @@ ends_line_at last b e = by_kind (is_digit b) (is_blank b) (is_line_end b) refl e
 
 -- ---- what a byte means, by its kind
 
-pub digit_means : (last : Line) (b : ℕ) → is_digit b ≡ true → event_of last b ≡ digit_event last
-digit_means last b e = ap (λ t. event_by last t (is_blank b) (is_line_end b)) e
-
-pub quiet_means : (last : Line) (b : ℕ) → (is_digit b && not last.kinds.has_word) ≡ true → event_of last b ≡ events.Quiet
-quiet_means last b e =
+pub digit_means : (last : Line) (b : ℕ) → (is_digit b && not last.kinds.has_word) ≡ true → event_of last b ≡ events.Quiet
+digit_means last b e =
     let parts = and_parts (is_digit b) (not last.kinds.has_word) e in
-    digit_means last b parts.0 ∙ ap (mixed_if last) (not-true last.kinds.has_word parts.1)
+    ap (λ t. event_by last t (is_blank b) (is_line_end b)) parts.0 ∙ ap (mixed_if last) (not-true last.kinds.has_word parts.1)
 
-pub other_means : (last : Line) (b : ℕ) → is_digit b ≡ false → is_blank b ≡ false → event_of last b ≡ other_event last b
-other_means last b d e = ap (λ t. event_by last t (is_blank b) (is_line_end b)) d ∙ ap (λ t. event_by last false t (is_line_end b)) e
+pub word_means : (last : Line) (b : ℕ) → (is_word_byte b && not last.kinds.has_digit) ≡ true → event_of last b ≡ events.Quiet
+word_means last b e =
+    let parts = and_parts (is_word_byte b) (not last.kinds.has_digit) e in
+    by_kind (is_digit b) (is_blank b) (is_line_end b) parts.0 ∙ ap (mixed_if last) (not-true last.kinds.has_digit parts.1)
+  where
+    by_kind : (digit blank end : Bool) → not (digit || blank || end) ≡ true → event_by last digit blank end ≡ mixed_if last last.kinds.has_digit
+    by_kind true blank end e = cc
+    by_kind false true end e = cc
+    by_kind false false true e = cc
+    by_kind false false false e = refl
+
+-- where a word byte leads
+pub word_leads : (last : Line) (b : ℕ) → (is_word_byte b && not last.kinds.has_digit) ≡ true → line_after last b ≡ word_after last
+word_leads last b e = by_kind (is_digit b) (is_blank b) (is_line_end b) (and_parts (is_word_byte b) (not last.kinds.has_digit) e).0
+  where
+    line_by : (digit blank end : Bool) → Line
+    line_by digit blank end = record {
+      digits = record {
+        offset = last.digits.offset + 1;
+        first = if digit then last.digits.first else last.digits.offset + 1;
+        value = if digit then min CEILING (last.digits.value * 10 + (b - 48)) else 0;
+      };
+      kinds = record {
+        has_digit = digit || (not end && last.kinds.has_digit);
+        has_word = not end && (last.kinds.has_word || not (digit || blank));
+      };
+    }
+
+    or_true : (w : Bool) → (w || true) ≡ true
+    or_true true = refl
+    or_true false = refl
+
+    by_kind : (digit blank end : Bool) → not (digit || blank || end) ≡ true → line_by digit blank end ≡ word_after last
+    by_kind true blank end e = cc
+    by_kind false true end e = cc
+    by_kind false false true e = cc
+    by_kind false false false e = ap (λ w. let l : Line = record (word_after last) { kinds = record last.kinds { has_word = w } } in l) (or_true last.kinds.has_word)
 
 -- a blank is one of three bytes
 at_blank : (P : ℕ → Type 0) → P 32 → P 9 → P 13 → (b : ℕ) → is_blank b ≡ true → P b
