@@ -12,7 +12,7 @@ use Rattle.pfs_layout.specs.Bytes.{is_line_end}
 use Rattle.pfs_layout.specs.Lines.{lines, ended_lines, open_line, ended_parts, is_mixed, numbers}
 use Rattle.pfs_layout.specs.Block.{due_count, are_due}
 use Rattle.pfs_layout.specs.Stand.{Block, Now, seeking, inside, lost, Stand, after_numbers, after_line, stand_after}
-use Rattle.pfs_layout.specs.Stand.{stand}
+use Rattle.pfs_layout.specs.Stand.{stand, standing, completed, with_line}
 use Rattle.pfs_layout.proofs.Files.LineLemmas.{ended_parts-push, open_part-push}
 use Rattle.pfs_layout.proofs.Files.CutLemmas.{FirstLine, unended, ended, first_line, lines-line, lines-open}
 use Rattle.pfs_layout.proofs.Files.SoundLemmas.{stand_of, stand_of-push, open_line-none}
@@ -22,8 +22,7 @@ use Rattle.pfs_layout.proofs.Files.SoundLemmas.{stand_of, stand_of-push, open_li
 -- a line completes no block, or one
 abbrev pub OneLine : List Block → Stand → Type 0
 OneLine complete after =
-    (after.complete ≡ complete)
-    ⊎ ((block : Block) × (after ≡ record { complete = complete ++ block ∷ []; now = seeking }))
+    (after.complete ≡ complete) ⊎ ((block : Block) × (after ≡ completed complete block))
 
 pub one_line : (layout : Layout) (complete : List Block) (now : Now) (line : List ℕ)
     → OneLine complete (after_line layout complete now line)
@@ -31,30 +30,25 @@ one_line layout complete seeking line = inl refl
 one_line layout complete lost line = inl refl
 one_line layout complete (inside block) line = by_mixed (is_mixed line)
   where
-    standing : Now → Stand
-    standing now = record { complete = complete; now = now }
-
-    whole : Block → Stand
-    whole next = record { complete = complete ++ next ∷ []; now = seeking }
-
-    by_full : (v : Bool) (next : Block) → OneLine complete (if v then whole next else standing (inside next))
+    by_full : (v : Bool) (next : Block)
+        → OneLine complete (if v then completed complete next else standing complete (inside next))
     by_full true next = inr (next, refl)
     by_full false next = inl refl
 
     by_due : (v : Bool) (next : Block)
         → OneLine complete (if v
-        then (if length next.numbers == due_count layout next.size then whole next else standing (inside next))
-        else standing lost)
+        then (if length next.numbers == due_count layout next.size then completed complete next
+        else standing complete (inside next))
+        else standing complete lost)
     by_due true next = by_full (length next.numbers == due_count layout next.size) next
     by_due false next = inl refl
 
     by_mixed : (v : Bool)
-        → OneLine complete (if v then standing lost
-        else after_numbers layout complete (record { size = block.size; numbers = block.numbers ++ numbers line }))
+        → OneLine complete (if v then standing complete lost
+        else after_numbers layout complete (with_line block line))
     by_mixed true = inl refl
     by_mixed false =
-        by_due (are_due layout block.size (block.numbers ++ numbers line))
-        (record { size = block.size; numbers = block.numbers ++ numbers line })
+        by_due (are_due layout block.size (block.numbers ++ numbers line)) (with_line block line)
 
 -- these blocks, and maybe more
 abbrev pub Extends : List Block → List Block → Type 0
@@ -176,7 +170,7 @@ pub stand_from : (layout : Layout) (before after : List ℕ)
 unfolding stand
 stand_from layout before after =
     ap (stand layout) (lines_from before after)
-    ∙ fold-append (stand_after layout) (record { complete = []; now = seeking }) (ended_lines before)
+    ∙ fold-append (stand_after layout) (standing [] seeking) (ended_lines before)
     (lines (open_line before ++ after))
 
 -- the line of a byte that doesn't end it, and the lines behind it

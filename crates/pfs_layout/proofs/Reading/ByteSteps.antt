@@ -36,10 +36,11 @@ use Rattle.pfs_layout.proofs.Reading.ScanLemmas.{digit-no_line_end, digit_is}
 -- ---- the fault of a place
 
 -- the faults that a byte within the limit can have
-abbrev pub fault_in : Layout → Now → List ℕ → ℕ → Option LayoutFault
-fault_in layout seeking text b = wrong_size layout text (Some b)
-fault_in layout (inside block) text b = option_or (mixed_line text (Some b)) (wrong_number layout block text (Some b))
-fault_in layout lost text b = None
+abbrev pub fault_within_limit : Layout → Now → List ℕ → ℕ → Option LayoutFault
+fault_within_limit layout seeking text b = wrong_size layout text (Some b)
+fault_within_limit layout (inside block) text b =
+    option_or (mixed_line text (Some b)) (wrong_number layout block text (Some b))
+fault_within_limit layout lost text b = None
 
 first_of_two : {A : Type 0} (a b : Option A) → first_some (a ∷ b ∷ None ∷ []) ≡ option_or a b
 first_of_two (Some x) b = refl
@@ -52,7 +53,7 @@ first_of_one None = refl
 
 pub place_fault : (layout : Layout) (k : ℕ) (text : List ℕ) (b : ℕ)
     → length (stand layout (ended_lines text)).complete < k → length text < LONGEST_INPUT
-    → fault_of_place layout k text (Some b) ≡ fault_in layout (stand layout (ended_lines text)).now text b
+    → fault_of_place layout k text (Some b) ≡ fault_within_limit layout (stand layout (ended_lines text)).now text b
 unfolding fault_of_place ends_early
 place_fault layout k text b few short =
     ap (λ t. if t then first_some (faults layout k (stand layout (ended_lines text)).now text (Some b)) else None)
@@ -62,7 +63,7 @@ place_fault layout k text b few short =
     fits : (length text == LONGEST_INPUT) ≡ false
     fits = ne_eqb (length text) LONGEST_INPUT (λ z. omega arith)
 
-    by_now : (now : Now) → first_some (faults layout k now text (Some b)) ≡ fault_in layout now text b
+    by_now : (now : Now) → first_some (faults layout k now text (Some b)) ≡ fault_within_limit layout now text b
     by_now seeking =
         ap (λ t. first_some (then_some (t && true) TooLong ∷ wrong_size layout text (Some b) ∷ None ∷ [])) fits
         ∙ first_of_one (wrong_size layout text (Some b))
@@ -75,25 +76,26 @@ place_fault layout k text b few short =
 
 -- ---- what a live reader says
 
-pub live_few : (worded : Bool) (r : Blocks) (now : Now) (more : List ℕ) → FollowsNow worded r now more
+pub live_few : (has_word : Bool) (r : Blocks) (now : Now) (more : List ℕ) → FollowsNow has_word r now more
     → is_live r.phase ≡ true → r.complete < r.wanted
-live_few worded r seeking more f live = by_few (nat_lt r.complete r.wanted) refl f.0
+live_few has_word r seeking more f live = by_few (nat_lt r.complete r.wanted) refl f.0
   where
     by_few : (t : Bool) → nat_lt r.complete r.wanted ≡ t → r.phase ≡ (if t then phases.Seeking else phases.Done)
         → r.complete < r.wanted
     by_few true e p = ltb-true r.complete r.wanted e
     by_few false e p = absurd (let dead : is_live r.phase ≡ false = ap is_live p in cc)
-live_few worded r (inside block) more f live = f.1
-live_few worded r lost more f live = absurd f
+live_few has_word r (inside block) more f live = f.1
+live_few has_word r lost more f live = absurd f
 
-pub sought_phase : (worded : Bool) (r : Blocks) (more : List ℕ) → FollowsNow worded r seeking more
+pub seeking_if_few : (has_word : Bool) (r : Blocks) (more : List ℕ) → FollowsNow has_word r seeking more
     → r.complete < r.wanted → r.phase ≡ phases.Seeking
-sought_phase worded r more f few =
+seeking_if_few has_word r more f few =
     f.0 ∙ ap (λ t. if t then phases.Seeking else phases.Done) (lt-ltb r.complete r.wanted few)
 
-pub begun_phase : (worded : Bool) (r : Blocks) (block : Block) (more : List ℕ) → FollowsNow worded r (inside block) more
+pub begun_phase : (has_word : Bool) (r : Blocks) (block : Block) (more : List ℕ)
+    → FollowsNow has_word r (inside block) more
     → is_in_block r.phase ≡ true
-begun_phase worded r block more f = ap is_in_block f.0 ∙ either (nat_lt r.body.judged r.body.due)
+begun_phase has_word r block more f = ap is_in_block f.0 ∙ either (nat_lt r.body.judged r.body.due)
   where
     either : (t : Bool) → is_in_block (if t then phases.Body else phases.AfterLast) ≡ true
     either true = refl
@@ -103,8 +105,8 @@ begun_phase worded r block more f = ap is_in_block f.0 ∙ either (nat_lt r.body
 
 -- the fault, or what the fields say behind the byte
 abbrev pub ByteOutcome : Blocks → Bool → Stand → List ℕ → Blocks → Option LayoutFault → Type 0
-ByteOutcome r worded stood more next None = FollowsBlocks worded next stood more
-ByteOutcome r worded stood more next (Some fault) = Refuses r fault next
+ByteOutcome r has_word stood more next None = FollowsBlocks has_word next stood more
+ByteOutcome r has_word stood more next (Some fault) = Refuses r fault next
 
 pub refuses_is : (r next : Blocks) (fault : LayoutFault) → next ≡ refused r fault → Refuses r fault next
 refuses_is r next fault e = record {
@@ -115,14 +117,14 @@ refuses_is r next fault e = record {
 }
 
 -- where the line's words stay or become known, the blocks stay as they are
-pub weaker : (worded less : Bool) (r : Blocks) (complete : List Block) (now : Now) (more : List ℕ)
-    → (less ≡ false → worded ≡ false)
-    → FollowsBlocks worded r (standing complete now) more → FollowsBlocks less r (standing complete now) more
-weaker worded less r complete seeking more h f =
+pub weaker : (has_word less : Bool) (r : Blocks) (complete : List Block) (now : Now) (more : List ℕ)
+    → (less ≡ false → has_word ≡ false)
+    → FollowsBlocks has_word r (standing complete now) more → FollowsBlocks less r (standing complete now) more
+weaker has_word less r complete seeking more h f =
     record { complete = f.complete; now = (f.now.0, λ e. f.now.1 (h e)); instance = f.instance; held = f.held }
-weaker worded less r complete (inside block) more h f =
+weaker has_word less r complete (inside block) more h f =
     record { complete = f.complete; now = f.now; instance = f.instance; held = f.held }
-weaker worded less r complete lost more h f = absurd f.now
+weaker has_word less r complete lost more h f = absurd f.now
 
 -- ---- mixed lines
 
@@ -290,13 +292,13 @@ number_fine layout block text b e =
     and_false false = refl
 
 -- refused, or as it was
-stays_or : (r : Blocks) (worded : Bool) (stood : Stand) (more : List ℕ) (test : Bool) (offset place : ℕ)
-    → offset ≡ place → FollowsBlocks worded r stood more
-    → ByteOutcome r worded stood more (if test then refused r (MixedLine offset) else r)
+stays_or : (r : Blocks) (has_word : Bool) (stood : Stand) (more : List ℕ) (test : Bool) (offset place : ℕ)
+    → offset ≡ place → FollowsBlocks has_word r stood more
+    → ByteOutcome r has_word stood more (if test then refused r (MixedLine offset) else r)
     (option_or (then_some test (MixedLine place)) None)
-stays_or r worded stood more true offset place e f =
+stays_or r has_word stood more true offset place e f =
     refuses_is r (refused r (MixedLine offset)) (MixedLine place) (ap (λ n. refused r (MixedLine n)) e)
-stays_or r worded stood more false offset place e f = f
+stays_or r has_word stood more false offset place e f = f
 
 pub and_true_is : (x y : Bool) → y ≡ true → (x && y) ≡ x
 and_true_is true true e = refl
@@ -315,10 +317,10 @@ pub digit_byte : (r : Blocks) (last : Line) (text : List ℕ) (b : ℕ) (complet
     → FollowsBlocks (list_any is_word_byte (open_line text)) r (standing complete now) (ended_numbers (open_line text))
     → GoodNow r.layout now (open_line text)
     → ByteOutcome r less (standing complete now) (ended_numbers (open_line text)) (judged r last b)
-    (fault_in r.layout now text b)
+    (fault_within_limit r.layout now text b)
 digit_byte r last text b complete seeking less digit live known line f good =
     let few = live_few (list_any is_word_byte (open_line text)) r seeking (ended_numbers (open_line text)) f.now live in
-    let phase = sought_phase (list_any is_word_byte (open_line text)) r (ended_numbers (open_line text)) f.now few in
+    let phase = seeking_if_few (list_any is_word_byte (open_line text)) r (ended_numbers (open_line text)) f.now few in
     let next : judged r last b ≡ r =
     judged_digit r last b digit
     ∙ ap (λ t. if t then refused r (MixedLine last.digits.offset) else r)
@@ -337,7 +339,7 @@ digit_byte r last text b complete (inside block) less digit live known line f go
     ∙ ap (λ t. if t then refused r (MixedLine last.digits.offset) else r)
     (and_true_is last.kinds.has_word (is_in_block r.phase) phase ∙ word) in
     let blank : (is_blank b || is_line_end b) ≡ false = no_blank b digit in
-    let fault : fault_in r.layout (inside block) text b
+    let fault : fault_within_limit r.layout (inside block) text b
     ≡ option_or (then_some (list_any is_word_byte (open_line text)) (MixedLine (length text))) None =
     ap (λ o. option_or o (wrong_number r.layout block text (Some b))) (mixed_digit text b good.unmixed digit)
     ∙ ap (λ o. option_or (then_some (list_any is_word_byte (open_line text)) (MixedLine (length text))) o)

@@ -33,7 +33,8 @@ use Rattle.pfs_layout.proofs.Files.SoundLemmas.{are_due-push}
 use Rattle.pfs_layout.proofs.Reading.StepLemmas.{keeps_last}
 use Rattle.pfs_layout.proofs.Reading.NumberSteps.{NumberOutcome, misfit_in, number_step}
 use Rattle.pfs_layout.proofs.Reading.LineSteps.{Refuses, LineOutcome, sought_line, body_line}
-use Rattle.pfs_layout.proofs.Reading.ByteSteps.{fault_in, live_few, sought_phase, begun_phase, ByteOutcome, refuses_is}
+use Rattle.pfs_layout.proofs.Reading.ByteSteps.{fault_within_limit, live_few, seeking_if_few, begun_phase, ByteOutcome}
+use Rattle.pfs_layout.proofs.Reading.ByteSteps.{refuses_is}
 use Rattle.pfs_layout.proofs.Reading.ByteSteps.{weaker, judged, mixed_other, mixed_word, judged_word, judged_blank}
 use Rattle.pfs_layout.proofs.Reading.ByteSteps.{sought_fine, number_fine, and_false_is, and_true_is}
 
@@ -80,10 +81,10 @@ pub word_byte : (r : Blocks) (last : Line) (text : List ℕ) (b : ℕ) (complete
     → FollowsBlocks (list_any is_word_byte (open_line text)) r (standing complete now) (ended_numbers (open_line text))
     → GoodNow r.layout now (open_line text)
     → ByteOutcome r true (standing complete now) (numbers (open_line text)) (judged r last b)
-    (fault_in r.layout now text b)
+    (fault_within_limit r.layout now text b)
 word_byte r last text b complete seeking digit other live line f good =
     let few = live_few (list_any is_word_byte (open_line text)) r seeking (ended_numbers (open_line text)) f.now live in
-    let phase = sought_phase (list_any is_word_byte (open_line text)) r (ended_numbers (open_line text)) f.now few in
+    let phase = seeking_if_few (list_any is_word_byte (open_line text)) r (ended_numbers (open_line text)) f.now few in
     let next : judged r last b ≡ r =
     judged_word r last b digit other
     ∙ ap (λ t. if t then refused r (MixedLine last.digits.offset) else r)
@@ -107,7 +108,7 @@ word_byte r last text b complete (inside block) digit other live line f good =
         (begun_phase (list_any is_word_byte (open_line text)) r block (ended_numbers (open_line text)) f.now)
         ∙ line.has_digit)
 
-    fault : fault_in r.layout (inside block) text b
+    fault : fault_within_limit r.layout (inside block) text b
         ≡ option_or (then_some (list_any is_digit (open_line text)) (MixedLine (length text))) None
     fault =
         ap (λ o. option_or o (wrong_number r.layout block text (Some b))) (mixed_word text b good.unmixed digit other)
@@ -116,7 +117,7 @@ word_byte r last text b complete (inside block) digit other live line f good =
 
     by_digit : (t : Bool) → list_any is_digit (open_line text) ≡ t
         → ByteOutcome r true (standing complete (inside block)) (numbers (open_line text)) (judged r last b)
-        (fault_in r.layout (inside block) text b)
+        (fault_within_limit r.layout (inside block) text b)
     by_digit true e =
         subst
         (λ o. ByteOutcome r true (standing complete (inside block)) (numbers (open_line text)) (judged r last b) o)
@@ -166,27 +167,27 @@ number_ends layout block text b e =
 
 -- the fault, or what the fields say with the numbers of the whole line
 abbrev pub NumberPart : Bool → Blocks → List Block → Now → List ℕ → Blocks → Option LayoutFault → Type 0
-NumberPart worded r complete now ns next None = FollowsBlocks worded next (standing complete now) ns
-NumberPart worded r complete now ns next (Some fault) = next ≡ refused r fault
+NumberPart has_word r complete now ns next None = FollowsBlocks has_word next (standing complete now) ns
+NumberPart has_word r complete now ns next (Some fault) = next ≡ refused r fault
 
-part_of : (worded : Bool) (r next : Blocks) (complete : List Block) (now : Now) (more ns : List ℕ) (v : ℕ)
+part_of : (has_word : Bool) (r next : Blocks) (complete : List Block) (now : Now) (more ns : List ℕ) (v : ℕ)
     (fault : Option LayoutFault)
     → ns ≡ more ++ v ∷ []
-    → NumberOutcome worded r complete now more v next fault → NumberPart worded r complete now ns next fault
-part_of worded r next complete now more ns v None e o =
-    subst (λ z. FollowsBlocks worded next (standing complete now) z) (sym e) o
-part_of worded r next complete now more ns v (Some fault) e o = o
+    → NumberOutcome has_word r complete now more v next fault → NumberPart has_word r complete now ns next fault
+part_of has_word r next complete now more ns v None e o =
+    subst (λ z. FollowsBlocks has_word next (standing complete now) z) (sym e) o
+part_of has_word r next complete now more ns v (Some fault) e o = o
 
 abbrev number_at : Line → Number
 number_at last = record { value = last.digits.value; first = last.digits.first }
 
-pub number_part : (worded : Bool) (r : Blocks) (last : Line) (text : List ℕ) (complete : List Block) (now : Now)
+pub number_part : (has_word : Bool) (r : Blocks) (last : Line) (text : List ℕ) (complete : List Block) (now : Now)
     → is_live r.phase ≡ true → length r.size_line.values ≡ 5
     → FollowsLine last.digits last.kinds text
-    → FollowsBlocks worded r (standing complete now) (ended_numbers (open_line text))
-    → NumberPart worded r complete now (numbers (open_line text)) (last_number_ended r (number_of last.digits))
+    → FollowsBlocks has_word r (standing complete now) (ended_numbers (open_line text))
+    → NumberPart has_word r complete now (numbers (open_line text)) (last_number_ended r (number_of last.digits))
     (number_fault r.layout now text)
-number_part worded r last text complete now live five line f = by_empty (is_empty (last_digits text)) refl
+number_part has_word r last text complete now live five line f = by_empty (is_empty (last_digits text)) refl
   where
     runs : last_digits text ≡ last_digits (open_line text)
     runs = same_last text
@@ -213,7 +214,7 @@ number_part worded r last text complete now live five line f = by_empty (is_empt
     some_fault lost e = refl
 
     by_empty : (t : Bool) → is_empty (last_digits text) ≡ t
-        → NumberPart worded r complete now (numbers (open_line text)) (last_number_ended r (number_of last.digits))
+        → NumberPart has_word r complete now (numbers (open_line text)) (last_number_ended r (number_of last.digits))
         (number_fault r.layout now text)
     by_empty true e =
         let none : length (last_digits text) ≡ 0 = eqb-true (length (last_digits text)) 0 e in
@@ -225,11 +226,11 @@ number_part worded r last text complete now live five line f = by_empty (is_empt
         ap (last_number_ended r) (ap (λ t. if t then None else Some (number_at last)) same) in
         let all : numbers (open_line text) ≡ ended_numbers (open_line text) =
         numbers_same (open_line text) (ap is_empty (sym runs) ∙ e) in
-        subst (λ o. NumberPart worded r complete now (numbers (open_line text))
+        subst (λ o. NumberPart has_word r complete now (numbers (open_line text))
         (last_number_ended r (number_of last.digits)) o)
         (sym (no_fault now e))
-        (subst (λ z. FollowsBlocks worded z (standing complete now) (numbers (open_line text))) (sym next)
-        (subst (λ ns. FollowsBlocks worded r (standing complete now) ns) (sym all) f))
+        (subst (λ z. FollowsBlocks has_word z (standing complete now) (numbers (open_line text))) (sym next)
+        (subst (λ ns. FollowsBlocks has_word r (standing complete now) ns) (sym all) f))
     by_empty false e =
         let some : length (last_digits text) ≢ 0 = eqb-false (length (last_digits text)) 0 e in
         let first = line.first in
@@ -248,14 +249,14 @@ number_part worded r last text complete now live five line f = by_empty (is_empt
         let outcome =
         number_step r complete now (ended_numbers (open_line text)) (digits_value 10 (last_digits text))
         (length text - length (last_digits text)) f live five in
-        subst (λ o. NumberPart worded r complete now (numbers (open_line text))
+        subst (λ o. NumberPart has_word r complete now (numbers (open_line text))
         (last_number_ended r (number_of last.digits)) o)
         (sym (some_fault now e))
-        (subst (λ z. NumberPart worded r complete now (numbers (open_line text)) z
+        (subst (λ z. NumberPart has_word r complete now (numbers (open_line text)) z
         (misfit_in r.layout now (ended_numbers (open_line text)) (digits_value 10 (last_digits text))
         (length text - length (last_digits text))))
         (sym next)
-        (part_of worded r _ complete now (ended_numbers (open_line text)) (numbers (open_line text))
+        (part_of has_word r _ complete now (ended_numbers (open_line text)) (numbers (open_line text))
         (digits_value 10 (last_digits text)) _ all outcome))
 
 -- ---- a blank
@@ -267,7 +268,7 @@ pub blank_byte : (r : Blocks) (last : Line) (text : List ℕ) (b : ℕ) (complet
     → FollowsBlocks (list_any is_word_byte (open_line text)) r (standing complete now) (ended_numbers (open_line text))
     → GoodNow r.layout now (open_line text)
     → ByteOutcome r less (standing complete now) (numbers (open_line text)) (judged r last b)
-    (fault_in r.layout now text b)
+    (fault_within_limit r.layout now text b)
 blank_byte r last text b complete now less digit blank no_end live five known line f good =
     subst (λ o. ByteOutcome r less (standing complete now) (numbers (open_line text)) (judged r last b) o)
     (sym (fault now good))
@@ -285,7 +286,7 @@ blank_byte r last text b complete now less digit blank no_end live five known li
         no_end
 
     fault : (now : Now) → GoodNow r.layout now (open_line text)
-        → fault_in r.layout now text b ≡ number_fault r.layout now text
+        → fault_within_limit r.layout now text b ≡ number_fault r.layout now text
     fault seeking good = sought_fine r.layout text b no_end
     fault (inside block) good =
         ap (λ o. option_or o (wrong_number r.layout block text (Some b))) (mixed_other text b good.unmixed digit blank)
@@ -353,18 +354,18 @@ pub end_byte : (r : Blocks) (last : Line) (text : List ℕ) (b : ℕ) (complete 
     → FollowsBlocks (list_any is_word_byte (open_line text)) r (standing complete now) (ended_numbers (open_line text))
     → GoodNow r.layout now (open_line text)
     → ByteOutcome r false (stand_after r.layout (standing complete now) (open_line text)) [] (judged r last b)
-    (fault_in r.layout now text b)
+    (fault_within_limit r.layout now text b)
 unfolding wrong_size
 end_byte r last text b complete seeking digit end live five lines line f good =
-    let worded = list_any is_word_byte (open_line text) in
-    let one = number_part worded r last text complete seeking live five line f in
+    let has_word = list_any is_word_byte (open_line text) in
+    let one = number_part has_word r last text complete seeking live five line f in
     let keeps = keeps_last r (number_of last.digits) live in
-    let few = live_few worded r seeking (ended_numbers (open_line text)) f.now live in
+    let few = live_few has_word r seeking (ended_numbers (open_line text)) f.now live in
     let few_then : (last_number_ended r (number_of last.digits)).complete
     < (last_number_ended r (number_of last.digits)).wanted =
     omega (arith, keeps.complete, keeps.wanted) in
     let phase =
-    sought_phase worded (last_number_ended r (number_of last.digits)) (numbers (open_line text)) one.now few_then in
+    seeking_if_few has_word (last_number_ended r (number_of last.digits)) (numbers (open_line text)) one.now few_then in
     let kind : (last.kinds.has_digit && not last.kinds.has_word) ≡ is_number_line (open_line text) =
     ap (λ t. t && not last.kinds.has_word) line.has_digit
     ∙ ap (λ t. list_any is_digit (open_line text) && not t) line.has_word in
@@ -373,14 +374,14 @@ end_byte r last text b complete seeking digit end live five lines line f good =
     (has_numbers_alone last.kinds) one phase few_then kind in
     let place : (last_number_ended r (number_of last.digits)).line ≡ 1 + count_by is_line_end text =
     keeps.line ∙ lines in
-    let fault : fault_in r.layout seeking text b
+    let fault : fault_within_limit r.layout seeking text b
     ≡ (if is_number_line (open_line text)
     then size_fault (stated_size r.layout (numbers (open_line text))) (1 + count_by is_line_end text)
     else None) =
     ap (λ t. if t && is_number_line (open_line text)
     then size_fault (stated_size r.layout (numbers (open_line text))) (1 + count_by is_line_end text) else None)
     end in
-    let same_fault : fault_in r.layout seeking text b
+    let same_fault : fault_within_limit r.layout seeking text b
     ≡ (if is_number_line (open_line text)
     then size_fault
     (stated_size (last_number_ended r (number_of last.digits)).layout (numbers (open_line text)))
@@ -401,7 +402,7 @@ end_byte r last text b complete seeking digit end live five lines line f good =
     keeps.layout
     ∙ ap (λ k. time_count r.layout (block_of k (standing complete seeking) [])) keeps.wanted ∙ sym f.held in
     subst (λ z. ByteOutcome r false (stand_after r.layout (standing complete seeking) (open_line text)) [] z
-    (fault_in r.layout seeking text b))
+    (fault_within_limit r.layout seeking text b))
     (sym next)
     (subst (λ o. ByteOutcome r false (stand_after r.layout (standing complete seeking) (open_line text)) []
     (line_ended (last_number_ended r (number_of last.digits)) (has_numbers_alone last.kinds)) o)
@@ -447,7 +448,7 @@ end_byte r last text b complete seeking digit end live five lines line f good =
     }
 end_byte r last text b complete (inside block) digit end live five lines line f good =
     subst (λ z. ByteOutcome r false (stand_after r.layout (standing complete (inside block)) (open_line text)) [] z
-    (fault_in r.layout (inside block) text b))
+    (fault_within_limit r.layout (inside block) text b))
     (sym next)
     (subst (λ o. ByteOutcome r false (stand_after r.layout (standing complete (inside block)) (open_line text)) []
     (line_ended (last_number_ended r (number_of last.digits)) (has_numbers_alone last.kinds)) o)
@@ -469,7 +470,7 @@ end_byte r last text b complete (inside block) digit end live five lines line f 
         else last_number_ended r (number_of last.digits))
         end
 
-    fault : fault_in r.layout (inside block) text b ≡ number_fault r.layout (inside block) text
+    fault : fault_within_limit r.layout (inside block) text b ≡ number_fault r.layout (inside block) text
     fault =
         ap (λ o. option_or o (wrong_number r.layout block text (Some b))) (mixed_other text b good.unmixed digit blank)
         ∙ number_ends r.layout block text b blank

@@ -155,20 +155,20 @@ fine_more layout k text (b ∷ more) right enough =
     ap (byte_fault layout k) (sym (append_assoc text (b ∷ []) more))
     ∙ fine_more layout k (text ++ b ∷ []) more here then_enough
 
-done_now : (worded : Bool) (r : Blocks) (now : Now) (more : List ℕ) → FollowsNow worded r now more
+done_now : (has_word : Bool) (r : Blocks) (now : Now) (more : List ℕ) → FollowsNow has_word r now more
     → r.phase ≡ phases.Done → r.wanted ≤ r.complete
-done_now worded r seeking more f e = either (nat_lt r.complete r.wanted) refl (sym e ∙ f.0)
+done_now has_word r seeking more f e = either (nat_lt r.complete r.wanted) refl (sym e ∙ f.0)
   where
     either : (t : Bool) → nat_lt r.complete r.wanted ≡ t → phases.Done ≡ (if t then phases.Seeking else phases.Done)
         → r.wanted ≤ r.complete
     either true t e = cc
     either false t e = ltb-false r.complete r.wanted t
-done_now worded r (inside block) more f e = absurd (either (nat_lt r.body.judged r.body.due) (sym e ∙ f.0))
+done_now has_word r (inside block) more f e = absurd (either (nat_lt r.body.judged r.body.due) (sym e ∙ f.0))
   where
     either : (t : Bool) → phases.Done ≡ (if t then phases.Body else phases.AfterLast) → ⊥
     either true e = cc
     either false e = cc
-done_now worded r lost more f e = absurd f
+done_now has_word r lost more f e = absurd f
 
 -- a done reader has the wanted block
 pub done_enough : (r : Fields) (text : List ℕ) → Follows r text → r.phase ≡ phases.Done

@@ -237,14 +237,15 @@ pub record BegunEnd (r : Blocks) (kinds : Kinds) (text : List ℕ) : Type 0 wher
   pub instance : end_fault kinds r ≡ None
       → r.instance ≡ option_map (instance_of r.layout) (slice_get (stand r.layout (lines text)).complete (r.wanted - 1))
 
-pub begun_told : (worded : Bool) (r : Blocks) (text : List ℕ) (complete : List Block) (block : Block) (kinds : Kinds)
-    → FollowsBlocks worded r (standing complete (inside block)) (numbers (open_line text))
+pub begun_told : (has_word : Bool) (r : Blocks) (text : List ℕ) (complete : List Block) (block : Block) (kinds : Kinds)
+    → FollowsBlocks has_word r (standing complete (inside block)) (numbers (open_line text))
     → stand r.layout (ended_lines text) ≡ standing complete (inside block)
     → length block.numbers < due_count r.layout block.size
     → is_mixed (open_line text) ≡ false → are_due r.layout block.size (block.numbers ++ numbers (open_line text)) ≡ true
     → BegunEnd r kinds text
 unfolding ends_early stand_after
-begun_told worded r text complete block kinds f stood short unmixed due = by_due (nat_lt r.body.judged r.body.due) refl
+begun_told has_word r text complete block kinds f stood short unmixed due =
+    by_due (nat_lt r.body.judged r.body.due) refl
   where
     ns : List ℕ
     ns = numbers (open_line text)

@@ -13,7 +13,7 @@ use Rattle.pfs_layout.specs.declared.fault.LayoutFault.TheVariants.{Memory}
 use Rattle.pfs_layout.specs.declared.fields.Phase.{Phase}
 use Rattle.pfs_layout.specs.declared.fields.Phase.TheVariants as phases
 use Rattle.pfs_layout.specs.declared.fields.Progress.{Progress}
-use Rattle.pfs_layout.specs.Lines.{ended_lines, open_line, is_mixed, numbers, ended_numbers}
+use Rattle.pfs_layout.specs.Lines.{ended_lines, open_line, is_mixed, ended_numbers}
 use Rattle.pfs_layout.specs.Block.{due_count, are_due}
 use Rattle.pfs_layout.specs.Stand.{Block, Now, seeking, inside, lost, Stand, after_line, stand_after, stand, standing}
 use Rattle.pfs_layout.specs.Stand.{completed, with_line}

@@ -343,12 +343,12 @@ full_or_not layout complete block due =
     else standing complete lost)
     due
 
-pub body_line : {worded : Bool} (r : Blocks) (complete : List Block) (block : Block) (line : List ℕ) (numbered : Bool)
-    → FollowsBlocks worded r (standing complete (inside block)) (numbers line)
+pub body_line : {has_word : Bool} (r : Blocks) (complete : List Block) (block : Block) (line : List ℕ) (numbered : Bool)
+    → FollowsBlocks has_word r (standing complete (inside block)) (numbers line)
     → is_mixed line ≡ false → are_due r.layout block.size (block.numbers ++ numbers line) ≡ true
     → FollowsBlocks false (line_ended r numbered) (stand_after r.layout (standing complete (inside block)) line) []
 unfolding line_ended stand_after
-body_line {worded} r complete block line numbered f unmixed due =
+body_line {has_word} r complete block line numbered f unmixed due =
     subst (λ s. FollowsBlocks false (line_ended_in r.phase r numbered) s []) (sym stands)
     (by_full (nat_lt r.body.judged r.body.due) refl)
   where
@@ -371,11 +371,11 @@ body_line {worded} r complete block line numbered f unmixed due =
         ap (λ t. if t then standing complete lost else after_numbers r.layout complete (with_line block line)) unmixed
         ∙ full_or_not r.layout complete (with_line block line) due
 
-    begun : (more : List ℕ) (ns : List ℕ)
+    begun_wanted : (more : List ℕ) (ns : List ℕ)
         → block_of r.wanted (standing complete (inside (record { size = block.size; numbers = ns }))) more
         ≡ (if length complete + 1 == r.wanted
         then Some (let b : Block = record { size = block.size; numbers = ns ++ more } in b) else None)
-    begun more ns =
+    begun_wanted more ns =
         ap (λ t. if t
         then (if length complete + 1 == r.wanted
         then Some (let b : Block = record { size = block.size; numbers = ns ++ more } in b) else None)
@@ -395,11 +395,11 @@ body_line {worded} r complete block line numbered f unmixed due =
         let next : line_ended_in r.phase r numbered ≡ at_next_line r = ap (λ p. line_ended_in p r numbered) phase in
         let same : block_of r.wanted (standing complete (inside block)) (numbers line)
         ≡ block_of r.wanted (standing complete (inside (with_line block line))) [] =
-        begun (numbers line) block.numbers
+        begun_wanted (numbers line) block.numbers
         ∙ ap (λ ns. if length complete + 1 == r.wanted
         then Some (let b : Block = record { size = block.size; numbers = ns } in b) else None)
         (sym (append-nil (block.numbers ++ numbers line)))
-        ∙ sym (begun [] (block.numbers ++ numbers line)) in
+        ∙ sym (begun_wanted [] (block.numbers ++ numbers line)) in
         let counts : length block.numbers + length (numbers line)
         ≡ length (block.numbers ++ numbers line) + length {A = ℕ} [] =
         omega (arith, length-append block.numbers (numbers line)) in
@@ -427,7 +427,7 @@ body_line {worded} r complete block line numbered f unmixed due =
         let pushed : length (complete ++ whole ∷ []) ≡ length complete + 1 = length_push complete whole in
         let same : block_of r.wanted (standing complete (inside block)) (numbers line)
         ≡ block_of r.wanted (completed complete whole) [] =
-        begun (numbers line) block.numbers ∙ sym (ended pushed) in
+        begun_wanted (numbers line) block.numbers ∙ sym (ended pushed) in
         subst (λ z. FollowsBlocks false z (if length (block.numbers ++ numbers line) == due_count r.layout block.size
         then completed complete (with_line block line) else standing complete (inside (with_line block line)))
         [])

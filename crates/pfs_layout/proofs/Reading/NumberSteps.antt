@@ -32,9 +32,9 @@ use Rattle.pfs_layout.proofs.Reading.NumberLemmas.{keeping_machine}
 
 -- the fault, or what the fields say with the number
 abbrev pub NumberOutcome : Bool → Blocks → List Block → Now → List ℕ → ℕ → Blocks → Option LayoutFault → Type 0
-NumberOutcome worded r complete now more v next None =
-    FollowsBlocks worded next (standing complete now) (more ++ v ∷ [])
-NumberOutcome worded r complete now more v next (Some fault) = next ≡ refused r fault
+NumberOutcome has_word r complete now more v next None =
+    FollowsBlocks has_word next (standing complete now) (more ++ v ∷ [])
+NumberOutcome has_word r complete now more v next (Some fault) = next ≡ refused r fault
 
 -- the fault of a number behind these
 abbrev pub misfit_in : Layout → Now → List ℕ → ℕ → ℕ → Option LayoutFault
@@ -45,21 +45,22 @@ misfit_in layout lost more v first = None
 
 -- ---- the next block is sought
 
-sought_phase : (v : Bool) (phase : Phase) → phase ≡ (if v then phases.Seeking else phases.Done) → is_live phase ≡ true
+seeking_if_live : (v : Bool) (phase : Phase) → phase ≡ (if v then phases.Seeking else phases.Done)
+    → is_live phase ≡ true
     → phase ≡ phases.Seeking
-sought_phase true phase e live = e
-sought_phase false phase e live = absurd (let dead : is_live phase ≡ false = ap is_live e in cc)
+seeking_if_live true phase e live = e
+seeking_if_live false phase e live = absurd (let dead : is_live phase ≡ false = ap is_live e in cc)
 
-sought_number : {worded : Bool} (r : Blocks) (complete : List Block) (more : List ℕ) (v first : ℕ)
-    → FollowsBlocks worded r (standing complete seeking) more
+sought_number : {has_word : Bool} (r : Blocks) (complete : List Block) (more : List ℕ) (v first : ℕ)
+    → FollowsBlocks has_word r (standing complete seeking) more
     → is_live r.phase ≡ true → length r.size_line.values ≡ 5
-    → FollowsBlocks worded (number_ended r (min CEILING v) first) (standing complete seeking) (more ++ v ∷ [])
+    → FollowsBlocks has_word (number_ended r (min CEILING v) first) (standing complete seeking) (more ++ v ∷ [])
 unfolding number_ended
-sought_number {worded} r complete more v first f live five =
+sought_number {has_word} r complete more v first f live five =
     let next : number_ended r (min CEILING v) first ≡ record r { size_line = with_number r.size_line (min CEILING v) } =
     ap (λ phase. number_ended_in phase r (min CEILING v) first)
-    (sought_phase (nat_lt r.complete r.wanted) r.phase f.now.0 live) in
-    subst (λ z. FollowsBlocks worded z (standing complete seeking) (more ++ v ∷ [])) (sym next) (record {
+    (seeking_if_live (nat_lt r.complete r.wanted) r.phase f.now.0 live) in
+    subst (λ z. FollowsBlocks has_word z (standing complete seeking) (more ++ v ∷ [])) (sym next) (record {
       complete = f.complete;
       now = (f.now.0, λ no_word. holds_push r.size_line more v five (f.now.1 no_word));
       instance = f.instance;
@@ -139,12 +140,12 @@ time_place OrLib size body n f more odd =
     let e : n ≡ body.judged = sym f.judged in
     rw (← m) (omega arith)
 
-time_follows : {worded : Bool} (r : Blocks) (complete : List Block) (block : Block) (more : List ℕ) (v : ℕ)
-    → FollowsBlocks worded r (standing complete (inside block)) more
+time_follows : {has_word : Bool} (r : Blocks) (complete : List Block) (block : Block) (more : List ℕ) (v : ℕ)
+    → FollowsBlocks has_word r (standing complete (inside block)) more
     → r.body.judged < r.body.due → (r.layout ≡ OrLib → r.body.judged % 2 ≡ 1)
-    → FollowsBlocks worded (counted (stored r v) (after_time r.layout r.body)) (standing complete (inside block))
+    → FollowsBlocks has_word (counted (stored r v) (after_time r.layout r.body)) (standing complete (inside block))
     (more ++ v ∷ [])
-time_follows {worded} r complete block more v f due odd =
+time_follows {has_word} r complete block more v f due odd =
     let body = f.now.3 in
     let count : length (block.numbers ++ more) ≡ length block.numbers + length more =
     length-append block.numbers more in
@@ -174,11 +175,11 @@ time_follows {worded} r complete block more v f due odd =
       held = kept.1;
     }
 
-machine_follows : {worded : Bool} (r : Blocks) (complete : List Block) (block : Block) (more : List ℕ) (v : ℕ)
-    → r.layout ≡ OrLib → FollowsBlocks worded r (standing complete (inside block)) more
+machine_follows : {has_word : Bool} (r : Blocks) (complete : List Block) (block : Block) (more : List ℕ) (v : ℕ)
+    → r.layout ≡ OrLib → FollowsBlocks has_word r (standing complete (inside block)) more
     → r.body.judged < r.body.due → r.body.judged % 2 ≡ 0
-    → FollowsBlocks worded (counted r (after_machine r.body)) (standing complete (inside block)) (more ++ v ∷ [])
-machine_follows {worded} r complete block more v layout f due even =
+    → FollowsBlocks has_word (counted r (after_machine r.body)) (standing complete (inside block)) (more ++ v ∷ [])
+machine_follows {has_word} r complete block more v layout f due even =
     let body = f.now.3 in
     let count : length (block.numbers ++ more) ≡ length block.numbers + length more =
     length-append block.numbers more in
@@ -213,12 +214,12 @@ machine_follows {worded} r complete block more v layout f due even =
     }
 
 -- a time is due
-time_step : {worded : Bool} (r : Blocks) (complete : List Block) (block : Block) (more : List ℕ) (v first : ℕ)
-    → FollowsBlocks worded r (standing complete (inside block)) more
+time_step : {has_word : Bool} (r : Blocks) (complete : List Block) (block : Block) (more : List ℕ) (v first : ℕ)
+    → FollowsBlocks has_word r (standing complete (inside block)) more
     → r.body.judged < r.body.due → (r.layout ≡ OrLib → r.body.judged % 2 ≡ 1)
-    → NumberOutcome worded r complete (inside block) more v (time_judged r (min CEILING v) first)
+    → NumberOutcome has_word r complete (inside block) more v (time_judged r (min CEILING v) first)
     (misfit any_time v first)
-time_step {worded} r complete block more v first f due odd = by_range (nat_lt LONGEST_TIME v) refl
+time_step {has_word} r complete block more v first f due odd = by_range (nat_lt LONGEST_TIME v) refl
   where
     clipped : (t : Bool) → nat_lt LONGEST_TIME v ≡ t → nat_lt LONGEST_TIME (min CEILING v) ≡ t
     clipped true e =
@@ -227,14 +228,14 @@ time_step {worded} r complete block more v first f due odd = by_range (nat_lt LO
         let l : v ≤ LONGEST_TIME = ltb-false LONGEST_TIME v e in le-ltb LONGEST_TIME (min CEILING v) (omega arith)
 
     by_range : (t : Bool) → nat_lt LONGEST_TIME v ≡ t
-        → NumberOutcome worded r complete (inside block) more v (time_judged r (min CEILING v) first)
+        → NumberOutcome has_word r complete (inside block) more v (time_judged r (min CEILING v) first)
         (then_some (nat_lt LONGEST_TIME v) (TimeRange first))
     by_range true e =
         let next : time_judged r (min CEILING v) first ≡ refused r (TimeRange first) =
         ap (λ t. if t then refused r (TimeRange first)
         else counted (stored r (min CEILING v)) (after_time r.layout r.body))
         (clipped true e) in
-        subst (λ t. NumberOutcome worded r complete (inside block) more v (time_judged r (min CEILING v) first)
+        subst (λ t. NumberOutcome has_word r complete (inside block) more v (time_judged r (min CEILING v) first)
         (then_some t (TimeRange first)))
         (sym e) next
     by_range false e =
@@ -247,19 +248,19 @@ time_step {worded} r complete block more v first f due odd = by_range (nat_lt LO
         (clipped false e) in
         let next_v : time_judged r (min CEILING v) first ≡ counted (stored r v) (after_time r.layout r.body) =
         next ∙ ap (λ c. counted (stored r c) (after_time r.layout r.body)) (sym same) in
-        subst (λ t. NumberOutcome worded r complete (inside block) more v (time_judged r (min CEILING v) first)
+        subst (λ t. NumberOutcome has_word r complete (inside block) more v (time_judged r (min CEILING v) first)
         (then_some t (TimeRange first)))
         (sym e)
-        (subst (λ z. FollowsBlocks worded z (standing complete (inside block)) (more ++ v ∷ [])) (sym next_v)
+        (subst (λ z. FollowsBlocks has_word z (standing complete (inside block)) (more ++ v ∷ [])) (sym next_v)
         (time_follows r complete block more v f due odd))
 
 -- the number of a machine is due
-machine_step : {worded : Bool} (r : Blocks) (complete : List Block) (block : Block) (more : List ℕ) (v first : ℕ)
-    → r.layout ≡ OrLib → FollowsBlocks worded r (standing complete (inside block)) more
+machine_step : {has_word : Bool} (r : Blocks) (complete : List Block) (block : Block) (more : List ℕ) (v first : ℕ)
+    → r.layout ≡ OrLib → FollowsBlocks has_word r (standing complete (inside block)) more
     → r.body.judged < r.body.due → r.body.judged % 2 ≡ 0
-    → NumberOutcome worded r complete (inside block) more v (machine_judged r (min CEILING v) first)
+    → NumberOutcome has_word r complete (inside block) more v (machine_judged r (min CEILING v) first)
     (misfit (machine_number r.body.machine) v first)
-machine_step {worded} r complete block more v first layout f due even = by_same (v == r.body.machine) refl
+machine_step {has_word} r complete block more v first layout f due even = by_same (v == r.body.machine) refl
   where
     small : r.body.machine < CEILING
     small =
@@ -276,34 +277,34 @@ machine_step {worded} r complete block more v first layout f due even = by_same 
         ne_eqb (min CEILING v) r.body.machine (λ z. l (omega (arith, small)))
 
     by_same : (t : Bool) → (v == r.body.machine) ≡ t
-        → NumberOutcome worded r complete (inside block) more v (machine_judged r (min CEILING v) first)
+        → NumberOutcome has_word r complete (inside block) more v (machine_judged r (min CEILING v) first)
         (then_some (not (v == r.body.machine)) (MachineNumber first))
     by_same false e =
         let next : machine_judged r (min CEILING v) first ≡ refused r (MachineNumber first) =
         ap (λ t. if t then counted r (after_machine r.body) else refused r (MachineNumber first))
         (clipped false e) in
-        subst (λ t. NumberOutcome worded r complete (inside block) more v (machine_judged r (min CEILING v) first)
+        subst (λ t. NumberOutcome has_word r complete (inside block) more v (machine_judged r (min CEILING v) first)
         (then_some (not t) (MachineNumber first)))
         (sym e) next
     by_same true e =
         let next : machine_judged r (min CEILING v) first ≡ counted r (after_machine r.body) =
         ap (λ t. if t then counted r (after_machine r.body) else refused r (MachineNumber first))
         (clipped true e) in
-        subst (λ t. NumberOutcome worded r complete (inside block) more v (machine_judged r (min CEILING v) first)
+        subst (λ t. NumberOutcome has_word r complete (inside block) more v (machine_judged r (min CEILING v) first)
         (then_some (not t) (MachineNumber first)))
         (sym e)
-        (subst (λ z. FollowsBlocks worded z (standing complete (inside block)) (more ++ v ∷ [])) (sym next)
+        (subst (λ z. FollowsBlocks has_word z (standing complete (inside block)) (more ++ v ∷ [])) (sym next)
         (machine_follows r complete block more v layout f due even))
 
 -- a number is due at all
-due_step : {worded : Bool} (layout : Layout) (r : Blocks) (complete : List Block) (block : Block) (more : List ℕ)
+due_step : {has_word : Bool} (layout : Layout) (r : Blocks) (complete : List Block) (block : Block) (more : List ℕ)
     (v first : ℕ)
-    → r.layout ≡ layout → FollowsBlocks worded r (standing complete (inside block)) more
+    → r.layout ≡ layout → FollowsBlocks has_word r (standing complete (inside block)) more
     → r.body.judged < r.body.due
-    → NumberOutcome worded r complete (inside block) more v (body_judged r (min CEILING v) first)
+    → NumberOutcome has_word r complete (inside block) more v (body_judged r (min CEILING v) first)
     (misfit (due_at layout block.size (length block.numbers + length more)) v first)
 unfolding due_at
-due_step {worded} Taillard r complete block more v first layout f due =
+due_step {has_word} Taillard r complete block more v first layout f due =
     let body = f.now.3 in
     let lt : nat_lt (length block.numbers + length more) (block.size.jobs * block.size.machines) ≡ true =
     lt-ltb _ _ (let total : r.body.due ≡ block.size.jobs * block.size.machines =
@@ -315,12 +316,12 @@ due_step {worded} Taillard r complete block more v first layout f due =
     ap (λ l. if is_machine_due l r.body then machine_judged r (min CEILING v) first
     else time_judged r (min CEILING v) first)
     layout in
-    subst (λ d. NumberOutcome worded r complete (inside block) more v (body_judged r (min CEILING v) first)
+    subst (λ d. NumberOutcome has_word r complete (inside block) more v (body_judged r (min CEILING v) first)
     (misfit d v first))
     (sym is_due)
-    (subst (λ z. NumberOutcome worded r complete (inside block) more v z (misfit any_time v first)) (sym next)
+    (subst (λ z. NumberOutcome has_word r complete (inside block) more v z (misfit any_time v first)) (sym next)
     (time_step r complete block more v first f due (λ o. absurd (let bad : Taillard ≡ OrLib = sym layout ∙ o in cc))))
-due_step {worded} OrLib r complete block more v first layout f due = by_half (r.body.judged % 2 == 0) refl
+due_step {has_word} OrLib r complete block more v first layout f due = by_half (r.body.judged % 2 == 0) refl
   where
     body : FollowsBody r.layout block.size (length block.numbers + length more) r.body
     body = f.now.3
@@ -339,7 +340,7 @@ due_step {worded} OrLib r complete block more v first layout f due = by_half (r.
     place = subst (λ l. IsNextTime l r.body) layout (body.place due)
 
     by_half : (t : Bool) → (r.body.judged % 2 == 0) ≡ t
-        → NumberOutcome worded r complete (inside block) more v (body_judged r (min CEILING v) first)
+        → NumberOutcome has_word r complete (inside block) more v (body_judged r (min CEILING v) first)
         (misfit (due_at OrLib block.size (length block.numbers + length more)) v first)
     by_half true e =
         let even : r.body.judged % 2 ≡ 0 = eqb-true (r.body.judged % 2) 0 e in
@@ -359,10 +360,10 @@ due_step {worded} OrLib r complete block more v first layout f due = by_half (r.
         else time_judged r (min CEILING v) first)
         layout
         ∙ ap (λ t. if t then machine_judged r (min CEILING v) first else time_judged r (min CEILING v) first) e in
-        subst (λ d. NumberOutcome worded r complete (inside block) more v (body_judged r (min CEILING v) first)
+        subst (λ d. NumberOutcome has_word r complete (inside block) more v (body_judged r (min CEILING v) first)
         (misfit d v first))
         (sym is_due)
-        (subst (λ z. NumberOutcome worded r complete (inside block) more v z
+        (subst (λ z. NumberOutcome has_word r complete (inside block) more v z
         (misfit (machine_number r.body.machine) v first))
         (sym next) (machine_step r complete block more v first layout f due even))
     by_half false e =
@@ -380,10 +381,10 @@ due_step {worded} OrLib r complete block more v first layout f due = by_half (r.
         else time_judged r (min CEILING v) first)
         layout
         ∙ ap (λ t. if t then machine_judged r (min CEILING v) first else time_judged r (min CEILING v) first) e in
-        subst (λ d. NumberOutcome worded r complete (inside block) more v (body_judged r (min CEILING v) first)
+        subst (λ d. NumberOutcome has_word r complete (inside block) more v (body_judged r (min CEILING v) first)
         (misfit d v first))
         (sym is_due)
-        (subst (λ z. NumberOutcome worded r complete (inside block) more v z (misfit any_time v first)) (sym next)
+        (subst (λ z. NumberOutcome has_word r complete (inside block) more v z (misfit any_time v first)) (sym next)
         (time_step r complete block more v first f due (λ o. odd)))
 
 body_phase : (v : Bool) (phase : Phase) → phase ≡ (if v then phases.Body else phases.AfterLast)
@@ -400,22 +401,22 @@ extra_step Taillard size k v first h =
 extra_step OrLib size k v first h =
     ap (λ t. misfit (if t then pair_due size k else nothing) v first) (le-ltb k (2 * (size.jobs * size.machines)) h)
 
-begun_number : {worded : Bool} (r : Blocks) (complete : List Block) (block : Block) (more : List ℕ) (v first : ℕ)
-    → FollowsBlocks worded r (standing complete (inside block)) more
-    → NumberOutcome worded r complete (inside block) more v (number_ended r (min CEILING v) first)
+begun_number : {has_word : Bool} (r : Blocks) (complete : List Block) (block : Block) (more : List ℕ) (v first : ℕ)
+    → FollowsBlocks has_word r (standing complete (inside block)) more
+    → NumberOutcome has_word r complete (inside block) more v (number_ended r (min CEILING v) first)
     (misfit (due_at r.layout block.size (length block.numbers + length more)) v first)
 unfolding number_ended
-begun_number {worded} r complete block more v first f = by_due (nat_lt r.body.judged r.body.due) refl
+begun_number {has_word} r complete block more v first f = by_due (nat_lt r.body.judged r.body.due) refl
   where
     body : FollowsBody r.layout block.size (length block.numbers + length more) r.body
     body = f.now.3
 
     by_due : (t : Bool) → nat_lt r.body.judged r.body.due ≡ t
-        → NumberOutcome worded r complete (inside block) more v (number_ended_in r.phase r (min CEILING v) first)
+        → NumberOutcome has_word r complete (inside block) more v (number_ended_in r.phase r (min CEILING v) first)
         (misfit (due_at r.layout block.size (length block.numbers + length more)) v first)
     by_due true e =
         let phase : r.phase ≡ phases.Body = (body_phase (nat_lt r.body.judged r.body.due) r.phase f.now.0).0 e in
-        subst (λ p. NumberOutcome worded r complete (inside block) more v (number_ended_in p r (min CEILING v) first)
+        subst (λ p. NumberOutcome has_word r complete (inside block) more v (number_ended_in p r (min CEILING v) first)
         (misfit (due_at r.layout block.size (length block.numbers + length more)) v first))
         (sym phase)
         (due_step r.layout r complete block more v first refl f (ltb-true r.body.judged r.body.due e))
@@ -426,16 +427,17 @@ begun_number {worded} r complete block more v first f = by_due (nat_lt r.body.ju
         extra_step r.layout block.size (length block.numbers + length more) v first
         (omega (arith, body.due, body.judged)) in
         subst
-        (λ o. NumberOutcome worded r complete (inside block) more v (number_ended_in r.phase r (min CEILING v) first) o)
+        (λ o. NumberOutcome has_word r complete (inside block) more v (number_ended_in r.phase r (min CEILING v) first)
+        o)
         (sym extra)
         (ap (λ p. number_ended_in p r (min CEILING v) first) phase)
 
 -- a number more, wherever it stands
-pub number_step : {worded : Bool} (r : Blocks) (complete : List Block) (now : Now) (more : List ℕ) (v first : ℕ)
-    → FollowsBlocks worded r (standing complete now) more
+pub number_step : {has_word : Bool} (r : Blocks) (complete : List Block) (now : Now) (more : List ℕ) (v first : ℕ)
+    → FollowsBlocks has_word r (standing complete now) more
     → is_live r.phase ≡ true → length r.size_line.values ≡ 5
-    → NumberOutcome worded r complete now more v (number_ended r (min CEILING v) first)
+    → NumberOutcome has_word r complete now more v (number_ended r (min CEILING v) first)
     (misfit_in r.layout now more v first)
-number_step {worded} r complete seeking more v first f live five = sought_number r complete more v first f live five
-number_step {worded} r complete (inside block) more v first f live five = begun_number r complete block more v first f
-number_step {worded} r complete lost more v first f live five = absurd f.now
+number_step {has_word} r complete seeking more v first f live five = sought_number r complete more v first f live five
+number_step {has_word} r complete (inside block) more v first f live five = begun_number r complete block more v first f
+number_step {has_word} r complete lost more v first f live five = absurd f.now

@@ -35,7 +35,7 @@ use Rattle.pfs_layout.proofs.Files.GrowLemmas.{Extends, grows}
 use Rattle.pfs_layout.proofs.Files.EndLemmas.{byte_fault_refuses}
 use Rattle.pfs_layout.proofs.Published.LawLemmas.{accepted_law, one_verdict}
 use Rattle.pfs_layout.proofs.Reading.StepLemmas.{keeps_last, refused_memory}
-use Rattle.pfs_layout.proofs.Reading.ByteSteps.{live_few, sought_phase}
+use Rattle.pfs_layout.proofs.Reading.ByteSteps.{live_few, seeking_if_few}
 use Rattle.pfs_layout.proofs.Reading.EndSteps.{number_fault, NumberPart, number_part, due_line}
 use Rattle.pfs_layout.proofs.Reading.FeedLemmas.{refused_fault, done_enough}
 use Rattle.pfs_layout.proofs.Reading.FinishLemmas.{stand_lines, sought_fault, sought_end, sought_told, begun_end}
@@ -105,16 +105,16 @@ live_end r text f live = by_now (stand_of r.layout text).now refl
 
     by_now : (now : Now) → (stand_of r.layout text).now ≡ now → EndOutcome r text
     by_now seeking e =
-        let worded = list_any is_word_byte (open_line text) in
+        let has_word = list_any is_word_byte (open_line text) in
         let keeps = keeps_last r.blocks (number_of r.digits) live in
         let one =
-        number_part worded r.blocks r.last text (stand_of r.layout text).complete seeking live f.five_values
+        number_part has_word r.blocks r.last text (stand_of r.layout text).complete seeking live f.five_values
         f.last_line (blocks_at seeking e) in
         let few_then : (last_number_ended r.blocks (number_of r.digits)).complete
         < (last_number_ended r.blocks (number_of r.digits)).wanted =
         (let c = f.blocks.complete in omega (arith, keeps.complete, keeps.wanted, few)) in
         let phase =
-        sought_phase worded (last_number_ended r.blocks (number_of r.digits)) (numbers (open_line text)) one.now
+        seeking_if_few has_word (last_number_ended r.blocks (number_of r.digits)) (numbers (open_line text)) one.now
         few_then in
         let kind : (r.kinds.has_digit && not r.kinds.has_word) ≡ is_number_line (open_line text) =
         ap (λ t. t && not r.kinds.has_word) f.last_line.has_digit

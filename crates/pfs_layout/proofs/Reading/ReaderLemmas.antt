@@ -41,7 +41,8 @@ use Rattle.pfs_layout.proofs.Reading.NumberLemmas.{Keeping}
 use Rattle.pfs_layout.proofs.Reading.NumberSteps.{keeping_of}
 use Rattle.pfs_layout.proofs.Reading.LineSteps.{Refuses}
 use Rattle.pfs_layout.proofs.Reading.ScanLemmas.{count_push, line_push, digit-no_line_end}
-use Rattle.pfs_layout.proofs.Reading.ByteSteps.{fault_in, place_fault, live_few, ByteOutcome, digit_byte, judged}
+use Rattle.pfs_layout.proofs.Reading.ByteSteps.{fault_within_limit, place_fault, live_few, ByteOutcome, digit_byte}
+use Rattle.pfs_layout.proofs.Reading.ByteSteps.{judged}
 use Rattle.pfs_layout.proofs.Reading.ByteSteps.{judged_digit, judged_word, judged_blank}
 use Rattle.pfs_layout.proofs.Reading.EndSteps.{word_byte, blank_byte, end_byte}
 
@@ -181,45 +182,45 @@ outcome : (r : Fields) (text : List ℕ) (b : ℕ) → Follows r text → is_liv
     → GoodNow r.layout (stand_of r.layout text).now (open_line text)
     → ByteOutcome r.blocks (list_any is_word_byte (open_line (text ++ b ∷ []))) (stand_of r.layout (text ++ b ∷ []))
     (ended_numbers (open_line (text ++ b ∷ []))) (judged r.blocks r.last b)
-    (fault_in r.layout (stand_of r.layout text).now text b)
+    (fault_within_limit r.layout (stand_of r.layout text).now text b)
 outcome r text b f live good = by_digit (is_digit b) refl
   where
     stood : Stand
     stood = stand_of r.layout text
 
     Goal : Bool → Stand → List ℕ → Type 0
-    Goal worded stood' more =
-        ByteOutcome r.blocks worded stood' more (judged r.blocks r.last b)
-        (fault_in r.layout (stand_of r.layout text).now text b)
+    Goal has_word stood' more =
+        ByteOutcome r.blocks has_word stood' more (judged r.blocks r.last b)
+        (fault_within_limit r.layout (stand_of r.layout text).now text b)
 
     by_end : (t : Bool) → is_digit b ≡ false → (is_blank b || is_line_end b) ≡ true → is_line_end b ≡ t
         → ByteOutcome r.blocks (list_any is_word_byte (open_line (text ++ b ∷ []))) (stand_of r.layout (text ++ b ∷ []))
         (ended_numbers (open_line (text ++ b ∷ []))) (judged r.blocks r.last b)
-        (fault_in r.layout (stand_of r.layout text).now text b)
+        (fault_within_limit r.layout (stand_of r.layout text).now text b)
     by_end true d o e =
         let line = line_end text b e in
-        let worded : false ≡ list_any is_word_byte (open_line (text ++ b ∷ [])) =
+        let has_word : false ≡ list_any is_word_byte (open_line (text ++ b ∷ [])) =
         ap (list_any is_word_byte) (sym line) in
         let more : [] ≡ ended_numbers (open_line (text ++ b ∷ [])) = sym no_numbers_yet ∙ ap ended_numbers (sym line) in
         subst (λ w. ByteOutcome r.blocks w (stand_of r.layout (text ++ b ∷ []))
         (ended_numbers (open_line (text ++ b ∷ []))) (judged r.blocks r.last b)
-        (fault_in r.layout (stand_of r.layout text).now text b))
-        worded
+        (fault_within_limit r.layout (stand_of r.layout text).now text b))
+        has_word
         (subst (λ s. ByteOutcome r.blocks false s (ended_numbers (open_line (text ++ b ∷ [])))
-        (judged r.blocks r.last b) (fault_in r.layout (stand_of r.layout text).now text b))
+        (judged r.blocks r.last b) (fault_within_limit r.layout (stand_of r.layout text).now text b))
         (sym (stand_end r.layout text b e))
         (subst (λ ns. ByteOutcome r.blocks false (stand_after r.layout (stand_of r.layout text) (open_line text)) ns
-        (judged r.blocks r.last b) (fault_in r.layout (stand_of r.layout text).now text b))
+        (judged r.blocks r.last b) (fault_within_limit r.layout (stand_of r.layout text).now text b))
         more
         (end_byte r.blocks r.last text b (stand_of r.layout text).complete (stand_of r.layout text).now d e live
         f.five_values f.line f.last_line f.blocks good)))
     by_end false d o e =
         subst (λ s. ByteOutcome r.blocks (list_any is_word_byte (open_line (text ++ b ∷ []))) s
         (ended_numbers (open_line (text ++ b ∷ []))) (judged r.blocks r.last b)
-        (fault_in r.layout (stand_of r.layout text).now text b))
+        (fault_within_limit r.layout (stand_of r.layout text).now text b))
         (sym (stand_on r.layout text b e))
         (subst (λ ns. ByteOutcome r.blocks (list_any is_word_byte (open_line (text ++ b ∷ []))) (stand_of r.layout text)
-        ns (judged r.blocks r.last b) (fault_in r.layout (stand_of r.layout text).now text b))
+        ns (judged r.blocks r.last b) (fault_within_limit r.layout (stand_of r.layout text).now text b))
         (sym (numbers_on text b false e d))
         (blank_byte r.blocks r.last text b (stand_of r.layout text).complete (stand_of r.layout text).now
         (list_any is_word_byte (open_line (text ++ b ∷ []))) d o e live f.five_values (words_before text b e)
@@ -228,19 +229,19 @@ outcome r text b f live good = by_digit (is_digit b) refl
     by_blank : (t : Bool) → is_digit b ≡ false → (is_blank b || is_line_end b) ≡ t
         → ByteOutcome r.blocks (list_any is_word_byte (open_line (text ++ b ∷ []))) (stand_of r.layout (text ++ b ∷ []))
         (ended_numbers (open_line (text ++ b ∷ []))) (judged r.blocks r.last b)
-        (fault_in r.layout (stand_of r.layout text).now text b)
+        (fault_within_limit r.layout (stand_of r.layout text).now text b)
     by_blank true d o = by_end (is_line_end b) d o refl
     by_blank false d o =
         let e : is_line_end b ≡ false = right_of (is_blank b) (is_line_end b) o in
         subst (λ w. ByteOutcome r.blocks w (stand_of r.layout (text ++ b ∷ []))
         (ended_numbers (open_line (text ++ b ∷ []))) (judged r.blocks r.last b)
-        (fault_in r.layout (stand_of r.layout text).now text b))
+        (fault_within_limit r.layout (stand_of r.layout text).now text b))
         (sym (word_there text b d o))
         (subst (λ s. ByteOutcome r.blocks true s (ended_numbers (open_line (text ++ b ∷ []))) (judged r.blocks r.last b)
-        (fault_in r.layout (stand_of r.layout text).now text b))
+        (fault_within_limit r.layout (stand_of r.layout text).now text b))
         (sym (stand_on r.layout text b e))
         (subst (λ ns. ByteOutcome r.blocks true (stand_of r.layout text) ns (judged r.blocks r.last b)
-        (fault_in r.layout (stand_of r.layout text).now text b))
+        (fault_within_limit r.layout (stand_of r.layout text).now text b))
         (sym (numbers_on text b false e d))
         (word_byte r.blocks r.last text b (stand_of r.layout text).complete (stand_of r.layout text).now d o live
         f.last_line f.blocks good)))
@@ -252,15 +253,15 @@ outcome r text b f live good = by_digit (is_digit b) refl
     by_digit : (t : Bool) → is_digit b ≡ t
         → ByteOutcome r.blocks (list_any is_word_byte (open_line (text ++ b ∷ []))) (stand_of r.layout (text ++ b ∷ []))
         (ended_numbers (open_line (text ++ b ∷ []))) (judged r.blocks r.last b)
-        (fault_in r.layout (stand_of r.layout text).now text b)
+        (fault_within_limit r.layout (stand_of r.layout text).now text b)
     by_digit true d =
         let e = digit-no_line_end b d in
         subst (λ s. ByteOutcome r.blocks (list_any is_word_byte (open_line (text ++ b ∷ []))) s
         (ended_numbers (open_line (text ++ b ∷ []))) (judged r.blocks r.last b)
-        (fault_in r.layout (stand_of r.layout text).now text b))
+        (fault_within_limit r.layout (stand_of r.layout text).now text b))
         (sym (stand_on r.layout text b e))
         (subst (λ ns. ByteOutcome r.blocks (list_any is_word_byte (open_line (text ++ b ∷ []))) (stand_of r.layout text)
-        ns (judged r.blocks r.last b) (fault_in r.layout (stand_of r.layout text).now text b))
+        ns (judged r.blocks r.last b) (fault_within_limit r.layout (stand_of r.layout text).now text b))
         (sym (numbers_on text b true e d))
         (digit_byte r.blocks r.last text b (stand_of r.layout text).complete (stand_of r.layout text).now
         (list_any is_word_byte (open_line (text ++ b ∷ []))) d live (words_before text b e) f.last_line f.blocks
@@ -403,9 +404,9 @@ due_few Taillard size within =
 due_few OrLib size within =
     let w = size_within size within in let p = mul-le-mul w.sizes.few_jobs w.sizes.few_machines in omega arith
 
-begun_ready : (worded : Bool) (r : Blocks) (complete : List Block) (block : Block) (more : List ℕ)
-    → FollowsBlocks worded r (standing complete (inside block)) more → r.phase ≡ phases.Body → CanCount r
-begun_ready worded r complete block more f e = by_due (nat_lt r.body.judged r.body.due) refl f.now.0
+begun_ready : (has_word : Bool) (r : Blocks) (complete : List Block) (block : Block) (more : List ℕ)
+    → FollowsBlocks has_word r (standing complete (inside block)) more → r.phase ≡ phases.Body → CanCount r
+begun_ready has_word r complete block more f e = by_due (nat_lt r.body.judged r.body.due) refl f.now.0
   where
     body : FollowsBody r.layout block.size (length block.numbers + length more) r.body
     body = f.now.3
@@ -460,15 +461,15 @@ begun_ready worded r complete block more f e = by_due (nat_lt r.body.judged r.bo
         }
     by_due false t p = absurd (let bad : phases.Body ≡ phases.AfterLast = sym e ∙ p in cc)
 
-can_count : (worded : Bool) (r : Blocks) (complete : List Block) (now : Now) (more : List ℕ)
-    → FollowsBlocks worded r (standing complete now) more → r.phase ≡ phases.Body → CanCount r
-can_count worded r complete seeking more f e = absurd (either (nat_lt r.complete r.wanted) (sym e ∙ f.now.0))
+can_count : (has_word : Bool) (r : Blocks) (complete : List Block) (now : Now) (more : List ℕ)
+    → FollowsBlocks has_word r (standing complete now) more → r.phase ≡ phases.Body → CanCount r
+can_count has_word r complete seeking more f e = absurd (either (nat_lt r.complete r.wanted) (sym e ∙ f.now.0))
   where
     either : (t : Bool) → phases.Body ≡ (if t then phases.Seeking else phases.Done) → ⊥
     either true e = cc
     either false e = cc
-can_count worded r complete (inside block) more f e = begun_ready worded r complete block more f e
-can_count worded r complete lost more f e = absurd f.now
+can_count has_word r complete (inside block) more f e = begun_ready has_word r complete block more f e
+can_count has_word r complete lost more f e = absurd f.now
 
 pub follows_ready : (r : Fields) (text : List ℕ) → Follows r text → is_live r.phase ≡ true → length text < LONGEST_INPUT
     → IsReady r.blocks
