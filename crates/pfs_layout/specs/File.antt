@@ -53,7 +53,8 @@ pub record AreBlocks (limits : Limits) (layout : Layout) (k : ℕ) (problem : Pr
   pub is_own : IsBlock limits layout problem own
 
 -- a front of the input, whose last line ends with byte 10 or with the input, is k blocks
-pub record IsInstanceFile (limits : Limits) (layout : Layout) (input : List ℕ) (k : ℕ) (problem : Problem) : Type 0 where
+pub record IsInstanceFile (limits : Limits) (layout : Layout) (input : List ℕ) (k : ℕ) (problem : Problem)
+    : Type 0 where
   pub text : List ℕ
   pub rest : List ℕ
   pub whole : input ≡ text ++ rest

@@ -97,16 +97,18 @@ pub record FollowsBody (layout : Layout) (size : Size) (count : ℕ) (body : Bod
 -- whether the next block is sought or a block is begun, behind these ended numbers of the last line, which has a
 -- word byte or not
 abbrev pub FollowsNow : Bool → Blocks → Now → List ℕ → Type 0
-FollowsNow worded r seeking more = (r.phase ≡ (if nat_lt r.complete r.wanted then phases.Seeking else phases.Done))
-    × (worded ≡ false → HoldsNumbers r.size_line more)
-FollowsNow worded r (inside block) more = (r.phase ≡ (if nat_lt r.body.judged r.body.due then phases.Body else phases.AfterLast))
-    × (r.complete < r.wanted) × (is_within_limits block.size ≡ true) × FollowsBody r.layout block.size (length block.numbers + length more) r.body
-FollowsNow worded r lost more = ⊥
+FollowsNow has_word r seeking more = (r.phase ≡ (if nat_lt r.complete r.wanted then phases.Seeking else phases.Done))
+    × (has_word ≡ false → HoldsNumbers r.size_line more)
+FollowsNow has_word r (inside block) more =
+    (r.phase ≡ (if nat_lt r.body.judged r.body.due then phases.Body else phases.AfterLast))
+    × (r.complete < r.wanted) × (is_within_limits block.size ≡ true)
+    × FollowsBody r.layout block.size (length block.numbers + length more) r.body
+FollowsNow has_word r lost more = ⊥
 
 -- the blocks, behind lines that lead here and these ended numbers of the last line, which has a word byte or not
-pub record FollowsBlocks (worded : Bool) (r : Blocks) (stood : Stand) (more : List ℕ) : Type 0 where
+pub record FollowsBlocks (has_word : Bool) (r : Blocks) (stood : Stand) (more : List ℕ) : Type 0 where
   pub complete : r.complete ≡ length stood.complete
-  pub now : FollowsNow worded r stood.now more
+  pub now : FollowsNow has_word r stood.now more
   pub instance : r.instance ≡ option_map (instance_of r.layout) (block_of r.wanted stood more)
   pub held : r.held ≡ time_count r.layout (block_of r.wanted stood more)
 
@@ -118,7 +120,8 @@ pub record Follows (r : Fields) (text : List ℕ) : Type 0 where
   pub line : r.line ≡ 1 + count_by is_line_end text
   pub few_numbers : r.size_line.count ≤ length text
   pub five_values : length r.size_line.values ≡ 5
-  pub blocks : FollowsBlocks (list_any is_word_byte (open_line text)) r.blocks (stand r.layout (ended_lines text)) (ended_numbers (open_line text))
+  pub blocks : FollowsBlocks (list_any is_word_byte (open_line text)) r.blocks (stand r.layout (ended_lines text))
+      (ended_numbers (open_line text))
 
 -- ---- where a reader stands
 
@@ -181,9 +184,11 @@ pub record TakeMeets (old : Fields) (text piece : List ℕ) (used : ℕ) (new : 
   pub layout : new.layout ≡ old.layout
   pub wanted : new.wanted ≡ old.wanted
   pub stands : new.phase ≢ phases.Refused Memory → StandsAfter new (text ++ take used piece)
-  pub memory : new.phase ≡ phases.Refused Memory → (n : ℕ) × (n < length piece) × EndsWantedSize old.layout old.wanted (text ++ take n piece) (slice_index piece n)
+  pub memory : new.phase ≡ phases.Refused Memory
+      → (n : ℕ) × (n < length piece) × EndsWantedSize old.layout old.wanted (text ++ take n piece) (slice_index piece n)
   pub none : new.phase ≡ phases.Refused Memory → new.held ≡ 0
-  pub no_more : (n : ℕ) → n < used → length (stand old.layout (ended_lines (text ++ take n piece))).complete < old.wanted
+  pub no_more : (n : ℕ) → n < used
+      → length (stand old.layout (ended_lines (text ++ take n piece))).complete < old.wanted
 
 -- what is told of the bytes that were taken
 abbrev pub progress_of : Phase → ℕ → Result Progress LayoutFault
@@ -194,17 +199,22 @@ progress_of phases.Done used = Ok (record { used = used; done = true })
 progress_of (phases.Refused fault) used = Err fault
 
 -- what feed owes a reader that stands after this text
-pub record FeedMeets (old : Fields) (text piece : List ℕ) (outcome : Result Progress LayoutFault) (new : Fields) : Type 0 where
-  pub ok : IfOk outcome (λ progress. (progress.used ≤ length piece) × StandsAfter new (text ++ take progress.used piece))
+pub record FeedMeets (old : Fields) (text piece : List ℕ) (outcome : Result Progress LayoutFault) (new : Fields)
+    : Type 0 where
+  pub ok : IfOk outcome
+      (λ progress. (progress.used ≤ length piece) × StandsAfter new (text ++ take progress.used piece))
   pub layout : new.layout ≡ old.layout
   pub wanted : new.wanted ≡ old.wanted
   -- it has used the whole piece, or the wanted block has ended with the last byte that it used
   pub whole : IfOk outcome (λ progress. IsFalse progress.done → progress.used ≡ length piece)
   pub done : IfOk outcome (λ progress. IsTrue progress.done ↔ (new.phase ≡ phases.Done))
-  pub no_more : IfOk outcome (λ progress. (n : ℕ) → n < progress.used → length (stand old.layout (ended_lines (text ++ take n piece))).complete < old.wanted)
+  pub no_more : IfOk outcome (λ progress. (n : ℕ) → n < progress.used
+      → length (stand old.layout (ended_lines (text ++ take n piece))).complete < old.wanted)
   pub refused : IfErr outcome (λ fault. fault ≢ Memory → StandsAfter new (text ++ piece))
-  pub exact : outcome ≢ Err Memory → (fault : LayoutFault) → (outcome ≡ Err fault) ↔ (byte_fault old.layout old.wanted (text ++ piece) ≡ Some fault)
-  pub memory : outcome ≡ Err Memory → (n : ℕ) × (n < length piece) × EndsWantedSize old.layout old.wanted (text ++ take n piece) (slice_index piece n)
+  pub exact : outcome ≢ Err Memory → (fault : LayoutFault)
+      → (outcome ≡ Err fault) ↔ (byte_fault old.layout old.wanted (text ++ piece) ≡ Some fault)
+  pub memory : outcome ≡ Err Memory
+      → (n : ℕ) × (n < length piece) × EndsWantedSize old.layout old.wanted (text ++ take n piece) (slice_index piece n)
 
 -- what finish owes
 pub record FinishMeets (old : Fields) (text : List ℕ) (outcome : Result Problem LayoutFault) : Type 0 where
@@ -218,8 +228,10 @@ pub record IsUndecided (layout : Layout) (k : ℕ) (text : List ℕ) : Type 0 wh
   pub sound : byte_fault layout k text ≡ None
   pub incomplete : length (stand layout (ended_lines text)).complete < k
 
--- an input of these bytes was read, with this fault if any, up to a last piece, before which more was wanted, and no further
-pub record ReadsAsFar (layout : Layout) (k : ℕ) (bytes : List ℕ) (left : Option (List ℕ)) (fault : Option LayoutFault) : Type 0 where
+-- an input of these bytes was read, with this fault if any, up to a last piece, before which more was wanted, and no
+-- further
+pub record ReadsAsFar (layout : Layout) (k : ℕ) (bytes : List ℕ) (left : Option (List ℕ)) (fault : Option LayoutFault)
+    : Type 0 where
   pub front : List ℕ
   pub last : List ℕ
   pub rest : List ℕ
@@ -230,7 +242,8 @@ pub record ReadsAsFar (layout : Layout) (k : ℕ) (bytes : List ℕ) (left : Opt
   -- a failed read gives no piece
   pub failed : fault ≡ Some Read → last ≡ []
   -- memory is wanted at the end of the wanted block's size line alone, which is in the last piece
-  pub memory : fault ≡ Some Memory → (n : ℕ) × (n < length last) × EndsWantedSize layout k (front ++ take n last) (slice_index last n)
+  pub memory : fault ≡ Some Memory
+      → (n : ℕ) × (n < length last) × EndsWantedSize layout k (front ++ take n last) (slice_index last n)
 
 -- a reader of the block that has read a front of what its source had left at first, where that is told
 pub record Reading (layout : Layout) (k : ℕ) (first left : Option (List ℕ)) (r : Fields) : Type 0 where

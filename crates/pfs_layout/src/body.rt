@@ -76,7 +76,7 @@ impl Body {
         }
     }
 
-    /// The same machine's next job, or the next machine's first.
+    // The same machine's next job, or the next machine's first.
     fn at_next_job(self) -> Body
         requires { HasPlace self }
         ensures { result ≡ behind_time Layout.Taillard self }
@@ -96,7 +96,7 @@ impl Body {
         }
     }
 
-    /// The same job's next machine, or the next job's first.
+    // The same job's next machine, or the next job's first.
     fn at_next_machine(self) -> Body
         requires { HasPlace self }
         ensures { result ≡ behind_time Layout.OrLib self }
@@ -127,7 +127,7 @@ impl Body {
     }
 }
 
-/// The number behind `at`, and 0 behind the last of `count`.
+// The number behind `at`, and 0 behind the last of `count`.
 fn next(at: usize, count: usize) -> usize
     requires { at < count }
     ensures { result ≡ next_of at count }

@@ -84,7 +84,7 @@ impl Blocks {
         self.phase = Phase::Refused(fault);
     }
 
-    /// Whether a block is begun and not ended.
+    // Whether a block is begun and not ended.
     fn in_block(&self) -> bool
         ensures { result ≡ is_in_block self.now.phase }
     {
@@ -104,7 +104,7 @@ impl Blocks {
         }
     }
 
-    /// Keeps a time of the wanted block.
+    // Keeps a time of the wanted block.
     fn store(&mut self, time: u32)
         requires can { CanCount self.old }
         requires short { time ≤ LONGEST_TIME }
@@ -116,7 +116,7 @@ impl Blocks {
         }
     }
 
-    /// One number of the body more was judged.
+    // One number of the body more was judged.
     fn count(&mut self, body: Body)
         ensures { self.new ≡ counted self.old body }
     {
@@ -128,7 +128,7 @@ impl Blocks {
         };
     }
 
-    /// The number is a time.
+    // The number is a time.
     fn judge_time(&mut self, value: u64, first: usize)
         requires { CanCount self.old }
         ensures { self.new ≡ time_judged self.old value first }
@@ -141,7 +141,7 @@ impl Blocks {
         self.count(self.body.after_time(self.layout));
     }
 
-    /// The number is that of a machine.
+    // The number is that of a machine.
     fn judge_machine(&mut self, value: u64, first: usize)
         requires { CanCount self.old }
         ensures { self.new ≡ machine_judged self.old value first }
@@ -153,7 +153,7 @@ impl Blocks {
         self.count(self.body.after_machine());
     }
 
-    /// The number is one of a body, where a time or a machine's number is due.
+    // The number is one of a body, where a time or a machine's number is due.
     fn judge_body(&mut self, value: u64, first: usize)
         requires { CanCount self.old }
         ensures { self.new ≡ body_judged self.old value first }
@@ -165,7 +165,7 @@ impl Blocks {
         }
     }
 
-    /// The number stands outside a body.
+    // The number stands outside a body.
     #[inline(never)]
     #[tactic(auto, unfolding(crate::specs::Step::number_ended))]
     fn end_other_number(&mut self, value: u64, first: usize)
@@ -180,7 +180,7 @@ impl Blocks {
         }
     }
 
-    /// A blank, a line end or the end of the input ends a number.
+    // A blank, a line end or the end of the input ends a number.
     #[inline(always)]
     #[tactic(auto, unfolding(crate::specs::Step::number_ended))]
     fn end_number(&mut self, number: Number)
@@ -195,7 +195,7 @@ impl Blocks {
         }
     }
 
-    /// A line end or the end of the input ends the unfinished number, if there is one.
+    // A line end or the end of the input ends the unfinished number, if there is one.
     #[inline(always)]
     fn end_last_number(&mut self, number: Option<Number>)
         requires can { self.old.phase ≡ Phase.Body → CanCount self.old }
@@ -209,7 +209,7 @@ impl Blocks {
         }
     }
 
-    /// Memory for the block, if it is the wanted one.
+    // Memory for the block, if it is the wanted one.
     fn instance_for(&self, alloc: Global, stated: Stated) -> Result<Option<Instance>, BaseFault>
         requires complete { self.now.complete < self.now.wanted }
         requires within { is_within_limits (size_given stated) ≡ true }
@@ -225,7 +225,7 @@ impl Blocks {
         }
     }
 
-    /// A block of these sizes begins.
+    // A block of these sizes begins.
     fn begin_block(&mut self, alloc: Global, stated: Stated)
         requires complete { self.old.complete < self.old.wanted }
         requires within { is_within_limits (size_given stated) ≡ true }
@@ -243,8 +243,8 @@ impl Blocks {
         }
     }
 
-    /// A number line ends while a block is sought: its numbers begin a block, or are refused. It is this
-    /// line, counted from 1.
+    // A number line ends while a block is sought: its numbers begin a block, or are refused. It is this
+    // line, counted from 1.
     #[inline(never)]
     fn end_size_line(&mut self, alloc: Global, size_line: SizeLine, line: usize)
         requires complete { self.old.complete < self.old.wanted }
@@ -259,7 +259,7 @@ impl Blocks {
         }
     }
 
-    /// The line of a block's last number ends.
+    // The line of a block's last number ends.
     fn end_block(&mut self)
         requires { self.old.complete < self.old.wanted }
         ensures { self.new ≡ block_ended self.old }
@@ -273,7 +273,7 @@ impl Blocks {
         };
     }
 
-    /// Byte 10 ends the line.
+    // Byte 10 ends the line.
     #[tactic(auto, unfolding(crate::specs::Step::line_ended))]
     fn end_line(&mut self, alloc: Global, is_number_line: bool)
         requires complete { self.old.complete < self.old.wanted }
@@ -298,7 +298,7 @@ impl Blocks {
         }
     }
 
-    /// The line is mixed with the byte at this offset.
+    // The line is mixed with the byte at this offset.
     fn meet_mixed_line(&mut self, offset: usize)
         ensures { self.new ≡ mixed_met self.old offset }
     {
@@ -307,7 +307,7 @@ impl Blocks {
         }
     }
 
-    /// Judges an event of the last line.
+    // Judges an event of the last line.
     #[inline(always)]
     fn after(&mut self, alloc: Global, event: Event)
         requires ready { IsReady self.old }
@@ -330,7 +330,7 @@ impl Blocks {
         }
     }
 
-    /// What is told of so many bytes that were used.
+    // What is told of so many bytes that were used.
     fn progress(&self, used: usize) -> Result<Progress, LayoutFault>
         ensures { result ≡ progress_of self.now.phase used }
     {
@@ -439,7 +439,7 @@ impl Blocks {
         self.end_fault(last.kinds)
     }
 
-    /// The fault of an input that ends here.
+    // The fault of an input that ends here.
     fn end_fault(&self, kinds: Kinds) -> Option<LayoutFault>
         requires { live_test self.now.phase ≡ true → self.now.complete < self.now.wanted }
         ensures { result ≡ end_fault kinds self.now }
@@ -463,8 +463,8 @@ impl Blocks {
         }
     }
 
-    /// The fault of an input that ends while a block is sought. A size line without a fault begins a
-    /// block, of which no time was read.
+    // The fault of an input that ends while a block is sought. A size line without a fault begins a
+    // block, of which no time was read.
     fn sought_fault(&self, kinds: Kinds) -> LayoutFault
         ensures { Some result ≡ end_fault_in Phase.Seeking kinds self.now }
     {

@@ -75,7 +75,7 @@ impl SizeLine {
     }
 }
 
-/// What these numbers state, if each is in its limit. They stand on this line, counted from 1.
+// What these numbers state, if each is in its limit. They stand on this line, counted from 1.
 fn in_range(
     jobs: u64,
     machines: u64,

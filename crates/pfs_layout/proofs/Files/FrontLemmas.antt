@@ -52,7 +52,8 @@ filled layout size numbers = numbers ++ drop (length numbers) (idle_due layout s
 module _ (layout : Layout) (size : Size) (numbers : List ℕ) (all : are_due layout size numbers ≡ true) where
   length-filled : length (filled layout size numbers) ≡ due_count layout size
   unfolding filled
-  length-filled = simp (length-append, length-drop, length-idle_due) (omega (arith, no_more_than_due layout size numbers all))
+  length-filled =
+      simp (length-append, length-drop, length-idle_due) (omega (arith, no_more_than_due layout size numbers all))
 
   filled_passes : are_due layout size (filled layout size numbers) ≡ true
   unfolding filled

@@ -111,6 +111,7 @@ of_place layout k text next =
     of_or_none (nat_lt (length before.complete) k) _ (of_faults layout k before.now text next)
 
 -- a refused input has a fault of the input
-pub refused_input : (layout : Layout) (input : List ℕ) (k : ℕ) (fault : LayoutFault) → RefusesInstance layout input k fault
+pub refused_input : (layout : Layout) (input : List ℕ) (k : ℕ) (fault : LayoutFault)
+    → RefusesInstance layout input k fault
     → is_input_fault fault ≡ true
 refused_input layout input k fault refused = of_place layout k _ _ fault refused.here

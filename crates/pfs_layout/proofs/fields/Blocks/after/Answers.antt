@@ -7,9 +7,11 @@ use Rattle.pfs_layout.proofs.fields.Blocks.after.Goals as goal
 pub returns-in-NumberEnded-clause-memory : goal.returns-in-NumberEnded-clause-memory
 returns-in-NumberEnded-clause-memory c h =
     let number = c.in-NumberEnded.number in
-    absurd ((keeps_number c.args.self.now number.value number.first c.requires.ready.live).memory (sym (ap (λ (r : Blocks). r.phase) c.end_number.ensures) ∙ h))
+    absurd ((keeps_number c.args.self.now number.value number.first c.requires.ready.live).memory
+    (sym (ap (λ (r : Blocks). r.phase) c.end_number.ensures) ∙ h))
 
 pub returns-in-NumberEnded-clause-kept : goal.returns-in-NumberEnded-clause-kept
 returns-in-NumberEnded-clause-kept c h =
     let number = c.in-NumberEnded.number in
-    absurd ((keeps_number c.args.self.now number.value number.first c.requires.ready.live).memory (sym (ap (λ (r : Blocks). r.phase) c.end_number.ensures) ∙ h))
+    absurd ((keeps_number c.args.self.now number.value number.first c.requires.ready.live).memory
+    (sym (ap (λ (r : Blocks). r.phase) c.end_number.ensures) ∙ h))

@@ -7,4 +7,5 @@ use Rattle.pfs_layout.proofs.fields.Blocks.end_last_number.Goals as goal
 pub returns-in-Some-clause-kept : goal.returns-in-Some-clause-kept
 returns-in-Some-clause-kept c =
     let number = c.in-Some.number in
-    subst (Keeps c.args.self.now) (sym c.end_number.ensures) (keeps_number c.args.self.now number.value number.first c.requires.live)
+    subst (Keeps c.args.self.now) (sym c.end_number.ensures)
+    (keeps_number c.args.self.now number.value number.first c.requires.live)

@@ -10,7 +10,8 @@ use Rattle.pfs_layout.proofs.reader.BlockReader.feed.Goals as goal
 pub returns-clause-nowhere : goal.returns-clause-nowhere
 returns-clause-nowhere c e text s =
     let new : Fields = fields c.feed.new.last c.feed.new.self in
-    memory_nowhere new text (subst (λ outcome. IfErr outcome (λ fault. new.phase ≡ phases.Refused fault)) e c.feed.ensures.stays) s
+    memory_nowhere new text
+    (subst (λ outcome. IfErr outcome (λ fault. new.phase ≡ phases.Refused fault)) e c.feed.ensures.stays) s
 
 pub returns-clause-few : goal.returns-clause-few
 returns-clause-few c text s =
@@ -18,5 +19,7 @@ returns-clause-few c text s =
     let before : old ≡ c.args.self.now = c.self.view_is in
     let new : Fields = fields c.feed.new.last c.feed.new.self in
     subst (λ (z : Fields). HoldsFew z.layout z.wanted (text ++ c.args.piece.now) new.held) before
-    (feed_few old text c.args.piece.now c.feed.result new (c.feed.ensures.meets text (subst (λ z. StandsAfter z text) (sym before) s))
-    (λ e. c.feed.ensures.reader.none (subst (λ outcome. IfErr outcome (λ fault. new.phase ≡ phases.Refused fault)) e c.feed.ensures.stays)))
+    (feed_few old text c.args.piece.now c.feed.result new
+    (c.feed.ensures.meets text (subst (λ z. StandsAfter z text) (sym before) s))
+    (λ e. c.feed.ensures.reader.none
+    (subst (λ outcome. IfErr outcome (λ fault. new.phase ≡ phases.Refused fault)) e c.feed.ensures.stays)))

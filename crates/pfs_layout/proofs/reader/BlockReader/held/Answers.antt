@@ -6,4 +6,5 @@ use Rattle.pfs_layout.proofs.reader.BlockReader.held.Goals as goal
 
 pub returns-clause-few : goal.returns-clause-few
 returns-clause-few c text s =
-    subst (λ (z : Fields). HoldsFew c.args.self.now.layout c.args.self.now.wanted text z.held) (sym c.self.view_is) (holds_few c.args.self.now text s)
+    subst (λ (z : Fields). HoldsFew c.args.self.now.layout c.args.self.now.wanted text z.held) (sym c.self.view_is)
+    (holds_few c.args.self.now text s)
