@@ -61,7 +61,8 @@ number_rule id least most = record (new_rule id) {
 
 -- `--layout L [--block K] FILE`
 abbrev pub value_form : Names → App
-value_form names = flat_form (codes "value") (layout_rule names (codes "layout") ∷ block_rule ∷ path_rule (codes "file") ∷ [])
+value_form names = flat_form (codes "value") (layout_rule names (codes "layout") ∷ block_rule
+    ∷ path_rule (codes "file") ∷ [])
 
 -- `[--rounds R]`, 0 where it is left out
 abbrev pub rounds_rule : Rule
@@ -81,16 +82,19 @@ passes_rule = option_rule (codes "passes") 0 MOST_PASSES (codes "0" ∷ [])
 
 -- `--layout L [--block K] [--rounds R] [--take D] [--seed S] [--passes P] [--cells] FILE`
 abbrev pub solve_form : Names → App
-solve_form names = flat_form (codes "solve") (layout_rule names (codes "layout") ∷ block_rule ∷ rounds_rule ∷ take_rule ∷ search_seed_rule
+solve_form names = flat_form (codes "solve") (layout_rule names (codes "layout") ∷ block_rule ∷ rounds_rule ∷ take_rule
+    ∷ search_seed_rule
     ∷ passes_rule ∷ flag_rule (codes "cells") ∷ path_rule (codes "file") ∷ [])
 
 -- `--layout L [--block K] FILE ORDER`
 abbrev pub audit_form : Text → Names → App
-audit_form name names = flat_form name (layout_rule names (codes "layout") ∷ block_rule ∷ path_rule (codes "file") ∷ path_rule (codes "order") ∷ [])
+audit_form name names = flat_form name (layout_rule names (codes "layout") ∷ block_rule ∷ path_rule (codes "file")
+    ∷ path_rule (codes "order") ∷ [])
 
 -- `--from L --to L [--block K] FILE`
 abbrev pub convert_form : Names → App
-convert_form names = flat_form (codes "convert") (layout_rule names (codes "from") ∷ layout_rule names (codes "to") ∷ block_rule ∷ path_rule (codes "file") ∷ [])
+convert_form names = flat_form (codes "convert") (layout_rule names (codes "from") ∷ layout_rule names (codes "to")
+    ∷ block_rule ∷ path_rule (codes "file") ∷ [])
 
 -- any number of 64 bits
 abbrev pub seed_rule : Rule
@@ -98,7 +102,8 @@ seed_rule = number_rule (codes "seed") 0 18446744073709551615
 
 -- `N M SEED`
 abbrev pub generate_form : App
-generate_form = flat_form (codes "generate") (number_rule (codes "jobs") 1 MOST_JOBS ∷ number_rule (codes "machines") 1 MOST_MACHINES ∷ seed_rule ∷ [])
+generate_form = flat_form (codes "generate") (number_rule (codes "jobs") 1 MOST_JOBS
+    ∷ number_rule (codes "machines") 1 MOST_MACHINES ∷ seed_rule ∷ [])
 
 -- the form of the command that a word names
 abbrev pub form_of : Names → Text → Option App

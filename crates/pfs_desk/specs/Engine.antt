@@ -1,5 +1,6 @@
 -- What an engine answers and writes. Bytes are those that a reader has left, where they are told.
-use Rattle.std.specs.Prelude.{⊤, ◌≡◌, ◌≢◌, ◌↔◌, ℕ, ◌≤◌, Bool, true, false, List, Option, Some, None, Result, Ok, Err, ◌⊎◌, IfSome}
+use Rattle.std.specs.Prelude.{⊤, ◌≡◌, ◌≢◌, ◌↔◌, ℕ, ◌≤◌, Bool, true, false, List, Option, Some, None, Result, Ok, Err}
+use Rattle.std.specs.Prelude.{◌⊎◌, IfSome}
 use Rattle.std.specs.Io.KnownBytes.{Appends}
 use Rattle.pfs_base.specs.Limits.{limits}
 use Rattle.pfs_base.specs.Problem.{Problem}
@@ -33,7 +34,8 @@ Holds layout file block problem = IfSome file (λ bytes. IsInstanceFile limits l
 
 -- an instance file has this fault in front of the end of the block, unless its reading failed or wanted memory
 abbrev pub RefusesFirst : Layout → Option (List ℕ) → ℕ → LayoutFault → Type 0
-RefusesFirst layout file block fault = fault ≢ layout_faults.Read → fault ≢ layout_faults.Memory → IfSome file (λ bytes. RefusesInstance layout bytes block fault)
+RefusesFirst layout file block fault = fault ≢ layout_faults.Read → fault ≢ layout_faults.Memory
+    → IfSome file (λ bytes. RefusesInstance layout bytes block fault)
 
 -- the instance file is judged first
 abbrev pub JudgesFirst : Layout → Option (List ℕ) → ℕ → DeskFault → Type 0
@@ -56,7 +58,8 @@ States file stated = IfSome file (λ bytes. IsOrderFile bytes stated)
 
 -- a block of the instance file holds a problem, and the order file is refused for this fault, or its
 -- reading failed or wanted memory
-pub record RefusesSecond (layout : Layout) (file : Option (List ℕ)) (block : ℕ) (order_file : Option (List ℕ)) (fault : OrderFault) : Type 0 where
+pub record RefusesSecond (layout : Layout) (file : Option (List ℕ)) (block : ℕ) (order_file : Option (List ℕ))
+    (fault : OrderFault) : Type 0 where
   pub problem : Problem
   pub holds : Holds layout file block problem
   pub refused : IfSome order_file (λ bytes. RefusesUnlessFailed bytes fault)
@@ -89,7 +92,8 @@ RefusesNoSeed result = result ≢ Err (faults.Layout layout_faults.SeedRange)
 
 -- how far the instance file was read
 abbrev pub ReadsFirst : Layout → ℕ → Option (List ℕ) → Option (List ℕ) → Result Outcome DeskFault → Type 0
-ReadsFirst layout block file left result = IfSome file (λ bytes. ReadsAsFar layout block bytes left (layout_fault_of result))
+ReadsFirst layout block file left result = IfSome file
+    (λ bytes. ReadsAsFar layout block bytes left (layout_fault_of result))
 
 -- how far the order file was read: not at all where the instance file has a fault
 abbrev pub ReadsSecond : Option (List ℕ) → Option (List ℕ) → Result Outcome DeskFault → Type 0
@@ -109,7 +113,8 @@ WantsBehindSecond layout file block order_file faults.Memory =
 WantsBehindSecond layout file block order_file others = ⊤
 
 -- a block of the instance file holds a problem with fewer jobs than are to be taken out in a round
-pub record RefusesTake (layout : Layout) (file : Option (List ℕ)) (block : ℕ) (asked : Option ℕ) (fault : DeskFault) : Type 0 where
+pub record RefusesTake (layout : Layout) (file : Option (List ℕ)) (block : ℕ) (asked : Option ℕ) (fault : DeskFault)
+    : Type 0 where
   pub problem : Problem
   pub holds : Holds layout file block problem
   pub above : IsTakeFault asked problem.shop.jobs fault
@@ -122,19 +127,22 @@ pub record AllowsTake (layout : Layout) (file : Option (List ℕ)) (block : ℕ)
 
 -- the take is judged behind the instance file, and before memory is asked for
 abbrev pub JudgesTake : Layout → Option (List ℕ) → ℕ → Option ℕ → DeskFault → Type 0
-JudgesTake layout file block asked (faults.TakeRange take jobs) = RefusesTake layout file block asked (faults.TakeRange take jobs)
+JudgesTake layout file block asked (faults.TakeRange take jobs) = RefusesTake layout file block asked
+    (faults.TakeRange take jobs)
 JudgesTake layout file block asked faults.Memory = AllowsTake layout file block asked
 JudgesTake layout file block asked others = ⊤
 
 -- all of an output went out
-pub record WritesAll (output : Outcome → List ℕ → Type 0) (old new : Option (List ℕ)) (failed : Bool) (outcome : Outcome) : Type 0 where
+pub record WritesAll (output : Outcome → List ℕ → Type 0) (old new : Option (List ℕ)) (failed : Bool)
+    (outcome : Outcome) : Type 0 where
   pub text : List ℕ
   pub is_output : output outcome text
   pub working : failed ≡ false
   pub bytes : Appends old new text
 
 -- the writer has failed, and as many of an output's first bytes went out as its fault says
-pub record WritesFront (output : Outcome → List ℕ → Type 0) (old new : Option (List ℕ)) (failed : Bool) (written : ℕ) : Type 0 where
+pub record WritesFront (output : Outcome → List ℕ → Type 0) (old new : Option (List ℕ)) (failed : Bool) (written : ℕ)
+    : Type 0 where
   pub outcome : Outcome
   pub text : List ℕ
   pub is_output : output outcome text
@@ -146,27 +154,31 @@ pub record WritesNothing (old new : Option (List ℕ)) (failed : Bool) : Type 0 
   pub kept : new ≡ old
 
 -- an engine wrote its output, or a front of it where a write failed, and nothing where it met another fault
-abbrev pub Writes : (Outcome → List ℕ → Type 0) → Option (List ℕ) → Option (List ℕ) → Bool → Result Outcome DeskFault → Type 0
+abbrev pub Writes : (Outcome → List ℕ → Type 0) → Option (List ℕ) → Option (List ℕ) → Bool → Result Outcome DeskFault
+    → Type 0
 Writes output old new failed (Ok outcome) = WritesAll output old new failed outcome
 Writes output old new failed (Err (Write fault)) = WritesFront output old new failed fault.written
 Writes output old new failed (Err others) = WritesNothing old new failed
 
 -- the makespan of the jobs of an instance in the order of their numbers
-pub record ValueOutput (layout : Layout) (file : Option (List ℕ)) (block : ℕ) (outcome : Outcome) (text : List ℕ) : Type 0 where
+pub record ValueOutput (layout : Layout) (file : Option (List ℕ)) (block : ℕ) (outcome : Outcome) (text : List ℕ)
+    : Type 0 where
   pub problem : Problem
   pub holds : Holds layout file block problem
   pub done : outcome ≡ Done
   pub spelled : text ≡ value_text problem.shop
 
 -- what a search finds of an instance
-pub record SolveOutput (layout : Layout) (file : Option (List ℕ)) (block : ℕ) (options : SolveOptions) (outcome : Outcome) (text : List ℕ) : Type 0 where
+pub record SolveOutput (layout : Layout) (file : Option (List ℕ)) (block : ℕ) (options : SolveOptions)
+    (outcome : Outcome) (text : List ℕ) : Type 0 where
   pub problem : Problem
   pub holds : Holds layout file block problem
   pub done : outcome ≡ Done
   pub solution : IsSolution problem.shop options text
 
 -- the block, written as a file of its own in the target layout
-pub record ConvertOutput (source target : Layout) (file : Option (List ℕ)) (block : ℕ) (outcome : Outcome) (text : List ℕ) : Type 0 where
+pub record ConvertOutput (source target : Layout) (file : Option (List ℕ)) (block : ℕ) (outcome : Outcome)
+    (text : List ℕ) : Type 0 where
   pub problem : Problem
   pub holds : Holds source file block problem
   pub done : outcome ≡ Done
@@ -184,7 +196,8 @@ IsGenerateFault (Write fault) = ⊤
 IsGenerateFault others = ⊥
 
 -- the verdict on the order that an order file states for an instance
-pub record CheckOutput (layout : Layout) (file : Option (List ℕ)) (block : ℕ) (order_file : Option (List ℕ)) (outcome : Outcome) (text : List ℕ) : Type 0 where
+pub record CheckOutput (layout : Layout) (file : Option (List ℕ)) (block : ℕ) (order_file : Option (List ℕ))
+    (outcome : Outcome) (text : List ℕ) : Type 0 where
   pub problem : Problem
   pub stated : StatedOrder
   pub holds : Holds layout file block problem
@@ -193,7 +206,8 @@ pub record CheckOutput (layout : Layout) (file : Option (List ℕ)) (block : ℕ
   pub spelled : text ≡ verdict_text (verdict_on problem.shop stated)
 
 -- the time table of the order that an order file states for an instance; the stated makespan isn't compared
-pub record TableOutput (layout : Layout) (file : Option (List ℕ)) (block : ℕ) (order_file : Option (List ℕ)) (outcome : Outcome) (text : List ℕ) : Type 0 where
+pub record TableOutput (layout : Layout) (file : Option (List ℕ)) (block : ℕ) (order_file : Option (List ℕ))
+    (outcome : Outcome) (text : List ℕ) : Type 0 where
   pub problem : Problem
   pub stated : StatedOrder
   pub holds : Holds layout file block problem

@@ -25,7 +25,8 @@ layout_fault_text layout.Memory = with_line_end (codes "pfs: no memory")
 
 -- how many jobs a round is to take out, and how many there are
 abbrev pub take_fault_text : ℕ → ℕ → List ℕ
-take_fault_text take jobs = (codes "pfs: take " ++ decimal take) ++ number_between (codes " exceeds ") jobs (codes " jobs")
+take_fault_text take jobs = (codes "pfs: take " ++ decimal take)
+    ++ number_between (codes " exceeds ") jobs (codes " jobs")
 
 -- offsets count from 0, and places from 1
 abbrev pub order_fault_text : OrderFault → List ℕ

@@ -27,7 +27,8 @@ pub record RunsOn (reader_failed writer_failed : Bool) (result : Result Outcome 
   pub room : result ≢ Err faults.Memory
 
 -- a solution of this problem was written, and nothing else
-pub record PrintsSolution (problem : Problem) (options : SolveOptions) (old new : Option (List ℕ)) (result : Result Outcome DeskFault) : Type 0 where
+pub record PrintsSolution (problem : Problem) (options : SolveOptions) (old new : Option (List ℕ))
+    (result : Result Outcome DeskFault) : Type 0 where
   pub done : result ≡ Ok Done
   pub text : List ℕ
   pub solution : IsSolution problem.shop options text
@@ -38,13 +39,16 @@ pub record TellsFault (fault : DeskFault) (old new : Option (List ℕ)) (result 
   pub told : result ≡ Err fault
   pub kept : new ≡ old
 
-pub record Solves (layout : Layout) (file : List ℕ) (block : ℕ) (options : SolveOptions) (old new : Option (List ℕ)) (reader_failed writer_failed : Bool) (result : Result Outcome DeskFault) : Type 0 where
+pub record Solves (layout : Layout) (file : List ℕ) (block : ℕ) (options : SolveOptions) (old new : Option (List ℕ))
+    (reader_failed writer_failed : Bool) (result : Result Outcome DeskFault) : Type 0 where
   -- of every accepted instance with as many jobs as are to be taken out the solution is printed
-  pub accepted : (problem : Problem) → IsInstanceFile limits layout file block problem → take_for options.take problem.shop.jobs ≤ problem.shop.jobs
+  pub accepted : (problem : Problem) → IsInstanceFile limits layout file block problem
+      → take_for options.take problem.shop.jobs ≤ problem.shop.jobs
       → RunsOn reader_failed writer_failed result → PrintsSolution problem options old new result
   -- every other file is refused by its fault
   pub refused : (fault : LayoutFault) → RefusesInstance layout file block fault
       → ReadsOn reader_failed result → TellsFault (faults.Layout fault) old new result
   -- and so is a take that is asked for, of more jobs than there are
-  pub too_many : (problem : Problem) (asked : ℕ) → IsInstanceFile limits layout file block problem → options.take ≡ Some asked → problem.shop.jobs < asked
+  pub too_many : (problem : Problem) (asked : ℕ) → IsInstanceFile limits layout file block problem
+      → options.take ≡ Some asked → problem.shop.jobs < asked
       → ReadsOn reader_failed result → TellsFault (faults.TakeRange asked problem.shop.jobs) old new result

@@ -1,5 +1,6 @@
 -- What a command line asks for: a word that names a command, and other words.
-use Rattle.std.specs.Prelude.{◌≡◌, ◌≤◌, ◌↔◌, IsTrue, IfSome, ℕ, Bool, false, List, [], Option, Some, None, codes, option_map}
+use Rattle.std.specs.Prelude.{◌≡◌, ◌≤◌, ◌↔◌, IsTrue, IfSome, ℕ, Bool, false, List, [], Option, Some, None, codes}
+use Rattle.std.specs.Prelude.{option_map}
 use Rattle.std.specs.Option.{option_map_or}
 use Rattle.std.specs.Str.Parse.{digits_value, without_leading_plus}
 use Rattle.clap.specs.Words.{App, Row, Text, fault_of, first_of, matches_of, takes}
@@ -11,7 +12,8 @@ use Rattle.pfs_desk.specs.declared.solve_options.TheConstants.{MOST_ROUNDS}
 use Rattle.pfs_desk.specs.declared.solve_options.SolveOptions.{SolveOptions}
 use Rattle.pfs_desk.specs.declared.job.Job.{Job}
 use Rattle.pfs_desk.specs.declared.job.Job.TheVariants as job
-use Rattle.pfs_desk.specs.Commands.{AreLayoutNames, Names, value_form, solve_form, audit_form, convert_form, generate_form, form_of}
+use Rattle.pfs_desk.specs.Commands.{AreLayoutNames, Names, value_form, solve_form, audit_form, convert_form}
+use Rattle.pfs_desk.specs.Commands.{generate_form, form_of}
 
 abbrev pub layout_name : Layout → Text
 layout_name Taillard = codes "taillard"
@@ -50,7 +52,8 @@ pub record AsksForValue (names : Names) (words : List Text) (layout : Layout) (b
   pub block_said : SaysNumber (matches_of (value_form names) words) (codes "block") block
   pub file_said : SaysText (matches_of (value_form names) words) (codes "file") file
 
-pub record AsksForSolve (names : Names) (words : List Text) (layout : Layout) (block : ℕ) (options : SolveOptions) (file : Text) : Type 0 where
+pub record AsksForSolve (names : Names) (words : List Text) (layout : Layout) (block : ℕ) (options : SolveOptions)
+    (file : Text) : Type 0 where
   pub faultless : IsFaultless (solve_form names) words
   pub layout_said : SaysLayout (matches_of (solve_form names) words) (codes "layout") layout
   pub block_said : SaysNumber (matches_of (solve_form names) words) (codes "block") block
@@ -62,14 +65,16 @@ pub record AsksForSolve (names : Names) (words : List Text) (layout : Layout) (b
   pub file_said : SaysText (matches_of (solve_form names) words) (codes "file") file
 
 -- the same of a command with an order file
-pub record AsksForAudit (name : Text) (names : Names) (words : List Text) (layout : Layout) (block : ℕ) (file order_file : Text) : Type 0 where
+pub record AsksForAudit (name : Text) (names : Names) (words : List Text) (layout : Layout) (block : ℕ)
+    (file order_file : Text) : Type 0 where
   pub faultless : IsFaultless (audit_form name names) words
   pub layout_said : SaysLayout (matches_of (audit_form name names) words) (codes "layout") layout
   pub block_said : SaysNumber (matches_of (audit_form name names) words) (codes "block") block
   pub file_said : SaysText (matches_of (audit_form name names) words) (codes "file") file
   pub order_said : SaysText (matches_of (audit_form name names) words) (codes "order") order_file
 
-pub record AsksForConvert (names : Names) (words : List Text) (source target : Layout) (block : ℕ) (file : Text) : Type 0 where
+pub record AsksForConvert (names : Names) (words : List Text) (source target : Layout) (block : ℕ) (file : Text)
+    : Type 0 where
   pub faultless : IsFaultless (convert_form names) words
   pub source_said : SaysLayout (matches_of (convert_form names) words) (codes "from") source
   pub target_said : SaysLayout (matches_of (convert_form names) words) (codes "to") target
@@ -85,19 +90,26 @@ pub record AsksForGenerate (words : List Text) (jobs machines seed : ℕ) : Type
 -- the word names the job's command, and the other words ask for its values
 abbrev pub AsksForJob : Names → Text → List Text → Job → Type 0
 AsksForJob names word words (job.Value layout block None) = ⊥
-AsksForJob names word words (job.Value layout block (Some file)) = (word ≡ codes "value") × AsksForValue names words layout block file
-AsksForJob names word words (job.Solve layout block options file) = (word ≡ codes "solve") × AsksForSolve names words layout block options file
-AsksForJob names word words (job.Check layout block file order_file) = (word ≡ codes "check") × AsksForAudit (codes "check") names words layout block file order_file
-AsksForJob names word words (job.Table layout block file order_file) = (word ≡ codes "table") × AsksForAudit (codes "table") names words layout block file order_file
-AsksForJob names word words (job.Convert source target block file) = (word ≡ codes "convert") × AsksForConvert names words source target block file
-AsksForJob names word words (job.Generate jobs machines seed) = (word ≡ codes "generate") × AsksForGenerate words jobs machines seed
+AsksForJob names word words (job.Value layout block (Some file)) = (word ≡ codes "value")
+    × AsksForValue names words layout block file
+AsksForJob names word words (job.Solve layout block options file) = (word ≡ codes "solve")
+    × AsksForSolve names words layout block options file
+AsksForJob names word words (job.Check layout block file order_file) = (word ≡ codes "check")
+    × AsksForAudit (codes "check") names words layout block file order_file
+AsksForJob names word words (job.Table layout block file order_file) = (word ≡ codes "table")
+    × AsksForAudit (codes "table") names words layout block file order_file
+AsksForJob names word words (job.Convert source target block file) = (word ≡ codes "convert")
+    × AsksForConvert names words source target block file
+AsksForJob names word words (job.Generate jobs machines seed) = (word ≡ codes "generate")
+    × AsksForGenerate words jobs machines seed
 
 abbrev pub IsFrom1To : ℕ → ℕ → Type 0
 IsFrom1To most number = (1 ≤ number) × (number ≤ most)
 
 -- what a search is asked for is within the limits
 abbrev pub AreOptions : SolveOptions → Type 0
-AreOptions options = (options.rounds ≤ MOST_ROUNDS) × IfSome options.take (IsFrom1To MOST_JOBS) × (options.passes ≤ MOST_PASSES)
+AreOptions options = (options.rounds ≤ MOST_ROUNDS) × IfSome options.take (IsFrom1To MOST_JOBS)
+    × (options.passes ≤ MOST_PASSES)
 
 -- a job's numbers are within the limits; a generator's seed may be out of its own
 abbrev pub IsWithinLimits : Job → Type 0
@@ -122,4 +134,5 @@ AsksFor word words job = (names : Names) × AreLayoutNames names × AsksForJob n
 
 -- a command line that no command takes, and in which clap's definition finds a fault, or no command
 unfoldable pub AsksForNothing : Text → List Text → Type 0
-AsksForNothing word words = (names : Names) × AreLayoutNames names × (takes_line names word words ≡ false) × ¬ (IsFaultlessLine names word words)
+AsksForNothing word words = (names : Names) × AreLayoutNames names × (takes_line names word words ≡ false)
+    × ¬ (IsFaultlessLine names word words)

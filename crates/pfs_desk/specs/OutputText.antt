@@ -20,7 +20,8 @@ value_text shop = named_number (codes "makespan") (makespan shop (all_jobs shop.
 
 -- a title, and two numbers by their names
 abbrev pub finding : List ℕ → List ℕ → ℕ → List ℕ → ℕ → List ℕ
-finding title name number other_name other_number = with_line_end title ++ named_number name number ++ named_number other_name other_number
+finding title name number other_name other_number = with_line_end title ++ named_number name number
+    ++ named_number other_name other_number
 
 -- optimal exactly where the makespan is the bound
 unfoldable pub valid_text : ℕ → ℕ → List ℕ
@@ -37,7 +38,8 @@ abbrev pub verdict_text : Verdict → List ℕ
 verdict_text (Valid makespan bound) = valid_text makespan bound
 verdict_text (WrongSize order jobs) = wrong_size_text order jobs
 verdict_text (WrongMachines order machines) = wrong_machines_text order machines
-verdict_text (WrongMakespan stated computed) = finding (codes "wrong makespan") (codes "stated") stated (codes "computed") computed
+verdict_text (WrongMakespan stated computed) = finding (codes "wrong makespan") (codes "stated") stated
+    (codes "computed") computed
 
 -- a check fails exactly where the size, the number of machines or the makespan is wrong
 abbrev pub outcome_of : Verdict → Outcome
@@ -48,7 +50,8 @@ outcome_of (WrongMakespan stated computed) = CheckFailed
 
 -- the job at a row, counted from 1, and its starts and ends, machine by machine
 unfoldable pub row_text : Timing → ℕ → List ℕ
-row_text timing row = with_line_end (spaced ((slice_index timing.jobs row + 1) ∷ flat_map (λ machine. start_in timing row machine ∷ end_in timing row machine ∷ []) (below timing.machines)))
+row_text timing row = with_line_end (spaced ((slice_index timing.jobs row + 1)
+    ∷ flat_map (λ machine. start_in timing row machine ∷ end_in timing row machine ∷ []) (below timing.machines)))
 
 -- the sizes of a time table, its rows, and when it ends
 unfoldable pub table_text : Timing → List ℕ
@@ -60,7 +63,8 @@ pub record IsLeastTable (shop : FlowShop) (order : List ℕ) (timing : Timing) :
   pub jobs : timing.jobs ≡ order
   pub machines : timing.machines ≡ shop.machines
   pub earliest : IsLeastSchedule shop order (start_in timing)
-  pub ends : (row machine : ℕ) → row < length order → machine < shop.machines → end_in timing row machine ≡ end_of shop order (start_in timing) row machine
+  pub ends : (row machine : ℕ) → row < length order → machine < shop.machines
+      → end_in timing row machine ≡ end_of shop order (start_in timing) row machine
   pub makespan : last_end timing ≡ makespan shop order
 
 -- the table of an order that fits, or that the order has a wrong size, or else that wrong machines are stated for it

@@ -24,11 +24,13 @@ abbrev pub HasLayout : ArgMatches → Text → Type 0
 HasLayout matches id = (layout : Layout) × SaysLayout (rows_of (found_of matches)) id layout
 
 abbrev pub HasNumber : ArgMatches → Text → Type 0
-HasNumber matches id = (text : Text) × (first_of id (rows_of (found_of matches)) ≡ Some text) × IsUnsignedIn 0 18446744073709551615 text
+HasNumber matches id = (text : Text) × (first_of id (rows_of (found_of matches)) ≡ Some text)
+    × IsUnsignedIn 0 18446744073709551615 text
 
 -- a number of 64 bits, if anything stands under the id
 abbrev pub MayHaveNumber : ArgMatches → Text → Type 0
-MayHaveNumber matches id = (text : Text) → first_of id (rows_of (found_of matches)) ≡ Some text → IsUnsignedIn 0 18446744073709551615 text
+MayHaveNumber matches id = (text : Text) → first_of id (rows_of (found_of matches)) ≡ Some text
+    → IsUnsignedIn 0 18446744073709551615 text
 
 -- the word names a command with an order file
 abbrev pub IsAudit : Text → Type 0

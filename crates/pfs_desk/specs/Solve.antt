@@ -1,5 +1,6 @@
 -- What `solve` computes, counts and prints.
-use Rattle.std.specs.Prelude.{◌≡◌, ℕ, ◌+◌, ◌-◌, ◌*◌, ◌<◌, ◌≤◌, min, Bool, List, [], ◌++◌, length, Option, Some, None, if◌then◌else◌, codes}
+use Rattle.std.specs.Prelude.{◌≡◌, ℕ, ◌+◌, ◌-◌, ◌*◌, ◌<◌, ◌≤◌, min, Bool, List, [], ◌++◌, length, Option, Some, None}
+use Rattle.std.specs.Prelude.{if◌then◌else◌, codes}
 use Rattle.rand_core.specs.Pcg32Seed.{pcg32_seed}
 use Rattle.rand_core.specs.Steps.{first_words}
 use Rattle.rand_pcg.specs.Pcg.{pcg32, pcg32_of_seed}
@@ -27,7 +28,8 @@ words_for seed count = first_words pcg32 count (pcg32_of_seed (pcg32_seed 16 see
 -- NEH's order followed by so many rounds, each of which takes so many jobs out by the next so many words of the seed,
 -- and makes so many passes
 abbrev pub searched : FlowShop → ℕ → ℕ → ℕ → ℕ → List ℕ
-searched shop rounds many passes seed = after_rounds shop passes rounds many (neh_order shop) (words_for seed (rounds * many))
+searched shop rounds many passes seed = after_rounds shop passes rounds many (neh_order shop)
+    (words_for seed (rounds * many))
 
 -- the cells of NEH: 2mn² for n jobs on m machines
 abbrev pub neh_cells : FlowShop → ℕ
@@ -36,7 +38,8 @@ neh_cells shop = 2 * shop.machines * (shop.jobs * shop.jobs)
 -- the cells of R rounds that each take d jobs out and make L passes: 2Rdm(2n - d) + RLnm(4n - 2)
 abbrev pub rounds_cells : FlowShop → ℕ → ℕ → ℕ → ℕ
 rounds_cells shop rounds many passes =
-    rounds * (2 * many * shop.machines * (2 * shop.jobs - many)) + rounds * (passes * shop.jobs * shop.machines * (4 * shop.jobs - 2))
+    rounds * (2 * many * shop.machines * (2 * shop.jobs - many))
+    + rounds * (passes * shop.jobs * shop.machines * (4 * shop.jobs - 2))
 
 -- an order and its makespan as an order file that states the machines too, and behind it, where that is asked for, a
 -- count of cells
@@ -56,7 +59,8 @@ pub record IsFound (shop : FlowShop) (rounds many passes seed : ℕ) (order : Li
   pub no_longer : span ≤ makespan shop (neh_order shop)
   -- the cells are those of NEH and those of the rounds, and these are at most R(d + Ln)m(4n - 2)
   pub counted : cells ≡ neh_cells shop + rounds_cells shop rounds many passes
-  pub few_cells : rounds_cells shop rounds many passes ≤ rounds * (many + passes * shop.jobs) * shop.machines * (4 * shop.jobs - 2)
+  pub few_cells : rounds_cells shop rounds many passes ≤ rounds * (many + passes * shop.jobs) * shop.machines
+      * (4 * shop.jobs - 2)
 
 -- more jobs are asked for than there are, and the fault tells both numbers
 abbrev pub IsTakeFault : Option ℕ → ℕ → DeskFault → Type 0

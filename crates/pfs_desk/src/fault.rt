@@ -3,7 +3,8 @@ ghost use Rattle.std.specs.Prelude.{◌≡◌, ◌<◌, false, length, codes};
 ghost use Rattle.pfs_base.specs.Sends.{Sends, Prints};
 ghost use Rattle.pfs_base.specs.Text.{number_between};
 ghost use Rattle.pfs_desk.specs.declared.fault.DeskFault.TheVariants.{Layout, Order, Write, Memory};
-ghost use Rattle.pfs_desk.specs.FaultText.{fault_text, layout_fault_text, order_fault_text, take_fault_text, status_of, layout_status_of, order_status_of};
+ghost use Rattle.pfs_desk.specs.FaultText.{fault_text, layout_fault_text, order_fault_text, take_fault_text, status_of};
+ghost use Rattle.pfs_desk.specs.FaultText.{layout_status_of, order_status_of};
 
 use pfs_audit::AuditFault;
 use pfs_base::print::{put_between, put_line, put_named, put_number};

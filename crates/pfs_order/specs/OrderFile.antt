@@ -1,6 +1,7 @@
 -- Which inputs are order files, and how the others are refused. Job numbers count from 1 in a file, and so
 -- do places.
-use Rattle.std.specs.Prelude.{◌≡◌, ◌≢◌, ⊤, ℕ, ◌+◌, ◌<◌, ◌≤◌, ◌^◌, List, [], ◌++◌, length, map, take, slice_index, ◌⊎◌, Option, Some, Result, Err}
+use Rattle.std.specs.Prelude.{◌≡◌, ◌≢◌, ⊤, ℕ, ◌+◌, ◌<◌, ◌≤◌, ◌^◌, List, [], ◌++◌, length, map, take, slice_index, ◌⊎◌}
+use Rattle.std.specs.Prelude.{Option, Some, Result, Err}
 use Rattle.std.specs.List.{All, Contains}
 use Rattle.pfs_base.specs.declared.limits.TheConstants.{MOST_JOBS, LONGEST_ORDER_FILE}
 use Rattle.pfs_order.specs.declared.fault.OrderFault.{OrderFault}
@@ -53,7 +54,8 @@ pub record AreRightBefore (jobs : List ℕ) (i : ℕ) : Type 0 where
 -- the fault of the first wrong job; out of range is told before repeated
 abbrev pub IsJobFault : List ℕ → OrderFault → Type 0
 IsJobFault jobs (JobRange place) = (i : ℕ) × ((place ≡ i + 1) × AreRightBefore jobs i × ¬ IsJob jobs i)
-IsJobFault jobs (Repeated place) = (i : ℕ) × ((place ≡ i + 1) × AreRightBefore jobs i × IsJob jobs i × IsRepeated jobs i)
+IsJobFault jobs (Repeated place) = (i : ℕ) × ((place ≡ i + 1) × AreRightBefore jobs i × IsJob jobs i
+    × IsRepeated jobs i)
 IsJobFault jobs _ = ⊥
 
 -- the input is a text of the grammar whose jobs have this fault

@@ -22,7 +22,8 @@ OnlyWritten = (input : List ℕ) (file : StatedOrder) → IsOrderFile input file
 
 -- an input states at most one order, one makespan, and one number of machines or none
 abbrev pub OneOrderFile : Type 0
-OneOrderFile = (input : List ℕ) (one other : StatedOrder) → IsOrderFile input one → IsOrderFile input other → one ≡ other
+OneOrderFile = (input : List ℕ) (one other : StatedOrder) → IsOrderFile input one → IsOrderFile input other
+    → one ≡ other
 
 -- an input is refused in at most one way
 abbrev pub OneRefusal : Type 0
@@ -30,7 +31,8 @@ OneRefusal = (input : List ℕ) (one other : OrderFault) → RefusesOrder input 
 
 -- no order file is refused
 abbrev pub NoneIsBoth : Type 0
-NoneIsBoth = (input : List ℕ) (file : StatedOrder) (fault : OrderFault) → IsOrderFile input file → ¬ RefusesOrder input fault
+NoneIsBoth = (input : List ℕ) (file : StatedOrder) (fault : OrderFault) → IsOrderFile input file
+    → ¬ RefusesOrder input fault
 
 -- every text of the grammar is within the limit
 abbrev pub TextsFit : Type 0
@@ -42,7 +44,8 @@ CutText = (text : List ℕ) (cut : ℕ) → IsText text → cut < length text �
 
 -- a text of the grammar with more behind it is refused where it ended
 abbrev pub LongerText : Type 0
-LongerText = (text : List ℕ) (byte : ℕ) (more : List ℕ) → IsText text → IsSyntaxFault (text ++ byte ∷ more) (length text)
+LongerText = (text : List ℕ) (byte : ℕ) (more : List ℕ) → IsText text
+    → IsSyntaxFault (text ++ byte ∷ more) (length text)
 
 -- each input is a text of the grammar or has a fault of syntax
 abbrev pub TextOrFault : Type 0
@@ -50,7 +53,8 @@ TextOrFault = (input : List ℕ) → IsText input ⊎ ((offset : ℕ) × IsSynta
 
 -- each input is an order file or is refused; by the laws above, in one way
 abbrev pub SomeVerdict : Type 0
-SomeVerdict = (input : List ℕ) → ((file : StatedOrder) × IsOrderFile input file) ⊎ ((fault : OrderFault) × RefusesOrder input fault)
+SomeVerdict = (input : List ℕ) → ((file : StatedOrder) × IsOrderFile input file)
+    ⊎ ((fault : OrderFault) × RefusesOrder input fault)
 
 -- the order files of version 1 are those that state no machines, with the same order and makespan
 abbrev pub VersionOneIsRead : Type 0

@@ -1,5 +1,6 @@
 -- The pieces that an order file is made of, and how far a text is made of them.
-use Rattle.std.specs.Prelude.{◌≡◌, ⊤, ℕ, ◌+◌, ◌-◌, ◌<◌, ◌≤◌, ◌^◌, List, [], ◌∷◌, ◌++◌, length, drop, decimal, codes, Option, Some, None}
+use Rattle.std.specs.Prelude.{◌≡◌, ⊤, ℕ, ◌+◌, ◌-◌, ◌<◌, ◌≤◌, ◌^◌, List, [], ◌∷◌, ◌++◌, length, drop, decimal, codes}
+use Rattle.std.specs.Prelude.{Option, Some, None}
 use Rattle.std.specs.List.{All, Contains}
 use Rattle.std.specs.Io.KnownBytes.{Consumes}
 use Rattle.pfs_base.specs.declared.limits.TheConstants.{MOST_JOBS}
@@ -77,7 +78,8 @@ HasJobs count machines text at = (jobs : List ℕ)
 -- why a job number, which counts from 1, can't follow those of a sequence
 abbrev pub RefusesJob : Sequence → ℕ → OrderFault → Type 0
 RefusesJob seq number (JobRange place) = (place ≡ length seq.jobs + 1) × ¬ ((1 ≤ number) × (number ≤ seq.size))
-RefusesJob seq number (Repeated place) = (place ≡ length seq.jobs + 1) × (1 ≤ number) × (number ≤ seq.size) × Contains seq.jobs (number - 1)
+RefusesJob seq number (Repeated place) = (place ≡ length seq.jobs + 1) × (1 ≤ number) × (number ≤ seq.size)
+    × Contains seq.jobs (number - 1)
 RefusesJob seq number _ = ⊥
 
 -- what a refusal says of a text of the grammar; want of memory says nothing of it

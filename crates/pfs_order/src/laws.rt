@@ -1,5 +1,6 @@
 //! Laws about the definitions alone.
-ghost use Rattle.pfs_order.specs.OrderLaws.{WrittenIsRead, OnlyWritten, OneOrderFile, OneRefusal, NoneIsBoth, TextsFit, CutText, LongerText, TextOrFault, SomeVerdict};
+ghost use Rattle.pfs_order.specs.OrderLaws.{WrittenIsRead, OnlyWritten, OneOrderFile, OneRefusal, NoneIsBoth, TextsFit};
+ghost use Rattle.pfs_order.specs.OrderLaws.{CutText, LongerText, TextOrFault, SomeVerdict};
 ghost use Rattle.pfs_order.specs.OrderLaws.{VersionOneIsRead};
 
 /// What is written of an order and a makespan is their order file.

@@ -1,8 +1,10 @@
 //! Reading an order file.
-ghost use Rattle.std.specs.Prelude.{◌≡◌, ℕ, ◌+◌, ◌-◌, ◌<◌, ◌≤◌, true, false, List, [], ◌∷◌, ◌++◌, length, map, take, drop, Contains, IfOk, IfErr, IfSome, OnOk, OnErr, Option};
+ghost use Rattle.std.specs.Prelude.{◌≡◌, ℕ, ◌+◌, ◌-◌, ◌<◌, ◌≤◌, true, false, List, [], ◌∷◌, ◌++◌, length, map, take};
+ghost use Rattle.std.specs.Prelude.{drop, Contains, IfOk, IfErr, IfSome, OnOk, OnErr, Option};
 ghost use Rattle.std.specs.Io.KnownBytes.{Consumes, IsAtEnd};
 ghost use Rattle.std.specs.Result.{result_err};
-ghost use Rattle.pfs_order.specs.OrderFile.{HasText, IsText, IsOrderFile, RefusesOrder, RefusesUnlessFailed, IsUnlessFailed, ReadsOrderAsFar};
+ghost use Rattle.pfs_order.specs.OrderFile.{HasText, IsText, IsOrderFile, RefusesOrder, RefusesUnlessFailed};
+ghost use Rattle.pfs_order.specs.OrderFile.{IsUnlessFailed, ReadsOrderAsFar};
 ghost use Rattle.pfs_order.specs.Pieces.{SaysSyntax, HasJobs, RefusesJob, RefusesJobs, JudgesText, FillsBelow};
 ghost use Rattle.pfs_order.specs.Pieces.{IsHead, opening, counted};
 ghost use Rattle.pfs_order.specs.Sequence.{IsSequence, StatedOrder};

@@ -1,5 +1,6 @@
 //! Sequences of distinct jobs.
-ghost use Rattle.std.specs.Prelude.{◌≡◌, ℕ, ◌<◌, ◌≤◌, ◌↔◌, List, [], length, Contains, IsTrue, IfOk, IfErr, slice_index, insert, remove, vec_len, vec_capacity};
+ghost use Rattle.std.specs.Prelude.{◌≡◌, ℕ, ◌<◌, ◌≤◌, ◌↔◌, List, [], length, Contains, IsTrue, IfOk, IfErr};
+ghost use Rattle.std.specs.Prelude.{slice_index, insert, remove, vec_len, vec_capacity};
 ghost use Rattle.pfs_base.specs.Limits.{limits};
 ghost use Rattle.pfs_order.specs.Sequence.{IsSequence, IsSize};
 
