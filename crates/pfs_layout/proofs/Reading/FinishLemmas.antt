@@ -31,7 +31,7 @@ use Rattle.pfs_layout.specs.Step.{stated_by, times_in, end_fault_in, end_fault}
 use Rattle.pfs_layout.specs.Reader.{FollowsBody, FollowsBlocks}
 use Rattle.pfs_layout.proofs.Reading.TableLemmas.{length-times_among}
 use Rattle.pfs_layout.proofs.Reading.NumberSteps.{keeping_of}
-use Rattle.pfs_layout.proofs.Reading.LineSteps.{Clips, clips, same_within, full_or_not, no_times}
+use Rattle.pfs_layout.proofs.Reading.LineSteps.{Clips, clips, same_within, full_or_not, no_times, no_word}
 use Rattle.pfs_layout.proofs.Reading.EndSteps.{number_fault}
 
 -- ---- where all lines lead
@@ -192,11 +192,6 @@ sought_told r complete line kinds place f phase at same =
     same
     ∙ by_kind (is_number_line line) refl
   where
-    no_word : (a b : Bool) → (a && not b) ≡ true → b ≡ false
-    no_word true true e = cc
-    no_word true false e = refl
-    no_word false b e = cc
-
     by_kind : (t : Bool) → is_number_line line ≡ t
         → (if t then option_or (size_fault (stated_by r.layout r.size_line) r.line) (Some (Truncated 0))
         else Some (NoBlock r.complete))

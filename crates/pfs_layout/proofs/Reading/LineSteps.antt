@@ -270,6 +270,12 @@ size_step (Some size) r complete more kept line clips count few held =
         (sym (clipped_is size e)) (begun_follows r complete size more count few e held)
     by_within false e = record { phase = refl; held = refl; layout = refl; wanted = refl }
 
+-- a line of numbers has no word byte
+pub no_word : (digit word : Bool) → (digit && not word) ≡ true → word ≡ false
+no_word true true e = cc
+no_word true false e = refl
+no_word false word e = cc
+
 -- a line behind which the next block is sought
 pub sought_line : (r : Blocks) (complete : List Block) (line : List ℕ) (numbered : Bool)
     → FollowsBlocks (list_any is_word_byte line) r (standing complete seeking) (numbers line)
@@ -291,11 +297,6 @@ sought_line r complete line numbered f phase few same = by_kind (is_number_line 
     next =
         ap (λ p. line_ended_in p r numbered) phase
         ∙ ap (λ t. if t then size_line_ended (at_next_line r) r.size_line r.line else at_next_line r) same
-
-    no_word : (a b : Bool) → (a && not b) ≡ true → b ≡ false
-    no_word true true e = cc
-    no_word true false e = refl
-    no_word false b e = cc
 
     claim : (t : Bool) → is_number_line line ≡ t → Claim t
     claim true e =
