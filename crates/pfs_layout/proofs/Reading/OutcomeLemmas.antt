@@ -41,6 +41,7 @@ use Rattle.pfs_layout.proofs.Reading.FeedLemmas.{refused_fault, done_enough}
 use Rattle.pfs_layout.proofs.Reading.FinishLemmas.{stand_lines, sought_fault, sought_end, sought_told, begun_end}
 use Rattle.pfs_layout.proofs.Reading.FinishLemmas.{BegunEnd, begun_told}
 use Rattle.pfs_layout.proofs.Reading.ReadNames.{same_error, same_some}
+use Rattle.pfs_layout.proofs.Reading.BegunLemmas.{follows_body}
 
 -- what the end of the input is for a reader that has met no fault at a byte
 pub record EndOutcome (r : Fields) (text : List ℕ) : Type 0 where
@@ -153,7 +154,7 @@ live_end r text f live = by_now (stand_of r.layout text).now refl
 
         short : length block.numbers < due_count r.layout block.size
         short =
-            let b = (blocks_at (inside block) e).now.3 in
+            let b = follows_body (blocks_at (inside block) e) in
             let few = b.few in
             let other : length block.numbers ≢ due_count r.layout block.size = begun.short in
             omega (arith, b.due, b.judged)

@@ -46,6 +46,7 @@ use Rattle.pfs_layout.proofs.Reading.ByteSteps.{fault_within_limit, place_fault,
 use Rattle.pfs_layout.proofs.Reading.ByteSteps.{judged}
 use Rattle.pfs_layout.proofs.Reading.ByteSteps.{judged_digit, judged_word, judged_blank}
 use Rattle.pfs_layout.proofs.Reading.EndSteps.{word_byte, blank_byte, end_byte}
+use Rattle.pfs_layout.proofs.Reading.BegunLemmas.{follows_body, size_fits, few_complete}
 
 -- ---- what a byte leaves as it is
 
@@ -380,10 +381,10 @@ begun_ready : (has_word : Bool) (r : Blocks) (complete : List Block) (block : Bl
 begun_ready has_word r complete block more f e = by_due (nat_lt r.body.judged r.body.due) refl f.now.0
   where
     body : FollowsBody r.layout block.size (length block.numbers + length more) r.body
-    body = f.now.3
+    body = follows_body f
 
     least : length complete < r.wanted
-    least = omega (arith, f.complete, f.now.1)
+    least = omega (arith, f.complete, few_complete f)
 
     kept : Keeping r.layout (length complete + 1 == r.wanted)
         (record { size = block.size; numbers = block.numbers ++ more }) r.instance r.held
@@ -421,7 +422,7 @@ begun_ready has_word r complete block more f e = by_due (nat_lt r.body.judged r.
         → CanCount r
     by_due true t p =
         let held = few (length complete + 1 == r.wanted) kept.held in
-        let due = due_few r.layout block.size f.now.2 in
+        let due = due_few r.layout block.size (size_fits f) in
         let less = ltb-true r.body.judged r.body.due t in
         record {
           place = record { judged = less; job = body.job; machine = body.machine };
