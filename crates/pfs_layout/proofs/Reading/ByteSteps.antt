@@ -31,7 +31,7 @@ use Rattle.pfs_layout.specs.Step.{number_of, blank_event, mixed_if, event_of, bl
 use Rattle.pfs_layout.specs.Reader.{FollowsLine, FollowsNow, FollowsBlocks}
 use Rattle.pfs_layout.proofs.Files.SoundLemmas.{GoodNow}
 use Rattle.pfs_layout.proofs.Reading.LineSteps.{Refuses}
-use Rattle.pfs_layout.proofs.Reading.ScanLemmas.{digit-no_line_end, digit_is}
+use Rattle.pfs_layout.proofs.Reading.ScanLemmas.{digit-no_line_end, digit_is, or_nothing}
 
 -- ---- the fault of a place
 
@@ -142,11 +142,6 @@ mixed_is text b unmixed =
     ∙ ap (λ t. then_some ((list_any is_digit (open_line text) || is_digit b) && t) (MixedLine (length text)))
     (list_any-append is_word_byte (open_line text) (b ∷ [])
     ∙ or_nothing (list_any is_word_byte (open_line text)) (is_word_byte b))
-  where
-    or_nothing : (x y : Bool) → (x || (y || false)) ≡ (x || y)
-    or_nothing true y = refl
-    or_nothing false true = refl
-    or_nothing false false = refl
 
 -- a digit behind words
 mixed_digit : (text : List ℕ) (b : ℕ) → is_mixed (open_line text) ≡ false → is_digit b ≡ true

@@ -7,7 +7,7 @@ use Rattle.std.specs.List.{list_any}
 use Rattle.std.specs.Bool.{then_some}
 use Rattle.std.specs.Option.{option_or}
 use Rattle.std.specs.Str.Parse.{digits_value}
-use Rattle.std.proofs.lemmas.Bool.{eqb-true, eqb-false, eq-eqb, ne_eqb}
+use Rattle.std.proofs.lemmas.Bool.{eqb-true, eqb-false, eq-eqb, ne_eqb, or_parts, or_right}
 use Rattle.std.proofs.lemmas.List.{append_assoc, append-nil, length-append, length_push}
 use Rattle.pfs_base.specs.Lists.{is_empty}
 use Rattle.pfs_base.proofs.Published.Lists.{by_push}
@@ -89,15 +89,11 @@ word_byte r last text b complete seeking digit other live line f good =
     judged_word r last b digit other
     ∙ ap (λ t. if t then refused r (MixedLine last.digits.offset) else r)
     (and_false_is last.kinds.has_digit (is_in_block r.phase) (ap is_in_block phase)) in
-    let fine = sought_fine r.layout text b (right_of (is_blank b) (is_line_end b) other) in
+    let fine = sought_fine r.layout text b (or_parts (is_blank b) (is_line_end b) other).1 in
     subst (λ o. ByteOutcome r true (standing complete seeking) (numbers (open_line text)) (judged r last b) o)
     (sym fine)
     (subst (λ z. FollowsBlocks true z (standing complete seeking) (numbers (open_line text))) (sym next)
     (record { complete = f.complete; now = (f.now.0, λ e. absurd (cc)); instance = f.instance; held = f.held }))
-  where
-    right_of : (x y : Bool) → (x || y) ≡ false → y ≡ false
-    right_of true y e = cc
-    right_of false y e = e
 word_byte r last text b complete (inside block) digit other live line f good =
     by_digit (list_any is_digit (open_line text)) refl
   where
@@ -423,14 +419,10 @@ end_byte r last text b complete seeking digit end live five lines line f good =
   where
     next : judged r last b ≡ line_ended (last_number_ended r (number_of last.digits)) (has_numbers_alone last.kinds)
     next =
-        judged_blank r last b digit (or_true (is_blank b) (is_line_end b) end)
+        judged_blank r last b digit (or_right (is_blank b) (is_line_end b) end)
         ∙ ap (λ t. if t then line_ended (last_number_ended r (number_of last.digits)) (has_numbers_alone last.kinds)
         else last_number_ended r (number_of last.digits))
         end
-      where
-        or_true : (x y : Bool) → y ≡ true → (x || y) ≡ true
-        or_true true y e = refl
-        or_true false y e = e
 
     by_fault : (fault : Option LayoutFault) → Keeps r (last_number_ended r (number_of last.digits))
         → (last_number_ended r (number_of last.digits)).held ≡ r.held
@@ -457,11 +449,7 @@ end_byte r last text b complete (inside block) digit end live five lines line f 
     (number_part (list_any is_word_byte (open_line text)) r last text complete (inside block) live five line f)))
   where
     blank : (is_blank b || is_line_end b) ≡ true
-    blank = or_true (is_blank b) (is_line_end b) end
-      where
-        or_true : (x y : Bool) → y ≡ true → (x || y) ≡ true
-        or_true true y e = refl
-        or_true false y e = e
+    blank = or_right (is_blank b) (is_line_end b) end
 
     next : judged r last b ≡ line_ended (last_number_ended r (number_of last.digits)) (has_numbers_alone last.kinds)
     next =

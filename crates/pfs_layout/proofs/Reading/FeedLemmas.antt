@@ -2,7 +2,7 @@
 use Rattle.std.proofs.Common.{◌≡◌, ◌≢◌, ℕ, ◌+◌, ◌-◌, ◌<◌, ◌≤◌, Bool, true, false, not, ◌&&◌, ◌||◌, List, [], ◌∷◌, ◌++◌}
 use Rattle.std.proofs.Common.{length, take, drop, get_or, count_by, refl, sym, ◌∙◌, ap, subst, arith, add-one, min}
 use Rattle.std.proofs.Common.{Option, Some, None, if◌then◌else◌, ◌==◌, nat_lt}
-use Rattle.std.specs.Prelude.{Result, Ok, Err}
+use Rattle.std.specs.Prelude.{Ok, Err}
 use Rattle.std.specs.List.{list_any}
 use Rattle.std.specs.Bool.{then_some}
 use Rattle.std.specs.Option.{option_or}
@@ -20,7 +20,6 @@ use Rattle.pfs_layout.specs.declared.fault.LayoutFault.TheVariants.{TooLong, Mem
 use Rattle.pfs_layout.specs.declared.fields.Phase.{Phase}
 use Rattle.pfs_layout.specs.declared.fields.Phase.TheVariants as phases
 use Rattle.pfs_layout.specs.declared.fields.Blocks.{Blocks}
-use Rattle.pfs_layout.specs.declared.fields.Progress.{Progress}
 use Rattle.pfs_layout.specs.Bytes.{is_blank, is_line_end, is_word_byte}
 use Rattle.pfs_layout.specs.Lines.{ended_lines, open_line, is_mixed, is_number_line, numbers, ended_numbers}
 use Rattle.pfs_layout.specs.Lines.{last_digits}
@@ -39,6 +38,7 @@ use Rattle.pfs_layout.proofs.Files.EndLemmas.{byte_fault-more}
 use Rattle.pfs_layout.proofs.Reading.StepLemmas.{live-memory}
 use Rattle.pfs_layout.proofs.Reading.ByteSteps.{live_few}
 use Rattle.pfs_layout.proofs.Reading.ReaderLemmas.{live_follows}
+use Rattle.pfs_layout.proofs.Reading.ReadNames.{same_error, same_some}
 
 -- ---- no byte has the fault of want of memory
 
@@ -46,10 +46,7 @@ abbrev NoMemory : Option LayoutFault → Type 0
 NoMemory o = o ≡ Some Memory → ⊥
 
 no_memory_if : (test : Bool) (fault : LayoutFault) → fault ≢ Memory → NoMemory (then_some test fault)
-no_memory_if true fault other e = other (same_fault e)
-  where
-    same_fault : {a b : LayoutFault} → ◌≡◌ {A = Option LayoutFault} (Some a) (Some b) → a ≡ b
-    same_fault e = cc
+no_memory_if true fault other e = other (same_some e)
 no_memory_if false fault other e = cc
 
 no_memory_misfit : (due : Due) (n offset : ℕ) → NoMemory (misfit due n offset)
@@ -278,12 +275,6 @@ feed_of old text piece used new m within whole = by_phase new.phase refl
         same_refusal : {a b : LayoutFault} → phases.Refused a ≡ phases.Refused b → a ≡ b
         same_refusal z = cc
 
-        same_error : {a b : LayoutFault} → ◌≡◌ {A = Result Progress LayoutFault} (Err a) (Err b) → a ≡ b
-        same_error z = cc
-
-        same_some : {a b : LayoutFault} → ◌≡◌ {A = Option LayoutFault} (Some a) (Some b) → a ≡ b
-        same_some z = cc
-
 -- where a piece leaves a reader, or memory was refused
 pub reader_of : (old : Fields) (text piece : List ℕ) (used : ℕ) (new : Fields) → TakeMeets old text piece used new
     → IsReader new
@@ -399,12 +390,6 @@ long_meets old text piece room mid m was s full within live =
   where
     drop_at : (xs : List ℕ) (i : ℕ) → i < length xs → drop i xs ≡ get_or xs i 0 ∷ drop (i + 1) xs
     drop_at xs i h = rw (add-one) (drop-cons xs i 0 h)
-
-    same_error : {a b : LayoutFault} → ◌≡◌ {A = Result Progress LayoutFault} (Err a) (Err b) → a ≡ b
-    same_error z = cc
-
-    same_some : {a b : LayoutFault} → ◌≡◌ {A = Option LayoutFault} (Some a) (Some b) → a ≡ b
-    same_some z = cc
 
     not_memory : TooLong ≡ Memory → ⊥
     not_memory z = cc

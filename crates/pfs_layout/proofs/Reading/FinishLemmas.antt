@@ -31,8 +31,9 @@ use Rattle.pfs_layout.specs.Step.{stated_by, times_in, end_fault_in, end_fault}
 use Rattle.pfs_layout.specs.Reader.{FollowsBody, FollowsBlocks}
 use Rattle.pfs_layout.proofs.Reading.TableLemmas.{length-times_among}
 use Rattle.pfs_layout.proofs.Reading.NumberSteps.{keeping_of}
-use Rattle.pfs_layout.proofs.Reading.LineSteps.{Clips, clips, same_within, full_or_not, no_times}
+use Rattle.pfs_layout.proofs.Reading.LineSteps.{Clips, clips, same_within, full_or_not, no_times, no_word}
 use Rattle.pfs_layout.proofs.Reading.EndSteps.{number_fault}
+use Rattle.pfs_layout.proofs.Reading.BegunLemmas.{follows_body, few_complete}
 
 -- ---- where all lines lead
 
@@ -192,11 +193,6 @@ sought_told r complete line kinds place f phase at same =
     same
     ∙ by_kind (is_number_line line) refl
   where
-    no_word : (a b : Bool) → (a && not b) ≡ true → b ≡ false
-    no_word true true e = cc
-    no_word true false e = refl
-    no_word false b e = cc
-
     by_kind : (t : Bool) → is_number_line line ≡ t
         → (if t then option_or (size_fault (stated_by r.layout r.size_line) r.line) (Some (Truncated 0))
         else Some (NoBlock r.complete))
@@ -251,13 +247,13 @@ begun_told has_word r text complete block kinds f stood short unmixed due =
     ns = numbers (open_line text)
 
     body : FollowsBody r.layout block.size (length block.numbers + length (numbers (open_line text))) r.body
-    body = f.now.3
+    body = follows_body f
 
     count : length (block.numbers ++ numbers (open_line text)) ≡ r.body.judged
     count = length-append block.numbers (numbers (open_line text)) ∙ sym body.judged
 
     few : length complete < r.wanted
-    few = omega (arith, f.complete, f.now.1)
+    few = omega (arith, f.complete, few_complete f)
 
     -- behind the line, if there is one
     behind : is_empty (open_line text) ≡ false → stand r.layout (lines text)
@@ -349,7 +345,8 @@ begun_told has_word r text complete block kinds f stood short unmixed due =
             ap (λ t. then_some t (NoBlock (r.complete + 1))) (le-ltb (r.complete + 1) r.wanted (omega arith))
         by_last false e =
             let other : r.complete + 1 ≢ r.wanted = eqb-false (r.complete + 1) r.wanted e in
-            ap (λ t. then_some t (NoBlock (r.complete + 1))) (lt-ltb (r.complete + 1) r.wanted (omega (arith, f.now.1)))
+            ap (λ t. then_some t (NoBlock (r.complete + 1)))
+            (lt-ltb (r.complete + 1) r.wanted (omega (arith, few_complete f)))
 
         by_wanted : stand r.layout (lines text) ≡ completed complete whole → (t : Bool)
             → (r.complete + 1 == r.wanted) ≡ t

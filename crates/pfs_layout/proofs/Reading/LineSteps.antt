@@ -30,6 +30,7 @@ use Rattle.pfs_layout.specs.Step.{block_ended, no_numbers, at_next_line, line_en
 use Rattle.pfs_layout.specs.Reader.{block_of, time_count, HoldsNumbers, FollowsBody, FollowsBlocks}
 use Rattle.pfs_layout.proofs.Files.SizeLemmas.{size_within}
 use Rattle.pfs_layout.proofs.Reading.TableLemmas.{instance_of-none}
+use Rattle.pfs_layout.proofs.Reading.BegunLemmas.{follows_body, size_fits, few_complete}
 
 -- ---- what a size line states
 
@@ -270,6 +271,12 @@ size_step (Some size) r complete more kept line clips count few held =
         (sym (clipped_is size e)) (begun_follows r complete size more count few e held)
     by_within false e = record { phase = refl; held = refl; layout = refl; wanted = refl }
 
+-- a line of numbers has no word byte
+pub no_word : (digit word : Bool) → (digit && not word) ≡ true → word ≡ false
+no_word true true e = cc
+no_word true false e = refl
+no_word false word e = cc
+
 -- a line behind which the next block is sought
 pub sought_line : (r : Blocks) (complete : List Block) (line : List ℕ) (numbered : Bool)
     → FollowsBlocks (list_any is_word_byte line) r (standing complete seeking) (numbers line)
@@ -291,11 +298,6 @@ sought_line r complete line numbered f phase few same = by_kind (is_number_line 
     next =
         ap (λ p. line_ended_in p r numbered) phase
         ∙ ap (λ t. if t then size_line_ended (at_next_line r) r.size_line r.line else at_next_line r) same
-
-    no_word : (a b : Bool) → (a && not b) ≡ true → b ≡ false
-    no_word true true e = cc
-    no_word true false e = refl
-    no_word false b e = cc
 
     claim : (t : Bool) → is_number_line line ≡ t → Claim t
     claim true e =
@@ -356,13 +358,13 @@ body_line {has_word} r complete block line numbered f unmixed due =
     whole = with_line block line
 
     body : FollowsBody r.layout block.size (length block.numbers + length (numbers line)) r.body
-    body = f.now.3
+    body = follows_body f
 
     count : length (block.numbers ++ numbers line) ≡ r.body.judged
     count = length-append block.numbers (numbers line) ∙ sym body.judged
 
     few : length complete < r.wanted
-    few = omega (arith, f.complete, f.now.1)
+    few = omega (arith, f.complete, few_complete f)
 
     stands : (if is_mixed line then standing complete lost else after_numbers r.layout complete (with_line block line))
         ≡ (if length (block.numbers ++ numbers line) == due_count r.layout block.size
@@ -413,7 +415,8 @@ body_line {has_word} r complete block line numbered f unmixed due =
         (sym not_full)
         (record {
           complete = f.complete;
-          now = (f.now.0, f.now.1, f.now.2, subst (λ n. FollowsBody r.layout block.size n r.body) counts body);
+          now =
+              (f.now.0, few_complete f, size_fits f, subst (λ n. FollowsBody r.layout block.size n r.body) counts body);
           instance = f.instance ∙ ap (option_map (instance_of r.layout)) same;
           held = f.held ∙ ap (time_count r.layout) same;
         }))
@@ -452,7 +455,7 @@ body_line {has_word} r complete block line numbered f unmixed due =
         by_wanted false e =
             let other : r.complete + 1 ≢ r.wanted = eqb-false (r.complete + 1) r.wanted e in
             sym (ap (λ t. if t then phases.Seeking else phases.Done)
-            (lt-ltb (r.complete + 1) r.wanted (omega (arith, f.now.1))))
+            (lt-ltb (r.complete + 1) r.wanted (omega (arith, few_complete f))))
 
         ended : length (complete ++ whole ∷ []) ≡ length complete + 1
             → block_of r.wanted (completed complete whole) []

@@ -29,6 +29,7 @@ use Rattle.pfs_layout.specs.Reader.{block_of, time_count, IsNextTime, FollowsBod
 use Rattle.pfs_layout.proofs.Files.SizeLemmas.{size_within}
 use Rattle.pfs_layout.proofs.Reading.NumberLemmas.{holds_push, time_behind, machine_behind, Keeping, keeping_time}
 use Rattle.pfs_layout.proofs.Reading.NumberLemmas.{keeping_machine}
+use Rattle.pfs_layout.proofs.Reading.BegunLemmas.{follows_body, size_fits, few_complete}
 
 -- the fault, or what the fields say with the number
 abbrev pub NumberOutcome : Bool → Blocks → List Block → Now → List ℕ → ℕ → Blocks → Option LayoutFault → Type 0
@@ -146,11 +147,11 @@ time_follows : {has_word : Bool} (r : Blocks) (complete : List Block) (block : B
     → FollowsBlocks has_word (counted (stored r v) (after_time r.layout r.body)) (standing complete (inside block))
     (more ++ v ∷ [])
 time_follows {has_word} r complete block more v f due odd =
-    let body = f.now.3 in
+    let body = follows_body f in
     let count : length (block.numbers ++ more) ≡ length block.numbers + length more =
     length-append block.numbers more in
     let n_is : length (block.numbers ++ more) ≡ r.body.judged = count ∙ sym body.judged in
-    let few : length complete < r.wanted = omega (arith, f.complete, f.now.1) in
+    let few : length complete < r.wanted = omega (arith, f.complete, few_complete f) in
     let place : place_of_time r.layout block.size r.body.job r.body.machine ≡ length (block.numbers ++ more) =
     time_place r.layout block.size r.body (length block.numbers + length more) body due
     (λ o. ap (λ n. n % 2) (sym body.judged) ∙ odd o)
@@ -165,8 +166,8 @@ time_follows {has_word} r complete block more v f due odd =
       complete = f.complete;
       now = (
         refl,
-        f.now.1,
-        f.now.2,
+        few_complete f,
+        size_fits f,
         subst (λ n. FollowsBody r.layout block.size n (after_time r.layout r.body))
             (push_count block.numbers more v)
             (time_behind r.layout block.size (length block.numbers + length more) r.body body due odd),
@@ -180,11 +181,11 @@ machine_follows : {has_word : Bool} (r : Blocks) (complete : List Block) (block 
     → r.body.judged < r.body.due → r.body.judged % 2 ≡ 0
     → FollowsBlocks has_word (counted r (after_machine r.body)) (standing complete (inside block)) (more ++ v ∷ [])
 machine_follows {has_word} r complete block more v layout f due even =
-    let body = f.now.3 in
+    let body = follows_body f in
     let count : length (block.numbers ++ more) ≡ length block.numbers + length more =
     length-append block.numbers more in
     let n_is : length (block.numbers ++ more) ≡ r.body.judged = count ∙ sym body.judged in
-    let few : length complete < r.wanted = omega (arith, f.complete, f.now.1) in
+    let few : length complete < r.wanted = omega (arith, f.complete, few_complete f) in
     let old = keeping_of r complete block more few f.instance f.held in
     let new =
     subst (λ l. Keeping l (length complete + 1 == r.wanted)
@@ -203,8 +204,8 @@ machine_follows {has_word} r complete block more v layout f due even =
       complete = f.complete;
       now = (
         refl,
-        f.now.1,
-        f.now.2,
+        few_complete f,
+        size_fits f,
         subst (λ n. FollowsBody r.layout block.size n (after_machine r.body)) (push_count block.numbers more v)
             (subst (λ l. FollowsBody l block.size ((length block.numbers + length more) + 1) (after_machine r.body))
             (sym layout) behind),
@@ -264,8 +265,8 @@ machine_step {has_word} r complete block more v first layout f due even = by_sam
   where
     small : r.body.machine < CEILING
     small =
-        let body = f.now.3 in
-        let within = size_within block.size f.now.2 in
+        let body = follows_body f in
+        let within = size_within block.size (size_fits f) in
         omega (arith, body.machine, body.machines, within.sizes.few_machines)
 
     clipped : (t : Bool) → (v == r.body.machine) ≡ t → (min CEILING v == r.body.machine) ≡ t
@@ -305,7 +306,7 @@ due_step : {has_word : Bool} (layout : Layout) (r : Blocks) (complete : List Blo
     (misfit (due_at layout block.size (length block.numbers + length more)) v first)
 unfolding due_at
 due_step {has_word} Taillard r complete block more v first layout f due =
-    let body = f.now.3 in
+    let body = follows_body f in
     let lt : nat_lt (length block.numbers + length more) (block.size.jobs * block.size.machines) ≡ true =
     lt-ltb _ _ (let total : r.body.due ≡ block.size.jobs * block.size.machines =
     body.due ∙ ap (λ l. due_count l block.size) layout in
@@ -324,7 +325,7 @@ due_step {has_word} Taillard r complete block more v first layout f due =
 due_step {has_word} OrLib r complete block more v first layout f due = by_half (r.body.judged % 2 == 0) refl
   where
     body : FollowsBody r.layout block.size (length block.numbers + length more) r.body
-    body = f.now.3
+    body = follows_body f
 
     lt : nat_lt (length block.numbers + length more) (2 * (block.size.jobs * block.size.machines)) ≡ true
     lt =
@@ -409,7 +410,7 @@ unfolding number_ended
 begun_number {has_word} r complete block more v first f = by_due (nat_lt r.body.judged r.body.due) refl
   where
     body : FollowsBody r.layout block.size (length block.numbers + length more) r.body
-    body = f.now.3
+    body = follows_body f
 
     by_due : (t : Bool) → nat_lt r.body.judged r.body.due ≡ t
         → NumberOutcome has_word r complete (inside block) more v (number_ended_in r.phase r (min CEILING v) first)

@@ -40,6 +40,8 @@ use Rattle.pfs_layout.proofs.Reading.EndSteps.{number_fault, NumberPart, number_
 use Rattle.pfs_layout.proofs.Reading.FeedLemmas.{refused_fault, done_enough}
 use Rattle.pfs_layout.proofs.Reading.FinishLemmas.{stand_lines, sought_fault, sought_end, sought_told, begun_end}
 use Rattle.pfs_layout.proofs.Reading.FinishLemmas.{BegunEnd, begun_told}
+use Rattle.pfs_layout.proofs.Reading.ReadNames.{same_error, same_some}
+use Rattle.pfs_layout.proofs.Reading.BegunLemmas.{follows_body}
 
 -- what the end of the input is for a reader that has met no fault at a byte
 pub record EndOutcome (r : Fields) (text : List ℕ) : Type 0 where
@@ -152,7 +154,7 @@ live_end r text f live = by_now (stand_of r.layout text).now refl
 
         short : length block.numbers < due_count r.layout block.size
         short =
-            let b = (blocks_at (inside block) e).now.3 in
+            let b = follows_body (blocks_at (inside block) e) in
             let few = b.few in
             let other : length block.numbers ≢ due_count r.layout block.size = begun.short in
             omega (arith, b.due, b.judged)
@@ -249,9 +251,6 @@ meets_refused : (r : Fields) (text : List ℕ) (fault : LayoutFault) → 1 ≤ r
     → RefusesInstance r.layout text r.wanted fault → FinishMeets r text (Err fault)
 meets_refused r text fault some is = by_verdict (one_verdict r.layout text r.wanted some)
   where
-    same_error : {a b : LayoutFault} → ◌≡◌ {A = Result Problem LayoutFault} (Err a) (Err b) → a ≡ b
-    same_error z = cc
-
     by_verdict : (ExactlyOne (IsInstanceFile limits r.layout text r.wanted)
         × ((fault : LayoutFault) → RefusesInstance r.layout text r.wanted fault → ⊥))
         ⊎ (ExactlyOne (RefusesInstance r.layout text r.wanted)
@@ -371,9 +370,6 @@ finish_tells r text s = by_phase r.phase refl s
           λ h. absurd (let bad = sym told ∙ h in cc),
         )
       where
-        same_some : {a b : LayoutFault} → ◌≡◌ {A = Option LayoutFault} (Some a) (Some b) → a ≡ b
-        same_some z = cc
-
         meets_as : (other : LayoutFault) → fault ≡ other → FinishMeets r text (Err fault)
             → FinishMeets r text (Err other)
         meets_as other z m = subst (λ g. FinishMeets r text (Err g)) z m

@@ -29,7 +29,7 @@ use Rattle.pfs_layout.proofs.Files.InputFaults.{is_input_fault}
 use Rattle.pfs_layout.proofs.Files.SoundLemmas.{stand_of}
 use Rattle.pfs_layout.proofs.Reading.ByteSteps.{live_few}
 use Rattle.pfs_layout.proofs.Reading.ToldLemmas.{known}
-use Rattle.pfs_layout.proofs.Reading.ReadNames.{finish_named, feed_named}
+use Rattle.pfs_layout.proofs.Reading.ReadNames.{finish_named, feed_named, same_error, same_some}
 use Rattle.pfs_layout.proofs.Reading.ReaderLemmas.{live_follows}
 use Rattle.pfs_layout.proofs.Reading.FeedLemmas.{refused_fault, done_enough}
 use Rattle.pfs_layout.proofs.Reading.OutcomeLemmas.{finish_done}
@@ -115,9 +115,6 @@ reading_fault layout k first left next r new piece fault t c m other text e =
     append_assoc t.front piece more.0 ∙ ap (λ xs. t.front ++ xs) (sym more.2) ∙ sym rest.2 in
     subst (λ l. RefusesInstance l text k fault) t.layout_is (subst (λ n. RefusesInstance r.layout text n fault)
     t.wanted_is (subst (λ xs. RefusesInstance r.layout xs r.wanted fault) whole refuses))
-  where
-    same_error : {a b : LayoutFault} → ◌≡◌ {A = Result Progress LayoutFault} (Err a) (Err b) → a ≡ b
-    same_error z = cc
 
 -- the wanted block has ended in the piece
 pub reading_done : (layout : Layout) (k : ℕ) (first left next : Option (List ℕ)) (r new : Fields) (piece : List ℕ)
@@ -214,13 +211,10 @@ reads_ended layout k first left next r new piece text outcome t c size meets =
     reads_piece layout k first left next r piece (result_err outcome) t c size
     (λ e. absurd (never outcome Read refl meets e)) (λ e. absurd (never outcome Memory refl meets e))
   where
-    same_fault : {a b : LayoutFault} → ◌≡◌ {A = Option LayoutFault} (Some a) (Some b) → a ≡ b
-    same_fault z = cc
-
     never : (outcome : Result Problem LayoutFault) (fault : LayoutFault) → is_input_fault fault ≡ false
         → FinishMeets new text outcome → result_err outcome ≡ Some fault → ⊥
     never (Ok problem) fault other meets e = cc
-    never (Err found) fault other meets e = finish_named new text (Err found) fault meets other (ap Err (same_fault e))
+    never (Err found) fault other meets e = finish_named new text (Err found) fault meets other (ap Err (same_some e))
 
 -- the piece has a fault, or memory was refused in it
 pub reads_fault : (layout : Layout) (k : ℕ) (first left next : Option (List ℕ)) (r new : Fields) (piece : List ℕ)
@@ -229,14 +223,11 @@ pub reads_fault : (layout : Layout) (k : ℕ) (first left next : Option (List �
     → FeedMeets r t.front piece (Err fault) new → IfSome first (λ bytes. ReadsAsFar layout k bytes next (Some fault))
 reads_fault layout k first left next r new piece fault t c size meets =
     reads_piece layout k first left next r piece (Some fault) t c size
-    (λ e. absurd (feed_named r new t.front piece fault Read meets (λ z. cc) refl (same_fault e)))
-    (λ e. let at = meets.memory (ap Err (same_fault e)) in (
+    (λ e. absurd (feed_named r new t.front piece fault Read meets (λ z. cc) refl (same_some e)))
+    (λ e. let at = meets.memory (ap Err (same_some e)) in (
       at.0,
       at.1,
       subst (λ l. EndsWantedSize l k (t.front ++ take at.0 piece) (slice_index piece at.0)) t.layout_is
           (subst (λ n. EndsWantedSize r.layout n (t.front ++ take at.0 piece) (slice_index piece at.0)) t.wanted_is
           at.2),
     ))
-  where
-    same_fault : {a b : LayoutFault} → ◌≡◌ {A = Option LayoutFault} (Some a) (Some b) → a ≡ b
-    same_fault z = cc

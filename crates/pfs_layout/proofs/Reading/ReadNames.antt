@@ -1,14 +1,20 @@
 -- Which faults a read block can have, and what the bytes that are told say of its answer.
-use Rattle.std.proofs.Common.{◌≡◌, ◌≢◌, ℕ, Bool, true, false, List, [], ◌++◌, refl, sym, ◌∙◌}
+use Rattle.std.proofs.Common.{◌≡◌, ◌≢◌, ℕ, Bool, true, false, List, [], ◌++◌, Option, Some, refl, sym, ◌∙◌}
 use Rattle.std.specs.Prelude.{Result, Err, ◌↔◌}
 use Rattle.std.proofs.lemmas.Bool.{both_ways}
 use Rattle.pfs_base.specs.Problem.{Problem}
 use Rattle.pfs_layout.specs.declared.fault.LayoutFault.{LayoutFault}
 use Rattle.pfs_layout.specs.declared.fault.LayoutFault.TheVariants.{Memory}
-use Rattle.pfs_layout.specs.declared.fields.Progress.{Progress}
 use Rattle.pfs_layout.specs.Reader.{Fields, FeedMeets, FinishMeets}
 use Rattle.pfs_layout.proofs.Files.InputFaults.{is_input_fault, refused_input}
 use Rattle.pfs_layout.proofs.Files.EndLemmas.{byte_fault_refuses}
+
+-- equal answers have the same error
+pub same_error : {T : Type 0} {a b : LayoutFault} → ◌≡◌ {A = Result T LayoutFault} (Err a) (Err b) → a ≡ b
+same_error z = cc
+
+pub same_some : {a b : LayoutFault} → ◌≡◌ {A = Option LayoutFault} (Some a) (Some b) → a ≡ b
+same_some z = cc
 
 -- the end of an input has no fault but those of inputs
 pub finish_named : (r : Fields) (text : List ℕ) (outcome : Result Problem LayoutFault) (fault : LayoutFault)
@@ -24,13 +30,6 @@ feed_named r new text piece found fault meets no_memory other e =
     let named = refused_input r.layout ((text ++ piece) ++ []) r.wanted found
     (byte_fault_refuses r.layout r.wanted (text ++ piece) [] found is) in
     both_ways _ other (rw e at named)
-  where
-    same_error : {a b : LayoutFault} → ◌≡◌ {A = Result Progress LayoutFault} (Err a) (Err b) → a ≡ b
-    same_error z = cc
-
--- an answer of the same error
-pub same_answer : {a b : LayoutFault} → ◌≡◌ {A = Result Problem LayoutFault} (Err a) (Err b) → a ≡ b
-same_answer z = cc
 
 -- what never holds, exactly where a device that works has failed
 pub never_failed : (P : Type 0) (failed : Bool) → failed ≡ false → ¬ P → P ↔ (failed ≡ true)

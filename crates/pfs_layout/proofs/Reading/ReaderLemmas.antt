@@ -8,7 +8,7 @@ use Rattle.std.specs.Option.{option_or}
 use Rattle.std.proofs.Math.Nat.{mul-le-mul}
 use Rattle.std.proofs.lemmas.List.{length_push, length-append}
 use Rattle.std.proofs.lemmas.List.Sums.{count_by-le-length}
-use Rattle.std.proofs.lemmas.Bool.{ltb-true}
+use Rattle.std.proofs.lemmas.Bool.{ltb-true, or_parts}
 use Rattle.std.proofs.lemmas.List.Folds.{list_any-append}
 use Rattle.pfs_base.specs.declared.limits.TheConstants.{LONGEST_INPUT}
 use Rattle.pfs_base.specs.Problem.{Problem}
@@ -31,9 +31,10 @@ use Rattle.pfs_layout.specs.Step.{is_live, is_in_block, refused, line_after, has
 use Rattle.pfs_layout.specs.Step.{last_number_ended, line_ended, CanCount, IsReady, times_in}
 use Rattle.pfs_layout.specs.Reader.{Fields, fields, block_read, time_count, FollowsBody, FollowsNow, FollowsBlocks}
 use Rattle.pfs_layout.specs.Reader.{Follows, StandsIn, StandsAfter, IsReader}
-use Rattle.pfs_layout.proofs.Files.LineLemmas.{open_part-push, ended_numbers-push}
+use Rattle.pfs_layout.proofs.Files.LineLemmas.{ended_numbers-push}
 use Rattle.pfs_layout.proofs.Published.PlaceLemmas.{byte_fault-push}
-use Rattle.pfs_layout.proofs.Files.SoundLemmas.{GoodNow, stand_of, stand_of-push, sound}
+use Rattle.pfs_layout.proofs.Files.SoundLemmas.{GoodNow, stand_of, sound, stand_of-on, stand_of-end}
+use Rattle.pfs_layout.proofs.Files.SoundLemmas.{open_line-on, open_line-end}
 use Rattle.pfs_layout.proofs.Reading.StepLemmas.{live-memory, keeps_last, last_numbers, ends_line}
 use Rattle.pfs_layout.proofs.Files.SizeLemmas.{size_within}
 use Rattle.pfs_layout.proofs.Reading.TableLemmas.{length-times_among}
@@ -45,6 +46,7 @@ use Rattle.pfs_layout.proofs.Reading.ByteSteps.{fault_within_limit, place_fault,
 use Rattle.pfs_layout.proofs.Reading.ByteSteps.{judged}
 use Rattle.pfs_layout.proofs.Reading.ByteSteps.{judged_digit, judged_word, judged_blank}
 use Rattle.pfs_layout.proofs.Reading.EndSteps.{word_byte, blank_byte, end_byte}
+use Rattle.pfs_layout.proofs.Reading.BegunLemmas.{follows_body, size_fits, few_complete}
 
 -- ---- what a byte leaves as it is
 
@@ -99,11 +101,7 @@ carries r last b live = by_digit (is_digit b) refl
     by_blank false d e =
         subst (λ z. Carries r z (is_line_end b)) (sym (judged_word r last b d e))
         (carries_if (last.kinds.has_digit && is_in_block r.phase) r (MixedLine last.digits.offset) (is_line_end b)
-        (right_of (is_blank b) (is_line_end b) e))
-      where
-        right_of : (x y : Bool) → (x || y) ≡ false → y ≡ false
-        right_of true y e = cc
-        right_of false y e = e
+        (or_parts (is_blank b) (is_line_end b) e).1)
 
     by_digit : (t : Bool) → is_digit b ≡ t → Carries r (judged r last b) (is_line_end b)
     by_digit true d =
@@ -114,25 +112,6 @@ carries r last b live = by_digit (is_digit b) refl
 
 -- ---- the blocks behind a byte
 
--- a text that goes on on its last line, and one whose last line ends
-stand_on : (layout : Layout) (text : List ℕ) (b : ℕ) → is_line_end b ≡ false
-    → stand_of layout (text ++ b ∷ []) ≡ stand_of layout text
-stand_on layout text b e =
-    stand_of-push layout text b
-    ∙ ap (λ t. if t then stand_after layout (stand_of layout text) (open_line text) else stand_of layout text) e
-
-stand_end : (layout : Layout) (text : List ℕ) (b : ℕ) → is_line_end b ≡ true
-    → stand_of layout (text ++ b ∷ []) ≡ stand_after layout (stand_of layout text) (open_line text)
-stand_end layout text b e =
-    stand_of-push layout text b
-    ∙ ap (λ t. if t then stand_after layout (stand_of layout text) (open_line text) else stand_of layout text) e
-
-line_on : (text : List ℕ) (b : ℕ) → is_line_end b ≡ false → open_line (text ++ b ∷ []) ≡ open_line text ++ b ∷ []
-line_on text b e = open_part-push is_line_end text b ∙ ap (λ t. if t then [] else open_line text ++ b ∷ []) e
-
-line_end : (text : List ℕ) (b : ℕ) → is_line_end b ≡ true → open_line (text ++ b ∷ []) ≡ []
-line_end text b e = open_part-push is_line_end text b ∙ ap (λ t. if t then [] else open_line text ++ b ∷ []) e
-
 no_numbers_yet : ended_numbers [] ≡ []
 unfolding ended_numbers ended_parts
 no_numbers_yet = refl
@@ -141,10 +120,10 @@ numbers_on : (text : List ℕ) (b : ℕ) (digit : Bool) → is_line_end b ≡ fa
     → ended_numbers (open_line (text ++ b ∷ []))
     ≡ (if digit then ended_numbers (open_line text) else numbers (open_line text))
 numbers_on text b true e d =
-    ap ended_numbers (line_on text b e) ∙ ended_numbers-push (open_line text) b
+    ap ended_numbers (open_line-on text b e) ∙ ended_numbers-push (open_line text) b
     ∙ ap (λ t. if not t then numbers (open_line text) else ended_numbers (open_line text)) d
 numbers_on text b false e d =
-    ap ended_numbers (line_on text b e) ∙ ended_numbers-push (open_line text) b
+    ap ended_numbers (open_line-on text b e) ∙ ended_numbers-push (open_line text) b
     ∙ ap (λ t. if not t then numbers (open_line text) else ended_numbers (open_line text)) d
 
 -- a line that holds no word byte held none before
@@ -152,7 +131,8 @@ words_before : (text : List ℕ) (b : ℕ) → is_line_end b ≡ false
     → list_any is_word_byte (open_line (text ++ b ∷ [])) ≡ false → list_any is_word_byte (open_line text) ≡ false
 words_before text b e h =
     left_of (list_any is_word_byte (open_line text)) (is_word_byte b || false)
-    (sym (list_any-append is_word_byte (open_line text) (b ∷ [])) ∙ ap (list_any is_word_byte) (sym (line_on text b e))
+    (sym (list_any-append is_word_byte (open_line text) (b ∷ []))
+    ∙ ap (list_any is_word_byte) (sym (open_line-on text b e))
     ∙ h)
   where
     left_of : (x y : Bool) → (x || y) ≡ false → x ≡ false
@@ -162,14 +142,10 @@ words_before text b e h =
 word_there : (text : List ℕ) (b : ℕ) → is_digit b ≡ false → (is_blank b || is_line_end b) ≡ false
     → list_any is_word_byte (open_line (text ++ b ∷ [])) ≡ true
 word_there text b d o =
-    ap (list_any is_word_byte) (line_on text b (right_of (is_blank b) (is_line_end b) o))
+    ap (list_any is_word_byte) (open_line-on text b (or_parts (is_blank b) (is_line_end b) o).1)
     ∙ list_any-append is_word_byte (open_line text) (b ∷ [])
     ∙ by_all (list_any is_word_byte (open_line text)) (is_digit b) (is_blank b) (is_line_end b) d o
   where
-    right_of : (x y : Bool) → (x || y) ≡ false → y ≡ false
-    right_of true y e = cc
-    right_of false y e = e
-
     by_all : (w digit blank end : Bool) → digit ≡ false → (blank || end) ≡ false
         → (w || (not (digit || blank || end) || false)) ≡ true
     by_all w true blank end p q = cc
@@ -198,7 +174,7 @@ outcome r text b f live good = by_digit (is_digit b) refl
         (ended_numbers (open_line (text ++ b ∷ []))) (judged r.blocks r.last b)
         (fault_within_limit r.layout (stand_of r.layout text).now text b)
     by_end true d o e =
-        let line = line_end text b e in
+        let line = open_line-end text b e in
         let has_word : false ≡ list_any is_word_byte (open_line (text ++ b ∷ [])) =
         ap (list_any is_word_byte) (sym line) in
         let more : [] ≡ ended_numbers (open_line (text ++ b ∷ [])) = sym no_numbers_yet ∙ ap ended_numbers (sym line) in
@@ -208,7 +184,7 @@ outcome r text b f live good = by_digit (is_digit b) refl
         has_word
         (subst (λ s. ByteOutcome r.blocks false s (ended_numbers (open_line (text ++ b ∷ [])))
         (judged r.blocks r.last b) (fault_within_limit r.layout (stand_of r.layout text).now text b))
-        (sym (stand_end r.layout text b e))
+        (sym (stand_of-end r.layout text b e))
         (subst (λ ns. ByteOutcome r.blocks false (stand_after r.layout (stand_of r.layout text) (open_line text)) ns
         (judged r.blocks r.last b) (fault_within_limit r.layout (stand_of r.layout text).now text b))
         more
@@ -218,7 +194,7 @@ outcome r text b f live good = by_digit (is_digit b) refl
         subst (λ s. ByteOutcome r.blocks (list_any is_word_byte (open_line (text ++ b ∷ []))) s
         (ended_numbers (open_line (text ++ b ∷ []))) (judged r.blocks r.last b)
         (fault_within_limit r.layout (stand_of r.layout text).now text b))
-        (sym (stand_on r.layout text b e))
+        (sym (stand_of-on r.layout text b e))
         (subst (λ ns. ByteOutcome r.blocks (list_any is_word_byte (open_line (text ++ b ∷ []))) (stand_of r.layout text)
         ns (judged r.blocks r.last b) (fault_within_limit r.layout (stand_of r.layout text).now text b))
         (sym (numbers_on text b false e d))
@@ -232,23 +208,19 @@ outcome r text b f live good = by_digit (is_digit b) refl
         (fault_within_limit r.layout (stand_of r.layout text).now text b)
     by_blank true d o = by_end (is_line_end b) d o refl
     by_blank false d o =
-        let e : is_line_end b ≡ false = right_of (is_blank b) (is_line_end b) o in
+        let e : is_line_end b ≡ false = (or_parts (is_blank b) (is_line_end b) o).1 in
         subst (λ w. ByteOutcome r.blocks w (stand_of r.layout (text ++ b ∷ []))
         (ended_numbers (open_line (text ++ b ∷ []))) (judged r.blocks r.last b)
         (fault_within_limit r.layout (stand_of r.layout text).now text b))
         (sym (word_there text b d o))
         (subst (λ s. ByteOutcome r.blocks true s (ended_numbers (open_line (text ++ b ∷ []))) (judged r.blocks r.last b)
         (fault_within_limit r.layout (stand_of r.layout text).now text b))
-        (sym (stand_on r.layout text b e))
+        (sym (stand_of-on r.layout text b e))
         (subst (λ ns. ByteOutcome r.blocks true (stand_of r.layout text) ns (judged r.blocks r.last b)
         (fault_within_limit r.layout (stand_of r.layout text).now text b))
         (sym (numbers_on text b false e d))
         (word_byte r.blocks r.last text b (stand_of r.layout text).complete (stand_of r.layout text).now d o live
         f.last_line f.blocks good)))
-      where
-        right_of : (x y : Bool) → (x || y) ≡ false → y ≡ false
-        right_of true y e = cc
-        right_of false y e = e
 
     by_digit : (t : Bool) → is_digit b ≡ t
         → ByteOutcome r.blocks (list_any is_word_byte (open_line (text ++ b ∷ []))) (stand_of r.layout (text ++ b ∷ []))
@@ -259,7 +231,7 @@ outcome r text b f live good = by_digit (is_digit b) refl
         subst (λ s. ByteOutcome r.blocks (list_any is_word_byte (open_line (text ++ b ∷ []))) s
         (ended_numbers (open_line (text ++ b ∷ []))) (judged r.blocks r.last b)
         (fault_within_limit r.layout (stand_of r.layout text).now text b))
-        (sym (stand_on r.layout text b e))
+        (sym (stand_of-on r.layout text b e))
         (subst (λ ns. ByteOutcome r.blocks (list_any is_word_byte (open_line (text ++ b ∷ []))) (stand_of r.layout text)
         ns (judged r.blocks r.last b) (fault_within_limit r.layout (stand_of r.layout text).now text b))
         (sym (numbers_on text b true e d))
@@ -409,10 +381,10 @@ begun_ready : (has_word : Bool) (r : Blocks) (complete : List Block) (block : Bl
 begun_ready has_word r complete block more f e = by_due (nat_lt r.body.judged r.body.due) refl f.now.0
   where
     body : FollowsBody r.layout block.size (length block.numbers + length more) r.body
-    body = f.now.3
+    body = follows_body f
 
     least : length complete < r.wanted
-    least = omega (arith, f.complete, f.now.1)
+    least = omega (arith, f.complete, few_complete f)
 
     kept : Keeping r.layout (length complete + 1 == r.wanted)
         (record { size = block.size; numbers = block.numbers ++ more }) r.instance r.held
@@ -450,7 +422,7 @@ begun_ready has_word r complete block more f e = by_due (nat_lt r.body.judged r.
         → CanCount r
     by_due true t p =
         let held = few (length complete + 1 == r.wanted) kept.held in
-        let due = due_few r.layout block.size f.now.2 in
+        let due = due_few r.layout block.size (size_fits f) in
         let less = ltb-true r.body.judged r.body.due t in
         record {
           place = record { judged = less; job = body.job; machine = body.machine };

@@ -43,16 +43,16 @@ count_push text b =
     let e : 0 + (if is_line_end b then 1 else 0) ≡ (if is_line_end b then 1 else 0) = omega arith in
     sum_by-append (λ x. if is_line_end x then 1 else 0) text (b ∷ []) ∙ ap (λ n. count_by is_line_end text + n) e
 
+pub or_nothing : (x y : Bool) → (x || (y || false)) ≡ (x || y)
+or_nothing true y = refl
+or_nothing false true = refl
+or_nothing false false = refl
+
 -- a test of some byte of the last line
 any_push : (p : ℕ → Bool) (text : List ℕ) (b : ℕ)
     → list_any p (open_line (text ++ b ∷ [])) ≡ (not (b == 10) && (list_any p (open_line text) || p b))
 any_push p text b = ap (list_any p) (open_part-push is_line_end text b) ∙ by_end (b == 10)
   where
-    or_nothing : (x y : Bool) → (x || (y || false)) ≡ (x || y)
-    or_nothing true y = refl
-    or_nothing false true = refl
-    or_nothing false false = refl
-
     by_end : (v : Bool)
         → list_any p (if v then [] else open_line text ++ b ∷ []) ≡ (not v && (list_any p (open_line text) || p b))
     by_end true = refl

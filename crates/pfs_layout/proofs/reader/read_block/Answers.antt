@@ -5,7 +5,7 @@ use Rattle.pfs_base.specs.declared.limits.TheConstants.{LONGEST_INPUT}
 use Rattle.pfs_layout.specs.declared.reader.TheConstants.{PIECE}
 use Rattle.pfs_layout.specs.Refuse.{RefusesInstance}
 use Rattle.pfs_layout.specs.declared.fault.LayoutFault.TheVariants.{Read, SeedRange}
-use Rattle.pfs_layout.proofs.Reading.ReadNames.{finish_named, feed_named, same_answer, never_failed}
+use Rattle.pfs_layout.proofs.Reading.ReadNames.{finish_named, feed_named, same_error, never_failed}
 use Rattle.pfs_layout.proofs.Reading.ToldLemmas.{known, file_known, refused_known}
 use Rattle.pfs_layout.proofs.Reading.ReadLemmas.{reads_failed, reads_ended, reads_fault, reading_start, reading_more}
 use Rattle.pfs_layout.proofs.Reading.ReadLemmas.{reading_short, reading_fault, reading_done}
@@ -92,13 +92,13 @@ returns-in-Err-clause-read g c =
     let t = c.pieces.invariant.reading in
     never_failed _ _ (c.in-Some.ensures.failed ∙ c.pieces.invariant.working)
     (λ e. feed_named _ _ t.front _ c.in-Err.fault Read (c.in-Err.ensures.meets t.front t.stands) (λ z. cc) refl
-    (same_answer e))
+    (same_error e))
 
 pub returns-in-Err-clause-no_seed : goal.returns-in-Err-clause-no_seed
 returns-in-Err-clause-no_seed g c e =
     let t = c.pieces.invariant.reading in
     feed_named _ _ t.front _ c.in-Err.fault SeedRange (c.in-Err.ensures.meets t.front t.stands) (λ z. cc) refl
-    (same_answer e)
+    (same_error e)
 
 pub returns-then-progress-clause-read : goal.returns-then-progress-clause-read
 returns-then-progress-clause-read g c =
