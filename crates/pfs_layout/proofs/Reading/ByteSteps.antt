@@ -32,6 +32,7 @@ use Rattle.pfs_layout.specs.Reader.{FollowsLine, FollowsNow, FollowsBlocks}
 use Rattle.pfs_layout.proofs.Files.SoundLemmas.{GoodNow}
 use Rattle.pfs_layout.proofs.Reading.LineSteps.{Refuses}
 use Rattle.pfs_layout.proofs.Reading.ScanLemmas.{digit-no_line_end, digit_is, or_nothing}
+use Rattle.pfs_layout.proofs.Reading.BegunLemmas.{holds_numbers, seeking_or_done}
 
 -- ---- the fault of a place
 
@@ -121,7 +122,12 @@ pub weaker : (has_word less : Bool) (r : Blocks) (complete : List Block) (now : 
     → (less ≡ false → has_word ≡ false)
     → FollowsBlocks has_word r (standing complete now) more → FollowsBlocks less r (standing complete now) more
 weaker has_word less r complete seeking more h f =
-    record { complete = f.complete; now = (f.now.0, λ e. f.now.1 (h e)); instance = f.instance; held = f.held }
+    record {
+      complete = f.complete;
+      now = (seeking_or_done f, λ e. holds_numbers f (h e));
+      instance = f.instance;
+      held = f.held;
+    }
 weaker has_word less r complete (inside block) more h f =
     record { complete = f.complete; now = f.now; instance = f.instance; held = f.held }
 weaker has_word less r complete lost more h f = absurd f.now

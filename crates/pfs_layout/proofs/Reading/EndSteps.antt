@@ -37,6 +37,7 @@ use Rattle.pfs_layout.proofs.Reading.ByteSteps.{fault_within_limit, live_few, se
 use Rattle.pfs_layout.proofs.Reading.ByteSteps.{refuses_is}
 use Rattle.pfs_layout.proofs.Reading.ByteSteps.{weaker, judged, mixed_other, mixed_word, judged_word, judged_blank}
 use Rattle.pfs_layout.proofs.Reading.ByteSteps.{sought_fine, number_fine, and_false_is, and_true_is}
+use Rattle.pfs_layout.proofs.Reading.BegunLemmas.{seeking_or_done}
 
 -- ---- the numbers of the last line
 
@@ -93,7 +94,12 @@ word_byte r last text b complete seeking digit other live line f good =
     subst (λ o. ByteOutcome r true (standing complete seeking) (numbers (open_line text)) (judged r last b) o)
     (sym fine)
     (subst (λ z. FollowsBlocks true z (standing complete seeking) (numbers (open_line text))) (sym next)
-    (record { complete = f.complete; now = (f.now.0, λ e. absurd (cc)); instance = f.instance; held = f.held }))
+    (record {
+      complete = f.complete;
+      now = (seeking_or_done f, λ e. absurd (cc));
+      instance = f.instance;
+      held = f.held;
+    }))
 word_byte r last text b complete (inside block) digit other live line f good =
     by_digit (list_any is_digit (open_line text)) refl
   where

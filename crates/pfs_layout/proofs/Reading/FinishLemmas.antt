@@ -33,7 +33,7 @@ use Rattle.pfs_layout.proofs.Reading.TableLemmas.{length-times_among}
 use Rattle.pfs_layout.proofs.Reading.NumberSteps.{keeping_of}
 use Rattle.pfs_layout.proofs.Reading.LineSteps.{Clips, clips, same_within, full_or_not, no_times, no_word}
 use Rattle.pfs_layout.proofs.Reading.EndSteps.{number_fault}
-use Rattle.pfs_layout.proofs.Reading.BegunLemmas.{follows_body, few_complete}
+use Rattle.pfs_layout.proofs.Reading.BegunLemmas.{follows_body, few_complete, body_or_last, holds_numbers}
 
 -- ---- where all lines lead
 
@@ -202,7 +202,7 @@ sought_told r complete line kinds place f phase at same =
         ap (λ n. option_or (size_fault (stated_by r.layout r.size_line) n) (Some (Truncated 0))) at
         ∙ ap (λ o. option_or o (Some (Truncated 0))) (same_size_fault (stated_by r.layout r.size_line)
         (stated_size r.layout (numbers line)) place (clips r.layout r.size_line (numbers line)
-        (f.now.1 (no_word (list_any is_digit line) (list_any is_word_byte line) e))))
+        (holds_numbers f (no_word (list_any is_digit line) (list_any is_word_byte line) e))))
     by_kind false e = ap (λ n. Some (NoBlock n)) f.complete
 
 -- ---- a block is begun
@@ -274,7 +274,7 @@ begun_told has_word r text complete block kinds f stood short unmixed due =
     by_due : (t : Bool) → nat_lt r.body.judged r.body.due ≡ t → BegunEnd r kinds text
     by_due true e =
         let less : r.body.judged < r.body.due = ltb-true r.body.judged r.body.due e in
-        let phase : r.phase ≡ phases.Body = f.now.0 ∙ ap (λ t. if t then phases.Body else phases.AfterLast) e in
+        let phase : r.phase ≡ phases.Body = body_or_last f ∙ ap (λ t. if t then phases.Body else phases.AfterLast) e in
         let told : end_fault kinds r ≡ Some (Truncated (times_in r.layout r.body.judged)) =
         ap (λ p. end_fault_in p kinds r) phase in
         let end : stand r.layout (lines text) ≡ standing complete (inside (with_line block (open_line text))) =
@@ -305,7 +305,8 @@ begun_told has_word r text complete block kinds f stood short unmixed due =
             (ne_eqb _ _ (λ z. let total = body.due in omega (arith, count)))
     by_due false e =
         let all : r.body.due ≤ r.body.judged = ltb-false r.body.judged r.body.due e in
-        let phase : r.phase ≡ phases.AfterLast = f.now.0 ∙ ap (λ t. if t then phases.Body else phases.AfterLast) e in
+        let phase : r.phase ≡ phases.AfterLast =
+        body_or_last f ∙ ap (λ t. if t then phases.Body else phases.AfterLast) e in
         let told : end_fault kinds r ≡ (if r.complete + 1 == r.wanted then None else Some (NoBlock (r.complete + 1))) =
         ap (λ p. end_fault_in p kinds r) phase in
         let some : is_empty (open_line text) ≡ false =

@@ -30,7 +30,8 @@ use Rattle.pfs_layout.specs.Step.{block_ended, no_numbers, at_next_line, line_en
 use Rattle.pfs_layout.specs.Reader.{block_of, time_count, HoldsNumbers, FollowsBody, FollowsBlocks}
 use Rattle.pfs_layout.proofs.Files.SizeLemmas.{size_within}
 use Rattle.pfs_layout.proofs.Reading.TableLemmas.{instance_of-none}
-use Rattle.pfs_layout.proofs.Reading.BegunLemmas.{follows_body, size_fits, few_complete}
+use Rattle.pfs_layout.proofs.Reading.BegunLemmas.{follows_body, size_fits, few_complete, body_or_last, holds_numbers}
+use Rattle.pfs_layout.proofs.Reading.BegunLemmas.{seeking_or_done}
 
 -- ---- what a size line states
 
@@ -306,7 +307,7 @@ sought_line r complete line numbered f phase few same = by_kind (is_number_line 
         let outcome =
         size_step (stated_size r.layout (numbers line)) (at_next_line r) complete (numbers line)
         (stated_by r.layout r.size_line) r.line
-        (clips r.layout r.size_line (numbers line) (f.now.1 plain)) f.complete few f.held in
+        (clips r.layout r.size_line (numbers line) (holds_numbers f plain)) f.complete few f.held in
         old_is (size_fault (stated_size r.layout (numbers line)) r.line) outcome
       where
         old_is : (fault : Option LayoutFault)
@@ -317,7 +318,12 @@ sought_line r complete line numbered f phase few same = by_kind (is_number_line 
         old_is None o = o
         old_is (Some fault) o = record { phase = o.phase; held = o.held; layout = o.layout; wanted = o.wanted }
     claim false e =
-        record { complete = f.complete; now = (f.now.0, λ plain. holds_none); instance = f.instance; held = f.held }
+        record {
+          complete = f.complete;
+          now = (seeking_or_done f, λ plain. holds_none);
+          instance = f.instance;
+          held = f.held;
+        }
 
     by_kind : (t : Bool) → is_number_line line ≡ t
         → LineOutcome r (standing complete
@@ -393,7 +399,7 @@ body_line {has_word} r complete block line numbered f unmixed due =
         let less : r.body.judged < r.body.due = ltb-true r.body.judged r.body.due e in
         let not_full : (length (block.numbers ++ numbers line) == due_count r.layout block.size) ≡ false =
         ne_eqb _ _ (λ z. let total = body.due in omega (arith, count)) in
-        let phase : r.phase ≡ phases.Body = f.now.0 ∙ ap (λ t. if t then phases.Body else phases.AfterLast) e in
+        let phase : r.phase ≡ phases.Body = body_or_last f ∙ ap (λ t. if t then phases.Body else phases.AfterLast) e in
         let next : line_ended_in r.phase r numbered ≡ at_next_line r = ap (λ p. line_ended_in p r numbered) phase in
         let same : block_of r.wanted (standing complete (inside block)) (numbers line)
         ≡ block_of r.wanted (standing complete (inside (with_line block line))) [] =
@@ -415,8 +421,12 @@ body_line {has_word} r complete block line numbered f unmixed due =
         (sym not_full)
         (record {
           complete = f.complete;
-          now =
-              (f.now.0, few_complete f, size_fits f, subst (λ n. FollowsBody r.layout block.size n r.body) counts body);
+          now = (
+            body_or_last f,
+            few_complete f,
+            size_fits f,
+            subst (λ n. FollowsBody r.layout block.size n r.body) counts body,
+          );
           instance = f.instance ∙ ap (option_map (instance_of r.layout)) same;
           held = f.held ∙ ap (time_count r.layout) same;
         }))
@@ -424,7 +434,8 @@ body_line {has_word} r complete block line numbered f unmixed due =
         let all : r.body.due ≤ r.body.judged = ltb-false r.body.judged r.body.due e in
         let full : (length (block.numbers ++ numbers line) == due_count r.layout block.size) ≡ true =
         eq-eqb _ _ (let total = body.due in let most = body.few in omega (arith, count)) in
-        let phase : r.phase ≡ phases.AfterLast = f.now.0 ∙ ap (λ t. if t then phases.Body else phases.AfterLast) e in
+        let phase : r.phase ≡ phases.AfterLast =
+        body_or_last f ∙ ap (λ t. if t then phases.Body else phases.AfterLast) e in
         let next : line_ended_in r.phase r numbered ≡ block_ended (at_next_line r) =
         ap (λ p. line_ended_in p r numbered) phase in
         let pushed : length (complete ++ whole ∷ []) ≡ length complete + 1 = length_push complete whole in

@@ -29,7 +29,8 @@ use Rattle.pfs_layout.specs.Reader.{block_of, time_count, IsNextTime, FollowsBod
 use Rattle.pfs_layout.proofs.Files.SizeLemmas.{size_within}
 use Rattle.pfs_layout.proofs.Reading.NumberLemmas.{holds_push, time_behind, machine_behind, Keeping, keeping_time}
 use Rattle.pfs_layout.proofs.Reading.NumberLemmas.{keeping_machine}
-use Rattle.pfs_layout.proofs.Reading.BegunLemmas.{follows_body, size_fits, few_complete}
+use Rattle.pfs_layout.proofs.Reading.BegunLemmas.{follows_body, size_fits, few_complete, body_or_last, holds_numbers}
+use Rattle.pfs_layout.proofs.Reading.BegunLemmas.{seeking_or_done}
 
 -- the fault, or what the fields say with the number
 abbrev pub NumberOutcome : Bool → Blocks → List Block → Now → List ℕ → ℕ → Blocks → Option LayoutFault → Type 0
@@ -60,10 +61,10 @@ unfolding number_ended
 sought_number {has_word} r complete more v first f live five =
     let next : number_ended r (min CEILING v) first ≡ record r { size_line = with_number r.size_line (min CEILING v) } =
     ap (λ phase. number_ended_in phase r (min CEILING v) first)
-    (seeking_if_live (nat_lt r.complete r.wanted) r.phase f.now.0 live) in
+    (seeking_if_live (nat_lt r.complete r.wanted) r.phase (seeking_or_done f) live) in
     subst (λ z. FollowsBlocks has_word z (standing complete seeking) (more ++ v ∷ [])) (sym next) (record {
       complete = f.complete;
-      now = (f.now.0, λ no_word. holds_push r.size_line more v five (f.now.1 no_word));
+      now = (seeking_or_done f, λ no_word. holds_push r.size_line more v five (holds_numbers f no_word));
       instance = f.instance;
       held = f.held;
     })
@@ -416,13 +417,15 @@ begun_number {has_word} r complete block more v first f = by_due (nat_lt r.body.
         → NumberOutcome has_word r complete (inside block) more v (number_ended_in r.phase r (min CEILING v) first)
         (misfit (due_at r.layout block.size (length block.numbers + length more)) v first)
     by_due true e =
-        let phase : r.phase ≡ phases.Body = (body_phase (nat_lt r.body.judged r.body.due) r.phase f.now.0).0 e in
+        let phase : r.phase ≡ phases.Body =
+        (body_phase (nat_lt r.body.judged r.body.due) r.phase (body_or_last f)).0 e in
         subst (λ p. NumberOutcome has_word r complete (inside block) more v (number_ended_in p r (min CEILING v) first)
         (misfit (due_at r.layout block.size (length block.numbers + length more)) v first))
         (sym phase)
         (due_step r.layout r complete block more v first refl f (ltb-true r.body.judged r.body.due e))
     by_due false e =
-        let phase : r.phase ≡ phases.AfterLast = (body_phase (nat_lt r.body.judged r.body.due) r.phase f.now.0).1 e in
+        let phase : r.phase ≡ phases.AfterLast =
+        (body_phase (nat_lt r.body.judged r.body.due) r.phase (body_or_last f)).1 e in
         let all : r.body.due ≤ r.body.judged = ltb-false r.body.judged r.body.due e in
         let extra =
         extra_step r.layout block.size (length block.numbers + length more) v first

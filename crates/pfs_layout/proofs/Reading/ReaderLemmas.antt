@@ -46,7 +46,7 @@ use Rattle.pfs_layout.proofs.Reading.ByteSteps.{fault_within_limit, place_fault,
 use Rattle.pfs_layout.proofs.Reading.ByteSteps.{judged}
 use Rattle.pfs_layout.proofs.Reading.ByteSteps.{judged_digit, judged_word, judged_blank}
 use Rattle.pfs_layout.proofs.Reading.EndSteps.{word_byte, blank_byte, end_byte}
-use Rattle.pfs_layout.proofs.Reading.BegunLemmas.{follows_body, size_fits, few_complete}
+use Rattle.pfs_layout.proofs.Reading.BegunLemmas.{follows_body, size_fits, few_complete, body_or_last, seeking_or_done}
 
 -- ---- what a byte leaves as it is
 
@@ -378,7 +378,7 @@ due_few OrLib size within =
 
 begun_ready : (has_word : Bool) (r : Blocks) (complete : List Block) (block : Block) (more : List ℕ)
     → FollowsBlocks has_word r (standing complete (inside block)) more → r.phase ≡ phases.Body → CanCount r
-begun_ready has_word r complete block more f e = by_due (nat_lt r.body.judged r.body.due) refl f.now.0
+begun_ready has_word r complete block more f e = by_due (nat_lt r.body.judged r.body.due) refl (body_or_last f)
   where
     body : FollowsBody r.layout block.size (length block.numbers + length more) r.body
     body = follows_body f
@@ -435,7 +435,8 @@ begun_ready has_word r complete block more f e = by_due (nat_lt r.body.judged r.
 
 can_count : (has_word : Bool) (r : Blocks) (complete : List Block) (now : Now) (more : List ℕ)
     → FollowsBlocks has_word r (standing complete now) more → r.phase ≡ phases.Body → CanCount r
-can_count has_word r complete seeking more f e = absurd (either (nat_lt r.complete r.wanted) (sym e ∙ f.now.0))
+can_count has_word r complete seeking more f e =
+    absurd (either (nat_lt r.complete r.wanted) (sym e ∙ seeking_or_done f))
   where
     either : (t : Bool) → phases.Body ≡ (if t then phases.Seeking else phases.Done) → ⊥
     either true e = cc
