@@ -3,7 +3,7 @@
 
 mod engines;
 mod examples;
-mod fault;
+pub mod fault;
 mod job;
 pub mod laws;
 mod planning;
