@@ -15,7 +15,7 @@ from unproved import build
 
 BUGS = [
     ("a number that two pieces share loses the digits of the first",
-     ("pfs_layout/src/fields.rt", "        let mut line = *last;",
+     ("pfs_layout/src/blocks.rt", "        let mut line = *last;",
       "        let offset = last.digits.offset; let digits = crate::scan::Digits { offset, first: offset, value: 0 };"
       " let mut line = Line { digits, kinds: last.kinds };")),
     ("of equal places the last is taken",

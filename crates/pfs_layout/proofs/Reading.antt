@@ -1,5 +1,4 @@
 -- The reader: what its steps do to its fields, and what they say of the bytes.
-pub mod BegunLemmas
 pub mod ByteSteps
 pub mod CuttingLemmas
 pub mod EndSteps

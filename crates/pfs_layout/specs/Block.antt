@@ -33,10 +33,14 @@ stated_size OrLib (jobs ∷ machines ∷ []) =
     Some (record { jobs = jobs; machines = machines; notes = record { seed = 0; upper = 0; lower = 0 } })
 stated_size OrLib others = None
 
+-- how many numbers so many times take
+abbrev pub numbers_for : Layout → ℕ → ℕ
+numbers_for Taillard times = times
+numbers_for OrLib times = 2 * times
+
 -- how many numbers are due
 abbrev pub due_count : Layout → Size → ℕ
-due_count Taillard size = size.jobs * size.machines
-due_count OrLib size = 2 * (size.jobs * size.machines)
+due_count layout size = numbers_for layout (size.jobs * size.machines)
 
 -- what is due at a place of the body
 pub data Due : Type 0 where

@@ -17,10 +17,10 @@ use Rattle.pfs_layout.specs.declared.scan.Line.{Line}
 use Rattle.pfs_layout.specs.declared.scan.TheConstants.{CEILING}
 use Rattle.pfs_layout.specs.declared.size_line.SizeLine.{SizeLine}
 use Rattle.pfs_layout.specs.declared.body.Body.{Body}
-use Rattle.pfs_layout.specs.declared.fields.Phase.{Phase}
-use Rattle.pfs_layout.specs.declared.fields.Phase.TheVariants as phases
-use Rattle.pfs_layout.specs.declared.fields.Blocks.{Blocks}
-use Rattle.pfs_layout.specs.declared.fields.Progress.{Progress}
+use Rattle.pfs_layout.specs.declared.blocks.Phase.{Phase}
+use Rattle.pfs_layout.specs.declared.blocks.Phase.TheVariants as phases
+use Rattle.pfs_layout.specs.declared.blocks.Blocks.{Blocks}
+use Rattle.pfs_layout.specs.declared.blocks.Progress.{Progress}
 use Rattle.pfs_layout.specs.declared.reader.TheConstants.{PIECE}
 use Rattle.pfs_layout.specs.Bytes.{is_digit, is_word_byte, is_line_end}
 use Rattle.pfs_layout.specs.Lines.{ended_lines, open_line, ended_numbers, last_digits}
@@ -94,15 +94,21 @@ pub record FollowsBody (layout : Layout) (size : Size) (count : ℕ) (body : Bod
   pub machine : body.machine < body.machines
   pub place : body.judged < body.due → IsNextTime layout body
 
--- whether the next block is sought or a block is begun, behind these ended numbers of the last line, which has a
--- word byte or not
+-- the next block is sought, behind these ended numbers of the last line, which has a word byte or not
+pub record Seeks (has_word : Bool) (r : Blocks) (more : List ℕ) : Type 0 where
+  pub phase : r.phase ≡ (if nat_lt r.complete r.wanted then phases.Seeking else phases.Done)
+  pub numbers : has_word ≡ false → HoldsNumbers r.size_line more
+
+-- this block is begun, behind these ended numbers of the last line
+pub record IsInside (r : Blocks) (block : Block) (more : List ℕ) : Type 0 where
+  pub phase : r.phase ≡ (if nat_lt r.body.judged r.body.due then phases.Body else phases.AfterLast)
+  pub few : r.complete < r.wanted
+  pub fits : is_within_limits block.size ≡ true
+  pub body : FollowsBody r.layout block.size (length block.numbers + length more) r.body
+
 abbrev pub FollowsNow : Bool → Blocks → Now → List ℕ → Type 0
-FollowsNow has_word r seeking more = (r.phase ≡ (if nat_lt r.complete r.wanted then phases.Seeking else phases.Done))
-    × (has_word ≡ false → HoldsNumbers r.size_line more)
-FollowsNow has_word r (inside block) more =
-    (r.phase ≡ (if nat_lt r.body.judged r.body.due then phases.Body else phases.AfterLast))
-    × (r.complete < r.wanted) × (is_within_limits block.size ≡ true)
-    × FollowsBody r.layout block.size (length block.numbers + length more) r.body
+FollowsNow has_word r seeking more = Seeks has_word r more
+FollowsNow has_word r (inside block) more = IsInside r block more
 FollowsNow has_word r lost more = ⊥
 
 -- the blocks, behind lines that lead here and these ended numbers of the last line, which has a word byte or not

@@ -23,11 +23,12 @@ use Rattle.pfs_layout.specs.declared.scan.TheConstants.{CEILING}
 use Rattle.pfs_layout.specs.declared.size_line.SizeLine.{SizeLine}
 use Rattle.pfs_layout.specs.declared.size_line.Stated.{Stated}
 use Rattle.pfs_layout.specs.declared.body.Body.{Body}
-use Rattle.pfs_layout.specs.declared.fields.Phase.{Phase}
-use Rattle.pfs_layout.specs.declared.fields.Phase.TheVariants as phases
-use Rattle.pfs_layout.specs.declared.fields.Blocks.{Blocks}
+use Rattle.pfs_layout.specs.declared.blocks.Phase.{Phase}
+use Rattle.pfs_layout.specs.declared.blocks.Phase.TheVariants as phases
+use Rattle.pfs_layout.specs.declared.blocks.Blocks.{Blocks}
 use Rattle.pfs_layout.specs.Bytes.{is_digit, is_blank, is_line_end}
 use Rattle.pfs_layout.specs.Size.{Size}
+use Rattle.pfs_layout.specs.Block.{numbers_for}
 use Rattle.pfs_layout.specs.Refuse.{size_fault}
 
 -- ---- the last line so far
@@ -120,12 +121,15 @@ size_given stated = record { jobs = stated.jobs; machines = stated.machines; not
 
 -- ---- the body of a block
 
-abbrev pub count_due : Layout → ℕ → ℕ → ℕ
-count_due Taillard jobs machines = jobs * machines
-count_due OrLib jobs machines = 2 * (jobs * machines)
-
 abbrev pub body_of : Layout → ℕ → ℕ → Body
-body_of layout jobs machines = record { jobs = jobs; machines = machines; due = count_due layout jobs machines; judged = 0; job = 0; machine = 0 }
+body_of layout jobs machines = record {
+  jobs = jobs;
+  machines = machines;
+  due = numbers_for layout (jobs * machines);
+  judged = 0;
+  job = 0;
+  machine = 0;
+}
 
 abbrev pub is_machine_due : Layout → Body → Bool
 is_machine_due Taillard body = false
@@ -191,14 +195,20 @@ refused r fault = record r { phase = phases.Refused fault }
 
 -- the body has come so far
 abbrev pub counted : Blocks → Body → Blocks
-counted r body = record r { body = body; phase = if nat_lt body.judged body.due then phases.Body else phases.AfterLast }
+counted r body = record r {
+  body = body;
+  phase = if nat_lt body.judged body.due then phases.Body else phases.AfterLast;
+}
 
 abbrev pub with_problem_time : Body → ℕ → Problem → Problem
 with_problem_time body time problem = record problem { shop = with_time problem.shop body.job body.machine time }
 
 -- the time stands in the instance, if there is one
 abbrev pub stored : Blocks → ℕ → Blocks
-stored r time = record r { instance = option_map (with_problem_time r.body time) r.instance; held = if is_some r.instance then r.held + 1 else r.held }
+stored r time = record r {
+  instance = option_map (with_problem_time r.body time) r.instance;
+  held = if is_some r.instance then r.held + 1 else r.held;
+}
 
 abbrev pub time_judged : Blocks → ℕ → ℕ → Blocks
 time_judged r value first = if nat_lt LONGEST_TIME value
@@ -211,7 +221,9 @@ machine_judged r value first = if value == r.body.machine
     else refused r (MachineNumber first)
 
 abbrev pub body_judged : Blocks → ℕ → ℕ → Blocks
-body_judged r value first = if is_machine_due r.layout r.body then machine_judged r value first else time_judged r value first
+body_judged r value first = if is_machine_due r.layout r.body
+    then machine_judged r value first
+    else time_judged r value first
 
 abbrev pub number_ended_in : Phase → Blocks → ℕ → ℕ → Blocks
 number_ended_in phases.Seeking r value first = record r { size_line = with_number r.size_line value }
@@ -245,16 +257,22 @@ size_judged r None None = r
 size_judged r (Some size) None = block_begun r size
 
 abbrev pub size_line_ended : Blocks → SizeLine → ℕ → Blocks
-size_line_ended r size_line line = size_judged r (stated_by r.layout size_line) (size_fault (stated_by r.layout size_line) line)
+size_line_ended r size_line line =
+    size_judged r (stated_by r.layout size_line) (size_fault (stated_by r.layout size_line) line)
 
 abbrev pub block_ended : Blocks → Blocks
-block_ended r = record r { complete = r.complete + 1; phase = if r.complete + 1 == r.wanted then phases.Done else phases.Seeking }
+block_ended r = record r {
+  complete = r.complete + 1;
+  phase = if r.complete + 1 == r.wanted then phases.Done else phases.Seeking;
+}
 
 abbrev pub at_next_line : Blocks → Blocks
 at_next_line r = record r { line = r.line + 1; size_line = no_numbers }
 
 abbrev pub line_ended_in : Phase → Blocks → Bool → Blocks
-line_ended_in phases.Seeking r is_number_line = if is_number_line then size_line_ended (at_next_line r) r.size_line r.line else at_next_line r
+line_ended_in phases.Seeking r is_number_line = if is_number_line
+    then size_line_ended (at_next_line r) r.size_line r.line
+    else at_next_line r
 line_ended_in phases.Body r is_number_line = at_next_line r
 line_ended_in phases.AfterLast r is_number_line = block_ended (at_next_line r)
 line_ended_in phases.Done r is_number_line = at_next_line r

@@ -2,10 +2,10 @@
 //! a reader that takes their bytes in any cutting, a writer, and Taillard's generator.
 #![tactic(auto)]
 
+mod blocks;
 mod body;
 mod examples;
 mod fault;
-mod fields;
 mod generator;
 pub mod laws;
 mod layout;
@@ -14,8 +14,8 @@ mod scan;
 mod size_line;
 mod writing;
 
+pub use blocks::Progress;
 pub use fault::LayoutFault;
-pub use fields::Progress;
 pub use generator::generate;
 pub use layout::Layout;
 pub use reader::{BlockReader, PIECE, read_block};

@@ -7,7 +7,7 @@ ghost use Rattle.pfs_layout.specs.Refuse.{RefusesInstance};
 ghost use Rattle.pfs_layout.specs.Step.{is_live as live_test};
 ghost use Rattle.pfs_layout.specs.Reader.{StandsAfter, HoldsFew, FeedMeets, FinishMeets, ReadsAsFar, progress_of};
 
-use crate::fields::{Blocks, Phase, Progress};
+use crate::blocks::{Blocks, Phase, Progress};
 use crate::scan::Line;
 use crate::{Layout, LayoutFault};
 use pfs_base::{Instance, MOST_BLOCKS, Source};

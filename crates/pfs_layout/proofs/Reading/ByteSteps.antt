@@ -17,8 +17,8 @@ use Rattle.pfs_layout.specs.declared.scan.Line.{Line}
 use Rattle.pfs_layout.specs.declared.scan.Number.{Number}
 use Rattle.pfs_layout.specs.declared.scan.Event.{Event}
 use Rattle.pfs_layout.specs.declared.scan.Event.TheVariants as events
-use Rattle.pfs_layout.specs.declared.fields.Phase.TheVariants as phases
-use Rattle.pfs_layout.specs.declared.fields.Blocks.{Blocks}
+use Rattle.pfs_layout.specs.declared.blocks.Phase.TheVariants as phases
+use Rattle.pfs_layout.specs.declared.blocks.Blocks.{Blocks}
 use Rattle.pfs_layout.specs.Bytes.{is_digit, is_blank, is_line_end, is_word_byte}
 use Rattle.pfs_layout.specs.Lines.{ended_lines, open_line, is_mixed, is_number_line, numbers, ended_numbers}
 use Rattle.pfs_layout.specs.Lines.{last_digits}
@@ -32,7 +32,6 @@ use Rattle.pfs_layout.specs.Reader.{FollowsLine, FollowsNow, FollowsBlocks}
 use Rattle.pfs_layout.proofs.Files.SoundLemmas.{GoodNow}
 use Rattle.pfs_layout.proofs.Reading.LineSteps.{Refuses}
 use Rattle.pfs_layout.proofs.Reading.ScanLemmas.{digit-no_line_end, digit_is, or_nothing}
-use Rattle.pfs_layout.proofs.Reading.BegunLemmas.{holds_numbers, seeking_or_done}
 
 -- ---- the fault of a place
 
@@ -79,24 +78,24 @@ place_fault layout k text b few short =
 
 pub live_few : (has_word : Bool) (r : Blocks) (now : Now) (more : List ℕ) → FollowsNow has_word r now more
     → is_live r.phase ≡ true → r.complete < r.wanted
-live_few has_word r seeking more f live = by_few (nat_lt r.complete r.wanted) refl f.0
+live_few has_word r seeking more f live = by_few (nat_lt r.complete r.wanted) refl f.phase
   where
     by_few : (t : Bool) → nat_lt r.complete r.wanted ≡ t → r.phase ≡ (if t then phases.Seeking else phases.Done)
         → r.complete < r.wanted
     by_few true e p = ltb-true r.complete r.wanted e
     by_few false e p = absurd (let dead : is_live r.phase ≡ false = ap is_live p in cc)
-live_few has_word r (inside block) more f live = f.1
+live_few has_word r (inside block) more f live = f.few
 live_few has_word r lost more f live = absurd f
 
 pub seeking_if_few : (has_word : Bool) (r : Blocks) (more : List ℕ) → FollowsNow has_word r seeking more
     → r.complete < r.wanted → r.phase ≡ phases.Seeking
 seeking_if_few has_word r more f few =
-    f.0 ∙ ap (λ t. if t then phases.Seeking else phases.Done) (lt-ltb r.complete r.wanted few)
+    f.phase ∙ ap (λ t. if t then phases.Seeking else phases.Done) (lt-ltb r.complete r.wanted few)
 
 pub begun_phase : (has_word : Bool) (r : Blocks) (block : Block) (more : List ℕ)
     → FollowsNow has_word r (inside block) more
     → is_in_block r.phase ≡ true
-begun_phase has_word r block more f = ap is_in_block f.0 ∙ either (nat_lt r.body.judged r.body.due)
+begun_phase has_word r block more f = ap is_in_block f.phase ∙ either (nat_lt r.body.judged r.body.due)
   where
     either : (t : Bool) → is_in_block (if t then phases.Body else phases.AfterLast) ≡ true
     either true = refl
@@ -124,7 +123,7 @@ pub weaker : (has_word less : Bool) (r : Blocks) (complete : List Block) (now : 
 weaker has_word less r complete seeking more h f =
     record {
       complete = f.complete;
-      now = (seeking_or_done f, λ e. holds_numbers f (h e));
+      now = record { phase = f.now.phase; numbers = λ e. f.now.numbers (h e) };
       instance = f.instance;
       held = f.held;
     }

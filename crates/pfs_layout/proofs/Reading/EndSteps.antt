@@ -17,7 +17,7 @@ use Rattle.pfs_layout.specs.declared.fault.LayoutFault.TheVariants.{MixedLine}
 use Rattle.pfs_layout.specs.declared.scan.TheConstants.{CEILING}
 use Rattle.pfs_layout.specs.declared.scan.Line.{Line}
 use Rattle.pfs_layout.specs.declared.scan.Number.{Number}
-use Rattle.pfs_layout.specs.declared.fields.Blocks.{Blocks}
+use Rattle.pfs_layout.specs.declared.blocks.Blocks.{Blocks}
 use Rattle.pfs_layout.specs.Bytes.{is_digit, is_blank, is_line_end, is_word_byte}
 use Rattle.pfs_layout.specs.Lines.{open_part, open_line, is_number_line, is_no_digit, numbers, ended_numbers}
 use Rattle.pfs_layout.specs.Lines.{last_digits}
@@ -37,7 +37,6 @@ use Rattle.pfs_layout.proofs.Reading.ByteSteps.{fault_within_limit, live_few, se
 use Rattle.pfs_layout.proofs.Reading.ByteSteps.{refuses_is}
 use Rattle.pfs_layout.proofs.Reading.ByteSteps.{weaker, judged, mixed_other, mixed_word, judged_word, judged_blank}
 use Rattle.pfs_layout.proofs.Reading.ByteSteps.{sought_fine, number_fine, and_false_is, and_true_is}
-use Rattle.pfs_layout.proofs.Reading.BegunLemmas.{seeking_or_done}
 
 -- ---- the numbers of the last line
 
@@ -96,7 +95,7 @@ word_byte r last text b complete seeking digit other live line f good =
     (subst (λ z. FollowsBlocks true z (standing complete seeking) (numbers (open_line text))) (sym next)
     (record {
       complete = f.complete;
-      now = (seeking_or_done f, λ e. absurd (cc));
+      now = record { phase = f.now.phase; numbers = λ e. absurd (cc) };
       instance = f.instance;
       held = f.held;
     }))

@@ -17,9 +17,9 @@ use Rattle.pfs_layout.specs.declared.layout.Layout.{Layout}
 use Rattle.pfs_layout.specs.declared.fault.LayoutFault.{LayoutFault}
 use Rattle.pfs_layout.specs.declared.fault.LayoutFault.TheVariants.{TimeRange, MachineNumber, SizeRange, MixedLine}
 use Rattle.pfs_layout.specs.declared.fault.LayoutFault.TheVariants.{TooLong, Memory}
-use Rattle.pfs_layout.specs.declared.fields.Phase.{Phase}
-use Rattle.pfs_layout.specs.declared.fields.Phase.TheVariants as phases
-use Rattle.pfs_layout.specs.declared.fields.Blocks.{Blocks}
+use Rattle.pfs_layout.specs.declared.blocks.Phase.{Phase}
+use Rattle.pfs_layout.specs.declared.blocks.Phase.TheVariants as phases
+use Rattle.pfs_layout.specs.declared.blocks.Blocks.{Blocks}
 use Rattle.pfs_layout.specs.Bytes.{is_blank, is_line_end, is_word_byte}
 use Rattle.pfs_layout.specs.Lines.{ended_lines, open_line, is_mixed, is_number_line, numbers, ended_numbers}
 use Rattle.pfs_layout.specs.Lines.{last_digits}
@@ -154,13 +154,13 @@ fine_more layout k text (b ∷ more) right enough =
 
 done_now : (has_word : Bool) (r : Blocks) (now : Now) (more : List ℕ) → FollowsNow has_word r now more
     → r.phase ≡ phases.Done → r.wanted ≤ r.complete
-done_now has_word r seeking more f e = either (nat_lt r.complete r.wanted) refl (sym e ∙ f.0)
+done_now has_word r seeking more f e = either (nat_lt r.complete r.wanted) refl (sym e ∙ f.phase)
   where
     either : (t : Bool) → nat_lt r.complete r.wanted ≡ t → phases.Done ≡ (if t then phases.Seeking else phases.Done)
         → r.wanted ≤ r.complete
     either true t e = cc
     either false t e = ltb-false r.complete r.wanted t
-done_now has_word r (inside block) more f e = absurd (either (nat_lt r.body.judged r.body.due) (sym e ∙ f.0))
+done_now has_word r (inside block) more f e = absurd (either (nat_lt r.body.judged r.body.due) (sym e ∙ f.phase))
   where
     either : (t : Bool) → phases.Done ≡ (if t then phases.Body else phases.AfterLast) → ⊥
     either true e = cc

@@ -17,8 +17,8 @@ use Rattle.pfs_layout.specs.declared.layout.Layout.{Layout}
 use Rattle.pfs_layout.specs.declared.fault.LayoutFault.{LayoutFault}
 use Rattle.pfs_layout.specs.declared.fault.LayoutFault.TheVariants.{NoBlock, SizeRange, Truncated, TooLong}
 use Rattle.pfs_layout.specs.declared.scan.Kinds.{Kinds}
-use Rattle.pfs_layout.specs.declared.fields.Phase.TheVariants as phases
-use Rattle.pfs_layout.specs.declared.fields.Blocks.{Blocks}
+use Rattle.pfs_layout.specs.declared.blocks.Phase.TheVariants as phases
+use Rattle.pfs_layout.specs.declared.blocks.Blocks.{Blocks}
 use Rattle.pfs_layout.specs.Bytes.{is_digit, is_line_end, is_word_byte}
 use Rattle.pfs_layout.specs.Lines.{lines, ended_lines, open_line, is_mixed, is_number_line, numbers, ended_numbers}
 use Rattle.pfs_layout.specs.Lines.{last_digits}
@@ -33,7 +33,6 @@ use Rattle.pfs_layout.proofs.Reading.TableLemmas.{length-times_among}
 use Rattle.pfs_layout.proofs.Reading.NumberSteps.{keeping_of}
 use Rattle.pfs_layout.proofs.Reading.LineSteps.{Clips, clips, same_within, full_or_not, no_times, no_word}
 use Rattle.pfs_layout.proofs.Reading.EndSteps.{number_fault}
-use Rattle.pfs_layout.proofs.Reading.BegunLemmas.{follows_body, few_complete, body_or_last, holds_numbers}
 
 -- ---- where all lines lead
 
@@ -202,7 +201,7 @@ sought_told r complete line kinds place f phase at same =
         ap (λ n. option_or (size_fault (stated_by r.layout r.size_line) n) (Some (Truncated 0))) at
         ∙ ap (λ o. option_or o (Some (Truncated 0))) (same_size_fault (stated_by r.layout r.size_line)
         (stated_size r.layout (numbers line)) place (clips r.layout r.size_line (numbers line)
-        (holds_numbers f (no_word (list_any is_digit line) (list_any is_word_byte line) e))))
+        (f.now.numbers (no_word (list_any is_digit line) (list_any is_word_byte line) e))))
     by_kind false e = ap (λ n. Some (NoBlock n)) f.complete
 
 -- ---- a block is begun
@@ -247,13 +246,13 @@ begun_told has_word r text complete block kinds f stood short unmixed due =
     ns = numbers (open_line text)
 
     body : FollowsBody r.layout block.size (length block.numbers + length (numbers (open_line text))) r.body
-    body = follows_body f
+    body = f.now.body
 
     count : length (block.numbers ++ numbers (open_line text)) ≡ r.body.judged
     count = length-append block.numbers (numbers (open_line text)) ∙ sym body.judged
 
     few : length complete < r.wanted
-    few = omega (arith, f.complete, few_complete f)
+    few = omega (arith, f.complete, f.now.few)
 
     -- behind the line, if there is one
     behind : is_empty (open_line text) ≡ false → stand r.layout (lines text)
@@ -274,7 +273,7 @@ begun_told has_word r text complete block kinds f stood short unmixed due =
     by_due : (t : Bool) → nat_lt r.body.judged r.body.due ≡ t → BegunEnd r kinds text
     by_due true e =
         let less : r.body.judged < r.body.due = ltb-true r.body.judged r.body.due e in
-        let phase : r.phase ≡ phases.Body = body_or_last f ∙ ap (λ t. if t then phases.Body else phases.AfterLast) e in
+        let phase : r.phase ≡ phases.Body = f.now.phase ∙ ap (λ t. if t then phases.Body else phases.AfterLast) e in
         let told : end_fault kinds r ≡ Some (Truncated (times_in r.layout r.body.judged)) =
         ap (λ p. end_fault_in p kinds r) phase in
         let end : stand r.layout (lines text) ≡ standing complete (inside (with_line block (open_line text))) =
@@ -306,7 +305,7 @@ begun_told has_word r text complete block kinds f stood short unmixed due =
     by_due false e =
         let all : r.body.due ≤ r.body.judged = ltb-false r.body.judged r.body.due e in
         let phase : r.phase ≡ phases.AfterLast =
-        body_or_last f ∙ ap (λ t. if t then phases.Body else phases.AfterLast) e in
+        f.now.phase ∙ ap (λ t. if t then phases.Body else phases.AfterLast) e in
         let told : end_fault kinds r ≡ (if r.complete + 1 == r.wanted then None else Some (NoBlock (r.complete + 1))) =
         ap (λ p. end_fault_in p kinds r) phase in
         let some : is_empty (open_line text) ≡ false =
@@ -347,7 +346,7 @@ begun_told has_word r text complete block kinds f stood short unmixed due =
         by_last false e =
             let other : r.complete + 1 ≢ r.wanted = eqb-false (r.complete + 1) r.wanted e in
             ap (λ t. then_some t (NoBlock (r.complete + 1)))
-            (lt-ltb (r.complete + 1) r.wanted (omega (arith, few_complete f)))
+            (lt-ltb (r.complete + 1) r.wanted (omega (arith, f.now.few)))
 
         by_wanted : stand r.layout (lines text) ≡ completed complete whole → (t : Bool)
             → (r.complete + 1 == r.wanted) ≡ t

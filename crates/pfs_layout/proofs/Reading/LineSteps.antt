@@ -16,8 +16,8 @@ use Rattle.pfs_layout.specs.declared.fault.LayoutFault.{LayoutFault}
 use Rattle.pfs_layout.specs.declared.fault.LayoutFault.TheVariants.{SizeRange}
 use Rattle.pfs_layout.specs.declared.scan.TheConstants.{CEILING}
 use Rattle.pfs_layout.specs.declared.size_line.SizeLine.{SizeLine}
-use Rattle.pfs_layout.specs.declared.fields.Phase.TheVariants as phases
-use Rattle.pfs_layout.specs.declared.fields.Blocks.{Blocks}
+use Rattle.pfs_layout.specs.declared.blocks.Phase.TheVariants as phases
+use Rattle.pfs_layout.specs.declared.blocks.Blocks.{Blocks}
 use Rattle.pfs_layout.specs.Bytes.{is_digit, is_word_byte}
 use Rattle.pfs_layout.specs.Lines.{is_mixed, is_number_line, numbers}
 use Rattle.pfs_layout.specs.Size.{Size, is_within_limits}
@@ -30,8 +30,6 @@ use Rattle.pfs_layout.specs.Step.{block_ended, no_numbers, at_next_line, line_en
 use Rattle.pfs_layout.specs.Reader.{block_of, time_count, HoldsNumbers, FollowsBody, FollowsBlocks}
 use Rattle.pfs_layout.proofs.Files.SizeLemmas.{size_within}
 use Rattle.pfs_layout.proofs.Reading.TableLemmas.{instance_of-none}
-use Rattle.pfs_layout.proofs.Reading.BegunLemmas.{follows_body, size_fits, few_complete, body_or_last, holds_numbers}
-use Rattle.pfs_layout.proofs.Reading.BegunLemmas.{seeking_or_done}
 
 -- ---- what a size line states
 
@@ -204,13 +202,13 @@ begun_follows r complete size more count few within held =
     (lt-ltb (length complete) r.wanted least) in
     record {
       complete = count;
-      now = (
-        sym (ap (λ t. if t then phases.Body else phases.AfterLast)
-            (lt-ltb 0 (body_of r.layout size.jobs size.machines).due (due_some r.layout size within))),
-        few,
-        within,
-        body_begun r.layout size within,
-      );
+      now = record {
+        phase = sym (ap (λ t. if t then phases.Body else phases.AfterLast)
+            (lt-ltb 0 (body_of r.layout size.jobs size.machines).due (due_some r.layout size within)));
+        few = few;
+        fits = within;
+        body = body_begun r.layout size within;
+      };
       instance =
           ap (λ n. if n + 1 == r.wanted then Some (empty_problem size) else None) count
           ∙ kept (length complete + 1 == r.wanted) ∙ sym (ap (option_map (instance_of r.layout)) same);
@@ -307,7 +305,7 @@ sought_line r complete line numbered f phase few same = by_kind (is_number_line 
         let outcome =
         size_step (stated_size r.layout (numbers line)) (at_next_line r) complete (numbers line)
         (stated_by r.layout r.size_line) r.line
-        (clips r.layout r.size_line (numbers line) (holds_numbers f plain)) f.complete few f.held in
+        (clips r.layout r.size_line (numbers line) (f.now.numbers plain)) f.complete few f.held in
         old_is (size_fault (stated_size r.layout (numbers line)) r.line) outcome
       where
         old_is : (fault : Option LayoutFault)
@@ -320,7 +318,7 @@ sought_line r complete line numbered f phase few same = by_kind (is_number_line 
     claim false e =
         record {
           complete = f.complete;
-          now = (seeking_or_done f, λ plain. holds_none);
+          now = record { phase = f.now.phase; numbers = λ plain. holds_none };
           instance = f.instance;
           held = f.held;
         }
@@ -364,13 +362,13 @@ body_line {has_word} r complete block line numbered f unmixed due =
     whole = with_line block line
 
     body : FollowsBody r.layout block.size (length block.numbers + length (numbers line)) r.body
-    body = follows_body f
+    body = f.now.body
 
     count : length (block.numbers ++ numbers line) ≡ r.body.judged
     count = length-append block.numbers (numbers line) ∙ sym body.judged
 
     few : length complete < r.wanted
-    few = omega (arith, f.complete, few_complete f)
+    few = omega (arith, f.complete, f.now.few)
 
     stands : (if is_mixed line then standing complete lost else after_numbers r.layout complete (with_line block line))
         ≡ (if length (block.numbers ++ numbers line) == due_count r.layout block.size
@@ -399,7 +397,7 @@ body_line {has_word} r complete block line numbered f unmixed due =
         let less : r.body.judged < r.body.due = ltb-true r.body.judged r.body.due e in
         let not_full : (length (block.numbers ++ numbers line) == due_count r.layout block.size) ≡ false =
         ne_eqb _ _ (λ z. let total = body.due in omega (arith, count)) in
-        let phase : r.phase ≡ phases.Body = body_or_last f ∙ ap (λ t. if t then phases.Body else phases.AfterLast) e in
+        let phase : r.phase ≡ phases.Body = f.now.phase ∙ ap (λ t. if t then phases.Body else phases.AfterLast) e in
         let next : line_ended_in r.phase r numbered ≡ at_next_line r = ap (λ p. line_ended_in p r numbered) phase in
         let same : block_of r.wanted (standing complete (inside block)) (numbers line)
         ≡ block_of r.wanted (standing complete (inside (with_line block line))) [] =
@@ -421,12 +419,12 @@ body_line {has_word} r complete block line numbered f unmixed due =
         (sym not_full)
         (record {
           complete = f.complete;
-          now = (
-            body_or_last f,
-            few_complete f,
-            size_fits f,
-            subst (λ n. FollowsBody r.layout block.size n r.body) counts body,
-          );
+          now = record {
+            phase = f.now.phase;
+            few = f.now.few;
+            fits = f.now.fits;
+            body = subst (λ n. FollowsBody r.layout block.size n r.body) counts body;
+          };
           instance = f.instance ∙ ap (option_map (instance_of r.layout)) same;
           held = f.held ∙ ap (time_count r.layout) same;
         }))
@@ -435,7 +433,7 @@ body_line {has_word} r complete block line numbered f unmixed due =
         let full : (length (block.numbers ++ numbers line) == due_count r.layout block.size) ≡ true =
         eq-eqb _ _ (let total = body.due in let most = body.few in omega (arith, count)) in
         let phase : r.phase ≡ phases.AfterLast =
-        body_or_last f ∙ ap (λ t. if t then phases.Body else phases.AfterLast) e in
+        f.now.phase ∙ ap (λ t. if t then phases.Body else phases.AfterLast) e in
         let next : line_ended_in r.phase r numbered ≡ block_ended (at_next_line r) =
         ap (λ p. line_ended_in p r numbered) phase in
         let pushed : length (complete ++ whole ∷ []) ≡ length complete + 1 = length_push complete whole in
@@ -452,7 +450,7 @@ body_line {has_word} r complete block line numbered f unmixed due =
         (sym full)
         (record {
           complete = omega (arith, f.complete, pushed);
-          now = (by_wanted (r.complete + 1 == r.wanted) refl, λ plain. holds_none);
+          now = record { phase = by_wanted (r.complete + 1 == r.wanted) refl; numbers = λ plain. holds_none };
           instance = f.instance ∙ ap (option_map (instance_of r.layout)) same;
           held = f.held ∙ ap (time_count r.layout) same;
         }))
@@ -466,7 +464,7 @@ body_line {has_word} r complete block line numbered f unmixed due =
         by_wanted false e =
             let other : r.complete + 1 ≢ r.wanted = eqb-false (r.complete + 1) r.wanted e in
             sym (ap (λ t. if t then phases.Seeking else phases.Done)
-            (lt-ltb (r.complete + 1) r.wanted (omega (arith, few_complete f))))
+            (lt-ltb (r.complete + 1) r.wanted (omega (arith, f.now.few))))
 
         ended : length (complete ++ whole ∷ []) ≡ length complete + 1
             → block_of r.wanted (completed complete whole) []

@@ -5,8 +5,8 @@ use Rattle.std.specs.Prelude.{option_map, slice_get, ◌-◌, ◌+◌}
 use Rattle.std.proofs.lemmas.Bool.{lt-ltb}
 use Rattle.pfs_layout.specs.declared.layout.Layout.{Layout}
 use Rattle.pfs_layout.specs.declared.scan.Line.{Line}
-use Rattle.pfs_layout.specs.declared.fields.Blocks.{Blocks}
-use Rattle.pfs_layout.specs.declared.fields.Phase.TheVariants as phases
+use Rattle.pfs_layout.specs.declared.blocks.Blocks.{Blocks}
+use Rattle.pfs_layout.specs.declared.blocks.Phase.TheVariants as phases
 use Rattle.pfs_layout.specs.Lines.{ended_parts, open_part, ended_numbers}
 use Rattle.pfs_layout.specs.Stand.{Block, seeking, stand, instance_of, standing}
 use Rattle.pfs_layout.specs.Refuse.{byte_fault}
@@ -31,10 +31,10 @@ follows_new layout wanted some = record {
   five_values = refl;
   blocks = record {
     complete = refl;
-    now = (
-      ap (λ t. if t then phases.Seeking else phases.Done) (sym (lt-ltb 0 wanted some)),
-      λ plain. record { count = refl; values = λ i low few. absurd (omega arith) },
-    );
+    now = record {
+      phase = ap (λ t. if t then phases.Seeking else phases.Done) (sym (lt-ltb 0 wanted some));
+      numbers = λ plain. record { count = refl; values = λ i low few. absurd (omega arith) };
+    };
     instance = ap (option_map (instance_of layout)) (sym none);
     held = ap (time_count layout) (sym none);
   };

@@ -15,9 +15,9 @@ use Rattle.pfs_layout.specs.declared.fault.LayoutFault.{LayoutFault}
 use Rattle.pfs_layout.specs.declared.fault.LayoutFault.TheVariants.{TimeRange, MachineNumber, ExtraNumber}
 use Rattle.pfs_layout.specs.declared.scan.TheConstants.{CEILING}
 use Rattle.pfs_layout.specs.declared.body.Body.{Body}
-use Rattle.pfs_layout.specs.declared.fields.Phase.{Phase}
-use Rattle.pfs_layout.specs.declared.fields.Phase.TheVariants as phases
-use Rattle.pfs_layout.specs.declared.fields.Blocks.{Blocks}
+use Rattle.pfs_layout.specs.declared.blocks.Phase.{Phase}
+use Rattle.pfs_layout.specs.declared.blocks.Phase.TheVariants as phases
+use Rattle.pfs_layout.specs.declared.blocks.Blocks.{Blocks}
 use Rattle.pfs_layout.specs.Size.{Size}
 use Rattle.pfs_layout.specs.Block.{any_time, machine_number, nothing, due_count, pair_due, due_at}
 use Rattle.pfs_layout.specs.Stand.{Block, Now, seeking, inside, lost, place_of_time, instance_of, standing}
@@ -29,8 +29,6 @@ use Rattle.pfs_layout.specs.Reader.{block_of, time_count, IsNextTime, FollowsBod
 use Rattle.pfs_layout.proofs.Files.SizeLemmas.{size_within}
 use Rattle.pfs_layout.proofs.Reading.NumberLemmas.{holds_push, time_behind, machine_behind, Keeping, keeping_time}
 use Rattle.pfs_layout.proofs.Reading.NumberLemmas.{keeping_machine}
-use Rattle.pfs_layout.proofs.Reading.BegunLemmas.{follows_body, size_fits, few_complete, body_or_last, holds_numbers}
-use Rattle.pfs_layout.proofs.Reading.BegunLemmas.{seeking_or_done}
 
 -- the fault, or what the fields say with the number
 abbrev pub NumberOutcome : Bool → Blocks → List Block → Now → List ℕ → ℕ → Blocks → Option LayoutFault → Type 0
@@ -61,10 +59,10 @@ unfolding number_ended
 sought_number {has_word} r complete more v first f live five =
     let next : number_ended r (min CEILING v) first ≡ record r { size_line = with_number r.size_line (min CEILING v) } =
     ap (λ phase. number_ended_in phase r (min CEILING v) first)
-    (seeking_if_live (nat_lt r.complete r.wanted) r.phase (seeking_or_done f) live) in
+    (seeking_if_live (nat_lt r.complete r.wanted) r.phase (f.now.phase) live) in
     subst (λ z. FollowsBlocks has_word z (standing complete seeking) (more ++ v ∷ [])) (sym next) (record {
       complete = f.complete;
-      now = (seeking_or_done f, λ no_word. holds_push r.size_line more v five (holds_numbers f no_word));
+      now = record { phase = f.now.phase; numbers = λ no_word. holds_push r.size_line more v five (f.now.numbers no_word) };
       instance = f.instance;
       held = f.held;
     })
@@ -148,11 +146,11 @@ time_follows : {has_word : Bool} (r : Blocks) (complete : List Block) (block : B
     → FollowsBlocks has_word (counted (stored r v) (after_time r.layout r.body)) (standing complete (inside block))
     (more ++ v ∷ [])
 time_follows {has_word} r complete block more v f due odd =
-    let body = follows_body f in
+    let body = f.now.body in
     let count : length (block.numbers ++ more) ≡ length block.numbers + length more =
     length-append block.numbers more in
     let n_is : length (block.numbers ++ more) ≡ r.body.judged = count ∙ sym body.judged in
-    let few : length complete < r.wanted = omega (arith, f.complete, few_complete f) in
+    let few : length complete < r.wanted = omega (arith, f.complete, f.now.few) in
     let place : place_of_time r.layout block.size r.body.job r.body.machine ≡ length (block.numbers ++ more) =
     time_place r.layout block.size r.body (length block.numbers + length more) body due
     (λ o. ap (λ n. n % 2) (sym body.judged) ∙ odd o)
@@ -165,14 +163,14 @@ time_follows {has_word} r complete block more v f due odd =
     (keeping_of r complete block more few f.instance f.held)) in
     record {
       complete = f.complete;
-      now = (
-        refl,
-        few_complete f,
-        size_fits f,
-        subst (λ n. FollowsBody r.layout block.size n (after_time r.layout r.body))
+      now = record {
+        phase = refl;
+        few = f.now.few;
+        fits = f.now.fits;
+        body = subst (λ n. FollowsBody r.layout block.size n (after_time r.layout r.body))
             (push_count block.numbers more v)
-            (time_behind r.layout block.size (length block.numbers + length more) r.body body due odd),
-      );
+            (time_behind r.layout block.size (length block.numbers + length more) r.body body due odd);
+      };
       instance = kept.0;
       held = kept.1;
     }
@@ -182,11 +180,11 @@ machine_follows : {has_word : Bool} (r : Blocks) (complete : List Block) (block 
     → r.body.judged < r.body.due → r.body.judged % 2 ≡ 0
     → FollowsBlocks has_word (counted r (after_machine r.body)) (standing complete (inside block)) (more ++ v ∷ [])
 machine_follows {has_word} r complete block more v layout f due even =
-    let body = follows_body f in
+    let body = f.now.body in
     let count : length (block.numbers ++ more) ≡ length block.numbers + length more =
     length-append block.numbers more in
     let n_is : length (block.numbers ++ more) ≡ r.body.judged = count ∙ sym body.judged in
-    let few : length complete < r.wanted = omega (arith, f.complete, few_complete f) in
+    let few : length complete < r.wanted = omega (arith, f.complete, f.now.few) in
     let old = keeping_of r complete block more few f.instance f.held in
     let new =
     subst (λ l. Keeping l (length complete + 1 == r.wanted)
@@ -203,14 +201,14 @@ machine_follows {has_word} r complete block more v layout f due even =
     (subst (λ l. FollowsBody l block.size (length block.numbers + length more) r.body) layout body) due even in
     record {
       complete = f.complete;
-      now = (
-        refl,
-        few_complete f,
-        size_fits f,
-        subst (λ n. FollowsBody r.layout block.size n (after_machine r.body)) (push_count block.numbers more v)
+      now = record {
+        phase = refl;
+        few = f.now.few;
+        fits = f.now.fits;
+        body = subst (λ n. FollowsBody r.layout block.size n (after_machine r.body)) (push_count block.numbers more v)
             (subst (λ l. FollowsBody l block.size ((length block.numbers + length more) + 1) (after_machine r.body))
-            (sym layout) behind),
-      );
+            (sym layout) behind);
+      };
       instance = kept.0;
       held = kept.1;
     }
@@ -266,8 +264,8 @@ machine_step {has_word} r complete block more v first layout f due even = by_sam
   where
     small : r.body.machine < CEILING
     small =
-        let body = follows_body f in
-        let within = size_within block.size (size_fits f) in
+        let body = f.now.body in
+        let within = size_within block.size (f.now.fits) in
         omega (arith, body.machine, body.machines, within.sizes.few_machines)
 
     clipped : (t : Bool) → (v == r.body.machine) ≡ t → (min CEILING v == r.body.machine) ≡ t
@@ -307,7 +305,7 @@ due_step : {has_word : Bool} (layout : Layout) (r : Blocks) (complete : List Blo
     (misfit (due_at layout block.size (length block.numbers + length more)) v first)
 unfolding due_at
 due_step {has_word} Taillard r complete block more v first layout f due =
-    let body = follows_body f in
+    let body = f.now.body in
     let lt : nat_lt (length block.numbers + length more) (block.size.jobs * block.size.machines) ≡ true =
     lt-ltb _ _ (let total : r.body.due ≡ block.size.jobs * block.size.machines =
     body.due ∙ ap (λ l. due_count l block.size) layout in
@@ -326,7 +324,7 @@ due_step {has_word} Taillard r complete block more v first layout f due =
 due_step {has_word} OrLib r complete block more v first layout f due = by_half (r.body.judged % 2 == 0) refl
   where
     body : FollowsBody r.layout block.size (length block.numbers + length more) r.body
-    body = follows_body f
+    body = f.now.body
 
     lt : nat_lt (length block.numbers + length more) (2 * (block.size.jobs * block.size.machines)) ≡ true
     lt =
@@ -411,21 +409,21 @@ unfolding number_ended
 begun_number {has_word} r complete block more v first f = by_due (nat_lt r.body.judged r.body.due) refl
   where
     body : FollowsBody r.layout block.size (length block.numbers + length more) r.body
-    body = follows_body f
+    body = f.now.body
 
     by_due : (t : Bool) → nat_lt r.body.judged r.body.due ≡ t
         → NumberOutcome has_word r complete (inside block) more v (number_ended_in r.phase r (min CEILING v) first)
         (misfit (due_at r.layout block.size (length block.numbers + length more)) v first)
     by_due true e =
         let phase : r.phase ≡ phases.Body =
-        (body_phase (nat_lt r.body.judged r.body.due) r.phase (body_or_last f)).0 e in
+        (body_phase (nat_lt r.body.judged r.body.due) r.phase (f.now.phase)).0 e in
         subst (λ p. NumberOutcome has_word r complete (inside block) more v (number_ended_in p r (min CEILING v) first)
         (misfit (due_at r.layout block.size (length block.numbers + length more)) v first))
         (sym phase)
         (due_step r.layout r complete block more v first refl f (ltb-true r.body.judged r.body.due e))
     by_due false e =
         let phase : r.phase ≡ phases.AfterLast =
-        (body_phase (nat_lt r.body.judged r.body.due) r.phase (body_or_last f)).1 e in
+        (body_phase (nat_lt r.body.judged r.body.due) r.phase (f.now.phase)).1 e in
         let all : r.body.due ≤ r.body.judged = ltb-false r.body.judged r.body.due e in
         let extra =
         extra_step r.layout block.size (length block.numbers + length more) v first

@@ -14,9 +14,9 @@ use Rattle.pfs_base.proofs.Published.Lists.{slice_get-append}
 use Rattle.pfs_layout.specs.declared.layout.Layout.{Layout}
 use Rattle.pfs_layout.specs.declared.fault.LayoutFault.{LayoutFault}
 use Rattle.pfs_layout.specs.declared.fault.LayoutFault.TheVariants.{NoBlock, Truncated, Memory}
-use Rattle.pfs_layout.specs.declared.fields.Phase.{Phase}
-use Rattle.pfs_layout.specs.declared.fields.Phase.TheVariants as phases
-use Rattle.pfs_layout.specs.declared.fields.Blocks.{Blocks}
+use Rattle.pfs_layout.specs.declared.blocks.Phase.{Phase}
+use Rattle.pfs_layout.specs.declared.blocks.Phase.TheVariants as phases
+use Rattle.pfs_layout.specs.declared.blocks.Blocks.{Blocks}
 use Rattle.pfs_layout.specs.Bytes.{is_digit, is_line_end, is_word_byte}
 use Rattle.pfs_layout.specs.Lines.{lines, ended_lines, open_line, is_number_line, numbers, ended_numbers}
 use Rattle.pfs_layout.specs.Block.{due_count, stated_size, are_due}
@@ -41,7 +41,6 @@ use Rattle.pfs_layout.proofs.Reading.FeedLemmas.{refused_fault, done_enough}
 use Rattle.pfs_layout.proofs.Reading.FinishLemmas.{stand_lines, sought_fault, sought_end, sought_told, begun_end}
 use Rattle.pfs_layout.proofs.Reading.FinishLemmas.{BegunEnd, begun_told}
 use Rattle.pfs_layout.proofs.Reading.ReadNames.{same_error, same_some}
-use Rattle.pfs_layout.proofs.Reading.BegunLemmas.{follows_body}
 
 -- what the end of the input is for a reader that has met no fault at a byte
 pub record EndOutcome (r : Fields) (text : List ℕ) : Type 0 where
@@ -154,7 +153,7 @@ live_end r text f live = by_now (stand_of r.layout text).now refl
 
         short : length block.numbers < due_count r.layout block.size
         short =
-            let b = follows_body (blocks_at (inside block) e) in
+            let b = (blocks_at (inside block) e).now.body in
             let few = b.few in
             let other : length block.numbers ≢ due_count r.layout block.size = begun.short in
             omega (arith, b.due, b.judged)

@@ -12,9 +12,9 @@ use Rattle.pfs_base.specs.Problem.{Problem}
 use Rattle.pfs_layout.specs.declared.layout.Layout.{Layout}
 use Rattle.pfs_layout.specs.declared.fault.LayoutFault.{LayoutFault}
 use Rattle.pfs_layout.specs.declared.fault.LayoutFault.TheVariants.{Read, Memory}
-use Rattle.pfs_layout.specs.declared.fields.Phase.{Phase}
-use Rattle.pfs_layout.specs.declared.fields.Phase.TheVariants as phases
-use Rattle.pfs_layout.specs.declared.fields.Progress.{Progress}
+use Rattle.pfs_layout.specs.declared.blocks.Phase.{Phase}
+use Rattle.pfs_layout.specs.declared.blocks.Phase.TheVariants as phases
+use Rattle.pfs_layout.specs.declared.blocks.Progress.{Progress}
 use Rattle.pfs_layout.specs.declared.reader.TheConstants.{PIECE}
 use Rattle.pfs_layout.specs.Bytes.{is_word_byte}
 use Rattle.pfs_layout.specs.Lines.{ended_lines, open_line, ended_numbers}

@@ -18,9 +18,9 @@ use Rattle.pfs_layout.specs.declared.fault.LayoutFault.{LayoutFault}
 use Rattle.pfs_layout.specs.declared.fault.LayoutFault.TheVariants.{MixedLine}
 use Rattle.pfs_layout.specs.declared.scan.Line.{Line}
 use Rattle.pfs_layout.specs.declared.scan.Number.{Number}
-use Rattle.pfs_layout.specs.declared.fields.Phase.{Phase}
-use Rattle.pfs_layout.specs.declared.fields.Phase.TheVariants as phases
-use Rattle.pfs_layout.specs.declared.fields.Blocks.{Blocks}
+use Rattle.pfs_layout.specs.declared.blocks.Phase.{Phase}
+use Rattle.pfs_layout.specs.declared.blocks.Phase.TheVariants as phases
+use Rattle.pfs_layout.specs.declared.blocks.Blocks.{Blocks}
 use Rattle.pfs_layout.specs.Bytes.{is_digit, is_blank, is_line_end, is_word_byte}
 use Rattle.pfs_layout.specs.Lines.{ended_parts, open_line, numbers, ended_numbers}
 use Rattle.pfs_layout.specs.Size.{Size, is_within_limits}
@@ -46,7 +46,6 @@ use Rattle.pfs_layout.proofs.Reading.ByteSteps.{fault_within_limit, place_fault,
 use Rattle.pfs_layout.proofs.Reading.ByteSteps.{judged}
 use Rattle.pfs_layout.proofs.Reading.ByteSteps.{judged_digit, judged_word, judged_blank}
 use Rattle.pfs_layout.proofs.Reading.EndSteps.{word_byte, blank_byte, end_byte}
-use Rattle.pfs_layout.proofs.Reading.BegunLemmas.{follows_body, size_fits, few_complete, body_or_last, seeking_or_done}
 
 -- ---- what a byte leaves as it is
 
@@ -249,12 +248,12 @@ stands_of r text f = by_now (stand_of r.layout text).now f.blocks.now
     by_now : (now : Now)
         → FollowsNow (list_any is_word_byte (open_line text)) r.blocks now (ended_numbers (open_line text))
         → StandsIn r.phase r text
-    by_now seeking n = subst (λ p. StandsIn p r text) (sym n.0) (either (nat_lt r.complete r.wanted))
+    by_now seeking n = subst (λ p. StandsIn p r text) (sym n.phase) (either (nat_lt r.complete r.wanted))
       where
         either : (t : Bool) → StandsIn (if t then phases.Seeking else phases.Done) r text
         either true = f
         either false = f
-    by_now (inside block) n = subst (λ p. StandsIn p r text) (sym n.0) (either (nat_lt r.body.judged r.body.due))
+    by_now (inside block) n = subst (λ p. StandsIn p r text) (sym n.phase) (either (nat_lt r.body.judged r.body.due))
       where
         either : (t : Bool) → StandsIn (if t then phases.Body else phases.AfterLast) r text
         either true = f
@@ -378,13 +377,13 @@ due_few OrLib size within =
 
 begun_ready : (has_word : Bool) (r : Blocks) (complete : List Block) (block : Block) (more : List ℕ)
     → FollowsBlocks has_word r (standing complete (inside block)) more → r.phase ≡ phases.Body → CanCount r
-begun_ready has_word r complete block more f e = by_due (nat_lt r.body.judged r.body.due) refl (body_or_last f)
+begun_ready has_word r complete block more f e = by_due (nat_lt r.body.judged r.body.due) refl (f.now.phase)
   where
     body : FollowsBody r.layout block.size (length block.numbers + length more) r.body
-    body = follows_body f
+    body = f.now.body
 
     least : length complete < r.wanted
-    least = omega (arith, f.complete, few_complete f)
+    least = omega (arith, f.complete, f.now.few)
 
     kept : Keeping r.layout (length complete + 1 == r.wanted)
         (record { size = block.size; numbers = block.numbers ++ more }) r.instance r.held
@@ -422,7 +421,7 @@ begun_ready has_word r complete block more f e = by_due (nat_lt r.body.judged r.
         → CanCount r
     by_due true t p =
         let held = few (length complete + 1 == r.wanted) kept.held in
-        let due = due_few r.layout block.size (size_fits f) in
+        let due = due_few r.layout block.size (f.now.fits) in
         let less = ltb-true r.body.judged r.body.due t in
         record {
           place = record { judged = less; job = body.job; machine = body.machine };
@@ -436,7 +435,7 @@ begun_ready has_word r complete block more f e = by_due (nat_lt r.body.judged r.
 can_count : (has_word : Bool) (r : Blocks) (complete : List Block) (now : Now) (more : List ℕ)
     → FollowsBlocks has_word r (standing complete now) more → r.phase ≡ phases.Body → CanCount r
 can_count has_word r complete seeking more f e =
-    absurd (either (nat_lt r.complete r.wanted) (sym e ∙ seeking_or_done f))
+    absurd (either (nat_lt r.complete r.wanted) (sym e ∙ f.now.phase))
   where
     either : (t : Bool) → phases.Body ≡ (if t then phases.Seeking else phases.Done) → ⊥
     either true e = cc

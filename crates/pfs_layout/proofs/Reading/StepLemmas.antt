@@ -11,9 +11,9 @@ use Rattle.pfs_layout.specs.declared.fault.LayoutFault.TheVariants.{SeedRange, R
 use Rattle.pfs_layout.specs.declared.scan.Number.{Number}
 use Rattle.pfs_layout.specs.declared.size_line.SizeLine.{SizeLine}
 use Rattle.pfs_layout.specs.declared.body.Body.{Body}
-use Rattle.pfs_layout.specs.declared.fields.Phase.{Phase}
-use Rattle.pfs_layout.specs.declared.fields.Phase.TheVariants as phases
-use Rattle.pfs_layout.specs.declared.fields.Blocks.{Blocks}
+use Rattle.pfs_layout.specs.declared.blocks.Phase.{Phase}
+use Rattle.pfs_layout.specs.declared.blocks.Phase.TheVariants as phases
+use Rattle.pfs_layout.specs.declared.blocks.Blocks.{Blocks}
 use Rattle.pfs_layout.specs.Size.{Size}
 use Rattle.pfs_layout.specs.Refuse.{size_fault}
 use Rattle.pfs_layout.specs.Step.{is_live, stated_by, no_numbers, at_next_line, size_judged, size_line_ended}

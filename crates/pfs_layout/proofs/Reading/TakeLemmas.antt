@@ -11,8 +11,8 @@ use Rattle.pfs_layout.specs.declared.scan.Number.{Number}
 use Rattle.pfs_layout.specs.declared.scan.TheConstants.{CEILING}
 use Rattle.pfs_layout.specs.declared.scan.Event.{Event}
 use Rattle.pfs_layout.specs.declared.scan.Event.TheVariants as events
-use Rattle.pfs_layout.specs.declared.fields.Phase.TheVariants as phases
-use Rattle.pfs_layout.specs.declared.fields.Blocks.{Blocks}
+use Rattle.pfs_layout.specs.declared.blocks.Phase.TheVariants as phases
+use Rattle.pfs_layout.specs.declared.blocks.Blocks.{Blocks}
 use Rattle.pfs_layout.specs.Bytes.{is_word_byte, is_digit, is_blank, is_line_end}
 use Rattle.pfs_layout.specs.Lines.{ended_lines, open_line, ended_numbers}
 use Rattle.pfs_layout.specs.Stand.{Block, Now, seeking, inside, lost, Stand, stand}
@@ -95,7 +95,7 @@ taken_step old now piece i t within room live =
 
 seeks : (worded : Bool) (r : Blocks) (now : Now) (more : List ℕ) → FollowsNow worded r now more → r.phase ≡ phases.Seeking → now ≡ seeking
 seeks worded r seeking more f e = refl
-seeks worded r (inside block) more f e = absurd (either (nat_lt r.body.judged r.body.due) (sym e ∙ f.0))
+seeks worded r (inside block) more f e = absurd (either (nat_lt r.body.judged r.body.due) (sym e ∙ f.phase))
   where
     either : (t : Bool) → phases.Seeking ≡ (if t then phases.Body else phases.AfterLast) → ⊥
     either true e = cc
@@ -103,7 +103,7 @@ seeks worded r (inside block) more f e = absurd (either (nat_lt r.body.judged r.
 seeks worded r lost more f e = absurd f
 
 begins : (worded : Bool) (r : Blocks) (now : Now) (more : List ℕ) → FollowsNow worded r now more → r.phase ≡ phases.Body → (block : Block) × (now ≡ inside block)
-begins worded r seeking more f e = absurd (either (nat_lt r.complete r.wanted) (sym e ∙ f.0))
+begins worded r seeking more f e = absurd (either (nat_lt r.complete r.wanted) (sym e ∙ f.phase))
   where
     either : (t : Bool) → phases.Body ≡ (if t then phases.Seeking else phases.Done) → ⊥
     either true e = cc

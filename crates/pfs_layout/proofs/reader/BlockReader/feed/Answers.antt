@@ -1,7 +1,7 @@
 -- A reader that was refused memory stands nowhere, and no more times are held behind a piece than the wanted block has.
 use Rattle.std.proofs.Common.{◌≡◌, ◌++◌, sym, subst}
 use Rattle.std.specs.Prelude.{IfErr}
-use Rattle.pfs_layout.specs.declared.fields.Phase.TheVariants as phases
+use Rattle.pfs_layout.specs.declared.blocks.Phase.TheVariants as phases
 use Rattle.pfs_layout.specs.Reader.{Fields, fields, StandsAfter, HoldsFew}
 use Rattle.pfs_layout.proofs.Reading.FeedLemmas.{memory_nowhere}
 use Rattle.pfs_layout.proofs.Reading.HeldLemmas.{feed_few}

@@ -2,7 +2,7 @@
 use Rattle.std.proofs.Common.{◌≡◌, Option, sym, ◌∙◌, ap, subst, Some, None}
 use Rattle.std.specs.Prelude.{Ok, Err}
 use Rattle.pfs_base.specs.Problem.{Problem}
-use Rattle.pfs_layout.specs.declared.fields.Blocks.{Blocks}
+use Rattle.pfs_layout.specs.declared.blocks.Blocks.{Blocks}
 use Rattle.pfs_layout.specs.Step.{end_fault, at_end}
 use Rattle.pfs_layout.specs.Reader.{Fields, fields, StandsAfter, FinishMeets}
 use Rattle.pfs_layout.proofs.Reading.OutcomeLemmas.{finish_tells, end_has_instance}

@@ -2,7 +2,7 @@
 use Rattle.std.proofs.Common.{sym, subst}
 use Rattle.pfs_layout.specs.Step.{Keeps}
 use Rattle.pfs_layout.proofs.Reading.StepLemmas.{keeps_number}
-use Rattle.pfs_layout.proofs.fields.Blocks.end_last_number.Goals as goal
+use Rattle.pfs_layout.proofs.blocks.Blocks.end_last_number.Goals as goal
 
 pub returns-in-Some-clause-kept : goal.returns-in-Some-clause-kept
 returns-in-Some-clause-kept c =

@@ -2,7 +2,7 @@
 use Rattle.std.proofs.Common.{sym, ◌∙◌}
 use Rattle.pfs_layout.specs.Reader.{fields}
 use Rattle.pfs_layout.proofs.Reading.ReaderLemmas.{reader_end_ready}
-use Rattle.pfs_layout.proofs.fields.Blocks.judge_end.Goals as goal
+use Rattle.pfs_layout.proofs.blocks.Blocks.judge_end.Goals as goal
 
 pub end_last_number-requires-clause-can : goal.end_last_number-requires-clause-can
 end_last_number-requires-clause-can c =

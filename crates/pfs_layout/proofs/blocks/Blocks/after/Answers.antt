@@ -1,8 +1,8 @@
 -- The judgement of a number wants no memory.
 use Rattle.std.proofs.Common.{sym, ◌∙◌, ap}
-use Rattle.pfs_layout.specs.declared.fields.Blocks.{Blocks}
+use Rattle.pfs_layout.specs.declared.blocks.Blocks.{Blocks}
 use Rattle.pfs_layout.proofs.Reading.StepLemmas.{keeps_number}
-use Rattle.pfs_layout.proofs.fields.Blocks.after.Goals as goal
+use Rattle.pfs_layout.proofs.blocks.Blocks.after.Goals as goal
 
 pub returns-in-NumberEnded-clause-memory : goal.returns-in-NumberEnded-clause-memory
 returns-in-NumberEnded-clause-memory c h =

@@ -4,15 +4,15 @@ use Rattle.std.specs.Prelude.{Err}
 use Rattle.std.proofs.lemmas.List.{length-take}
 use Rattle.pfs_base.specs.declared.limits.TheConstants.{LONGEST_INPUT}
 use Rattle.pfs_layout.specs.declared.fault.LayoutFault.TheVariants.{TooLong, Memory}
-use Rattle.pfs_layout.specs.declared.fields.Phase.TheVariants as phases
-use Rattle.pfs_layout.specs.declared.fields.Blocks.{Blocks}
+use Rattle.pfs_layout.specs.declared.blocks.Phase.TheVariants as phases
+use Rattle.pfs_layout.specs.declared.blocks.Blocks.{Blocks}
 use Rattle.pfs_layout.specs.Step.{is_live}
 use Rattle.pfs_layout.specs.Reader.{fields, FeedMeets}
 use Rattle.pfs_layout.proofs.Reading.StepLemmas.{live-memory}
 use Rattle.pfs_layout.proofs.Reading.ReaderLemmas.{live_follows}
 use Rattle.pfs_layout.proofs.Reading.FeedLemmas.{feed_of, reader_of, idle_meets, front_meets_as, long_meets_as}
 use Rattle.pfs_layout.proofs.Reading.FeedLemmas.{long_stands}
-use Rattle.pfs_layout.proofs.fields.Blocks.feed.Goals as goal
+use Rattle.pfs_layout.proofs.blocks.Blocks.feed.Goals as goal
 
 pub returns-then-not-is_live-clause-meets : goal.returns-then-not-is_live-clause-meets
 returns-then-not-is_live-clause-meets c text s =

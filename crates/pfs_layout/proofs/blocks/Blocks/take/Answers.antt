@@ -3,7 +3,7 @@ use Rattle.std.proofs.Common.{get_or, sym, ◌∙◌, arith}
 use Rattle.pfs_layout.specs.Reader.{fields}
 use Rattle.pfs_layout.proofs.Reading.TakeLemmas.{taken_ready, taken_quiet, taken_event, taken_end}
 use Rattle.pfs_layout.proofs.Reading.TakeLemmas.{digit_means, blank_means, blank_leads, word_means, word_leads}
-use Rattle.pfs_layout.proofs.fields.Blocks.take.Goals as goal
+use Rattle.pfs_layout.proofs.blocks.Blocks.take.Goals as goal
 
 -- ---- a digit, or a word byte, that means nothing
 

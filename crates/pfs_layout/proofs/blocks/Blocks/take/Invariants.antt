@@ -1,7 +1,7 @@
 -- A live reader behind the bytes so far.
 use Rattle.pfs_layout.specs.Reader.{fields}
 use Rattle.pfs_layout.proofs.Reading.TakeLemmas.{TakenTo}
-use Rattle.pfs_layout.proofs.fields.Blocks.take.Given as goal
+use Rattle.pfs_layout.proofs.blocks.Blocks.take.Given as goal
 
 abbrev pub invariant-loop-b : goal.invariant-loop-b
 invariant-loop-b l = TakenTo (fields l.fn.last l.fn.self) (fields l.line l.self) l.piece l.b-index
