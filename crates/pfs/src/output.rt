@@ -36,7 +36,8 @@ impl<W: Write> Write for Counted<W> {
     fn write(&mut self, buf: &[u8]) -> io::Result<usize>
         ensures bound { WritesAtMost result buf.now }
         ensures bytes { WriteAppends (W.contents self.old.writer) (W.contents self.new.writer) result buf.now }
-        ensures counted { IfOk result (λ count. self.old.taken + count < 2 ^ 64 → self.new.taken ≡ self.old.taken + count) }
+        ensures counted { IfOk result (λ count.
+            self.old.taken + count < 2 ^ 64 → self.new.taken ≡ self.old.taken + count) }
         ensures kept { IfErr result (λ _. self.new.taken ≡ self.old.taken) }
     {
         let Ok(count) = self.writer.write(buf) else {

@@ -57,8 +57,10 @@ pub record ExactlyOne {A : Type 0} (P : A → Type 0) : Type 0 where
 -- an input holds the file of exactly one problem and has no fault, or it has exactly one fault and holds no file
 abbrev pub OneVerdict : Type 0
 OneVerdict = (layout : Layout) (input : List ℕ) (k : ℕ) → 1 ≤ k
-    → (ExactlyOne (IsInstanceFile limits layout input k) × ((fault : LayoutFault) → ¬ RefusesInstance layout input k fault))
-    ⊎ (ExactlyOne (RefusesInstance layout input k) × ((problem : Problem) → ¬ IsInstanceFile limits layout input k problem))
+    → (ExactlyOne (IsInstanceFile limits layout input k)
+    × ((fault : LayoutFault) → ¬ RefusesInstance layout input k fault))
+    ⊎ (ExactlyOne (RefusesInstance layout input k)
+    × ((problem : Problem) → ¬ IsInstanceFile limits layout input k problem))
 
 -- which problem's file an input holds can be computed
 abbrev pub AcceptedLaw : Type 0

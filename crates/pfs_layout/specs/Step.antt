@@ -2,7 +2,7 @@
 -- the blocks. But for `is_live`, whether a further byte is wanted, only the contracts of private functions speak
 -- of it: what a reader's fields say of the bytes that it has read stands in `Reader`.
 use Rattle.std.specs.Prelude.{◌≡◌, ◌≢◌, ℕ, ◌+◌, ◌-◌, ◌*◌, ◌/◌, ◌%◌, ◌<◌, ◌≤◌, min, Bool, true, false, not, ◌&&◌, ◌||◌}
-use Rattle.std.specs.Prelude.{◌==◌, nat_lt, replicate, slice_index, slice_set, Option, Some, None, is_some, option_map}
+use Rattle.std.specs.Prelude.{◌==◌, nat_lt, List, replicate, slice_index, slice_set, Option, Some, None, is_some, option_map}
 use Rattle.std.specs.Prelude.{IfSome, if◌then◌else◌}
 use Rattle.std.specs.Option.{option_or}
 use Rattle.pfs_base.specs.declared.limits.TheConstants.{LONGEST_TIME, LONGEST_INPUT}
@@ -102,18 +102,22 @@ with_number line value = record {
 abbrev pub no_numbers : SizeLine
 no_numbers = record { count = 0; values = replicate 5 0 }
 
+-- the size of these numbers, in the order of Taillard's size lines
+abbrev pub size_of : ℕ → ℕ → ℕ → ℕ → ℕ → Size
+size_of jobs machines seed upper lower =
+    record { jobs = jobs; machines = machines; notes = record { seed = seed; upper = upper; lower = lower } }
+
+abbrev pub size_of_five : List ℕ → Size
+size_of_five values = size_of (slice_index values 0) (slice_index values 1) (slice_index values 2) (slice_index values 3)
+    (slice_index values 4)
+
+abbrev pub size_of_two : List ℕ → Size
+size_of_two values = size_of (slice_index values 0) (slice_index values 1) 0 0 0
+
 -- what the numbers state, where they are as many as the layout says
 abbrev pub stated_by : Layout → SizeLine → Option Size
-stated_by Taillard line = if line.count == 5 then Some (record {
-  jobs = slice_index line.values 0;
-  machines = slice_index line.values 1;
-  notes = record { seed = slice_index line.values 2; upper = slice_index line.values 3; lower = slice_index line.values 4 };
-}) else None
-stated_by OrLib line = if line.count == 2 then Some (record {
-  jobs = slice_index line.values 0;
-  machines = slice_index line.values 1;
-  notes = record { seed = 0; upper = 0; lower = 0 };
-}) else None
+stated_by Taillard line = if line.count == 5 then Some (size_of_five line.values) else None
+stated_by OrLib line = if line.count == 2 then Some (size_of_two line.values) else None
 
 -- the size that was given
 abbrev pub size_given : Stated → Size
@@ -353,7 +357,8 @@ pub record KeepsHeld (old new : Blocks) : Type 0 where
 pub record CanCount (r : Blocks) : Type 0 where
   pub place : HasPlace r.body
   pub held : r.held < LONGEST_INPUT
-  pub instance : IfSome r.instance (λ problem. (problem.shop.jobs ≡ r.body.jobs) × (problem.shop.machines ≡ r.body.machines))
+  pub instance : IfSome r.instance
+      (λ problem. (problem.shop.jobs ≡ r.body.jobs) × (problem.shop.machines ≡ r.body.machines))
 
 -- what the judgement of an event needs
 pub record IsReady (r : Blocks) : Type 0 where

@@ -213,7 +213,9 @@ impl Blocks {
     fn instance_for(&self, alloc: Global, stated: Stated) -> Result<Option<Instance>, BaseFault>
         requires complete { self.now.complete < self.now.wanted }
         requires within { is_within_limits (size_given stated) ≡ true }
-        ensures made { IfOk result (λ instance. instance ≡ (if self.now.complete + 1 == self.now.wanted then Some (empty_problem (size_given stated)) else None)) }
+        ensures made { IfOk result (λ instance. instance ≡ (if self.now.complete + 1 == self.now.wanted
+            then Some (empty_problem (size_given stated))
+            else None)) }
         ensures wanted { OnErr result (self.now.complete + 1 ≡ self.now.wanted) }
     {
         let wanted = self.wanted;
@@ -229,7 +231,8 @@ impl Blocks {
     fn begin_block(&mut self, alloc: Global, stated: Stated)
         requires complete { self.old.complete < self.old.wanted }
         requires within { is_within_limits (size_given stated) ≡ true }
-        ensures begun { self.new.phase ≢ Phase.Refused LayoutFault.Memory → self.new ≡ block_begun self.old (size_given stated) }
+        ensures begun { self.new.phase ≢ Phase.Refused LayoutFault.Memory
+            → self.new ≡ block_begun self.old (size_given stated) }
         ensures memory { self.new.phase ≡ Phase.Refused LayoutFault.Memory → self.old.complete + 1 ≡ self.old.wanted }
         ensures kept { KeepsHeld self.old self.new }
     {
@@ -248,9 +251,11 @@ impl Blocks {
     #[inline(never)]
     fn end_size_line(&mut self, alloc: Global, size_line: SizeLine, line: usize)
         requires complete { self.old.complete < self.old.wanted }
-        ensures ended { self.new.phase ≢ Phase.Refused LayoutFault.Memory → self.new ≡ size_line_ended self.old size_line line }
+        ensures ended { self.new.phase ≢ Phase.Refused LayoutFault.Memory
+            → self.new ≡ size_line_ended self.old size_line line }
         ensures memory { self.new.phase ≡ Phase.Refused LayoutFault.Memory → self.old.complete + 1 ≡ self.old.wanted }
-        ensures begins { self.new.phase ≡ Phase.Refused LayoutFault.Memory → (size_line_ended self.old size_line line).phase ≡ Phase.Body }
+        ensures begins { self.new.phase ≡ Phase.Refused LayoutFault.Memory
+            → (size_line_ended self.old size_line line).phase ≡ Phase.Body }
         ensures kept { KeepsHeld self.old self.new }
     {
         match size_line.stated(self.layout, line) {
@@ -279,8 +284,10 @@ impl Blocks {
         requires complete { self.old.complete < self.old.wanted }
         requires line { self.old.line ≤ LONGEST_INPUT }
         requires memory { self.old.phase ≢ Phase.Refused LayoutFault.Memory }
-        ensures ended { self.new.phase ≢ Phase.Refused LayoutFault.Memory → self.new ≡ line_ended self.old is_number_line }
-        ensures memory { self.new.phase ≡ Phase.Refused LayoutFault.Memory → LacksMemory self.old (line_ended self.old is_number_line) }
+        ensures ended { self.new.phase ≢ Phase.Refused LayoutFault.Memory
+            → self.new ≡ line_ended self.old is_number_line }
+        ensures memory { self.new.phase ≡ Phase.Refused LayoutFault.Memory
+            → LacksMemory self.old (line_ended self.old is_number_line) }
         ensures kept { KeepsHeld self.old self.new }
     {
         let line = self.line;

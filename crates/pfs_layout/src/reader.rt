@@ -1,5 +1,6 @@
 //! The push reader of instance files.
-ghost use Rattle.std.specs.Prelude.{◌≡◌, ◌≢◌, ◌↔◌, ℕ, ◌+◌, ◌≤◌, List, [], ◌++◌, length, true, false, IfOk, IfErr, IfSome};
+ghost use Rattle.std.specs.Prelude.{◌≡◌, ◌≢◌, ◌↔◌, ℕ, ◌+◌, ◌≤◌, List, [], ◌++◌, length, true, false};
+ghost use Rattle.std.specs.Prelude.{IfOk, IfErr, IfSome};
 ghost use Rattle.std.specs.Result.{result_err};
 ghost use Rattle.pfs_base.specs.Limits.{limits};
 ghost use Rattle.pfs_layout.specs.File.{IsInstanceFile};
@@ -56,7 +57,8 @@ impl BlockReader {
     /// one. Beside them the reader keeps the number that is being read, and a fixed number of fields.
     pub fn held(&self) -> usize
         ensures held { result ≡ self.now.held }
-        ensures few { (text : List ℕ) → StandsAfter self.now text → HoldsFew self.now.layout self.now.wanted text result }
+        ensures few { (text : List ℕ) → StandsAfter self.now text
+            → HoldsFew self.now.layout self.now.wanted text result }
         ensures memory { self.now.phase ≡ Phase.Refused LayoutFault.Memory → result ≡ 0 }
     {
         self.blocks.held
@@ -67,13 +69,16 @@ impl BlockReader {
     ///
     /// A reader that was refused memory stands behind no text at all.
     pub fn feed(&mut self, piece: &[u8]) -> Result<Progress, LayoutFault>
-        ensures idle { live_test self.old.phase ≡ false → (result ≡ progress_of self.old.phase 0) × (self.new ≡ self.old) }
+        ensures idle { live_test self.old.phase ≡ false
+            → (result ≡ progress_of self.old.phase 0) × (self.new ≡ self.old) }
         ensures whole { IfOk result (λ progress. progress.done ≡ false → progress.used ≡ length piece.now) }
         ensures stays { IfErr result (λ fault. self.new.phase ≡ Phase.Refused fault) }
         ensures nowhere { result ≡ Err LayoutFault.Memory → (text : List ℕ) → ¬ StandsAfter self.new text }
-        ensures few { (text : List ℕ) → StandsAfter self.old text → HoldsFew self.old.layout self.old.wanted (text ++ piece.now) self.new.held }
+        ensures few { (text : List ℕ) → StandsAfter self.old text
+            → HoldsFew self.old.layout self.old.wanted (text ++ piece.now) self.new.held }
         ensures moved { IfOk result (λ progress. self.new.digits.offset ≡ self.old.digits.offset + progress.used) }
-        ensures meets { (text : List ℕ) → StandsAfter self.old text → FeedMeets self.old text piece.now result self.new }
+        ensures meets { (text : List ℕ) → StandsAfter self.old text
+            → FeedMeets self.old text piece.now result self.new }
     {
         self.blocks.feed(self.alloc, &mut self.last, piece)
     }
@@ -119,7 +124,8 @@ pub fn read_block<R: Source>(
         → IfSome (R.left reader.old) (λ bytes. RefusesInstance layout bytes block fault)) }
     ensures read { result ≡ Err LayoutFault.Read ↔ (R.has_failed reader.new ≡ true) }
     ensures no_seed { result ≢ Err LayoutFault.SeedRange }
-    ensures as_far { IfSome (R.left reader.old) (λ bytes. ReadsAsFar layout block bytes (R.left reader.new) (result_err result)) }
+    ensures as_far { IfSome (R.left reader.old)
+        (λ bytes. ReadsAsFar layout block bytes (R.left reader.new) (result_err result)) }
 {
     let mut taker = BlockReader::new(alloc, layout, block);
     let mut buf = [0; PIECE];
