@@ -114,8 +114,8 @@ impl Shop for Metered<'_> {
 }
 
 impl<'a> Metered<'a> {
-    // A bench that has counted no cell. The times are those of job 0 on each machine, then those of
-    // job 1, and so on.
+    /// A bench that has counted no cell. The times are those of job 0 on each machine, then those of
+    /// job 1, and so on.
     pub(crate) fn new(jobs: usize, machines: usize, times: &'a [u32]) -> Metered<'a>
         requires { IsWithin limits (record { jobs = jobs; machines = machines; times = times.now }) }
         ensures shop { ⟦<Metered<'a> as Bench>⟧.shop result

@@ -38,8 +38,8 @@ fn print_kept(rt: &HostRuntime, bench: &Metered<'_>, kept: &Kept<Span>) -> Resul
     Ok(())
 }
 
-// Puts the third job into the order of the second and the first. Where that is refused, the same inserter does it
-// again, on the same bench.
+/// Puts the third job into the order of the second and the first. Where that is refused, the same inserter does it
+/// again, on the same bench.
 pub(crate) fn afresh_call(rt: &HostRuntime) -> Result<(), Stop> {
     let instance = three_jobs(rt.alloc())?;
     let seq = second_and_first(rt.alloc())?;
@@ -57,7 +57,7 @@ pub(crate) fn afresh_call(rt: &HostRuntime) -> Result<(), Stop> {
     Ok(())
 }
 
-// The same by heads and tails, where only the making of the inserter takes memory.
+/// The same by heads and tails, where only the making of the inserter takes memory.
 pub(crate) fn heads_tails_call(rt: &HostRuntime) -> Result<(), Stop> {
     let instance = three_jobs(rt.alloc())?;
     let seq = second_and_first(rt.alloc())?;
@@ -71,7 +71,7 @@ pub(crate) fn heads_tails_call(rt: &HostRuntime) -> Result<(), Stop> {
     Ok(())
 }
 
-// NEH. Where it is refused, what was kept before stays.
+/// NEH. Where it is refused, what was kept before stays.
 pub(crate) fn neh_call(rt: &HostRuntime) -> Result<(), Stop> {
     let instance = three_jobs(rt.alloc())?;
     let mut bench = instance.metered();
@@ -84,7 +84,7 @@ pub(crate) fn neh_call(rt: &HostRuntime) -> Result<(), Stop> {
     }
 }
 
-// A round behind NEH, by the words 0 and 0 and with one pass. Where either is refused, NEH's order stays.
+/// A round behind NEH, by the words 0 and 0 and with one pass. Where either is refused, NEH's order stays.
 pub(crate) fn round_call(rt: &HostRuntime) -> Result<(), Stop> {
     let instance = three_jobs(rt.alloc())?;
     let mut bench = instance.metered();
@@ -98,8 +98,8 @@ pub(crate) fn round_call(rt: &HostRuntime) -> Result<(), Stop> {
     }
 }
 
-// Five rounds behind NEH, of two words each. No other order is as short as NEH's, so that each round keeps it.
-// Where one is refused, its words are drawn.
+/// Five rounds behind NEH, of two words each. No other order is as short as NEH's, so that each round keeps it.
+/// Where one is refused, its words are drawn.
 pub(crate) fn rounds_call(rt: &HostRuntime) -> Result<(), Stop> {
     let instance = three_jobs(rt.alloc())?;
     let mut bench = instance.metered();
@@ -122,8 +122,8 @@ pub(crate) fn rounds_call(rt: &HostRuntime) -> Result<(), Stop> {
     }
 }
 
-// Five rounds behind NEH, of one word each, which is odd, so that each round puts the second job first. Where
-// one is refused, its word is drawn, and the order tells whether the rounds before it are even in number.
+/// Five rounds behind NEH, of one word each, which is odd, so that each round puts the second job first. Where
+/// one is refused, its word is drawn, and the order tells whether the rounds before it are even in number.
 pub(crate) fn turns_call(rt: &HostRuntime) -> Result<(), Stop> {
     let instance = two_jobs(rt.alloc())?;
     let mut bench = instance.metered();
@@ -146,7 +146,7 @@ pub(crate) fn turns_call(rt: &HostRuntime) -> Result<(), Stop> {
     }
 }
 
-// NEH and twenty rounds of one pass by heads and tails, where only what is made before them takes memory.
+/// NEH and twenty rounds of one pass by heads and tails, where only what is made before them takes memory.
 pub(crate) fn search_call(rt: &HostRuntime) -> Result<(), Stop> {
     let instance = three_machines(rt.alloc())?;
     let mut bench = instance.metered();

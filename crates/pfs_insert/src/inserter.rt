@@ -50,8 +50,8 @@ pub trait Inserter<B: Bench> {
         ensures still_fits { Fits (B.shop bench.new) (sizes self.new) seq.now.size };
 }
 
-// The better of the best place so far, of those before a place, and the place itself: of places that are
-// as good as one another the first.
+/// The better of the best place so far, of those before a place, and the place itself: of places that are
+/// as good as one another the first.
 #[inline(always)]
 pub(crate) fn better<S: Length>(best: Placed<S>, place: usize, span: S) -> Placed<S>
     ensures { (value : ℕ → ℕ) → (0 < place → IsBest S.number value place best.place best.span)

@@ -8,9 +8,9 @@ use crate::rows::{fill_head, fill_two_places};
 use pfs_base::{Bench, Length};
 use pfs_order::Seq;
 
-// The best place of a job in a sequence, and the makespan with the job there. `backs` has the rows of tails,
-// from that of the first place on; the rows of heads are filled as the places go on; `put` takes the inserted
-// row.
+/// The best place of a job in a sequence, and the makespan with the job there. `backs` has the rows of tails,
+/// from that of the first place on; the rows of heads are filled as the places go on; `put` takes the inserted
+/// row.
 #[inline(always)]
 pub(crate) fn best_by_rows<B: Bench>(
     bench: &mut B,

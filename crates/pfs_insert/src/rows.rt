@@ -4,7 +4,7 @@ ghost use Rattle.pfs_insert.specs.Rows.{AreHeadsAfter, AreShort, AreTailsBefore}
 
 use pfs_base::{Bench, Length};
 
-// Fills a job's row from the row of heads above it: its row of heads, or the row of a job that is inserted.
+/// Fills a job's row from the row of heads above it: its row of heads, or the row of a job that is inserted.
 #[inline(always)]
 pub(crate) fn fill_head<B: Bench>(bench: &mut B, job: usize, above: &[B::Span], row: &mut [B::Span])
     requires job { job < (B.shop bench.old).jobs }
@@ -23,7 +23,7 @@ pub(crate) fn fill_head<B: Bench>(bench: &mut B, job: usize, above: &[B::Span], 
     }
 }
 
-// Fills a job's row of tails from the row below it, from the last machine on.
+/// Fills a job's row of tails from the row below it, from the last machine on.
 #[inline(always)]
 pub(crate) fn fill_tail<B: Bench>(bench: &mut B, job: usize, below: &[B::Span], row: &mut [B::Span])
     requires job { job < (B.shop bench.old).jobs }
@@ -42,7 +42,7 @@ pub(crate) fn fill_tail<B: Bench>(bench: &mut B, job: usize, below: &[B::Span], 
     }
 }
 
-// Fills the rows of tails of three jobs, each from the row below it, from the last machine on.
+/// Fills the rows of tails of three jobs, each from the row below it, from the last machine on.
 #[inline(always)]
 pub(crate) fn fill_three_tails<B: Bench>(
     bench: &mut B,
@@ -82,8 +82,8 @@ pub(crate) fn fill_three_tails<B: Bench>(
     }
 }
 
-// Fills the rows of a job that is inserted before the first of two jobs, and before the second, and the
-// second one's row of heads. The first one's row of heads is used as it comes, and isn't stored.
+/// Fills the rows of a job that is inserted before the first of two jobs, and before the second, and the
+/// second one's row of heads. The first one's row of heads is used as it comes, and isn't stored.
 #[inline(always)]
 pub(crate) fn fill_two_places<B: Bench>(
     bench: &mut B,

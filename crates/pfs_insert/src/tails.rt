@@ -6,8 +6,8 @@ use crate::rows::{fill_tail, fill_three_tails};
 use pfs_base::{Bench, Length};
 use pfs_order::Seq;
 
-// Fills the rows of tails of a sequence. The rows are those of the tails of n - 1 jobs, and the row of
-// zeros behind them; those of the sequence end before the row of zeros.
+/// Fills the rows of tails of a sequence. The rows are those of the tails of n - 1 jobs, and the row of
+/// zeros behind them; those of the sequence end before the row of zeros.
 #[inline(always)]
 pub(crate) fn fill_tails<B: Bench>(bench: &mut B, seq: &Seq, rows: &mut [B::Span])
     requires partial { IsPartial (B.shop bench.old) seq.now }

@@ -217,6 +217,7 @@ impl Blocks {
             then Some (empty_problem (size_given stated))
             else None)) }
         ensures wanted { OnErr result (self.now.complete + 1 ≡ self.now.wanted) }
+        ensures fault { IfErr result (λ fault. fault ≡ BaseFault.Memory) }
     {
         let wanted = self.wanted;
         if self.complete + 1 == wanted {
@@ -348,8 +349,8 @@ impl Blocks {
         }
     }
 
-    /// Takes bytes behind the last line that are all within the limit, up to the end of the wanted block or
-    /// a refusal.
+    // Takes bytes behind the last line that are all within the limit, up to the end of the wanted block or
+    // a refusal.
     fn take(&mut self, alloc: Global, last: &mut Line, piece: &[u8])
         requires live { live_test self.old.phase ≡ true }
         requires stands { (text : List ℕ) × StandsAfter (fields last.old self.old) text }

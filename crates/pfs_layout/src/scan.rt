@@ -246,7 +246,7 @@ impl Line {
         }
     }
 
-    /// The line is mixed with the next byte, or isn't.
+    // The line is mixed with the next byte, or isn't.
     #[inline(always)]
     fn mixed_if(self, is_mixed: bool) -> Event
         ensures { result ≡ mixed_event self is_mixed }

@@ -17,7 +17,7 @@ use pfs_order::Seq;
 use rand_core::Rng;
 use std::alloc::Global;
 
-// One round, in a workspace whose queue has room for all jobs.
+/// One round, in a workspace whose queue has room for all jobs.
 #[inline(always)]
 pub(crate) fn play_round<B: Bench, I: Inserter<B>>(
     alloc: Global,
@@ -90,7 +90,7 @@ fn take_jobs(order: &Seq, seq: &mut Seq, taken: &mut Vec<usize>, words: &[u32])
     }
 }
 
-// Writes the next words of a generator over the first of a list.
+/// Writes the next words of a generator over the first of a list.
 pub(crate) fn draw_words<R: Rng>(rng: &mut R, words: &mut Vec<u32>, count: usize)
     requires { count ≤ vec_len words.old }
     ensures words { take count words.new.items ≡ words_of count (R.stream rng.old) }

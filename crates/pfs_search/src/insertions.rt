@@ -11,7 +11,7 @@ use pfs_insert::{InsertFault, Inserter};
 use pfs_order::Seq;
 use std::alloc::Global;
 
-// Takes all jobs out of a sequence.
+/// Takes all jobs out of a sequence.
 pub(crate) fn clear(seq: &mut Seq)
     ensures size { seq.new.size ≡ seq.old.size }
     ensures jobs { seq.new.jobs ≡ [] }
@@ -21,7 +21,7 @@ pub(crate) fn clear(seq: &mut Seq)
     }
 }
 
-// Puts some jobs into a sequence, each at its best place in turn, and tells the makespan behind the last.
+/// Puts some jobs into a sequence, each at its best place in turn, and tells the makespan behind the last.
 #[inline(always)]
 pub(crate) fn insert_all<B: Bench, I: Inserter<B>>(
     alloc: Global,

@@ -13,8 +13,8 @@ use std::alloc::Global;
 /// How many passes a round can be asked for.
 pub const MOST_PASSES: u32 = 100;
 
-// Makes so many passes over an order of all jobs, and tells the makespan behind them, where it is told the one
-// before.
+/// Makes so many passes over an order of all jobs, and tells the makespan behind them, where it is told the one
+/// before.
 #[inline(always)]
 pub(crate) fn make_passes<B: Bench, I: Inserter<B>>(
     alloc: Global,

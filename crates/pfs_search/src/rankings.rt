@@ -10,7 +10,7 @@ ghost use Rattle.pfs_search.specs.Ranking.{ranking};
 use pfs_base::{Bench, Shop};
 use std::cmp::Reverse;
 
-// Writes the ranking of all jobs over a list, by way of a list of the jobs with their totals. Both have room.
+/// Writes the ranking of all jobs over a list, by way of a list of the jobs with their totals. Both have room.
 pub(crate) fn rank_jobs<B: Shop>(
     bench: &B,
     ranked: &mut Vec<(Reverse<u64>, usize)>,
