@@ -1,5 +1,6 @@
 -- No order has a makespan below the bound.
-use Rattle.std.proofs.Common.{◌≡◌, ℕ, zero, suc, ◌+◌, ◌-◌, ◌<◌, ◌≤◌, max, min, List, map, length, get_or, refl, ap, ◌∙◌, add-one, ⊎_elim, arith}
+use Rattle.std.proofs.Common.{◌≡◌, ℕ, zero, suc, ◌+◌, ◌-◌, ◌<◌, ◌≤◌, max, min, List, map, length, get_or, refl, ap, ◌∙◌}
+use Rattle.std.proofs.Common.{add-one, ⊎_elim, arith}
 use Rattle.std.specs.List.{sum_by, range_with_len}
 use Rattle.std.proofs.lemmas.Bool.{cases_lt}
 use Rattle.std.proofs.lemmas.List.{get_or_default}
@@ -9,7 +10,8 @@ use Rattle.pfs_base.proofs.Published.Heads.{head, head_step, makespan_is}
 use Rattle.pfs_order.specs.Sequence.{IsSequence}
 use Rattle.pfs_audit.specs.Bound.{least, time_on, machine_bound, BoundLaw}
 use Rattle.pfs_audit.proofs.Orders.{Contains-order, sum_by-order, sum_by-all_rows}
-use Rattle.pfs_audit.proofs.Ranges.{sum_by-range-suc, sum_by-below-suc, greatest-range-more, least-range-more, total_of-is}
+use Rattle.pfs_audit.proofs.Ranges.{sum_by-range-suc, sum_by-below-suc, greatest-range-more, least-range-more}
+use Rattle.pfs_audit.proofs.Ranges.{total_of-is}
 
 pub greatest-range-le : (f : ℕ → ℕ) (n limit : ℕ) → ((x : ℕ) → x < n → f x ≤ limit) → greatest (map f (range_with_len 0 n)) ≤ limit
 greatest-range-le f zero limit small = omega arith

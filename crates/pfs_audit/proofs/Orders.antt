@@ -1,5 +1,6 @@
 -- Sums over the jobs of an order.
-use Rattle.std.proofs.Common.{◌≡◌, ℕ, zero, suc, ◌+◌, ◌<◌, ◌≤◌, List, [], ◌∷◌, length, take, Contains, eqb, true, false, get_or, remove, refl, sym, ap, ◌∙◌, add-one, ⊎_elim, arith}
+use Rattle.std.proofs.Common.{◌≡◌, ℕ, zero, suc, ◌+◌, ◌<◌, ◌≤◌, List, [], ◌∷◌, length, take, Contains, eqb, true, false}
+use Rattle.std.proofs.Common.{get_or, remove, refl, sym, ap, ◌∙◌, add-one, ⊎_elim, arith}
 use Rattle.std.specs.Cmp.{nat_eq_equiv}
 use Rattle.std.specs.List.{sum_by, list_any, range_with_len}
 use Rattle.std.proofs.lemmas.Bool.{cases_Bool, eqb-true, false≢true}
@@ -9,7 +10,8 @@ use Rattle.std.proofs.lemmas.List.Sorted.{IsPermutation-remove}
 use Rattle.std.proofs.lemmas.List.Sums.{sum_by_more, sum_by-remove}
 use Rattle.std.proofs.lemmas.Map.Views.{Contains-from_any, list_any-from_Contains}
 use Rattle.pfs_order.specs.Sequence.{IsSequence, all_jobs}
-use Rattle.pfs_order.proofs.Published.Sequences.{length-lt-size, IsSequence-remove, IsSequence-permutation, IsSequence-head}
+use Rattle.pfs_order.proofs.Published.Sequences.{length-lt-size, IsSequence-remove, IsSequence-permutation}
+use Rattle.pfs_order.proofs.Published.Sequences.{IsSequence-head}
 use Rattle.pfs_audit.proofs.Ranges.{sum_by-below-suc}
 
 -- every job stands in an order of all jobs

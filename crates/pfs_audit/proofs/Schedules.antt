@@ -1,9 +1,11 @@
 -- The least schedule, and that none ends before the makespan.
-use Rattle.std.proofs.Common.{◌≡◌, ℕ, zero, suc, ◌+◌, ◌-◌, ◌<◌, ◌≤◌, max, List, [], ◌∷◌, length, ap, ◌∙◌, add-one, arith}
+use Rattle.std.proofs.Common.{◌≡◌, ℕ, zero, suc, ◌+◌, ◌-◌, ◌<◌, ◌≤◌, max, List, [], ◌∷◌, length, ap, ◌∙◌, add-one}
+use Rattle.std.proofs.Common.{arith}
 use Rattle.pfs_base.specs.FlowShop.{FlowShop}
 use Rattle.pfs_base.specs.Paths.{makespan, operation}
 use Rattle.pfs_base.proofs.Published.Heads.{head, head_before, head_step, head_before_more, heaviest_is, makespan_is}
-use Rattle.pfs_audit.specs.Schedule.{Starts, end_of, EndsBy, IsFeasible, IsLeastSchedule, least_end, least_start, LeastScheduleLaw, NoneEndsEarlier, OneLeastSchedule}
+use Rattle.pfs_audit.specs.Schedule.{Starts, end_of, EndsBy, IsFeasible, IsLeastSchedule, least_end, least_start}
+use Rattle.pfs_audit.specs.Schedule.{LeastScheduleLaw, NoneEndsEarlier, OneLeastSchedule}
 use Rattle.pfs_audit.proofs.BoundLemmas.{head_along, head_down}
 
 module _ (shop : FlowShop) (order : List ℕ) where

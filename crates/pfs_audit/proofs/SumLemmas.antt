@@ -1,5 +1,6 @@
 -- The sums of the first jobs: one job more, and machine by machine.
-use Rattle.std.proofs.Common.{◌≡◌, ◌≢◌, ℕ, zero, suc, ◌+◌, ◌-◌, ◌*◌, ◌<◌, ◌≤◌, min, List, [], ◌∷◌, map, length, get_or, replicate, set, ap, subst, sym, ◌∙◌, add-one, ⊎_elim, arith}
+use Rattle.std.proofs.Common.{◌≡◌, ◌≢◌, ℕ, zero, suc, ◌+◌, ◌-◌, ◌*◌, ◌<◌, ◌≤◌, min, List, [], ◌∷◌, map, length, get_or}
+use Rattle.std.proofs.Common.{replicate, set, ap, subst, sym, ◌∙◌, add-one, ⊎_elim, arith}
 use Rattle.std.specs.List.{sum_by, range_with_len, fold}
 use Rattle.std.proofs.Math.ListN.{length-set}
 use Rattle.std.proofs.lemmas.Bool.{cases_lt}

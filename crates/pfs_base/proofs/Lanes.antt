@@ -1,5 +1,6 @@
 -- Lanes of signed numbers.
-use Rattle.std.proofs.Common.{◌≡◌, ℕ, ◌+◌, ◌≤◌, max, cond, List, [], ◌∷◌, length, map, get_or, ap, ◌∙◌, sym, arith, ℤ, pos, to_z, of_z}
+use Rattle.std.proofs.Common.{◌≡◌, ℕ, ◌+◌, ◌≤◌, max, cond, List, [], ◌∷◌, length, map, get_or, ap, ◌∙◌, sym, arith, ℤ}
+use Rattle.std.proofs.Common.{pos, to_z, of_z}
 use Rattle.std.specs.Int.{w64}
 use Rattle.std.proofs.lemmas.Int.{ints, of_z-to_z}
 use Rattle.std.proofs.lemmas.Bool.Decides.{nat_tests}

@@ -1,5 +1,6 @@
 -- The greatest sum of two rows, by chunks of four lanes and a rest.
-use Rattle.std.proofs.Common.{◌≡◌, ℕ, zero, suc, ◌+◌, ◌*◌, ◌<◌, ◌≤◌, max, List, [], ◌∷◌, length, get_or, refl, ap, sym, ◌∙◌, arith}
+use Rattle.std.proofs.Common.{◌≡◌, ℕ, zero, suc, ◌+◌, ◌*◌, ◌<◌, ◌≤◌, max, List, [], ◌∷◌, length, get_or, refl, ap, sym}
+use Rattle.std.proofs.Common.{◌∙◌, arith}
 use Rattle.std.specs.Simd.Lanes.{zip2, chunk}
 use Rattle.pfs_base.specs.Joins.{greatest_join}
 use Rattle.pfs_base.proofs.Published.Heaviest.{greatest-cons}

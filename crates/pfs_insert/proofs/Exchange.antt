@@ -1,12 +1,15 @@
 -- The exchange law.
-use Rattle.std.proofs.Common.{◌≡◌, ℕ, zero, suc, ◌+◌, ◌-◌, ◌<◌, ◌≤◌, List, length, map, cond, refl, sym, ap, ◌∙◌, ⊎_elim, arith, add-one}
+use Rattle.std.proofs.Common.{◌≡◌, ℕ, zero, suc, ◌+◌, ◌-◌, ◌<◌, ◌≤◌, List, length, map, cond, refl, sym, ap, ◌∙◌}
+use Rattle.std.proofs.Common.{⊎_elim, arith, add-one}
 use Rattle.std.specs.List.{insert, range_with_len}
 use Rattle.std.proofs.lemmas.Bool.{cases_lt, lt-ltb, le-ltb}
 use Rattle.std.proofs.lemmas.List.Edits.{length-insert, get_or-insert_below, get_or-insert_at, get_or-insert_above}
 use Rattle.pfs_base.specs.FlowShop.{FlowShop, time_of}
 use Rattle.pfs_base.specs.Paths.{heaviest, greatest, operation}
 use Rattle.pfs_base.proofs.Published.Heads.{head, heaviest_is, makespan_is}
-use Rattle.pfs_base.proofs.Published.Heaviest.{most, most_moved, most_on_last, most_last, onward, by_exit, most_by_exit, greatest_to, greatest_to_same, greatest_to_last, greatest-map-range_with_len}
+use Rattle.pfs_base.proofs.Published.Heaviest.{most, most_moved, most_on_last, most_last, onward, by_exit, most_by_exit}
+use Rattle.pfs_base.proofs.Published.Heaviest.{greatest_to, greatest_to_same, greatest_to_last}
+use Rattle.pfs_base.proofs.Published.Heaviest.{greatest-map-range_with_len}
 use Rattle.pfs_insert.specs.Exchange.{ExchangeLaw, heaviest_front, heaviest_back}
 use Rattle.pfs_insert.specs.Insertion.{makespan_with}
 

@@ -1,5 +1,7 @@
 -- Rows that are computed a value at a time.
-use Rattle.std.proofs.Common.{Ordering, Option, Some, true, false, ◌≡◌, ◌≢◌, ℕ, zero, suc, ◌+◌, ◌*◌, ◌<◌, ◌≤◌, max, List, [], ◌∷◌, length, map, get_or, set, refl, ap, sym, subst, ◌∙◌, ⊎_elim, add-one, arith}
+use Rattle.std.proofs.Common.{Ordering, Option, Some, true, false, ◌≡◌, ◌≢◌, ℕ, zero, suc, ◌+◌, ◌*◌, ◌<◌, ◌≤◌, max}
+use Rattle.std.proofs.Common.{List, [], ◌∷◌, length, map, get_or, set, refl, ap, sym, subst, ◌∙◌, ⊎_elim, add-one}
+use Rattle.std.proofs.Common.{arith}
 use Rattle.std.specs.List.{range_with_len}
 use Rattle.std.specs.Ordering.{nat_cmp, is_lt, is_some_and, partial_lt}
 use Rattle.std.proofs.lemmas.Map.Keys.{ge_from_not_lt}

@@ -1,5 +1,6 @@
 -- The three lines of an order file.
-use Rattle.std.proofs.Common.{◌≡◌, ℕ, ◌+◌, ◌<◌, ◌≤◌, ◌^◌, List, ◌++◌, length, map, codes, sym, ◌∙◌, ap, arith, length-append, Option}
+use Rattle.std.proofs.Common.{◌≡◌, ℕ, ◌+◌, ◌<◌, ◌≤◌, ◌^◌, List, ◌++◌, length, map, codes, sym, ◌∙◌, ap, arith}
+use Rattle.std.proofs.Common.{length-append, Option}
 use Rattle.std.proofs.lemmas.List.{length-map}
 use Rattle.pfs_base.specs.declared.limits.TheConstants.{LONGEST_ORDER_FILE}
 use Rattle.pfs_base.specs.Limits.{limits}

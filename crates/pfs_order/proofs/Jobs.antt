@@ -1,9 +1,11 @@
 -- The jobs of a text of the grammar, place by place.
-use Rattle.std.proofs.Common.{◌≡◌, ℕ, ◌+◌, ◌-◌, ◌<◌, ◌≤◌, ◌^◌, ◌⊎◌, inl, inr, List, [], ◌∷◌, ◌++◌, length, take, drop, map, get_or, Contains, refl, sym, ◌∙◌, ap, subst, arith, codes, below_more, Option}
+use Rattle.std.proofs.Common.{◌≡◌, ℕ, ◌+◌, ◌-◌, ◌<◌, ◌≤◌, ◌^◌, ◌⊎◌, inl, inr, List, [], ◌∷◌, ◌++◌, length, take, drop}
+use Rattle.std.proofs.Common.{map, get_or, Contains, refl, sym, ◌∙◌, ap, subst, arith, codes, below_more, Option}
 use Rattle.std.specs.Fmt.{decimal}
 use Rattle.std.specs.Char.{digit_value}
 use Rattle.std.specs.List.{All}
-use Rattle.std.proofs.lemmas.List.{append_assoc, append_cancel_left, length-map, length-take-le, map-append, take_more, take_all, drop_more, get_or-map, length-drop}
+use Rattle.std.proofs.lemmas.List.{append_assoc, append_cancel_left, length-map, length-take-le, map-append, take_more}
+use Rattle.std.proofs.lemmas.List.{take_all, drop_more, get_or-map, length-drop}
 use Rattle.std.proofs.lemmas.List.Edits.{insert_end}
 use Rattle.std.proofs.lemmas.List.Elements.{All-get_or}
 use Rattle.pfs_order.specs.declared.fault.OrderFault.{OrderFault}

@@ -1,5 +1,7 @@
 -- Each input is an order file or has a refusal.
-use Rattle.std.proofs.Common.{◌≡◌, ◌≢◌, ℕ, zero, suc, ◌+◌, ◌-◌, ◌*◌, ◌<◌, ◌≤◌, ◌^◌, ◌⊎◌, inl, inr, Option, Some, None, List, [], ◌∷◌, ◌++◌, length, drop, refl, sym, ◌∙◌, ap, subst, arith, codes, lit≤, lit<, zero-add}
+use Rattle.std.proofs.Common.{◌≡◌, ◌≢◌, ℕ, zero, suc, ◌+◌, ◌-◌, ◌*◌, ◌<◌, ◌≤◌, ◌^◌, ◌⊎◌, inl, inr, Option, Some, None}
+use Rattle.std.proofs.Common.{List, [], ◌∷◌, ◌++◌, length, drop, refl, sym, ◌∙◌, ap, subst, arith, codes, lit≤, lit<}
+use Rattle.std.proofs.Common.{zero-add}
 use Rattle.std.specs.Fmt.{decimal}
 use Rattle.std.specs.Char.{digit_value}
 use Rattle.std.specs.Option.{ForSome}
@@ -11,12 +13,17 @@ use Rattle.pfs_base.specs.declared.limits.TheConstants.{MOST_JOBS, MOST_MACHINES
 use Rattle.pfs_order.specs.declared.fault.OrderFault.TheVariants.{Syntax}
 use Rattle.pfs_base.specs.Text.{spaced}
 use Rattle.pfs_order.specs.OrderFile.{IsText, IsFaultOf, IsSyntaxFault}
-use Rattle.pfs_order.specs.Pieces.{Begins, IsWord, IsNumeral, IsPieceFault, numeral_of, IsHead, opening, count_end, counted, last_line, AreJobs, HasJobs}
+use Rattle.pfs_order.specs.Pieces.{Begins, IsWord, IsNumeral, IsPieceFault, numeral_of, IsHead, opening, count_end}
+use Rattle.pfs_order.specs.Pieces.{counted, last_line, AreJobs, HasJobs}
 use Rattle.pfs_order.specs.declared.reading.Version.{Version}
 use Rattle.pfs_order.specs.declared.reading.Version.TheVariants.{One, Two}
-use Rattle.pfs_order.proofs.Numerals.{IsWithin, Stops, numeral_fault, no_digit_ends, zero_ends, decimal_push, front_within}
-use Rattle.pfs_order.proofs.OrderTexts.{IsShort, counted-append, before, before-append, before-push, before-spaced, ten_10, ten_32}
-use Rattle.pfs_order.proofs.Stages.{IsAmongJobs, line-append, start_fault, version_fault, two_fault, count_fault, machines_fault, space_fault, end_fault, name_fault, span_fault, more_fault, whole_text}
+use Rattle.pfs_order.proofs.Numerals.{IsWithin, Stops, numeral_fault, no_digit_ends, zero_ends, decimal_push}
+use Rattle.pfs_order.proofs.Numerals.{front_within}
+use Rattle.pfs_order.proofs.OrderTexts.{IsShort, counted-append, before, before-append, before-push, before-spaced}
+use Rattle.pfs_order.proofs.OrderTexts.{ten_10, ten_32}
+use Rattle.pfs_order.proofs.Stages.{IsAmongJobs, line-append, start_fault, version_fault, two_fault, count_fault}
+use Rattle.pfs_order.proofs.Stages.{machines_fault, space_fault, end_fault, name_fault, span_fault, more_fault}
+use Rattle.pfs_order.proofs.Stages.{whole_text}
 use Rattle.pfs_order.proofs.Words.{word_fault}
 
 -- A word stands there, or the text differs from it.

@@ -1,18 +1,23 @@
 -- What each stage of reading a text knows: what may follow there, and that it can be completed.
-use Rattle.std.proofs.Common.{◌≡◌, ℕ, ◌+◌, ◌-◌, ◌<◌, ◌≤◌, ◌^◌, List, [], ◌∷◌, ◌++◌, suc, length, drop, replicate, refl, sym, ◌∙◌, ap, subst, arith, codes, lit≤, lit<, ◌≢◌, ◌⊎◌, inl, inr, get_or, Option, Some, None}
+use Rattle.std.proofs.Common.{◌≡◌, ℕ, ◌+◌, ◌-◌, ◌<◌, ◌≤◌, ◌^◌, List, [], ◌∷◌, ◌++◌, suc, length, drop, replicate, refl}
+use Rattle.std.proofs.Common.{sym, ◌∙◌, ap, subst, arith, codes, lit≤, lit<, ◌≢◌, ◌⊎◌, inl, inr, get_or, Option, Some}
+use Rattle.std.proofs.Common.{None}
 use Rattle.std.specs.Fmt.{decimal}
 use Rattle.std.specs.List.{All}
-use Rattle.std.proofs.lemmas.List.{append_assoc, append_cancel_left, append-nil, length-append, length-drop, length-replicate}
+use Rattle.std.proofs.lemmas.List.{append_assoc, append_cancel_left, append-nil, length-append, length-drop}
+use Rattle.std.proofs.lemmas.List.{length-replicate}
 use Rattle.std.proofs.lemmas.List.Elements.{All-nil, All-cons, All-append, All-replicate}
 use Rattle.pfs_base.specs.declared.limits.TheConstants.{MOST_JOBS, MOST_MACHINES}
 use Rattle.pfs_order.specs.declared.fault.OrderFault.{OrderFault}
 use Rattle.pfs_base.specs.Text.{spaced}
 use Rattle.pfs_order.specs.OrderFile.{HasText, IsText, CanBeCompleted, IsSyntaxFault}
-use Rattle.pfs_order.specs.Pieces.{Begins, IsWord, IsNumeral, IsPieceFault, SaysSyntax, IsHead, opening, count_end, counted, last_line, AreJobs, HasJobs}
+use Rattle.pfs_order.specs.Pieces.{Begins, IsWord, IsNumeral, IsPieceFault, SaysSyntax, IsHead, opening, count_end}
+use Rattle.pfs_order.specs.Pieces.{counted, last_line, AreJobs, HasJobs}
 use Rattle.pfs_order.specs.declared.reading.Version.{Version}
 use Rattle.pfs_order.specs.declared.reading.Version.TheVariants.{One, Two}
 use Rattle.pfs_order.proofs.Faults.{syntax_behind, fault_here}
-use Rattle.pfs_order.proofs.OrderTexts.{ten_10, ten_32, IsShort, before, text_shape, more_jobs, same_jobs, same_number, same_head, counted-append, before-spaced, before-append, before-push}
+use Rattle.pfs_order.proofs.OrderTexts.{ten_10, ten_32, IsShort, before, text_shape, more_jobs, same_jobs, same_number}
+use Rattle.pfs_order.proofs.OrderTexts.{same_head, counted-append, before-spaced, before-append, before-push}
 
 -- what the first line of a text states
 pub head_of : {text jobs : List ℕ} {machines : Option ℕ} {makespan : ℕ} → HasText text jobs machines makespan → IsHead (length jobs) machines

@@ -1,6 +1,8 @@
 -- Words, and where a text differs from one.
-use Rattle.std.proofs.Common.{◌≡◌, ◌≢◌, ℕ, ◌+◌, ◌<◌, List, [], ◌∷◌, ◌++◌, length, take, drop, get_or, refl, sym, ◌∙◌, ap, subst, arith}
-use Rattle.std.proofs.lemmas.List.{append_assoc, append-nil, length-append, take-append-drop, length-take-le, append_cancel_left, drop_more}
+use Rattle.std.proofs.Common.{◌≡◌, ◌≢◌, ℕ, ◌+◌, ◌<◌, List, [], ◌∷◌, ◌++◌, length, take, drop, get_or, refl, sym, ◌∙◌}
+use Rattle.std.proofs.Common.{ap, subst, arith}
+use Rattle.std.proofs.lemmas.List.{append_assoc, append-nil, length-append, take-append-drop, length-take-le}
+use Rattle.std.proofs.lemmas.List.{append_cancel_left, drop_more}
 use Rattle.pfs_order.specs.declared.fault.OrderFault.TheVariants.{Syntax}
 use Rattle.pfs_order.specs.OrderFile.{IsFaultOf, CanBeCompleted}
 use Rattle.pfs_order.specs.Pieces.{Begins, IsWord, IsPieceFault}

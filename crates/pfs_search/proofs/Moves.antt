@@ -1,12 +1,14 @@
 -- Passes make no order longer.
-use Rattle.std.proofs.Common.{◌≡◌, ℕ, zero, suc, ◌+◌, ◌<◌, ◌≤◌, List, length, fold, get_or, remove, refl, ap, sym, ◌∙◌, subst, add-one, arith}
+use Rattle.std.proofs.Common.{◌≡◌, ℕ, zero, suc, ◌+◌, ◌<◌, ◌≤◌, List, length, fold, get_or, remove, refl, ap, sym, ◌∙◌}
+use Rattle.std.proofs.Common.{subst, add-one, arith}
 use Rattle.std.proofs.lemmas.List.{get_or_default}
 use Rattle.std.proofs.lemmas.List.Edits.{length-insert, length-remove}
 use Rattle.std.proofs.lemmas.List.Sums.{fold_push}
 use Rattle.pfs_base.specs.FlowShop.{FlowShop}
 use Rattle.pfs_base.specs.Paths.{makespan}
 use Rattle.pfs_order.specs.Sequence.{IsSequence, all_jobs}
-use Rattle.pfs_order.proofs.Published.Sequences.{IsSequence-insert, IsSequence-remove, absent-remove, all_jobs_more, others_are, insert-remove, Contains-all}
+use Rattle.pfs_order.proofs.Published.Sequences.{IsSequence-insert, IsSequence-remove, absent-remove, all_jobs_more}
+use Rattle.pfs_order.proofs.Published.Sequences.{others_are, insert-remove, Contains-all}
 use Rattle.pfs_insert.specs.Insertion.{best_place, with_job}
 use Rattle.pfs_insert.proofs.Published.BestPlaces.{best_place_within, best_place_least}
 use Rattle.pfs_search.specs.Greedy.{moved, pass, after_passes, PassLaw}

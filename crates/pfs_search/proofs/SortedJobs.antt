@@ -1,5 +1,6 @@
 -- Jobs that are sorted by decreasing total, and at equal totals by number, are ranked.
-use Rattle.std.proofs.Common.{Ordering, ◌≡◌, ◌≢◌, ℕ, ◌+◌, List, [], ◌∷◌, ◌++◌, map, get_or, false, ap, sym, ◌∙◌, subst, arith}
+use Rattle.std.proofs.Common.{Ordering, ◌≡◌, ◌≢◌, ℕ, ◌+◌, List, [], ◌∷◌, ◌++◌, map, get_or, false, ap, sym, ◌∙◌, subst}
+use Rattle.std.proofs.Common.{arith}
 use Rattle.std.specs.Cmp.{IsStrictWeakOrder}
 use Rattle.std.specs.List.{All, AllPairs}
 use Rattle.std.specs.List.Sorted.{IsPermutation, IsSorted}

@@ -1,10 +1,12 @@
 -- Taking jobs out.
-use Rattle.std.proofs.Common.{◌≡◌, ℕ, ◌+◌, ◌<◌, List, [], ◌∷◌, ◌++◌, length, get_or, drop, insert, remove, Contains, ◌∙◌, subst}
+use Rattle.std.proofs.Common.{◌≡◌, ℕ, ◌+◌, ◌<◌, List, [], ◌∷◌, ◌++◌, length, get_or, drop, insert, remove, Contains}
+use Rattle.std.proofs.Common.{◌∙◌, subst}
 use Rattle.std.proofs.lemmas.List.{get_or_default, drop_more}
 use Rattle.std.proofs.lemmas.List.Elements.{Contains-append_right}
 use Rattle.std.proofs.lemmas.List.Sorted.{IsPermutation-more, IsPermutation-refl}
 use Rattle.pfs_order.specs.Sequence.{IsSequence}
-use Rattle.pfs_order.proofs.Published.Sequences.{IsSequence-permutation, IsSequence-first, IsSequence-head, IsSequence-moved}
+use Rattle.pfs_order.proofs.Published.Sequences.{IsSequence-permutation, IsSequence-first, IsSequence-head}
+use Rattle.pfs_order.proofs.Published.Sequences.{IsSequence-moved}
 
 -- one more job goes from the jobs that are left to the taken ones
 pub taken_more : (size : ℕ) (done jobs : List ℕ) (place job : ℕ) → place < length jobs → job ≡ get_or jobs place 0 → IsSequence size (done ++ jobs) → IsSequence size ((done ++ job ∷ []) ++ remove jobs place)

@@ -1,5 +1,6 @@
 -- A text that goes on part by part: what room each part has, and what went out behind it.
-use Rattle.std.proofs.Common.{◌≡◌, ℕ, ◌+◌, ◌-◌, ◌<◌, ◌≤◌, ◌^◌, Bool, List, ◌++◌, Option, Result, length, take, ap, subst, arith, length-append}
+use Rattle.std.proofs.Common.{◌≡◌, ℕ, ◌+◌, ◌-◌, ◌<◌, ◌≤◌, ◌^◌, Bool, List, ◌++◌, Option, Result, length, take, ap}
+use Rattle.std.proofs.Common.{subst, arith, length-append}
 use Rattle.std.specs.Io.KnownBytes.{Appends}
 use Rattle.pfs_base.specs.declared.device.WriteFault.{WriteFault}
 use Rattle.pfs_base.specs.Sends.{Sends, SendsAll, SendsFront}

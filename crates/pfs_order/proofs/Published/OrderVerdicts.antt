@@ -1,10 +1,13 @@
 -- One input, one answer.
-use Rattle.std.proofs.Common.{◌≡◌, ℕ, ◌+◌, ◌-◌, ◌*◌, ◌<◌, ◌≤◌, ◌^◌, ◌⊎◌, inl, inr, List, [], ◌∷◌, ◌++◌, true, false, length, take, drop, map, get_or, refl, sym, ◌∙◌, ap, subst, arith, lit≤, lit<, eqb, Option, Some, None}
+use Rattle.std.proofs.Common.{◌≡◌, ℕ, ◌+◌, ◌-◌, ◌*◌, ◌<◌, ◌≤◌, ◌^◌, ◌⊎◌, inl, inr, List, [], ◌∷◌, ◌++◌, true, false}
+use Rattle.std.proofs.Common.{length, take, drop, map, get_or, refl, sym, ◌∙◌, ap, subst, arith, lit≤, lit<, eqb}
+use Rattle.std.proofs.Common.{Option, Some, None}
 use Rattle.std.specs.Fmt.{decimal}
 use Rattle.std.specs.List.{All}
 use Rattle.std.proofs.lemmas.Bool.{cases_order, eq-eqb}
 use Rattle.std.proofs.lemmas.Fmt.{length-decimal-le_wide}
-use Rattle.std.proofs.lemmas.List.{append-nil, length-append, length-map, length-take-le, take-append-drop, drop_more, get_or-map, get_or-take}
+use Rattle.std.proofs.lemmas.List.{append-nil, length-append, length-map, length-take-le, take-append-drop, drop_more}
+use Rattle.std.proofs.lemmas.List.{get_or-map, get_or-take}
 use Rattle.std.proofs.lemmas.List.Elements.{All-head, All-tail, All-get_or, All-map, All-weaker}
 use Rattle.std.proofs.lemmas.Map.Keys.{apart_from_distinct}
 use Rattle.pfs_base.specs.Limits.{limits}
@@ -14,7 +17,8 @@ use Rattle.pfs_order.specs.declared.fault.OrderFault.TheVariants.{Syntax, JobRan
 use Rattle.pfs_base.specs.Text.{spaced}
 use Rattle.pfs_order.specs.OrderText.{file_text}
 use Rattle.pfs_order.specs.Sequence.{StatedOrder, IsSequence, IsSize, AreMachines}
-use Rattle.pfs_order.specs.OrderFile.{IsText, IsFaultOf, IsSyntaxFault, IsJob, IsRepeated, AreRightBefore, IsJobFault, HasJobFault, RefusesOrder, IsOrderFile}
+use Rattle.pfs_order.specs.OrderFile.{IsText, IsFaultOf, IsSyntaxFault, IsJob, IsRepeated, AreRightBefore, IsJobFault}
+use Rattle.pfs_order.specs.OrderFile.{HasJobFault, RefusesOrder, IsOrderFile}
 use Rattle.pfs_order.specs.Pieces.{IsHead, counted, last_line}
 use Rattle.pfs_order.proofs.Faults.{fault_here}
 use Rattle.pfs_order.proofs.Jobs.{one_text}

@@ -1,9 +1,11 @@
 -- Sums of costs over successive counts.
-use Rattle.std.proofs.Common.{◌≡◌, ℕ, zero, suc, ◌+◌, ◌-◌, ◌*◌, ◌<◌, ◌≤◌, [], ◌∷◌, ◌++◌, take as front, ap, sym, ◌∙◌, add-one, mul-le-mul_left, arith}
+use Rattle.std.proofs.Common.{◌≡◌, ℕ, zero, suc, ◌+◌, ◌-◌, ◌*◌, ◌<◌, ◌≤◌, [], ◌∷◌, ◌++◌, take as front, ap, sym, ◌∙◌}
+use Rattle.std.proofs.Common.{add-one, mul-le-mul_left, arith}
 use Rattle.std.specs.List.{range_with_len, sum_by}
 use Rattle.std.proofs.lemmas.List.{map-id}
 use Rattle.std.proofs.lemmas.List.Sums.{sum_by_push, sum_by_more_le}
-use Rattle.std.proofs.lemmas.List.FromFn.{length-range_with_len, get_or-range_with_len, map-range_with_len_more, take-map-range_with_len}
+use Rattle.std.proofs.lemmas.List.FromFn.{length-range_with_len, get_or-range_with_len, map-range_with_len_more}
+use Rattle.std.proofs.lemmas.List.FromFn.{take-map-range_with_len}
 use Rattle.pfs_search.specs.Costs.{insertions_cost, neh_cost, pass_cost, round_cost, CostsAsHeadsTails, CostsLaw}
 
 range_more : (a n : ℕ) → range_with_len a (n + 1) ≡ range_with_len a n ++ (a + n) ∷ []

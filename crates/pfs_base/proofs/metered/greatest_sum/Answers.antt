@@ -1,11 +1,13 @@
-use Rattle.std.proofs.Common.{◌≡◌, ℕ, ◌+◌, ◌-◌, ◌*◌, ◌%◌, ◌<◌, ◌≤◌, max, List, [], ◌∷◌, length, map, get_or, refl, ap, sym, add-one, ◌∙◌, arith, ℤ, to_z, of_z}
+use Rattle.std.proofs.Common.{◌≡◌, ℕ, ◌+◌, ◌-◌, ◌*◌, ◌%◌, ◌<◌, ◌≤◌, max, List, [], ◌∷◌, length, map, get_or, refl, ap}
+use Rattle.std.proofs.Common.{sym, add-one, ◌∙◌, arith, ℤ, to_z, of_z}
 use Rattle.std.specs.Int.{w64}
 use Rattle.pfs_base.specs.declared.bench.TheConstants.{SPAN_MAX}
 use Rattle.std.specs.Simd.Lanes.{chunk}
 use Rattle.std.proofs.lemmas.Int.{of_z-to_z}
 use Rattle.pfs_base.specs.Paths.{greatest}
 use Rattle.pfs_base.specs.Joins.{greatest_join}
-use Rattle.pfs_base.proofs.Sums.{sum_at, most_to, lane_most, lanes_most, four_same, chunk_four, sum_read, most_is, sum_small, most_small, lane_small}
+use Rattle.pfs_base.proofs.Sums.{sum_at, most_to, lane_most, lanes_most, four_same, chunk_four, sum_read, most_is}
+use Rattle.pfs_base.proofs.Sums.{sum_small, most_small, lane_small}
 use Rattle.pfs_base.proofs.Lanes.{raised, raised_is, greatest_four}
 use Rattle.pfs_base.proofs.metered.greatest_sum.Goals as goal
 

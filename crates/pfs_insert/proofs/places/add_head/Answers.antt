@@ -1,7 +1,8 @@
 use Rattle.std.proofs.Common.{◌≡◌, ◌+◌, ◌-◌, ◌*◌, length, take, drop, refl, ap, sym, ◌∙◌, arith}
 use Rattle.std.proofs.lemmas.List.{length-take-le}
 use Rattle.pfs_insert.specs.Rows.{head_of, AreNumbers}
-use Rattle.pfs_insert.proofs.FlatRows.{row_split, row_le, begins, front_told, moved, right_told, begin_told, kept_before}
+use Rattle.pfs_insert.proofs.FlatRows.{row_split, row_le, begins, front_told, moved, right_told, begin_told}
+use Rattle.pfs_insert.proofs.FlatRows.{kept_before}
 use Rattle.pfs_insert.proofs.TailRows.{heads_short, head_of_is, head_next}
 use Rattle.pfs_insert.proofs.places.add_head.Given.{Over}
 use Rattle.pfs_insert.proofs.places.add_head.Goals.{After-at}

@@ -3,7 +3,8 @@ use Rattle.std.proofs.lemmas.List.{length-take-le, length-append, append_assoc}
 use Rattle.pfs_base.specs.FlowShop.{FlowShop}
 use Rattle.pfs_insert.specs.Insertion.{makespan_with, IsBest}
 use Rattle.pfs_insert.specs.Rows.{head_of, head_row, AreNumbers, AreNumbersFrom, IsPut}
-use Rattle.pfs_insert.proofs.FlatRows.{row_split, row_le, begins, front_told, moved, right_told, begin_told, kept_before}
+use Rattle.pfs_insert.proofs.FlatRows.{row_split, row_le, begins, front_told, moved, right_told, begin_told}
+use Rattle.pfs_insert.proofs.FlatRows.{kept_before}
 use Rattle.pfs_insert.proofs.TailRows.{heads_short, head_of_is, head_next, put_row}
 use Rattle.pfs_insert.proofs.places.try_two_places.Given.{Over}
 use Rattle.pfs_insert.proofs.places.try_two_places.Goals.{After-at-2, After-fill_two_places}

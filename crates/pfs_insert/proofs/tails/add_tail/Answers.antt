@@ -4,7 +4,8 @@ use Rattle.std.proofs.lemmas.List.{length-take-le, length-drop}
 use borrow.Rule.Slice.PartMut.{same_len_mid}
 use Rattle.pfs_insert.specs.Exchange.{heaviest_back}
 use Rattle.pfs_insert.specs.Rows.{AreNumbers}
-use Rattle.pfs_insert.proofs.FlatRows.{row_split, row_le, begins, numbers_back, behind_told, mid_told, left_told, moved, kept_behind}
+use Rattle.pfs_insert.proofs.FlatRows.{row_split, row_le, begins, numbers_back, behind_told, mid_told, left_told, moved}
+use Rattle.pfs_insert.proofs.FlatRows.{kept_behind}
 use Rattle.pfs_insert.proofs.TailRows.{tails_short, tails_at, tail_next, row_told}
 use Rattle.pfs_insert.proofs.tails.add_tail.Given.{Over}
 use Rattle.pfs_insert.proofs.tails.add_tail.Goals.{After-at}

@@ -1,9 +1,11 @@
-use Rattle.std.proofs.Common.{◌≡◌, ℕ, ◌+◌, ◌-◌, ◌*◌, ◌<◌, ◌≤◌, List, ◌++◌, length, take, refl, ap, sym, subst, ◌∙◌, ⊎_elim, arith}
+use Rattle.std.proofs.Common.{◌≡◌, ℕ, ◌+◌, ◌-◌, ◌*◌, ◌<◌, ◌≤◌, List, ◌++◌, length, take, refl, ap, sym, subst, ◌∙◌}
+use Rattle.std.proofs.Common.{⊎_elim, arith}
 use Rattle.std.proofs.lemmas.Bool.{cases_lt}
 use Rattle.std.proofs.lemmas.List.{length-take-le, length-append}
 use Rattle.pfs_insert.specs.Exchange.{heaviest_back}
 use Rattle.pfs_insert.specs.Rows.{tail_row, AreNumbers, AreNumbersFrom}
-use Rattle.pfs_insert.proofs.FlatRows.{row_split, row_le, begins, numbers_back, behind_told, left_told, right_told, moved, kept_behind}
+use Rattle.pfs_insert.proofs.FlatRows.{row_split, row_le, begins, numbers_back, behind_told, left_told, right_told}
+use Rattle.pfs_insert.proofs.FlatRows.{moved, kept_behind}
 use Rattle.pfs_insert.proofs.TailRows.{tails_short, tails_at, tail_next, row_told}
 use Rattle.pfs_insert.proofs.tails.add_three_tails.Given.{Over}
 use Rattle.pfs_insert.proofs.tails.add_three_tails.Goals.{After-at-third}

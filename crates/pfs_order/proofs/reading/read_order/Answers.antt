@@ -2,7 +2,8 @@ use Rattle.std.proofs.Common.{◌≡◌, ℕ, ◌≤◌, List, length, take, ari
 use Rattle.std.specs.Prelude.{Err}
 use Rattle.std.proofs.lemmas.List.{length-take-le}
 use Rattle.std.proofs.lemmas.Result.{err_from_is_err_and}
-use Rattle.pfs_order.proofs.InputLemmas.{reads_accepted, reads_refused, reads_too_long, reads_failed, reads_stopped, reads_over, reads_whole, decides_ok, decides_err, on_ok}
+use Rattle.pfs_order.proofs.InputLemmas.{reads_accepted, reads_refused, reads_too_long, reads_failed, reads_stopped}
+use Rattle.pfs_order.proofs.InputLemmas.{reads_over, reads_whole, decides_ok, decides_err, on_ok}
 use Rattle.std.specs.Io.KnownBytes.{IsAtEnd}
 use Rattle.pfs_order.specs.declared.reading.TheConstants.{ROOM}
 use Rattle.pfs_order.specs.declared.fault.OrderFault.TheVariants.{TooLong}

@@ -1,4 +1,5 @@
-use Rattle.std.proofs.Common.{◌≡◌, ◌≢◌, ℕ, ◌<◌, ◌+◌, subst, List, [], ◌++◌, ◌∷◌, length, drop, get_or, ap, sym, arith, ◌∙◌, Some, None}
+use Rattle.std.proofs.Common.{◌≡◌, ◌≢◌, ℕ, ◌<◌, ◌+◌, subst, List, [], ◌++◌, ◌∷◌, length, drop, get_or, ap, sym, arith}
+use Rattle.std.proofs.Common.{◌∙◌, Some, None}
 use Rattle.std.proofs.lemmas.List.{drop_all, drop_more}
 use Rattle.std.specs.Option.{ForSome}
 use Rattle.pfs_order.specs.Pieces.{numeral_of}

@@ -2,7 +2,8 @@ use Rattle.std.proofs.Common.{◌≡◌, ◌≢◌, ℕ, ◌<◌, ◌+◌, List,
 use Rattle.std.proofs.lemmas.List.{drop_all, drop_more}
 use Rattle.pfs_order.proofs.Words.{word_fault_at}
 use Rattle.pfs_order.proofs.scan.word.Goals as goal
-use Rattle.pfs_order.proofs.scan.word.Goals.{then-next-text-via-then-next-text, then-next-text-via-else-next-text+then-text-next}
+use Rattle.pfs_order.proofs.scan.word.Goals.{then-next-text-via-then-next-text}
+use Rattle.pfs_order.proofs.scan.word.Goals.{then-next-text-via-else-next-text+then-text-next}
 
 pub returns-then-next-text-clause-fault : goal.returns-then-next-text-clause-fault
 returns-then-next-text-clause-fault c =
