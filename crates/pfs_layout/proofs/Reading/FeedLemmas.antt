@@ -97,7 +97,7 @@ live_wants r text f live = omega (arith, f.blocks.complete, live_few _ r.blocks 
 
 -- ---- what feed owes
 
-whole_text : (text piece : List ℕ) (used : ℕ) → text ++ piece ≡ (text ++ take used piece) ++ drop used piece
+pub whole_text : (text piece : List ℕ) (used : ℕ) → text ++ piece ≡ (text ++ take used piece) ++ drop used piece
 whole_text text piece used = rw (append_assoc, take-append-drop)
 
 -- where no byte of the piece has a fault
