@@ -1,6 +1,6 @@
 -- Each piece takes the reader on, a fault of a piece is one of the whole input, and so is the wanted block.
 use Rattle.std.proofs.Common.{refl, rules, ◌≡◌, ℕ, List, [], ◌+◌, ◌-◌, ◌<◌, ◌≤◌, length, take, ◌∙◌, arith}
-use Rattle.std.proofs.lemmas.List.{length-take-le}
+use Rattle.std.proofs.lemmas.List.{length-take, length-take-le}
 use Rattle.pfs_base.specs.declared.limits.TheConstants.{LONGEST_INPUT}
 use Rattle.pfs_layout.specs.declared.reader.TheConstants.{PIECE}
 use Rattle.pfs_layout.specs.declared.fault.LayoutFault.TheVariants.{Read, SeedRange}
@@ -37,18 +37,10 @@ pub pieces-smaller : goal.pieces-smaller
 pieces-smaller g c =
     let t = (pieces-preserved g c).reading in
     let follows = live_follows c.feed.new.self t.front t.live t.stands in
-    let moved : c.feed.new.self.digits.offset ≡ c.pieces.taker.digits.offset + c.in-Ok.progress.used =
-    c.in-Ok.ensures.moved in
-    let whole : c.in-Ok.progress.used ≡ length (take c.in-Some.n c.read.new.buf) =
-    c.in-Ok.ensures.whole c.if-progress.false in
-    let size = length-take-le c.in-Some.n c.read.new.buf c.in-Some.ensures.bytes.0 in
-    let some = c.if-n-eq0.false in
-    omega (arith, follows.short, follows.last_line.offset)
+    omega (arith, follows.short, follows.last_line.offset, c.in-Ok.ensures.moved,
+    c.in-Ok.ensures.whole c.if-progress.false, length-take-le c.in-Some.n c.read.new.buf c.in-Some.ensures.bytes.0)
 
 -- ---- the answers
-
-piece_size : (n : ℕ) (buf : List ℕ) → n ≤ length buf → length buf ≡ PIECE → length (take n buf) ≤ PIECE
-piece_size n buf within size = omega (arith, length-take-le n buf within)
 
 pub returns-in_default-clause-as_far : goal.returns-in_default-clause-as_far
 returns-in_default-clause-as_far g c = reads_failed c.pieces.invariant.reading _ c.in_default.ensures.bytes
@@ -69,7 +61,7 @@ pub returns-then-n-eq0-clause-as_far : goal.returns-then-n-eq0-clause-as_far
 returns-then-n-eq0-clause-as_far g c =
     let t = c.pieces.invariant.reading in
     let bytes = c.in-Some.ensures.bytes in
-    reads_ended t _ _ bytes.1 (piece_size c.in-Some.n c.read.new.buf bytes.0 (search rules))
+    reads_ended t _ _ bytes.1 (omega (arith, length-take {A = ℕ}))
     (c.finish.ensures.meets t.front t.stands)
 
 -- a byte of the piece has a fault, or memory was refused
@@ -85,7 +77,7 @@ returns-in-Err g c =
           never_failed (c.in-Some.ensures.failed ∙ c.pieces.invariant.working)
           (λ e. feed_named meets Read (λ z. cc) refl (same_error e));
       no_seed = λ e. feed_named meets SeedRange (λ z. cc) refl (same_error e);
-      as_far = reads_fault t _ _ bytes.1 (piece_size c.in-Some.n c.read.new.buf bytes.0 (search rules)) meets;
+      as_far = reads_fault t _ _ bytes.1 (omega (arith, length-take {A = ℕ})) meets;
     }
 
 -- the wanted block has ended in the piece
@@ -104,6 +96,6 @@ returns-then-progress g c =
           (finish_named (ends _ meets.ok.1) Read refl);
       no_seed = finish_named (ends _ meets.ok.1) SeedRange refl;
       as_far =
-          reads_ended t _ _ bytes.1 (piece_size c.in-Some.n c.read.new.buf bytes.0 (search rules))
+          reads_ended t _ _ bytes.1 (omega (arith, length-take {A = ℕ}))
           (ends _ meets.ok.1);
     }
