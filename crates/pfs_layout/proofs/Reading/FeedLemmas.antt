@@ -40,8 +40,7 @@ use Rattle.pfs_layout.proofs.Reading.ReadNames.{same_error, same_some}
 pub memory_nowhere : (r : Fields) (text : List ℕ) → r.phase ≡ phases.Refused Memory → StandsAfter r text → ⊥
 memory_nowhere r text e s =
     let refused : IsRefused r text Memory = subst (λ p. StandsIn p r text) e s in
-    let named = of_place r.layout r.wanted refused.front (Some refused.byte) Memory refused.here in
-    cc
+    cc (of_place r.layout r.wanted refused.front (Some refused.byte) Memory refused.here)
 
 -- a refused reader's fault is that of the text
 pub refused_fault : (r : Fields) (text : List ℕ) (fault : LayoutFault) → IsRefused r text fault
@@ -76,12 +75,12 @@ fine_more layout k text more right enough =
 done_now : (has_word : Bool) (r : Blocks) (now : Now) (more : List ℕ) → FollowsNow has_word r now more
     → r.phase ≡ phases.Done → r.wanted ≤ r.complete
 done_now has_word r seeking more f e = elim (cases_lt r.complete r.wanted) [
-  | inl few ↦ let on = rw (lt-ltb r.complete r.wanted few) at f.phase in cc
+  | inl few ↦ cc (lt-ltb r.complete r.wanted few)
   | inr enough ↦ enough
 ]
 done_now has_word r (inside block) more f e = elim (cases_Bool (nat_lt r.body.judged r.body.due)) [
-  | inl due ↦ let on = rw due at f.phase in cc
-  | inr last ↦ let on = rw last at f.phase in cc
+  | inl due ↦ cc
+  | inr last ↦ cc
 ]
 done_now has_word r lost more f e = absurd f
 
@@ -100,78 +99,73 @@ live_wants r text f live = omega (arith, f.blocks.complete, live_few _ r.blocks 
 pub whole_text : (text piece : List ℕ) (used : ℕ) → text ++ piece ≡ (text ++ take used piece) ++ drop used piece
 whole_text text piece used = rw (append_assoc, take-append-drop)
 
--- where no byte of the piece has a fault
-fine_meets : (old : Fields) (text piece : List ℕ) (used : ℕ) (new : Fields) → TakeMeets old text piece used new
-    → used ≤ length piece → new.phase ≢ phases.Refused Memory → (done : Bool) → (done ≡ false → used ≡ length piece)
-    → (done ≡ true ↔ (new.phase ≡ phases.Done)) → byte_fault new.layout new.wanted (text ++ piece) ≡ None
-    → FeedMeets old text piece (Ok (record { used = used; done = done })) new
-fine_meets old text piece used new m within no_memory done whole ended right = record {
-  ok = (within, m.stands no_memory);
-  layout = m.layout;
-  wanted = m.wanted;
-  whole = whole;
-  done = ended;
-  no_more = m.no_more;
-  refused = tt;
-  exact = let here = rw (m.layout, m.wanted) at right in λ h fault. (λ z. absurd (cc), λ z. absurd (cc));
-  memory = λ h. absurd (cc);
-}
+module _ (old : Fields) (text piece : List ℕ) (used : ℕ) (new : Fields) (m : TakeMeets old text piece used new) where
+  -- where a piece leaves a reader, or memory was refused
+  pub reader_of : IsReader new
+  reader_of = record { stands = λ h. (text ++ take used piece, m.stands h); none = m.none }
 
--- where a byte of the piece has this fault, or memory was refused
-fault_meets : (old : Fields) (text piece : List ℕ) (used : ℕ) (mid new : Fields) → TakeMeets old text piece used mid
-    → (fault : LayoutFault) → new.layout ≡ mid.layout → new.wanted ≡ mid.wanted → new.phase ≡ phases.Refused fault
-    → (fault ≢ Memory → IsRefused new (text ++ piece) fault) → (fault ≡ Memory → mid.phase ≡ phases.Refused Memory)
-    → FeedMeets old text piece (Err fault) new
-fault_meets old text piece used mid new m fault layout wanted phase stood memory = record {
-  ok = tt;
-  layout = layout ∙ m.layout;
-  wanted = wanted ∙ m.wanted;
-  whole = tt;
-  done = tt;
-  no_more = tt;
-  refused = λ other. subst (λ p. StandsIn p new (text ++ piece)) (sym phase) (stood other);
-  exact = λ other found.
-      let is = refused_fault new (text ++ piece) fault (stood (λ e. other (ap Err e))) in
-      let here = rw (layout ∙ m.layout, wanted ∙ m.wanted) at is in (λ z. cc, λ z. cc);
-  memory = λ h. m.memory (memory (same_error h));
-}
+  -- where no byte of the piece has a fault
+  fine_meets : used ≤ length piece → new.phase ≢ phases.Refused Memory
+      → byte_fault new.layout new.wanted (text ++ piece) ≡ None → (done : Bool) → (done ≡ false → used ≡ length piece)
+      → (done ≡ true ↔ (new.phase ≡ phases.Done)) → FeedMeets old text piece (Ok (record { used = used; done = done })) new
+  fine_meets within no_memory right done whole ended = record {
+    ok = (within, m.stands no_memory);
+    layout = m.layout;
+    wanted = m.wanted;
+    whole = whole;
+    done = ended;
+    no_more = m.no_more;
+    refused = tt;
+    exact = let here = rw (m.layout, m.wanted) at right in λ h fault. (λ z. cc, λ z. cc);
+    memory = λ h. absurd (cc);
+  }
 
-pub feed_of : (old : Fields) (text piece : List ℕ) (used : ℕ) (new : Fields) → TakeMeets old text piece used new
-    → used ≤ length piece → (is_live new.phase ≡ true → used ≡ length piece)
-    → FeedMeets old text piece (progress_of new.phase used) new
-feed_of old text piece used new m within whole = by_phase new.phase refl
-  where
-    taken : List ℕ
-    taken = text ++ take used piece
+  -- where a byte of the piece has this fault, or memory was refused
+  fault_meets : (next : Fields) (fault : LayoutFault) → next.layout ≡ new.layout → next.wanted ≡ new.wanted
+      → next.phase ≡ phases.Refused fault → (fault ≢ Memory → IsRefused next (text ++ piece) fault)
+      → (fault ≡ Memory → new.phase ≡ phases.Refused Memory) → FeedMeets old text piece (Err fault) next
+  fault_meets next fault layout wanted phase stood memory = record {
+    ok = tt;
+    layout = layout ∙ m.layout;
+    wanted = wanted ∙ m.wanted;
+    whole = tt;
+    done = tt;
+    no_more = tt;
+    refused = λ other. subst (λ p. StandsIn p next (text ++ piece)) (sym phase) (stood other);
+    exact = λ other found.
+        let is = refused_fault next (text ++ piece) fault (stood (λ e. other (ap Err e))) in
+        let here = rw (layout ∙ m.layout, wanted ∙ m.wanted) at is in (λ z. cc, λ z. cc);
+    memory = λ h. m.memory (memory (same_error h));
+  }
 
-    live_meets : is_live new.phase ≡ true → FeedMeets old text piece (Ok (record { used = used; done = false })) new
-    live_meets live =
-        let no_memory = live-memory new.phase live in
-        let follows = live_follows new taken live (m.stands no_memory) in
-        let right = rw (take_all used piece (omega (arith, whole live))) at follows.sound in
-        fine_meets old text piece used new m within no_memory false (λ e. whole live)
-        (λ e. absurd (cc), λ e. let dead = rw e at live in cc) right
+  pub feed_of : used ≤ length piece → (is_live new.phase ≡ true → used ≡ length piece)
+      → FeedMeets old text piece (progress_of new.phase used) new
+  feed_of within whole = by_phase new.phase refl
+    where
+      taken : List ℕ
+      taken = text ++ take used piece
 
-    by_phase : (p : Phase) → new.phase ≡ p → FeedMeets old text piece (progress_of p used) new
-    by_phase phases.Seeking e = live_meets (rw e)
-    by_phase phases.Body e = live_meets (rw e)
-    by_phase phases.AfterLast e = live_meets (rw e)
-    by_phase phases.Done e =
-        let no_memory : new.phase ≢ phases.Refused Memory = λ z. cc in
-        let follows : Follows new taken = subst (λ p. StandsIn p new taken) e (m.stands no_memory) in
-        let right = fine_more new.layout new.wanted taken (drop used piece) follows.sound
-        (done_enough new taken follows e) in
-        fine_meets old text piece used new m within no_memory true (λ z. absurd (cc)) (λ z. e, λ z. refl)
-        (rw (whole_text text piece used) right)
-    by_phase (phases.Refused fault) e =
-        fault_meets old text piece used new new m fault refl refl e (λ other.
-        let here = subst (λ p. StandsIn p new taken) e (m.stands (λ z. other (cc))) in
-        rw (whole_text text piece used) (refused_more new taken (drop used piece) fault here)) (λ z. rw (e, z))
+      live_meets : is_live new.phase ≡ true → FeedMeets old text piece (Ok (record { used = used; done = false })) new
+      live_meets live =
+          let no_memory = live-memory new.phase live in
+          let follows = live_follows new taken live (m.stands no_memory) in
+          let right = rw (take_all used piece (omega (arith, whole live))) at follows.sound in
+          fine_meets within no_memory right false (λ e. whole live) (λ e. cc, λ e. cc)
 
--- where a piece leaves a reader, or memory was refused
-pub reader_of : (old : Fields) (text piece : List ℕ) (used : ℕ) (new : Fields) → TakeMeets old text piece used new
-    → IsReader new
-reader_of old text piece used new m = record { stands = λ h. (text ++ take used piece, m.stands h); none = m.none }
+      by_phase : (p : Phase) → new.phase ≡ p → FeedMeets old text piece (progress_of p used) new
+      by_phase phases.Seeking e = live_meets (rw e)
+      by_phase phases.Body e = live_meets (rw e)
+      by_phase phases.AfterLast e = live_meets (rw e)
+      by_phase phases.Done e =
+          let no_memory : new.phase ≢ phases.Refused Memory = λ z. cc in
+          let follows : Follows new taken = subst (λ p. StandsIn p new taken) e (m.stands no_memory) in
+          let right = fine_more new.layout new.wanted taken (drop used piece) follows.sound
+          (done_enough new taken follows e) in
+          fine_meets within no_memory (rw (whole_text text piece used) right) true (λ z. cc) (λ z. e, λ z. refl)
+      by_phase (phases.Refused fault) e =
+          fault_meets new fault refl refl e (λ other.
+          let here = subst (λ p. StandsIn p new taken) e (m.stands (λ z. other (cc))) in
+          rw (whole_text text piece used) (refused_more new taken (drop used piece) fault here)) (λ z. rw (e, z))
 
 -- a reader that wants no byte takes none
 pub idle_meets : (r : Fields) (text piece : List ℕ) → StandsAfter r text → TakeMeets r text piece 0 r
@@ -235,7 +229,7 @@ long_meets_as old text piece front room used mid m e was s full within whole liv
     let offset = (live_follows old text was s).last_line.offset in
     let long : length taken ≡ LONGEST_INPUT =
     omega (arith, length-append text (take room piece), length-take-le room piece (omega arith)) in
-    fault_meets old text piece used mid (fields mid.last (refused mid.blocks TooLong)) passed TooLong refl refl refl
+    fault_meets old text piece used mid passed (fields mid.last (refused mid.blocks TooLong)) TooLong refl refl refl
     (λ other. record {
       front = taken;
       byte = get_or piece room 0;

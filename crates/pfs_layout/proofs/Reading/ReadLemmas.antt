@@ -34,20 +34,19 @@ left_behind (Some xs) (Some more) front piece rest c e =
     let here : rest ≡ piece ++ more = cc in (more, refl, rw (here, append_assoc))
 
 -- a reader that went on and isn't done is live
-live_then : (r new : Fields) (front piece : List ℕ) (progress : Progress) → FeedMeets r front piece (Ok progress) new
+live_then : {r new : Fields} {front piece : List ℕ} {progress : Progress} → FeedMeets r front piece (Ok progress) new
     → progress.done ≡ false → StandsAfter new (front ++ piece) → is_live new.phase ≡ true
-live_then r new front piece progress m still stands = by_phase new.phase refl
+live_then {r} {new} {front} {piece} m still stands = by_phase new.phase refl
   where
     by_phase : (p : Phase) → new.phase ≡ p → is_live p ≡ true
     by_phase phases.Seeking e = refl
     by_phase phases.Body e = refl
     by_phase phases.AfterLast e = refl
-    by_phase phases.Done e = let yes = m.done.1 e in cc
+    by_phase phases.Done e = cc (m.done.1 e)
     by_phase (phases.Refused fault) e =
         let refused = subst (λ p. StandsIn p new (front ++ piece)) e stands in
         let is = rw (m.layout, m.wanted) at (refused_fault new (front ++ piece) fault refused) in
-        let bad = (m.exact (λ z. cc) fault).1 is in
-        cc
+        cc ((m.exact (λ z. cc) fault).1 is)
 
 -- the reader is handed a piece that its source has given
 module _ {layout : Layout} {k : ℕ} {first left : Option (List ℕ)} {r : Fields} (t : Reading layout k first left r)
@@ -71,12 +70,12 @@ module _ {layout : Layout} {k : ℕ} {first left : Option (List ℕ)} {r : Field
   pub reading_more : {new : Fields} {progress : Progress} → FeedMeets r t.front piece (Ok progress) new
       → progress.done ≡ false → Reading layout k first next new
   reading_more {new} {progress} m still =
-      let all = m.whole still in
-      let stands : StandsAfter new (t.front ++ piece) = rw (take_all progress.used piece (omega arith)) at m.ok.1 in
+      let all = take_all progress.used piece (omega (arith, m.whole still)) in
+      let stands : StandsAfter new (t.front ++ piece) = rw all at m.ok.1 in
       record {
         layout_is = m.layout ∙ t.layout_is;
         wanted_is = m.wanted ∙ t.wanted_is;
-        live = live_then r new t.front piece progress m still stands;
+        live = live_then m still stands;
         front = t.front ++ piece;
         stands = stands;
         told = behind;
