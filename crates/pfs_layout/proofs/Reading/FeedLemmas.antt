@@ -1,7 +1,7 @@
 -- What a reader owes for a piece.
 use Rattle.std.proofs.Common.{◌≡◌, ◌≢◌, ◌↔◌, ℕ, ◌+◌, ◌<◌, ◌≤◌, Bool, true, false, List, [], ◌∷◌, ◌++◌}
 use Rattle.std.proofs.Common.{length, take, drop, get_or, refl, sym, ◌∙◌, ap, subst, arith, add-one}
-use Rattle.std.proofs.Common.{Option, Some, None, nat_lt, inl, inr}
+use Rattle.std.proofs.Common.{Some, None, nat_lt, inl, inr}
 use Rattle.std.specs.Prelude.{Ok, Err}
 use Rattle.std.specs.List.{list_any}
 use Rattle.std.proofs.lemmas.Bool.{le-ltb, lt-ltb, cases_lt, cases_Bool}
@@ -18,21 +18,21 @@ use Rattle.pfs_layout.specs.declared.blocks.Phase.{Phase}
 use Rattle.pfs_layout.specs.declared.blocks.Phase.TheVariants as phases
 use Rattle.pfs_layout.specs.declared.blocks.Blocks.{Blocks}
 use Rattle.pfs_layout.specs.Bytes.{is_word_byte}
-use Rattle.pfs_layout.specs.Lines.{ended_lines, open_line, ended_numbers}
+use Rattle.pfs_layout.specs.Lines.{open_line, ended_numbers}
 use Rattle.pfs_layout.specs.Stand.{Now, seeking, inside, lost}
 use Rattle.pfs_layout.specs.Refuse.{faults, fault_of_place, byte_fault}
 use Rattle.pfs_layout.specs.Step.{is_live, refused}
 use Rattle.pfs_layout.specs.Reader.{Fields, fields, block_read, FollowsNow, Follows, IsRefused, StandsIn, StandsAfter}
-use Rattle.pfs_layout.specs.Reader.{IsReader, TakeMeets, FeedMeets, progress_of, EndsWantedSize}
+use Rattle.pfs_layout.specs.Reader.{IsReader, TakeMeets, FeedMeets, progress_of}
 use Rattle.pfs_layout.proofs.Published.PlaceLemmas.{byte_fault-push}
-use Rattle.pfs_layout.proofs.Files.InputFaults.{is_input_fault, of_place}
+use Rattle.pfs_layout.proofs.Files.InputFaults.{of_place}
 use Rattle.pfs_layout.proofs.Files.SoundLemmas.{stand_of}
 use Rattle.pfs_layout.proofs.Files.GrowLemmas.{fewer_before}
 use Rattle.pfs_layout.proofs.Files.EndLemmas.{byte_fault-more}
 use Rattle.pfs_layout.proofs.Reading.StepLemmas.{live-memory}
 use Rattle.pfs_layout.proofs.Reading.ByteSteps.{live_few}
 use Rattle.pfs_layout.proofs.Reading.ReaderLemmas.{live_follows}
-use Rattle.pfs_layout.proofs.Reading.ReadNames.{same_error, same_some}
+use Rattle.pfs_layout.proofs.Reading.ReadNames.{same_error}
 
 -- ---- behind a fault, and behind the wanted block
 

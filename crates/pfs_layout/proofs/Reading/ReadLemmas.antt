@@ -1,10 +1,10 @@
 -- A reader that reads pieces of a source.
 use Rattle.std.proofs.Common.{◌≡◌, ◌≢◌, ℕ, ◌<◌, ◌≤◌, true, false, List, [], ◌++◌, length, take, drop, refl, sym, ◌∙◌}
-use Rattle.std.proofs.Common.{ap, subst, arith, Option, Some, None, inl, inr}
+use Rattle.std.proofs.Common.{subst, arith, Option, Some, None, inl, inr}
 use Rattle.std.specs.Prelude.{Result, Ok, Err, IfSome, slice_index}
 use Rattle.std.specs.Result.{result_err}
 use Rattle.std.specs.Io.KnownBytes.{Keeps, Consumes}
-use Rattle.std.proofs.lemmas.List.{append_assoc, append-nil, take_all}
+use Rattle.std.proofs.lemmas.List.{append_assoc, take_all}
 use Rattle.pfs_base.specs.Limits.{limits}
 use Rattle.pfs_base.specs.Problem.{Problem}
 use Rattle.pfs_layout.specs.declared.layout.Layout.{Layout}
@@ -21,7 +21,7 @@ use Rattle.pfs_layout.specs.Reader.{Fields, Follows, StandsIn, StandsAfter, Ends
 use Rattle.pfs_layout.specs.Reader.{FinishMeets, IsUndecided, ReadsAsFar, Reading}
 use Rattle.pfs_layout.proofs.Options.{cases_option}
 use Rattle.pfs_layout.proofs.Files.EndLemmas.{byte_fault_refuses, free_behind}
-use Rattle.pfs_layout.proofs.Reading.ReadNames.{finish_named, feed_named, same_error, same_some}
+use Rattle.pfs_layout.proofs.Reading.ReadNames.{finish_named, feed_named, same_error}
 use Rattle.pfs_layout.proofs.Reading.ReaderLemmas.{live_follows}
 use Rattle.pfs_layout.proofs.Reading.FeedLemmas.{whole_text, refused_fault, done_enough, live_wants}
 use Rattle.pfs_layout.proofs.Reading.OutcomeLemmas.{finish_done}
@@ -137,15 +137,15 @@ module _ {layout : Layout} {k : ℕ} {first left : Option (List ℕ)} {r : Field
       → FinishMeets new text outcome → IfSome first (λ bytes. ReadsAsFar layout k bytes next (result_err outcome))
   reads_ended {outcome = Ok problem} size meets = reads_piece None size (λ e. cc) (λ e. absurd (cc))
   reads_ended {outcome = Err fault} size meets =
-      reads_piece (Some fault) size (λ e. absurd (finish_named meets Read refl (ap Err (same_some e))))
-      (λ e. absurd (finish_named meets Memory refl (ap Err (same_some e))))
+      reads_piece (Some fault) size (λ e. absurd (finish_named meets Read refl (cc)))
+      (λ e. absurd (finish_named meets Memory refl (cc)))
 
   -- the piece has a fault, or memory was refused in it
   pub reads_fault : {new : Fields} {fault : LayoutFault} → length piece ≤ PIECE
       → FeedMeets r t.front piece (Err fault) new → IfSome first (λ bytes. ReadsAsFar layout k bytes next (Some fault))
   reads_fault {new} {fault} size m =
-      reads_piece (Some fault) size (λ e. absurd (feed_named m Read (λ z. cc) refl (same_some e)))
-      (λ e. rw (t.layout_is, t.wanted_is) at (m.memory (ap Err (same_some e))))
+      reads_piece (Some fault) size (λ e. absurd (feed_named m Read (λ z. cc) refl (cc)))
+      (λ e. rw (t.layout_is, t.wanted_is) at (m.memory (cc)))
 
 -- the read failed
 pub reads_failed : {layout : Layout} {k : ℕ} {first left : Option (List ℕ)} {r : Fields}

@@ -1,5 +1,5 @@
 -- Which faults a read block can have.
-use Rattle.std.proofs.Common.{◌≡◌, ◌≢◌, ℕ, Bool, true, false, List, [], ◌++◌, Option, Some, refl, sym, ◌∙◌, ap}
+use Rattle.std.proofs.Common.{◌≡◌, ◌≢◌, ℕ, Bool, true, false, List, [], ◌++◌, Option, Some, sym, ◌∙◌, ap}
 use Rattle.std.specs.Prelude.{Result, Err, ◌↔◌}
 use Rattle.std.proofs.lemmas.Bool.{both_ways}
 use Rattle.pfs_base.specs.Problem.{Problem}

@@ -1,8 +1,6 @@
 -- Each piece takes the reader on, a fault of a piece is one of the whole input, and so is the wanted block.
-use Rattle.std.proofs.Common.{refl, rules, ◌≡◌, ℕ, List, [], ◌+◌, ◌-◌, ◌<◌, ◌≤◌, length, take, ◌∙◌, arith}
+use Rattle.std.proofs.Common.{refl, ℕ, [], ◌∙◌, arith}
 use Rattle.std.proofs.lemmas.List.{length-take, length-take-le}
-use Rattle.pfs_base.specs.declared.limits.TheConstants.{LONGEST_INPUT}
-use Rattle.pfs_layout.specs.declared.reader.TheConstants.{PIECE}
 use Rattle.pfs_layout.specs.declared.fault.LayoutFault.TheVariants.{Read, SeedRange}
 use Rattle.pfs_layout.proofs.Reading.ReadNames.{finish_named, feed_named, same_error, never_failed}
 use Rattle.pfs_layout.proofs.Reading.ReaderLemmas.{live_follows}
@@ -37,8 +35,14 @@ pub pieces-smaller : goal.pieces-smaller
 pieces-smaller g c =
     let t = (pieces-preserved g c).reading in
     let follows = live_follows c.feed.new.self t.front t.live t.stands in
-    omega (arith, follows.short, follows.last_line.offset, c.in-Ok.ensures.moved,
-    c.in-Ok.ensures.whole c.if-progress.false, length-take-le c.in-Some.n c.read.new.buf c.in-Some.ensures.bytes.0)
+    omega (
+      arith,
+      follows.short,
+      follows.last_line.offset,
+      c.in-Ok.ensures.moved,
+      c.in-Ok.ensures.whole c.if-progress.false,
+      length-take-le c.in-Some.n c.read.new.buf c.in-Some.ensures.bytes.0,
+    )
 
 -- ---- the answers
 
