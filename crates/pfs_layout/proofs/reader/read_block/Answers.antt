@@ -1,5 +1,5 @@
 -- Each piece takes the reader on, a fault of a piece is one of the whole input, and so is the wanted block.
-use Rattle.std.proofs.Common.{refl, ℕ, [], ◌∙◌, arith}
+use Rattle.std.proofs.Common.{refl, rules, ℕ, [], ◌∙◌, arith}
 use Rattle.std.proofs.lemmas.List.{length-take, length-take-le}
 use Rattle.pfs_layout.specs.declared.fault.LayoutFault.TheVariants.{Read, SeedRange}
 use Rattle.pfs_layout.proofs.Reading.ReadNames.{finish_named, feed_named, same_error, never_failed}
@@ -35,14 +35,7 @@ pub pieces-smaller : goal.pieces-smaller
 pieces-smaller g c =
     let t = (pieces-preserved g c).reading in
     let follows = live_follows c.feed.new.self t.front t.live t.stands in
-    omega (
-      arith,
-      follows.short,
-      follows.last_line.offset,
-      c.in-Ok.ensures.moved,
-      c.in-Ok.ensures.whole c.if-progress.false,
-      length-take-le c.in-Some.n c.read.new.buf c.in-Some.ensures.bytes.0,
-    )
+    omega (arith, c.in-Ok.ensures.moved, c.in-Ok.ensures.whole c.if-progress.false, length-take {A = ℕ})
 
 -- ---- the answers
 
@@ -50,23 +43,18 @@ pub returns-in_default-clause-as_far : goal.returns-in_default-clause-as_far
 returns-in_default-clause-as_far g c = reads_failed c.pieces.invariant.reading _ c.in_default.ensures.bytes
 
 -- the input has ended
-pub returns-then-n-eq0-clause-read : goal.returns-then-n-eq0-clause-read
-returns-then-n-eq0-clause-read g c =
-    let t = c.pieces.invariant.reading in
-    never_failed (c.in-Some.ensures.failed ∙ c.pieces.invariant.working)
-    (finish_named (c.finish.ensures.meets t.front t.stands) Read refl)
-
-pub returns-then-n-eq0-clause-no_seed : goal.returns-then-n-eq0-clause-no_seed
-returns-then-n-eq0-clause-no_seed g c =
-    let t = c.pieces.invariant.reading in
-    finish_named (c.finish.ensures.meets t.front t.stands) SeedRange refl
-
-pub returns-then-n-eq0-clause-as_far : goal.returns-then-n-eq0-clause-as_far
-returns-then-n-eq0-clause-as_far g c =
+pub returns-then-n-eq0 : goal.returns-then-n-eq0
+returns-then-n-eq0 g c =
     let t = c.pieces.invariant.reading in
     let bytes = c.in-Some.ensures.bytes in
-    reads_ended t _ _ bytes.1 (omega (arith, length-take {A = ℕ}))
-    (c.finish.ensures.meets t.front t.stands)
+    let ends = c.finish.ensures.meets t.front t.stands in
+    record {
+      file = search rules;
+      refused = search rules;
+      read = never_failed (c.in-Some.ensures.failed ∙ c.pieces.invariant.working) (finish_named ends Read refl);
+      no_seed = finish_named ends SeedRange refl;
+      as_far = reads_ended t _ _ bytes.1 (omega (arith, length-take {A = ℕ})) ends;
+    }
 
 -- a byte of the piece has a fault, or memory was refused
 pub returns-in-Err : goal.returns-in-Err
@@ -99,7 +87,5 @@ returns-then-progress g c =
           never_failed (c.in-Some.ensures.failed ∙ c.pieces.invariant.working)
           (finish_named (ends _ meets.ok.1) Read refl);
       no_seed = finish_named (ends _ meets.ok.1) SeedRange refl;
-      as_far =
-          reads_ended t _ _ bytes.1 (omega (arith, length-take {A = ℕ}))
-          (ends _ meets.ok.1);
+      as_far = reads_ended t _ _ bytes.1 (omega (arith, length-take {A = ℕ})) (ends _ meets.ok.1);
     }
