@@ -89,7 +89,7 @@ pub done_enough : (r : Fields) (text : List ℕ) → Follows r text → r.phase 
     → r.wanted ≤ length (stand_of r.layout text).complete
 done_enough r text f e = omega (arith, f.blocks.complete, done_now _ r.blocks _ _ f.blocks.now e)
 
--- a live reader has not
+-- and a live one hasn't
 pub live_wants : (r : Fields) (text : List ℕ) → Follows r text → is_live r.phase ≡ true
     → length (stand_of r.layout text).complete < r.wanted
 live_wants r text f live = omega (arith, f.blocks.complete, live_few _ r.blocks _ _ f.blocks.now live)
@@ -107,7 +107,8 @@ module _ (old : Fields) (text piece : List ℕ) (used : ℕ) (new : Fields) (m :
   -- where no byte of the piece has a fault
   fine_meets : used ≤ length piece → new.phase ≢ phases.Refused Memory
       → byte_fault new.layout new.wanted (text ++ piece) ≡ None → (done : Bool) → (done ≡ false → used ≡ length piece)
-      → (done ≡ true ↔ (new.phase ≡ phases.Done)) → FeedMeets old text piece (Ok (record { used = used; done = done })) new
+      → (done ≡ true ↔ (new.phase ≡ phases.Done))
+      → FeedMeets old text piece (Ok (record { used = used; done = done })) new
   fine_meets within no_memory right done whole ended = record {
     ok = (within, m.stands no_memory);
     layout = m.layout;

@@ -36,7 +36,7 @@ left_behind (Some xs) (Some more) front piece rest c e =
 -- a reader that went on and isn't done is live
 live_then : {r new : Fields} {front piece : List ℕ} {progress : Progress} → FeedMeets r front piece (Ok progress) new
     → progress.done ≡ false → StandsAfter new (front ++ piece) → is_live new.phase ≡ true
-live_then {r} {new} {front} {piece} m still stands = by_phase new.phase refl
+live_then {new} {front} {piece} m still stands = by_phase new.phase refl
   where
     by_phase : (p : Phase) → new.phase ≡ p → is_live p ≡ true
     by_phase phases.Seeking e = refl
@@ -84,7 +84,7 @@ module _ {layout : Layout} {k : ℕ} {first left : Option (List ℕ)} {r : Field
   -- the piece has a fault
   pub reading_fault : {new : Fields} {fault : LayoutFault} → FeedMeets r t.front piece (Err fault) new → fault ≢ Memory
       → IfSome first (λ bytes. RefusesInstance layout bytes k fault)
-  reading_fault {new} {fault} m other = told_behind (λ bytes. RefusesInstance layout bytes k fault) (λ more e.
+  reading_fault {fault} m other = told_behind _ (λ more e.
       let here = (m.exact (λ z. other (same_error z)) fault).0 refl in
       rw (t.layout_is, t.wanted_is) at (byte_fault_refuses r.layout r.wanted (t.front ++ piece) more fault here))
 
@@ -94,7 +94,7 @@ module _ {layout : Layout} {k : ℕ} {first left : Option (List ℕ)} {r : Field
       → ((text : List ℕ) → StandsAfter new text → FinishMeets new text outcome)
       → (problem : Problem) × (outcome ≡ Ok problem)
       × IfSome first (λ bytes. IsInstanceFile limits layout bytes k problem)
-  reading_done {new} {progress} {outcome} m ended meets =
+  reading_done {new} {progress} m ended meets =
       let front : List ℕ = t.front ++ take progress.used piece in
       let phase : new.phase ≡ phases.Done = m.done.0 ended in
       let follows : Follows new front = subst (λ p. StandsIn p new front) phase m.ok.1 in
@@ -102,7 +102,7 @@ module _ {layout : Layout} {k : ℕ} {first left : Option (List ℕ)} {r : Field
       let found = finish_done new front follows phase in (
         found.0,
         ((meets front m.ok.1).file found.0).1 found.1,
-        told_behind (λ bytes. IsInstanceFile limits layout bytes k found.0) (λ more e.
+        told_behind _ (λ more e.
             let file = (free_behind new.layout front (drop progress.used piece ++ more) new.wanted found.0 follows.some
             follows.sound enough).0 found.1 in
             rw (whole_text t.front piece progress.used, append_assoc front (drop progress.used piece) more)
@@ -116,7 +116,7 @@ module _ {layout : Layout} {k : ℕ} {first left : Option (List ℕ)} {r : Field
       → (fault ≡ Some Memory
       → (n : ℕ) × (n < length piece) × EndsWantedSize layout k (t.front ++ take n piece) (slice_index piece n))
       → IfSome first (λ bytes. ReadsAsFar layout k bytes next fault)
-  reads_piece fault size failed memory = told_behind (λ bytes. ReadsAsFar layout k bytes next fault) (λ more e.
+  reads_piece fault size failed memory = told_behind _ (λ more e.
       let f = live_follows r t.front t.live t.stands in
       let wanted : IsUndecided r.layout r.wanted t.front =
       record { sound = f.sound; incomplete = live_wants r t.front f t.live } in
@@ -143,7 +143,7 @@ module _ {layout : Layout} {k : ℕ} {first left : Option (List ℕ)} {r : Field
   -- the piece has a fault, or memory was refused in it
   pub reads_fault : {new : Fields} {fault : LayoutFault} → length piece ≤ PIECE
       → FeedMeets r t.front piece (Err fault) new → IfSome first (λ bytes. ReadsAsFar layout k bytes next (Some fault))
-  reads_fault {new} {fault} size m =
+  reads_fault {fault} size m =
       reads_piece (Some fault) size (λ e. absurd (feed_named m Read (λ z. cc) refl (cc)))
       (λ e. rw (t.layout_is, t.wanted_is) at (m.memory (cc)))
 

@@ -1,6 +1,6 @@
 -- Each piece takes the reader on, a fault of a piece is one of the whole input, and so is the wanted block.
 use Rattle.std.proofs.Common.{refl, rules, ℕ, [], ◌∙◌, arith}
-use Rattle.std.proofs.lemmas.List.{length-take, length-take-le}
+use Rattle.std.proofs.lemmas.List.{length-take}
 use Rattle.pfs_layout.specs.declared.fault.LayoutFault.TheVariants.{Read, SeedRange}
 use Rattle.pfs_layout.proofs.Reading.ReadNames.{finish_named, feed_named, same_error, never_failed}
 use Rattle.pfs_layout.proofs.Reading.ReaderLemmas.{live_follows}
