@@ -17,4 +17,3 @@ pub mod ScanLemmas
 pub mod StepLemmas
 pub mod TableLemmas
 pub mod TakeLemmas
-pub mod ToldLemmas

@@ -1,5 +1,5 @@
--- Which faults a read block can have, and what the bytes that are told say of its answer.
-use Rattle.std.proofs.Common.{◌≡◌, ◌≢◌, ℕ, Bool, true, false, List, [], ◌++◌, Option, Some, refl, sym, ◌∙◌}
+-- Which faults a read block can have.
+use Rattle.std.proofs.Common.{◌≡◌, ◌≢◌, ℕ, Bool, true, false, List, [], ◌++◌, Option, Some, sym, ◌∙◌, ap}
 use Rattle.std.specs.Prelude.{Result, Err, ◌↔◌}
 use Rattle.std.proofs.lemmas.Bool.{both_ways}
 use Rattle.pfs_base.specs.Problem.{Problem}
@@ -17,20 +17,19 @@ pub same_some : {a b : LayoutFault} → ◌≡◌ {A = Option LayoutFault} (Some
 same_some z = cc
 
 -- the end of an input has no fault but those of inputs
-pub finish_named : (r : Fields) (text : List ℕ) (outcome : Result Problem LayoutFault) (fault : LayoutFault)
-    → FinishMeets r text outcome → is_input_fault fault ≡ false → outcome ≢ Err fault
-finish_named r text outcome fault meets other e =
+pub finish_named : {r : Fields} {text : List ℕ} {outcome : Result Problem LayoutFault} → FinishMeets r text outcome
+    → (fault : LayoutFault) → is_input_fault fault ≡ false → outcome ≢ Err fault
+finish_named {r} {text} meets fault other e =
     both_ways _ other (refused_input r.layout text r.wanted fault ((meets.refused fault).0 e))
 
 -- nor has a piece, but for want of memory
-pub feed_named : (r new : Fields) (text piece : List ℕ) (found fault : LayoutFault)
-    → FeedMeets r text piece (Err found) new → fault ≢ Memory → is_input_fault fault ≡ false → found ≢ fault
-feed_named r new text piece found fault meets no_memory other e =
-    let is = (meets.exact (λ z. no_memory (sym e ∙ same_error z)) found).0 refl in
-    let named = refused_input r.layout ((text ++ piece) ++ []) r.wanted found
-    (byte_fault_refuses r.layout r.wanted (text ++ piece) [] found is) in
-    both_ways _ other (rw e at named)
+pub feed_named : {r new : Fields} {text piece : List ℕ} {found : LayoutFault} → FeedMeets r text piece (Err found) new
+    → (fault : LayoutFault) → fault ≢ Memory → is_input_fault fault ≡ false → found ≢ fault
+feed_named {r} {text} {piece} meets fault no_memory other e =
+    let here = (meets.exact (λ z. no_memory (sym e ∙ same_error z)) fault).0 (ap Err e) in
+    let refuses = byte_fault_refuses r.layout r.wanted (text ++ piece) [] fault here in
+    both_ways _ other (refused_input r.layout _ r.wanted fault refuses)
 
 -- what never holds, exactly where a device that works has failed
-pub never_failed : (P : Type 0) (failed : Bool) → failed ≡ false → ¬ P → P ↔ (failed ≡ true)
-never_failed P failed working never = (λ p. absurd (never p), λ e. absurd (both_ways failed working e))
+pub never_failed : {P : Type 0} {failed : Bool} → failed ≡ false → ¬ P → P ↔ (failed ≡ true)
+never_failed working never = (λ p. absurd (never p), λ e. absurd (both_ways _ working e))

@@ -1,7 +1,5 @@
 -- A reader that was refused memory stands nowhere, and no more times are held behind a piece than the wanted block has.
-use Rattle.std.proofs.Common.{◌≡◌, ◌++◌, sym, subst}
-use Rattle.std.specs.Prelude.{IfErr}
-use Rattle.pfs_layout.specs.declared.blocks.Phase.TheVariants as phases
+use Rattle.std.proofs.Common.{◌++◌, subst}
 use Rattle.pfs_layout.specs.Reader.{Fields, fields, StandsAfter, HoldsFew}
 use Rattle.pfs_layout.proofs.Reading.FeedLemmas.{memory_nowhere}
 use Rattle.pfs_layout.proofs.Reading.HeldLemmas.{feed_few}
@@ -9,17 +7,13 @@ use Rattle.pfs_layout.proofs.reader.BlockReader.feed.Goals as goal
 
 pub returns-clause-nowhere : goal.returns-clause-nowhere
 returns-clause-nowhere c e text s =
-    let new : Fields = fields c.feed.new.last c.feed.new.self in
-    memory_nowhere new text
-    (subst (λ outcome. IfErr outcome (λ fault. new.phase ≡ phases.Refused fault)) e c.feed.ensures.stays) s
+    memory_nowhere (fields c.feed.new.last c.feed.new.self) text (rw e at c.feed.ensures.stays) s
 
 pub returns-clause-few : goal.returns-clause-few
-returns-clause-few c text s =
+returns-clause-few c text =
     let old : Fields = fields c.self.inside.last c.self.inside.blocks in
-    let before : old ≡ c.args.self.now = c.self.view_is in
     let new : Fields = fields c.feed.new.last c.feed.new.self in
-    subst (λ (z : Fields). HoldsFew z.layout z.wanted (text ++ c.args.piece.now) new.held) before
-    (feed_few old text c.args.piece.now c.feed.result new
-    (c.feed.ensures.meets text (subst (λ z. StandsAfter z text) (sym before) s))
-    (λ e. c.feed.ensures.reader.none
-    (subst (λ outcome. IfErr outcome (λ fault. new.phase ≡ phases.Refused fault)) e c.feed.ensures.stays)))
+    let piece = c.args.piece.now in
+    subst (λ z. StandsAfter z text → HoldsFew z.layout z.wanted (text ++ piece) new.held) c.self.view_is
+    (λ s. feed_few old text piece c.feed.result new (c.feed.ensures.meets text s)
+    (λ e. c.feed.ensures.reader.none (rw e at c.feed.ensures.stays)))

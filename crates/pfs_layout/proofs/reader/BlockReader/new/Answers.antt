@@ -10,11 +10,6 @@ returns-clause-stands c =
 
 pub invariant_of-result : goal.invariant_of-result
 invariant_of-result c = record {
-  stands =
-      λ other. (
-        [],
-        new_stands c.args.layout c.args.block c.new.result c.new-2.result c.new.ensures c.new-2.ensures
-            c.requires.some,
-      );
+  stands = λ other. ([], returns-clause-stands c);
   none = λ h. ap (λ (r : Blocks). r.held) c.new-2.ensures;
 }
