@@ -1,32 +1,27 @@
 -- A byte that ends a number or a line, or that is of a word: the fault that its place has, or what the fields say
 -- behind it.
-use Rattle.std.proofs.Common.{◌≡◌, ◌≢◌, ℕ, ◌+◌, ◌-◌, ◌<◌, ◌≤◌, min, Bool, true, false, not, ◌&&◌, ◌||◌, List, [], ◌∷◌}
-use Rattle.std.proofs.Common.{◌++◌, length, count_by, refl, sym, ◌∙◌, ap, subst, arith, Option, Some, None}
-use Rattle.std.proofs.Common.{if◌then◌else◌, ◌==◌}
+use Rattle.std.proofs.Common.{◌≡◌, ◌≢◌, ℕ, ◌+◌, ◌-◌, ◌<◌, ◌≤◌, Bool, true, false, ◌&&◌, ◌||◌, List, [], ◌∷◌}
+use Rattle.std.proofs.Common.{◌++◌, length, count_by, refl, ◌∙◌, arith, Option, Some, None}
+use Rattle.std.proofs.Common.{if◌then◌else◌}
 use Rattle.std.specs.List.{list_any}
-use Rattle.std.specs.Bool.{then_some}
-use Rattle.std.specs.Option.{option_or}
 use Rattle.std.specs.Str.Parse.{digits_value}
-use Rattle.std.proofs.lemmas.Bool.{eqb-true, eqb-false, eq-eqb, ne_eqb, or_parts, or_right}
+use Rattle.std.proofs.lemmas.Bool.{eqb-true, eqb-false, eq-eqb, ne_eqb, or_right}
 use Rattle.std.proofs.lemmas.List.{append_assoc, append-nil, length-append, length_push}
 use Rattle.pfs_base.specs.Lists.{is_empty}
 use Rattle.pfs_base.proofs.Published.Lists.{by_push}
 use Rattle.pfs_layout.specs.declared.layout.Layout.{Layout}
 use Rattle.pfs_layout.specs.declared.fault.LayoutFault.{LayoutFault}
-use Rattle.pfs_layout.specs.declared.fault.LayoutFault.TheVariants.{MixedLine}
-use Rattle.pfs_layout.specs.declared.scan.TheConstants.{CEILING}
 use Rattle.pfs_layout.specs.declared.scan.Line.{Line}
-use Rattle.pfs_layout.specs.declared.scan.Number.{Number}
 use Rattle.pfs_layout.specs.declared.blocks.Blocks.{Blocks}
 use Rattle.pfs_layout.specs.Bytes.{is_digit, is_blank, is_line_end, is_word_byte}
-use Rattle.pfs_layout.specs.Lines.{open_part, open_line, is_mixed, is_number_line, is_no_digit, numbers, ended_numbers}
+use Rattle.pfs_layout.specs.Lines.{open_part, open_line, is_mixed, is_no_digit, numbers, ended_numbers}
 use Rattle.pfs_layout.specs.Lines.{last_digits}
-use Rattle.pfs_layout.specs.Block.{due_at, are_due, is_due, stated_size}
+use Rattle.pfs_layout.specs.Block.{due_at, are_due}
 use Rattle.pfs_layout.specs.Stand.{Block, Now, seeking, inside, lost, Stand, stand_after, standing}
-use Rattle.pfs_layout.specs.Refuse.{misfit, wrong_number, size_fault, wrong_size}
-use Rattle.pfs_layout.specs.Step.{is_live, is_in_block, refused, Keeps, number_ended, last_number_ended, line_ended}
+use Rattle.pfs_layout.specs.Refuse.{misfit, wrong_number, wrong_size}
+use Rattle.pfs_layout.specs.Step.{is_live, is_in_block, refused, Keeps, last_number_ended, line_ended}
 use Rattle.pfs_layout.specs.Step.{has_numbers_alone, number_of}
-use Rattle.pfs_layout.specs.Reader.{block_of, time_count, FollowsLine, FollowsBlocks}
+use Rattle.pfs_layout.specs.Reader.{FollowsLine, FollowsBlocks}
 use Rattle.pfs_layout.proofs.Files.LineLemmas.{open_part-push, numbers_is}
 use Rattle.pfs_layout.proofs.Files.SoundLemmas.{GoodNow, GoodBody, same_last, values_last, digit_there, misfit_none}
 use Rattle.pfs_layout.proofs.Files.SoundLemmas.{are_due-push}
@@ -36,8 +31,8 @@ use Rattle.pfs_layout.proofs.Reading.LineSteps.{Refuses, LineOutcome, sought_lin
 use Rattle.pfs_layout.proofs.Reading.ByteSteps.{fault_within_limit, live_few, seeking_if_few, begun_phase, ByteOutcome}
 use Rattle.pfs_layout.proofs.Reading.ByteSteps.{refuses_is}
 use Rattle.pfs_layout.proofs.Reading.ByteSteps.{weaker, judged, mixed_other, mixed_word, judged_word, judged_blank, byte_on}
-use Rattle.pfs_layout.proofs.Reading.ByteSteps.{sought_fine, number_fine}
-use Rattle.std.proofs.lemmas.Bool.{true_from_ne_false, cases_Bool, both_ways, cond_both}
+use Rattle.pfs_layout.proofs.Reading.ByteSteps.{sought_fine}
+use Rattle.std.proofs.lemmas.Bool.{true_from_ne_false, cases_Bool, both_ways}
 use Rattle.std.proofs.Common.{inl, inr}
 use Rattle.std.proofs.Math.Bool.{and-true}
 use Rattle.pfs_layout.proofs.Options.{cases_option}

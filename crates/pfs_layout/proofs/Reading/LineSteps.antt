@@ -1,24 +1,20 @@
 -- A line that ends: the fault that it has, or what the fields say behind it.
-use Rattle.std.proofs.Common.{◌≡◌, ◌≢◌, ℕ, zero, suc, ◌+◌, ◌-◌, ◌*◌, ◌<◌, ◌≤◌, min, Bool, true, false, not, ◌&&◌, List}
-use Rattle.std.proofs.Common.{[], ◌∷◌, ◌++◌, length, get_or, refl, sym, ◌∙◌, ap, subst, arith, Option, Some, None}
-use Rattle.std.proofs.Common.{if◌then◌else◌, ◌==◌, nat_lt, nat_le}
-use Rattle.std.specs.Prelude.{option_map, slice_get}
-use Rattle.std.specs.Bool.{then_some}
+use Rattle.std.proofs.Common.{◌≡◌, ◌≢◌, ℕ, ◌+◌, ◌-◌, ◌<◌, ◌≤◌, min, Bool, true, false, not, ◌&&◌, List}
+use Rattle.std.proofs.Common.{[], ◌∷◌, ◌++◌, length, refl, ◌∙◌, ap, arith, Option, Some, None}
+use Rattle.std.proofs.Common.{if◌then◌else◌, ◌==◌, nat_le}
 use Rattle.std.specs.List.{list_any}
-use Rattle.std.proofs.lemmas.Bool.{lt-ltb, le-ltb, ltb-true, ltb-false, eqb-true, eqb-false, eq-eqb, ne_eqb, leb-true}
+use Rattle.std.proofs.lemmas.Bool.{lt-ltb, le-ltb, eq-eqb, ne_eqb}
 use Rattle.pfs_layout.specs.declared.blocks.Phase.{Phase}
 use Rattle.std.proofs.lemmas.Bool.{and_parts, not-true, cases_Bool, cases_eq, cases_lt, cond_both}
 use Rattle.std.proofs.lemmas.Bool.Decides.{nat_tests}
 use Rattle.std.proofs.Math.Nat.{mul-pos}
 use Rattle.std.proofs.Common.{inl, inr}
-use Rattle.std.proofs.lemmas.Bool.{leb-false, le-leb, lt-leb}
 use Rattle.std.proofs.lemmas.List.{append-nil, length-append, length_push}
 use Rattle.pfs_base.specs.declared.limits.TheConstants.{MOST_JOBS, MOST_MACHINES, GREATEST_NOTE}
 use Rattle.pfs_base.proofs.Published.Lists.{slice_get-push}
 use Rattle.pfs_layout.specs.declared.layout.Layout.{Layout}
 use Rattle.pfs_layout.specs.declared.layout.Layout.TheVariants.{Taillard, OrLib}
 use Rattle.pfs_layout.specs.declared.fault.LayoutFault.{LayoutFault}
-use Rattle.pfs_layout.specs.declared.fault.LayoutFault.TheVariants.{SizeRange}
 use Rattle.pfs_layout.specs.declared.scan.TheConstants.{CEILING}
 use Rattle.pfs_layout.specs.declared.size_line.SizeLine.{SizeLine}
 use Rattle.pfs_layout.specs.declared.blocks.Phase.TheVariants as phases
@@ -27,12 +23,12 @@ use Rattle.pfs_layout.specs.Bytes.{is_digit, is_word_byte}
 use Rattle.pfs_layout.specs.Lines.{is_mixed, is_number_line, numbers}
 use Rattle.pfs_layout.specs.Size.{Size, is_within_limits}
 use Rattle.pfs_layout.specs.Block.{due_count, stated_size, are_due}
-use Rattle.pfs_layout.specs.Stand.{Block, seeking, inside, lost, Stand, after_size, after_numbers, stand_after}
-use Rattle.pfs_layout.specs.Stand.{times_among, instance_of, standing, completed, begun, with_line}
+use Rattle.pfs_layout.specs.Stand.{Block, seeking, inside, Stand, after_size, after_numbers, stand_after}
+use Rattle.pfs_layout.specs.Stand.{times_among, standing, completed, begun, with_line}
 use Rattle.pfs_layout.specs.Refuse.{size_fault}
-use Rattle.pfs_layout.specs.Step.{stated_by, body_of, empty_problem, block_begun, size_judged, size_line_ended}
-use Rattle.pfs_layout.specs.Step.{block_ended, no_numbers, at_next_line, line_ended_in, line_ended}
-use Rattle.pfs_layout.specs.Reader.{IsNextTime, block_of, time_count, HoldsNumbers, FollowsBody, FollowsBlocks}
+use Rattle.pfs_layout.specs.Step.{stated_by, body_of, block_begun, size_judged}
+use Rattle.pfs_layout.specs.Step.{no_numbers, at_next_line, line_ended_in, line_ended}
+use Rattle.pfs_layout.specs.Reader.{IsNextTime, block_of, HoldsNumbers, FollowsBody, FollowsBlocks}
 use Rattle.pfs_layout.proofs.Files.SizeLemmas.{size_within}
 use Rattle.pfs_layout.proofs.Reading.TableLemmas.{instance_of-none}
 
@@ -60,8 +56,14 @@ pub clips : (layout : Layout) (line : SizeLine) (ns : List ℕ) → HoldsNumbers
 unfolding stated_size
 clips Taillard line (a ∷ b ∷ c ∷ d ∷ e ∷ []) h =
     let kept = λ (i : ℕ) (few : i < 5). h.values i few few in
-    rw (h.count, kept 0 (omega arith), kept 1 (omega arith), kept 2 (omega arith), kept 3 (omega arith),
-    kept 4 (omega arith))
+    rw (
+      h.count,
+      kept 0 (omega arith),
+      kept 1 (omega arith),
+      kept 2 (omega arith),
+      kept 3 (omega arith),
+      kept 4 (omega arith),
+    )
 clips Taillard line others h = rw (ne_eqb line.count 5 (λ z. omega arith))
 clips OrLib line (a ∷ b ∷ []) h = rw (h.count, h.values 0 (omega arith) (omega arith), h.values 1 (omega arith) (omega arith))
 clips OrLib line others h = rw (ne_eqb line.count 2 (λ z. omega arith))
@@ -85,9 +87,13 @@ clipped_is : (size : Size) → is_within_limits size ≡ true → clipped size �
 clipped_is size within =
     let w = size_within size within in
     let kept : (v : ℕ) → v ≤ CEILING → min CEILING v ≡ v = λ v few. omega arith in
-    rw (kept size.jobs (omega (arith, w.sizes.few_jobs)), kept size.machines (omega (arith, w.sizes.few_machines)),
-    kept size.notes.seed (omega (arith, w.seed)), kept size.notes.upper (omega (arith, w.upper)),
-    kept size.notes.lower (omega (arith, w.lower)))
+    rw (
+      kept size.jobs (omega (arith, w.sizes.few_jobs)),
+      kept size.machines (omega (arith, w.sizes.few_machines)),
+      kept size.notes.seed (omega (arith, w.seed)),
+      kept size.notes.upper (omega (arith, w.upper)),
+      kept size.notes.lower (omega (arith, w.lower)),
+    )
 
 -- ---- a block begins
 
