@@ -42,37 +42,17 @@ fault_within_limit layout (inside block) text b =
     option_or (mixed_line text (Some b)) (wrong_number layout block text (Some b))
 fault_within_limit layout lost text b = None
 
-first_of_two : {A : Type 0} (a b : Option A) → first_some (a ∷ b ∷ None ∷ []) ≡ option_or a b
-first_of_two (Some x) b = refl
-first_of_two None (Some x) = refl
-first_of_two None None = refl
-
-first_of_one : {A : Type 0} (a : Option A) → first_some (a ∷ None ∷ []) ≡ a
-first_of_one (Some x) = refl
-first_of_one None = refl
-
-within_limit : (layout : Layout) (k : ℕ) (now : Now) (text : List ℕ) (b : ℕ) → length text < LONGEST_INPUT
-    → first_some (faults layout k now text (Some b)) ≡ fault_within_limit layout now text b
-unfolding ends_early
-within_limit layout k seeking text b short = rw (ne_eqb (length text) LONGEST_INPUT (λ z. omega arith)) (first_of_one _)
-within_limit layout k (inside block) text b short =
-    rw (ne_eqb (length text) LONGEST_INPUT (λ z. omega arith)) (first_of_two (mixed_line text (Some b)) _)
-within_limit layout k lost text b short = refl
-
 pub place_fault : (layout : Layout) (k : ℕ) (text : List ℕ) (b : ℕ)
     → length (stand layout (ended_lines text)).complete < k → length text < LONGEST_INPUT
     → fault_of_place layout k text (Some b) ≡ fault_within_limit layout (stand layout (ended_lines text)).now text b
-unfolding fault_of_place
-place_fault layout k text b few short = rw (lt-ltb _ k few) (within_limit layout k _ text b short)
+unfolding fault_of_place ends_early
+place_fault layout k text b few short = grind (arith, nat_tests)
 
 -- ---- what a live reader says
 
 pub live_few : (has_word : Bool) (r : Blocks) (now : Now) (more : List ℕ) → FollowsNow has_word r now more
     → is_live r.phase ≡ true → r.complete < r.wanted
-live_few has_word r seeking more f live = elim (cases_lt r.complete r.wanted) [
-  | inl few ↦ few
-  | inr all ↦ let done = rw (le-ltb r.complete r.wanted all) at f.phase in let dead = rw done at live in absurd (cc)
-]
+live_few has_word r seeking more f live = grind (arith, nat_tests)
 live_few has_word r (inside block) more f live = f.few
 live_few has_word r lost more f live = absurd f
 
@@ -83,8 +63,7 @@ seeking_if_few has_word r more f few = rw (lt-ltb r.complete r.wanted few) at f.
 pub begun_phase : (has_word : Bool) (r : Blocks) (block : Block) (more : List ℕ)
     → FollowsNow has_word r (inside block) more
     → is_in_block r.phase ≡ true
-begun_phase has_word r block more f = rw f.phase
-    (cond_both (nat_lt r.body.judged r.body.due) _ _ (λ phase. is_in_block phase ≡ true) (λ more. refl) (λ all. refl))
+begun_phase has_word r block more f = grind (arith, nat_tests)
 
 -- ---- outcomes
 
@@ -100,13 +79,8 @@ refuses_is r next fault e = rw e (record { phase = refl; held = refl; layout = r
 pub weaker : {has_word less : Bool} {r : Blocks} {complete : List Block} (now : Now) {more : List ℕ}
     → (less ≡ false → has_word ≡ false)
     → FollowsBlocks has_word r (standing complete now) more → FollowsBlocks less r (standing complete now) more
-weaker seeking h f = record {
-  complete = f.complete;
-  now = record { phase = f.now.phase; numbers = λ e. f.now.numbers (h e) };
-  instance = f.instance;
-  held = f.held;
-}
-weaker (inside block) h f = record { complete = f.complete; now = f.now; instance = f.instance; held = f.held }
+weaker seeking h f = search (h, f.now.numbers)
+weaker (inside block) h f = assumption
 weaker lost h f = absurd f.now
 
 -- ---- mixed lines
@@ -142,39 +116,22 @@ event_by last digit blank end = if digit then mixed_if last last.kinds.has_word
     else (if end then events.LineEnded (number_of last.digits) (has_numbers_alone last.kinds)
     else mixed_if last last.kinds.has_digit))
 
-met_if : (test : Bool) (r : Blocks) (last : Line)
-    → blocks_after r (mixed_if last test)
-    ≡ (if test && is_in_block r.phase then refused r (MixedLine last.digits.offset) else r)
-met_if true r last = refl
-met_if false r last = refl
-
 pub judged_digit : (r : Blocks) (last : Line) (b : ℕ) → is_digit b ≡ true
     → judged r last b
     ≡ (if last.kinds.has_word && is_in_block r.phase then refused r (MixedLine last.digits.offset) else r)
-judged_digit r last b digit = rw digit (met_if last.kinds.has_word r last)
+judged_digit r last b digit = grind arith
 
 pub judged_word : (r : Blocks) (last : Line) (b : ℕ) → is_digit b ≡ false → (is_blank b || is_line_end b) ≡ false
     → judged r last b
     ≡ (if last.kinds.has_digit && is_in_block r.phase then refused r (MixedLine last.digits.offset) else r)
 judged_word r last b digit other =
-    let parts = or_parts (is_blank b) (is_line_end b) other in
-    rw (digit, parts.0, parts.1) (met_if last.kinds.has_digit r last)
-
-blank_met : (r : Blocks) (number : Option Number) → blocks_after r (blank_event number) ≡ last_number_ended r number
-blank_met r None = refl
-blank_met r (Some number) = refl
+    grind arith
 
 pub judged_blank : (r : Blocks) (last : Line) (b : ℕ) → is_digit b ≡ false → (is_blank b || is_line_end b) ≡ true
     → judged r last b
     ≡ (if is_line_end b then line_ended (last_number_ended r (number_of last.digits)) (has_numbers_alone last.kinds)
     else last_number_ended r (number_of last.digits))
-judged_blank r last b digit other = elim (cases_Bool (is_line_end b)) [
-  | inl end ↦ rw (eqb-true b 10 end)
-  | inr on ↦ elim (or_cases (is_blank b) (is_line_end b) other) [
-    | inl blank ↦ rw (digit, blank, on) (blank_met r (number_of last.digits))
-    | inr end ↦ absurd (both_ways (is_line_end b) on end)
-  ]
-]
+judged_blank r last b digit other = grind (arith, nat_tests)
 
 -- a byte that ends no line has no fault while a block is sought
 pub sought_fine : (layout : Layout) (text : List ℕ) (b : ℕ) → is_line_end b ≡ false

@@ -58,10 +58,7 @@ none_short = omega arith
 
 last_short : (text : List ℕ) → length (last_digits text) ≤ length text
 last_short = by_push (λ text. length (last_digits text) ≤ length text) none_short (λ text b short.
-    rw (open_part-push is_no_digit text b, length_push text b) (elim (cases_Bool (is_no_digit b)) [
-      | inl gap ↦ rw gap (omega arith)
-      | inr digit ↦ rw digit (omega (arith, length_push (last_digits text) b))
-    ]))
+    rw (open_part-push is_no_digit text b, length_push text b) (grind (arith, length_push)))
 
 -- ---- a word byte
 
@@ -160,10 +157,7 @@ end_fault : (layout : Layout) (block : Block) (text : List ℕ) (b : ℕ) → is
     → fault_within_limit layout (inside block) text b ≡ number_fault layout (inside block) text
 unfolding wrong_number
 end_fault layout block text b digit blank unmixed =
-    rw (mixed_other text b unmixed digit blank, blank) (elim (cases_Bool (is_empty (last_digits text))) [
-      | inl none ↦ rw none
-      | inr some ↦ rw some
-    ])
+    rw (mixed_other text b unmixed digit blank) (grind arith)
 
 blank_fault : (layout : Layout) (now : Now) (text : List ℕ) (b : ℕ) → is_digit b ≡ false
     → (is_blank b || is_line_end b) ≡ true → is_line_end b ≡ false → GoodNow layout now (open_line text)

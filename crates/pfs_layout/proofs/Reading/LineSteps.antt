@@ -2,6 +2,7 @@
 use Rattle.std.proofs.Common.{◌≡◌, ◌≢◌, ℕ, ◌+◌, ◌-◌, ◌<◌, ◌≤◌, min, Bool, true, false, not, ◌&&◌, List}
 use Rattle.std.proofs.Common.{[], ◌∷◌, ◌++◌, length, refl, ◌∙◌, ap, arith, Option, Some, None}
 use Rattle.std.proofs.Common.{if◌then◌else◌, ◌==◌, nat_le}
+use Rattle.std.specs.Prelude.{option_map}
 use Rattle.std.specs.List.{list_any}
 use Rattle.std.proofs.lemmas.Bool.{lt-ltb, le-ltb, eq-eqb, ne_eqb}
 use Rattle.pfs_layout.specs.declared.blocks.Phase.{Phase}
@@ -48,24 +49,14 @@ clipped size = record {
 
 -- what is kept of a stated size, or that none is stated
 abbrev pub Clips : Option Size → Option Size → Type 0
-Clips kept None = kept ≡ None
-Clips kept (Some size) = kept ≡ Some (clipped size)
+Clips kept stated = kept ≡ option_map clipped stated
 
 pub clips : (layout : Layout) (line : SizeLine) (ns : List ℕ) → HoldsNumbers line ns
     → Clips (stated_by layout line) (stated_size layout ns)
 unfolding stated_size
-clips Taillard line (a ∷ b ∷ c ∷ d ∷ e ∷ []) h =
-    let kept = λ (i : ℕ) (few : i < 5). h.values i few few in
-    rw (
-      h.count,
-      kept 0 (omega arith),
-      kept 1 (omega arith),
-      kept 2 (omega arith),
-      kept 3 (omega arith),
-      kept 4 (omega arith),
-    )
+clips Taillard line (a ∷ b ∷ c ∷ d ∷ e ∷ []) h = let at = h.values in rw h.count (grind (arith, at 0, at 1, at 2, at 3, at 4))
 clips Taillard line others h = rw (ne_eqb line.count 5 (λ z. omega arith))
-clips OrLib line (a ∷ b ∷ []) h = rw (h.count, h.values 0 (omega arith) (omega arith), h.values 1 (omega arith) (omega arith))
+clips OrLib line (a ∷ b ∷ []) h = rw h.count (grind (arith, h.values))
 clips OrLib line others h = rw (ne_eqb line.count 2 (λ z. omega arith))
 
 -- the ceiling is above every limit
@@ -112,16 +103,7 @@ first_time OrLib size = omega arith
 
 body_begun : (layout : Layout) (size : Size) → is_within_limits size ≡ true
     → FollowsBody layout size 0 (body_of layout size.jobs size.machines)
-body_begun layout size within = let w = size_within size within in record {
-  jobs = refl;
-  machines = refl;
-  due = refl;
-  judged = refl;
-  few = omega arith;
-  job = w.sizes.some_job;
-  machine = w.sizes.some_machine;
-  place = λ more. first_time layout size;
-}
+body_begun layout size within = let w = size_within size within in search (arith, first_time)
 
 due_some : (layout : Layout) (size : Size) → is_within_limits size ≡ true
     → 0 < (body_of layout size.jobs size.machines).due
@@ -144,14 +126,8 @@ begun_follows r complete size more f few within =
         fits = within;
         body = body_begun r.layout size within;
       };
-      instance = rw (f.complete, lt-ltb _ _ least) (elim (cases_Bool (length complete + 1 == r.wanted)) [
-        | inl last ↦ rw (last, instance_of-none)
-        | inr other ↦ rw other
-      ]);
-      held = rw (none, lt-ltb _ _ least) (elim (cases_Bool (length complete + 1 == r.wanted)) [
-        | inl last ↦ rw (last, no_times)
-        | inr other ↦ rw other
-      ]);
+      instance = rw (f.complete, lt-ltb _ _ least) (grind (arith, instance_of-none));
+      held = rw (none, lt-ltb _ _ least) (grind (arith, no_times));
     }
 
 -- ---- outcomes
@@ -175,12 +151,7 @@ holds_none = record { count = refl; values = λ i low few. absurd (omega arith) 
 seeks_on : {has_word : Bool} (r : Blocks) (complete : List Block) (more : List ℕ)
     → FollowsBlocks has_word r (standing complete seeking) more
     → FollowsBlocks false (at_next_line r) (standing complete seeking) []
-seeks_on r complete more f = record {
-  complete = f.complete;
-  now = record { phase = f.now.phase; numbers = λ plain. holds_none };
-  instance = f.instance;
-  held = f.held;
-}
+seeks_on r complete more f = search (holds_none)
 
 -- the size line of a sought block
 size_step : (stated : Option Size) (r : Blocks) (complete : List Block) (kept : Option Size) (line : ℕ)
@@ -232,17 +203,19 @@ pub full_or_not : (layout : Layout) (complete : List Block) (block : Block)
     else standing complete (inside block))
 full_or_not layout complete block due = rw due
 
--- the block that a line completes is the last
-completed_is : (wanted : ℕ) (complete : List Block) (block : Block) → length complete < wanted
-    → block_of wanted (completed complete block) [] ≡ (if length complete + 1 == wanted then Some block else None)
-completed_is wanted complete block few = elim (cases_eq (length complete + 1) wanted) [
+-- the block that a line completes is read as it was while it was open
+completed_is : (wanted : ℕ) (complete : List Block) (block : Block) (line : List ℕ) → length complete < wanted
+    → block_of wanted (completed complete (with_line block line)) []
+    ≡ block_of wanted (standing complete (inside block)) (numbers line)
+completed_is wanted complete block line few = rw (lt-ltb _ _ few) (elim (cases_eq (length complete + 1) wanted) [
   | inl last ↦
+      let past = le-ltb (length complete + 1) wanted (omega arith) in
       let at : wanted - 1 ≡ length complete = omega arith in
-      rw (eq-eqb _ _ last, length_push complete block, le-ltb (length complete + 1) wanted (omega arith), at)
-      (slice_get-push complete block)
+      rw (eq-eqb _ _ last, length_push complete (with_line block line), past, at) (slice_get-push complete _)
   | inr other ↦
-      rw (ne_eqb _ _ other) (no_block (complete ++ block ∷ []) wanted [] (omega (arith, length_push complete block)))
-]
+      let count = length_push complete (with_line block line) in
+      rw (ne_eqb _ _ other) (no_block (complete ++ with_line block line ∷ []) wanted [] (omega arith))
+])
 
 pub body_line : {has_word : Bool} (r : Blocks) (complete : List Block) (block : Block) (line : List ℕ) (numbered : Bool)
     → FollowsBlocks has_word r (standing complete (inside block)) (numbers line)
@@ -255,26 +228,16 @@ body_line r complete block line numbered f unmixed due =
     let few : length complete < r.wanted = omega (arith, f.complete, f.now.few) in
     let count : length whole.numbers + 0 ≡ length block.numbers + length (numbers line) =
     omega (arith, length-append block.numbers (numbers line)) in
-    let same : block_of r.wanted (standing complete (inside block)) (numbers line)
-    ≡ (if length complete + 1 == r.wanted then Some whole else None) =
-    rw (lt-ltb _ _ few) in
     rw (unmixed, full_or_not r.layout complete whole due) (elim (cases_lt r.body.judged r.body.due) [
       | inl less ↦
           let phase : r.phase ≡ phases.Body = rw (lt-ltb _ _ less) at f.now.phase in
-          let short : length whole.numbers ≢ due_count r.layout block.size = λ z. omega (arith, body.due, body.judged, count) in
-          let on : block_of r.wanted (standing complete (inside whole)) []
-          ≡ (if length complete + 1 == r.wanted then Some whole else None) =
-          rw (lt-ltb _ _ few, append-nil) in
+          let short : length whole.numbers ≢ due_count r.layout block.size =
+          λ z. omega (arith, body.due, body.judged, count) in
           rw (ended_in r numbered phases.Body phase, ne_eqb _ _ short) (record {
             complete = f.complete;
-            now = record {
-              phase = f.now.phase;
-              few = f.now.few;
-              fits = f.now.fits;
-              body = rw count body;
-            };
-            instance = rw (on, ← same) f.instance;
-            held = rw (on, ← same) f.held;
+            now = record { phase = f.now.phase; few = f.now.few; fits = f.now.fits; body = rw count body };
+            instance = rw append-nil f.instance;
+            held = rw append-nil f.held;
           })
       | inr all ↦
           let phase : r.phase ≡ phases.AfterLast = rw (le-ltb _ _ all) at f.now.phase in
@@ -283,7 +246,7 @@ body_line r complete block line numbered f unmixed due =
           rw (ended_in r numbered phases.AfterLast phase, eq-eqb _ _ full) (record {
             complete = omega (arith, f.complete, length_push complete whole);
             now = record { phase = grind (arith, nat_tests); numbers = λ plain. holds_none };
-            instance = rw (completed_is r.wanted complete whole few, ← same) f.instance;
-            held = rw (completed_is r.wanted complete whole few, ← same) f.held;
+            instance = rw (completed_is r.wanted complete block line few) f.instance;
+            held = rw (completed_is r.wanted complete block line few) f.held;
           })
     ])
