@@ -21,7 +21,7 @@ use Rattle.pfs_layout.specs.Stand.{Block, Now, seeking, inside, lost, Stand, sta
 use Rattle.pfs_layout.specs.Refuse.{misfit, wrong_number, wrong_size}
 use Rattle.pfs_layout.specs.Step.{is_live, is_in_block, refused, Keeps, last_number_ended, line_ended}
 use Rattle.pfs_layout.specs.Step.{has_numbers_alone, number_of}
-use Rattle.pfs_layout.specs.Reader.{FollowsLine, FollowsBlocks}
+use Rattle.pfs_layout.specs.Reader.{FollowsLine, Seeks, FollowsBlocks}
 use Rattle.pfs_layout.proofs.Files.LineLemmas.{open_part-push, numbers_is}
 use Rattle.pfs_layout.proofs.Files.SoundLemmas.{GoodNow, GoodBody, same_last, values_last, digit_there, misfit_none}
 use Rattle.pfs_layout.proofs.Files.SoundLemmas.{are_due-push}
@@ -67,12 +67,9 @@ word_stays : {has_word : Bool} (r : Blocks) (text : List ℕ) (complete : List B
     → FollowsBlocks has_word r (standing complete now) (ended_numbers (open_line text))
     → (list_any is_digit (open_line text) && is_in_block r.phase) ≡ false
     → FollowsBlocks true r (standing complete now) (numbers (open_line text))
-word_stays r text complete seeking f out = record {
-  complete = f.complete;
-  now = record { phase = f.now.phase; numbers = λ plain. absurd (cc) };
-  instance = f.instance;
-  held = f.held;
-}
+word_stays r text complete seeking f out =
+    let now : Seeks true r (numbers (open_line text)) = record { phase = f.now.phase; numbers = λ plain. absurd (cc) } in
+    assumption
 word_stays {has_word} r text complete (inside block) f out =
     let begun = begun_phase has_word r block (ended_numbers (open_line text)) f.now in
     let none = rw (begun, and-true) at out in
@@ -104,17 +101,15 @@ number_fault layout lost text = None
 
 no_number_fault : (layout : Layout) (now : Now) (text : List ℕ) → is_empty (last_digits text) ≡ true
     → number_fault layout now text ≡ None
-no_number_fault layout seeking text none = refl
 no_number_fault layout (inside block) text none = rw none
-no_number_fault layout lost text none = refl
+no_number_fault layout other text none = refl
 
 some_number_fault : (layout : Layout) (now : Now) (text : List ℕ) → is_empty (last_digits text) ≡ false
     → number_fault layout now text
     ≡ misfit_in layout now (ended_numbers (open_line text)) (digits_value 10 (last_digits text))
     (length text - length (last_digits text))
-some_number_fault layout seeking text some = refl
 some_number_fault layout (inside block) text some = rw some
-some_number_fault layout lost text some = refl
+some_number_fault layout other text some = refl
 
 -- the fault, or what the fields say with the numbers of the whole line
 abbrev pub NumberPart : Bool → Blocks → List Block → Now → List ℕ → Blocks → Option LayoutFault → Type 0

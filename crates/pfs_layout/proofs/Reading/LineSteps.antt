@@ -75,23 +75,13 @@ same_within size =
 
 -- a size within the limits is kept as it is
 clipped_is : (size : Size) → is_within_limits size ≡ true → clipped size ≡ size
-clipped_is size within =
-    let w = size_within size within in
-    let kept : (v : ℕ) → v ≤ CEILING → min CEILING v ≡ v = λ v few. omega arith in
-    rw (
-      kept size.jobs (omega (arith, w.sizes.few_jobs)),
-      kept size.machines (omega (arith, w.sizes.few_machines)),
-      kept size.notes.seed (omega (arith, w.seed)),
-      kept size.notes.upper (omega (arith, w.upper)),
-      kept size.notes.lower (omega (arith, w.lower)),
-    )
+clipped_is size within = let w = size_within size within in grind arith
 
 -- ---- a block begins
 
 no_block : (complete : List Block) (wanted : ℕ) (more : List ℕ) → length complete < wanted
     → block_of wanted (standing complete seeking) more ≡ None
-no_block complete wanted more few = rw (lt-ltb _ wanted few)
-    (cond_both (length complete + 1 == wanted) None None (λ block. block ≡ None) (λ last. refl) (λ other. refl))
+no_block complete wanted more few = grind (arith, nat_tests)
 
 pub no_times : (layout : Layout) → length (times_among layout []) ≡ 0
 no_times Taillard = refl
@@ -107,17 +97,15 @@ body_begun layout size within = let w = size_within size within in search (arith
 
 due_some : (layout : Layout) (size : Size) → is_within_limits size ≡ true
     → 0 < (body_of layout size.jobs size.machines).due
-due_some Taillard size within =
-    let w = size_within size within in mul-pos w.sizes.some_job w.sizes.some_machine
-due_some OrLib size within =
-    let w = size_within size within in omega (arith, mul-pos w.sizes.some_job w.sizes.some_machine)
+due_some Taillard size within = let w = size_within size within in grind (arith, mul-pos)
+due_some OrLib size within = let w = size_within size within in grind (arith, mul-pos)
 
-begun_follows : {has_word : Bool} (r : Blocks) (complete : List Block) (size : Size) (more : List ℕ)
-    → FollowsBlocks has_word r (standing complete seeking) more → r.complete < r.wanted
-    → is_within_limits size ≡ true → FollowsBlocks false (block_begun r size) (standing complete (inside (begun size))) []
-begun_follows r complete size more f few within =
+begun_follows : (r : Blocks) (complete : List Block) (size : Size) → FollowsBlocks false r (standing complete seeking) []
+    → r.complete < r.wanted → is_within_limits size ≡ true
+    → FollowsBlocks false (block_begun r size) (standing complete (inside (begun size))) []
+begun_follows r complete size f few within =
     let least : length complete < r.wanted = omega (arith, f.complete) in
-    let none = rw (no_block complete r.wanted more least) at f.held in
+    let none = rw (no_block complete r.wanted [] least) at f.held in
     record {
       complete = f.complete;
       now = record {
@@ -162,7 +150,7 @@ size_step None r complete kept line same f few =
     rw same (record { phase = refl; held = refl; layout = refl; wanted = refl })
 size_step (Some size) r complete kept line same f few = elim (cases_Bool (is_within_limits size)) [
   | inl within ↦
-      rw (same ∙ ap Some (clipped_is size within), within) (begun_follows (at_next_line r) complete size [] f few within)
+      rw (same ∙ ap Some (clipped_is size within), within) (begun_follows (at_next_line r) complete size f few within)
   | inr beyond ↦ rw (same, same_within size, beyond) (record { phase = refl; held = refl; layout = refl; wanted = refl })
 ]
 
@@ -207,15 +195,8 @@ full_or_not layout complete block due = rw due
 completed_is : (wanted : ℕ) (complete : List Block) (block : Block) (line : List ℕ) → length complete < wanted
     → block_of wanted (completed complete (with_line block line)) []
     ≡ block_of wanted (standing complete (inside block)) (numbers line)
-completed_is wanted complete block line few = rw (lt-ltb _ _ few) (elim (cases_eq (length complete + 1) wanted) [
-  | inl last ↦
-      let past = le-ltb (length complete + 1) wanted (omega arith) in
-      let at : wanted - 1 ≡ length complete = omega arith in
-      rw (eq-eqb _ _ last, length_push complete (with_line block line), past, at) (slice_get-push complete _)
-  | inr other ↦
-      let count = length_push complete (with_line block line) in
-      rw (ne_eqb _ _ other) (no_block (complete ++ with_line block line ∷ []) wanted [] (omega arith))
-])
+completed_is wanted complete block line few =
+    grind (arith, nat_tests, length_push, slice_get-push complete (with_line block line))
 
 pub body_line : {has_word : Bool} (r : Blocks) (complete : List Block) (block : Block) (line : List ℕ) (numbered : Bool)
     → FollowsBlocks has_word r (standing complete (inside block)) (numbers line)
