@@ -28,7 +28,7 @@ use Rattle.pfs_layout.specs.Refuse.{mixed_line, wrong_number, wrong_size, ends_e
 use Rattle.pfs_layout.specs.Refuse.{fault_of_place}
 use Rattle.pfs_layout.specs.Step.{is_live, is_in_block, refused, last_number_ended, line_ended, has_numbers_alone}
 use Rattle.pfs_layout.specs.Step.{number_of, blank_event, mixed_if, event_of, blocks_after}
-use Rattle.pfs_layout.specs.Reader.{FollowsLine, FollowsNow, FollowsBlocks}
+use Rattle.pfs_layout.specs.Reader.{IsInside, FollowsLine, FollowsNow, FollowsBlocks}
 use Rattle.pfs_layout.proofs.Files.SoundLemmas.{GoodNow}
 use Rattle.pfs_layout.proofs.Reading.LineSteps.{Refuses}
 use Rattle.pfs_layout.proofs.Reading.ScanLemmas.{digit_is}
@@ -60,10 +60,8 @@ pub seeking_if_few : (has_word : Bool) (r : Blocks) (more : List ℕ) → Follow
     → r.complete < r.wanted → r.phase ≡ phases.Seeking
 seeking_if_few has_word r more f few = rw (lt-ltb r.complete r.wanted few) at f.phase
 
-pub begun_phase : (has_word : Bool) (r : Blocks) (block : Block) (more : List ℕ)
-    → FollowsNow has_word r (inside block) more
-    → is_in_block r.phase ≡ true
-begun_phase has_word r block more f = grind (arith, nat_tests)
+pub begun_phase : {r : Blocks} {block : Block} {more : List ℕ} → IsInside r block more → is_in_block r.phase ≡ true
+begun_phase f = let phase = f.phase in grind arith
 
 -- ---- outcomes
 
@@ -85,30 +83,25 @@ weaker lost h f = absurd f.now
 
 -- ---- mixed lines
 
--- a digit behind words
-mixed_digit : (text : List ℕ) (b : ℕ) → is_mixed (open_line text) ≡ false → is_digit b ≡ true
-    → mixed_line text (Some b) ≡ then_some (list_any is_word_byte (open_line text)) (MixedLine (length text))
-unfolding mixed_line
-mixed_digit text b unmixed digit = grind (arith, list_any-append)
+module _ (text : List ℕ) (b : ℕ) (unmixed : is_mixed (open_line text) ≡ false) where
+  -- a digit behind words
+  mixed_digit : is_digit b ≡ true
+      → mixed_line text (Some b) ≡ then_some (list_any is_word_byte (open_line text)) (MixedLine (length text))
+  unfolding mixed_line
+  mixed_digit digit = grind (arith, list_any-append)
 
--- a word byte behind digits
-pub mixed_word : (text : List ℕ) (b : ℕ) → is_mixed (open_line text) ≡ false → is_digit b ≡ false
-    → (is_blank b || is_line_end b) ≡ false
-    → mixed_line text (Some b) ≡ then_some (list_any is_digit (open_line text)) (MixedLine (length text))
-unfolding mixed_line
-mixed_word text b unmixed digit other = grind (arith, list_any-append)
+  -- a word byte behind digits
+  pub mixed_word : is_digit b ≡ false → (is_blank b || is_line_end b) ≡ false
+      → mixed_line text (Some b) ≡ then_some (list_any is_digit (open_line text)) (MixedLine (length text))
+  unfolding mixed_line
+  mixed_word digit other = grind (arith, list_any-append)
 
--- a blank or a line end mixes nothing
-pub mixed_other : (text : List ℕ) (b : ℕ) → is_mixed (open_line text) ≡ false → is_digit b ≡ false
-    → (is_blank b || is_line_end b) ≡ true → mixed_line text (Some b) ≡ None
-unfolding mixed_line
-mixed_other text b unmixed digit other = grind (arith, list_any-append)
+  -- a blank or a line end mixes nothing
+  pub mixed_other : is_digit b ≡ false → (is_blank b || is_line_end b) ≡ true → mixed_line text (Some b) ≡ None
+  unfolding mixed_line
+  mixed_other digit other = grind (arith, list_any-append)
 
--- ---- a digit, or a word byte
-
--- the blocks behind a byte
-abbrev pub judged : Blocks → Line → ℕ → Blocks
-judged r last b = blocks_after r (event_of last b)
+-- ---- the blocks behind a byte
 
 abbrev pub event_by : Line → Bool → Bool → Bool → Event
 event_by last digit blank end = if digit then mixed_if last last.kinds.has_word
@@ -116,22 +109,24 @@ event_by last digit blank end = if digit then mixed_if last last.kinds.has_word
     else (if end then events.LineEnded (number_of last.digits) (has_numbers_alone last.kinds)
     else mixed_if last last.kinds.has_digit))
 
-pub judged_digit : (r : Blocks) (last : Line) (b : ℕ) → is_digit b ≡ true
-    → judged r last b
-    ≡ (if last.kinds.has_word && is_in_block r.phase then refused r (MixedLine last.digits.offset) else r)
-judged_digit r last b digit = grind arith
+module _ (r : Blocks) (last : Line) (b : ℕ) where
+  abbrev pub judged : Blocks
+  judged = blocks_after r (event_of last b)
 
-pub judged_word : (r : Blocks) (last : Line) (b : ℕ) → is_digit b ≡ false → (is_blank b || is_line_end b) ≡ false
-    → judged r last b
-    ≡ (if last.kinds.has_digit && is_in_block r.phase then refused r (MixedLine last.digits.offset) else r)
-judged_word r last b digit other =
-    grind arith
+  pub judged_digit : is_digit b ≡ true
+      → judged ≡ (if last.kinds.has_word && is_in_block r.phase then refused r (MixedLine last.digits.offset) else r)
+  judged_digit digit = grind arith
 
-pub judged_blank : (r : Blocks) (last : Line) (b : ℕ) → is_digit b ≡ false → (is_blank b || is_line_end b) ≡ true
-    → judged r last b
-    ≡ (if is_line_end b then line_ended (last_number_ended r (number_of last.digits)) (has_numbers_alone last.kinds)
-    else last_number_ended r (number_of last.digits))
-judged_blank r last b digit other = grind (arith, nat_tests)
+  pub judged_word : is_digit b ≡ false → (is_blank b || is_line_end b) ≡ false
+      → judged ≡ (if last.kinds.has_digit && is_in_block r.phase then refused r (MixedLine last.digits.offset) else r)
+  judged_word digit other = grind arith
+
+  pub judged_blank : is_digit b ≡ false → (is_blank b || is_line_end b) ≡ true
+      → judged ≡ (let behind = last_number_ended r (number_of last.digits) in
+      if is_line_end b then line_ended behind (has_numbers_alone last.kinds) else behind)
+  judged_blank digit other = grind (arith, nat_tests)
+
+-- ---- a digit, or a word byte
 
 -- a byte that ends no line has no fault while a block is sought
 pub sought_fine : (layout : Layout) (text : List ℕ) (b : ℕ) → is_line_end b ≡ false
@@ -145,29 +140,30 @@ pub number_fine : (layout : Layout) (block : Block) (text : List ℕ) (b : ℕ) 
 unfolding wrong_number
 number_fine layout block text b other = rw (and_right (not (is_empty (last_digits text))) _ other)
 
+-- the blocks say what they should of this text
+abbrev pub FollowsText : Blocks → List ℕ → List Block → Now → Type 0
+FollowsText r text complete now =
+    FollowsBlocks (list_any is_word_byte (open_line text)) r (standing complete now) (ended_numbers (open_line text))
+
 -- a byte that ends no number is refused where it mixes a line of a block, and leaves the blocks as they are elsewhere
-pub byte_on : {has_word less : Bool} {more numbers : List ℕ} (r : Blocks) (last : Line) (text : List ℕ) (b : ℕ)
-    (complete : List Block) (now : Now) (mixes : Bool)
-    → (is_blank b || is_line_end b) ≡ false → is_live r.phase ≡ true
-    → FollowsLine last.digits last.kinds text → FollowsBlocks has_word r (standing complete now) more
-    → GoodNow r.layout now (open_line text)
+pub byte_on : {less : Bool} {ns : List ℕ} (r : Blocks) (last : Line) (text : List ℕ) (b : ℕ) (complete : List Block)
+    (now : Now) (mixes : Bool) → (is_blank b || is_line_end b) ≡ false
+    → FollowsLine last.digits last.kinds text → FollowsText r text complete now → GoodNow r.layout now (open_line text)
     → (is_mixed (open_line text) ≡ false → mixed_line text (Some b) ≡ then_some mixes (MixedLine (length text)))
-    → ((mixes && is_in_block r.phase) ≡ false → FollowsBlocks less r (standing complete now) numbers)
-    → ByteOutcome r less (standing complete now) numbers
+    → ((mixes && is_in_block r.phase) ≡ false → FollowsBlocks less r (standing complete now) ns)
+    → ByteOutcome r less (standing complete now) ns
     (if mixes && is_in_block r.phase then refused r (MixedLine last.digits.offset) else r)
     (fault_within_limit r.layout now text b)
-byte_on {has_word} {more = more} r last text b complete seeking mixes other live line f good mixed stays =
-    let few = live_few has_word r seeking more f.now live in
-    let sought = seeking_if_few has_word r more f.now few in
-    let out = and_right mixes (is_in_block r.phase) (rw sought) in
+byte_on r last text b complete seeking mixes other line f good mixed stays =
+    let phase = f.now.phase in
+    let out : (mixes && is_in_block r.phase) ≡ false = grind arith in
     rw (sought_fine r.layout text b (or_parts (is_blank b) _ other).1, out) (stays out)
-byte_on {has_word} {more = more} r last text b complete (inside block) mixes other live line f good mixed stays =
-    let begun = begun_phase has_word r block more f.now in
+byte_on r last text b complete (inside block) mixes other line f good mixed stays =
     rw (mixed good.unmixed, number_fine r.layout block text b other) (elim (cases_Bool mixes) [
-      | inl e ↦ rw (e, begun) (refuses_is r _ _ (rw line.offset))
+      | inl e ↦ rw (e, begun_phase f.now) (refuses_is r _ _ (rw line.offset))
       | inr e ↦ rw e (stays (rw e))
     ])
-byte_on r last text b complete lost mixes other live line f good mixed stays = absurd good
+byte_on r last text b complete lost mixes other line f good mixed stays = absurd good
 
 digit_ends_nothing : (b : ℕ) → is_digit b ≡ true → (is_blank b || is_line_end b) ≡ false
 digit_ends_nothing b digit = let low = digit_is b digit in grind (arith, nat_tests)
@@ -175,12 +171,10 @@ digit_ends_nothing b digit = let low = digit_is b digit in grind (arith, nat_tes
 pub digit_byte : (r : Blocks) (last : Line) (text : List ℕ) (b : ℕ) (complete : List Block) (now : Now) (less : Bool)
     → is_digit b ≡ true → is_live r.phase ≡ true
     → (less ≡ false → list_any is_word_byte (open_line text) ≡ false)
-    → FollowsLine last.digits last.kinds text
-    → FollowsBlocks (list_any is_word_byte (open_line text)) r (standing complete now) (ended_numbers (open_line text))
-    → GoodNow r.layout now (open_line text)
+    → FollowsLine last.digits last.kinds text → FollowsText r text complete now → GoodNow r.layout now (open_line text)
     → ByteOutcome r less (standing complete now) (ended_numbers (open_line text)) (judged r last b)
     (fault_within_limit r.layout now text b)
 digit_byte r last text b complete now less digit live known line f good =
     rw (judged_digit r last b digit, line.has_word)
-    (byte_on r last text b complete now (list_any is_word_byte (open_line text)) (digit_ends_nothing b digit) live line
-    f good (λ unmixed. mixed_digit text b unmixed digit) (λ stays. weaker now known f))
+    (byte_on r last text b complete now (list_any is_word_byte (open_line text)) (digit_ends_nothing b digit) line f
+    good (λ unmixed. mixed_digit text b unmixed digit) (λ stays. weaker now known f))

@@ -31,7 +31,7 @@ use Rattle.pfs_layout.proofs.Reading.LineSteps.{Refuses, LineOutcome, sought_lin
 use Rattle.pfs_layout.proofs.Reading.ByteSteps.{fault_within_limit, live_few, seeking_if_few, begun_phase, ByteOutcome}
 use Rattle.pfs_layout.proofs.Reading.ByteSteps.{refuses_is}
 use Rattle.pfs_layout.proofs.Reading.ByteSteps.{weaker, judged, mixed_other, mixed_word, judged_word, judged_blank, byte_on}
-use Rattle.pfs_layout.proofs.Reading.ByteSteps.{sought_fine}
+use Rattle.pfs_layout.proofs.Reading.ByteSteps.{sought_fine, FollowsText}
 use Rattle.std.proofs.lemmas.Bool.{true_from_ne_false, cases_Bool, both_ways}
 use Rattle.std.proofs.Common.{inl, inr}
 use Rattle.std.proofs.Math.Bool.{and-true}
@@ -52,40 +52,33 @@ no_last : (text : List ℕ) → list_any is_digit (open_line text) ≡ false →
 no_last text none = true_from_ne_false _ (λ some.
     both_ways _ none (digit_there (open_line text) (rw (← same_last text) some)))
 
-none_short : length (last_digits []) ≤ length {A = ℕ} []
-unfolding open_part
-none_short = omega arith
-
 last_short : (text : List ℕ) → length (last_digits text) ≤ length text
-last_short = by_push (λ text. length (last_digits text) ≤ length text) none_short (λ text b short.
+unfolding open_part
+last_short = by_push (λ text. length (last_digits text) ≤ length text) (omega arith) (λ text b short.
     rw (open_part-push is_no_digit text b, length_push text b) (grind (arith, length_push)))
 
 -- ---- a word byte
 
 -- behind a word byte no number of a size line is known, and none was ended on a line without a digit
-word_stays : {has_word : Bool} (r : Blocks) (text : List ℕ) (complete : List Block) (now : Now)
-    → FollowsBlocks has_word r (standing complete now) (ended_numbers (open_line text))
+word_stays : (r : Blocks) (text : List ℕ) (complete : List Block) (now : Now) → FollowsText r text complete now
     → (list_any is_digit (open_line text) && is_in_block r.phase) ≡ false
     → FollowsBlocks true r (standing complete now) (numbers (open_line text))
 word_stays r text complete seeking f out =
     let now : Seeks true r (numbers (open_line text)) = record { phase = f.now.phase; numbers = λ plain. absurd (cc) } in
     assumption
-word_stays {has_word} r text complete (inside block) f out =
-    let begun = begun_phase has_word r block (ended_numbers (open_line text)) f.now in
-    let none = rw (begun, and-true) at out in
-    rw (numbers_same text (no_last text none)) (weaker (inside block) (λ plain. absurd (cc)) f)
+word_stays r text complete (inside block) f out =
+    rw (numbers_same text (no_last text (rw (begun_phase f.now, and-true) at out)))
+    (weaker (inside block) (λ plain. absurd (cc)) f)
 word_stays r text complete lost f out = absurd f.now
 
 pub word_byte : (r : Blocks) (last : Line) (text : List ℕ) (b : ℕ) (complete : List Block) (now : Now)
     → is_digit b ≡ false → (is_blank b || is_line_end b) ≡ false → is_live r.phase ≡ true
-    → FollowsLine last.digits last.kinds text
-    → FollowsBlocks (list_any is_word_byte (open_line text)) r (standing complete now) (ended_numbers (open_line text))
-    → GoodNow r.layout now (open_line text)
+    → FollowsLine last.digits last.kinds text → FollowsText r text complete now → GoodNow r.layout now (open_line text)
     → ByteOutcome r true (standing complete now) (numbers (open_line text)) (judged r last b)
     (fault_within_limit r.layout now text b)
 word_byte r last text b complete now digit other live line f good =
     rw (judged_word r last b digit other, line.has_digit)
-    (byte_on r last text b complete now (list_any is_digit (open_line text)) other live line f good
+    (byte_on r last text b complete now (list_any is_digit (open_line text)) other line f good
     (λ unmixed. mixed_word text b unmixed digit other) (word_stays r text complete now f))
 
 -- ---- the end of a number
@@ -164,9 +157,7 @@ blank_fault layout lost text b digit blank on good = absurd good
 pub blank_byte : (r : Blocks) (last : Line) (text : List ℕ) (b : ℕ) (complete : List Block) (now : Now) (less : Bool)
     → is_digit b ≡ false → (is_blank b || is_line_end b) ≡ true → is_line_end b ≡ false → is_live r.phase ≡ true
     → length r.size_line.values ≡ 5 → (less ≡ false → list_any is_word_byte (open_line text) ≡ false)
-    → FollowsLine last.digits last.kinds text
-    → FollowsBlocks (list_any is_word_byte (open_line text)) r (standing complete now) (ended_numbers (open_line text))
-    → GoodNow r.layout now (open_line text)
+    → FollowsLine last.digits last.kinds text → FollowsText r text complete now → GoodNow r.layout now (open_line text)
     → ByteOutcome r less (standing complete now) (numbers (open_line text)) (judged r last b)
     (fault_within_limit r.layout now text b)
 blank_byte r last text b complete now less digit blank on live five known line f good =
@@ -212,9 +203,7 @@ behind_line r between next stood (Some fault) keeps held o = record {
 pub end_byte : (r : Blocks) (last : Line) (text : List ℕ) (b : ℕ) (complete : List Block) (now : Now)
     → is_digit b ≡ false → is_line_end b ≡ true → is_live r.phase ≡ true
     → length r.size_line.values ≡ 5 → r.line ≡ 1 + count_by is_line_end text
-    → FollowsLine last.digits last.kinds text
-    → FollowsBlocks (list_any is_word_byte (open_line text)) r (standing complete now) (ended_numbers (open_line text))
-    → GoodNow r.layout now (open_line text)
+    → FollowsLine last.digits last.kinds text → FollowsText r text complete now → GoodNow r.layout now (open_line text)
     → ByteOutcome r false (stand_after r.layout (standing complete now) (open_line text)) [] (judged r last b)
     (fault_within_limit r.layout now text b)
 unfolding wrong_size
