@@ -1,31 +1,26 @@
 -- A byte more: the fault that its place has, or what the fields say behind it.
-use Rattle.std.proofs.Common.{◌≡◌, ℕ, ◌<◌, Bool, true, false, not, ◌&&◌, ◌||◌, List, [], ◌∷◌}
-use Rattle.std.proofs.Common.{length, refl, arith, Option, Some, None, if◌then◌else◌}
-use Rattle.std.proofs.Common.{nat_lt}
+use Rattle.std.proofs.Common.{◌≡◌, ℕ, ◌<◌, Bool, true, false, not, ◌&&◌, ◌||◌, List, length, refl, arith, Option, Some}
+use Rattle.std.proofs.Common.{None, if◌then◌else◌, inl, inr}
 use Rattle.std.specs.List.{list_any}
 use Rattle.std.specs.Bool.{then_some}
 use Rattle.std.specs.Option.{option_or}
-use Rattle.std.proofs.lemmas.Bool.{and_right, cases_Bool, cases_lt, cond_both, eqb-true, le-ltb, lt-ltb, ne_eqb, or_cases, or_parts, both_ways}
+use Rattle.std.proofs.lemmas.Bool.{and_right, cases_Bool, lt-ltb, or_parts}
 use Rattle.std.proofs.lemmas.Bool.Decides.{nat_tests}
-use Rattle.std.proofs.Common.{inl, inr}
 use Rattle.std.proofs.lemmas.List.Folds.{list_any-append}
 use Rattle.pfs_base.specs.declared.limits.TheConstants.{LONGEST_INPUT}
-use Rattle.pfs_base.specs.Lists.{is_empty, first_some}
+use Rattle.pfs_base.specs.Lists.{is_empty}
 use Rattle.pfs_layout.specs.declared.layout.Layout.{Layout}
 use Rattle.pfs_layout.specs.declared.fault.LayoutFault.{LayoutFault}
 use Rattle.pfs_layout.specs.declared.fault.LayoutFault.TheVariants.{MixedLine}
 use Rattle.pfs_layout.specs.declared.scan.Line.{Line}
-use Rattle.pfs_layout.specs.declared.scan.Number.{Number}
 use Rattle.pfs_layout.specs.declared.scan.Event.{Event}
 use Rattle.pfs_layout.specs.declared.scan.Event.TheVariants as events
 use Rattle.pfs_layout.specs.declared.blocks.Phase.TheVariants as phases
 use Rattle.pfs_layout.specs.declared.blocks.Blocks.{Blocks}
 use Rattle.pfs_layout.specs.Bytes.{is_digit, is_blank, is_line_end, is_word_byte}
-use Rattle.pfs_layout.specs.Lines.{ended_lines, open_line, is_mixed, ended_numbers}
-use Rattle.pfs_layout.specs.Lines.{last_digits}
+use Rattle.pfs_layout.specs.Lines.{ended_lines, open_line, is_mixed, ended_numbers, last_digits}
 use Rattle.pfs_layout.specs.Stand.{Block, Now, seeking, inside, lost, Stand, stand, standing}
-use Rattle.pfs_layout.specs.Refuse.{mixed_line, wrong_number, wrong_size, ends_early, faults}
-use Rattle.pfs_layout.specs.Refuse.{fault_of_place}
+use Rattle.pfs_layout.specs.Refuse.{mixed_line, wrong_number, wrong_size, ends_early, fault_of_place}
 use Rattle.pfs_layout.specs.Step.{is_live, is_in_block, refused, last_number_ended, line_ended, has_numbers_alone}
 use Rattle.pfs_layout.specs.Step.{number_of, blank_event, mixed_if, event_of, blocks_after}
 use Rattle.pfs_layout.specs.Reader.{IsInside, FollowsLine, FollowsNow, FollowsBlocks}

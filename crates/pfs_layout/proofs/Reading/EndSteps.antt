@@ -1,11 +1,12 @@
 -- A byte that ends a number or a line, or that is of a word: the fault that its place has, or what the fields say
 -- behind it.
-use Rattle.std.proofs.Common.{◌≡◌, ◌≢◌, ℕ, ◌+◌, ◌-◌, ◌<◌, ◌≤◌, Bool, true, false, ◌&&◌, ◌||◌, List, [], ◌∷◌}
-use Rattle.std.proofs.Common.{◌++◌, length, count_by, refl, ◌∙◌, arith, Option, Some, None}
-use Rattle.std.proofs.Common.{if◌then◌else◌}
+use Rattle.std.proofs.Common.{◌≡◌, ◌≢◌, ℕ, ◌+◌, ◌-◌, ◌<◌, ◌≤◌, Bool, true, false, ◌&&◌, ◌||◌, List, [], ◌∷◌, ◌++◌}
+use Rattle.std.proofs.Common.{length, count_by, refl, ◌∙◌, arith, Option, Some, None, if◌then◌else◌, inl, inr}
 use Rattle.std.specs.List.{list_any}
 use Rattle.std.specs.Str.Parse.{digits_value}
-use Rattle.std.proofs.lemmas.Bool.{eqb-true, eqb-false, eq-eqb, ne_eqb, or_right}
+use Rattle.std.proofs.Math.Bool.{and-true}
+use Rattle.std.proofs.lemmas.Bool.{eqb-true, eqb-false, eq-eqb, ne_eqb, or_right, true_from_ne_false, cases_Bool}
+use Rattle.std.proofs.lemmas.Bool.{both_ways}
 use Rattle.std.proofs.lemmas.List.{append_assoc, append-nil, length-append, length_push}
 use Rattle.pfs_base.specs.Lists.{is_empty}
 use Rattle.pfs_base.proofs.Published.Lists.{by_push}
@@ -14,14 +15,14 @@ use Rattle.pfs_layout.specs.declared.fault.LayoutFault.{LayoutFault}
 use Rattle.pfs_layout.specs.declared.scan.Line.{Line}
 use Rattle.pfs_layout.specs.declared.blocks.Blocks.{Blocks}
 use Rattle.pfs_layout.specs.Bytes.{is_digit, is_blank, is_line_end, is_word_byte}
-use Rattle.pfs_layout.specs.Lines.{open_part, open_line, is_mixed, is_no_digit, numbers, ended_numbers}
-use Rattle.pfs_layout.specs.Lines.{last_digits}
+use Rattle.pfs_layout.specs.Lines.{open_part, open_line, is_mixed, is_no_digit, numbers, ended_numbers, last_digits}
 use Rattle.pfs_layout.specs.Block.{due_at, are_due}
 use Rattle.pfs_layout.specs.Stand.{Block, Now, seeking, inside, lost, Stand, stand_after, standing}
 use Rattle.pfs_layout.specs.Refuse.{misfit, wrong_number, wrong_size}
 use Rattle.pfs_layout.specs.Step.{is_live, is_in_block, refused, Keeps, last_number_ended, line_ended}
 use Rattle.pfs_layout.specs.Step.{has_numbers_alone, number_of}
 use Rattle.pfs_layout.specs.Reader.{FollowsLine, Seeks, FollowsBlocks}
+use Rattle.pfs_layout.proofs.Options.{cases_option}
 use Rattle.pfs_layout.proofs.Files.LineLemmas.{open_part-push, numbers_is}
 use Rattle.pfs_layout.proofs.Files.SoundLemmas.{GoodNow, GoodBody, same_last, values_last, digit_there, misfit_none}
 use Rattle.pfs_layout.proofs.Files.SoundLemmas.{are_due-push}
@@ -29,13 +30,8 @@ use Rattle.pfs_layout.proofs.Reading.StepLemmas.{keeps_last}
 use Rattle.pfs_layout.proofs.Reading.NumberSteps.{NumberOutcome, misfit_in, number_step}
 use Rattle.pfs_layout.proofs.Reading.LineSteps.{Refuses, LineOutcome, sought_line, body_line}
 use Rattle.pfs_layout.proofs.Reading.ByteSteps.{fault_within_limit, live_few, seeking_if_few, begun_phase, ByteOutcome}
-use Rattle.pfs_layout.proofs.Reading.ByteSteps.{refuses_is}
-use Rattle.pfs_layout.proofs.Reading.ByteSteps.{weaker, judged, mixed_other, mixed_word, judged_word, judged_blank, byte_on}
-use Rattle.pfs_layout.proofs.Reading.ByteSteps.{sought_fine, FollowsText}
-use Rattle.std.proofs.lemmas.Bool.{true_from_ne_false, cases_Bool, both_ways}
-use Rattle.std.proofs.Common.{inl, inr}
-use Rattle.std.proofs.Math.Bool.{and-true}
-use Rattle.pfs_layout.proofs.Options.{cases_option}
+use Rattle.pfs_layout.proofs.Reading.ByteSteps.{refuses_is, weaker, judged, mixed_other, mixed_word, judged_word}
+use Rattle.pfs_layout.proofs.Reading.ByteSteps.{judged_blank, byte_on, sought_fine, FollowsText}
 
 -- ---- the numbers of the last line
 
@@ -64,7 +60,8 @@ word_stays : (r : Blocks) (text : List ℕ) (complete : List Block) (now : Now) 
     → (list_any is_digit (open_line text) && is_in_block r.phase) ≡ false
     → FollowsBlocks true r (standing complete now) (numbers (open_line text))
 word_stays r text complete seeking f out =
-    let now : Seeks true r (numbers (open_line text)) = record { phase = f.now.phase; numbers = λ plain. absurd (cc) } in
+    let now : Seeks true r (numbers (open_line text)) =
+    record { phase = f.now.phase; numbers = λ plain. absurd (cc) } in
     assumption
 word_stays r text complete (inside block) f out =
     rw (numbers_same text (no_last text (rw (begun_phase f.now, and-true) at out)))
@@ -92,18 +89,6 @@ number_fault layout (inside block) text = if is_empty (last_digits text)
     (digits_value 10 (last_digits text)) (length text - length (last_digits text))
 number_fault layout lost text = None
 
-no_number_fault : (layout : Layout) (now : Now) (text : List ℕ) → is_empty (last_digits text) ≡ true
-    → number_fault layout now text ≡ None
-no_number_fault layout (inside block) text none = rw none
-no_number_fault layout other text none = refl
-
-some_number_fault : (layout : Layout) (now : Now) (text : List ℕ) → is_empty (last_digits text) ≡ false
-    → number_fault layout now text
-    ≡ misfit_in layout now (ended_numbers (open_line text)) (digits_value 10 (last_digits text))
-    (length text - length (last_digits text))
-some_number_fault layout (inside block) text some = rw some
-some_number_fault layout other text some = refl
-
 -- the fault, or what the fields say with the numbers of the whole line
 abbrev pub NumberPart : Bool → Blocks → List Block → Now → List ℕ → Blocks → Option LayoutFault → Type 0
 NumberPart has_word r complete now ns next None = FollowsBlocks has_word next (standing complete now) ns
@@ -124,17 +109,20 @@ pub number_part : (has_word : Bool) (r : Blocks) (last : Line) (text : List ℕ)
     (number_fault r.layout now text)
 number_part has_word r last text complete now live five line f = elim (cases_Bool (is_empty (last_digits text))) [
   | inl none ↦
-      let empty : length (last_digits text) ≡ 0 = eqb-true _ 0 none in
+      let right : number_fault r.layout now text ≡ None = grind arith in
+      let empty = eqb-true _ 0 none in
       let at_end : last.digits.first ≡ last.digits.offset = omega (arith, line.first, line.offset) in
-      rw (no_number_fault r.layout now text none, numbers_same text none, eq-eqb _ _ at_end) f
+      rw (right, numbers_same text none, eq-eqb _ _ at_end) f
   | inr some ↦
-      let full : length (last_digits text) ≢ 0 = eqb-false _ 0 some in
+      let value = digits_value 10 (last_digits text) in
+      let first = length text - length (last_digits text) in
+      let fault : number_fault r.layout now text ≡ misfit_in r.layout now (ended_numbers (open_line text)) value first =
+      grind arith in
+      let full = eqb-false _ 0 some in
       let begun : last.digits.first ≢ last.digits.offset =
       λ z. omega (arith, line.first, line.offset, last_short text) in
-      let more = ended_numbers (open_line text) in
-      let v = digits_value 10 (last_digits text) in
-      rw (some_number_fault r.layout now text some, numbers_more text some, ne_eqb _ _ begun, line.value, line.first)
-      (part_of has_word r _ complete now more v _ (number_step r complete now more v (length text - length (last_digits text)) f live five))
+      rw (fault, numbers_more text some, ne_eqb _ _ begun, line.value, line.first)
+      (part_of has_word r _ complete now _ value _ (number_step r complete now _ value first f live five))
 ]
 
 -- ---- a blank
@@ -161,7 +149,7 @@ pub blank_byte : (r : Blocks) (last : Line) (text : List ℕ) (b : ℕ) (complet
     → ByteOutcome r less (standing complete now) (numbers (open_line text)) (judged r last b)
     (fault_within_limit r.layout now text b)
 blank_byte r last text b complete now less digit blank on live five known line f good =
-    let part = number_part (list_any is_word_byte (open_line text)) r last text complete now live five line f in
+    let part = number_part _ r last text complete now live five line f in
     rw (judged_blank r last b digit blank, on, blank_fault r.layout now text b digit blank on good)
     (elim (cases_option (number_fault r.layout now text)) [
       | inl none ↦ rw none (weaker now known (rw none at part))
@@ -208,29 +196,28 @@ pub end_byte : (r : Blocks) (last : Line) (text : List ℕ) (b : ℕ) (complete 
     (fault_within_limit r.layout now text b)
 unfolding wrong_size
 end_byte r last text b complete seeking digit end live five lines line f good =
-    let has_word : Bool = list_any is_word_byte (open_line text) in
-    let between : Blocks = last_number_ended r (number_of last.digits) in
+    let behind : Blocks = last_number_ended r (number_of last.digits) in
     let keeps = keeps_last r (number_of last.digits) live in
-    let part = number_part has_word r last text complete seeking live five line f in
-    let few : between.complete < between.wanted =
-    omega (arith, keeps.complete, keeps.wanted, live_few has_word r seeking (ended_numbers (open_line text)) f.now live) in
-    let sought = seeking_if_few has_word between (numbers (open_line text)) part.now few in
-    let outcome = sought_line between complete (open_line text) (has_numbers_alone last.kinds) part sought few
+    let part = number_part _ r last text complete seeking live five line f in
+    let before : r.complete < r.wanted = live_few _ r seeking _ f.now live in
+    let few : behind.complete < behind.wanted = omega (arith, keeps.complete, keeps.wanted) in
+    let sought = seeking_if_few _ behind _ part.now few in
+    let outcome = sought_line behind complete (open_line text) (has_numbers_alone last.kinds) part sought few
     (rw (line.has_digit, line.has_word)) in
     rw (judged_blank r last b digit (or_right (is_blank b) _ end), end)
-    (behind_line r between _ _ _ keeps (keeps.held sought) (rw (keeps.layout, keeps.line ∙ lines) at outcome))
+    (behind_line r behind _ _ _ keeps (keeps.held sought) (rw (keeps.layout, keeps.line ∙ lines) at outcome))
 end_byte r last text b complete (inside block) digit end live five lines line f good =
-    let between : Blocks = last_number_ended r (number_of last.digits) in
+    let behind : Blocks = last_number_ended r (number_of last.digits) in
     let numbered = has_numbers_alone last.kinds in
     let keeps = keeps_last r (number_of last.digits) live in
     let blank = or_right (is_blank b) (is_line_end b) end in
-    let part = number_part (list_any is_word_byte (open_line text)) r last text complete (inside block) live five line f in
+    let part = number_part _ r last text complete (inside block) live five line f in
     rw (judged_blank r last b digit blank, end, end_fault r.layout block text b digit blank good.unmixed)
     (elim (cases_option (number_fault r.layout (inside block) text)) [
       | inl none ↦
           let due = rw (← keeps.layout) at (due_line r.layout block text good none) in
-          rw none (rw keeps.layout at (body_line between complete block (open_line text) numbered (rw none at part)
-          good.unmixed due))
+          let next = body_line behind complete block (open_line text) numbered (rw none at part) good.unmixed due in
+          rw none (rw keeps.layout at next)
       | inr one ↦ rw (one.1, rw one.1 at part) (refused_line r one.0 numbered)
     ])
 end_byte r last text b complete lost digit end live five lines line f good = absurd good

@@ -1,15 +1,11 @@
 -- A line that ends: the fault that it has, or what the fields say behind it.
-use Rattle.std.proofs.Common.{◌≡◌, ◌≢◌, ℕ, ◌+◌, ◌-◌, ◌<◌, ◌≤◌, min, Bool, true, false, not, ◌&&◌, List}
-use Rattle.std.proofs.Common.{[], ◌∷◌, ◌++◌, length, refl, ◌∙◌, ap, arith, Option, Some, None}
-use Rattle.std.proofs.Common.{if◌then◌else◌, ◌==◌, nat_le}
+use Rattle.std.proofs.Common.{◌≡◌, ◌≢◌, ℕ, ◌+◌, ◌<◌, min, Bool, true, false, not, ◌&&◌, List, [], ◌∷◌, ◌++◌, length}
+use Rattle.std.proofs.Common.{refl, ◌∙◌, ap, arith, Option, Some, None, if◌then◌else◌, ◌==◌, nat_le, inl, inr}
 use Rattle.std.specs.Prelude.{option_map}
 use Rattle.std.specs.List.{list_any}
-use Rattle.std.proofs.lemmas.Bool.{lt-ltb, le-ltb, eq-eqb, ne_eqb}
-use Rattle.pfs_layout.specs.declared.blocks.Phase.{Phase}
-use Rattle.std.proofs.lemmas.Bool.{and_parts, not-true, cases_Bool, cases_eq, cases_lt, cond_both}
-use Rattle.std.proofs.lemmas.Bool.Decides.{nat_tests}
 use Rattle.std.proofs.Math.Nat.{mul-pos}
-use Rattle.std.proofs.Common.{inl, inr}
+use Rattle.std.proofs.lemmas.Bool.{lt-ltb, le-ltb, eq-eqb, ne_eqb, and_parts, not-true, cases_Bool, cases_lt}
+use Rattle.std.proofs.lemmas.Bool.Decides.{nat_tests}
 use Rattle.std.proofs.lemmas.List.{append-nil, length-append, length_push}
 use Rattle.pfs_base.specs.declared.limits.TheConstants.{MOST_JOBS, MOST_MACHINES, GREATEST_NOTE}
 use Rattle.pfs_base.proofs.Published.Lists.{slice_get-push}
@@ -18,17 +14,18 @@ use Rattle.pfs_layout.specs.declared.layout.Layout.TheVariants.{Taillard, OrLib}
 use Rattle.pfs_layout.specs.declared.fault.LayoutFault.{LayoutFault}
 use Rattle.pfs_layout.specs.declared.scan.TheConstants.{CEILING}
 use Rattle.pfs_layout.specs.declared.size_line.SizeLine.{SizeLine}
+use Rattle.pfs_layout.specs.declared.blocks.Phase.{Phase}
 use Rattle.pfs_layout.specs.declared.blocks.Phase.TheVariants as phases
 use Rattle.pfs_layout.specs.declared.blocks.Blocks.{Blocks}
 use Rattle.pfs_layout.specs.Bytes.{is_digit, is_word_byte}
-use Rattle.pfs_layout.specs.Lines.{is_mixed, is_number_line, numbers}
 use Rattle.pfs_layout.specs.Size.{Size, is_within_limits}
+use Rattle.pfs_layout.specs.Lines.{is_mixed, is_number_line, numbers}
 use Rattle.pfs_layout.specs.Block.{due_count, stated_size, are_due}
-use Rattle.pfs_layout.specs.Stand.{Block, seeking, inside, Stand, after_size, after_numbers, stand_after}
-use Rattle.pfs_layout.specs.Stand.{times_among, standing, completed, begun, with_line}
+use Rattle.pfs_layout.specs.Stand.{Block, seeking, inside, Stand, after_size, after_numbers, stand_after, times_among}
+use Rattle.pfs_layout.specs.Stand.{standing, completed, begun, with_line}
 use Rattle.pfs_layout.specs.Refuse.{size_fault}
-use Rattle.pfs_layout.specs.Step.{stated_by, body_of, block_begun, size_judged}
-use Rattle.pfs_layout.specs.Step.{no_numbers, at_next_line, line_ended_in, line_ended}
+use Rattle.pfs_layout.specs.Step.{stated_by, body_of, block_begun, size_judged, no_numbers, at_next_line, line_ended_in}
+use Rattle.pfs_layout.specs.Step.{line_ended}
 use Rattle.pfs_layout.specs.Reader.{IsNextTime, block_of, HoldsNumbers, FollowsBody, FollowsBlocks}
 use Rattle.pfs_layout.proofs.Files.SizeLemmas.{size_within}
 use Rattle.pfs_layout.proofs.Reading.TableLemmas.{instance_of-none}
@@ -54,7 +51,7 @@ Clips kept stated = kept ≡ option_map clipped stated
 pub clips : (layout : Layout) (line : SizeLine) (ns : List ℕ) → HoldsNumbers line ns
     → Clips (stated_by layout line) (stated_size layout ns)
 unfolding stated_size
-clips Taillard line (a ∷ b ∷ c ∷ d ∷ e ∷ []) h = let at = h.values in rw h.count (grind (arith, at 0, at 1, at 2, at 3, at 4))
+clips Taillard line (a ∷ b ∷ c ∷ d ∷ e ∷ []) h = rw h.count (grind (arith, h.values))
 clips Taillard line others h = rw (ne_eqb line.count 5 (λ z. omega arith))
 clips OrLib line (a ∷ b ∷ []) h = rw h.count (grind (arith, h.values))
 clips OrLib line others h = rw (ne_eqb line.count 2 (λ z. omega arith))
@@ -87,21 +84,18 @@ pub no_times : (layout : Layout) → length (times_among layout []) ≡ 0
 no_times Taillard = refl
 no_times OrLib = refl
 
-first_time : (layout : Layout) (size : Size) → IsNextTime layout (body_of layout size.jobs size.machines)
-first_time Taillard size = omega arith
-first_time OrLib size = omega arith
-
 body_begun : (layout : Layout) (size : Size) → is_within_limits size ≡ true
     → FollowsBody layout size 0 (body_of layout size.jobs size.machines)
-body_begun layout size within = let w = size_within size within in search (arith, first_time)
+body_begun Taillard size within = let w = size_within size within in search arith
+body_begun OrLib size within = let w = size_within size within in search arith
 
 due_some : (layout : Layout) (size : Size) → is_within_limits size ≡ true
     → 0 < (body_of layout size.jobs size.machines).due
 due_some Taillard size within = let w = size_within size within in grind (arith, mul-pos)
 due_some OrLib size within = let w = size_within size within in grind (arith, mul-pos)
 
-begun_follows : (r : Blocks) (complete : List Block) (size : Size) → FollowsBlocks false r (standing complete seeking) []
-    → r.complete < r.wanted → is_within_limits size ≡ true
+begun_follows : (r : Blocks) (complete : List Block) (size : Size)
+    → FollowsBlocks false r (standing complete seeking) [] → r.complete < r.wanted → is_within_limits size ≡ true
     → FollowsBlocks false (block_begun r size) (standing complete (inside (begun size))) []
 begun_follows r complete size f few within =
     let least : length complete < r.wanted = omega (arith, f.complete) in
@@ -151,7 +145,8 @@ size_step None r complete kept line same f few =
 size_step (Some size) r complete kept line same f few = elim (cases_Bool (is_within_limits size)) [
   | inl within ↦
       rw (same ∙ ap Some (clipped_is size within), within) (begun_follows (at_next_line r) complete size f few within)
-  | inr beyond ↦ rw (same, same_within size, beyond) (record { phase = refl; held = refl; layout = refl; wanted = refl })
+  | inr beyond ↦
+      rw (same, same_within size, beyond) (record { phase = refl; held = refl; layout = refl; wanted = refl })
 ]
 
 -- a line of numbers has no word byte
