@@ -26,6 +26,7 @@ use Rattle.pfs_layout.specs.Step.{number_of, blank_event, mixed_if, event_of, bl
 use Rattle.pfs_layout.specs.Reader.{IsInside, FollowsLine, FollowsNow, FollowsBlocks}
 use Rattle.pfs_layout.proofs.Files.SoundLemmas.{GoodNow}
 use Rattle.pfs_layout.proofs.Reading.LineSteps.{Refuses}
+pub use Rattle.pfs_layout.proofs.Reading.LineSteps.{ByteOutcome}
 use Rattle.pfs_layout.proofs.Reading.ScanLemmas.{digit_is}
 
 -- ---- the fault of a place
@@ -59,11 +60,6 @@ pub begun_phase : {r : Blocks} {block : Block} {more : List ℕ} → IsInside r 
 begun_phase f = let phase = f.phase in grind arith
 
 -- ---- outcomes
-
--- the fault, or what the fields say behind the byte
-abbrev pub ByteOutcome : Blocks → Bool → Stand → List ℕ → Blocks → Option LayoutFault → Type 0
-ByteOutcome r has_word stood more next None = FollowsBlocks has_word next stood more
-ByteOutcome r has_word stood more next (Some fault) = Refuses r fault next
 
 pub refuses_is : (r next : Blocks) (fault : LayoutFault) → next ≡ refused r fault → Refuses r fault next
 refuses_is r next fault e = rw e (record { phase = refl; held = refl; layout = refl; wanted = refl })

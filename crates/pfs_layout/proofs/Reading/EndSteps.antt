@@ -28,18 +28,20 @@ use Rattle.pfs_layout.proofs.Files.SoundLemmas.{GoodNow, GoodBody, same_last, va
 use Rattle.pfs_layout.proofs.Files.SoundLemmas.{are_due-push}
 use Rattle.pfs_layout.proofs.Reading.StepLemmas.{keeps_last}
 use Rattle.pfs_layout.proofs.Reading.NumberSteps.{NumberOutcome, misfit_in, number_step}
-use Rattle.pfs_layout.proofs.Reading.LineSteps.{Refuses, LineOutcome, sought_line, body_line}
+use Rattle.pfs_layout.proofs.Reading.LineSteps.{Refuses, sought_line, body_line}
 use Rattle.pfs_layout.proofs.Reading.ByteSteps.{fault_within_limit, live_few, seeking_if_few, begun_phase, ByteOutcome}
 use Rattle.pfs_layout.proofs.Reading.ByteSteps.{refuses_is, weaker, judged, mixed_other, mixed_word, judged_word}
 use Rattle.pfs_layout.proofs.Reading.ByteSteps.{judged_blank, byte_on, sought_fine, FollowsText}
 
 -- ---- the numbers of the last line
 
+-- where no digits end the text, all numbers of the last line are ended
 numbers_same : (text : List ℕ) → is_empty (last_digits text) ≡ true
     → numbers (open_line text) ≡ ended_numbers (open_line text)
 numbers_same text none =
     rw (numbers_is (open_line text), ← same_last text, values_last true (last_digits text) none, append-nil)
 
+-- and where some do, they are one number more
 numbers_more : (text : List ℕ) → is_empty (last_digits text) ≡ false
     → numbers (open_line text) ≡ ended_numbers (open_line text) ++ digits_value 10 (last_digits text) ∷ []
 numbers_more text some = rw (numbers_is (open_line text), ← same_last text, values_last false (last_digits text) some)
@@ -95,15 +97,13 @@ NumberPart has_word r complete now ns next None = FollowsBlocks has_word next (s
 NumberPart has_word r complete now ns next (Some fault) = next ≡ refused r fault
 
 part_of : (has_word : Bool) (r next : Blocks) (complete : List Block) (now : Now) (more : List ℕ) (v : ℕ)
-    (fault : Option LayoutFault)
-    → NumberOutcome has_word r complete now more v next fault
+    (fault : Option LayoutFault) → NumberOutcome has_word r complete now more v next fault
     → NumberPart has_word r complete now (more ++ v ∷ []) next fault
 part_of has_word r next complete now more v None o = o
 part_of has_word r next complete now more v (Some fault) o = o
 
 pub number_part : (has_word : Bool) (r : Blocks) (last : Line) (text : List ℕ) (complete : List Block) (now : Now)
-    → is_live r.phase ≡ true → length r.size_line.values ≡ 5
-    → FollowsLine last.digits last.kinds text
+    → is_live r.phase ≡ true → length r.size_line.values ≡ 5 → FollowsLine last.digits last.kinds text
     → FollowsBlocks has_word r (standing complete now) (ended_numbers (open_line text))
     → NumberPart has_word r complete now (numbers (open_line text)) (last_number_ended r (number_of last.digits))
     (number_fault r.layout now text)
@@ -127,7 +127,7 @@ number_part has_word r last text complete now live five line f = elim (cases_Boo
 
 -- ---- a blank
 
--- a blank and a line end have the fault of the number that they end
+-- a blank and a line end in a block have the fault of the number that they end
 end_fault : (layout : Layout) (block : Block) (text : List ℕ) (b : ℕ) → is_digit b ≡ false
     → (is_blank b || is_line_end b) ≡ true → is_mixed (open_line text) ≡ false
     → fault_within_limit layout (inside block) text b ≡ number_fault layout (inside block) text
@@ -135,6 +135,7 @@ unfolding wrong_number
 end_fault layout block text b digit blank unmixed =
     rw (mixed_other text b unmixed digit blank) (grind arith)
 
+-- a blank has no other fault
 blank_fault : (layout : Layout) (now : Now) (text : List ℕ) (b : ℕ) → is_digit b ≡ false
     → (is_blank b || is_line_end b) ≡ true → is_line_end b ≡ false → GoodNow layout now (open_line text)
     → fault_within_limit layout now text b ≡ number_fault layout now text
@@ -177,9 +178,9 @@ due_line layout block text good right = elim (cases_Bool (is_empty (last_digits 
       (are_due-push layout block.size before (digits_value 10 (last_digits text)) good.due (rw at one))
 ]
 
--- the end of a line behind its last number
+-- what a line's end comes to behind its last number, it comes to before
 behind_line : (r between next : Blocks) (stood : Stand) (fault : Option LayoutFault) → Keeps r between
-    → between.held ≡ r.held → LineOutcome between stood next fault → ByteOutcome r false stood [] next fault
+    → between.held ≡ r.held → ByteOutcome between false stood [] next fault → ByteOutcome r false stood [] next fault
 behind_line r between next stood None keeps held o = o
 behind_line r between next stood (Some fault) keeps held o = record {
   phase = o.phase;

@@ -121,10 +121,10 @@ pub record Refuses (old : Blocks) (fault : LayoutFault) (new : Blocks) : Type 0 
   pub layout : new.layout ≡ old.layout
   pub wanted : new.wanted ≡ old.wanted
 
--- the fault, or what the fields say behind the line
-abbrev pub LineOutcome : Blocks → Stand → Blocks → Option LayoutFault → Type 0
-LineOutcome r stood next None = FollowsBlocks false next stood []
-LineOutcome r stood next (Some fault) = Refuses r fault next
+-- the fault, or what the fields say behind the byte, whose line has a word byte or not
+abbrev pub ByteOutcome : Blocks → Bool → Stand → List ℕ → Blocks → Option LayoutFault → Type 0
+ByteOutcome r has_word stood more next None = FollowsBlocks has_word next stood more
+ByteOutcome r has_word stood more next (Some fault) = Refuses r fault next
 
 holds_none : HoldsNumbers no_numbers []
 holds_none = record { count = refl; values = λ i low few. absurd (omega arith) }
@@ -136,13 +136,13 @@ seeks_on : {has_word : Bool} (r : Blocks) (complete : List Block) (more : List �
 seeks_on r complete more f = search (holds_none)
 
 -- the size line of a sought block
-size_step : (stated : Option Size) (r : Blocks) (complete : List Block) (kept : Option Size) (line : ℕ)
-    → Clips kept stated → FollowsBlocks false (at_next_line r) (standing complete seeking) [] → r.complete < r.wanted
-    → LineOutcome r (standing complete (after_size stated)) (size_judged (at_next_line r) kept (size_fault kept line))
-    (size_fault stated line)
-size_step None r complete kept line same f few =
+size_step : (stated kept : Option Size) (r : Blocks) (complete : List Block) → Clips kept stated
+    → FollowsBlocks false (at_next_line r) (standing complete seeking) [] → r.complete < r.wanted
+    → ByteOutcome r false (standing complete (after_size stated)) []
+    (size_judged (at_next_line r) kept (size_fault kept r.line)) (size_fault stated r.line)
+size_step None kept r complete same f few =
     rw same (record { phase = refl; held = refl; layout = refl; wanted = refl })
-size_step (Some size) r complete kept line same f few = elim (cases_Bool (is_within_limits size)) [
+size_step (Some size) kept r complete same f few = elim (cases_Bool (is_within_limits size)) [
   | inl within ↦
       rw (same ∙ ap Some (clipped_is size within), within) (begun_follows (at_next_line r) complete size f few within)
   | inr beyond ↦
@@ -164,17 +164,17 @@ pub sought_line : (r : Blocks) (complete : List Block) (line : List ℕ) (number
     → FollowsBlocks (list_any is_word_byte line) r (standing complete seeking) (numbers line)
     → r.phase ≡ phases.Seeking → r.complete < r.wanted
     → numbered ≡ is_number_line line
-    → LineOutcome r (stand_after r.layout (standing complete seeking) line) (line_ended r numbered)
+    → ByteOutcome r false (stand_after r.layout (standing complete seeking) line) [] (line_ended r numbered)
     (if is_number_line line then size_fault (stated_size r.layout (numbers line)) r.line else None)
 unfolding stand_after
 sought_line r complete line numbered f phase few same =
+    let next = seeks_on r complete (numbers line) f in
     rw (ended_in r numbered phases.Seeking phase, same) (elim (cases_Bool (is_number_line line)) [
       | inl number_line ↦
           let plain = no_word (list_any is_digit line) (list_any is_word_byte line) number_line in
           let kept = clips r.layout r.size_line (numbers line) (f.now.numbers plain) in
-          rw number_line (size_step (stated_size r.layout (numbers line)) r complete (stated_by r.layout r.size_line)
-          r.line kept (seeks_on r complete (numbers line) f) few)
-      | inr skipped ↦ rw skipped (seeks_on r complete (numbers line) f)
+          rw number_line (size_step (stated_size r.layout (numbers line)) _ r complete kept next few)
+      | inr skipped ↦ rw skipped next
     ])
 
 -- ---- a line of a body
