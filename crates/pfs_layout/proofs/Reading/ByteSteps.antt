@@ -19,7 +19,7 @@ use Rattle.pfs_layout.specs.declared.blocks.Phase.TheVariants as phases
 use Rattle.pfs_layout.specs.declared.blocks.Blocks.{Blocks}
 use Rattle.pfs_layout.specs.Bytes.{is_digit, is_blank, is_line_end, is_word_byte}
 use Rattle.pfs_layout.specs.Lines.{ended_lines, open_line, is_mixed, ended_numbers, last_digits}
-use Rattle.pfs_layout.specs.Stand.{Block, Now, seeking, inside, lost, Stand, stand, standing}
+use Rattle.pfs_layout.specs.Stand.{Block, Now, seeking, inside, lost, stand, standing}
 use Rattle.pfs_layout.specs.Refuse.{mixed_line, wrong_number, wrong_size, ends_early, fault_of_place}
 use Rattle.pfs_layout.specs.Step.{is_live, is_in_block, refused, last_number_ended, line_ended, has_numbers_alone}
 use Rattle.pfs_layout.specs.Step.{number_of, blank_event, mixed_if, event_of, blocks_after}
@@ -60,6 +60,11 @@ pub begun_phase : {r : Blocks} {block : Block} {more : List ℕ} → IsInside r 
 begun_phase f = let phase = f.phase in grind arith
 
 -- ---- outcomes
+
+-- what the blocks say of this text, which leads to these complete blocks and stands there
+abbrev pub FollowsText : Blocks → List ℕ → List Block → Now → Type 0
+FollowsText r text complete now =
+    FollowsBlocks (list_any is_word_byte (open_line text)) r (standing complete now) (ended_numbers (open_line text))
 
 pub refuses_is : (r next : Blocks) (fault : LayoutFault) → next ≡ refused r fault → Refuses r fault next
 refuses_is r next fault e = rw e (record { phase = refl; held = refl; layout = refl; wanted = refl })
@@ -126,18 +131,13 @@ unfolding wrong_size
 sought_fine layout text b on = rw on
 
 -- a byte that ends no number has no fault of a number
-pub number_fine : (layout : Layout) (block : Block) (text : List ℕ) (b : ℕ) → (is_blank b || is_line_end b) ≡ false
+number_fine : (layout : Layout) (block : Block) (text : List ℕ) (b : ℕ) → (is_blank b || is_line_end b) ≡ false
     → wrong_number layout block text (Some b) ≡ None
 unfolding wrong_number
 number_fine layout block text b other = rw (and_right (not (is_empty (last_digits text))) _ other)
 
--- the blocks say what they should of this text
-abbrev pub FollowsText : Blocks → List ℕ → List Block → Now → Type 0
-FollowsText r text complete now =
-    FollowsBlocks (list_any is_word_byte (open_line text)) r (standing complete now) (ended_numbers (open_line text))
-
 -- a byte that ends no number is refused where it mixes a line of a block, and leaves the blocks as they are elsewhere
-pub byte_on : {less : Bool} {ns : List ℕ} (r : Blocks) (last : Line) (text : List ℕ) (b : ℕ) (complete : List Block)
+pub mixing_byte : {less : Bool} {ns : List ℕ} (r : Blocks) (last : Line) (text : List ℕ) (b : ℕ) (complete : List Block)
     (now : Now) (mixes : Bool) → (is_blank b || is_line_end b) ≡ false
     → FollowsLine last.digits last.kinds text → FollowsText r text complete now → GoodNow r.layout now (open_line text)
     → (is_mixed (open_line text) ≡ false → mixed_line text (Some b) ≡ then_some mixes (MixedLine (length text)))
@@ -145,16 +145,16 @@ pub byte_on : {less : Bool} {ns : List ℕ} (r : Blocks) (last : Line) (text : L
     → ByteOutcome r less (standing complete now) ns
     (if mixes && is_in_block r.phase then refused r (MixedLine last.digits.offset) else r)
     (fault_within_limit r.layout now text b)
-byte_on r last text b complete seeking mixes other line f good mixed stays =
+mixing_byte r last text b complete seeking mixes other line f good mixed stays =
     let phase = f.now.phase in
     let out : (mixes && is_in_block r.phase) ≡ false = grind arith in
     rw (sought_fine r.layout text b (or_parts (is_blank b) _ other).1, out) (stays out)
-byte_on r last text b complete (inside block) mixes other line f good mixed stays =
+mixing_byte r last text b complete (inside block) mixes other line f good mixed stays =
     rw (mixed good.unmixed, number_fine r.layout block text b other) (elim (cases_Bool mixes) [
       | inl e ↦ rw (e, begun_phase f.now) (refuses_is r _ _ (rw line.offset))
       | inr e ↦ rw e (stays (rw e))
     ])
-byte_on r last text b complete lost mixes other line f good mixed stays = absurd good
+mixing_byte r last text b complete lost mixes other line f good mixed stays = absurd good
 
 digit_ends_nothing : (b : ℕ) → is_digit b ≡ true → (is_blank b || is_line_end b) ≡ false
 digit_ends_nothing b digit = let low = digit_is b digit in grind (arith, nat_tests)
@@ -167,5 +167,5 @@ pub digit_byte : (r : Blocks) (last : Line) (text : List ℕ) (b : ℕ) (complet
     (fault_within_limit r.layout now text b)
 digit_byte r last text b complete now less digit live known line f good =
     rw (judged_digit r last b digit, line.has_word)
-    (byte_on r last text b complete now (list_any is_word_byte (open_line text)) (digit_ends_nothing b digit) line f
+    (mixing_byte r last text b complete now (list_any is_word_byte (open_line text)) (digit_ends_nothing b digit) line f
     good (λ unmixed. mixed_digit text b unmixed digit) (λ stays. weaker now known f))

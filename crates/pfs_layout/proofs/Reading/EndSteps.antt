@@ -31,7 +31,7 @@ use Rattle.pfs_layout.proofs.Reading.NumberSteps.{NumberOutcome, misfit_in, numb
 use Rattle.pfs_layout.proofs.Reading.LineSteps.{Refuses, sought_line, body_line}
 use Rattle.pfs_layout.proofs.Reading.ByteSteps.{fault_within_limit, live_few, seeking_if_few, begun_phase, ByteOutcome}
 use Rattle.pfs_layout.proofs.Reading.ByteSteps.{refuses_is, weaker, judged, mixed_other, mixed_word, judged_word}
-use Rattle.pfs_layout.proofs.Reading.ByteSteps.{judged_blank, byte_on, sought_fine, FollowsText}
+use Rattle.pfs_layout.proofs.Reading.ByteSteps.{judged_blank, mixing_byte, sought_fine, FollowsText}
 
 -- ---- the numbers of the last line
 
@@ -77,7 +77,7 @@ pub word_byte : (r : Blocks) (last : Line) (text : List ℕ) (b : ℕ) (complete
     (fault_within_limit r.layout now text b)
 word_byte r last text b complete now digit other live line f good =
     rw (judged_word r last b digit other, line.has_digit)
-    (byte_on r last text b complete now (list_any is_digit (open_line text)) other line f good
+    (mixing_byte r last text b complete now (list_any is_digit (open_line text)) other line f good
     (λ unmixed. mixed_word text b unmixed digit other) (word_stays r text complete now f))
 
 -- ---- the end of a number
@@ -159,6 +159,7 @@ blank_byte r last text b complete now less digit blank on live five known line f
 
 -- ---- the end of a line
 
+-- a line's end changes no refusal
 refused_line : (r : Blocks) (fault : LayoutFault) (numbered : Bool)
     → Refuses r fault (line_ended (refused r fault) numbered)
 unfolding line_ended
@@ -178,11 +179,11 @@ due_line layout block text good right = elim (cases_Bool (is_empty (last_digits 
       (are_due-push layout block.size before (digits_value 10 (last_digits text)) good.due (rw at one))
 ]
 
--- what a line's end comes to behind its last number, it comes to before
-behind_line : (r between next : Blocks) (stood : Stand) (fault : Option LayoutFault) → Keeps r between
+-- a line's end has the outcome that it has behind the line's last number
+outcome_behind : (r between next : Blocks) (stood : Stand) (fault : Option LayoutFault) → Keeps r between
     → between.held ≡ r.held → ByteOutcome between false stood [] next fault → ByteOutcome r false stood [] next fault
-behind_line r between next stood None keeps held o = o
-behind_line r between next stood (Some fault) keeps held o = record {
+outcome_behind r between next stood None keeps held o = o
+outcome_behind r between next stood (Some fault) keeps held o = record {
   phase = o.phase;
   held = o.held ∙ held;
   layout = o.layout ∙ keeps.layout;
@@ -206,7 +207,7 @@ end_byte r last text b complete seeking digit end live five lines line f good =
     let outcome = sought_line behind complete (open_line text) (has_numbers_alone last.kinds) part sought few
     (rw (line.has_digit, line.has_word)) in
     rw (judged_blank r last b digit (or_right (is_blank b) _ end), end)
-    (behind_line r behind _ _ _ keeps (keeps.held sought) (rw (keeps.layout, keeps.line ∙ lines) at outcome))
+    (outcome_behind r behind _ _ _ keeps (keeps.held sought) (rw (keeps.layout, keeps.line ∙ lines) at outcome))
 end_byte r last text b complete (inside block) digit end live five lines line f good =
     let behind : Blocks = last_number_ended r (number_of last.digits) in
     let numbered = has_numbers_alone last.kinds in

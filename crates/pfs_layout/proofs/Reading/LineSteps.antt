@@ -26,7 +26,7 @@ use Rattle.pfs_layout.specs.Stand.{standing, completed, begun, with_line}
 use Rattle.pfs_layout.specs.Refuse.{size_fault}
 use Rattle.pfs_layout.specs.Step.{stated_by, body_of, block_begun, size_judged, no_numbers, at_next_line, line_ended_in}
 use Rattle.pfs_layout.specs.Step.{line_ended}
-use Rattle.pfs_layout.specs.Reader.{IsNextTime, block_of, HoldsNumbers, FollowsBody, FollowsBlocks}
+use Rattle.pfs_layout.specs.Reader.{block_of, HoldsNumbers, FollowsBody, FollowsBlocks}
 use Rattle.pfs_layout.proofs.Files.SizeLemmas.{size_within}
 use Rattle.pfs_layout.proofs.Reading.TableLemmas.{instance_of-none}
 
@@ -129,7 +129,7 @@ ByteOutcome r has_word stood more next (Some fault) = Refuses r fault next
 holds_none : HoldsNumbers no_numbers []
 holds_none = record { count = refl; values = λ i low few. absurd (omega arith) }
 
--- no number is known of the next line
+-- the next block is sought on the next line too, of which no number is known
 seeks_on : {has_word : Bool} (r : Blocks) (complete : List Block) (more : List ℕ)
     → FollowsBlocks has_word r (standing complete seeking) more
     → FollowsBlocks false (at_next_line r) (standing complete seeking) []
