@@ -57,31 +57,16 @@ pub record Carries (old new : Blocks) (ends : Bool) : Type 0 where
   pub few : new.size_line.count ≤ old.size_line.count + 1
   pub five : length new.size_line.values ≡ length old.size_line.values ⊎ (length new.size_line.values ≡ 5)
 
-carries_mixed : (test : Bool) (r : Blocks) (fault : LayoutFault) → Carries r (if test then refused r fault else r) false
-carries_mixed test r fault = grind arith
-
-carries_number : (r : Blocks) (number : Option Number) → is_live r.phase ≡ true
-    → Carries r (last_number_ended r number) false
-carries_number r number live = search (arith, keeps_last r number live, last_numbers r number)
-
-carries_line : (r : Blocks) (number : Option Number) (is_number_line : Bool) → is_live r.phase ≡ true
-    → Carries r (line_ended (last_number_ended r number) is_number_line) true
-carries_line r number is_number_line live =
-    grind (arith, keeps_last r number live, ends_line (last_number_ended r number) is_number_line)
-
 pub carries : (r : Blocks) (last : Line) (b : ℕ) → is_live r.phase ≡ true → Carries r (judged r last b) (is_line_end b)
 carries r last b live =
     let number = number_of last.digits in
+    let ends = ends_line (last_number_ended r number) (has_numbers_alone last.kinds) in
     elim (cases_Bool (is_digit b)) [
-      | inl digit ↦ rw (judged_digit r last b digit, digit-no_line_end b digit) (carries_mixed _ r _)
+      | inl digit ↦ rw (judged_digit r last b digit) (grind (arith, digit-no_line_end b digit))
       | inr no_digit ↦ elim (cases_Bool (is_blank b || is_line_end b)) [
           | inl gap ↦ rw (judged_blank r last b no_digit gap)
-              (elim (cases_Bool (is_line_end b)) [
-                | inl end ↦ rw end (carries_line r number (has_numbers_alone last.kinds) live)
-                | inr on ↦ rw on (carries_number r number live)
-              ])
-          | inr word ↦
-              rw (judged_word r last b no_digit word, (or_parts (is_blank b) _ word).1) (carries_mixed _ r _)
+              (grind (arith, keeps_last r number live, last_numbers r number, ends))
+          | inr word ↦ rw (judged_word r last b no_digit word) (grind arith)
         ]
     ]
 
@@ -120,30 +105,25 @@ outcome : (r : Fields) (text : List ℕ) (b : ℕ) → Follows r text → is_liv
     → GoodNow r.layout (stand_of r.layout text).now (open_line text)
     → Outcome r.blocks r.layout (text ++ b ∷ []) (judged r.blocks r.last b)
     (fault_within_limit r.layout (stand_of r.layout text).now text b)
-outcome r text b f live good =
-    let stood : Stand = stand_of r.layout text in
-    let line = open_line text in
-    elim (cases_Bool (is_digit b)) [
-      | inl digit ↦
-          let on = digit-no_line_end b digit in
-          rw (stand_of-on r.layout text b on, numbers_digit text b on digit)
-          (digit_byte r.blocks r.last text b stood.complete stood.now _ digit live (words_before text b on)
-          f.last_line f.blocks good)
-      | inr no_digit ↦ elim (cases_Bool (is_blank b || is_line_end b)) [
-          | inl gap ↦ elim (cases_Bool (is_line_end b)) [
-              | inl end ↦ rw (stand_of-end r.layout text b end, open_line-end text b end, no_numbers_yet)
-                  (end_byte r.blocks r.last text b stood.complete stood.now no_digit end live f.five_values f.line
-                  f.last_line f.blocks good)
-              | inr on ↦ rw (stand_of-on r.layout text b on, numbers_gap text b on no_digit)
-                  (blank_byte r.blocks r.last text b stood.complete stood.now _ no_digit gap on live f.five_values
-                  (words_before text b on) f.last_line f.blocks good)
-            ]
-          | inr word ↦
-              let on = (or_parts _ _ word).1 in
-              rw (word_there text b no_digit word, stand_of-on r.layout text b on, numbers_gap text b on no_digit)
-              (word_byte r.blocks r.last text b stood.complete stood.now no_digit word live f.last_line f.blocks good)
+outcome r text b f live good = elim (cases_Bool (is_digit b)) [
+  | inl digit ↦
+      let on = digit-no_line_end b digit in
+      rw (stand_of-on r.layout text b on, numbers_digit text b on digit)
+      (digit_byte r.blocks r.last text b _ _ _ digit live (words_before text b on) f.last_line f.blocks good)
+  | inr no_digit ↦ elim (cases_Bool (is_blank b || is_line_end b)) [
+      | inl gap ↦ elim (cases_Bool (is_line_end b)) [
+          | inl end ↦ rw (stand_of-end r.layout text b end, open_line-end text b end, no_numbers_yet)
+              (end_byte r.blocks r.last text b _ _ no_digit end live f.five_values f.line f.last_line f.blocks good)
+          | inr on ↦ rw (stand_of-on r.layout text b on, numbers_gap text b on no_digit)
+              (blank_byte r.blocks r.last text b _ _ _ no_digit gap on live f.five_values (words_before text b on)
+              f.last_line f.blocks good)
         ]
+      | inr word ↦
+          let on = (or_parts (is_blank b) _ word).1 in
+          rw (word_there text b no_digit word, stand_of-on r.layout text b on, numbers_gap text b on no_digit)
+          (word_byte r.blocks r.last text b _ _ no_digit word live f.last_line f.blocks good)
     ]
+]
 
 -- ---- where a reader stands
 
@@ -214,9 +194,6 @@ instance_sizes : (layout : Layout) (block : Block) → let shop = (instance_of l
 unfolding instance_of
 instance_sizes layout block = (refl, refl)
 
-times_few : (layout : Layout) (n : ℕ) → times_in layout n ≤ n
-times_few layout n = grind arith
-
 due_few : (layout : Layout) (size : Size) → is_within_limits size ≡ true → due_count layout size < LONGEST_INPUT
 due_few layout size within =
     let sizes = (size_within size within).sizes in grind (arith, mul-le-mul sizes.few_jobs sizes.few_machines)
@@ -238,21 +215,20 @@ begun_now {r = r} f body = by_now _ _ _ f.blocks.now
 
 can_count : {r : Fields} {text : List ℕ} → Follows r text → r.phase ≡ phases.Body → CanCount r.blocks
 can_count {r = r} {text = text} f phase =
-    let stood = stand_of r.layout text in
+    let complete = (stand_of r.layout text).complete in
     let more = ended_numbers (open_line text) in
     let begun = begun_now f phase in
     let block = begun.0 in
-    let follows : FollowsBlocks _ r.blocks (standing stood.complete (inside block)) more = rw begun.1 at f.blocks in
+    let follows : FollowsBlocks _ r.blocks (standing complete (inside block)) more = rw begun.1 at f.blocks in
     let body = follows.now.body in
+    let least : length complete < r.wanted = omega (arith, follows.complete, follows.now.few) in
+    let kept = keeping_of r.blocks complete block more least follows.instance follows.held in
     let all : Block = record { size = block.size; numbers = block.numbers ++ more } in
-    let least : length stood.complete < r.wanted = omega (arith, follows.complete, follows.now.few) in
-    let kept = keeping_of r.blocks stood.complete block more least follows.instance follows.held in
     let count = length-append block.numbers more in
     let times = length-times_among r.layout all.numbers in
-    let few = times_few r.layout (length all.numbers) in
     let held : r.held ≤ r.body.judged = grind (arith, kept.held, body.judged) in
-    let sizes = instance_sizes r.layout all in
     let due = due_few r.layout block.size follows.now.fits in
+    let sizes = instance_sizes r.layout all in
     elim (cases_lt r.body.judged r.body.due) [
       | inl less ↦ record {
           place = record { judged = less; job = body.job; machine = body.machine };
@@ -277,8 +253,8 @@ pub record IsEndReady (r : Blocks) : Type 0 where
   pub can : r.phase ≡ phases.Body → CanCount r
   pub count : r.size_line.count ≤ LONGEST_INPUT
 
-pub reader_end_ready : (r : Fields) → IsReader r → is_live r.phase ≡ true → IsEndReady r.blocks
-reader_end_ready r some live =
+pub reader_end_ready : {r : Fields} → IsReader r → is_live r.phase ≡ true → IsEndReady r.blocks
+reader_end_ready {r = r} some live =
     let stands = some.stands (live-memory r.phase live) in
     let f = live_follows r stands.0 live stands.1 in
     record { can = can_count f; count = omega (arith, f.few_numbers, f.short) }
