@@ -1,17 +1,14 @@
 -- A reader that has read nothing.
-use Rattle.std.proofs.Common.{◌≡◌, ◌≤◌, ℕ, Bool, true, false, List, [], refl, sym, ◌∙◌, ap, subst, arith, Option, None}
-use Rattle.std.proofs.Common.{if◌then◌else◌, ◌==◌}
-use Rattle.std.specs.Prelude.{option_map, slice_get, ◌-◌, ◌+◌}
+use Rattle.std.proofs.Common.{◌≡◌, ◌≤◌, ℕ, [], refl, arith}
 use Rattle.std.proofs.lemmas.Bool.{lt-ltb}
 use Rattle.pfs_layout.specs.declared.layout.Layout.{Layout}
 use Rattle.pfs_layout.specs.declared.scan.Line.{Line}
 use Rattle.pfs_layout.specs.declared.blocks.Blocks.{Blocks}
-use Rattle.pfs_layout.specs.declared.blocks.Phase.TheVariants as phases
 use Rattle.pfs_layout.specs.Lines.{ended_parts, open_part, ended_numbers}
-use Rattle.pfs_layout.specs.Stand.{Block, seeking, stand, instance_of, standing}
+use Rattle.pfs_layout.specs.Stand.{stand}
 use Rattle.pfs_layout.specs.Refuse.{byte_fault}
 use Rattle.pfs_layout.specs.Step.{no_line, no_blocks}
-use Rattle.pfs_layout.specs.Reader.{fields, block_of, time_count, Follows, StandsAfter}
+use Rattle.pfs_layout.specs.Reader.{fields, StandsAfter}
 
 -- a reader that is new stands before the first byte
 pub new_stands : (layout : Layout) (wanted : ℕ) (last : Line) (blocks : Blocks) → last ≡ no_line

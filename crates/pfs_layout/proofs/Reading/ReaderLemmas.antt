@@ -1,36 +1,29 @@
 -- Where a reader stands after one byte more.
-use Rattle.std.proofs.Common.{◌≡◌, ℕ, ◌+◌, ◌<◌, ◌≤◌, Bool, true, false, not, ◌&&◌, ◌||◌, List, [], ◌∷◌, ◌++◌, length}
-use Rattle.std.proofs.Common.{count_by, refl, sym, ◌∙◌, ap, subst, arith, Option, Some, None, if◌then◌else◌, ◌==◌}
-use Rattle.std.proofs.Common.{nat_lt, ◌*◌, ◌⊎◌, inl, inr}
-use Rattle.std.specs.Prelude.{option_map, IfSome}
+use Rattle.std.proofs.Common.{◌≡◌, ℕ, ◌+◌, ◌<◌, ◌≤◌, Bool, true, false, ◌||◌, List, [], ◌∷◌, ◌++◌, length}
+use Rattle.std.proofs.Common.{refl, sym, ◌∙◌, subst, arith, Option, Some, None, if◌then◌else◌}
+use Rattle.std.proofs.Common.{◌⊎◌, inl, inr}
 use Rattle.std.specs.List.{list_any}
-use Rattle.std.specs.Option.{option_or}
 use Rattle.std.proofs.Math.Nat.{mul-le-mul}
 use Rattle.std.proofs.lemmas.List.{length_push, length-append}
 use Rattle.std.proofs.lemmas.List.Sums.{count_by-le-length}
-use Rattle.std.proofs.lemmas.Bool.{cases_Bool, cases_lt, cond_both, le-ltb, or_left, or_parts, or_right}
+use Rattle.std.proofs.lemmas.Bool.{cases_Bool, cases_lt, or_parts}
 use Rattle.std.proofs.lemmas.List.Folds.{list_any-append}
 use Rattle.pfs_base.specs.declared.limits.TheConstants.{LONGEST_INPUT}
-use Rattle.pfs_base.specs.Problem.{Problem}
 use Rattle.pfs_layout.specs.declared.layout.Layout.{Layout}
-use Rattle.pfs_layout.specs.declared.layout.Layout.TheVariants.{Taillard, OrLib}
 use Rattle.pfs_layout.specs.declared.fault.LayoutFault.{LayoutFault}
-use Rattle.pfs_layout.specs.declared.fault.LayoutFault.TheVariants.{MixedLine}
 use Rattle.pfs_layout.specs.declared.scan.Line.{Line}
-use Rattle.pfs_layout.specs.declared.scan.Number.{Number}
-use Rattle.pfs_layout.specs.declared.blocks.Phase.{Phase}
 use Rattle.pfs_layout.specs.declared.blocks.Phase.TheVariants as phases
 use Rattle.pfs_layout.specs.declared.blocks.Blocks.{Blocks}
 use Rattle.pfs_layout.specs.Bytes.{is_digit, is_blank, is_line_end, is_word_byte}
 use Rattle.pfs_layout.specs.Lines.{ended_parts, open_line, numbers, ended_numbers}
 use Rattle.pfs_layout.specs.Size.{Size, is_within_limits}
-use Rattle.pfs_layout.specs.Block.{due_count, numbers_for}
-use Rattle.pfs_layout.specs.Stand.{Block, Now, seeking, inside, lost, Stand, stand_after, instance_of, standing}
-use Rattle.pfs_layout.specs.Refuse.{fault_of_place, byte_fault}
-use Rattle.pfs_layout.specs.Step.{is_live, is_in_block, refused, line_after, has_numbers_alone, number_of}
-use Rattle.pfs_layout.specs.Step.{last_number_ended, line_ended, CanCount, IsReady, times_in}
-use Rattle.pfs_layout.specs.Reader.{Fields, fields, block_read, time_count, FollowsBody, FollowsNow, FollowsBlocks}
-use Rattle.pfs_layout.specs.Reader.{Follows, StandsIn, StandsAfter, IsReader}
+use Rattle.pfs_layout.specs.Block.{due_count}
+use Rattle.pfs_layout.specs.Stand.{Block, Now, seeking, inside, lost, instance_of, standing}
+use Rattle.pfs_layout.specs.Refuse.{fault_of_place}
+use Rattle.pfs_layout.specs.Step.{is_live, line_after, has_numbers_alone, number_of}
+use Rattle.pfs_layout.specs.Step.{last_number_ended, CanCount, IsReady}
+use Rattle.pfs_layout.specs.Reader.{Fields, fields, block_read, FollowsNow, FollowsBlocks}
+use Rattle.pfs_layout.specs.Reader.{Follows, StandsAfter, IsReader}
 use Rattle.pfs_layout.proofs.Options.{cases_option}
 use Rattle.pfs_layout.proofs.Files.LineLemmas.{ended_numbers-push}
 use Rattle.pfs_layout.proofs.Published.PlaceLemmas.{byte_fault-push}
@@ -39,7 +32,6 @@ use Rattle.pfs_layout.proofs.Files.SoundLemmas.{open_line-on, open_line-end}
 use Rattle.pfs_layout.proofs.Reading.StepLemmas.{live-memory, keeps_last, last_numbers, ends_line}
 use Rattle.pfs_layout.proofs.Files.SizeLemmas.{size_within}
 use Rattle.pfs_layout.proofs.Reading.TableLemmas.{length-times_among}
-use Rattle.pfs_layout.proofs.Reading.NumberLemmas.{Keeping}
 use Rattle.pfs_layout.proofs.Reading.NumberSteps.{keeping_of}
 use Rattle.pfs_layout.proofs.Reading.LineSteps.{Refuses}
 use Rattle.pfs_layout.proofs.Reading.ScanLemmas.{count_push, line_push, digit-no_line_end}
@@ -64,10 +56,10 @@ carries r last b live =
     elim (cases_Bool (is_digit b)) [
       | inl digit ↦ rw (judged_digit r last b digit) (grind (arith, digit-no_line_end b digit))
       | inr no_digit ↦ elim (cases_Bool (is_blank b || is_line_end b)) [
-          | inl gap ↦ rw (judged_blank r last b no_digit gap)
-              (grind (arith, keeps_last r number live, last_numbers r number, ends))
-          | inr word ↦ rw (judged_word r last b no_digit word) (grind arith)
-        ]
+        | inl gap ↦ rw (judged_blank r last b no_digit gap)
+            (grind (arith, keeps_last r number live, last_numbers r number, ends))
+        | inr word ↦ rw (judged_word r last b no_digit word) (grind arith)
+      ]
     ]
 
 -- ---- the blocks behind a byte
@@ -111,18 +103,18 @@ outcome r text b f live good = elim (cases_Bool (is_digit b)) [
       rw (stand_of-on r.layout text b on, numbers_digit text b on digit)
       (digit_byte r.blocks r.last text b _ _ _ digit live (words_before text b on) f.last_line f.blocks good)
   | inr no_digit ↦ elim (cases_Bool (is_blank b || is_line_end b)) [
-      | inl gap ↦ elim (cases_Bool (is_line_end b)) [
-          | inl end ↦ rw (stand_of-end r.layout text b end, open_line-end text b end, no_numbers_yet)
-              (end_byte r.blocks r.last text b _ _ no_digit end live f.five_values f.line f.last_line f.blocks good)
-          | inr on ↦ rw (stand_of-on r.layout text b on, numbers_gap text b on no_digit)
-              (blank_byte r.blocks r.last text b _ _ _ no_digit gap on live f.five_values (words_before text b on)
-              f.last_line f.blocks good)
-        ]
-      | inr word ↦
-          let on = (or_parts (is_blank b) _ word).1 in
-          rw (word_there text b no_digit word, stand_of-on r.layout text b on, numbers_gap text b on no_digit)
-          (word_byte r.blocks r.last text b _ _ no_digit word live f.last_line f.blocks good)
+    | inl gap ↦ elim (cases_Bool (is_line_end b)) [
+      | inl end ↦ rw (stand_of-end r.layout text b end, open_line-end text b end, no_numbers_yet)
+          (end_byte r.blocks r.last text b _ _ no_digit end live f.five_values f.line f.last_line f.blocks good)
+      | inr on ↦ rw (stand_of-on r.layout text b on, numbers_gap text b on no_digit)
+          (blank_byte r.blocks r.last text b _ _ _ no_digit gap on live f.five_values (words_before text b on)
+          f.last_line f.blocks good)
     ]
+    | inr word ↦
+        let on = (or_parts (is_blank b) _ word).1 in
+        rw (word_there text b no_digit word, stand_of-on r.layout text b on, numbers_gap text b on no_digit)
+        (word_byte r.blocks r.last text b _ _ no_digit word live f.last_line f.blocks good)
+  ]
 ]
 
 -- ---- where a reader stands
@@ -231,10 +223,10 @@ can_count {r = r} {text = text} f phase =
     let sizes = instance_sizes r.layout all in
     elim (cases_lt r.body.judged r.body.due) [
       | inl less ↦ record {
-          place = record { judged = less; job = body.job; machine = body.machine };
-          held = omega (arith, body.due);
-          instance = rw kept.instance (grind (arith, body.jobs, body.machines));
-        }
+        place = record { judged = less; job = body.job; machine = body.machine };
+        held = omega (arith, body.due);
+        instance = rw kept.instance (grind (arith, body.jobs, body.machines));
+      }
       | inr full ↦ grind (arith, follows.now.phase)
     ]
 

@@ -1,10 +1,9 @@
 -- Where a reader stands within a piece.
-use Rattle.std.proofs.Common.{◌≡◌, ◌≢◌, ℕ, ◌+◌, ◌<◌, ◌≤◌, Bool, true, false, not, ◌&&◌, ◌||◌, List, [], ◌∷◌, ◌++◌, length}
-use Rattle.std.proofs.Common.{take, get_or, refl, sym, ◌∙◌, ap, subst, arith, Option, Some, None, if◌then◌else◌, inl, inr}
-use Rattle.std.specs.Prelude.{◌-◌, ◌==◌}
-use Rattle.std.proofs.Math.Bool.{or-false}
-use Rattle.std.proofs.lemmas.Bool.{cases_eq, cond_both, lt-ltb, eqb-true, or_cases, or_parts, or_right, and_parts, not-true}
-use Rattle.std.proofs.lemmas.List.{append_assoc, append-nil, take_more}
+use Rattle.std.proofs.Common.{◌≡◌, ◌≢◌, ℕ, ◌+◌, ◌<◌, ◌≤◌, true, not, ◌&&◌, List, [], ◌∷◌, ◌++◌, length}
+use Rattle.std.proofs.Common.{take, get_or, refl, ◌∙◌, subst, arith, inl, inr}
+use Rattle.std.specs.Prelude.{◌-◌}
+use Rattle.std.proofs.lemmas.Bool.{cases_eq}
+use Rattle.std.proofs.lemmas.List.{append_assoc, take_more}
 use Rattle.pfs_base.specs.declared.limits.TheConstants.{LONGEST_INPUT}
 use Rattle.pfs_layout.specs.declared.fault.LayoutFault.TheVariants.{Memory}
 use Rattle.pfs_layout.specs.declared.scan.Line.{Line}
@@ -12,15 +11,15 @@ use Rattle.pfs_layout.specs.declared.scan.Event.{Event}
 use Rattle.pfs_layout.specs.declared.scan.Event.TheVariants as events
 use Rattle.pfs_layout.specs.declared.blocks.Phase.TheVariants as phases
 use Rattle.pfs_layout.specs.declared.blocks.Blocks.{Blocks}
-use Rattle.pfs_layout.specs.Bytes.{is_word_byte, is_digit, is_blank, is_line_end}
-use Rattle.pfs_layout.specs.Stand.{Stand, inside}
-use Rattle.pfs_layout.specs.Step.{is_live, line_after, blank_after, word_after, number_of, blank_event, mixed_if, event_of}
+use Rattle.pfs_layout.specs.Bytes.{is_word_byte, is_digit, is_blank}
+use Rattle.pfs_layout.specs.Stand.{inside}
+use Rattle.pfs_layout.specs.Step.{is_live, line_after, blank_after, word_after, number_of, blank_event, event_of}
 use Rattle.pfs_layout.specs.Step.{blocks_after, is_line_ended, KeepsHeld, LacksMemory, IsReady}
-use Rattle.pfs_layout.specs.Reader.{Fields, fields, time_count, Follows, StandsAfter, EndsWantedSize, TakeMeets}
+use Rattle.pfs_layout.specs.Reader.{Fields, fields, Follows, StandsAfter, EndsWantedSize, TakeMeets}
 use Rattle.pfs_layout.proofs.Files.SoundLemmas.{stand_of}
 use Rattle.pfs_layout.proofs.Reading.StepLemmas.{live-memory, refused_memory}
-use Rattle.pfs_layout.proofs.Reading.ByteSteps.{event_by, judged}
-use Rattle.pfs_layout.proofs.Reading.ReaderLemmas.{carries, live_follows, stands_of, stepped, step_stands, follows_ready}
+use Rattle.pfs_layout.proofs.Reading.ByteSteps.{judged}
+use Rattle.pfs_layout.proofs.Reading.ReaderLemmas.{carries, live_follows, stepped, step_stands, follows_ready}
 use Rattle.pfs_layout.proofs.Reading.ReaderLemmas.{wants_more, sought_now, begun_now}
 
 -- ---- what a byte means, by its kind
@@ -62,8 +61,8 @@ wanted_size {r = r} {text = text} b f live short end lacks =
       last = let count = f.blocks.complete in let wanted = lacks.wanted in omega arith;
       sought = sought_now f lacks.sought;
       begun = (
-          begun.0,
-          subst (λ l. (stand_of l (text ++ b ∷ [])).now ≡ inside begun.0) (carries r.blocks r.last b live).layout begun.1,
+        begun.0,
+        subst (λ l. (stand_of l (text ++ b ∷ [])).now ≡ inside begun.0) (carries r.blocks r.last b live).layout begun.1,
       );
     }
 
@@ -102,7 +101,7 @@ module _ {old now : Fields} {piece : List ℕ} {i : ℕ} (t : TakenTo old now pi
     stands_then : (text : List ℕ) → StandsAfter old text
         → StandsAfter (stepped now (get_or piece i 0)) (text ++ take (i + 1) piece)
     stands_then text s =
-        rw (take_more piece i 0 within, ← append_assoc) 
+        rw (take_more piece i 0 within, ← append_assoc)
         (step_stands (get_or piece i 0) (t.follows text s) t.live (short text s))
 
 -- ---- the loop's steps

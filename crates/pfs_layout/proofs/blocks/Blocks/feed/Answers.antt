@@ -1,10 +1,8 @@
 -- What was taken of the piece, or of its front within the limit, is what feed owes.
-use Rattle.std.proofs.Common.{◌≡◌, ◌≢◌, ◌-◌, true, length, take, sym, ◌∙◌, ap, arith}
+use Rattle.std.proofs.Common.{◌-◌, take, sym, ◌∙◌, ap, arith}
 use Rattle.std.proofs.lemmas.List.{length-take}
 use Rattle.pfs_base.specs.declared.limits.TheConstants.{LONGEST_INPUT}
-use Rattle.pfs_layout.specs.declared.fault.LayoutFault.TheVariants.{TooLong, Memory}
-use Rattle.pfs_layout.specs.declared.blocks.Phase.TheVariants as phases
-use Rattle.pfs_layout.specs.Step.{is_live}
+use Rattle.pfs_layout.specs.declared.fault.LayoutFault.TheVariants.{TooLong}
 use Rattle.pfs_layout.specs.Reader.{fields}
 use Rattle.pfs_layout.proofs.Reading.StepLemmas.{live-memory}
 use Rattle.pfs_layout.proofs.Reading.ReaderLemmas.{live_follows}
