@@ -169,7 +169,8 @@ pub step_stands : {r : Fields} {text : List ℕ} (b : ℕ) → Follows r text �
     → length text < LONGEST_INPUT → StandsAfter (stepped r b) (text ++ b ∷ [])
 step_stands {r = r} {text = text} b f live short =
     let next : Fields = stepped r b in
-    let few : length (stand_of r.layout text).complete < r.wanted = omega (arith, f.blocks.complete, wants_more f live) in
+    let few : length (stand_of r.layout text).complete < r.wanted =
+    omega (arith, f.blocks.complete, wants_more f live) in
     let place = place_fault r.layout r.wanted text b few short in
     let out = outcome r text b f live (sound r.layout r.wanted text f.sound few) in
     elim (cases_option (fault_within_limit r.layout (stand_of r.layout text).now text b)) [

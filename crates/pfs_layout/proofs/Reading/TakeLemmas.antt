@@ -58,12 +58,9 @@ wanted_size {r = r} {text = text} b f live short end lacks =
     record {
       short = short;
       line_end = end;
-      last = let count = f.blocks.complete in let wanted = lacks.wanted in omega arith;
+      last = omega (arith, f.blocks.complete, lacks.wanted);
       sought = sought_now f lacks.sought;
-      begun = (
-        begun.0,
-        subst (λ l. (stand_of l (text ++ b ∷ [])).now ≡ inside begun.0) (carries r.blocks r.last b live).layout begun.1,
-      );
+      begun = (begun.0, cc (begun.1, (carries r.blocks r.last b live).layout));
     }
 
 -- no time is held before the wanted block's size line ends
@@ -125,7 +122,8 @@ module _ {old : Fields} {last after : Line} {r next : Blocks} {event : Event} {p
       }
 
   -- the last event
-  pub taken_end : (next.phase ≡ phases.Refused Memory → (is_line_ended event ≡ true) × LacksMemory r (blocks_after r event))
+  pub taken_end : (next.phase ≡ phases.Refused Memory
+      → (is_line_ended event ≡ true) × LacksMemory r (blocks_after r event))
       → (next.phase ≡ phases.Refused Memory → KeepsHeld r next)
       → (text : List ℕ) → StandsAfter old text
       → TakeMeets old text piece (after.digits.offset - old.digits.offset) (fields after next)

@@ -38,8 +38,8 @@ returns-then-is_live-clause-meets c text s =
     let room = LONGEST_INPUT - old.digits.offset in
     rw c.refuse.ensures
     (long_meets_as old text c.args.piece.now _ room _ mid (c.take-2.ensures.meets text s)
-    (ap (λ k. take k c.args.piece.now) (omega arith)) was s (omega (arith, follows.short, follows.last_line.offset)) (omega arith)
-    (λ live. omega (arith, c.take-2.ensures.whole live)) live)
+    (ap (λ k. take k c.args.piece.now) (omega arith)) was s (omega (arith, follows.short, follows.last_line.offset))
+    (omega arith) (λ live. omega (arith, c.take-2.ensures.whole live)) live)
 
 pub returns-then-is_live-clause-reader : goal.returns-then-is_live-clause-reader
 returns-then-is_live-clause-reader c =

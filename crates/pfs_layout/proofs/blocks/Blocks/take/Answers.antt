@@ -25,9 +25,8 @@ loop-b-preserved-in-Quiet c =
     (blank_means blank (sym c.in-Quiet.is ∙ c.blank_event-event.ensures) c.push_blank.ensures)
 
 pub after-requires : goal.after-requires
-after-requires c = record {
-  ready = taken_ready c.loop-b.invariant (omega arith) c.requires.room c.requires.stands;
-}
+after-requires c =
+    record { ready = taken_ready c.loop-b.invariant (omega arith) c.requires.room c.requires.stands }
 
 pub loop-b-preserved-then-is_blank : goal.loop-b-preserved-then-is_blank
 loop-b-preserved-then-is_blank c =
@@ -48,12 +47,11 @@ returns-then-not-is_live-clause-meets c =
 pub loop-b-preserved-in-Quiet-event : goal.loop-b-preserved-in-Quiet-event
 loop-b-preserved-in-Quiet-event c =
     taken_quiet c.loop-b.invariant (omega arith) c.requires.room
-    (record { event_is = (sym c.in-Quiet-event.is ∙ c.event-event.ensures); line_is = c.push-in-loop-b.ensures })
+    (record { event_is = sym c.in-Quiet-event.is ∙ c.event-event.ensures; line_is = c.push-in-loop-b.ensures })
 
 pub after-requires-in-loop-b : goal.after-requires-in-loop-b
-after-requires-in-loop-b c = record {
-  ready = taken_ready c.loop-b.invariant (omega arith) c.requires.room c.requires.stands;
-}
+after-requires-in-loop-b c =
+    record { ready = taken_ready c.loop-b.invariant (omega arith) c.requires.room c.requires.stands }
 
 pub loop-b-preserved : goal.loop-b-preserved
 loop-b-preserved c =
