@@ -1,7 +1,6 @@
 -- Where a reader stands after one byte more.
 use Rattle.std.proofs.Common.{◌≡◌, ℕ, ◌+◌, ◌<◌, ◌≤◌, Bool, true, false, ◌||◌, List, [], ◌∷◌, ◌++◌, length}
-use Rattle.std.proofs.Common.{refl, sym, ◌∙◌, subst, arith, Option, Some, None, if◌then◌else◌}
-use Rattle.std.proofs.Common.{◌⊎◌, inl, inr}
+use Rattle.std.proofs.Common.{refl, sym, ◌∙◌, subst, arith, Option, Some, None, if◌then◌else◌, ◌⊎◌, inl, inr}
 use Rattle.std.specs.List.{list_any}
 use Rattle.std.proofs.Math.Nat.{mul-le-mul}
 use Rattle.std.proofs.lemmas.List.{length_push, length-append}
@@ -20,10 +19,10 @@ use Rattle.pfs_layout.specs.Size.{Size, is_within_limits}
 use Rattle.pfs_layout.specs.Block.{due_count}
 use Rattle.pfs_layout.specs.Stand.{Block, Now, seeking, inside, lost, instance_of, standing}
 use Rattle.pfs_layout.specs.Refuse.{fault_of_place}
-use Rattle.pfs_layout.specs.Step.{is_live, line_after, has_numbers_alone, number_of}
-use Rattle.pfs_layout.specs.Step.{last_number_ended, CanCount, IsReady}
-use Rattle.pfs_layout.specs.Reader.{Fields, fields, block_read, FollowsNow, FollowsBlocks}
-use Rattle.pfs_layout.specs.Reader.{Follows, StandsAfter, IsReader}
+use Rattle.pfs_layout.specs.Step.{is_live, line_after, has_numbers_alone, number_of, last_number_ended, CanCount}
+use Rattle.pfs_layout.specs.Step.{IsReady}
+use Rattle.pfs_layout.specs.Reader.{Fields, fields, block_read, FollowsNow, FollowsBlocks, Follows, StandsAfter}
+use Rattle.pfs_layout.specs.Reader.{IsReader}
 use Rattle.pfs_layout.proofs.Options.{cases_option}
 use Rattle.pfs_layout.proofs.Files.LineLemmas.{ended_numbers-push}
 use Rattle.pfs_layout.proofs.Published.PlaceLemmas.{byte_fault-push}
@@ -36,8 +35,7 @@ use Rattle.pfs_layout.proofs.Reading.NumberSteps.{keeping_of}
 use Rattle.pfs_layout.proofs.Reading.LineSteps.{Refuses}
 use Rattle.pfs_layout.proofs.Reading.ScanLemmas.{count_push, line_push, digit-no_line_end}
 use Rattle.pfs_layout.proofs.Reading.ByteSteps.{fault_within_limit, place_fault, live_few, ByteOutcome, digit_byte}
-use Rattle.pfs_layout.proofs.Reading.ByteSteps.{judged}
-use Rattle.pfs_layout.proofs.Reading.ByteSteps.{judged_digit, judged_word, judged_blank}
+use Rattle.pfs_layout.proofs.Reading.ByteSteps.{judged, judged_digit, judged_word, judged_blank}
 use Rattle.pfs_layout.proofs.Reading.EndSteps.{word_byte, blank_byte, end_byte}
 
 -- ---- what a byte leaves as it is
@@ -68,24 +66,24 @@ no_numbers_yet : ended_numbers [] ≡ []
 unfolding ended_numbers ended_parts
 no_numbers_yet = refl
 
--- a byte on the line that isn't a digit ends the number
-numbers_digit : (text : List ℕ) (b : ℕ) → is_line_end b ≡ false → is_digit b ≡ true
+-- on the line, a digit ends no number, and every other byte ends the unfinished one
+digit_ends_none : (text : List ℕ) (b : ℕ) → is_line_end b ≡ false → is_digit b ≡ true
     → ended_numbers (open_line (text ++ b ∷ [])) ≡ ended_numbers (open_line text)
-numbers_digit text b on digit = rw (open_line-on text b on, ended_numbers-push (open_line text) b, digit)
+digit_ends_none text b on digit = rw (open_line-on text b on, ended_numbers-push (open_line text) b, digit)
 
-numbers_gap : (text : List ℕ) (b : ℕ) → is_line_end b ≡ false → is_digit b ≡ false
+other_ends_last : (text : List ℕ) (b : ℕ) → is_line_end b ≡ false → is_digit b ≡ false
     → ended_numbers (open_line (text ++ b ∷ [])) ≡ numbers (open_line text)
-numbers_gap text b on gap = rw (open_line-on text b on, ended_numbers-push (open_line text) b, gap)
+other_ends_last text b on gap = rw (open_line-on text b on, ended_numbers-push (open_line text) b, gap)
 
 -- a line that holds no word byte held none before
-words_before : (text : List ℕ) (b : ℕ) → is_line_end b ≡ false
+no_word_before : (text : List ℕ) (b : ℕ) → is_line_end b ≡ false
     → list_any is_word_byte (open_line (text ++ b ∷ [])) ≡ false → list_any is_word_byte (open_line text) ≡ false
-words_before text b on none =
+no_word_before text b on none =
     grind (arith, open_line-on text b on, list_any-append is_word_byte (open_line text) (b ∷ []))
 
-word_there : (text : List ℕ) (b : ℕ) → is_digit b ≡ false → (is_blank b || is_line_end b) ≡ false
+word_on_line : (text : List ℕ) (b : ℕ) → is_digit b ≡ false → (is_blank b || is_line_end b) ≡ false
     → list_any is_word_byte (open_line (text ++ b ∷ [])) ≡ true
-word_there text b digit gap =
+word_on_line text b digit gap =
     grind (arith, open_line-on text b, list_any-append is_word_byte (open_line text) (b ∷ []))
 
 -- the fault, or blocks that follow the text in this layout
@@ -93,6 +91,7 @@ abbrev Outcome : Blocks → Layout → List ℕ → Blocks → Option LayoutFaul
 Outcome r layout text next fault = ByteOutcome r (list_any is_word_byte (open_line text)) (stand_of layout text)
     (ended_numbers (open_line text)) next fault
 
+-- a byte more of a live reader, by its kind
 outcome : (r : Fields) (text : List ℕ) (b : ℕ) → Follows r text → is_live r.phase ≡ true
     → GoodNow r.layout (stand_of r.layout text).now (open_line text)
     → Outcome r.blocks r.layout (text ++ b ∷ []) (judged r.blocks r.last b)
@@ -100,19 +99,19 @@ outcome : (r : Fields) (text : List ℕ) (b : ℕ) → Follows r text → is_liv
 outcome r text b f live good = elim (cases_Bool (is_digit b)) [
   | inl digit ↦
       let on = digit-no_line_end b digit in
-      rw (stand_of-on r.layout text b on, numbers_digit text b on digit)
-      (digit_byte r.blocks r.last text b _ _ _ digit live (words_before text b on) f.last_line f.blocks good)
+      rw (stand_of-on r.layout text b on, digit_ends_none text b on digit)
+      (digit_byte r.blocks r.last text b _ _ _ digit live (no_word_before text b on) f.last_line f.blocks good)
   | inr no_digit ↦ elim (cases_Bool (is_blank b || is_line_end b)) [
     | inl gap ↦ elim (cases_Bool (is_line_end b)) [
       | inl end ↦ rw (stand_of-end r.layout text b end, open_line-end text b end, no_numbers_yet)
           (end_byte r.blocks r.last text b _ _ no_digit end live f.five_values f.line f.last_line f.blocks good)
-      | inr on ↦ rw (stand_of-on r.layout text b on, numbers_gap text b on no_digit)
-          (blank_byte r.blocks r.last text b _ _ _ no_digit gap on live f.five_values (words_before text b on)
+      | inr on ↦ rw (stand_of-on r.layout text b on, other_ends_last text b on no_digit)
+          (blank_byte r.blocks r.last text b _ _ _ no_digit gap on live f.five_values (no_word_before text b on)
           f.last_line f.blocks good)
     ]
     | inr word ↦
         let on = (or_parts (is_blank b) _ word).1 in
-        rw (word_there text b no_digit word, stand_of-on r.layout text b on, numbers_gap text b on no_digit)
+        rw (word_on_line text b no_digit word, stand_of-on r.layout text b on, other_ends_last text b on no_digit)
         (word_byte r.blocks r.last text b _ _ no_digit word live f.last_line f.blocks good)
   ]
 ]
@@ -121,7 +120,7 @@ outcome r text b f live good = elim (cases_Bool (is_digit b)) [
 
 -- a reader that has met no fault isn't refused
 pub stands_of : {r : Fields} {text : List ℕ} → Follows r text → StandsAfter r text
-stands_of {r = r} {text = text} f = grind (arith, f.blocks.now)
+stands_of f = grind (arith, f.blocks.now)
 
 -- a live reader that stands somewhere has met no fault
 pub live_follows : (r : Fields) (text : List ℕ) → is_live r.phase ≡ true → StandsAfter r text → Follows r text
@@ -132,10 +131,10 @@ pub wants_more : {r : Fields} {text : List ℕ} → Follows r text → is_live r
 wants_more f live = live_few _ _ _ _ f.blocks.now live
 
 module _ {r : Fields} {text : List ℕ} (f : Follows r text) (last : Line) (next : Blocks) (b : ℕ) where
-  refuse_stands : (fault : LayoutFault) → fault_of_place r.layout r.wanted text (Some b) ≡ Some fault
+  stands_refused : (fault : LayoutFault) → fault_of_place r.layout r.wanted text (Some b) ≡ Some fault
       → Refuses r.blocks fault next → StandsAfter (fields last next) (text ++ b ∷ [])
   unfolding block_read
-  refuse_stands fault here n = rw n.phase (record {
+  stands_refused fault here n = rw n.phase (record {
     front = text;
     byte = b;
     rest = [];
@@ -145,10 +144,10 @@ module _ {r : Fields} {text : List ℕ} (f : Follows r text) (last : Line) (next
     held = rw (n.held, n.layout, n.wanted) f.blocks.held;
   })
 
-  follow_stands : length text < LONGEST_INPUT → fault_of_place r.layout r.wanted text (Some b) ≡ None
+  follows_on : length text < LONGEST_INPUT → fault_of_place r.layout r.wanted text (Some b) ≡ None
       → Carries r.blocks next (is_line_end b) → Outcome r.blocks r.layout (text ++ b ∷ []) next None
       → Follows (fields (line_after r.last b) next) (text ++ b ∷ [])
-  follow_stands short here c blocks =
+  follows_on short here c blocks =
       let count = length_push text b in
       record {
         some = omega (arith, c.wanted, f.some);
@@ -176,8 +175,8 @@ step_stands {r = r} {text = text} b f live short =
     elim (cases_option (fault_within_limit r.layout (stand_of r.layout text).now text b)) [
       | inl none ↦
           let carried = carries r.blocks r.last b live in
-          stands_of (follow_stands f next.last next.blocks b short (place ∙ none) carried (rw none at out))
-      | inr one ↦ refuse_stands f next.last next.blocks b one.0 (place ∙ one.1) (rw one.1 at out)
+          stands_of (follows_on f next.last next.blocks b short (place ∙ none) carried (rw none at out))
+      | inr one ↦ stands_refused f next.last next.blocks b one.0 (place ∙ one.1) (rw one.1 at out)
     ]
 
 -- ---- what a live reader may do next

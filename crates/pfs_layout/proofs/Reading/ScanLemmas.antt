@@ -1,5 +1,5 @@
 -- What a reader keeps of the last line, with one more byte.
-use Rattle.std.proofs.Common.{◌≡◌, ℕ, ◌+◌, ◌-◌, ◌*◌, ◌<◌, ◌≤◌, Bool, true, false, not, ◌&&◌, ◌||◌, List, [], ◌∷◌}
+use Rattle.std.proofs.Common.{◌≡◌, ℕ, ◌+◌, ◌*◌, ◌<◌, ◌≤◌, Bool, true, false, not, ◌&&◌, ◌||◌, List, [], ◌∷◌}
 use Rattle.std.proofs.Common.{◌++◌, count_by, refl, arith, if◌then◌else◌, ◌==◌}
 use Rattle.std.specs.List.{list_any}
 use Rattle.std.specs.Char.{digit_value}
@@ -22,9 +22,6 @@ value_after-push n (d ∷ ds) b = value_after-push (n * 10 + digit_value d) ds b
 
 pub digit_is : (b : ℕ) → is_digit b ≡ true → (48 ≤ b) × (b < 58)
 digit_is b e = grind arith
-
-digit_value_is : (b : ℕ) → is_digit b ≡ true → digit_value b ≡ b - 48
-digit_value_is b e = grind arith
 
 pub digit-no_line_end : (b : ℕ) → is_digit b ≡ true → (b == 10) ≡ false
 digit-no_line_end b e = grind arith
@@ -54,7 +51,7 @@ line_push digits kinds text b f =
     record {
       offset = omega (arith, f.offset);
       first = grind (arith, run, length_push (last_digits text) b, f.first, f.offset);
-      value = grind (arith, run, value_after-push 0 (last_digits text) b, digit_value_is b, f.value);
-      has_digit = grind (arith, any_push is_digit text b, f.has_digit, digit-no_line_end b);
+      value = grind (arith, run, value_after-push 0 (last_digits text) b, f.value);
+      has_digit = grind (arith, any_push is_digit text b, f.has_digit);
       has_word = grind (arith, any_push is_word_byte text b, f.has_word);
     }

@@ -1,6 +1,6 @@
 -- Where a reader stands within a piece.
 use Rattle.std.proofs.Common.{◌≡◌, ◌≢◌, ℕ, ◌+◌, ◌<◌, ◌≤◌, true, not, ◌&&◌, List, [], ◌∷◌, ◌++◌, length}
-use Rattle.std.proofs.Common.{take, get_or, refl, ◌∙◌, subst, arith, inl, inr}
+use Rattle.std.proofs.Common.{take, get_or, refl, ◌∙◌, arith, inl, inr}
 use Rattle.std.specs.Prelude.{◌-◌}
 use Rattle.std.proofs.lemmas.Bool.{cases_eq}
 use Rattle.std.proofs.lemmas.List.{append_assoc, take_more}
@@ -12,7 +12,6 @@ use Rattle.pfs_layout.specs.declared.scan.Event.TheVariants as events
 use Rattle.pfs_layout.specs.declared.blocks.Phase.TheVariants as phases
 use Rattle.pfs_layout.specs.declared.blocks.Blocks.{Blocks}
 use Rattle.pfs_layout.specs.Bytes.{is_word_byte, is_digit, is_blank}
-use Rattle.pfs_layout.specs.Stand.{inside}
 use Rattle.pfs_layout.specs.Step.{is_live, line_after, blank_after, word_after, number_of, blank_event, event_of}
 use Rattle.pfs_layout.specs.Step.{blocks_after, is_line_ended, KeepsHeld, LacksMemory, IsReady}
 use Rattle.pfs_layout.specs.Reader.{Fields, fields, Follows, StandsAfter, EndsWantedSize, TakeMeets}
