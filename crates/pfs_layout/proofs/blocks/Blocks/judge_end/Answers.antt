@@ -1,13 +1,12 @@
 -- A live reader can judge the last number.
 use Rattle.std.proofs.Common.{sym, ◌∙◌}
-use Rattle.pfs_layout.specs.Reader.{fields}
 use Rattle.pfs_layout.proofs.Reading.ReaderLemmas.{reader_end_ready}
 use Rattle.pfs_layout.proofs.blocks.Blocks.judge_end.Goals as goal
 
 pub end_last_number-requires-clause-can : goal.end_last_number-requires-clause-can
 end_last_number-requires-clause-can c =
-    (reader_end_ready (fields c.args.last c.args.self.now) c.requires (sym c.is_live.ensures ∙ c.if-is_live.true)).can
+    (reader_end_ready c.requires (sym c.is_live.ensures ∙ c.if-is_live.true)).can
 
 pub end_last_number-requires-clause-count : goal.end_last_number-requires-clause-count
 end_last_number-requires-clause-count c =
-    (reader_end_ready (fields c.args.last c.args.self.now) c.requires (sym c.is_live.ensures ∙ c.if-is_live.true)).count
+    (reader_end_ready c.requires (sym c.is_live.ensures ∙ c.if-is_live.true)).count
