@@ -13,8 +13,6 @@ use Rattle.pfs_layout.specs.declared.layout.Layout.{Layout}
 use Rattle.pfs_layout.specs.declared.fault.LayoutFault.{LayoutFault}
 use Rattle.pfs_layout.specs.declared.fault.LayoutFault.TheVariants.{MixedLine}
 use Rattle.pfs_layout.specs.declared.scan.Line.{Line}
-use Rattle.pfs_layout.specs.declared.scan.Event.{Event}
-use Rattle.pfs_layout.specs.declared.scan.Event.TheVariants as events
 use Rattle.pfs_layout.specs.declared.blocks.Phase.TheVariants as phases
 use Rattle.pfs_layout.specs.declared.blocks.Blocks.{Blocks}
 use Rattle.pfs_layout.specs.Bytes.{is_digit, is_blank, is_line_end, is_word_byte}
@@ -22,7 +20,7 @@ use Rattle.pfs_layout.specs.Lines.{ended_lines, open_line, is_mixed, ended_numbe
 use Rattle.pfs_layout.specs.Stand.{Block, Now, seeking, inside, lost, stand, standing}
 use Rattle.pfs_layout.specs.Refuse.{mixed_line, wrong_number, wrong_size, ends_early, fault_of_place}
 use Rattle.pfs_layout.specs.Step.{is_live, is_in_block, refused, last_number_ended, line_ended, has_numbers_alone}
-use Rattle.pfs_layout.specs.Step.{number_of, blank_event, mixed_if, event_of, blocks_after}
+use Rattle.pfs_layout.specs.Step.{number_of, event_of, blocks_after}
 use Rattle.pfs_layout.specs.Reader.{IsInside, FollowsLine, FollowsNow, FollowsBlocks}
 use Rattle.pfs_layout.proofs.Files.SoundLemmas.{GoodNow}
 use Rattle.pfs_layout.proofs.Reading.LineSteps.{Refuses}
@@ -98,12 +96,6 @@ module _ (text : List ℕ) (b : ℕ) (unmixed : is_mixed (open_line text) ≡ fa
   mixed_other digit other = grind (arith, list_any-append)
 
 -- ---- the blocks behind a byte
-
-abbrev pub event_by : Line → Bool → Bool → Bool → Event
-event_by last digit blank end = if digit then mixed_if last last.kinds.has_word
-    else (if blank then blank_event (number_of last.digits)
-    else (if end then events.LineEnded (number_of last.digits) (has_numbers_alone last.kinds)
-    else mixed_if last last.kinds.has_digit))
 
 module _ (r : Blocks) (last : Line) (b : ℕ) where
   abbrev pub judged : Blocks

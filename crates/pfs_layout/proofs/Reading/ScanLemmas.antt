@@ -30,9 +30,6 @@ pub count_push : (text : List ℕ) (b : ℕ)
     → count_by is_line_end (text ++ b ∷ []) ≡ count_by is_line_end text + (if is_line_end b then 1 else 0)
 count_push text b = grind (arith, sum_by-append (λ x. if is_line_end x then 1 else 0) text (b ∷ []))
 
-pub or_nothing : (x y : Bool) → (x || (y || false)) ≡ (x || y)
-or_nothing x y = grind arith
-
 -- a test of some byte of the last line
 any_push : (p : ℕ → Bool) (text : List ℕ) (b : ℕ)
     → list_any p (open_line (text ++ b ∷ [])) ≡ (not (b == 10) && (list_any p (open_line text) || p b))
