@@ -6,7 +6,7 @@ use Rattle.std.proofs.lemmas.Bool.{and_right, cases_Bool, cases_lt, cases_eq, eq
 use Rattle.std.proofs.lemmas.Bool.{ltb-false, eqb-true}
 use Rattle.std.proofs.lemmas.Option.{same_Some}
 use Rattle.std.proofs.Math.Seq.{take-append-add}
-use Rattle.std.proofs.lemmas.List.{append_assoc, append-nil, length-append}
+use Rattle.std.proofs.lemmas.List.{append_assoc, append-nil, length-append, nil_from_length}
 use Rattle.pfs_base.specs.declared.limits.TheConstants.{LONGEST_INPUT}
 use Rattle.pfs_base.specs.Lists.{is_empty, first_some}
 use Rattle.pfs_base.specs.Problem.{Problem}
@@ -31,12 +31,15 @@ use Rattle.pfs_layout.proofs.Files.GrowLemmas.{stand_from, stays_lost}
 use Rattle.pfs_layout.proofs.Files.LoseLemmas.{LineAt, ends_here, goes_on, loses}
 
 -- the lines of a text that ends with a line end, and of one that doesn't
-lines_ended : (text : List ℕ) → is_empty (open_line text) ≡ true → lines text ≡ ended_lines text
+pub lines_ended : (text : List ℕ) → is_empty (open_line text) ≡ true → lines text ≡ ended_lines text
 lines_ended text e = rw (lines-parts text, e) (append-nil (ended_lines text))
 
-lines_unended : (text : List ℕ) → is_empty (open_line text) ≡ false
+pub lines_unended : (text : List ℕ) → is_empty (open_line text) ≡ false
     → lines text ≡ ended_lines text ++ open_line text ∷ []
 lines_unended text e = rw (lines-parts text, e)
+
+pub nothing_on : (line : List ℕ) → is_empty line ≡ true → line ≡ []
+nothing_on line e = nil_from_length line (eqb-true (length line) 0 e)
 
 no_complete : (layout : Layout) → length (stand_of layout []).complete ≡ 0
 unfolding stand ended_parts
@@ -208,7 +211,7 @@ module _ (layout : Layout) (k : ℕ) where
   from_end input right few last = elim (cases_Bool (is_empty (open_line input))) [
     | inl empty ↦
         let reached = ap (stand layout) (lines_ended input empty) in
-        let all = rw reached at (enough (rw reached (rw (nothing (open_line input) empty) at good))) in
+        let all = rw reached at (enough (rw reached (rw (nothing_on (open_line input) empty) at good))) in
         absurd (omega arith)
     | inr filled ↦
         let reached : stand layout (lines input) ≡ stand_after layout before (open_line input) =
@@ -232,10 +235,6 @@ module _ (layout : Layout) (k : ℕ) where
       enough : GoodNow layout (stand layout (lines input)).now [] → k ≤ length (stand layout (lines input)).complete
       enough h = early_end _ _ h (no_others before.now input None good none).1
 
-      nothing : (line : List ℕ) → is_empty line ≡ true → line ≡ []
-      nothing [] e = refl
-      nothing (x ∷ line) e = absurd (let h = eqb-true (length (x ∷ line)) 0 e in omega arith)
-
   pub faultless_holds : 1 ≤ k → (input : List ℕ)
       → ((place : ℕ) → place ≤ length input → fault_at layout k input place ≡ None) → Holds input
   faultless_holds some input right = elim (cases_lt (length (stand_of layout input).complete) k) [
@@ -248,7 +247,7 @@ module _ (layout : Layout) (k : ℕ) where
 
   -- ---- a file has no fault
 
-  has_fault : (text : List ℕ) (next : Option ℕ) (fault : LayoutFault) → fault_of_place layout k text next ≡ Some fault
+  pub has_fault : (text : List ℕ) (next : Option ℕ) (fault : LayoutFault) → fault_of_place layout k text next ≡ Some fault
       → Few text × (first_some (faults layout k (stand_of layout text).now text next) ≡ Some fault)
   unfolding fault_of_place
   has_fault text next fault e =
