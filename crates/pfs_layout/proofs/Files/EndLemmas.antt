@@ -1,9 +1,10 @@
 -- Faults at bytes and at the end, and what more input changes.
-use Rattle.std.proofs.Common.{◌≡◌, ℕ, ◌≤◌, List, [], ◌∷◌, ◌++◌, length, ◌∙◌, ap, subst, Some, None, inl}
+use Rattle.std.proofs.Common.{◌≡◌, ℕ, ◌≤◌, List, [], ◌∷◌, ◌++◌, length, ◌∙◌, ap, subst, Some, None, inl, ◌⊎◌}
 use Rattle.std.proofs.lemmas.List.{append_assoc, append-nil}
 use Rattle.pfs_base.proofs.Published.Lists.{by_push}
 use Rattle.pfs_layout.specs.declared.layout.Layout.{Layout}
 use Rattle.pfs_layout.specs.declared.fault.LayoutFault.{LayoutFault}
+use Rattle.pfs_layout.specs.Lines.{open_line}
 use Rattle.pfs_layout.specs.Laws.{Completes, FaultStays, ByteFaultLaw, FreeBehind}
 use Rattle.pfs_layout.specs.Refuse.{fault_at, byte_fault, RefusesInstance}
 use Rattle.pfs_layout.proofs.Files.FileLemmas.{file_completes, completes_file}
@@ -37,18 +38,9 @@ longer : (layout : Layout) (k : ℕ) (text more : List ℕ) (held : EndedHolds l
     → Completes layout (text ++ more) k held.0
 longer layout k text more held =
     let c = held.1 in
-    record {
-      text = c.text;
-      rest = c.rest ++ more;
-      whole = ap (λ xs. xs ++ more) c.whole ∙ append_assoc c.text c.rest more;
-      ended = inl held.2;
-      short = c.short;
-      earlier = c.earlier;
-      own = c.own;
-      count = c.count;
-      stands = c.stands;
-      is = c.is;
-    }
+    let whole : text ++ more ≡ c.text ++ (c.rest ++ more) = rw c.whole (append_assoc c.text c.rest more) in
+    let ended : (open_line c.text ≡ []) ⊎ (c.rest ++ more ≡ []) = inl held.2 in
+    search
 
 -- ---- as laws
 
@@ -63,9 +55,10 @@ pub free_behind : FreeBehind
 free_behind layout text more k problem some right enough =
     let held = done layout k text some right enough in
     let all = longer layout k text more held in (
-      λ file. completes_file layout (text ++ more) k problem (subst (Completes layout (text ++ more) k)
-          (one_held layout k text held.0 problem held.1 (file_completes layout text k problem file)) all),
-      λ file. completes_file layout text k problem (subst (Completes layout text k)
-          (one_held layout k (text ++ more) held.0 problem all
-          (file_completes layout (text ++ more) k problem file)) held.1),
+      λ file.
+          let same = one_held layout k text held.0 problem held.1 (file_completes layout text k problem file) in
+          completes_file layout (text ++ more) k problem (rw same at all),
+      λ file.
+          let c = file_completes layout (text ++ more) k problem file in
+          completes_file layout text k problem (rw (one_held layout k (text ++ more) held.0 problem all c) at held.1),
     )

@@ -125,13 +125,11 @@ closes_in phases.Seeking kinds r e = elim (cases_Bool (has_numbers_alone kinds))
     no_end : (o : Option LayoutFault) (fault : LayoutFault) → option_or o (Some fault) ≡ None → ⊥
     no_end None fault e = cc
     no_end (Some x) fault e = cc
-closes_in phases.Body kinds r e = record { fault = rw e; instance = λ none. refl }
 closes_in phases.AfterLast kinds r e = elim (cases_Bool (r.complete + 1 == r.wanted)) [
   | inl last ↦ record { fault = rw (e, last); instance = λ none. refl }
   | inr more ↦ record { fault = rw (e, more); instance = λ none. refl }
 ]
-closes_in phases.Done kinds r e = record { fault = rw e; instance = λ none. refl }
-closes_in (phases.Refused fault) kinds r e = record { fault = rw e; instance = λ none. refl }
+closes_in phase kinds r e = record { fault = rw e; instance = λ none. refl }
 
 pub closes : (kinds : Kinds) (r : Blocks) → Closes kinds r (line_ended r (has_numbers_alone kinds))
 unfolding line_ended

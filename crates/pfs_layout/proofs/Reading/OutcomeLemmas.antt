@@ -35,7 +35,6 @@ use Rattle.pfs_layout.proofs.Reading.EndSteps.{end_byte}
 use Rattle.pfs_layout.proofs.Reading.ReaderLemmas.{carries}
 use Rattle.pfs_layout.proofs.Reading.FeedLemmas.{refused_fault, done_enough}
 use Rattle.pfs_layout.proofs.Reading.FinishLemmas.{stand_lines, end_faults, closes, ends}
-use Rattle.pfs_layout.proofs.Reading.ReadNames.{same_error}
 
 -- ---- the end of the input, where no byte has a fault
 
@@ -113,7 +112,7 @@ meets_refused r text fault some e =
         λ file. let is = rw e at ((accepted_law r.layout text r.wanted problem some).1 file) in absurd (cc),
       );
       refused = λ other. (
-        λ z. (refuses other).0 (rw (same_error z) at e),
+        λ z. let same : fault ≡ other = cc in (refuses other).0 (rw same at e),
         λ o. let is = (refuses other).1 o in cc,
       );
     }
@@ -168,9 +167,6 @@ pub finish_tells : (r : Fields) (text : List ℕ) → StandsAfter r text → Fin
 finish_tells r text s = by_phase r.phase refl s
   where
     by_phase : (p : Phase) → r.phase ≡ p → StandsIn p r text → FinishTells r text
-    by_phase phases.Seeking e f = outcome_tells r text f (live_end r text f (rw e))
-    by_phase phases.Body e f = outcome_tells r text f (live_end r text f (rw e))
-    by_phase phases.AfterLast e f = outcome_tells r text f (live_end r text f (rw e))
     by_phase phases.Done e f = outcome_tells r text f (done_end r text f e)
     by_phase (phases.Refused fault) e f =
         let told = refused_tells r text fault e in
@@ -181,6 +177,7 @@ finish_tells r text s = by_phase r.phase refl s
               meets_refused r text other (omega arith) (rw same at is),
           λ h. absurd (cc),
         )
+    by_phase phase e f = outcome_tells r text f (live_end r text f (rw e))
 
 -- a reader that is done has a file
 pub finish_done : (r : Fields) (text : List ℕ) → Follows r text → r.phase ≡ phases.Done
