@@ -65,12 +65,15 @@ pub data FirstLine (text : List ℕ) : Type 0 where
 
 pub first_line : (text : List ℕ) → FirstLine text
 first_line [] = unended refl
-first_line (b ∷ text) = by_end (first_line text) (cases_Bool (is_line_end b))
-  where
-    by_end : FirstLine text → (is_line_end b ≡ true) ⊎ (is_line_end b ≡ false) → FirstLine (b ∷ text)
-    by_end rest (inl e) = ended [] b text refl refl e
-    by_end (unended none) (inr e) = unended (rw (e, none))
-    by_end (ended line c rest is none at) (inr e) = ended (b ∷ line) c rest (ap (λ xs. b ∷ xs) is) (rw (e, none)) at
+first_line (b ∷ text) =
+    let more = first_line text in
+    elim (cases_Bool (is_line_end b)) [
+      | inl e ↦ ended [] b text refl refl e
+      | inr e ↦ elim more [
+        | unended none ↦ unended (rw (e, none))
+        | ended line c rest is none at ↦ ended (b ∷ line) c rest (ap (λ xs. b ∷ xs) is) (rw (e, none)) at
+      ]
+    ]
 
 -- a front of a text that is some of its lines
 pub record Front (text : List ℕ) (some : List (List ℕ)) : Type 0 where
@@ -88,36 +91,33 @@ pub front_of_lines : (text : List ℕ) (some more : List (List ℕ)) → lines t
 front_of_lines text [] more e =
     record { front = []; rest = text; whole = refl; are = lines-none; ended = inl open_line-none }
 front_of_lines text (line ∷ some) more e =
-    by_first (first_line text) (λ rest h. front_of_lines rest some more h)
-  where
-    only : (v : Bool) → is_empty text ≡ v → list_any is_line_end text ≡ false
-        → (if v then [] else text ∷ []) ≡ line ∷ (some ++ more) → Front text (line ∷ some)
-    only true empty none h = cc
-    only false empty none h =
-        let nothing : some ≡ [] = front_nil some more (cc) in
-        let same : text ≡ line = cc in
-        record {
-          front = text;
-          rest = [];
-          whole = sym (append-nil text);
-          are = rw (lines-open text none, empty, nothing, same);
-          ended = inr refl;
-        }
-
-    by_first : FirstLine text → ((rest : List ℕ) → lines rest ≡ some ++ more → Front rest some)
-        → Front text (line ∷ some)
-    by_first (unended none) shorter = only (is_empty text) refl none (rw (lines-open text none) at e)
-    by_first (ended first c rest is none at) shorter =
-        let parts = rw (is, lines-line first c rest none at) at e in
-        let f = shorter rest (cc) in
-        let same : first ≡ line = cc in
-        record {
-          front = first ++ c ∷ f.front;
-          rest = f.rest;
-          whole = rw (append_assoc first (c ∷ f.front) f.rest, ← f.whole) is;
-          are = rw (lines-line first c f.front none at, f.are) (ap (λ l. l ∷ some) same);
-          ended = elim f.ended [
-            | inl h ↦ inl (rw (open_part-part is_line_end first c f.front none at) h)
-            | inr h ↦ inr h
-          ];
-        }
+    let shorter = λ (rest : List ℕ). front_of_lines rest some more in
+    elim (first_line text) [
+      | unended none ↦
+          let only : last_line text ≡ line ∷ (some ++ more) = rw (lines-open text none) at e in
+          elim (cases_Bool (is_empty text)) [
+            | inl empty ↦ let no_line = rw empty at only in absurd (cc)
+            | inr filled ↦
+                let one = rw filled at only in
+                let nothing : some ≡ [] = front_nil some more (cc) in
+                let same : text ≡ line = cc in
+                record {
+                  front = text;
+                  rest = [];
+                  whole = sym (append-nil text);
+                  are = rw (lines-open text none, filled, nothing, same);
+                  ended = inr refl;
+                }
+          ]
+      | ended first c rest is none at ↦
+          let parts = rw (is, lines-line first c rest none at) at e in
+          let f = shorter rest (cc) in
+          let same : first ≡ line = cc in
+          record {
+            front = first ++ c ∷ f.front;
+            rest = f.rest;
+            whole = rw (append_assoc first (c ∷ f.front) f.rest, ← f.whole) is;
+            are = rw (lines-line first c f.front none at, f.are) (ap (λ l. l ∷ some) same);
+            ended = rw (open_part-part is_line_end first c f.front none at) f.ended;
+          }
+    ]

@@ -57,29 +57,18 @@ of_first [] all = refl
 of_first (None ∷ os) all = of_first os all.1
 of_first (Some x ∷ os) all = all.0
 
-of_long : (text : List ℕ) (next : Option ℕ) → of_input (too_long text next) ≡ true
-of_long text next = search of_if
-
-of_mixed : (text : List ℕ) (next : Option ℕ) → of_input (mixed_line text next) ≡ true
-unfolding mixed_line
-of_mixed text None = refl
-of_mixed text (Some byte) = search of_if
-
 of_missing : (layout : Layout) (k complete : ℕ) (now : Now) → of_input (missing layout k complete now) ≡ true
 of_missing layout k complete seeking = search of_if
 of_missing layout k complete (inside block) = refl
 of_missing layout k complete lost = refl
 
-of_early : (layout : Layout) (k : ℕ) (text : List ℕ) (next : Option ℕ) → of_input (ends_early layout k text next) ≡ true
-unfolding ends_early
-of_early layout k text None = search of_missing
-of_early layout k text (Some byte) = refl
-
 of_faults : (layout : Layout) (k : ℕ) (now : Now) (text : List ℕ) (next : Option ℕ)
     → of_input (first_some (faults layout k now text next)) ≡ true
-unfolding wrong_number wrong_size
-of_faults layout k seeking text next = search (of_first, of_long, of_both, of_size, of_early)
-of_faults layout k (inside block) text next = search (of_first, of_long, of_both, of_mixed, of_misfit, of_early) depth 7
+unfolding wrong_number wrong_size mixed_line ends_early
+of_faults layout k seeking text None = search (of_first, of_if, of_both, of_size, of_missing)
+of_faults layout k seeking text (Some byte) = search (of_first, of_if, of_both, of_size)
+of_faults layout k (inside block) text None = search (of_first, of_if, of_both, of_misfit, of_missing) depth 7
+of_faults layout k (inside block) text (Some byte) = search (of_first, of_if, of_both, of_misfit) depth 7
 of_faults layout k lost text next = refl
 
 of_place : (layout : Layout) (k : ℕ) (text : List ℕ) (next : Option ℕ)

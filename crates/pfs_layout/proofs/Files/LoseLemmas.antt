@@ -47,7 +47,7 @@ numbers_break xs b ys e = rw (slice_split-break is_no_digit xs b ys e) (values-a
 
 -- the line that ends at a place, or that goes on with the byte there
 pub data LineAt (text : List ℕ) (next : Option ℕ) (line : List ℕ) : Type 0 where
-  ends_here : ends_line text next ≡ true → line ≡ open_line text → LineAt text next line
+  ends_here : ((b : ℕ) → next ≡ Some b → is_line_end b ≡ true) → line ≡ open_line text → LineAt text next line
   goes_on : (b : ℕ) (tail : List ℕ) → next ≡ Some b → is_line_end b ≡ false → line ≡ open_line text ++ b ∷ tail
       → LineAt text next line
 
@@ -111,7 +111,7 @@ module _ (text : List ℕ) (next : Option ℕ) (fault : LayoutFault) (line : Lis
           elim at [
             | ends_here h same ↦
                 let one = not-true (is_mixed before) parts.0 in
-                absurd (both_ways _ one (rw (mixed_at_end before b h) at parts.1))
+                absurd (both_ways _ one (rw (mixed_at_end before b (h b refl)) at parts.1))
             | goes_on c tail is inner same ↦
                 let byte : c ≡ b = cc in
                 rw (same, byte, ← append_assoc before (b ∷ []) tail) (mixed_longer (before ++ b ∷ []) tail parts.1)

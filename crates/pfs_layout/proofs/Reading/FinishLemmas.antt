@@ -5,8 +5,9 @@ use Rattle.std.proofs.Common.{nat_lt, inl, inr}
 use Rattle.std.specs.Prelude.{option_map, slice_get}
 use Rattle.std.specs.List.{list_any}
 use Rattle.std.specs.Option.{option_or}
-use Rattle.std.proofs.lemmas.Bool.{cases_Bool, cases_lt, lt-ltb, le-ltb, ne_eqb}
-use Rattle.std.proofs.lemmas.List.{append-nil}
+use Rattle.std.proofs.lemmas.Bool.{cases_Bool, cases_lt, eqb-true, lt-ltb, le-ltb}
+use Rattle.std.proofs.Math.Bool.{and-false, and-true}
+use Rattle.std.proofs.lemmas.List.{nil_from_length}
 use Rattle.pfs_base.specs.declared.limits.TheConstants.{LONGEST_INPUT}
 use Rattle.pfs_base.specs.Lists.{is_empty, first_some}
 use Rattle.pfs_layout.specs.declared.layout.Layout.{Layout}
@@ -27,54 +28,11 @@ use Rattle.pfs_layout.specs.Step.{line_ended_in, line_ended, at_next_line}
 use Rattle.pfs_layout.specs.Reader.{FollowsBlocks}
 use Rattle.pfs_layout.proofs.Files.SoundLemmas.{GoodNow, stand_of, stand-push}
 use Rattle.pfs_layout.proofs.Files.StandLemmas.{Fits, made}
-use Rattle.pfs_layout.proofs.Files.VerdictLemmas.{lines_ended, lines_unended, nothing_on}
 use Rattle.pfs_layout.proofs.Options.{cases_option}
 use Rattle.pfs_layout.proofs.Reading.TableLemmas.{length-times_among}
 use Rattle.pfs_layout.proofs.Reading.ByteSteps.{fault_within_limit, mixed_other}
 
--- ---- where all lines lead
-
--- an empty line changes nothing
-empty_line : (layout : Layout) (complete : List Block) (now : Now) (tail : List (List ℕ)) → GoodNow layout now []
-    → Fits layout now tail → after_line layout complete now [] ≡ standing complete now
-unfolding numbers ended_numbers ended_parts
-empty_line layout complete seeking tail good fits = refl
-empty_line layout complete (inside block) tail good fits =
-    let due = rw append-nil at good.due in
-    rw (append-nil block.numbers, due, ne_eqb _ _ fits.short)
-empty_line layout complete lost tail good fits = absurd good
-
--- all lines lead where those lead that are ended, and what is behind them
-pub stand_lines : (layout : Layout) (text : List ℕ) → GoodNow layout (stand_of layout text).now (open_line text)
-    → stand layout (lines text) ≡ stand_after layout (stand_of layout text) (open_line text)
-unfolding stand_after
-stand_lines layout text good =
-    let before : Stand = stand_of layout text in
-    elim (cases_Bool (is_empty (open_line text))) [
-      | inr filled ↦ rw (lines_unended text filled) (stand-push layout (ended_lines text) (open_line text))
-      | inl empty ↦
-          let nothing = nothing_on (open_line text) empty in
-          let m = made layout (ended_lines text) in
-          rw (lines_ended text empty, nothing)
-          (sym (empty_line layout before.complete before.now m.tail (rw nothing at good) m.fits))
-    ]
-
 -- ---- the fault of the end
-
-wrong_size-end : (layout : Layout) (text : List ℕ) → wrong_size layout text None ≡ wrong_size layout text (Some 10)
-unfolding wrong_size
-wrong_size-end layout text = elim (cases_Bool (is_empty (open_line text))) [
-  | inl empty ↦ rw (nothing_on (open_line text) empty)
-  | inr filled ↦ rw filled
-]
-
-wrong_number-end : (layout : Layout) (block : Block) (text : List ℕ)
-    → wrong_number layout block text None ≡ wrong_number layout block text (Some 10)
-unfolding wrong_number
-wrong_number-end layout block text = elim (cases_Bool (is_empty (last_digits text))) [ inl e ↦ rw e | inr e ↦ rw e ]
-
-too_long-end : (text : List ℕ) → too_long text None ≡ None
-too_long-end text = elim (cases_Bool (length text == LONGEST_INPUT)) [ inl e ↦ rw e | inr e ↦ rw e ]
 
 one_or : {A : Type 0} (a b : Option A) → first_some (None ∷ a ∷ b ∷ []) ≡ option_or a b
 one_or (Some x) b = refl
@@ -85,10 +43,13 @@ one_or None None = refl
 pub end_faults : (layout : Layout) (k : ℕ) (now : Now) (text : List ℕ) → GoodNow layout now (open_line text)
     → first_some (faults layout k now text None)
     ≡ option_or (fault_within_limit layout now text 10) (ends_early layout k text None)
-unfolding mixed_line
-end_faults layout k seeking text good = rw (too_long-end text, wrong_size-end layout text) (one_or _ _)
+unfolding mixed_line wrong_number wrong_size
+end_faults layout k seeking text good = elim (cases_Bool (is_empty (open_line text))) [
+  | inl empty ↦ rw (and-false, nil_from_length (open_line text) (eqb-true _ 0 empty)) (one_or None _)
+  | inr filled ↦ rw (and-false, filled) (one_or _ _)
+]
 end_faults layout k (inside block) text good =
-    rw (too_long-end text, wrong_number-end layout block text, mixed_other text 10 good.unmixed refl refl) (one_or _ _)
+    rw (and-false, mixed_other text 10 good.unmixed refl refl, and-true) (one_or _ _)
 end_faults layout k lost text good = absurd good
 
 -- ---- a reader's blocks behind a line end

@@ -24,7 +24,7 @@ use Rattle.pfs_layout.specs.Step.{is_live, number_of, last_number_ended, line_en
 use Rattle.pfs_layout.specs.Reader.{Fields, block_of, Follows, StandsIn, StandsAfter, IsReader, FinishMeets}
 use Rattle.pfs_layout.proofs.Files.SoundLemmas.{stand_of, sound}
 use Rattle.pfs_layout.proofs.Files.StandLemmas.{made}
-use Rattle.pfs_layout.proofs.Files.VerdictLemmas.{has_fault}
+use Rattle.pfs_layout.proofs.Files.VerdictLemmas.{stand_lines, has_fault}
 use Rattle.pfs_layout.proofs.Files.GrowLemmas.{grows, stand_from}
 use Rattle.pfs_layout.proofs.Options.{cases_option}
 use Rattle.pfs_layout.proofs.Published.LawLemmas.{accepted_law, one_verdict}
@@ -34,7 +34,7 @@ use Rattle.pfs_layout.proofs.Reading.ByteSteps.{fault_within_limit, live_few}
 use Rattle.pfs_layout.proofs.Reading.EndSteps.{end_byte}
 use Rattle.pfs_layout.proofs.Reading.ReaderLemmas.{carries}
 use Rattle.pfs_layout.proofs.Reading.FeedLemmas.{refused_fault, done_enough}
-use Rattle.pfs_layout.proofs.Reading.FinishLemmas.{stand_lines, end_faults, closes, ends}
+use Rattle.pfs_layout.proofs.Reading.FinishLemmas.{end_faults, closes, ends}
 
 -- ---- the end of the input, where no byte has a fault
 
