@@ -1,16 +1,13 @@
 -- Faults at bytes and at the end, and what more input changes.
-use Rattle.std.proofs.Common.{◌≡◌, ℕ, ◌≤◌, List, [], ◌∷◌, ◌++◌, length, ◌∙◌, ap, subst, Some, None, inl, ◌⊎◌}
+use Rattle.std.proofs.Common.{◌≡◌, ℕ, List, [], ◌∷◌, ◌++◌, Some}
 use Rattle.std.proofs.lemmas.List.{append_assoc, append-nil}
 use Rattle.pfs_base.proofs.Published.Lists.{by_push}
 use Rattle.pfs_layout.specs.declared.layout.Layout.{Layout}
 use Rattle.pfs_layout.specs.declared.fault.LayoutFault.{LayoutFault}
-use Rattle.pfs_layout.specs.Lines.{open_line}
-use Rattle.pfs_layout.specs.Laws.{Completes, FaultStays, ByteFaultLaw, FreeBehind}
-use Rattle.pfs_layout.specs.Refuse.{fault_at, byte_fault, RefusesInstance}
+use Rattle.pfs_layout.specs.Laws.{FaultStays, ByteFaultLaw, FreeBehind}
+use Rattle.pfs_layout.specs.Refuse.{byte_fault, RefusesInstance}
 use Rattle.pfs_layout.proofs.Files.FileLemmas.{file_completes, completes_file}
-use Rattle.pfs_layout.proofs.Files.SoundLemmas.{stand_of}
 use Rattle.pfs_layout.proofs.Files.VerdictLemmas.{enough_holds, holds_longer, one_held}
-use Rattle.pfs_layout.proofs.Options.{first_not_found}
 use Rattle.pfs_layout.proofs.Published.PlaceLemmas.{byte_fault-push, byte_fault_is, refusal_end, refusal_is}
 
 -- a fault at a byte stays, whatever follows

@@ -1,25 +1,17 @@
 -- Every fault that the definitions put at a place is one of the input: neither a failed read, nor want of
 -- memory, nor a seed out of its limit.
-use Rattle.std.proofs.Common.{◌≡◌, ℕ, ◌+◌, ◌-◌, Bool, true, false, not, ◌&&◌, List, [], ◌∷◌, length, count_by, refl}
-use Rattle.std.proofs.Common.{take, Option, Some, None, if◌then◌else◌, ◌==◌, nat_lt}
-use Rattle.std.proofs.lemmas.Option.{same_Some}
+use Rattle.std.proofs.Common.{◌≡◌, ℕ, Bool, true, false, List, [], ◌∷◌, refl}
+use Rattle.std.proofs.Common.{take, Option, Some, None, if◌then◌else◌}
 use Rattle.std.specs.Bool.{then_some}
 use Rattle.std.specs.List.{AllByRecursion, slice_get}
-use Rattle.std.specs.Option.{is_some}
-use Rattle.std.specs.Str.Parse.{digits_value}
-use Rattle.pfs_base.specs.declared.limits.TheConstants.{LONGEST_TIME, LONGEST_INPUT}
 use Rattle.pfs_base.specs.Lists.{first_some}
 use Rattle.pfs_layout.specs.declared.layout.Layout.{Layout}
 use Rattle.pfs_layout.specs.declared.fault.LayoutFault.{LayoutFault}
-use Rattle.pfs_layout.specs.declared.fault.LayoutFault.TheVariants.{NoBlock, SizeCount, SizeRange, MixedLine, TimeRange}
-use Rattle.pfs_layout.specs.declared.fault.LayoutFault.TheVariants.{MachineNumber, ExtraNumber, Truncated, TooLong}
 use Rattle.pfs_layout.specs.declared.fault.LayoutFault.TheVariants.{SeedRange, Read, Memory}
-use Rattle.pfs_layout.specs.Bytes.{is_line_end}
-use Rattle.pfs_layout.specs.Lines.{lines, ended_lines, open_line, is_number_line, numbers, ended_numbers, last_digits}
-use Rattle.pfs_layout.specs.Size.{Size, is_within_limits}
-use Rattle.pfs_layout.specs.Block.{Due, any_time, machine_number, nothing, due_at, stated_size}
-use Rattle.pfs_layout.specs.Stand.{Stand, Now, seeking, inside, lost, stand, times_among}
-use Rattle.pfs_layout.specs.Refuse.{too_long, mixed_line, misfit, ends_line, ends_number, wrong_number, size_fault}
+use Rattle.pfs_layout.specs.Size.{Size}
+use Rattle.pfs_layout.specs.Block.{Due, any_time, machine_number, nothing}
+use Rattle.pfs_layout.specs.Stand.{Now, seeking, inside, lost}
+use Rattle.pfs_layout.specs.Refuse.{mixed_line, misfit, wrong_number, size_fault}
 use Rattle.pfs_layout.specs.Refuse.{wrong_size, missing, ends_early, faults, fault_of_place, RefusesInstance}
 
 abbrev pub is_input_fault : LayoutFault → Bool

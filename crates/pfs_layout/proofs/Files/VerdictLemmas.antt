@@ -1,11 +1,10 @@
 -- An input holds a file exactly where none of its places has a fault.
-use Rattle.std.proofs.Common.{◌≡◌, ℕ, zero, suc, ◌+◌, ◌-◌, ◌<◌, ◌≤◌, true, false, not, List, [], ◌∷◌, ◌++◌, length}
-use Rattle.std.proofs.Common.{take, refl, sym, ◌∙◌, ap, subst, arith, Option, Some, None, ◌⊎◌, inl, inr, ◌==◌, nat_lt}
+use Rattle.std.proofs.Common.{◌≡◌, ℕ, ◌-◌, ◌<◌, ◌≤◌, true, false, not, List, [], ◌∷◌, ◌++◌, length}
+use Rattle.std.proofs.Common.{refl, sym, ◌∙◌, ap, subst, arith, Option, Some, None, ◌⊎◌, inl, inr, ◌==◌, nat_lt}
 use Rattle.std.specs.List.{slice_get}
 use Rattle.std.proofs.lemmas.Bool.{and_right, cases_Bool, cases_lt, cases_eq, eq-eqb, ne_eqb, lt-ltb, le-ltb, ltb-true}
 use Rattle.std.proofs.lemmas.Bool.{ltb-false, eqb-true}
 use Rattle.std.proofs.lemmas.Option.{same_Some}
-use Rattle.std.proofs.Math.Seq.{take-append-add}
 use Rattle.std.proofs.lemmas.List.{append_assoc, append-nil, length_push, nil_from_length}
 use Rattle.pfs_base.specs.declared.limits.TheConstants.{LONGEST_INPUT}
 use Rattle.pfs_base.specs.Lists.{is_empty, first_some}
@@ -32,7 +31,7 @@ use Rattle.pfs_layout.proofs.Files.GrowLemmas.{stand_from, stays_lost}
 use Rattle.pfs_layout.proofs.Files.LoseLemmas.{LineAt, ends_here, goes_on, loses}
 
 -- the lines of a text that ends with a line end
-lines_ended : (text : List ℕ) → is_empty (open_line text) ≡ true → lines text ≡ ended_lines text
+lines_ended : (text : List ℕ) → open_line text ≡ [] → lines text ≡ ended_lines text
 lines_ended text e = rw (lines-parts text, e) (append-nil (ended_lines text))
 
 nothing_on : (line : List ℕ) → is_empty line ≡ true → line ≡ []
@@ -58,7 +57,7 @@ stand_lines layout text good = elim (cases_Bool (is_empty (open_line text))) [
       let before : Stand = stand_of layout text in
       let nothing = nothing_on (open_line text) empty in
       let m = made layout (ended_lines text) in
-      rw (lines_ended text empty, nothing)
+      rw (lines_ended text nothing, nothing)
       (sym (empty_line layout before.complete before.now m.tail (rw nothing at good) m.fits))
 ]
 
@@ -69,6 +68,26 @@ no_complete layout = refl
 no_byte : (layout : Layout) (k : ℕ) → byte_fault layout k [] ≡ None
 unfolding byte_fault
 no_byte layout k = refl
+
+-- the line of a byte, and the lines behind it
+line_at : (before : List ℕ) (b : ℕ) (after : List ℕ)
+    → (line : List ℕ) × (others : List (List ℕ)) × LineAt before (Some b) line
+    × (lines (open_line before ++ b ∷ after) ≡ line ∷ others)
+line_at before b after = elim (cases_Bool (is_line_end b)) [
+  | inl ends ↦ (
+    open_line before,
+    lines after,
+    ends_here (λ c same. let byte : b ≡ c = cc in rw byte at ends) refl,
+    lines-line (open_line before) b after (no_end before) ends,
+  )
+  | inr goes ↦
+      let on = line_on (open_line before) b after (no_end before) goes in (
+        (open_line before ++ b ∷ []) ++ on.tail,
+        on.others,
+        goes_on b on.tail refl goes (append_assoc (open_line before) (b ∷ []) on.tail),
+        rw (append_assoc (open_line before) (b ∷ []) after) at on.are,
+      )
+]
 
 module _ (layout : Layout) (k : ℕ) where
   -- no byte of a text has a fault
@@ -83,15 +102,7 @@ module _ (layout : Layout) (k : ℕ) where
       → Faultless text × (fault_of_place layout k text (Some b) ≡ None)
   faultless_front text b right = or_none _ _ (rw byte_fault-push at right)
 
-  few_front : (text : List ℕ) (b : ℕ) → Few (text ++ b ∷ []) → Few text
-  few_front text b few = let longer = fewer_before layout text (b ∷ []) in omega arith
-
   -- ---- without a fault there is a file
-
-  none_of_faults : (text : List ℕ) (next : Option ℕ) → Few text → fault_of_place layout k text next ≡ None
-      → first_some (faults layout k (stand_of layout text).now text next) ≡ None
-  unfolding fault_of_place
-  none_of_faults text next few right = rw (lt-ltb _ k few) at right
 
   -- the place is not behind the limit, and the input does not end there too early
   no_others : (now : Now) (text : List ℕ) (next : Option ℕ) → GoodNow layout now (open_line text)
@@ -106,11 +117,12 @@ module _ (layout : Layout) (k : ℕ) where
   -- one more byte keeps within the greatest length
   short_more : (text : List ℕ) (b : ℕ) → Faultless (text ++ b ∷ []) → Few text → length text ≤ LONGEST_INPUT
       → length (text ++ b ∷ []) ≤ LONGEST_INPUT
+  unfolding fault_of_place
   short_more text b right few short = elim (cases_eq (length text) LONGEST_INPUT) [
     | inr differs ↦ omega (arith, length_push text b)
     | inl e ↦
         let front = faultless_front text b right in
-        let none = none_of_faults text (Some b) few front.1 in
+        let none = rw (lt-ltb _ k few) at front.1 in
         let short = (no_others _ text (Some b) (sound layout k text front.0 few) none).0 in
         let never = rw (eq-eqb (length text) LONGEST_INPUT e) at short in
         absurd (cc)
@@ -118,7 +130,9 @@ module _ (layout : Layout) (k : ℕ) where
 
   short_few : (text : List ℕ) → Faultless text → Few text → length text ≤ LONGEST_INPUT
   short_few = by_push (λ text. Faultless text → Few text → length text ≤ LONGEST_INPUT) (λ right few. omega arith)
-      (λ text b h right few. let fewer = few_front text b few in
+      (λ text b h right few.
+      let longer = fewer_before layout text (b ∷ []) in
+      let fewer : Few text = omega arith in
       short_more text b right fewer (h (faultless_front text b right).0 fewer))
 
   -- some problem whose file it is
@@ -176,7 +190,7 @@ module _ (layout : Layout) (k : ℕ) where
     | inr on ↦ let same = rw (stand_of-on layout text b on) at enough in absurd (omega arith)
     | inl ends ↦
         let ended = open_line-end text b ends in
-        let same = lines_ended (text ++ b ∷ []) (rw ended) in
+        let same = lines_ended (text ++ b ∷ []) ended in
         let short = short_more text b right few (short_few text (faultless_front text b right).0 few) in
         let held = holds_at (text ++ b ∷ []) (open_line text) (stand_of layout text) short few
         (rw same (stand_of-end layout text b ends)) (rw same enough) in
@@ -185,17 +199,15 @@ module _ (layout : Layout) (k : ℕ) where
 
   pub enough_holds : 1 ≤ k → (input : List ℕ) → Faultless input → k ≤ length (stand_of layout input).complete
       → (problem : Problem) × EndedHolds input problem
-  enough_holds some = by_push Claim (λ right enough. absurd (omega (arith, no_complete layout)))
-      (λ input b earlier right enough. elim (cases_lt (length (stand_of layout input).complete) k) [
+  enough_holds some = by_push (λ input. Faultless input → k ≤ length (stand_of layout input).complete
+      → (problem : Problem) × EndedHolds input problem)
+      (λ right enough. absurd (omega (arith, no_complete layout))) (λ input b earlier right enough.
+      elim (cases_lt (length (stand_of layout input).complete) k) [
         | inl few ↦ byte_holds input b right few enough
         | inr all ↦
             let held = earlier (faultless_front input b right).0 all in
             (held.0, holds_longer input (b ∷ []) held.0 held.1)
       ])
-    where
-      Claim : List ℕ → Type 0
-      Claim input = Faultless input → k ≤ length (stand_of layout input).complete
-          → (problem : Problem) × EndedHolds input problem
 
   early_end : (now : Now) (complete : ℕ) → GoodNow layout now [] → missing layout k complete now ≡ None → k ≤ complete
   early_end seeking complete good e = ltb-false complete k (then_some_none (nat_lt complete k) (NoBlock complete) e)
@@ -203,15 +215,15 @@ module _ (layout : Layout) (k : ℕ) where
   early_end lost complete good e = absurd good
 
   end_holds : (input : List ℕ) → Faultless input → Few input → fault_of_place layout k input None ≡ None → Holds input
-  unfolding stand_after ends_early
+  unfolding stand_after fault_of_place ends_early
   end_holds input right few last =
       let before : Stand = stand_of layout input in
       let good = sound layout k input right few in
-      let none = none_of_faults input None few last in
+      let none = rw (lt-ltb _ k few) at last in
       let reached = stand_lines layout input good in
       let good_after : GoodNow layout (stand layout (lines input)).now [] =
       elim (cases_Bool (is_empty (open_line input))) [
-        | inl empty ↦ rw (lines_ended input empty) (rw (nothing_on (open_line input) empty) at good)
+        | inl empty ↦ let nothing = nothing_on (open_line input) empty in rw (lines_ended input nothing) (rw nothing at good)
         | inr filled ↦ rw reached (good_end layout k before.complete before.now input None (ap not filled)
             (λ there. rw (same_last input, there)) good none)
       ] in
@@ -245,43 +257,25 @@ module _ (layout : Layout) (k : ℕ) where
   byte_loses : (before : List ℕ) (b : ℕ) (after : List ℕ) (fault : LayoutFault) → length before < LONGEST_INPUT
       → fault_of_place layout k before (Some b) ≡ Some fault → (stand layout (lines (before ++ b ∷ after))).now ≡ lost
   unfolding stand_after ends_early
-  byte_loses before b after fault short e = elim (cases_Bool (is_line_end b)) [
-    | inl ends ↦ behind (open_line before) (lines after) (ends_here (λ c same. let byte : b ≡ c = cc in rw byte at ends) refl)
-        (lines-line (open_line before) b after (no_end before) ends)
-    | inr ends ↦
-        let on = line_on (open_line before) b after (no_end before) ends in
-        behind ((open_line before ++ b ∷ []) ++ on.tail) on.others
-        (goes_on b on.tail refl ends (append_assoc (open_line before) (b ∷ []) on.tail))
-        (rw (append_assoc (open_line before) (b ∷ []) after) at on.are)
-  ]
-    where
-      reached : Stand
-      reached = stand_of layout before
-
-      behind : (line : List ℕ) (others : List (List ℕ)) → LineAt before (Some b) line
-          → lines (open_line before ++ b ∷ after) ≡ line ∷ others
-          → (stand layout (lines (before ++ b ∷ after))).now ≡ lost
-      behind line others at are =
-          let long : too_long before (Some b) ≡ None =
-          rw (ne_eqb (length before) LONGEST_INPUT (λ same. omega arith)) in
-          let here = (has_fault before (Some b) fault e).1 in
-          rw (stand_from layout before (b ∷ after), are) (stays_lost layout (stand_after layout reached line) others
-          (loses before (Some b) fault line at layout k reached.complete reached.now here long refl))
+  byte_loses before b after fault short e =
+      let reached : Stand = stand_of layout before in
+      let at = line_at before b after in
+      let long : too_long before (Some b) ≡ None =
+      rw (ne_eqb (length before) LONGEST_INPUT (λ same. omega arith)) in
+      let here = (has_fault before (Some b) fault e).1 in
+      rw (stand_from layout before (b ∷ after), at.3) (stays_lost layout (stand_after layout reached at.0) at.1
+      (loses before (Some b) fault at.0 at.2 layout k reached.complete reached.now here long refl))
 
   text_loses : (text : List ℕ) (fault : LayoutFault) → length text ≤ LONGEST_INPUT
       → byte_fault layout k text ≡ Some fault → (more : List ℕ) → (stand layout (lines (text ++ more))).now ≡ lost
-  text_loses text fault = by_push Claim (λ short e. absurd (let none = rw no_byte at e in cc)) (λ text b earlier short e more.
+  text_loses text fault = by_push (λ text. length text ≤ LONGEST_INPUT → byte_fault layout k text ≡ Some fault
+      → (more : List ℕ) → (stand layout (lines (text ++ more))).now ≡ lost)
+      (λ short e. absurd (let none = rw no_byte at e in cc)) (λ text b earlier short e more.
       let size = length_push text b in
       rw (append_assoc text (b ∷ []) more) (elim (cases_option (byte_fault layout k text)) [
-        | inr one ↦
-            let same = rw (byte_fault-push, one.1) at e in
-            earlier (omega arith) (one.1 ∙ same) (b ∷ more)
+        | inr one ↦ earlier (omega arith) (one.1 ∙ rw (byte_fault-push, one.1) at e) (b ∷ more)
         | inl none ↦ byte_loses text b more fault (omega arith) (rw (byte_fault-push, none) at e)
       ])) text
-    where
-      Claim : List ℕ → Type 0
-      Claim text = length text ≤ LONGEST_INPUT → byte_fault layout k text ≡ Some fault
-          → (more : List ℕ) → (stand layout (lines (text ++ more))).now ≡ lost
 
   -- behind k complete blocks no place has a fault
   enough_right : (text : List ℕ) (next : Option ℕ) → k ≤ length (stand_of layout text).complete
@@ -320,7 +314,7 @@ module _ (layout : Layout) (k : ℕ) where
       → refusal layout input k ≡ None
   holds_unrefused input problem c = elim c.ended [
     | inl ended ↦
-        let stands = rw (lines_ended c.text (ap is_empty ended)) at c.stands in
+        let stands = rw (lines_ended c.text ended) at c.stands in
         let enough : k ≤ length (stand_of layout c.text).complete = rw stands (omega (arith, all)) in
         let longer = fewer_before layout c.text c.rest in
         rw (refusal_end layout k input, c.whole, faultless_behind c.text c.rest enough right)
@@ -348,23 +342,20 @@ module _ (layout : Layout) (k : ℕ) where
 
   -- ---- the problem of a file is that of the k-th block
 
-  found : (complete : List Block) (earlier : List Block) (own : Block) → length earlier + 1 ≡ k
-      → Extends (earlier ++ own ∷ []) complete → slice_get complete (k - 1) ≡ Some own
-  found complete earlier own count longer =
-      let at : k - 1 ≡ length earlier = omega arith in
-      rw (at, longer.1, append_assoc earlier (own ∷ []) longer.0) (slice_get-at earlier own longer.0)
-
-  pub kth_block : (input : List ℕ) (problem : Problem) (c : Completes layout input k problem)
+  kth_block : (input : List ℕ) (problem : Problem) (c : Completes layout input k problem)
       → slice_get (stand layout (lines input)).complete (k - 1) ≡ Some c.own
-  kth_block input problem c = found _ c.earlier c.own c.count (elim c.ended [
-    | inl ended ↦
-        let stands = rw (lines_ended c.text (ap is_empty ended)) at c.stands in
-        rw (c.whole, stand_from layout c.text c.rest, stands)
-        (grows layout (completed c.earlier c.own) (lines (open_line c.text ++ c.rest)))
-    | inr none ↦
-        let same : input ≡ c.text = rw (none, append-nil) at c.whole in
-        ([], rw (same, c.stands) (sym (append-nil (c.earlier ++ c.own ∷ []))))
-  ])
+  kth_block input problem c =
+      let longer : Extends (c.earlier ++ c.own ∷ []) (stand layout (lines input)).complete = elim c.ended [
+        | inl ended ↦
+            let stands = rw (lines_ended c.text ended) at c.stands in
+            rw (c.whole, stand_from layout c.text c.rest, stands)
+            (grows layout (completed c.earlier c.own) (lines (open_line c.text ++ c.rest)))
+        | inr none ↦
+            let same : input ≡ c.text = rw (none, append-nil) at c.whole in
+            ([], rw (same, c.stands) (sym (append-nil (c.earlier ++ c.own ∷ []))))
+      ] in
+      let at : k - 1 ≡ length c.earlier = omega (arith, c.count) in
+      rw (at, longer.1, append_assoc c.earlier (c.own ∷ []) longer.0) (slice_get-at c.earlier c.own longer.0)
 
   pub holds_accepted : (input : List ℕ) (problem : Problem) → Completes layout input k problem
       → accepted layout input k ≡ Some problem

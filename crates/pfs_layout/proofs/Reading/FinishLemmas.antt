@@ -1,35 +1,32 @@
 -- The end of an input is judged as a line end there would be, and as what is missing behind it.
-use Rattle.std.proofs.Common.{◌≡◌, ℕ, ◌+◌, ◌-◌, ◌<◌, ◌≤◌, Bool, true, false, not, ◌&&◌, List, [], ◌∷◌, ◌++◌}
-use Rattle.std.proofs.Common.{length, count_by, refl, sym, ◌∙◌, ap, arith, Option, Some, None, if◌then◌else◌, ◌==◌}
-use Rattle.std.proofs.Common.{nat_lt, inl, inr}
+use Rattle.std.proofs.Common.{◌≡◌, ℕ, ◌+◌, ◌-◌, ◌<◌, false, List, [], ◌∷◌}
+use Rattle.std.proofs.Common.{length, refl, ◌∙◌, arith, Option, Some, None, ◌==◌}
+use Rattle.std.proofs.Common.{inl, inr}
 use Rattle.std.specs.Prelude.{option_map, slice_get}
-use Rattle.std.specs.List.{list_any}
 use Rattle.std.specs.Option.{option_or}
 use Rattle.std.proofs.lemmas.Bool.{cases_Bool, cases_lt, eqb-true, lt-ltb, le-ltb}
 use Rattle.std.proofs.Math.Bool.{and-false, and-true}
 use Rattle.std.proofs.lemmas.List.{nil_from_length}
-use Rattle.pfs_base.specs.declared.limits.TheConstants.{LONGEST_INPUT}
 use Rattle.pfs_base.specs.Lists.{is_empty, first_some}
 use Rattle.pfs_layout.specs.declared.layout.Layout.{Layout}
-use Rattle.pfs_layout.specs.declared.layout.Layout.TheVariants.{Taillard, OrLib}
-use Rattle.pfs_layout.specs.declared.fault.LayoutFault.{LayoutFault}
-use Rattle.pfs_layout.specs.declared.fault.LayoutFault.TheVariants.{NoBlock, Truncated, TooLong}
+use Rattle.pfs_layout.specs.declared.fault.LayoutFault.TheVariants.{Truncated}
 use Rattle.pfs_layout.specs.declared.scan.Kinds.{Kinds}
 use Rattle.pfs_layout.specs.declared.blocks.Phase.{Phase}
 use Rattle.pfs_layout.specs.declared.blocks.Phase.TheVariants as phases
 use Rattle.pfs_layout.specs.declared.blocks.Blocks.{Blocks}
 use Rattle.pfs_layout.specs.Size.{Size, is_within_limits}
-use Rattle.pfs_layout.specs.Lines.{lines, ended_lines, open_line, ended_parts, numbers, ended_numbers, last_digits}
-use Rattle.pfs_layout.specs.Stand.{Block, Now, seeking, inside, lost, Stand, stand, stand_after, after_line}
+use Rattle.pfs_layout.specs.Lines.{open_line}
+use Rattle.pfs_layout.specs.Stand.{Block, Now, seeking, inside, lost, Stand}
 use Rattle.pfs_layout.specs.Stand.{instance_of, standing}
-use Rattle.pfs_layout.specs.Refuse.{too_long, mixed_line, wrong_number, size_fault, wrong_size, missing, ends_early, faults}
-use Rattle.pfs_layout.specs.Step.{stated_by, times_in, end_fault_in, end_fault, no_line, has_numbers_alone, size_judged}
-use Rattle.pfs_layout.specs.Step.{line_ended_in, line_ended, at_next_line}
+use Rattle.pfs_layout.specs.Refuse.{mixed_line, wrong_number, size_fault, wrong_size, missing, ends_early, faults}
+use Rattle.pfs_layout.specs.Step.{stated_by, end_fault, no_line, has_numbers_alone, size_judged}
+use Rattle.pfs_layout.specs.Step.{line_ended_in, line_ended}
 use Rattle.pfs_layout.specs.Reader.{FollowsBlocks}
-use Rattle.pfs_layout.proofs.Files.SoundLemmas.{GoodNow, stand_of, stand-push}
-use Rattle.pfs_layout.proofs.Files.StandLemmas.{Fits, made}
-use Rattle.pfs_layout.proofs.Options.{cases_option}
+use Rattle.pfs_layout.proofs.Files.SoundLemmas.{GoodNow}
+use Rattle.pfs_layout.proofs.Files.StandLemmas.{Fits}
+use Rattle.pfs_layout.proofs.Options.{or_none}
 use Rattle.pfs_layout.proofs.Reading.TableLemmas.{length-times_among}
+use Rattle.pfs_layout.proofs.Reading.LineSteps.{no_times}
 use Rattle.pfs_layout.proofs.Reading.ByteSteps.{fault_within_limit, mixed_other}
 
 -- ---- the fault of the end
@@ -65,27 +62,19 @@ closes_size : (r : Blocks) (stated : Option Size) (line : ℕ) (kinds : Kinds)
     ≡ end_fault kinds (size_judged r stated (size_fault stated line))
 closes_size r None line kinds = refl
 closes_size r (Some size) line kinds = elim (cases_Bool (is_within_limits size)) [
-  | inl within ↦ rw within (none_read r.layout)
+  | inl within ↦ rw (within, ← length-times_among r.layout [], no_times r.layout)
   | inr out ↦ rw out
 ]
-  where
-    none_read : (layout : Layout) → Some (Truncated 0) ≡ Some (Truncated (times_in layout 0))
-    none_read Taillard = refl
-    none_read OrLib = refl
 
 closes_in : (phase : Phase) (kinds : Kinds) (r : Blocks) → r.phase ≡ phase
     → Closes kinds r (line_ended_in phase r (has_numbers_alone kinds))
 closes_in phases.Seeking kinds r e = elim (cases_Bool (has_numbers_alone kinds)) [
   | inl numbered ↦ record {
     fault = rw (e, numbered) (closes_size _ (stated_by r.layout r.size_line) r.line no_line.kinds);
-    instance = λ none. let some = rw (e, numbered) at none in absurd (no_end _ _ some);
+    instance = λ none. let never = or_none _ (Some (Truncated 0)) (rw (e, numbered) at none) in absurd (cc);
   }
   | inr plain ↦ record { fault = rw (e, plain); instance = λ none. rw plain }
 ]
-  where
-    no_end : (o : Option LayoutFault) (fault : LayoutFault) → option_or o (Some fault) ≡ None → ⊥
-    no_end None fault e = cc
-    no_end (Some x) fault e = cc
 closes_in phases.AfterLast kinds r e = elim (cases_Bool (r.complete + 1 == r.wanted)) [
   | inl last ↦ record { fault = rw (e, last); instance = λ none. refl }
   | inr more ↦ record { fault = rw (e, more); instance = λ none. refl }

@@ -1,7 +1,7 @@
 -- What finish owes.
-use Rattle.std.proofs.Common.{◌≡◌, ℕ, ◌+◌, ◌-◌, ◌<◌, ◌≤◌, Bool, true, false, List, [], ◌∷◌, ◌++◌, length, refl, sym, ◌∙◌, ap}
-use Rattle.std.proofs.Common.{arith, Option, Some, None, if◌then◌else◌, inl, inr}
-use Rattle.std.specs.Prelude.{Ok, Err, option_map, slice_get, is_none}
+use Rattle.std.proofs.Common.{◌≡◌, ℕ, ◌-◌, ◌<◌, ◌≤◌, Bool, true, List, [], ◌++◌, length, refl, sym, ◌∙◌}
+use Rattle.std.proofs.Common.{arith, Option, Some, None, inl, inr}
+use Rattle.std.specs.Prelude.{Ok, Err, option_map, slice_get}
 use Rattle.std.specs.List.{list_any}
 use Rattle.std.specs.Option.{option_or}
 use Rattle.std.proofs.lemmas.Bool.{lt-ltb, le-ltb}
@@ -9,19 +9,18 @@ use Rattle.std.proofs.lemmas.List.{append-nil}
 use Rattle.pfs_base.specs.Limits.{limits}
 use Rattle.pfs_base.specs.Problem.{Problem}
 use Rattle.pfs_base.proofs.Published.Lists.{slice_get-append}
-use Rattle.pfs_layout.specs.declared.layout.Layout.{Layout}
 use Rattle.pfs_layout.specs.declared.fault.LayoutFault.{LayoutFault}
 use Rattle.pfs_layout.specs.declared.fault.LayoutFault.TheVariants.{Memory}
 use Rattle.pfs_layout.specs.declared.blocks.Phase.{Phase}
 use Rattle.pfs_layout.specs.declared.blocks.Phase.TheVariants as phases
 use Rattle.pfs_layout.specs.declared.blocks.Blocks.{Blocks}
 use Rattle.pfs_layout.specs.Bytes.{is_word_byte}
-use Rattle.pfs_layout.specs.Lines.{lines, ended_lines, open_line, ended_numbers}
-use Rattle.pfs_layout.specs.Stand.{Now, Stand, stand, stand_after, instance_of}
+use Rattle.pfs_layout.specs.Lines.{lines, open_line, ended_numbers}
+use Rattle.pfs_layout.specs.Stand.{Stand, stand, instance_of}
 use Rattle.pfs_layout.specs.File.{IsInstanceFile}
 use Rattle.pfs_layout.specs.Refuse.{ends_early, fault_of_place, refusal, accepted}
 use Rattle.pfs_layout.specs.Step.{is_live, number_of, last_number_ended, line_ended, has_numbers_alone, end_fault, at_end}
-use Rattle.pfs_layout.specs.Reader.{Fields, block_of, Follows, StandsIn, StandsAfter, IsReader, FinishMeets}
+use Rattle.pfs_layout.specs.Reader.{Fields, Follows, StandsIn, StandsAfter, IsReader, FinishMeets}
 use Rattle.pfs_layout.proofs.Files.SoundLemmas.{stand_of, sound}
 use Rattle.pfs_layout.proofs.Files.StandLemmas.{made}
 use Rattle.pfs_layout.proofs.Files.VerdictLemmas.{stand_lines, has_fault}
