@@ -17,10 +17,10 @@ use Rattle.pfs_layout.specs.Bytes.{is_line_end}
 use Rattle.pfs_layout.specs.Lines.{lines, ended_lines, open_line, ended_parts, numbers, ended_numbers}
 use Rattle.pfs_layout.specs.Stand.{Block, Now, seeking, inside, lost, Stand, standing, completed, after_line}
 use Rattle.pfs_layout.specs.Stand.{stand_after, stand, instance_of}
-use Rattle.pfs_layout.specs.Refuse.{byte_fault, too_long, missing, ends_early, faults, fault_of_place, fault_at, refusal, accepted}
+use Rattle.pfs_layout.specs.Refuse.{too_long, missing, ends_early, faults, fault_of_place, fault_at, refusal, accepted}
+use Rattle.pfs_layout.specs.Refuse.{byte_fault}
 use Rattle.pfs_layout.specs.Laws.{Completes}
-use Rattle.pfs_layout.proofs.Published.PlaceLemmas.{byte_fault-push, refusal_end}
-use Rattle.pfs_layout.proofs.Published.PlaceLemmas.{no_fault, not_refused, slice_get-at}
+use Rattle.pfs_layout.proofs.Published.PlaceLemmas.{byte_fault-push, refusal_end, no_fault, not_refused, slice_get-at}
 use Rattle.pfs_layout.proofs.Files.SoundLemmas.{GoodNow, good_end, same_last, sound}
 use Rattle.pfs_layout.proofs.Options.{then_some_none, if_some, cases_option, all_none, or_none}
 use Rattle.pfs_layout.proofs.Files.SoundLemmas.{stand-push, stand_of, stand_of-end, stand_of-on, open_line-end}
@@ -223,7 +223,9 @@ module _ (layout : Layout) (k : ℕ) where
       let reached = stand_lines layout input good in
       let good_after : GoodNow layout (stand layout (lines input)).now [] =
       elim (cases_Bool (is_empty (open_line input))) [
-        | inl empty ↦ let nothing = nothing_on (open_line input) empty in rw (lines_ended input nothing) (rw nothing at good)
+        | inl empty ↦
+            let nothing = nothing_on (open_line input) empty in
+            rw (lines_ended input nothing) (rw nothing at good)
         | inr filled ↦ rw reached (good_end layout k before.complete before.now input None (ap not filled)
             (λ there. rw (same_last input, there)) good none)
       ] in
@@ -375,6 +377,5 @@ module _ (layout : Layout) (k : ℕ) where
     | inr refused ↦ let none = rw refused.1 at e in absurd (cc)
     | inl none ↦
         let holds = unrefused_holds some input none in
-        let same = sym (holds_accepted input holds.0 holds.1) ∙ e in
-        subst (Completes layout input k) (same_Some holds.0 problem same) holds.1
+        rw (same_Some holds.0 problem (sym (holds_accepted input holds.0 holds.1) ∙ e)) at holds.1
   ]

@@ -19,7 +19,8 @@ use Rattle.pfs_layout.specs.Lines.{lines, open_line, ended_numbers}
 use Rattle.pfs_layout.specs.Stand.{Stand, stand, instance_of}
 use Rattle.pfs_layout.specs.File.{IsInstanceFile}
 use Rattle.pfs_layout.specs.Refuse.{ends_early, fault_of_place, refusal, accepted}
-use Rattle.pfs_layout.specs.Step.{is_live, number_of, last_number_ended, line_ended, has_numbers_alone, end_fault, at_end}
+use Rattle.pfs_layout.specs.Step.{is_live, number_of, last_number_ended, line_ended, has_numbers_alone, end_fault}
+use Rattle.pfs_layout.specs.Step.{at_end}
 use Rattle.pfs_layout.specs.Reader.{Fields, Follows, StandsIn, StandsAfter, IsReader, FinishMeets}
 use Rattle.pfs_layout.proofs.Files.SoundLemmas.{stand_of, sound}
 use Rattle.pfs_layout.proofs.Files.StandLemmas.{made}
