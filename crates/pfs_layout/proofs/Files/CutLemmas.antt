@@ -15,12 +15,25 @@ front_nil [] ys e = refl
 front_nil (x ∷ xs) ys e = cc
 
 module _ (p : ℕ → Bool) where
+  -- the parts on both sides of what ends one
+  pub slice_split-break : (xs : List ℕ) (c : ℕ) (ys : List ℕ) → p c ≡ true
+      → slice_split p (xs ++ c ∷ ys) ≡ slice_split p xs ++ slice_split p ys
+  slice_split-break [] c ys e = rw e
+  slice_split-break (x ∷ xs) c ys e =
+      let more = slice_split-break xs c ys e in
+      let s = split_some p xs in
+      elim (cases_Bool (p x)) [ inl breaks ↦ rw (more, breaks) | inr stays ↦ rw (more, stays, s.is) ]
+
+  -- a list that nothing ends is open
+  slice_split-open : (part : List ℕ) → list_any p part ≡ false → slice_split p part ≡ part ∷ []
+  slice_split-open [] none = refl
+  slice_split-open (x ∷ part) none =
+      let parts = or_parts (p x) (list_any p part) none in rw (parts.0, slice_split-open part parts.1)
+
   -- a part, what ends it, and the rest
   slice_split-part : (part : List ℕ) (c : ℕ) (rest : List ℕ) → list_any p part ≡ false → p c ≡ true
       → slice_split p (part ++ c ∷ rest) ≡ part ∷ slice_split p rest
-  slice_split-part [] c rest none e = rw e
-  slice_split-part (x ∷ part) c rest none e =
-      let parts = or_parts (p x) (list_any p part) none in rw (parts.0, slice_split-part part c rest parts.1 e)
+  slice_split-part part c rest none e = rw (slice_split-break part c rest e, slice_split-open part none)
 
   ended_parts-part : (part : List ℕ) (c : ℕ) (rest : List ℕ) → list_any p part ≡ false → p c ≡ true
       → ended_parts p (part ++ c ∷ rest) ≡ part ∷ ended_parts p rest
@@ -31,12 +44,6 @@ module _ (p : ℕ → Bool) where
       → open_part p (part ++ c ∷ rest) ≡ open_part p rest
   unfolding open_part
   open_part-part part c rest none e = let s = split_some p rest in rw (slice_split-part part c rest none e, s.is)
-
-  -- a list that nothing ends is open
-  slice_split-open : (part : List ℕ) → list_any p part ≡ false → slice_split p part ≡ part ∷ []
-  slice_split-open [] none = refl
-  slice_split-open (x ∷ part) none =
-      let parts = or_parts (p x) (list_any p part) none in rw (parts.0, slice_split-open part parts.1)
 
 -- what follows the last line end, if it isn't empty
 abbrev pub last_line : List ℕ → List (List ℕ)

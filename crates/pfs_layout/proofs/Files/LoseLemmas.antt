@@ -23,22 +23,15 @@ use Rattle.pfs_layout.specs.Block.{Due, any_time, machine_number, nothing, is_du
 use Rattle.pfs_layout.specs.Stand.{Block, Now, seeking, inside, lost, after_size, after_line}
 use Rattle.pfs_layout.specs.Refuse.{ends_line, ends_number, too_long, mixed_line, misfit, wrong_number, size_fault}
 use Rattle.pfs_layout.specs.Refuse.{wrong_size, ends_early, faults}
-use Rattle.pfs_layout.proofs.Files.LineLemmas.{split_some, numbers_is, values-append}
+use Rattle.pfs_layout.proofs.Files.CutLemmas.{slice_split-break}
+use Rattle.pfs_layout.proofs.Files.LineLemmas.{numbers_is, values-append}
 use Rattle.pfs_layout.proofs.Files.SoundLemmas.{values_last, same_last}
 use Rattle.pfs_layout.proofs.Options.{alone, if_some, one_of, then_some_some}
 use Rattle.pfs_layout.proofs.Files.RoundLemmas.{due_number}
 
 -- ---- numbers on both sides of a byte that is no digit
 
-slice_split-break : (p : ℕ → Bool) (xs : List ℕ) (b : ℕ) (ys : List ℕ) → p b ≡ true
-    → slice_split p (xs ++ b ∷ ys) ≡ slice_split p xs ++ slice_split p ys
-slice_split-break p [] b ys e = rw e
-slice_split-break p (x ∷ xs) b ys e =
-    let more = slice_split-break p xs b ys e in
-    let s = split_some p xs in
-    elim (cases_Bool (p x)) [ inl breaks ↦ rw (more, breaks) | inr stays ↦ rw (more, stays, s.is) ]
-
-pub numbers_break : (xs : List ℕ) (b : ℕ) (ys : List ℕ) → is_no_digit b ≡ true
+numbers_break : (xs : List ℕ) (b : ℕ) (ys : List ℕ) → is_no_digit b ≡ true
     → numbers (xs ++ b ∷ ys) ≡ numbers xs ++ numbers ys
 unfolding numbers
 numbers_break xs b ys e = rw (slice_split-break is_no_digit xs b ys e) (values-append (slice_split is_no_digit xs) _)

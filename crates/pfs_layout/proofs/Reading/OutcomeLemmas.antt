@@ -51,7 +51,7 @@ one_or None (Some x) = refl
 one_or None None = refl
 
 -- the fault of a line end, or else what is missing
-pub end_faults : (layout : Layout) (k : ℕ) (now : Now) (text : List ℕ) → GoodNow layout now (open_line text)
+end_faults : (layout : Layout) (k : ℕ) (now : Now) (text : List ℕ) → GoodNow layout now (open_line text)
     → first_some (faults layout k now text None)
     ≡ option_or (fault_within_limit layout now text 10) (ends_early layout k text None)
 unfolding mixed_line wrong_number wrong_size
@@ -66,7 +66,7 @@ end_faults layout k lost text good = absurd good
 -- ---- a reader's blocks behind a line end
 
 -- behind a line end the end has the same fault, and if none the same instance
-pub record Closes (kinds : Kinds) (r next : Blocks) : Type 0 where
+record Closes (kinds : Kinds) (r next : Blocks) : Type 0 where
   pub fault : end_fault kinds r ≡ end_fault no_line.kinds next
   pub instance : end_fault kinds r ≡ None → r.instance ≡ next.instance
 
@@ -95,17 +95,17 @@ closes_in phases.AfterLast kinds r e = elim (cases_Bool (r.complete + 1 == r.wan
 ]
 closes_in phase kinds r e = record { fault = rw e; instance = λ none. refl }
 
-pub closes : (kinds : Kinds) (r : Blocks) → Closes kinds r (line_ended r (has_numbers_alone kinds))
+closes : (kinds : Kinds) (r : Blocks) → Closes kinds r (line_ended r (has_numbers_alone kinds))
 unfolding line_ended
 closes kinds r = closes_in r.phase kinds r refl
 
 -- what is missing is what the blocks behind a line end say
-pub record Ends (layout : Layout) (k : ℕ) (stood : Stand) (next : Blocks) : Type 0 where
+record Ends (layout : Layout) (k : ℕ) (stood : Stand) (next : Blocks) : Type 0 where
   pub fault : missing layout k (length stood.complete) stood.now ≡ end_fault no_line.kinds next
   pub instance : end_fault no_line.kinds next ≡ None
       → next.instance ≡ option_map (instance_of layout) (slice_get stood.complete (k - 1))
 
-pub ends : (next : Blocks) (complete : List Block) (now : Now) (tail : List (List ℕ))
+ends : (next : Blocks) (complete : List Block) (now : Now) (tail : List (List ℕ))
     → Fits next.layout now tail → FollowsBlocks false next (standing complete now) []
     → Ends next.layout next.wanted (standing complete now) next
 ends next complete seeking tail fits f = elim (cases_lt (length complete) next.wanted) [
