@@ -233,7 +233,7 @@ module _ (layout : Layout) (k : ℕ) where
       let held = holds_at input (open_line input) before (short_few input right few) few reached enough in
       (held.0, held.1)
 
-  unrefused_holds : 1 ≤ k → (input : List ℕ) → refusal layout input k ≡ None → Holds input
+  pub unrefused_holds : 1 ≤ k → (input : List ℕ) → refusal layout input k ≡ None → Holds input
   unrefused_holds some input e =
       let rights = or_none (byte_fault layout k input) (fault_of_place layout k input None) (rw refusal_end at e) in
       elim (cases_lt (length (stand_of layout input).complete) k) [

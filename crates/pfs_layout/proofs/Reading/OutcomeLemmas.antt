@@ -1,10 +1,10 @@
 -- What finish owes: the end of an input is judged as a line end there would be, and as what is missing behind it.
 use Rattle.std.proofs.Common.{◌≡◌, ℕ, ◌-◌, ◌<◌, ◌≤◌, Bool, true, List, [], ◌++◌, length, refl, sym, ◌∙◌, arith, Option}
-use Rattle.std.proofs.Common.{Some, None, inl, inr, ◌+◌, false, ◌∷◌, ◌==◌}
+use Rattle.std.proofs.Common.{Some, None, inl, inr, ◌+◌, false, ◌∷◌, ◌==◌, nat_lt}
 use Rattle.std.specs.Prelude.{Ok, Err, option_map, slice_get}
 use Rattle.std.specs.List.{list_any}
 use Rattle.std.specs.Option.{option_or}
-use Rattle.std.proofs.lemmas.Bool.{lt-ltb, le-ltb, cases_Bool, cases_lt, eqb-true}
+use Rattle.std.proofs.lemmas.Bool.{lt-ltb, le-ltb, cases_Bool, eqb-true}
 use Rattle.std.proofs.lemmas.List.{append-nil, nil_from_length}
 use Rattle.std.proofs.Math.Bool.{and-false, and-true}
 use Rattle.pfs_base.specs.Limits.{limits}
@@ -30,10 +30,10 @@ use Rattle.pfs_layout.specs.Reader.{Fields, Follows, StandsIn, StandsAfter, IsRe
 use Rattle.pfs_layout.specs.Size.{Size, is_within_limits}
 use Rattle.pfs_layout.proofs.Files.SoundLemmas.{stand_of, sound, GoodNow}
 use Rattle.pfs_layout.proofs.Files.StandLemmas.{made, Fits}
-use Rattle.pfs_layout.proofs.Files.VerdictLemmas.{stand_lines, has_fault}
+use Rattle.pfs_layout.proofs.Files.VerdictLemmas.{stand_lines, has_fault, unrefused_holds, holds_accepted}
 use Rattle.pfs_layout.proofs.Files.GrowLemmas.{grows, stand_from}
 use Rattle.pfs_layout.proofs.Options.{cases_option, or_none}
-use Rattle.pfs_layout.proofs.Published.LawLemmas.{accepted_law, one_verdict}
+use Rattle.pfs_layout.proofs.Published.LawLemmas.{accepted_law}
 use Rattle.pfs_layout.proofs.Published.PlaceLemmas.{refusal_is, refusal_end}
 use Rattle.pfs_layout.proofs.Reading.StepLemmas.{refused_memory}
 use Rattle.pfs_layout.proofs.Reading.ByteSteps.{fault_within_limit, live_few, mixed_other}
@@ -108,20 +108,16 @@ record Ends (layout : Layout) (k : ℕ) (stood : Stand) (next : Blocks) : Type 0
 ends : (next : Blocks) (complete : List Block) (now : Now) (tail : List (List ℕ))
     → Fits next.layout now tail → FollowsBlocks false next (standing complete now) []
     → Ends next.layout next.wanted (standing complete now) next
-ends next complete seeking tail fits f = elim (cases_lt (length complete) next.wanted) [
+ends next complete seeking tail fits f = elim (cases_Bool (nat_lt (length complete) next.wanted)) [
   | inl few ↦
-      let fewer = lt-ltb (length complete) next.wanted few in
-      let phase : next.phase ≡ phases.Seeking = f.now.phase ∙ rw (f.complete, fewer) in
-      record { fault = rw (fewer, phase, f.complete); instance = λ none. let some = rw phase at none in absurd (cc) }
+      let phase : next.phase ≡ phases.Seeking = f.now.phase ∙ rw (f.complete, few) in
+      record { fault = rw (few, phase, f.complete); instance = λ none. let some = rw phase at none in absurd (cc) }
   | inr enough ↦
-      let all = le-ltb (length complete) next.wanted enough in
-      let phase : next.phase ≡ phases.Done = f.now.phase ∙ rw (f.complete, all) in
-      record { fault = rw (all, phase); instance = λ none. f.instance ∙ rw all }
+      let phase : next.phase ≡ phases.Done = f.now.phase ∙ rw (f.complete, enough) in
+      record { fault = rw (enough, phase); instance = λ none. f.instance ∙ rw enough }
 ]
 ends next complete (inside block) tail fits f =
-    let body = f.now.body in
-    let short = fits.short in
-    let less : next.body.judged < next.body.due = omega arith in
+    let less : next.body.judged < next.body.due = omega (arith, fits.short) in
     let phase : next.phase ≡ phases.Body = f.now.phase ∙ rw (lt-ltb _ _ less) in
     let count : next.body.judged ≡ length block.numbers = omega arith in
     record {
@@ -149,7 +145,7 @@ live_end r text f live =
     let next : Blocks = line_ended at_last (has_numbers_alone r.kinds) in
     let has_word : Bool = list_any is_word_byte (open_line text) in
     let fewer = live_few has_word r.blocks before.now (ended_numbers (open_line text)) f.blocks.now live in
-    let few : length before.complete < r.wanted = omega (arith, f.blocks.complete) in
+    let few : length before.complete < r.wanted = omega arith in
     let good = sound r.layout r.wanted text f.sound few in
     let found : Option LayoutFault = fault_within_limit r.layout before.now text 10 in
     let outcome = end_byte r.blocks r.last text 10 before.complete before.now refl refl live f.five_values f.line
@@ -182,7 +178,6 @@ done_end : (r : Fields) (text : List ℕ) → Follows r text → r.phase ≡ pha
 unfolding fault_of_place
 done_end r text f e =
     let before : Stand = stand_of r.layout text in
-    let some = f.some in
     let enough = done_enough r text f e in
     let all = le-ltb (length before.complete) r.wanted enough in
     let reached = rw append-nil at (stand_from r.layout text []) in
@@ -241,15 +236,9 @@ outcome_tells r text f o = (
   λ e.
       let none = o.fault ∙ e in
       let same : accepted r.layout text r.wanted ≡ (at_end r.last r.blocks).instance = rw none (sym (o.instance e)) in
-      elim (one_verdict r.layout text r.wanted f.some) [
-        | inl holds ↦
-            let problem : Problem = holds.0.one in
-            let is = (accepted_law r.layout text r.wanted problem f.some).1 holds.0.has in
-            (problem, sym same ∙ is, meets_accepted r text problem f.some none is)
-        | inr refuses ↦
-            let there = (refusal_is r.layout text r.wanted refuses.0.one).1 refuses.0.has in
-            absurd (cc)
-      ],
+      let held = unrefused_holds r.layout r.wanted f.some text none in
+      let is = holds_accepted r.layout r.wanted text held.0 held.1 in
+      (held.0, sym same ∙ is, meets_accepted r text held.0 f.some none is),
 )
 
 -- the fault of the reader's end, where it was refused
