@@ -1,9 +1,10 @@
 -- What finish owes: the end of an input is judged as a line end there would be, and as what is missing behind it.
 use Rattle.std.proofs.Common.{◌≡◌, ℕ, ◌-◌, ◌<◌, ◌≤◌, Bool, true, List, [], ◌++◌, length, refl, sym, ◌∙◌, arith, Option}
 use Rattle.std.proofs.Common.{Some, None, inl, inr, ◌+◌, false, ◌∷◌, ◌==◌, nat_lt}
-use Rattle.std.specs.Prelude.{Ok, Err, option_map, slice_get}
+use Rattle.std.specs.Prelude.{Result, Ok, Err, option_map, slice_get}
 use Rattle.std.specs.List.{list_any}
 use Rattle.std.specs.Option.{option_or}
+use Rattle.std.specs.Result.{result_ok, result_err}
 use Rattle.std.proofs.lemmas.Bool.{lt-ltb, le-ltb, cases_Bool, eqb-true}
 use Rattle.std.proofs.lemmas.List.{append-nil, nil_from_length}
 use Rattle.std.proofs.Math.Bool.{and-false, and-true}
@@ -28,9 +29,10 @@ use Rattle.pfs_layout.specs.Step.{is_live, number_of, last_number_ended, line_en
 use Rattle.pfs_layout.specs.Step.{at_end, stated_by, no_line, size_judged, line_ended_in}
 use Rattle.pfs_layout.specs.Reader.{Fields, Follows, StandsIn, StandsAfter, IsReader, FinishMeets, FollowsBlocks}
 use Rattle.pfs_layout.specs.Size.{Size, is_within_limits}
+use Rattle.pfs_layout.proofs.Files.FileLemmas.{completes_file}
 use Rattle.pfs_layout.proofs.Files.SoundLemmas.{stand_of, sound, GoodNow}
 use Rattle.pfs_layout.proofs.Files.StandLemmas.{made, Fits}
-use Rattle.pfs_layout.proofs.Files.VerdictLemmas.{stand_lines, has_fault, unrefused_holds, holds_accepted}
+use Rattle.pfs_layout.proofs.Files.VerdictLemmas.{stand_lines, has_fault, enough_holds, unrefused_holds, holds_accepted}
 use Rattle.pfs_layout.proofs.Files.GrowLemmas.{grows, stand_from}
 use Rattle.pfs_layout.proofs.Options.{cases_option, or_none}
 use Rattle.pfs_layout.proofs.Published.LawLemmas.{accepted_law}
@@ -126,10 +128,11 @@ ends next complete (inside block) tail fits f =
     }
 ends next complete lost tail fits f = absurd f.now
 
--- ---- the end of the input, where no byte has a fault
+-- ---- the end of the input
 
 -- the reader's fault is that of the input, and if there is none its instance is that of the input
 record EndOutcome (r : Fields) (text : List ℕ) : Type 0 where
+  pub some : 1 ≤ r.wanted
   pub fault : refusal r.layout text r.wanted ≡ end_fault r.kinds (at_end r.last r.blocks)
   pub instance : end_fault r.kinds (at_end r.last r.blocks) ≡ None
       → (at_end r.last r.blocks).instance
@@ -158,6 +161,7 @@ live_end r text f live =
       | inr one ↦
           let refuses = rw one.1 at outcome in
           record {
+            some = f.some;
             fault = rw (live, faults, one.1, closed.fault, refuses.phase);
             instance = λ none. let some = rw (live, closed.fault, refuses.phase) at none in absurd (cc);
           }
@@ -168,6 +172,7 @@ live_end r text f live =
           let early = rw (keeps.layout, keeps.wanted) at
           (ends next end.complete end.now m.tail (rw keeps.layout m.fits) follows) in
           record {
+            some = f.some;
             fault = rw (live, faults, none, closed.fault) early.fault;
             instance = rw live (λ z. closed.instance z ∙ early.instance (sym closed.fault ∙ z));
           }
@@ -184,42 +189,49 @@ done_end r text f e =
     let longer = grows r.layout before (lines (open_line text ++ [])) in
     let same = slice_get-append before.complete longer.0 (r.wanted - 1) (omega arith) in
     record {
+      some = f.some;
       fault = rw (e, refusal_end r.layout r.wanted text, f.sound, all);
       instance = λ none. rw (e, reached, longer.1, same, f.blocks.instance, all);
     }
 
+refused_end : (r : Fields) (fault : LayoutFault) → r.phase ≡ phases.Refused fault
+    → end_fault r.kinds (at_end r.last r.blocks) ≡ Some fault
+refused_end r fault e = rw e
+
+end_outcome : (r : Fields) (text : List ℕ) → StandsAfter r text → EndOutcome r text
+end_outcome r text s = by_phase r.phase refl s
+  where
+    by_phase : (p : Phase) → r.phase ≡ p → StandsIn p r text → EndOutcome r text
+    by_phase phases.Done e f = done_end r text f e
+    by_phase (phases.Refused fault) e f =
+        let few = (has_fault r.layout r.wanted f.front (Some f.byte) fault f.here).0 in
+        let told = refused_end r fault e in
+        record {
+          some = omega arith;
+          fault = rw (told, refusal_end r.layout r.wanted text, refused_fault r text fault f);
+          instance = λ none. absurd (cc);
+        }
+    by_phase phase e f = live_end r text f (rw e)
+
 -- ---- the verdict
 
-meets_refused : (r : Fields) (text : List ℕ) (fault : LayoutFault) → 1 ≤ r.wanted
-    → refusal r.layout text r.wanted ≡ Some fault → FinishMeets r text (Err fault)
-unfolding accepted
-meets_refused r text fault some e =
+-- finish owes the problem that is accepted, or the fault
+meets : (r : Fields) (text : List ℕ) (outcome : Result Problem LayoutFault) → 1 ≤ r.wanted
+    → accepted r.layout text r.wanted ≡ result_ok outcome → refusal r.layout text r.wanted ≡ result_err outcome
+    → FinishMeets r text outcome
+meets r text (Ok problem) some ok err =
+    let accepts = λ (other : Problem). accepted_law r.layout text r.wanted other some in
     let refuses = refusal_is r.layout text r.wanted in
     record {
-      file = λ problem. (
-        λ z. absurd (cc),
-        λ file. let is = rw e at ((accepted_law r.layout text r.wanted problem some).1 file) in absurd (cc),
-      );
-      refused = λ other. (
-        λ z. let same : fault ≡ other = cc in (refuses other).0 (rw same at e),
-        λ o. let is = (refuses other).1 o in cc,
-      );
+      file = λ other. (λ z. (accepts other).0 (cc), λ file. cc ((accepts other).1 file));
+      refused = λ other. (λ z. (refuses other).0 (cc), λ refused. cc ((refuses other).1 refused));
     }
-
-meets_accepted : (r : Fields) (text : List ℕ) (problem : Problem) → 1 ≤ r.wanted
-    → refusal r.layout text r.wanted ≡ None → accepted r.layout text r.wanted ≡ Some problem
-    → FinishMeets r text (Ok problem)
-meets_accepted r text problem some none e =
+meets r text (Err fault) some ok err =
     let accepts = λ (other : Problem). accepted_law r.layout text r.wanted other some in
+    let refuses = refusal_is r.layout text r.wanted in
     record {
-      file = λ other. (
-        λ z. (accepts other).0 (let same : problem ≡ other = cc in rw same at e),
-        λ file. let is = (accepts other).1 file in cc,
-      );
-      refused = λ fault. (
-        λ z. absurd (cc),
-        λ o. let is = (refusal_is r.layout text r.wanted fault).1 o in absurd (cc),
-      );
+      file = λ other. (λ z. (accepts other).0 (cc), λ file. cc ((accepts other).1 file));
+      refused = λ other. (λ z. (refuses other).0 (cc), λ refused. cc ((refuses other).1 refused));
     }
 
 -- where a reader stands, the end of the input is judged so
@@ -229,51 +241,32 @@ FinishTells r text =
     × (end_fault r.kinds (at_end r.last r.blocks) ≡ None
     → (problem : Problem) × ((at_end r.last r.blocks).instance ≡ Some problem) × FinishMeets r text (Ok problem))
 
-outcome_tells : (r : Fields) (text : List ℕ) → Follows r text → EndOutcome r text → FinishTells r text
-unfolding accepted
-outcome_tells r text f o = (
-  λ fault e. meets_refused r text fault f.some (o.fault ∙ e),
-  λ e.
-      let none = o.fault ∙ e in
-      let same : accepted r.layout text r.wanted ≡ (at_end r.last r.blocks).instance = rw none (sym (o.instance e)) in
-      let held = unrefused_holds r.layout r.wanted f.some text none in
-      let is = holds_accepted r.layout r.wanted text held.0 held.1 in
-      (held.0, sym same ∙ is, meets_accepted r text held.0 f.some none is),
-)
-
--- the fault of the reader's end, where it was refused
-refused_tells : (r : Fields) (text : List ℕ) (fault : LayoutFault) → r.phase ≡ phases.Refused fault
-    → end_fault r.kinds (at_end r.last r.blocks) ≡ Some fault
-refused_tells r text fault e = rw e
-
 pub finish_tells : (r : Fields) (text : List ℕ) → StandsAfter r text → FinishTells r text
-finish_tells r text s = by_phase r.phase refl s
-  where
-    by_phase : (p : Phase) → r.phase ≡ p → StandsIn p r text → FinishTells r text
-    by_phase phases.Done e f = outcome_tells r text f (done_end r text f e)
-    by_phase (phases.Refused fault) e f =
-        let told = refused_tells r text fault e in
-        let some = (has_fault r.layout r.wanted f.front (Some f.byte) fault f.here).0 in
-        let is : refusal r.layout text r.wanted ≡ Some fault =
-        rw (refusal_end r.layout r.wanted text, refused_fault r text fault f) in (
-          λ other h. let same : fault ≡ other = cc in
-              meets_refused r text other (omega arith) (rw same at is),
-          λ h. absurd (cc),
-        )
-    by_phase phase e f = outcome_tells r text f (live_end r text f (rw e))
+unfolding accepted
+finish_tells r text s =
+    let o = end_outcome r text s in (
+      λ fault e. meets r text (Err fault) o.some (rw (o.fault ∙ e)) (o.fault ∙ e),
+      λ e.
+          let none = o.fault ∙ e in
+          let same : accepted r.layout text r.wanted ≡ (at_end r.last r.blocks).instance =
+          rw none (sym (o.instance e)) in
+          let held = unrefused_holds r.layout r.wanted o.some text none in
+          let is = holds_accepted r.layout r.wanted text held.0 held.1 in
+          (held.0, sym same ∙ is, meets r text (Ok held.0) o.some is none),
+    )
 
 -- a reader that is done has a file
 pub finish_done : (r : Fields) (text : List ℕ) → Follows r text → r.phase ≡ phases.Done
     → (problem : Problem) × IsInstanceFile limits r.layout text r.wanted problem
 finish_done r text f e =
-    let found = (outcome_tells r text f (done_end r text f e)).1 (rw e) in
-    (found.0, (found.2.file found.0).0 refl)
+    let held = enough_holds r.layout r.wanted f.some text f.sound (done_enough r text f e) in
+    (held.0, completes_file r.layout text r.wanted held.0 held.1.0)
 
 -- where the input may end here, the instance is there
 pub end_has_instance : (r : Fields) → IsReader r → end_fault r.kinds (at_end r.last r.blocks) ≡ None
     → (at_end r.last r.blocks).instance ≡ None → ⊥
 end_has_instance r some told none = elim (refused_memory r.phase) [
-  | inl e ↦ let refused = refused_tells r [] Memory e in cc
+  | inl e ↦ let refused = refused_end r Memory e in cc
   | inr other ↦
       let at = some.stands other in
       let there = (finish_tells r at.0 at.1).1 told in
