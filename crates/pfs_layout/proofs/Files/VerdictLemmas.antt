@@ -124,8 +124,7 @@ module _ (layout : Layout) (k : ℕ) where
         let front = faultless_front text b right in
         let none = rw (lt-ltb _ k few) at front.1 in
         let short = (no_others _ text (Some b) (sound layout k text front.0 few) none).0 in
-        let never = rw (eq-eqb (length text) LONGEST_INPUT e) at short in
-        absurd (cc)
+        absurd (cc (rw (eq-eqb (length text) LONGEST_INPUT e) at short))
   ]
 
   short_few : (text : List ℕ) → Faultless text → Few text → length text ≤ LONGEST_INPUT
@@ -272,7 +271,7 @@ module _ (layout : Layout) (k : ℕ) where
       → byte_fault layout k text ≡ Some fault → (more : List ℕ) → (stand layout (lines (text ++ more))).now ≡ lost
   text_loses text fault = by_push (λ text. length text ≤ LONGEST_INPUT → byte_fault layout k text ≡ Some fault
       → (more : List ℕ) → (stand layout (lines (text ++ more))).now ≡ lost)
-      (λ short e. absurd (let none = rw no_byte at e in cc)) (λ text b earlier short e more.
+      (λ short e. absurd (cc (e, no_byte layout k))) (λ text b earlier short e more.
       let size = length_push text b in
       rw (append_assoc text (b ∷ []) more) (elim (cases_option (byte_fault layout k text)) [
         | inr one ↦ earlier (omega arith) (one.1 ∙ rw (byte_fault-push, one.1) at e) (b ∷ more)
@@ -308,8 +307,7 @@ module _ (layout : Layout) (k : ℕ) where
         let away = loses input None found.0 (open_line input) here layout k reached.complete reached.now has.1 long
         early in
         let same = stand_lines layout input (sound layout k input right has.0) in
-        let now = rw (← same, stands) at away in
-        cc
+        cc (rw (← same, stands) at away)
   ]
 
   holds_unrefused : (input : List ℕ) (problem : Problem) → Completes layout input k problem
@@ -334,8 +332,7 @@ module _ (layout : Layout) (k : ℕ) where
         | inl none ↦ none
         | inr found ↦
             let away = rw append-nil at (text_loses c.text found.0 c.short found.1 []) in
-            let now = rw c.stands at away in
-            cc
+            cc (rw c.stands at away)
       ]
 
   pub holds_faultless : (input : List ℕ) (problem : Problem) → Completes layout input k problem → (place : ℕ)
@@ -368,14 +365,15 @@ module _ (layout : Layout) (k : ℕ) where
   -- an input holds one problem
   pub one_held : (input : List ℕ) (one other : Problem) → Completes layout input k one → Completes layout input k other
       → one ≡ other
-  one_held input one other c d = same_Some one other (sym (holds_accepted input one c) ∙ holds_accepted input other d)
+  one_held input one other c d = cc (holds_accepted input one c, holds_accepted input other d)
 
   pub accepted_holds : 1 ≤ k → (input : List ℕ) (problem : Problem) → accepted layout input k ≡ Some problem
       → Completes layout input k problem
   unfolding accepted
   accepted_holds some input problem e = elim (cases_option (refusal layout input k)) [
-    | inr refused ↦ let none = rw refused.1 at e in absurd (cc)
+    | inr refused ↦ absurd (cc (rw refused.1 at e))
     | inl none ↦
         let holds = unrefused_holds some input none in
-        rw (same_Some holds.0 problem (sym (holds_accepted input holds.0 holds.1) ∙ e)) at holds.1
+        let same : holds.0 ≡ problem = cc (e, holds_accepted input holds.0 holds.1) in
+        rw same at holds.1
   ]
