@@ -6,7 +6,7 @@ use Rattle.std.specs.Str.Parse.{digits_value}
 use Rattle.std.proofs.lemmas.Bool.{and_parts, cases_Bool, eqb-true, false_from_ne_true, lt-leb, ltb-true, not-true}
 use Rattle.std.proofs.lemmas.Bool.{both_ways}
 use Rattle.std.proofs.lemmas.Bool.Decides.{nat_tests}
-use Rattle.std.proofs.Math.Bool.{or-false}
+use Rattle.std.proofs.Math.Bool.{or-false, not-and_self}
 use Rattle.std.proofs.Math.Seq.{get_or-append_seam}
 use Rattle.std.proofs.lemmas.List.{append_assoc, length-append}
 use Rattle.std.proofs.lemmas.List.Folds.{list_any-append}
@@ -38,9 +38,9 @@ numbers_break xs b ys e = rw (slice_split-break is_no_digit xs b ys e) (values-a
 
 -- ---- the line of a place
 
--- the line that ends at a place, or that goes on with the byte there
+-- the line that ends at a place, where none becomes mixed, or that goes on with the byte there
 pub data LineAt (text : List ℕ) (next : Option ℕ) (line : List ℕ) : Type 0 where
-  ends_here : ((b : ℕ) → next ≡ Some b → is_line_end b ≡ true) → line ≡ open_line text → LineAt text next line
+  ends_here : mixed_line text next ≡ None → line ≡ open_line text → LineAt text next line
   goes_on : (b : ℕ) (tail : List ℕ) → next ≡ Some b → is_line_end b ≡ false → line ≡ open_line text ++ b ∷ tail
       → LineAt text next line
 
@@ -50,10 +50,13 @@ size_lost : (o : Option Size) (line : ℕ) (fault : LayoutFault) → size_fault 
 size_lost None line fault e = refl
 size_lost (Some size) line fault e = rw (not-true _ (then_some_some _ (SizeRange line) fault e))
 
-mixed_at_end : (line : List ℕ) (b : ℕ) → is_line_end b ≡ true → is_mixed (line ++ b ∷ []) ≡ is_mixed line
-mixed_at_end line b e =
+-- a line end mixes nothing
+pub mixed_at_end : (text : List ℕ) (b : ℕ) → is_line_end b ≡ true → mixed_line text (Some b) ≡ None
+unfolding mixed_line
+mixed_at_end text b e =
+    let line : List ℕ = open_line text in
     rw (eqb-true b 10 e, list_any-append is_digit line, list_any-append is_word_byte line)
-    (rw (or-false (list_any is_digit line), or-false (list_any is_word_byte line)))
+    (rw (or-false (list_any is_digit line), or-false (list_any is_word_byte line), not-and_self))
 
 mixed_longer : (line more : List ℕ) → is_mixed line ≡ true → is_mixed (line ++ more) ≡ true
 mixed_longer line more e =
@@ -92,23 +95,13 @@ module _ (text : List ℕ) (next : Option ℕ) (fault : LayoutFault) (line : Lis
 
   mixed_line_mixed : mixed_line text next ≡ Some fault → is_mixed line ≡ true
   unfolding mixed_line
-  mixed_line_mixed e = by_next next e at
-    where
-      before : List ℕ
-      before = open_line text
-
-      by_next : (next : Option ℕ) → mixed_line text next ≡ Some fault → LineAt text next line → is_mixed line ≡ true
-      by_next None e at = cc
-      by_next (Some b) e at =
-          let parts = and_parts (not (is_mixed before)) (is_mixed (before ++ b ∷ [])) (then_some_some _ _ fault e) in
-          elim at [
-            | ends_here h same ↦
-                let one = not-true (is_mixed before) parts.0 in
-                absurd (both_ways _ one (rw (mixed_at_end before b (h b refl)) at parts.1))
-            | goes_on c tail is inner same ↦
-                let byte : c ≡ b = cc in
-                rw (same, byte, ← append_assoc before (b ∷ []) tail) (mixed_longer (before ++ b ∷ []) tail parts.1)
-          ]
+  mixed_line_mixed e = elim at [
+    | ends_here none same ↦ absurd (cc)
+    | goes_on b tail is inner same ↦
+        let before : List ℕ = open_line text in
+        let parts = and_parts (not (is_mixed before)) _ (then_some_some _ _ fault (rw is at e)) in
+        rw (same, ← append_assoc before (b ∷ []) tail) (mixed_longer (before ++ b ∷ []) tail parts.1)
+  ]
 
   -- the numbers of the line, from its ended ones and the one that ends at the place on
   numbers_at : ends_number text next ≡ true → (more : List ℕ)

@@ -18,7 +18,7 @@ use Rattle.pfs_layout.specs.Lines.{lines, ended_lines, open_line, ended_parts, n
 use Rattle.pfs_layout.specs.Stand.{Block, Now, seeking, inside, lost, Stand, standing, completed, after_line}
 use Rattle.pfs_layout.specs.Stand.{stand_after, stand, instance_of}
 use Rattle.pfs_layout.specs.Refuse.{too_long, missing, ends_early, faults, fault_of_place, fault_at, refusal, accepted}
-use Rattle.pfs_layout.specs.Refuse.{byte_fault}
+use Rattle.pfs_layout.specs.Refuse.{byte_fault, mixed_line}
 use Rattle.pfs_layout.specs.Laws.{Completes}
 use Rattle.pfs_layout.proofs.Published.PlaceLemmas.{byte_fault-push, refusal_end, no_fault, not_refused, slice_get-at}
 use Rattle.pfs_layout.proofs.Files.SoundLemmas.{GoodNow, good_end, same_last, sound}
@@ -28,7 +28,7 @@ use Rattle.pfs_layout.proofs.Files.StandLemmas.{Fits, made}
 use Rattle.pfs_layout.proofs.Files.CutLemmas.{lines-parts, lines-line}
 use Rattle.pfs_layout.proofs.Files.GrowLemmas.{one_line, Extends, grows, fewer_before, no_end, line_on}
 use Rattle.pfs_layout.proofs.Files.GrowLemmas.{stand_from, stays_lost}
-use Rattle.pfs_layout.proofs.Files.LoseLemmas.{LineAt, ends_here, goes_on, loses}
+use Rattle.pfs_layout.proofs.Files.LoseLemmas.{mixed_at_end, LineAt, ends_here, goes_on, loses}
 
 -- the lines of a text that ends with a line end
 lines_ended : (text : List ℕ) → open_line text ≡ [] → lines text ≡ ended_lines text
@@ -77,7 +77,7 @@ line_at before b after = elim (cases_Bool (is_line_end b)) [
   | inl ends ↦ (
     open_line before,
     lines after,
-    ends_here (λ c same. let byte : b ≡ c = cc in rw byte at ends) refl,
+    ends_here (mixed_at_end before b ends) refl,
     lines-line (open_line before) b after (no_end before) ends,
   )
   | inr goes ↦
@@ -295,7 +295,7 @@ module _ (layout : Layout) (k : ℕ) where
   end_right : (input : List ℕ) (blocks : List Block) → Faultless input
       → stand layout (lines input) ≡ standing blocks seeking → length blocks ≡ k
       → fault_of_place layout k input None ≡ None
-  unfolding stand_after ends_early
+  unfolding stand_after ends_early mixed_line
   end_right input blocks right stands count = elim (cases_option (fault_of_place layout k input None)) [
     | inl none ↦ none
     | inr found ↦
@@ -303,7 +303,7 @@ module _ (layout : Layout) (k : ℕ) where
         let has = has_fault input None found.0 found.1 in
         let long : too_long input None ≡ None = rw (and_right (length input == LONGEST_INPUT) false refl) in
         let early : ends_early layout k input None ≡ None = rw (stands, le-ltb (length blocks) k (omega arith)) in
-        let here : LineAt input None (open_line input) = ends_here (λ b same. absurd (cc)) refl in
+        let here : LineAt input None (open_line input) = ends_here refl refl in
         let away = loses input None found.0 (open_line input) here layout k reached.complete reached.now has.1 long
         early in
         let same = stand_lines layout input (sound layout k input right has.0) in
