@@ -8,7 +8,7 @@ use Rattle.std.proofs.lemmas.List.{append_assoc, append-nil, length_push, nil_fr
 use Rattle.pfs_base.specs.declared.limits.TheConstants.{LONGEST_INPUT}
 use Rattle.pfs_base.specs.Lists.{is_empty, first_some}
 use Rattle.pfs_base.specs.Problem.{Problem}
-use Rattle.pfs_base.proofs.Published.Lists.{by_push}
+use Rattle.pfs_base.proofs.Published.Lists.{by_push, slice_get-append, slice_get-push}
 use Rattle.pfs_layout.specs.declared.layout.Layout.{Layout}
 use Rattle.pfs_layout.specs.declared.fault.LayoutFault.{LayoutFault}
 use Rattle.pfs_layout.specs.declared.fault.LayoutFault.TheVariants.{NoBlock}
@@ -19,13 +19,13 @@ use Rattle.pfs_layout.specs.Stand.{stand_after, stand, instance_of}
 use Rattle.pfs_layout.specs.Refuse.{too_long, missing, ends_early, faults, fault_of_place, fault_at, refusal, accepted}
 use Rattle.pfs_layout.specs.Refuse.{byte_fault, mixed_line}
 use Rattle.pfs_layout.specs.Laws.{Completes}
-use Rattle.pfs_layout.proofs.Published.PlaceLemmas.{byte_fault-push, refusal_end, no_fault, not_refused, slice_get-at}
+use Rattle.pfs_layout.proofs.Published.PlaceLemmas.{byte_fault-push, refusal_end, no_fault, not_refused}
 use Rattle.pfs_layout.proofs.Files.SoundLemmas.{GoodNow, good_end, same_last, sound}
 use Rattle.pfs_layout.proofs.Options.{then_some_none, if_some, cases_option, all_none, or_none}
 use Rattle.pfs_layout.proofs.Files.SoundLemmas.{stand-push, stand_of, stand_of-end, stand_of-on, open_line-end}
 use Rattle.pfs_layout.proofs.Files.StandLemmas.{Fits, made}
 use Rattle.pfs_layout.proofs.Files.CutLemmas.{lines-parts, lines-line}
-use Rattle.pfs_layout.proofs.Files.GrowLemmas.{one_line, Extends, grows, fewer_before, no_end, line_on}
+use Rattle.pfs_layout.proofs.Files.GrowLemmas.{one_line, grows, fewer_before, no_end, line_on}
 use Rattle.pfs_layout.proofs.Files.GrowLemmas.{stand_from, stays_lost}
 use Rattle.pfs_layout.proofs.Files.LoseLemmas.{mixed_at_end, LineAt, ends_here, goes_on, loses}
 
@@ -59,6 +59,13 @@ stand_lines layout text good = elim (cases_Bool (is_empty (open_line text))) [
       rw (lines_ended text nothing, nothing)
       (sym (empty_line layout before.complete before.now m.tail (rw nothing at good) m.fits))
 ]
+
+-- a block that is complete before the last line stays
+pub block_stays : (layout : Layout) (text more : List ℕ) (i : ℕ) → i < length (stand_of layout text).complete
+    → slice_get (stand layout (lines (text ++ more))).complete i ≡ slice_get (stand_of layout text).complete i
+block_stays layout text more i within =
+    let longer = grows layout (stand_of layout text) (lines (open_line text ++ more)) in
+    rw (stand_from layout text more, longer.1) (slice_get-append (stand_of layout text).complete longer.0 i within)
 
 no_complete : (layout : Layout) → length (stand_of layout []).complete ≡ 0
 unfolding stand ended_parts
@@ -165,11 +172,11 @@ module _ (layout : Layout) (k : ℕ) where
         )
   ]
 
-  -- and the front of the input that does ends with a line end
+  -- the problem's file ends with a line end
   abbrev pub EndedHolds : List ℕ → Problem → Type 0
   EndedHolds input problem = (c : Completes layout input k problem) × (open_line c.text ≡ [])
 
-  -- whatever follows
+  -- so it is the file whatever follows
   pub holds_longer : (text more : List ℕ) (problem : Problem) → EndedHolds text problem
       → EndedHolds (text ++ more) problem
   holds_longer text more problem held =
@@ -195,6 +202,7 @@ module _ (layout : Layout) (k : ℕ) where
         (held.0, (held.1, rw held.2 ended))
   ]
 
+  -- k blocks that are complete before the last line hold a problem
   pub enough_holds : 1 ≤ k → (input : List ℕ) → Faultless input → k ≤ length (stand_of layout input).complete
       → (problem : Problem) × EndedHolds input problem
   enough_holds some = by_push (λ input. Faultless input → k ≤ length (stand_of layout input).complete
@@ -207,11 +215,13 @@ module _ (layout : Layout) (k : ℕ) where
             (held.0, holds_longer input (b ∷ []) held.0 held.1)
       ])
 
+  -- nothing is missing at the end behind lines without a fault
   early_end : (now : Now) (complete : ℕ) → GoodNow layout now [] → missing layout k complete now ≡ None → k ≤ complete
   early_end seeking complete good e = ltb-false complete k (then_some_none (nat_lt complete k) (NoBlock complete) e)
   early_end (inside block) complete good e = cc
   early_end lost complete good e = absurd good
 
+  -- an input whose last line completes the k-th block
   end_holds : (input : List ℕ) → Faultless input → Few input → fault_of_place layout k input None ≡ None → Holds input
   unfolding stand_after fault_of_place ends_early
   end_holds input right few last =
@@ -266,6 +276,7 @@ module _ (layout : Layout) (k : ℕ) where
       rw (stand_from layout before (b ∷ after), at.3) (stays_lost layout (stand_after layout reached at.0) at.1
       (loses before (Some b) fault at.0 at.2 layout k reached.complete reached.now here long refl))
 
+  -- so whatever follows
   text_loses : (text : List ℕ) (fault : LayoutFault) → length text ≤ LONGEST_INPUT
       → byte_fault layout k text ≡ Some fault → (more : List ℕ) → (stand layout (lines (text ++ more))).now ≡ lost
   text_loses text fault = by_push (λ text. length text ≤ LONGEST_INPUT → byte_fault layout k text ≡ Some fault
@@ -283,6 +294,7 @@ module _ (layout : Layout) (k : ℕ) where
   unfolding fault_of_place
   enough_right text next enough = rw (le-ltb _ k enough)
 
+  -- nor has a byte that follows them
   faultless_behind : (text more : List ℕ) → k ≤ length (stand_of layout text).complete → Faultless text
       → Faultless (text ++ more)
   faultless_behind text more enough right = by_push (λ more. Faultless (text ++ more)) (rw (append-nil text) right)
@@ -291,6 +303,7 @@ module _ (layout : Layout) (k : ℕ) where
       rw (← append_assoc text more (b ∷ []), byte_fault-push layout k (text ++ more) b, h)
       (enough_right (text ++ more) (Some b) (omega arith))) more
 
+  -- nor has the end of an input of k blocks
   end_right : (input : List ℕ) (blocks : List Block) → Faultless input
       → stand layout (lines input) ≡ standing blocks seeking → length blocks ≡ k
       → fault_of_place layout k input None ≡ None
@@ -343,17 +356,16 @@ module _ (layout : Layout) (k : ℕ) where
   kth_block : (input : List ℕ) (problem : Problem) (c : Completes layout input k problem)
       → slice_get (stand layout (lines input)).complete (k - 1) ≡ Some c.own
   kth_block input problem c =
-      let longer : Extends (c.earlier ++ c.own ∷ []) (stand layout (lines input)).complete = elim c.ended [
+      let at : k - 1 ≡ length c.earlier = omega (arith, c.count) in
+      let own = slice_get-push c.earlier c.own in
+      elim c.ended [
         | inl ended ↦
             let stands = rw (lines_ended c.text ended) at c.stands in
-            rw (c.whole, stand_from layout c.text c.rest, stands)
-            (grows layout (completed c.earlier c.own) (lines (open_line c.text ++ c.rest)))
-        | inr none ↦
-            let same : input ≡ c.text = rw (none, append-nil) at c.whole in
-            ([], rw (same, c.stands) (sym (append-nil (c.earlier ++ c.own ∷ []))))
-      ] in
-      let at : k - 1 ≡ length c.earlier = omega (arith, c.count) in
-      rw (at, longer.1, append_assoc c.earlier (c.own ∷ []) longer.0) (slice_get-at c.earlier c.own longer.0)
+            let within : k - 1 < length (stand_of layout c.text).complete =
+            rw stands (omega (arith, length_push c.earlier c.own)) in
+            rw (c.whole, block_stays layout c.text c.rest (k - 1) within, stands, at) own
+        | inr none ↦ let same : input ≡ c.text = rw (none, append-nil) at c.whole in rw (same, c.stands, at) own
+      ]
 
   pub holds_accepted : (input : List ℕ) (problem : Problem) → Completes layout input k problem
       → accepted layout input k ≡ Some problem

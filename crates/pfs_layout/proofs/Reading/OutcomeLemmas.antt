@@ -10,7 +10,6 @@ use Rattle.std.proofs.lemmas.List.{append-nil, nil_from_length}
 use Rattle.std.proofs.Math.Bool.{and-false, and-true}
 use Rattle.pfs_base.specs.Limits.{limits}
 use Rattle.pfs_base.specs.Problem.{Problem}
-use Rattle.pfs_base.proofs.Published.Lists.{slice_get-append}
 use Rattle.pfs_base.specs.Lists.{is_empty, first_some}
 use Rattle.pfs_layout.specs.declared.fault.LayoutFault.{LayoutFault}
 use Rattle.pfs_layout.specs.declared.fault.LayoutFault.TheVariants.{Memory, Truncated}
@@ -32,8 +31,8 @@ use Rattle.pfs_layout.specs.Size.{Size, is_within_limits}
 use Rattle.pfs_layout.proofs.Files.FileLemmas.{completes_file}
 use Rattle.pfs_layout.proofs.Files.SoundLemmas.{stand_of, sound, GoodNow}
 use Rattle.pfs_layout.proofs.Files.StandLemmas.{made, Fits}
-use Rattle.pfs_layout.proofs.Files.VerdictLemmas.{stand_lines, has_fault, enough_holds, unrefused_holds, holds_accepted}
-use Rattle.pfs_layout.proofs.Files.GrowLemmas.{grows, stand_from}
+use Rattle.pfs_layout.proofs.Files.VerdictLemmas.{stand_lines, block_stays, enough_holds, unrefused_holds}
+use Rattle.pfs_layout.proofs.Files.VerdictLemmas.{has_fault, holds_accepted}
 use Rattle.pfs_layout.proofs.Options.{cases_option, or_none}
 use Rattle.pfs_layout.proofs.Published.LawLemmas.{accepted_law}
 use Rattle.pfs_layout.proofs.Published.PlaceLemmas.{refusal_is, refusal_end}
@@ -185,13 +184,11 @@ done_end r text f e =
     let before : Stand = stand_of r.layout text in
     let enough = done_enough r text f e in
     let all = le-ltb (length before.complete) r.wanted enough in
-    let reached = rw append-nil at (stand_from r.layout text []) in
-    let longer = grows r.layout before (lines (open_line text ++ [])) in
-    let same = slice_get-append before.complete longer.0 (r.wanted - 1) (omega arith) in
+    let stays = rw append-nil at (block_stays r.layout text [] (r.wanted - 1) (omega arith)) in
     record {
       some = f.some;
       fault = rw (e, refusal_end r.layout r.wanted text, f.sound, all);
-      instance = λ none. rw (e, reached, longer.1, same, f.blocks.instance, all);
+      instance = λ none. rw (e, stays, f.blocks.instance, all);
     }
 
 refused_end : (r : Fields) (fault : LayoutFault) → r.phase ≡ phases.Refused fault
