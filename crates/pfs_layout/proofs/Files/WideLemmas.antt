@@ -21,6 +21,7 @@ module _ (narrow wide : Limits) (wider : IsWider narrow wide) where
     lower = omega arith;
   }
 
+  -- all else that a block is names no limit
   block_wider : (layout : Layout) (problem : Problem) (block : List (List ℕ)) → IsBlock narrow layout problem block
       → IsBlock wide layout problem block
   block_wider layout problem block b = let within = instance_wider problem b.within in search

@@ -1,5 +1,5 @@
 -- What finish owes: the end of an input is judged as a line end there would be, and as what is missing behind it.
-use Rattle.std.proofs.Common.{◌≡◌, ℕ, ◌-◌, ◌<◌, ◌≤◌, Bool, true, List, [], ◌++◌, length, refl, sym, ◌∙◌, arith, Option}
+use Rattle.std.proofs.Common.{◌≡◌, ℕ, ◌-◌, ◌<◌, ◌≤◌, Bool, true, List, [], length, refl, sym, ◌∙◌, arith, Option}
 use Rattle.std.proofs.Common.{Some, None, inl, inr, ◌+◌, false, ◌∷◌, ◌==◌, nat_lt}
 use Rattle.std.specs.Prelude.{Result, Ok, Err, option_map, slice_get}
 use Rattle.std.specs.List.{list_any}
