@@ -1,18 +1,14 @@
 -- Where lines begin and end in a text.
-use Rattle.std.proofs.Common.{◌≡◌, ℕ, Bool, true, false, List, [], ◌∷◌, ◌++◌, refl, sym, ap, ◌⊎◌, inl, inr}
+use Rattle.std.proofs.Common.{◌≡◌, ℕ, Bool, true, false, List, [], ◌∷◌, ◌++◌, refl, sym, ap, arith, length, ◌⊎◌, inl, inr}
 use Rattle.std.proofs.Common.{if◌then◌else◌}
 use Rattle.std.specs.List.{list_any, slice_split}
 use Rattle.std.proofs.lemmas.Bool.{cases_Bool, or_parts}
-use Rattle.std.proofs.lemmas.List.{append_assoc, append-nil}
+use Rattle.std.proofs.lemmas.List.{append_assoc, append-nil, length-append, nil_from_length}
 use Rattle.pfs_base.specs.Lists.{is_empty}
 use Rattle.pfs_layout.specs.Bytes.{is_line_end}
 use Rattle.pfs_layout.specs.Lines.{lines, ended_parts, open_part, ended_lines, open_line}
 use Rattle.pfs_layout.proofs.Files.SoundLemmas.{open_line-none}
 use Rattle.pfs_layout.proofs.Files.LineLemmas.{split_some}
-
-front_nil : {A : Type 0} (xs ys : List A) → xs ++ ys ≡ [] → xs ≡ []
-front_nil [] ys e = refl
-front_nil (x ∷ xs) ys e = cc
 
 module _ (p : ℕ → Bool) where
   -- the parts on both sides of what ends one
@@ -31,19 +27,17 @@ module _ (p : ℕ → Bool) where
       let parts = or_parts (p x) (list_any p part) none in rw (parts.0, slice_split-open part parts.1)
 
   -- a part, what ends it, and the rest
-  slice_split-part : (part : List ℕ) (c : ℕ) (rest : List ℕ) → list_any p part ≡ false → p c ≡ true
-      → slice_split p (part ++ c ∷ rest) ≡ part ∷ slice_split p rest
-  slice_split-part part c rest none e = rw (slice_split-break part c rest e, slice_split-open part none)
-
   ended_parts-part : (part : List ℕ) (c : ℕ) (rest : List ℕ) → list_any p part ≡ false → p c ≡ true
       → ended_parts p (part ++ c ∷ rest) ≡ part ∷ ended_parts p rest
   unfolding ended_parts
-  ended_parts-part part c rest none e = let s = split_some p rest in rw (slice_split-part part c rest none e, s.is)
+  ended_parts-part part c rest none e =
+      let s = split_some p rest in rw (slice_split-break part c rest e, slice_split-open part none, s.is)
 
   pub open_part-part : (part : List ℕ) (c : ℕ) (rest : List ℕ) → list_any p part ≡ false → p c ≡ true
       → open_part p (part ++ c ∷ rest) ≡ open_part p rest
   unfolding open_part
-  open_part-part part c rest none e = let s = split_some p rest in rw (slice_split-part part c rest none e, s.is)
+  open_part-part part c rest none e =
+      let s = split_some p rest in rw (slice_split-break part c rest e, slice_split-open part none, s.is)
 
 -- what follows the last line end, if it isn't empty
 abbrev pub last_line : List ℕ → List (List ℕ)
@@ -106,7 +100,7 @@ front_of_lines text (line ∷ some) more e =
             | inl empty ↦ let no_line = rw empty at only in absurd (cc)
             | inr filled ↦
                 let one = rw filled at only in
-                let nothing : some ≡ [] = front_nil some more (cc) in
+                let nothing = nil_from_length some (omega (arith, ap length one, length-append some more)) in
                 let same : text ≡ line = cc in
                 record {
                   front = text;
