@@ -25,23 +25,24 @@ abbrev of_input : Option LayoutFault → Bool
 of_input None = true
 of_input (Some fault) = is_input_fault fault
 
-of_if : (test : Bool) (fault : LayoutFault) → is_input_fault fault ≡ true → of_input (then_some test fault) ≡ true
-of_if true fault e = e
-of_if false fault e = refl
+of_then_some : (test : Bool) (fault : LayoutFault) → is_input_fault fault ≡ true
+    → of_input (then_some test fault) ≡ true
+of_then_some true fault e = e
+of_then_some false fault e = refl
 
-of_both : (test : Bool) (found : Option LayoutFault) → of_input found ≡ true
+of_if : (test : Bool) (found : Option LayoutFault) → of_input found ≡ true
     → of_input (if test then found else None) ≡ true
-of_both true found e = e
-of_both false found e = refl
+of_if true found e = e
+of_if false found e = refl
 
 of_misfit : (due : Due) (number offset : ℕ) → of_input (misfit due number offset) ≡ true
-of_misfit any_time number offset = search of_if
-of_misfit (machine_number machine) number offset = search of_if
+of_misfit any_time number offset = search of_then_some
+of_misfit (machine_number machine) number offset = search of_then_some
 of_misfit nothing number offset = refl
 
 of_size : (stated : Option Size) (line : ℕ) → of_input (size_fault stated line) ≡ true
 of_size None line = refl
-of_size (Some size) line = search of_if
+of_size (Some size) line = search of_then_some
 
 of_first : (os : List (Option LayoutFault)) → AllByRecursion (λ o. of_input o ≡ true) os
     → of_input (first_some os) ≡ true
@@ -50,23 +51,25 @@ of_first (None ∷ os) all = of_first os all.1
 of_first (Some x ∷ os) all = all.0
 
 of_missing : (layout : Layout) (k complete : ℕ) (now : Now) → of_input (missing layout k complete now) ≡ true
-of_missing layout k complete seeking = search of_if
+of_missing layout k complete seeking = search of_then_some
 of_missing layout k complete (inside block) = refl
 of_missing layout k complete lost = refl
+
+ruleset of_parts = (of_first, of_then_some, of_if, of_misfit, of_size, of_missing)
 
 of_faults : (layout : Layout) (k : ℕ) (now : Now) (text : List ℕ) (next : Option ℕ)
     → of_input (first_some (faults layout k now text next)) ≡ true
 unfolding wrong_number wrong_size mixed_line ends_early
-of_faults layout k seeking text None = search (of_first, of_if, of_both, of_size, of_missing)
-of_faults layout k seeking text (Some byte) = search (of_first, of_if, of_both, of_size)
-of_faults layout k (inside block) text None = search (of_first, of_if, of_both, of_misfit, of_missing) depth 7
-of_faults layout k (inside block) text (Some byte) = search (of_first, of_if, of_both, of_misfit) depth 7
+of_faults layout k seeking text None = search of_parts
+of_faults layout k seeking text (Some byte) = search of_parts
+of_faults layout k (inside block) text None = search of_parts depth 7
+of_faults layout k (inside block) text (Some byte) = search of_parts depth 7
 of_faults layout k lost text next = refl
 
 of_place : (layout : Layout) (k : ℕ) (text : List ℕ) (next : Option ℕ)
     → of_input (fault_of_place layout k text next) ≡ true
 unfolding fault_of_place
-of_place layout k text next = search (of_both, of_faults)
+of_place layout k text next = search (of_if, of_faults)
 
 -- a refused input has a fault of the input
 pub refused_input : (layout : Layout) (input : List ℕ) (k : ℕ) (fault : LayoutFault)
