@@ -144,33 +144,36 @@ module _ (layout : Layout) (k : ℕ) where
   abbrev pub Holds : List ℕ → Type 0
   Holds input = (problem : Problem) × Completes layout input k problem
 
-  -- a text by whose last line k blocks are complete, and fewer before it, holds a problem
-  holds_at : (text line : List ℕ) (before : Stand) → length text ≤ LONGEST_INPUT → length before.complete < k
-      → stand layout (lines text) ≡ after_line layout before.complete before.now line
-      → k ≤ length (stand layout (lines text)).complete
-      → (problem : Problem) × (c : Completes layout text k problem) × (c.text ≡ text)
-  holds_at text line before short few reached enough = elim (one_line layout before.complete before.now line) [
-    | inl same ↦ let all = rw (reached, same) at enough in absurd (omega arith)
-    | inr one ↦
-        let stands : stand layout (lines text) ≡ completed before.complete one.0 = reached ∙ one.1 in
-        let all = rw stands at enough in
-        let size = length_push before.complete one.0 in (
-          instance_of layout one.0,
-          record {
-            text = text;
-            rest = [];
-            whole = sym (append-nil text);
-            ended = inr refl;
-            short = short;
-            earlier = before.complete;
-            own = one.0;
-            count = omega arith;
-            stands = stands;
-            is = refl;
-          },
-          refl,
-        )
-  ]
+  -- a text that ends with a line by which k blocks are complete, and fewer before it, holds a problem
+  holds_at : (text ended : List ℕ) → Few text → length ended ≤ LONGEST_INPUT
+      → stand layout (lines ended) ≡ stand_after layout (stand_of layout text) (open_line text)
+      → k ≤ length (stand layout (lines ended)).complete
+      → (problem : Problem) × (c : Completes layout ended k problem) × (c.text ≡ ended)
+  unfolding stand_after
+  holds_at text ended few short reached enough =
+      let before : Stand = stand_of layout text in
+      elim (one_line layout before.complete before.now (open_line text)) [
+        | inl same ↦ let all = rw (reached, same) at enough in absurd (omega arith)
+        | inr one ↦
+            let stands : stand layout (lines ended) ≡ completed before.complete one.0 = reached ∙ one.1 in
+            let all = rw stands at enough in
+            let size = length_push before.complete one.0 in (
+              instance_of layout one.0,
+              record {
+                text = ended;
+                rest = [];
+                whole = sym (append-nil ended);
+                ended = inr refl;
+                short = short;
+                earlier = before.complete;
+                own = one.0;
+                count = omega arith;
+                stands = stands;
+                is = refl;
+              },
+              refl,
+            )
+      ]
 
   -- the problem's file ends with a line end
   abbrev pub EndedHolds : List ℕ → Problem → Type 0
@@ -197,8 +200,8 @@ module _ (layout : Layout) (k : ℕ) where
         let ended = open_line-end text b ends in
         let same = lines_ended (text ++ b ∷ []) ended in
         let short = short_more text b right few (short_few text (faultless_front text b right).0 few) in
-        let held = holds_at (text ++ b ∷ []) (open_line text) (stand_of layout text) short few
-        (rw same (stand_of-end layout text b ends)) (rw same enough) in
+        let held = holds_at text (text ++ b ∷ []) few short (rw same (stand_of-end layout text b ends))
+        (rw same enough) in
         (held.0, (held.1, rw held.2 ended))
   ]
 
@@ -238,7 +241,7 @@ module _ (layout : Layout) (k : ℕ) where
             (λ there. rw (same_last input, there)) good none)
       ] in
       let enough = early_end _ _ good_after (no_others before.now input None good none).1 in
-      let held = holds_at input (open_line input) before (short_few input right few) few reached enough in
+      let held = holds_at input input few (short_few input right few) reached enough in
       (held.0, held.1)
 
   pub unrefused_holds : 1 ≤ k → (input : List ℕ) → refusal layout input k ≡ None → Holds input
