@@ -232,13 +232,10 @@ meets r text (Err fault) some ok err =
     }
 
 -- where a reader stands, the end of the input is judged so
-abbrev pub FinishTells : Fields → List ℕ → Type 0
-FinishTells r text =
-    ((fault : LayoutFault) → end_fault r.kinds (at_end r.last r.blocks) ≡ Some fault → FinishMeets r text (Err fault))
+pub finish_tells : (r : Fields) (text : List ℕ) → StandsAfter r text
+    → ((fault : LayoutFault) → end_fault r.kinds (at_end r.last r.blocks) ≡ Some fault → FinishMeets r text (Err fault))
     × (end_fault r.kinds (at_end r.last r.blocks) ≡ None
     → (problem : Problem) × ((at_end r.last r.blocks).instance ≡ Some problem) × FinishMeets r text (Ok problem))
-
-pub finish_tells : (r : Fields) (text : List ℕ) → StandsAfter r text → FinishTells r text
 unfolding accepted
 finish_tells r text s =
     let o = end_outcome r text s in (
