@@ -3,7 +3,6 @@ pub mod ByteSteps
 pub mod CuttingLemmas
 pub mod EndSteps
 pub mod FeedLemmas
-pub mod FinishLemmas
 pub mod HeldLemmas
 pub mod LineSteps
 pub mod NewLemmas

@@ -1,42 +1,43 @@
 -- Where lines begin and end in a text.
-use Rattle.std.proofs.Common.{◌≡◌, ℕ, Bool, true, false, List, [], ◌∷◌, ◌++◌, refl, sym, ap, ◌⊎◌, inl, inr}
-use Rattle.std.proofs.Common.{if◌then◌else◌}
+use Rattle.std.proofs.Common.{◌≡◌, ℕ, Bool, true, false, List, [], ◌∷◌, ◌++◌, length, refl, sym, ap, arith}
+use Rattle.std.proofs.Common.{◌⊎◌, inl, inr, if◌then◌else◌}
 use Rattle.std.specs.List.{list_any, slice_split}
 use Rattle.std.proofs.lemmas.Bool.{cases_Bool, or_parts}
-use Rattle.std.proofs.lemmas.List.{append_assoc, append-nil}
+use Rattle.std.proofs.lemmas.List.{append_assoc, append-nil, length-append, nil_from_length}
 use Rattle.pfs_base.specs.Lists.{is_empty}
 use Rattle.pfs_layout.specs.Bytes.{is_line_end}
 use Rattle.pfs_layout.specs.Lines.{lines, ended_parts, open_part, ended_lines, open_line}
 use Rattle.pfs_layout.proofs.Files.SoundLemmas.{open_line-none}
 use Rattle.pfs_layout.proofs.Files.LineLemmas.{split_some}
 
-front_nil : {A : Type 0} (xs ys : List A) → xs ++ ys ≡ [] → xs ≡ []
-front_nil [] ys e = refl
-front_nil (x ∷ xs) ys e = cc
-
 module _ (p : ℕ → Bool) where
-  -- a part, what ends it, and the rest
-  slice_split-part : (part : List ℕ) (c : ℕ) (rest : List ℕ) → list_any p part ≡ false → p c ≡ true
-      → slice_split p (part ++ c ∷ rest) ≡ part ∷ slice_split p rest
-  slice_split-part [] c rest none e = rw e
-  slice_split-part (x ∷ part) c rest none e =
-      let parts = or_parts (p x) (list_any p part) none in rw (parts.0, slice_split-part part c rest parts.1 e)
-
-  ended_parts-part : (part : List ℕ) (c : ℕ) (rest : List ℕ) → list_any p part ≡ false → p c ≡ true
-      → ended_parts p (part ++ c ∷ rest) ≡ part ∷ ended_parts p rest
-  unfolding ended_parts
-  ended_parts-part part c rest none e = let s = split_some p rest in rw (slice_split-part part c rest none e, s.is)
-
-  pub open_part-part : (part : List ℕ) (c : ℕ) (rest : List ℕ) → list_any p part ≡ false → p c ≡ true
-      → open_part p (part ++ c ∷ rest) ≡ open_part p rest
-  unfolding open_part
-  open_part-part part c rest none e = let s = split_some p rest in rw (slice_split-part part c rest none e, s.is)
+  -- the parts on both sides of what ends one
+  pub slice_split-break : (xs : List ℕ) (c : ℕ) (ys : List ℕ) → p c ≡ true
+      → slice_split p (xs ++ c ∷ ys) ≡ slice_split p xs ++ slice_split p ys
+  slice_split-break [] c ys e = rw e
+  slice_split-break (x ∷ xs) c ys e =
+      let more = slice_split-break xs c ys e in
+      let s = split_some p xs in
+      elim (cases_Bool (p x)) [ inl breaks ↦ rw (more, breaks) | inr stays ↦ rw (more, stays, s.is) ]
 
   -- a list that nothing ends is open
   slice_split-open : (part : List ℕ) → list_any p part ≡ false → slice_split p part ≡ part ∷ []
   slice_split-open [] none = refl
   slice_split-open (x ∷ part) none =
       let parts = or_parts (p x) (list_any p part) none in rw (parts.0, slice_split-open part parts.1)
+
+  -- a part, what ends it, and the rest
+  ended_parts-part : (part : List ℕ) (c : ℕ) (rest : List ℕ) → list_any p part ≡ false → p c ≡ true
+      → ended_parts p (part ++ c ∷ rest) ≡ part ∷ ended_parts p rest
+  unfolding ended_parts
+  ended_parts-part part c rest none e =
+      let s = split_some p rest in rw (slice_split-break part c rest e, slice_split-open part none, s.is)
+
+  pub open_part-part : (part : List ℕ) (c : ℕ) (rest : List ℕ) → list_any p part ≡ false → p c ≡ true
+      → open_part p (part ++ c ∷ rest) ≡ open_part p rest
+  unfolding open_part
+  open_part-part part c rest none e =
+      let s = split_some p rest in rw (slice_split-break part c rest e, slice_split-open part none, s.is)
 
 -- what follows the last line end, if it isn't empty
 abbrev pub last_line : List ℕ → List (List ℕ)
@@ -65,12 +66,15 @@ pub data FirstLine (text : List ℕ) : Type 0 where
 
 pub first_line : (text : List ℕ) → FirstLine text
 first_line [] = unended refl
-first_line (b ∷ text) = by_end (first_line text) (cases_Bool (is_line_end b))
-  where
-    by_end : FirstLine text → (is_line_end b ≡ true) ⊎ (is_line_end b ≡ false) → FirstLine (b ∷ text)
-    by_end rest (inl e) = ended [] b text refl refl e
-    by_end (unended none) (inr e) = unended (rw (e, none))
-    by_end (ended line c rest is none at) (inr e) = ended (b ∷ line) c rest (ap (λ xs. b ∷ xs) is) (rw (e, none)) at
+first_line (b ∷ text) =
+    let more = first_line text in
+    elim (cases_Bool (is_line_end b)) [
+      | inl e ↦ ended [] b text refl refl e
+      | inr e ↦ elim more [
+        | unended none ↦ unended (rw (e, none))
+        | ended line c rest is none at ↦ ended (b ∷ line) c rest (ap (λ xs. b ∷ xs) is) (rw (e, none)) at
+      ]
+    ]
 
 -- a front of a text that is some of its lines
 pub record Front (text : List ℕ) (some : List (List ℕ)) : Type 0 where
@@ -88,36 +92,33 @@ pub front_of_lines : (text : List ℕ) (some more : List (List ℕ)) → lines t
 front_of_lines text [] more e =
     record { front = []; rest = text; whole = refl; are = lines-none; ended = inl open_line-none }
 front_of_lines text (line ∷ some) more e =
-    by_first (first_line text) (λ rest h. front_of_lines rest some more h)
-  where
-    only : (v : Bool) → is_empty text ≡ v → list_any is_line_end text ≡ false
-        → (if v then [] else text ∷ []) ≡ line ∷ (some ++ more) → Front text (line ∷ some)
-    only true empty none h = cc
-    only false empty none h =
-        let nothing : some ≡ [] = front_nil some more (cc) in
-        let same : text ≡ line = cc in
-        record {
-          front = text;
-          rest = [];
-          whole = sym (append-nil text);
-          are = rw (lines-open text none, empty, nothing, same);
-          ended = inr refl;
-        }
-
-    by_first : FirstLine text → ((rest : List ℕ) → lines rest ≡ some ++ more → Front rest some)
-        → Front text (line ∷ some)
-    by_first (unended none) shorter = only (is_empty text) refl none (rw (lines-open text none) at e)
-    by_first (ended first c rest is none at) shorter =
-        let parts = rw (is, lines-line first c rest none at) at e in
-        let f = shorter rest (cc) in
-        let same : first ≡ line = cc in
-        record {
-          front = first ++ c ∷ f.front;
-          rest = f.rest;
-          whole = rw (append_assoc first (c ∷ f.front) f.rest, ← f.whole) is;
-          are = rw (lines-line first c f.front none at, f.are) (ap (λ l. l ∷ some) same);
-          ended = elim f.ended [
-            | inl h ↦ inl (rw (open_part-part is_line_end first c f.front none at) h)
-            | inr h ↦ inr h
-          ];
-        }
+    let shorter = λ (rest : List ℕ). front_of_lines rest some more in
+    elim (first_line text) [
+      | unended none ↦
+          let only : last_line text ≡ line ∷ (some ++ more) = rw (lines-open text none) at e in
+          elim (cases_Bool (is_empty text)) [
+            | inl empty ↦ let no_line = rw empty at only in absurd (cc)
+            | inr filled ↦
+                let one = rw filled at only in
+                let nothing = nil_from_length some (omega (arith, ap length one, length-append some more)) in
+                let same : text ≡ line = cc in
+                record {
+                  front = text;
+                  rest = [];
+                  whole = sym (append-nil text);
+                  are = rw (lines-open text none, filled, nothing, same);
+                  ended = inr refl;
+                }
+          ]
+      | ended first c rest is none at ↦
+          let parts = rw (is, lines-line first c rest none at) at e in
+          let f = shorter rest (cc) in
+          let same : first ≡ line = cc in
+          record {
+            front = first ++ c ∷ f.front;
+            rest = f.rest;
+            whole = rw (append_assoc first (c ∷ f.front) f.rest, ← f.whole) is;
+            are = rw (lines-line first c f.front none at, f.are) (ap (λ l. l ∷ some) same);
+            ended = rw (open_part-part is_line_end first c f.front none at) f.ended;
+          }
+    ]

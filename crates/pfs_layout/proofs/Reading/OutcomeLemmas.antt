@@ -1,402 +1,269 @@
--- What finish owes.
-use Rattle.std.proofs.Common.{◌≡◌, ◌≢◌, ℕ, zero, suc, ◌+◌, ◌-◌, ◌<◌, ◌≤◌, Bool, true, false, not, ◌&&◌, List, [], ◌∷◌}
-use Rattle.std.proofs.Common.{◌++◌, length, count_by, refl, sym, ◌∙◌, ap, subst, arith, Option, Some, None}
-use Rattle.std.proofs.Common.{if◌then◌else◌, ◌==◌, ◌⊎◌, inl, inr}
-use Rattle.std.specs.Prelude.{Result, Ok, Err, option_map, slice_get, is_none}
+-- What finish owes: the end of an input is judged as a line end there would be, and as what is missing behind it.
+use Rattle.std.proofs.Common.{◌≡◌, ℕ, ◌-◌, ◌<◌, ◌≤◌, Bool, true, List, [], length, refl, sym, ◌∙◌, arith, Option}
+use Rattle.std.proofs.Common.{Some, None, inl, inr, ◌+◌, false, ◌∷◌, ◌==◌, nat_lt}
+use Rattle.std.specs.Prelude.{Result, Ok, Err, option_map, slice_get}
 use Rattle.std.specs.List.{list_any}
 use Rattle.std.specs.Option.{option_or}
-use Rattle.std.proofs.lemmas.Bool.{lt-ltb, le-ltb}
-use Rattle.std.proofs.lemmas.List.{append-nil}
+use Rattle.std.specs.Result.{result_ok, result_err}
+use Rattle.std.proofs.lemmas.Bool.{lt-ltb, le-ltb, cases_Bool, eqb-true}
+use Rattle.std.proofs.lemmas.List.{append-nil, nil_from_length}
+use Rattle.std.proofs.Math.Bool.{and-false, and-true}
 use Rattle.pfs_base.specs.Limits.{limits}
-use Rattle.pfs_base.specs.Lists.{is_empty, first_some}
 use Rattle.pfs_base.specs.Problem.{Problem}
-use Rattle.pfs_base.proofs.Published.Lists.{slice_get-append}
-use Rattle.pfs_layout.specs.declared.layout.Layout.{Layout}
+use Rattle.pfs_base.specs.Lists.{is_empty, first_some}
 use Rattle.pfs_layout.specs.declared.fault.LayoutFault.{LayoutFault}
-use Rattle.pfs_layout.specs.declared.fault.LayoutFault.TheVariants.{NoBlock, Truncated, Memory}
+use Rattle.pfs_layout.specs.declared.fault.LayoutFault.TheVariants.{Memory, Truncated}
 use Rattle.pfs_layout.specs.declared.blocks.Phase.{Phase}
 use Rattle.pfs_layout.specs.declared.blocks.Phase.TheVariants as phases
 use Rattle.pfs_layout.specs.declared.blocks.Blocks.{Blocks}
-use Rattle.pfs_layout.specs.Bytes.{is_digit, is_line_end, is_word_byte}
-use Rattle.pfs_layout.specs.Lines.{lines, ended_lines, open_line, is_number_line, numbers, ended_numbers}
-use Rattle.pfs_layout.specs.Block.{due_count, stated_size, are_due}
-use Rattle.pfs_layout.specs.Stand.{Block, Now, seeking, inside, lost, Stand, stand, stand_after, instance_of, standing}
+use Rattle.pfs_layout.specs.declared.layout.Layout.{Layout}
+use Rattle.pfs_layout.specs.declared.scan.Kinds.{Kinds}
+use Rattle.pfs_layout.specs.Bytes.{is_word_byte}
+use Rattle.pfs_layout.specs.Lines.{lines, open_line, ended_numbers}
+use Rattle.pfs_layout.specs.Stand.{Stand, stand, instance_of, Block, Now, seeking, inside, lost, standing}
 use Rattle.pfs_layout.specs.File.{IsInstanceFile}
-use Rattle.pfs_layout.specs.Laws.{ExactlyOne}
-use Rattle.pfs_layout.specs.Refuse.{mixed_line, size_fault, ends_early, faults, fault_of_place, refusal, accepted}
-use Rattle.pfs_layout.specs.Refuse.{RefusesInstance}
-use Rattle.pfs_layout.specs.Step.{is_live, number_of, last_number_ended, end_fault_in, end_fault, at_end}
-use Rattle.pfs_layout.specs.Reader.{Fields, block_begun_by, block_of, FollowsBlocks, Follows, StandsIn, StandsAfter}
-use Rattle.pfs_layout.specs.Reader.{IsReader, FinishMeets}
+use Rattle.pfs_layout.specs.Refuse.{ends_early, fault_of_place, refusal, accepted, mixed_line, wrong_number, size_fault}
+use Rattle.pfs_layout.specs.Refuse.{wrong_size, missing, faults}
+use Rattle.pfs_layout.specs.Step.{is_live, number_of, last_number_ended, line_ended, has_numbers_alone, end_fault}
+use Rattle.pfs_layout.specs.Step.{at_end, stated_by, no_line, size_judged, line_ended_in}
+use Rattle.pfs_layout.specs.Reader.{Fields, Follows, StandsIn, StandsAfter, IsReader, FinishMeets, FollowsBlocks}
+use Rattle.pfs_layout.specs.Size.{Size, is_within_limits}
+use Rattle.pfs_layout.proofs.Files.FileLemmas.{completes_file}
+use Rattle.pfs_layout.proofs.Files.SoundLemmas.{stand_of, sound, GoodNow}
+use Rattle.pfs_layout.proofs.Files.StandLemmas.{made, Fits}
+use Rattle.pfs_layout.proofs.Files.VerdictLemmas.{stand_lines, block_stays, enough_holds, unrefused_holds}
+use Rattle.pfs_layout.proofs.Files.VerdictLemmas.{has_fault, holds_accepted}
+use Rattle.pfs_layout.proofs.Options.{cases_option, or_none}
+use Rattle.pfs_layout.proofs.Published.LawLemmas.{accepted_law}
 use Rattle.pfs_layout.proofs.Published.PlaceLemmas.{refusal_is, refusal_end}
-use Rattle.pfs_layout.proofs.Files.SoundLemmas.{GoodNow, GoodBody, stand_of, sound}
-use Rattle.pfs_layout.proofs.Files.StandLemmas.{IsBegun, Fits, made}
-use Rattle.pfs_layout.proofs.Files.GrowLemmas.{Extends, grows}
-use Rattle.pfs_layout.proofs.Files.EndLemmas.{byte_fault_refuses}
-use Rattle.pfs_layout.proofs.Published.LawLemmas.{accepted_law, one_verdict}
-use Rattle.pfs_layout.proofs.Reading.StepLemmas.{keeps_last, refused_memory}
-use Rattle.pfs_layout.proofs.Reading.ByteSteps.{live_few, seeking_if_few}
-use Rattle.pfs_layout.proofs.Reading.EndSteps.{number_fault, NumberPart, number_part, due_line}
+use Rattle.pfs_layout.proofs.Reading.StepLemmas.{refused_memory}
+use Rattle.pfs_layout.proofs.Reading.ByteSteps.{fault_within_limit, live_few, mixed_other}
+use Rattle.pfs_layout.proofs.Reading.EndSteps.{end_byte}
+use Rattle.pfs_layout.proofs.Reading.ReaderLemmas.{carries}
 use Rattle.pfs_layout.proofs.Reading.FeedLemmas.{refused_fault, done_enough}
-use Rattle.pfs_layout.proofs.Reading.FinishLemmas.{stand_lines, sought_fault, sought_end, sought_told, begun_end}
-use Rattle.pfs_layout.proofs.Reading.FinishLemmas.{BegunEnd, begun_told}
-use Rattle.pfs_layout.proofs.Reading.ReadNames.{same_error, same_some}
+use Rattle.pfs_layout.proofs.Reading.TableLemmas.{length-times_among}
+use Rattle.pfs_layout.proofs.Reading.LineSteps.{no_times}
 
--- what the end of the input is for a reader that has met no fault at a byte
-pub record EndOutcome (r : Fields) (text : List ℕ) : Type 0 where
-  pub fault : fault_of_place r.layout r.wanted text None ≡ end_fault r.kinds (at_end r.last r.blocks)
+-- ---- the fault of the end
+
+one_or : {A : Type 0} (a b : Option A) → first_some (None ∷ a ∷ b ∷ []) ≡ option_or a b
+one_or (Some x) b = refl
+one_or None (Some x) = refl
+one_or None None = refl
+
+-- the fault of a line end, or else what is missing
+end_faults : (layout : Layout) (k : ℕ) (now : Now) (text : List ℕ) → GoodNow layout now (open_line text)
+    → first_some (faults layout k now text None)
+    ≡ option_or (fault_within_limit layout now text 10) (ends_early layout k text None)
+unfolding mixed_line wrong_number wrong_size
+end_faults layout k seeking text good = elim (cases_Bool (is_empty (open_line text))) [
+  | inl empty ↦ rw (and-false, nil_from_length (open_line text) (eqb-true _ 0 empty)) (one_or None _)
+  | inr filled ↦ rw (and-false, filled) (one_or _ _)
+]
+end_faults layout k (inside block) text good =
+    rw (and-false, mixed_other text 10 good.unmixed refl refl, and-true) (one_or _ _)
+end_faults layout k lost text good = absurd good
+
+-- ---- a reader's blocks behind a line end
+
+-- behind a line end the end has the same fault, and if none the same instance
+record Closes (kinds : Kinds) (r next : Blocks) : Type 0 where
+  pub fault : end_fault kinds r ≡ end_fault no_line.kinds next
+  pub instance : end_fault kinds r ≡ None → r.instance ≡ next.instance
+
+-- a size line's fault, or else a block of which no time was read
+closes_size : (r : Blocks) (stated : Option Size) (line : ℕ) (kinds : Kinds)
+    → option_or (size_fault stated line) (Some (Truncated 0))
+    ≡ end_fault kinds (size_judged r stated (size_fault stated line))
+closes_size r None line kinds = refl
+closes_size r (Some size) line kinds = elim (cases_Bool (is_within_limits size)) [
+  | inl within ↦ rw (within, ← length-times_among r.layout [], no_times r.layout)
+  | inr out ↦ rw out
+]
+
+closes_in : (phase : Phase) (kinds : Kinds) (r : Blocks) → r.phase ≡ phase
+    → Closes kinds r (line_ended_in phase r (has_numbers_alone kinds))
+closes_in phases.Seeking kinds r e = elim (cases_Bool (has_numbers_alone kinds)) [
+  | inl numbered ↦ record {
+    fault = rw (e, numbered) (closes_size _ (stated_by r.layout r.size_line) r.line no_line.kinds);
+    instance = λ none. let never = or_none _ (Some (Truncated 0)) (rw (e, numbered) at none) in absurd (cc);
+  }
+  | inr plain ↦ record { fault = rw (e, plain); instance = λ none. rw plain }
+]
+closes_in phases.AfterLast kinds r e = elim (cases_Bool (r.complete + 1 == r.wanted)) [
+  | inl last ↦ record { fault = rw (e, last); instance = λ none. refl }
+  | inr more ↦ record { fault = rw (e, more); instance = λ none. refl }
+]
+closes_in phase kinds r e = record { fault = rw e; instance = λ none. refl }
+
+closes : (kinds : Kinds) (r : Blocks) → Closes kinds r (line_ended r (has_numbers_alone kinds))
+unfolding line_ended
+closes kinds r = closes_in r.phase kinds r refl
+
+-- what is missing is what the blocks behind a line end say
+record Ends (layout : Layout) (k : ℕ) (stood : Stand) (next : Blocks) : Type 0 where
+  pub fault : missing layout k (length stood.complete) stood.now ≡ end_fault no_line.kinds next
+  pub instance : end_fault no_line.kinds next ≡ None
+      → next.instance ≡ option_map (instance_of layout) (slice_get stood.complete (k - 1))
+
+ends : (next : Blocks) (complete : List Block) (now : Now) (tail : List (List ℕ))
+    → Fits next.layout now tail → FollowsBlocks false next (standing complete now) []
+    → Ends next.layout next.wanted (standing complete now) next
+ends next complete seeking tail fits f = elim (cases_Bool (nat_lt (length complete) next.wanted)) [
+  | inl few ↦
+      let phase : next.phase ≡ phases.Seeking = f.now.phase ∙ rw (f.complete, few) in
+      record { fault = rw (few, phase, f.complete); instance = λ none. let some = rw phase at none in absurd (cc) }
+  | inr enough ↦
+      let phase : next.phase ≡ phases.Done = f.now.phase ∙ rw (f.complete, enough) in
+      record { fault = rw (enough, phase); instance = λ none. f.instance ∙ rw enough }
+]
+ends next complete (inside block) tail fits f =
+    let less : next.body.judged < next.body.due = omega (arith, fits.short) in
+    let phase : next.phase ≡ phases.Body = f.now.phase ∙ rw (lt-ltb _ _ less) in
+    let count : next.body.judged ≡ length block.numbers = omega arith in
+    record {
+      fault = rw (length-times_among next.layout block.numbers, ← count, phase);
+      instance = λ none. let some = rw phase at none in absurd (cc);
+    }
+ends next complete lost tail fits f = absurd f.now
+
+-- ---- the end of the input
+
+-- the reader's fault is that of the input, and if there is none its instance is that of the input
+record EndOutcome (r : Fields) (text : List ℕ) : Type 0 where
+  pub some : 1 ≤ r.wanted
+  pub fault : refusal r.layout text r.wanted ≡ end_fault r.kinds (at_end r.last r.blocks)
   pub instance : end_fault r.kinds (at_end r.last r.blocks) ≡ None
       → (at_end r.last r.blocks).instance
       ≡ option_map (instance_of r.layout) (slice_get (stand r.layout (lines text)).complete (r.wanted - 1))
 
-sought_some : (layout : Layout) (count : ℕ) (line : List ℕ) (place : ℕ) → sought_fault layout count line place ≡ None
-    → ⊥
-sought_some layout count line place e = by_kind (is_number_line line) e
-  where
-    or_some : (o : Option LayoutFault) (f : LayoutFault) → option_or o (Some f) ≡ None → ⊥
-    or_some None f e = cc
-    or_some (Some x) f e = cc
-
-    by_kind : (t : Bool)
-        → (if t then option_or (size_fault (stated_size layout (numbers line)) place) (Some (Truncated 0))
-        else Some (NoBlock count))
-        ≡ None
-        → ⊥
-    by_kind true e = or_some (size_fault (stated_size layout (numbers line)) place) (Truncated 0) e
-    by_kind false e = cc
-
-at_end_live : (r : Fields) → is_live r.phase ≡ true
-    → at_end r.last r.blocks ≡ last_number_ended r.blocks (number_of r.digits)
-at_end_live r live = ap (λ t. if t then last_number_ended r.blocks (number_of r.digits) else r.blocks) live
-
+-- a reader that wants more: the last number and the last line end as before a line end
 live_end : (r : Fields) (text : List ℕ) → Follows r text → is_live r.phase ≡ true → EndOutcome r text
-unfolding fault_of_place mixed_line
-live_end r text f live = by_now (stand_of r.layout text).now refl
-  where
-    complete : List Block
-    complete = (stand_of r.layout text).complete
+unfolding fault_of_place ends_early line_ended
+live_end r text f live =
+    let before : Stand = stand_of r.layout text in
+    let end : Stand = stand r.layout (lines text) in
+    let at_last : Blocks = last_number_ended r.blocks (number_of r.digits) in
+    let next : Blocks = line_ended at_last (has_numbers_alone r.kinds) in
+    let has_word : Bool = list_any is_word_byte (open_line text) in
+    let fewer = live_few has_word r.blocks before.now (ended_numbers (open_line text)) f.blocks.now live in
+    let few : length before.complete < r.wanted = omega arith in
+    let good = sound r.layout r.wanted text f.sound few in
+    let found : Option LayoutFault = fault_within_limit r.layout before.now text 10 in
+    let outcome = end_byte r.blocks r.last text 10 before.complete before.now refl refl live f.five_values f.line
+    f.last_line f.blocks good in
+    let faults : refusal r.layout text r.wanted ≡ option_or found (ends_early r.layout r.wanted text None) =
+    rw (refusal_end r.layout r.wanted text, f.sound, lt-ltb _ _ few)
+    (end_faults r.layout r.wanted before.now text good) in
+    let closed = closes r.kinds at_last in
+    elim (cases_option found) [
+      | inr one ↦
+          let refuses = rw one.1 at outcome in
+          record {
+            some = f.some;
+            fault = rw (live, faults, one.1, closed.fault, refuses.phase);
+            instance = λ none. let some = rw (live, closed.fault, refuses.phase) at none in absurd (cc);
+          }
+      | inl none ↦
+          let keeps = carries r.blocks r.last 10 live in
+          let m = made r.layout (lines text) in
+          let follows = rw (none, ← stand_lines r.layout text good) at outcome in
+          let early = rw (keeps.layout, keeps.wanted) at
+          (ends next end.complete end.now m.tail (rw keeps.layout m.fits) follows) in
+          record {
+            some = f.some;
+            fault = rw (live, faults, none, closed.fault) early.fault;
+            instance = rw live (λ z. closed.instance z ∙ early.instance (sym closed.fault ∙ z));
+          }
+    ]
 
-    few : length (stand_of r.layout text).complete < r.wanted
-    few =
-        let c = f.blocks.complete in
-        let l =
-        live_few (list_any is_word_byte (open_line text)) r.blocks (stand_of r.layout text).now
-        (ended_numbers (open_line text)) f.blocks.now live in
-        omega arith
-
-    good : GoodNow r.layout (stand_of r.layout text).now (open_line text)
-    good = sound r.layout r.wanted text f.sound few
-
-    place : fault_of_place r.layout r.wanted text None
-        ≡ first_some (faults r.layout r.wanted (stand_of r.layout text).now text None)
-    place =
-        ap (λ t. if t then first_some (faults r.layout r.wanted (stand_of r.layout text).now text None) else None)
-        (lt-ltb (length (stand_of r.layout text).complete) r.wanted few)
-
-    stands_at : (now : Now) → (stand_of r.layout text).now ≡ now
-        → stand_of r.layout text ≡ standing (stand_of r.layout text).complete now
-    stands_at now e = ap (λ n. standing (stand_of r.layout text).complete n) e
-
-    blocks_at : (now : Now) → (stand_of r.layout text).now ≡ now
-        → FollowsBlocks (list_any is_word_byte (open_line text)) r.blocks
-        (standing (stand_of r.layout text).complete now) (ended_numbers (open_line text))
-    blocks_at now e =
-        subst (λ s. FollowsBlocks (list_any is_word_byte (open_line text)) r.blocks s (ended_numbers (open_line text)))
-        (stands_at now e) f.blocks
-
-    by_now : (now : Now) → (stand_of r.layout text).now ≡ now → EndOutcome r text
-    by_now seeking e =
-        let has_word = list_any is_word_byte (open_line text) in
-        let keeps = keeps_last r.blocks (number_of r.digits) live in
-        let one =
-        number_part has_word r.blocks r.last text (stand_of r.layout text).complete seeking live f.five_values
-        f.last_line (blocks_at seeking e) in
-        let few_then : (last_number_ended r.blocks (number_of r.digits)).complete
-        < (last_number_ended r.blocks (number_of r.digits)).wanted =
-        (let c = f.blocks.complete in omega (arith, keeps.complete, keeps.wanted, few)) in
-        let phase =
-        seeking_if_few has_word (last_number_ended r.blocks (number_of r.digits)) (numbers (open_line text)) one.now
-        few_then in
-        let kind : (r.kinds.has_digit && not r.kinds.has_word) ≡ is_number_line (open_line text) =
-        ap (λ t. t && not r.kinds.has_word) f.last_line.has_digit
-        ∙ ap (λ t. list_any is_digit (open_line text) && not t) f.last_line.has_word in
-        let told : end_fault r.kinds (at_end r.last r.blocks)
-        ≡ sought_fault r.layout (length (stand_of r.layout text).complete) (open_line text)
-        (1 + count_by is_line_end text) =
-        ap (end_fault r.kinds) (at_end_live r live)
-        ∙ sought_told (last_number_ended r.blocks (number_of r.digits)) (stand_of r.layout text).complete
-        (open_line text) r.kinds (1 + count_by is_line_end text) one phase (keeps.line ∙ f.line) kind
-        ∙ ap (λ l. sought_fault l (length (stand_of r.layout text).complete) (open_line text)
-        (1 + count_by is_line_end text))
-        keeps.layout in
-        record {
-          fault =
-              place ∙ ap (λ n. first_some (faults r.layout r.wanted n text None)) e
-              ∙ sought_end r.layout r.wanted text (stand_of r.layout text).complete (stands_at seeking e) few
-              ∙ sym told;
-          instance =
-              λ none. absurd (sought_some r.layout (length (stand_of r.layout text).complete) (open_line text)
-              (1 + count_by is_line_end text) (sym told ∙ none));
-        }
-    by_now (inside block) e =
-        by_fault (number_fault r.layout (inside block) text) refl (number_part (list_any is_word_byte (open_line text))
-        r.blocks r.last text (stand_of r.layout text).complete (inside block) live f.five_values f.last_line
-        (blocks_at (inside block) e))
-      where
-        body : GoodBody r.layout block (open_line text)
-        body = subst (λ n. GoodNow r.layout n (open_line text)) e good
-
-        begun : IsBegun r.layout block (made r.layout (ended_lines text)).tail
-        begun =
-            subst (λ n. Fits r.layout n (made r.layout (ended_lines text)).tail) e
-            (made r.layout (ended_lines text)).fits
-
-        short : length block.numbers < due_count r.layout block.size
-        short =
-            let b = (blocks_at (inside block) e).now.body in
-            let few = b.few in
-            let other : length block.numbers ≢ due_count r.layout block.size = begun.short in
-            omega (arith, b.due, b.judged)
-
-        at_place : fault_of_place r.layout r.wanted text None
-            ≡ option_or (number_fault r.layout (inside block) text) (ends_early r.layout r.wanted text None)
-        at_place =
-            place ∙ ap (λ n. first_some (faults r.layout r.wanted n text None)) e
-            ∙ begun_end r.layout r.wanted text block
-
-        by_fault : (o : Option LayoutFault) → number_fault r.layout (inside block) text ≡ o
-            → NumberPart (list_any is_word_byte (open_line text)) r.blocks (stand_of r.layout text).complete
-            (inside block) (numbers (open_line text)) (last_number_ended r.blocks (number_of r.digits)) o
-            → EndOutcome r text
-        by_fault (Some fault) n o =
-            let told : end_fault r.kinds (at_end r.last r.blocks) ≡ Some fault =
-            ap (end_fault r.kinds) (at_end_live r live ∙ o) in
-            record {
-              fault = at_place ∙ ap (λ x. option_or x (ends_early r.layout r.wanted text None)) n ∙ sym told;
-              instance = λ none. absurd (let bad = sym told ∙ none in cc);
-            }
-        by_fault None n o =
-            let keeps = keeps_last r.blocks (number_of r.digits) live in
-            let r1 = last_number_ended r.blocks (number_of r.digits) in
-            let stands : stand r1.layout (ended_lines text)
-            ≡ standing (stand_of r.layout text).complete (inside block) =
-            ap (λ l. stand l (ended_lines text)) keeps.layout ∙ stands_at (inside block) e in
-            let short_then : length block.numbers < due_count r1.layout block.size =
-            subst (λ l. length block.numbers < due_count l block.size) (sym keeps.layout) short in
-            let due : are_due r1.layout block.size (block.numbers ++ numbers (open_line text)) ≡ true =
-            ap (λ l. are_due l block.size (block.numbers ++ numbers (open_line text))) keeps.layout
-            ∙ due_line r.layout block text body n in
-            let end : BegunEnd r1 r.kinds text =
-            begun_told (list_any is_word_byte (open_line text)) r1 text (stand_of r.layout text).complete block
-            r.kinds o stands short_then body.unmixed due in
-            let same : end_fault r.kinds (at_end r.last r.blocks) ≡ end_fault r.kinds r1 =
-            ap (end_fault r.kinds) (at_end_live r live) in
-            record {
-              fault = at_place ∙ ap (λ x. option_or x (ends_early r.layout r.wanted text None)) n
-                  ∙ ap (λ l. ends_early l r.wanted text None) (sym keeps.layout)
-                  ∙ ap (λ k. ends_early r1.layout k text None) (sym keeps.wanted) ∙ end.early ∙ sym same;
-              instance = λ none. ap (λ (z : Blocks). z.instance) (at_end_live r live) ∙ end.instance (sym same ∙ none)
-                  ∙ ap (λ l. option_map (instance_of l) (slice_get (stand l (lines text)).complete (r1.wanted - 1)))
-                  keeps.layout
-                  ∙ ap
-                  (λ k. option_map (instance_of r.layout) (slice_get (stand r.layout (lines text)).complete (k - 1)))
-                  keeps.wanted;
-            }
-    by_now lost e = absurd (subst (λ n. GoodNow r.layout n (open_line text)) e good)
-
--- a reader that is done
+-- a reader that is done has its block before the last line
 done_end : (r : Fields) (text : List ℕ) → Follows r text → r.phase ≡ phases.Done → EndOutcome r text
 unfolding fault_of_place
 done_end r text f e =
+    let before : Stand = stand_of r.layout text in
     let enough = done_enough r text f e in
-    let here : at_end r.last r.blocks ≡ r.blocks =
-    ap (λ p. if is_live p then last_number_ended r.blocks (number_of r.digits) else r.blocks) e in
-    let told : end_fault r.kinds (at_end r.last r.blocks) ≡ None =
-    ap (end_fault r.kinds) here ∙ ap (λ p. end_fault_in p r.kinds r.blocks) e in
-    let some = f.some in
-    let within : r.wanted - 1 < length (stand_of r.layout text).complete = omega arith in
-    let more = longer (is_empty (open_line text)) in
+    let all = le-ltb (length before.complete) r.wanted enough in
+    let stays = rw append-nil at (block_stays r.layout text [] (r.wanted - 1) (omega arith)) in
     record {
-      fault =
-          ap (λ t. if t then first_some (faults r.layout r.wanted (stand_of r.layout text).now text None) else None)
-          (le-ltb (length (stand_of r.layout text).complete) r.wanted enough)
-          ∙ sym told;
-      instance = λ none. ap (λ (z : Blocks). z.instance) here ∙ f.blocks.instance
-          ∙ ap (option_map (instance_of r.layout)) (whole_block enough
-          ∙ sym (ap (λ (s : Stand). slice_get s.complete (r.wanted - 1)) (stand_lines r.layout text)
-          ∙ ap (λ bs. slice_get bs (r.wanted - 1)) more.1
-          ∙ slice_get-append (stand_of r.layout text).complete more.0 (r.wanted - 1) within));
+      some = f.some;
+      fault = rw (e, refusal_end r.layout r.wanted text, f.sound, all);
+      instance = λ none. rw (e, stays, f.blocks.instance, all);
     }
-  where
-    whole_block : r.wanted ≤ length (stand_of r.layout text).complete
-        → block_of r.wanted (stand_of r.layout text) (ended_numbers (open_line text))
-        ≡ slice_get (stand_of r.layout text).complete (r.wanted - 1)
-    whole_block enough =
-        ap (λ t. if t
-        then (if length (stand_of r.layout text).complete + 1 == r.wanted
-        then block_begun_by (stand_of r.layout text).now (ended_numbers (open_line text)) else None)
-        else slice_get (stand_of r.layout text).complete (r.wanted - 1))
-        (le-ltb (length (stand_of r.layout text).complete) r.wanted enough)
 
-    longer : (t : Bool)
-        → Extends (stand_of r.layout text).complete (if t then stand_of r.layout text
-        else stand_after r.layout (stand_of r.layout text) (open_line text)).complete
-    longer true = ([], sym (append-nil (stand_of r.layout text).complete))
-    longer false = grows r.layout (stand_of r.layout text) (open_line text ∷ [])
+refused_end : (r : Fields) (fault : LayoutFault) → r.phase ≡ phases.Refused fault
+    → end_fault r.kinds (at_end r.last r.blocks) ≡ Some fault
+refused_end r fault e = rw e
+
+end_outcome : (r : Fields) (text : List ℕ) → StandsAfter r text → EndOutcome r text
+end_outcome r text s = by_phase r.phase refl s
+  where
+    by_phase : (p : Phase) → r.phase ≡ p → StandsIn p r text → EndOutcome r text
+    by_phase phases.Done e f = done_end r text f e
+    by_phase (phases.Refused fault) e f =
+        let few = (has_fault r.layout r.wanted f.front (Some f.byte) fault f.here).0 in
+        let told = refused_end r fault e in
+        record {
+          some = omega arith;
+          fault = rw (told, refusal_end r.layout r.wanted text, refused_fault r text fault f);
+          instance = λ none. absurd (cc);
+        }
+    by_phase phase e f = live_end r text f (rw e)
 
 -- ---- the verdict
 
-meets_refused : (r : Fields) (text : List ℕ) (fault : LayoutFault) → 1 ≤ r.wanted
-    → RefusesInstance r.layout text r.wanted fault → FinishMeets r text (Err fault)
-meets_refused r text fault some is = by_verdict (one_verdict r.layout text r.wanted some)
-  where
-    by_verdict : (ExactlyOne (IsInstanceFile limits r.layout text r.wanted)
-        × ((fault : LayoutFault) → RefusesInstance r.layout text r.wanted fault → ⊥))
-        ⊎ (ExactlyOne (RefusesInstance r.layout text r.wanted)
-        × ((problem : Problem) → IsInstanceFile limits r.layout text r.wanted problem → ⊥))
-        → FinishMeets r text (Err fault)
-    by_verdict (inl holds) = absurd (holds.1 fault is)
-    by_verdict (inr refuses) = record {
-      file = λ problem. (λ z. absurd (cc), λ file. absurd (refuses.1 problem file));
-      refused =
-          λ other. (
-            λ z. subst (RefusesInstance r.layout text r.wanted) (same_error z) is,
-            λ o. ap Err (refuses.0.no_other fault is ∙ sym (refuses.0.no_other other o)),
-          );
+-- finish owes the problem that is accepted, or the fault
+meets : (r : Fields) (text : List ℕ) (outcome : Result Problem LayoutFault) → 1 ≤ r.wanted
+    → accepted r.layout text r.wanted ≡ result_ok outcome → refusal r.layout text r.wanted ≡ result_err outcome
+    → FinishMeets r text outcome
+meets r text (Ok problem) some ok err =
+    let accepts = λ (other : Problem). accepted_law r.layout text r.wanted other some in
+    let refuses = refusal_is r.layout text r.wanted in
+    record {
+      file = λ other. (λ z. (accepts other).0 (cc), λ file. cc ((accepts other).1 file));
+      refused = λ other. (λ z. (refuses other).0 (cc), λ refused. cc ((refuses other).1 refused));
     }
-
-meets_accepted : (r : Fields) (text : List ℕ) (problem : Problem) → 1 ≤ r.wanted
-    → IsInstanceFile limits r.layout text r.wanted problem → FinishMeets r text (Ok problem)
-meets_accepted r text problem some is = by_verdict (one_verdict r.layout text r.wanted some)
-  where
-    same_ok : {a b : Problem} → ◌≡◌ {A = Result Problem LayoutFault} (Ok a) (Ok b) → a ≡ b
-    same_ok z = cc
-
-    by_verdict : (ExactlyOne (IsInstanceFile limits r.layout text r.wanted)
-        × ((fault : LayoutFault) → RefusesInstance r.layout text r.wanted fault → ⊥))
-        ⊎ (ExactlyOne (RefusesInstance r.layout text r.wanted)
-        × ((problem : Problem) → IsInstanceFile limits r.layout text r.wanted problem → ⊥))
-        → FinishMeets r text (Ok problem)
-    by_verdict (inl holds) = record {
-      file =
-          λ other. (
-            λ z. subst (IsInstanceFile limits r.layout text r.wanted) (same_ok z) is,
-            λ o. ap Ok (holds.0.no_other problem is ∙ sym (holds.0.no_other other o)),
-          );
-      refused = λ fault. (λ z. absurd (cc), λ o. absurd (holds.1 fault o));
+meets r text (Err fault) some ok err =
+    let accepts = λ (other : Problem). accepted_law r.layout text r.wanted other some in
+    let refuses = refusal_is r.layout text r.wanted in
+    record {
+      file = λ other. (λ z. (accepts other).0 (cc), λ file. cc ((accepts other).1 file));
+      refused = λ other. (λ z. (refuses other).0 (cc), λ refused. cc ((refuses other).1 refused));
     }
-    by_verdict (inr refuses) = absurd (refuses.1 problem is)
-
--- a refused reader's wanted number is at least 1
-some_wanted : (layout : Layout) (k : ℕ) (text : List ℕ) (b : ℕ) (fault : LayoutFault)
-    → fault_of_place layout k text (Some b) ≡ Some fault → 1 ≤ k
-unfolding fault_of_place
-some_wanted layout (suc k) text b fault e = omega arith
-some_wanted layout zero text b fault e =
-    absurd (let none =
-    ap
-    (λ t. if t then first_some (faults layout zero (stand layout (ended_lines text)).now text (Some b)) else None)
-    (le-ltb (length (stand layout (ended_lines text)).complete) zero (omega arith)) in
-    let bad = sym none ∙ e in cc)
-
--- of a reader that has met no fault at a byte
-outcome_fault : (r : Fields) (text : List ℕ) (fault : LayoutFault) → Follows r text → EndOutcome r text
-    → end_fault r.kinds (at_end r.last r.blocks) ≡ Some fault → FinishMeets r text (Err fault)
-outcome_fault r text fault f o e =
-    let is : refusal r.layout text r.wanted ≡ Some fault =
-    refusal_end r.layout r.wanted text ∙ ap (λ x. option_or x (fault_of_place r.layout r.wanted text None)) f.sound
-    ∙ o.fault ∙ e in
-    meets_refused r text fault f.some ((refusal_is r.layout text r.wanted fault).0 is)
-
-outcome_none : (r : Fields) (text : List ℕ) → Follows r text → EndOutcome r text
-    → end_fault r.kinds (at_end r.last r.blocks) ≡ None
-    → (problem : Problem) × ((at_end r.last r.blocks).instance ≡ Some problem) × FinishMeets r text (Ok problem)
-unfolding accepted
-outcome_none r text f o e =
-    let none : refusal r.layout text r.wanted ≡ None =
-    refusal_end r.layout r.wanted text ∙ ap (λ x. option_or x (fault_of_place r.layout r.wanted text None)) f.sound
-    ∙ o.fault ∙ e in
-    let same : accepted r.layout text r.wanted ≡ (at_end r.last r.blocks).instance =
-    ap (λ x. if is_none x
-    then option_map (instance_of r.layout) (slice_get (stand r.layout (lines text)).complete (r.wanted - 1))
-    else None)
-    none
-    ∙ sym (o.instance e) in
-    by_verdict none same (one_verdict r.layout text r.wanted f.some)
-  where
-    by_verdict : refusal r.layout text r.wanted ≡ None
-        → accepted r.layout text r.wanted ≡ (at_end r.last r.blocks).instance
-        → (ExactlyOne (IsInstanceFile limits r.layout text r.wanted)
-        × ((fault : LayoutFault) → RefusesInstance r.layout text r.wanted fault → ⊥))
-        ⊎ (ExactlyOne (RefusesInstance r.layout text r.wanted)
-        × ((problem : Problem) → IsInstanceFile limits r.layout text r.wanted problem → ⊥))
-        → (problem : Problem) × ((at_end r.last r.blocks).instance ≡ Some problem) × FinishMeets r text (Ok problem)
-    by_verdict none same (inl holds) =
-        let is : accepted r.layout text r.wanted ≡ Some holds.0.one =
-        (accepted_law r.layout text r.wanted holds.0.one f.some).1 holds.0.has in
-        (holds.0.one, sym same ∙ is, meets_accepted r text holds.0.one f.some holds.0.has)
-    by_verdict none same (inr refuses) =
-        absurd (let there = (refusal_is r.layout text r.wanted refuses.0.one).1 refuses.0.has in cc)
 
 -- where a reader stands, the end of the input is judged so
-abbrev pub FinishTells : Fields → List ℕ → Type 0
-FinishTells r text =
-    ((fault : LayoutFault) → end_fault r.kinds (at_end r.last r.blocks) ≡ Some fault → FinishMeets r text (Err fault))
+pub finish_tells : (r : Fields) (text : List ℕ) → StandsAfter r text
+    → ((fault : LayoutFault) → end_fault r.kinds (at_end r.last r.blocks) ≡ Some fault → FinishMeets r text (Err fault))
     × (end_fault r.kinds (at_end r.last r.blocks) ≡ None
     → (problem : Problem) × ((at_end r.last r.blocks).instance ≡ Some problem) × FinishMeets r text (Ok problem))
-
-follows_tells : (r : Fields) (text : List ℕ) → Follows r text → EndOutcome r text → FinishTells r text
-follows_tells r text f o = (λ fault e. outcome_fault r text fault f o e, λ e. outcome_none r text f o e)
-
-pub finish_tells : (r : Fields) (text : List ℕ) → StandsAfter r text → FinishTells r text
-finish_tells r text s = by_phase r.phase refl s
-  where
-    by_phase : (p : Phase) → r.phase ≡ p → StandsIn p r text → FinishTells r text
-    by_phase phases.Seeking e f = follows_tells r text f (live_end r text f (ap is_live e))
-    by_phase phases.Body e f = follows_tells r text f (live_end r text f (ap is_live e))
-    by_phase phases.AfterLast e f = follows_tells r text f (live_end r text f (ap is_live e))
-    by_phase phases.Done e f = follows_tells r text f (done_end r text f e)
-    by_phase (phases.Refused fault) e f =
-        let here : at_end r.last r.blocks ≡ r.blocks =
-        ap (λ p. if is_live p then last_number_ended r.blocks (number_of r.digits) else r.blocks) e in
-        let told : end_fault r.kinds (at_end r.last r.blocks) ≡ Some fault =
-        ap (end_fault r.kinds) here ∙ ap (λ p. end_fault_in p r.kinds r.blocks) e in
-        let some = some_wanted r.layout r.wanted f.front f.byte fault f.here in
-        let refuses : RefusesInstance r.layout text r.wanted fault =
-        subst (λ xs. RefusesInstance r.layout xs r.wanted fault) (append-nil text)
-        (byte_fault_refuses r.layout r.wanted text [] fault (refused_fault r text fault f)) in (
-          λ other h. meets_as other (same_some (sym told ∙ h)) (meets_refused r text fault some refuses),
-          λ h. absurd (let bad = sym told ∙ h in cc),
-        )
-      where
-        meets_as : (other : LayoutFault) → fault ≡ other → FinishMeets r text (Err fault)
-            → FinishMeets r text (Err other)
-        meets_as other z m = subst (λ g. FinishMeets r text (Err g)) z m
+unfolding accepted
+finish_tells r text s =
+    let o = end_outcome r text s in (
+      λ fault e. meets r text (Err fault) o.some (rw (o.fault ∙ e)) (o.fault ∙ e),
+      λ e.
+          let none = o.fault ∙ e in
+          let same : accepted r.layout text r.wanted ≡ (at_end r.last r.blocks).instance =
+          rw none (sym (o.instance e)) in
+          let held = unrefused_holds r.layout r.wanted o.some text none in
+          let is = holds_accepted r.layout r.wanted text held.0 held.1 in
+          (held.0, sym same ∙ is, meets r text (Ok held.0) o.some is none),
+    )
 
 -- a reader that is done has a file
 pub finish_done : (r : Fields) (text : List ℕ) → Follows r text → r.phase ≡ phases.Done
     → (problem : Problem) × IsInstanceFile limits r.layout text r.wanted problem
 finish_done r text f e =
-    let here : at_end r.last r.blocks ≡ r.blocks =
-    ap (λ p. if is_live p then last_number_ended r.blocks (number_of r.digits) else r.blocks) e in
-    let told : end_fault r.kinds (at_end r.last r.blocks) ≡ None =
-    ap (end_fault r.kinds) here ∙ ap (λ p. end_fault_in p r.kinds r.blocks) e in
-    let found = outcome_none r text f (done_end r text f e) told in
-    (found.0, (found.2.file found.0).0 refl)
+    let held = enough_holds r.layout r.wanted f.some text f.sound (done_enough r text f e) in
+    (held.0, completes_file r.layout text r.wanted held.0 held.1.0)
 
 -- where the input may end here, the instance is there
 pub end_has_instance : (r : Fields) → IsReader r → end_fault r.kinds (at_end r.last r.blocks) ≡ None
     → (at_end r.last r.blocks).instance ≡ None → ⊥
-end_has_instance r some told none = by_memory (refused_memory r.phase)
-  where
-    by_memory : (r.phase ≡ phases.Refused Memory) ⊎ (r.phase ≢ phases.Refused Memory) → ⊥
-    by_memory (inl e) =
-        let here : at_end r.last r.blocks ≡ r.blocks =
-        ap (λ p. if is_live p then last_number_ended r.blocks (number_of r.digits) else r.blocks) e in
-        let refused : end_fault r.kinds (at_end r.last r.blocks) ≡ Some Memory =
-        ap (end_fault r.kinds) here ∙ ap (λ p. end_fault_in p r.kinds r.blocks) e in
-        (let bad = sym told ∙ refused in cc)
-    by_memory (inr other) =
-        let at = some.stands other in
-        let there = (finish_tells r at.0 at.1).1 told in
-        (let bad = sym none ∙ there.1 in cc)
+end_has_instance r some told none = elim (refused_memory r.phase) [
+  | inl e ↦ let refused = refused_end r Memory e in cc
+  | inr other ↦
+      let at = some.stands other in
+      let there = (finish_tells r at.0 at.1).1 told in
+      let is = there.1 in
+      cc
+]
