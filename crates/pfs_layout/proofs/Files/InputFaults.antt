@@ -66,7 +66,8 @@ of_faults layout k (inside block) text None = search of_parts depth 7
 of_faults layout k (inside block) text (Some byte) = search of_parts depth 7
 of_faults layout k lost text next = refl
 
-of_place : (layout : Layout) (k : ℕ) (text : List ℕ) (next : Option ℕ)
+-- the fault of a place, if it has one, is one of inputs
+pub of_place : (layout : Layout) (k : ℕ) (text : List ℕ) (next : Option ℕ)
     → of_input (fault_of_place layout k text next) ≡ true
 unfolding fault_of_place
 of_place layout k text next = search (of_if, of_faults)

@@ -40,7 +40,8 @@ use Rattle.pfs_layout.proofs.Reading.ReadNames.{same_error}
 pub memory_nowhere : (r : Fields) (text : List ℕ) → r.phase ≡ phases.Refused Memory → StandsAfter r text → ⊥
 memory_nowhere r text e s =
     let refused : IsRefused r text Memory = subst (λ p. StandsIn p r text) e s in
-    cc (of_place r.layout r.wanted refused.front (Some refused.byte) Memory refused.here)
+    let named = rw refused.here at (of_place r.layout r.wanted refused.front (Some refused.byte)) in
+    absurd (cc)
 
 -- a refused reader's fault is that of the text
 pub refused_fault : (r : Fields) (text : List ℕ) (fault : LayoutFault) → IsRefused r text fault
