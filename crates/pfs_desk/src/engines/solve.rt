@@ -1,8 +1,7 @@
 //! The order that a search finds.
 ghost use Rattle.std.specs.Prelude.{◌≡◌, ◌<◌, ◌≤◌, ◌^◌, false, Some, IfSome, IfOk, IfErr};
 ghost use Rattle.pfs_base.specs.Sends.{Sends};
-ghost use Rattle.pfs_desk.specs.Engine.{Writes, SolveOutput, JudgesFirst, JudgesTake, ReadsFirst, TellsRead};
-ghost use Rattle.pfs_desk.specs.Engine.{RefusesNoOrder, RefusesNoSeed};
+ghost use Rattle.pfs_desk.specs.Engine.{Writes, SolveOutput, ReadsBlock, RefusesNoOrder, JudgesTake};
 ghost use Rattle.pfs_desk.specs.Headline.{Solves};
 ghost use Rattle.pfs_desk.specs.Solve.{IsFound, IsTakeFault, solution_text};
 ghost use Rattle.pfs_desk.specs.Solve.{take_for as take_of};
@@ -43,10 +42,7 @@ pub fn run_solve<R: Source, W: Sink>(
     requires take { IfSome options.now.take (λ asked. 1 ≤ asked) }
     ensures written { Writes (SolveOutput layout (R.left reader.old) block options.now)
         (W.written writer.old) (W.written writer.new) (W.has_failed writer.new) result }
-    ensures refused { IfErr result (JudgesFirst layout (R.left reader.old) block) }
-    ensures read { TellsRead (R.has_failed reader.new) result }
-    ensures as_far { ReadsFirst layout block (R.left reader.old) (R.left reader.new) result }
-    ensures no_seed { RefusesNoSeed result }
+    ensures reads { ReadsBlock layout block (R.left reader.old) (R.left reader.new) (R.has_failed reader.new) result }
     ensures one_file { IfErr result RefusesNoOrder }
     ensures take { IfErr result (JudgesTake layout (R.left reader.old) block options.now.take) }
     ensures solves { IfSome (R.left reader.old) (λ bytes. Solves layout bytes block options.now

@@ -2,8 +2,7 @@
 ghost use Rattle.std.specs.Prelude.{◌≡◌, ◌+◌, ◌*◌, ◌<◌, ◌≤◌, ◌^◌, ◌∷◌, ◌++◌, [], false, length, IfOk, IfErr};
 ghost use Rattle.pfs_base.specs.Sends.{Sends};
 ghost use Rattle.pfs_base.specs.Text.{with_line_end, spaced};
-ghost use Rattle.pfs_desk.specs.Engine.{Writes, TableOutput, JudgesFirst, JudgesSecond, ReadsFirst, ReadsSecond};
-ghost use Rattle.pfs_desk.specs.Engine.{TellsRead, TellsOrderRead, RefusesNoSeed, RefusesNoTake, WantsBehindSecond};
+ghost use Rattle.pfs_desk.specs.Engine.{Writes, TableOutput, ReadsBlock, ReadsOrder, RefusesNoTake, WantsBehindSecond};
 ghost use Rattle.pfs_desk.specs.OutputText.{row_text, table_text};
 ghost use Rattle.pfs_desk.specs.Printable.{IsPrintable};
 
@@ -35,14 +34,10 @@ pub fn run_table<R: Source, O: Source, W: Sink>(
     requires few { block ≤ MOST_BLOCKS }
     ensures written { Writes (TableOutput layout (R.left reader.old) block (O.left order_reader.old))
         (W.written writer.old) (W.written writer.new) (W.has_failed writer.new) result }
-    ensures refused { IfErr result (JudgesFirst layout (R.left reader.old) block) }
-    ensures read { TellsRead (R.has_failed reader.new) result }
-    ensures as_far { ReadsFirst layout block (R.left reader.old) (R.left reader.new) result }
-    ensures no_seed { RefusesNoSeed result }
+    ensures reads { ReadsBlock layout block (R.left reader.old) (R.left reader.new) (R.has_failed reader.new) result }
+    ensures reads_order { ReadsOrder layout block (R.left reader.old) (O.left order_reader.old)
+        (O.left order_reader.new) (O.has_failed order_reader.new) result }
     ensures no_take { IfErr result RefusesNoTake }
-    ensures order_refused { IfErr result (JudgesSecond layout (R.left reader.old) block (O.left order_reader.old)) }
-    ensures order_read { TellsOrderRead (O.has_failed order_reader.new) result }
-    ensures order_as_far { ReadsSecond (O.left order_reader.old) (O.left order_reader.new) result }
     ensures memory { IfErr result (WantsBehindSecond layout (R.left reader.old) block (O.left order_reader.old)) }
 {
     let instance = read_block(alloc, reader, layout, block)?;
