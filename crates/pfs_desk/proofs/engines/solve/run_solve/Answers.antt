@@ -13,14 +13,14 @@ returns-in_err-instance-clause-solves g c =
     solves file c.args.layout c.args.block c.args.options.now old new reader_failed writer_failed c.from_residual.result c.requires.some
     (search rules) (search rules) (search rules) (search rules) (search rules)
 
-pub returns-in_err-many-clause-solves : goal.returns-in_err-many-clause-solves
-returns-in_err-many-clause-solves g c =
+pub returns-in_err-take-clause-solves : goal.returns-in_err-take-clause-solves
+returns-in_err-take-clause-solves g c =
     let file = g.R.Source.left c.args.reader.now in
     let old = g.W.Sink.written c.args.writer.now in
     let new = g.W.Sink.written c.args.writer.now in
     let reader_failed = g.R.Source.has_failed c.read_block.new.reader in
     let writer_failed = g.W.Sink.has_failed c.args.writer.now in
-    solves file c.args.layout c.args.block c.args.options.now old new reader_failed writer_failed c.from_residual-in_err-many.result c.requires.some
+    solves file c.args.layout c.args.block c.args.options.now old new reader_failed writer_failed c.from_residual-in_err-take.result c.requires.some
     (search rules) (search rules) (search rules) (search rules) (search rules)
 
 pub returns-in_err-solution-clause-solves : goal.returns-in_err-solution-clause-solves
