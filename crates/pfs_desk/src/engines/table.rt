@@ -6,9 +6,9 @@ ghost use Rattle.pfs_desk.specs.Engine.{Writes, TableOutput, ReadsBlock, ReadsOr
 ghost use Rattle.pfs_desk.specs.OutputText.{row_text, table_text};
 ghost use Rattle.pfs_desk.specs.Printable.{IsPrintable};
 
-use crate::engines::check::{put_wrong_machines, put_wrong_size};
+use crate::engines::check::put_verdict;
 use crate::fault::{DeskFault, Outcome};
-use pfs_audit::{TimeTable, table};
+use pfs_audit::{TimeTable, Verdict, table};
 use pfs_base::print::{put_named, put_next, put_number};
 use pfs_base::{MOST_BLOCKS, MOST_MACHINES, Sink, Source, WriteFault, put};
 use pfs_layout::{Layout, read_block};
@@ -43,16 +43,16 @@ pub fn run_table<R: Source, O: Source, W: Sink>(
     let instance = read_block(alloc, reader, layout, block)?;
     let file = read_order(alloc, order_reader)?;
     let order = file.order();
-    let jobs = instance.jobs();
-    if order.len() != jobs {
-        put_wrong_size(writer, order.len(), jobs)?;
+    let (size, jobs) = (order.len(), instance.jobs());
+    if size != jobs {
+        put_verdict(writer, Verdict::WrongSize { order: size, jobs })?;
         return Ok(Outcome::CheckFailed);
     }
     let machines = instance.machines();
-    if let Some(stated) = file.machines()
-        && stated != machines
+    if let Some(order) = file.machines()
+        && order != machines
     {
-        put_wrong_machines(writer, stated, machines)?;
+        put_verdict(writer, Verdict::WrongMachines { order, machines })?;
         return Ok(Outcome::CheckFailed);
     }
     let table = table(alloc, &instance, order)?;
