@@ -141,7 +141,8 @@ fn each_command_is_planned(rt: HostRuntime) -> Result<(), Fail> {
             "solve|O|1|0|5000|0|0|false|f",
         ),
         (
-            "solve|--layout|orlib|--block|2|--rounds|1000000|--take|1|--seed|18446744073709551615|--passes|100|--cells|f",
+            "solve|--layout|orlib|--block|2|--rounds|1000000|--take|1|--seed|18446744073709551615|\
+             --passes|100|--cells|f",
             "solve|O|2|1000000|1|18446744073709551615|100|true|f",
         ),
         ("check|--layout|orlib|--block|2|f|o", "check|O|2|f|o"),
