@@ -15,7 +15,7 @@ use Rattle.pfs_desk.specs.declared.fault.DeskFault.{DeskFault}
 use Rattle.pfs_desk.specs.declared.fault.DeskFault.TheVariants as faults
 use Rattle.pfs_desk.specs.declared.fault.Outcome.{Outcome}
 use Rattle.pfs_desk.specs.declared.solve_options.SolveOptions.{SolveOptions}
-use Rattle.pfs_desk.specs.Engine.{JudgesFirst, JudgesTake, RefusesTake, AllowsTake, RefusesNoOrder, Writes, WritesNothing, SolveOutput}
+use Rattle.pfs_desk.specs.Engine.{ReadsBlock, JudgesTake, RefusesTake, AllowsTake, RefusesNoOrder, Writes, WritesNothing, SolveOutput}
 use Rattle.pfs_desk.specs.Headline.{ReadsOn, Solves}
 use Rattle.pfs_desk.specs.Solve.{take_for, IsSolution}
 
@@ -120,19 +120,28 @@ module _ (layout : Layout) (file : List ℕ) (block : ℕ) (some : 1 ≤ block) 
       }
 
 -- what a `solve` does that writes its output or nothing, and judges the file and then the take
-pub solves : (file : Option (List ℕ)) (layout : Layout) (block : ℕ) (options : SolveOptions) (old new : Option (List ℕ)) (reader_failed writer_failed : Bool) (result : Result Outcome DeskFault)
-    → 1 ≤ block → Writes (SolveOutput layout file block options) old new writer_failed result → IfErr result (JudgesFirst layout file block)
-    → (result ≡ Err (faults.Layout layout_faults.Read) → reader_failed ≡ true) → IfErr result RefusesNoOrder → IfErr result (JudgesTake layout file block options.take)
+pub solves : (file left : Option (List ℕ)) (layout : Layout) (block : ℕ) (options : SolveOptions)
+    (old new : Option (List ℕ)) (reader_failed writer_failed : Bool) (result : Result Outcome DeskFault)
+    → 1 ≤ block → Writes (SolveOutput layout file block options) old new writer_failed result
+    → ReadsBlock layout block file left reader_failed result → IfErr result RefusesNoOrder
+    → IfErr result (JudgesTake layout file block options.take)
     → IfSome file (λ bytes. Solves layout bytes block options old new reader_failed writer_failed result)
-solves None layout block options old new reader_failed writer_failed result some writes first read no_order take = tt
-solves (Some file) layout block options old new reader_failed writer_failed (Ok outcome) some writes first read no_order take =
+solves None left layout block options old new reader_failed writer_failed result some writes reads no_order take = tt
+solves (Some file) left layout block options old new reader_failed writer_failed (Ok outcome)
+    some writes reads no_order take =
     written layout file block some options old new reader_failed writer_failed outcome writes
-solves (Some file) layout block options old new reader_failed writer_failed (Err (faults.Layout fault)) some writes first read no_order take =
-    with_refused_file layout file block some options old new reader_failed writer_failed fault writes first read
-solves (Some file) layout block options old new reader_failed writer_failed (Err (faults.Order fault)) some writes first read no_order take = absurd no_order
-solves (Some file) layout block options old new reader_failed writer_failed (Err (faults.TakeRange taken jobs)) some writes first read no_order take =
+solves (Some file) left layout block options old new reader_failed writer_failed (Err (faults.Layout fault))
+    some writes reads no_order take =
+    with_refused_file layout file block some options old new reader_failed writer_failed fault
+    writes reads.refused reads.read.0
+solves (Some file) left layout block options old new reader_failed writer_failed (Err (faults.Order fault))
+    some writes reads no_order take = absurd no_order
+solves (Some file) left layout block options old new reader_failed writer_failed (Err (faults.TakeRange taken jobs))
+    some writes reads no_order take =
     with_great_take layout file block some options old new reader_failed writer_failed taken jobs writes take
-solves (Some file) layout block options old new reader_failed writer_failed (Err (faults.Write fault)) some writes first read no_order take =
+solves (Some file) left layout block options old new reader_failed writer_failed (Err (faults.Write fault))
+    some writes reads no_order take =
     stopped layout file block some options old new reader_failed writer_failed fault writes
-solves (Some file) layout block options old new reader_failed writer_failed (Err faults.Memory) some writes first read no_order take =
+solves (Some file) left layout block options old new reader_failed writer_failed (Err faults.Memory)
+    some writes reads no_order take =
     without_memory layout file block some options old new reader_failed writer_failed take

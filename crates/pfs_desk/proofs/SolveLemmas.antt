@@ -57,17 +57,17 @@ each_round : (rounds put_back passes jobs machines width : ℕ)
     → rounds * (put_back + passes * jobs * machines * width) ≡ rounds * put_back + rounds * (passes * jobs * machines * width)
 each_round rounds put_back passes jobs machines width = omega arith
 
-pub rounds_cells_are : (shop : FlowShop) (rounds many passes : ℕ) → many ≤ shop.jobs →
-    rounds * round_cost heads_tails_cost shop.jobs shop.machines many passes ≡ rounds_cells shop rounds many passes
-rounds_cells_are shop rounds many passes few =
-    ap (λ cells. rounds * cells) (closed.round shop.jobs shop.machines many passes few)
-    ∙ each_round rounds (2 * many * shop.machines * (2 * shop.jobs - many)) passes shop.jobs shop.machines (4 * shop.jobs - 2)
+pub rounds_cells_are : (shop : FlowShop) (rounds take passes : ℕ) → take ≤ shop.jobs →
+    rounds * round_cost heads_tails_cost shop.jobs shop.machines take passes ≡ rounds_cells shop rounds take passes
+rounds_cells_are shop rounds take passes few =
+    ap (λ cells. rounds * cells) (closed.round shop.jobs shop.machines take passes few)
+    ∙ each_round rounds (2 * take * shop.machines * (2 * shop.jobs - take)) passes shop.jobs shop.machines (4 * shop.jobs - 2)
 
-pub rounds_cells_few : (shop : FlowShop) (rounds many passes : ℕ) → many ≤ shop.jobs →
-    rounds_cells shop rounds many passes ≤ rounds * (many + passes * shop.jobs) * shop.machines * (4 * shop.jobs - 2)
-rounds_cells_few shop rounds many passes few =
-    subst (λ cells. cells ≤ rounds * (many + passes * shop.jobs) * shop.machines * (4 * shop.jobs - 2)) (rounds_cells_are shop rounds many passes few)
-    (closed.rounds rounds shop.jobs shop.machines many passes few)
+pub rounds_cells_few : (shop : FlowShop) (rounds take passes : ℕ) → take ≤ shop.jobs →
+    rounds_cells shop rounds take passes ≤ rounds * (take + passes * shop.jobs) * shop.machines * (4 * shop.jobs - 2)
+rounds_cells_few shop rounds take passes few =
+    subst (λ cells. cells ≤ rounds * (take + passes * shop.jobs) * shop.machines * (4 * shop.jobs - 2)) (rounds_cells_are shop rounds take passes few)
+    (closed.rounds rounds shop.jobs shop.machines take passes few)
 
 -- ---- bounds, over numbers alone
 
@@ -89,11 +89,11 @@ few_neh_cells shop within =
     mul-le-mul (mul-le-mul_left 2 within.sizes.few_machines) (mul-le-mul within.sizes.few_jobs within.sizes.few_jobs)
 
 pub few_rounds_cells : FewRoundsCells
-few_rounds_cells shop rounds many passes within few short scarce =
-    let taken = through many shop.jobs MOST_JOBS few within.sizes.few_jobs in
-    let moved = sum_within many (passes * shop.jobs) MOST_JOBS (MOST_PASSES * MOST_JOBS) taken (mul-le-mul scarce within.sizes.few_jobs) in
+few_rounds_cells shop rounds take passes within few short scarce =
+    let taken = through take shop.jobs MOST_JOBS few within.sizes.few_jobs in
+    let moved = sum_within take (passes * shop.jobs) MOST_JOBS (MOST_PASSES * MOST_JOBS) taken (mul-le-mul scarce within.sizes.few_jobs) in
     let width = width_within shop.jobs MOST_JOBS within.sizes.few_jobs in
-    through _ _ most_rounds_cells (rounds_cells_few shop rounds many passes few)
+    through _ _ most_rounds_cells (rounds_cells_few shop rounds take passes few)
     (mul-le-mul (mul-le-mul (mul-le-mul short moved) within.sizes.few_machines) width)
 
 -- so many cells can be counted
@@ -101,11 +101,11 @@ pub neh_room : (shop : FlowShop) → IsWithin limits shop → neh_cost heads_tai
 neh_room shop within =
     below_room _ most_neh_cells (subst (λ cells. cells ≤ most_neh_cells) (sym (neh_cells_are shop)) (few_neh_cells shop within)) (lit< tt)
 
-pub rounds_room : (shop : FlowShop) (rounds many passes : ℕ) → IsWithin limits shop → many ≤ shop.jobs → rounds ≤ MOST_ROUNDS → passes ≤ MOST_PASSES →
-    rounds * round_cost heads_tails_cost shop.jobs shop.machines many passes < 2 ^ 62
-rounds_room shop rounds many passes within few short scarce =
-    below_room _ most_rounds_cells (subst (λ cells. cells ≤ most_rounds_cells) (sym (rounds_cells_are shop rounds many passes few))
-    (few_rounds_cells shop rounds many passes within few short scarce)) (lit< tt)
+pub rounds_room : (shop : FlowShop) (rounds take passes : ℕ) → IsWithin limits shop → take ≤ shop.jobs → rounds ≤ MOST_ROUNDS → passes ≤ MOST_PASSES →
+    rounds * round_cost heads_tails_cost shop.jobs shop.machines take passes < 2 ^ 62
+rounds_room shop rounds take passes within few short scarce =
+    below_room _ most_rounds_cells (subst (λ cells. cells ≤ most_rounds_cells) (sym (rounds_cells_are shop rounds take passes few))
+    (few_rounds_cells shop rounds take passes within few short scarce)) (lit< tt)
 
 -- ---- makespans
 
@@ -121,26 +121,26 @@ pub record NehDone (shop : FlowShop) (order : List ℕ) (span cells : ℕ) : Typ
   pub counted : cells ≡ neh_cost heads_tails_cost shop.jobs shop.machines
 
 -- and then so many rounds on the words of a stream
-pub record RoundsDone (shop : FlowShop) (rounds many passes : ℕ) (stream : Stream) (old : List ℕ) (old_span old_cells : ℕ) (order : List ℕ) (span cells : ℕ) : Type 0 where
-  pub is_order : order ≡ after_rounds shop passes rounds many old (words_of (rounds * many) stream)
+pub record RoundsDone (shop : FlowShop) (rounds take passes : ℕ) (stream : Stream) (old : List ℕ) (old_span old_cells : ℕ) (order : List ℕ) (span cells : ℕ) : Type 0 where
+  pub is_order : order ≡ after_rounds shop passes rounds take old (words_of (rounds * take) stream)
   pub is_span : span ≡ makespan shop order
   pub never_rises : span ≤ old_span
-  pub counted : cells ≡ old_cells + rounds * round_cost heads_tails_cost shop.jobs shop.machines many passes
+  pub counted : cells ≡ old_cells + rounds * round_cost heads_tails_cost shop.jobs shop.machines take passes
 
-pub found_is : (shop : FlowShop) (rounds many passes seed : ℕ) (generator : Lcg) (old : List ℕ) (old_span old_cells : ℕ) (order : List ℕ) (span cells : ℕ)
-    → many ≤ shop.jobs → generator ≡ pcg32_of_seed (pcg32_seed 16 seed) → NehDone shop old old_span old_cells
-    → RoundsDone shop rounds many passes (stream_of (steps_u32 pcg32) generator) old old_span old_cells order span cells
-    → length order ≡ shop.jobs → IsSequence shop.jobs order → IsFound shop rounds many passes seed order span cells
-found_is shop rounds many passes seed generator old old_span old_cells order span cells few seeded neh done all distinct = record {
-  found = done.is_order ∙ ap (λ o. after_rounds shop passes rounds many o (words_of (rounds * many) (stream_of (steps_u32 pcg32) generator))) neh.is_order
-      ∙ ap (after_rounds shop passes rounds many (neh_order shop)) (words_are seed generator (rounds * many) seeded);
+pub found_is : (shop : FlowShop) (rounds take passes seed : ℕ) (generator : Lcg) (old : List ℕ) (old_span old_cells : ℕ) (order : List ℕ) (span cells : ℕ)
+    → take ≤ shop.jobs → generator ≡ pcg32_of_seed (pcg32_seed 16 seed) → NehDone shop old old_span old_cells
+    → RoundsDone shop rounds take passes (stream_of (steps_u32 pcg32) generator) old old_span old_cells order span cells
+    → length order ≡ shop.jobs → IsSequence shop.jobs order → IsFound shop rounds take passes seed order span cells
+found_is shop rounds take passes seed generator old old_span old_cells order span cells few seeded neh done all distinct = record {
+  found = done.is_order ∙ ap (λ o. after_rounds shop passes rounds take o (words_of (rounds * take) (stream_of (steps_u32 pcg32) generator))) neh.is_order
+      ∙ ap (after_rounds shop passes rounds take (neh_order shop)) (words_are seed generator (rounds * take) seeded);
   all = all;
   distinct = distinct;
   spanned = done.is_span;
   no_longer = subst (λ most. span ≤ most) (neh.is_span ∙ ap (makespan shop) neh.is_order) done.never_rises;
-  counted = done.counted ∙ ap (λ n. n + rounds * round_cost heads_tails_cost shop.jobs shop.machines many passes) (neh.counted ∙ neh_cells_are shop)
-      ∙ ap (λ n. neh_cells shop + n) (rounds_cells_are shop rounds many passes few);
-  few_cells = rounds_cells_few shop rounds many passes few;
+  counted = done.counted ∙ ap (λ n. n + rounds * round_cost heads_tails_cost shop.jobs shop.machines take passes) (neh.counted ∙ neh_cells_are shop)
+      ∙ ap (λ n. neh_cells shop + n) (rounds_cells_are shop rounds take passes few);
+  few_cells = rounds_cells_few shop rounds take passes few;
 }
 
 -- ---- what is printed

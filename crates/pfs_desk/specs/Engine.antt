@@ -1,6 +1,6 @@
 -- What an engine answers and writes. Bytes are those that a reader has left, where they are told.
 use Rattle.std.specs.Prelude.{⊤, ◌≡◌, ◌≢◌, ◌↔◌, ℕ, ◌≤◌, Bool, true, false, List, Option, Some, None, Result, Ok, Err}
-use Rattle.std.specs.Prelude.{◌⊎◌, IfSome}
+use Rattle.std.specs.Prelude.{◌⊎◌, IfSome, IfErr}
 use Rattle.std.specs.Io.KnownBytes.{Appends}
 use Rattle.pfs_base.specs.Limits.{limits}
 use Rattle.pfs_base.specs.Problem.{Problem}
@@ -99,6 +99,28 @@ ReadsFirst layout block file left result = IfSome file
 abbrev pub ReadsSecond : Option (List ℕ) → Option (List ℕ) → Result Outcome DeskFault → Type 0
 ReadsSecond order_file left (Err (faults.Layout fault)) = left ≡ order_file
 ReadsSecond order_file left others = IfSome order_file (λ bytes. ReadsOrderAsFar bytes left (order_fault_of others))
+
+-- what an engine owes of the instance file, of which it reads a block
+pub record ReadsBlock (layout : Layout) (block : ℕ) (file left : Option (List ℕ)) (failed : Bool)
+    (result : Result Outcome DeskFault) : Type 0 where
+  -- the file is judged first
+  pub refused : IfErr result (JudgesFirst layout file block)
+  -- a failed read is told, and none is told where none failed
+  pub read : TellsRead failed result
+  -- it is read up to a last piece, before which more was wanted, and no further
+  pub as_far : ReadsFirst layout block file left result
+  -- no seed was asked for, and none is refused
+  pub no_seed : RefusesNoSeed result
+
+-- what it owes of the order file that it reads behind that block
+pub record ReadsOrder (layout : Layout) (block : ℕ) (file order_file left : Option (List ℕ)) (failed : Bool)
+    (result : Result Outcome DeskFault) : Type 0 where
+  -- the order file is judged behind the instance file
+  pub refused : IfErr result (JudgesSecond layout file block order_file)
+  -- a failed read is told, and none is told where none failed
+  pub read : TellsOrderRead failed result
+  -- it is read as far as order files are, and not at all where the instance file has a fault
+  pub as_far : ReadsSecond order_file left result
 
 -- memory is asked for behind the instance file, which holds a problem
 abbrev pub WantsBehindFirst : Layout → Option (List ℕ) → ℕ → DeskFault → Type 0

@@ -18,5 +18,5 @@ abbrev pub FewNehCells : Type 0
 FewNehCells = (shop : FlowShop) → IsWithin limits shop → neh_cells shop ≤ most_neh_cells
 
 abbrev pub FewRoundsCells : Type 0
-FewRoundsCells = (shop : FlowShop) (rounds many passes : ℕ) → IsWithin limits shop → many ≤ shop.jobs
-    → rounds ≤ MOST_ROUNDS → passes ≤ MOST_PASSES → rounds_cells shop rounds many passes ≤ most_rounds_cells
+FewRoundsCells = (shop : FlowShop) (rounds take passes : ℕ) → IsWithin limits shop → take ≤ shop.jobs
+    → rounds ≤ MOST_ROUNDS → passes ≤ MOST_PASSES → rounds_cells shop rounds take passes ≤ most_rounds_cells

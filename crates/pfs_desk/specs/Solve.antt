@@ -28,8 +28,8 @@ words_for seed count = first_words pcg32 count (pcg32_of_seed (pcg32_seed 16 see
 -- NEH's order followed by so many rounds, each of which takes so many jobs out by the next so many words of the seed,
 -- and makes so many passes
 abbrev pub searched : FlowShop → ℕ → ℕ → ℕ → ℕ → List ℕ
-searched shop rounds many passes seed = after_rounds shop passes rounds many (neh_order shop)
-    (words_for seed (rounds * many))
+searched shop rounds take passes seed = after_rounds shop passes rounds take (neh_order shop)
+    (words_for seed (rounds * take))
 
 -- the cells of NEH: 2mn² for n jobs on m machines
 abbrev pub neh_cells : FlowShop → ℕ
@@ -37,8 +37,8 @@ neh_cells shop = 2 * shop.machines * (shop.jobs * shop.jobs)
 
 -- the cells of R rounds that each take d jobs out and make L passes: 2Rdm(2n - d) + RLnm(4n - 2)
 abbrev pub rounds_cells : FlowShop → ℕ → ℕ → ℕ → ℕ
-rounds_cells shop rounds many passes =
-    rounds * (2 * many * shop.machines * (2 * shop.jobs - many))
+rounds_cells shop rounds take passes =
+    rounds * (2 * take * shop.machines * (2 * shop.jobs - take))
     + rounds * (passes * shop.jobs * shop.machines * (4 * shop.jobs - 2))
 
 -- an order and its makespan as an order file that states the machines too, and behind it, where that is asked for, a
@@ -48,9 +48,9 @@ solution_text order machines makespan with_cells cells =
     file_text order (Some machines) makespan ++ (if with_cells then named_number (codes "cells") cells else [])
 
 -- what a search of so many rounds finds: an order and its makespan, and the count of its cells
-pub record IsFound (shop : FlowShop) (rounds many passes seed : ℕ) (order : List ℕ) (span cells : ℕ) : Type 0 where
+pub record IsFound (shop : FlowShop) (rounds take passes seed : ℕ) (order : List ℕ) (span cells : ℕ) : Type 0 where
   -- it is NEH's order followed by the rounds
-  pub found : order ≡ searched shop rounds many passes seed
+  pub found : order ≡ searched shop rounds take passes seed
   -- it has each job once
   pub all : length order ≡ shop.jobs
   pub distinct : IsSequence shop.jobs order
@@ -58,8 +58,8 @@ pub record IsFound (shop : FlowShop) (rounds many passes seed : ℕ) (order : Li
   pub spanned : span ≡ makespan shop order
   pub no_longer : span ≤ makespan shop (neh_order shop)
   -- the cells are those of NEH and those of the rounds, and these are at most R(d + Ln)m(4n - 2)
-  pub counted : cells ≡ neh_cells shop + rounds_cells shop rounds many passes
-  pub few_cells : rounds_cells shop rounds many passes ≤ rounds * (many + passes * shop.jobs) * shop.machines
+  pub counted : cells ≡ neh_cells shop + rounds_cells shop rounds take passes
+  pub few_cells : rounds_cells shop rounds take passes ≤ rounds * (take + passes * shop.jobs) * shop.machines
       * (4 * shop.jobs - 2)
 
 -- more jobs are asked for than there are, and the fault tells both numbers
@@ -69,11 +69,11 @@ IsTakeFault asked jobs others = ⊥
 
 -- what `solve` prints of a problem that has as many jobs as are to be taken out
 pub record IsSolution (shop : FlowShop) (options : SolveOptions) (text : List ℕ) : Type 0 where
-  pub many : ℕ
+  pub take : ℕ
   pub order : List ℕ
   pub span : ℕ
   pub cells : ℕ
-  pub taken : many ≡ take_for options.take shop.jobs
-  pub few_taken : many ≤ shop.jobs
-  pub found : IsFound shop options.rounds many options.passes options.seed order span cells
+  pub taken : take ≡ take_for options.take shop.jobs
+  pub few_taken : take ≤ shop.jobs
+  pub found : IsFound shop options.rounds take options.passes options.seed order span cells
   pub spelled : text ≡ solution_text order shop.machines span options.cells cells

@@ -1,5 +1,5 @@
 //! One round of iterated greedy, and the words of the next.
-ghost use Rattle.std.specs.Prelude.{◌≡◌, ℕ, ◌+◌, ◌<◌, ◌≤◌, ◌^◌, ◌++◌, length, take};
+ghost use Rattle.std.specs.Prelude.{◌≡◌, ℕ, ◌+◌, ◌<◌, ◌≤◌, ◌^◌, ◌++◌, length, take as front};
 ghost use Rattle.std.specs.Prelude.{vec_len, vec_capacity, false, IsOk, OnOk, OnErr};
 ghost use Rattle.pfs_base.specs.Paths.{makespan};
 ghost use Rattle.pfs_order.specs.Sequence.{IsSequence};
@@ -90,14 +90,14 @@ fn take_jobs(order: &Seq, seq: &mut Seq, taken: &mut Vec<usize>, words: &[u32])
     }
 }
 
-/// Writes the next words of a generator over the first of a list.
-pub(crate) fn draw_words<R: Rng>(rng: &mut R, words: &mut Vec<u32>, count: usize)
-    requires { count ≤ vec_len words.old }
-    ensures words { take count words.new.items ≡ words_of count (R.stream rng.old) }
+/// Writes the next words of a generator, one for each job that a round takes out, over the first of a list.
+pub(crate) fn draw_words<R: Rng>(rng: &mut R, words: &mut Vec<u32>, take: usize)
+    requires { take ≤ vec_len words.old }
+    ensures words { front take words.new.items ≡ words_of take (R.stream rng.old) }
     ensures len { vec_len words.new ≡ vec_len words.old }
-    ensures stream { R.stream rng.new ≡ stream_after count (R.stream rng.old) }
+    ensures stream { R.stream rng.new ≡ stream_after take (R.stream rng.old) }
 {
-    for place in 0..count {
+    for place in 0..take {
         words[place] = rng.next_u32();
     }
 }

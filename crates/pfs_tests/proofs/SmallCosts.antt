@@ -12,7 +12,7 @@ small_neh (suc (suc zero)) machines few narrow = omega arith
 small_neh (suc (suc (suc zero))) machines few narrow = omega arith
 small_neh (suc (suc (suc (suc n)))) machines few narrow = absurd (omega arith)
 
-pub small_round : (jobs machines many : ℕ) → jobs ≤ 3 → machines ≤ 3 → many ≤ jobs → round_cost afresh_cost jobs machines many 0 ≤ 42
+pub small_round : (jobs machines take : ℕ) → jobs ≤ 3 → machines ≤ 3 → take ≤ jobs → round_cost afresh_cost jobs machines take 0 ≤ 42
 small_round zero machines zero few narrow within = omega arith
 small_round zero machines (suc d) few narrow within = absurd (omega arith)
 small_round (suc zero) machines zero few narrow within = omega arith
@@ -27,7 +27,7 @@ small_round (suc (suc (suc zero))) machines (suc zero) few narrow within = omega
 small_round (suc (suc (suc zero))) machines (suc (suc zero)) few narrow within = omega arith
 small_round (suc (suc (suc zero))) machines (suc (suc (suc zero))) few narrow within = omega arith
 small_round (suc (suc (suc zero))) machines (suc (suc (suc (suc d)))) few narrow within = absurd (omega arith)
-small_round (suc (suc (suc (suc n)))) machines many few narrow within = absurd (omega arith)
+small_round (suc (suc (suc (suc n)))) machines take few narrow within = absurd (omega arith)
 
 pub small_neh_by_rows : (jobs machines : ℕ) → jobs ≤ 3 → machines ≤ 3 → neh_cost heads_tails_cost jobs machines ≤ 54
 small_neh_by_rows zero machines few narrow = omega arith
@@ -36,7 +36,7 @@ small_neh_by_rows (suc (suc zero)) machines few narrow = omega arith
 small_neh_by_rows (suc (suc (suc zero))) machines few narrow = omega arith
 small_neh_by_rows (suc (suc (suc (suc n)))) machines few narrow = absurd (omega arith)
 
-pub small_round_by_rows : (jobs machines many : ℕ) → jobs ≤ 3 → machines ≤ 3 → many ≤ jobs → round_cost heads_tails_cost jobs machines many 0 ≤ 54
+pub small_round_by_rows : (jobs machines take : ℕ) → jobs ≤ 3 → machines ≤ 3 → take ≤ jobs → round_cost heads_tails_cost jobs machines take 0 ≤ 54
 small_round_by_rows zero machines zero few narrow within = omega arith
 small_round_by_rows zero machines (suc d) few narrow within = absurd (omega arith)
 small_round_by_rows (suc zero) machines zero few narrow within = omega arith
@@ -51,7 +51,7 @@ small_round_by_rows (suc (suc (suc zero))) machines (suc zero) few narrow within
 small_round_by_rows (suc (suc (suc zero))) machines (suc (suc zero)) few narrow within = omega arith
 small_round_by_rows (suc (suc (suc zero))) machines (suc (suc (suc zero))) few narrow within = omega arith
 small_round_by_rows (suc (suc (suc zero))) machines (suc (suc (suc (suc d)))) few narrow within = absurd (omega arith)
-small_round_by_rows (suc (suc (suc (suc n)))) machines many few narrow within = absurd (omega arith)
+small_round_by_rows (suc (suc (suc (suc n)))) machines take few narrow within = absurd (omega arith)
 
 -- ---- with passes
 
@@ -75,14 +75,14 @@ below_54 h = omega arith
 joined : (put_back passed all : ℕ) → put_back + 0 * all ≤ 54 → passed ≤ 9000 → put_back + passed ≤ 9054
 joined put_back passed all h k = omega arith
 
-pub small_round_of_passes : (jobs machines many passes : ℕ) → jobs ≤ 3 → machines ≤ 3 → many ≤ jobs → passes ≤ MOST_PASSES
-    → round_cost afresh_cost jobs machines many passes ≤ 9054
-small_round_of_passes jobs machines many passes few narrow within scarce =
-    joined _ (passes * pass_cost afresh_cost jobs machines) (pass_cost afresh_cost jobs machines) (below_54 (small_round jobs machines many few narrow within))
+pub small_round_of_passes : (jobs machines take passes : ℕ) → jobs ≤ 3 → machines ≤ 3 → take ≤ jobs → passes ≤ MOST_PASSES
+    → round_cost afresh_cost jobs machines take passes ≤ 9054
+small_round_of_passes jobs machines take passes few narrow within scarce =
+    joined _ (passes * pass_cost afresh_cost jobs machines) (pass_cost afresh_cost jobs machines) (below_54 (small_round jobs machines take few narrow within))
     (mul-le-mul scarce (small_pass jobs machines few narrow))
 
-pub small_round_of_passes_by_rows : (jobs machines many passes : ℕ) → jobs ≤ 3 → machines ≤ 3 → many ≤ jobs → passes ≤ MOST_PASSES
-    → round_cost heads_tails_cost jobs machines many passes ≤ 9054
-small_round_of_passes_by_rows jobs machines many passes few narrow within scarce =
-    joined _ (passes * pass_cost heads_tails_cost jobs machines) (pass_cost heads_tails_cost jobs machines) (small_round_by_rows jobs machines many few narrow within)
+pub small_round_of_passes_by_rows : (jobs machines take passes : ℕ) → jobs ≤ 3 → machines ≤ 3 → take ≤ jobs → passes ≤ MOST_PASSES
+    → round_cost heads_tails_cost jobs machines take passes ≤ 9054
+small_round_of_passes_by_rows jobs machines take passes few narrow within scarce =
+    joined _ (passes * pass_cost heads_tails_cost jobs machines) (pass_cost heads_tails_cost jobs machines) (small_round_by_rows jobs machines take few narrow within)
     (mul-le-mul scarce (small_pass_by_rows jobs machines few narrow))

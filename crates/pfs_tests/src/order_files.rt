@@ -7,6 +7,7 @@ use crate::texts::{ORDER, ORDER2};
 use pfs_base::{LONGEST_ORDER_FILE, WriteFault};
 use pfs_order::{Order, OrderFault, OrderFile, read_order, write_order};
 use std::alloc::Global;
+use std::process::Abort;
 use std::test::Fail;
 
 // What the order file of a text is, where the reader gives at most so many bytes at once and fails after so many
@@ -48,50 +49,70 @@ fn is_refused(answer: &Result<OrderFile, OrderFault>, fault: OrderFault) -> bool
     }
 }
 
+// Checks that a text is an order file of these jobs, these machines if any, and this makespan, where 1, 7 or 100 bytes
+// are given at once.
+fn assert_states(
+    rt: &impl Abort,
+    alloc: Global,
+    text: &[u8],
+    jobs: &[usize],
+    machines: Option<usize>,
+    makespan: u64,
+) {
+    for at_once in [1, 7, 100] {
+        let answer = read_text(alloc, text, at_once, 100);
+        assert!(rt;
+            states(&answer, jobs, machines, makespan),
+            "{machines:?} machines, {at_once} at once"
+        );
+    }
+}
+
 #[test]
 fn reads_order_files(rt: HostRuntime) {
-    for at_once in [1, 7, 100] {
-        let answer = read_text(rt.alloc(), ORDER, at_once, 100);
-        assert!(rt; states(&answer, &[1, 0, 2], None, 10), "{at_once} at once");
-    }
     let identity = b"order 3\n1 2 3\nmakespan 0\n";
-    assert!(rt;
-        states(
-            &read_text(rt.alloc(), identity, 100, 100),
-            &[0, 1, 2],
-            None,
-            0
-        )
-    );
+    assert_states(&rt, rt.alloc(), ORDER, &[1, 0, 2], None, 10);
+    assert_states(&rt, rt.alloc(), identity, &[0, 1, 2], None, 0);
 }
 
 #[test]
 fn reads_order_files_of_version_2(rt: HostRuntime) {
-    for at_once in [1, 7, 100] {
-        let answer = read_text(rt.alloc(), ORDER2, at_once, 100);
-        assert!(rt;
-            states(&answer, &[1, 0, 2], Some(2), 10),
-            "{at_once} at once"
-        );
-    }
+    assert_states(&rt, rt.alloc(), ORDER2, &[1, 0, 2], Some(2), 10);
     let cases: [(&[u8], usize, u64); 3] = [
         (b"order2 3 2\n1 2 3\nmakespan 0\n", 2, 0),
         (b"order2 3 1\n1 2 3\nmakespan 9\n", 1, 9),
         (b"order2 3 200\n1 2 3\nmakespan 9\n", 200, 9),
     ];
     for (text, machines, makespan) in cases {
-        let answer = read_text(rt.alloc(), text, 100, 100);
-        assert!(rt;
-            states(&answer, &[0, 1, 2], Some(machines), makespan),
-            "{machines} machines"
-        );
+        assert_states(&rt, rt.alloc(), text, &[0, 1, 2], Some(machines), makespan);
+    }
+}
+
+fn syntax(offset: usize) -> OrderFault {
+    OrderFault::Syntax { offset }
+}
+
+fn out_of_range(place: usize) -> OrderFault {
+    OrderFault::JobRange { place }
+}
+
+fn repeated(place: usize) -> OrderFault {
+    OrderFault::Repeated { place }
+}
+
+// Checks that each of these texts is refused for its fault, also where one byte is given at once.
+fn assert_refused(rt: &impl Abort, alloc: Global, cases: &[(&[u8], OrderFault)]) {
+    for (text, fault) in cases {
+        for at_once in [1, 100] {
+            let answer = read_text(alloc, text, at_once, 100);
+            assert!(rt; is_refused(&answer, *fault), "{fault:?}");
+        }
     }
 }
 
 #[test]
 fn refuses_other_texts(rt: HostRuntime) {
-    let syntax = |offset| OrderFault::Syntax { offset };
-    let cases: [(&[u8], OrderFault); 41] = [
+    let cases: [(&[u8], OrderFault); 25] = [
         (b"", syntax(0)),
         (b"order", syntax(5)),
         (b"order 3", syntax(7)),
@@ -108,35 +129,22 @@ fn refuses_other_texts(rt: HostRuntime) {
         (b"order 1\n1\nmakespan 1234567890123456789\n", syntax(37)),
         (b"order 1\n1\nmakespan 01\n", syntax(20)),
         (b"order 3\n2 1 3\nmakespan 10\n\n", syntax(26)),
-        (
-            b"order 3\n2 1 4\nmakespan 10\n",
-            OrderFault::JobRange { place: 3 },
-        ),
-        (
-            b"order 3\n2 0 3\nmakespan 1\n",
-            OrderFault::JobRange { place: 2 },
-        ),
-        (
-            b"order 1\n999999999\nmakespan 1\n",
-            OrderFault::JobRange { place: 1 },
-        ),
-        (
-            b"order 3\n2 2 3\nmakespan 1\n",
-            OrderFault::Repeated { place: 2 },
-        ),
-        (
-            b"order 3\n1 1 4\nmakespan 1\n",
-            OrderFault::Repeated { place: 2 },
-        ),
-        (
-            b"order 3\n4 1 1\nmakespan 1\n",
-            OrderFault::JobRange { place: 1 },
-        ),
-        (
-            b"order 3\n1 0 1\nmakespan 1\n",
-            OrderFault::JobRange { place: 2 },
-        ),
+        (b"order 3\n2 1 4\nmakespan 10\n", out_of_range(3)),
+        (b"order 3\n2 0 3\nmakespan 1\n", out_of_range(2)),
+        (b"order 1\n999999999\nmakespan 1\n", out_of_range(1)),
+        (b"order 3\n2 2 3\nmakespan 1\n", repeated(2)),
+        (b"order 3\n1 1 4\nmakespan 1\n", repeated(2)),
+        (b"order 3\n4 1 1\nmakespan 1\n", out_of_range(1)),
+        (b"order 3\n1 0 1\nmakespan 1\n", out_of_range(2)),
         (b"order 3\n1 1 4\nmakespan x\n", syntax(23)),
+        (b"order 3 2\n2 1 3\nmakespan 10\n", syntax(7)),
+    ];
+    assert_refused(&rt, rt.alloc(), &cases);
+}
+
+#[test]
+fn refuses_other_texts_of_version_2(rt: HostRuntime) {
+    let cases: [(&[u8], OrderFault); 16] = [
         (b"order2", syntax(6)),
         (b"order3 3\n2 1 3\nmakespan 10\n", syntax(5)),
         (b"order22 3 2\n2 1 3\nmakespan 10\n", syntax(6)),
@@ -150,23 +158,11 @@ fn refuses_other_texts(rt: HostRuntime) {
         (b"order2 3 201\n2 1 3\nmakespan 10\n", syntax(11)),
         (b"order2 3 2 \n2 1 3\nmakespan 10\n", syntax(10)),
         (b"order2 3  2\n2 1 3\nmakespan 10\n", syntax(9)),
-        (b"order 3 2\n2 1 3\nmakespan 10\n", syntax(7)),
         (b"order2 3 2\n2 1 3\nmakespan 10\n\n", syntax(29)),
-        (
-            b"order2 3 2\n2 1 4\nmakespan 10\n",
-            OrderFault::JobRange { place: 3 },
-        ),
-        (
-            b"order2 3 2\n2 2 3\nmakespan 1\n",
-            OrderFault::Repeated { place: 2 },
-        ),
+        (b"order2 3 2\n2 1 4\nmakespan 10\n", out_of_range(3)),
+        (b"order2 3 2\n2 2 3\nmakespan 1\n", repeated(2)),
     ];
-    for (text, fault) in cases {
-        for at_once in [1, 100] {
-            let answer = read_text(rt.alloc(), text, at_once, 100);
-            assert!(rt; is_refused(&answer, fault), "{fault:?}");
-        }
-    }
+    assert_refused(&rt, rt.alloc(), &cases);
 }
 
 #[test]
@@ -176,10 +172,7 @@ fn refuses_a_cut_order_file_where_it_ends(rt: HostRuntime) {
     for text in [ORDER, ORDER2] {
         for cut in 0..text.len() {
             let answer = read_text(rt.alloc(), &text[..cut], 100, 100);
-            assert!(rt;
-                is_refused(&answer, OrderFault::Syntax { offset: cut }),
-                "at {cut}"
-            );
+            assert!(rt; is_refused(&answer, syntax(cut)), "at {cut}");
         }
     }
 }
@@ -193,7 +186,7 @@ fn refuses_long_inputs(rt: HostRuntime) -> Result<(), Fail> {
     let answer = read_text(rt.alloc(), &longer, 100_000, 100);
     assert!(rt; is_refused(&answer, OrderFault::TooLong));
     let answer = read_text(rt.alloc(), &longer[1..], 100_000, 100);
-    assert!(rt; is_refused(&answer, OrderFault::Syntax { offset: 0 }));
+    assert!(rt; is_refused(&answer, syntax(0)));
     Ok(())
 }
 

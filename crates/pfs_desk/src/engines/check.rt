@@ -1,10 +1,8 @@
 //! The verdict on an order file.
 ghost use Rattle.std.specs.Prelude.{◌≡◌, ◌+◌, ◌<◌, ◌≤◌, false, length, IfOk, IfErr};
 ghost use Rattle.pfs_base.specs.Sends.{Sends};
-ghost use Rattle.pfs_desk.specs.Engine.{Writes, CheckOutput, JudgesFirst, JudgesSecond, ReadsFirst, ReadsSecond};
-ghost use Rattle.pfs_desk.specs.Engine.{TellsRead, TellsOrderRead, RefusesNoSeed, RefusesNoTake, WantsBehindSecond};
-ghost use Rattle.pfs_desk.specs.OutputText.{finding, valid_text, wrong_size_text, wrong_machines_text};
-ghost use Rattle.pfs_desk.specs.OutputText.{verdict_text, outcome_of};
+ghost use Rattle.pfs_desk.specs.Engine.{Writes, CheckOutput, ReadsBlock, ReadsOrder, RefusesNoTake, WantsBehindSecond};
+ghost use Rattle.pfs_desk.specs.OutputText.{finding, outcome_of, valid_text, verdict_text};
 
 use crate::fault::{DeskFault, Outcome};
 use pfs_audit::{Verdict, check};
@@ -31,14 +29,10 @@ pub fn run_check<R: Source, O: Source, W: Sink>(
     requires few { block ≤ MOST_BLOCKS }
     ensures written { Writes (CheckOutput layout (R.left reader.old) block (O.left order_reader.old))
         (W.written writer.old) (W.written writer.new) (W.has_failed writer.new) result }
-    ensures refused { IfErr result (JudgesFirst layout (R.left reader.old) block) }
-    ensures read { TellsRead (R.has_failed reader.new) result }
-    ensures as_far { ReadsFirst layout block (R.left reader.old) (R.left reader.new) result }
-    ensures no_seed { RefusesNoSeed result }
+    ensures reads { ReadsBlock layout block (R.left reader.old) (R.left reader.new) (R.has_failed reader.new) result }
+    ensures reads_order { ReadsOrder layout block (R.left reader.old) (O.left order_reader.old)
+        (O.left order_reader.new) (O.has_failed order_reader.new) result }
     ensures no_take { IfErr result RefusesNoTake }
-    ensures order_refused { IfErr result (JudgesSecond layout (R.left reader.old) block (O.left order_reader.old)) }
-    ensures order_read { TellsOrderRead (O.has_failed order_reader.new) result }
-    ensures order_as_far { ReadsSecond (O.left order_reader.old) (O.left order_reader.new) result }
     ensures memory { IfErr result (WantsBehindSecond layout (R.left reader.old) block (O.left order_reader.old)) }
 {
     let instance = read_block(alloc, reader, layout, block)?;
@@ -59,66 +53,39 @@ fn outcome_on(verdict: Verdict) -> Outcome
     }
 }
 
-fn put_verdict<W: Sink>(writer: &mut W, verdict: Verdict) -> Result<u64, WriteFault>
+/// Writes a verdict.
+pub(super) fn put_verdict<W: Sink>(writer: &mut W, verdict: Verdict) -> Result<u64, WriteFault>
     requires { W.has_failed writer.old ≡ false }
     ensures { Sends (W.written writer.old) (W.written writer.new) (W.has_failed writer.new)
         0 (verdict_text verdict) result }
 {
     match verdict {
         Verdict::Valid { makespan, bound } => put_valid(writer, makespan, bound),
-        Verdict::WrongSize { order, jobs } => put_wrong_size(writer, order, jobs),
-        Verdict::WrongMachines { order, machines } => put_wrong_machines(writer, order, machines),
-        Verdict::WrongMakespan { stated, computed } => {
-            put_finding(
-                writer,
-                b"wrong makespan",
-                b"stated",
-                stated,
-                b"computed",
-                computed,
-            )
-        }
+        Verdict::WrongSize { order, jobs } => put_finding(
+            writer,
+            b"wrong size",
+            b"order",
+            order as u64,
+            b"jobs",
+            jobs as u64,
+        ),
+        Verdict::WrongMachines { order, machines } => put_finding(
+            writer,
+            b"wrong machines",
+            b"order",
+            order as u64,
+            b"machines",
+            machines as u64,
+        ),
+        Verdict::WrongMakespan { stated, computed } => put_finding(
+            writer,
+            b"wrong makespan",
+            b"stated",
+            stated,
+            b"computed",
+            computed,
+        ),
     }
-}
-
-/// Writes that an order has another number of jobs than the instance.
-pub(super) fn put_wrong_size<W: Sink>(
-    writer: &mut W,
-    order: usize,
-    jobs: usize,
-) -> Result<u64, WriteFault>
-    requires { W.has_failed writer.old ≡ false }
-    ensures { Sends (W.written writer.old) (W.written writer.new) (W.has_failed writer.new)
-        0 (wrong_size_text order jobs) result }
-{
-    put_finding(
-        writer,
-        b"wrong size",
-        b"order",
-        order as u64,
-        b"jobs",
-        jobs as u64,
-    )
-}
-
-/// Writes that another number of machines is stated for an order than the instance has.
-pub(super) fn put_wrong_machines<W: Sink>(
-    writer: &mut W,
-    order: usize,
-    machines: usize,
-) -> Result<u64, WriteFault>
-    requires { W.has_failed writer.old ≡ false }
-    ensures { Sends (W.written writer.old) (W.written writer.new) (W.has_failed writer.new)
-        0 (wrong_machines_text order machines) result }
-{
-    put_finding(
-        writer,
-        b"wrong machines",
-        b"order",
-        order as u64,
-        b"machines",
-        machines as u64,
-    )
 }
 
 fn put_valid<W: Sink>(writer: &mut W, makespan: u64, bound: u64) -> Result<u64, WriteFault>

@@ -1,7 +1,6 @@
 //! A block of an instance file, written in another layout.
 ghost use Rattle.std.specs.Prelude.{◌≡◌, ◌≢◌, ◌≤◌, false, IfErr};
-ghost use Rattle.pfs_desk.specs.Engine.{Writes, ConvertOutput, JudgesFirst, ReadsFirst, TellsRead, RefusesNoOrder};
-ghost use Rattle.pfs_desk.specs.Engine.{RefusesNoSeed, RefusesNoTake};
+ghost use Rattle.pfs_desk.specs.Engine.{Writes, ConvertOutput, ReadsBlock, RefusesNoOrder, RefusesNoTake};
 
 use crate::fault::{DeskFault, Outcome};
 use pfs_base::{MOST_BLOCKS, Sink, Source};
@@ -25,10 +24,7 @@ pub fn run_convert<R: Source, W: Sink>(
     requires few { block ≤ MOST_BLOCKS }
     ensures written { Writes (ConvertOutput source target (R.left reader.old) block)
         (W.written writer.old) (W.written writer.new) (W.has_failed writer.new) result }
-    ensures refused { IfErr result (JudgesFirst source (R.left reader.old) block) }
-    ensures read { TellsRead (R.has_failed reader.new) result }
-    ensures as_far { ReadsFirst source block (R.left reader.old) (R.left reader.new) result }
-    ensures no_seed { RefusesNoSeed result }
+    ensures reads { ReadsBlock source block (R.left reader.old) (R.left reader.new) (R.has_failed reader.new) result }
     ensures one_file { IfErr result RefusesNoOrder }
     ensures no_take { IfErr result RefusesNoTake }
     ensures no_more_memory { result ≢ Err DeskFault.Memory }

@@ -1,8 +1,7 @@
 //! The order that a search finds.
 ghost use Rattle.std.specs.Prelude.{◌≡◌, ◌<◌, ◌≤◌, ◌^◌, false, Some, IfSome, IfOk, IfErr};
 ghost use Rattle.pfs_base.specs.Sends.{Sends};
-ghost use Rattle.pfs_desk.specs.Engine.{Writes, SolveOutput, JudgesFirst, JudgesTake, ReadsFirst, TellsRead};
-ghost use Rattle.pfs_desk.specs.Engine.{RefusesNoOrder, RefusesNoSeed};
+ghost use Rattle.pfs_desk.specs.Engine.{Writes, SolveOutput, ReadsBlock, RefusesNoOrder, JudgesTake};
 ghost use Rattle.pfs_desk.specs.Headline.{Solves};
 ghost use Rattle.pfs_desk.specs.Solve.{IsFound, IsTakeFault, solution_text};
 ghost use Rattle.pfs_desk.specs.Solve.{take_for as take_of};
@@ -43,27 +42,24 @@ pub fn run_solve<R: Source, W: Sink>(
     requires take { IfSome options.now.take (λ asked. 1 ≤ asked) }
     ensures written { Writes (SolveOutput layout (R.left reader.old) block options.now)
         (W.written writer.old) (W.written writer.new) (W.has_failed writer.new) result }
-    ensures refused { IfErr result (JudgesFirst layout (R.left reader.old) block) }
-    ensures read { TellsRead (R.has_failed reader.new) result }
-    ensures as_far { ReadsFirst layout block (R.left reader.old) (R.left reader.new) result }
-    ensures no_seed { RefusesNoSeed result }
+    ensures reads { ReadsBlock layout block (R.left reader.old) (R.left reader.new) (R.has_failed reader.new) result }
     ensures one_file { IfErr result RefusesNoOrder }
     ensures take { IfErr result (JudgesTake layout (R.left reader.old) block options.now.take) }
     ensures solves { IfSome (R.left reader.old) (λ bytes. Solves layout bytes block options.now
         (W.written writer.old) (W.written writer.new) (R.has_failed reader.new) (W.has_failed writer.new) result) }
 {
     let instance = read_block(alloc, reader, layout, block)?;
-    let many = take_for(options.take, instance.jobs())?;
+    let take = take_for(options.take, instance.jobs())?;
     let (rounds, passes) = (options.rounds, options.passes);
-    let solution = solution_of(alloc, &instance, rounds, many, passes, options.seed)?;
+    let solution = solution_of(alloc, &instance, rounds, take, passes, options.seed)?;
     put_solution(writer, instance.machines(), &solution, options.cells)?;
     Ok(Outcome::Done)
 }
 
 // How many jobs each round takes out of so many.
 fn take_for(asked: Option<usize>, jobs: usize) -> Result<usize, DeskFault>
-    ensures take { IfOk result (λ many. many ≡ take_of asked jobs) }
-    ensures few { IfOk result (λ many. many ≤ jobs) }
+    ensures take { IfOk result (λ take. take ≡ take_of asked jobs) }
+    ensures few { IfOk result (λ take. take ≤ jobs) }
     ensures fault { IfErr result (IsTakeFault asked jobs) }
 {
     match asked {
@@ -86,21 +82,21 @@ fn solution_of(
     alloc: Global,
     instance: &Instance,
     rounds: u32,
-    many: usize,
+    take: usize,
     passes: u32,
     seed: u64,
 ) -> Result<Solution, DeskFault>
-    requires some { 1 ≤ many }
-    requires few { many ≤ instance.now.shop.jobs }
+    requires some { 1 ≤ take }
+    requires few { take ≤ instance.now.shop.jobs }
     requires rounds { rounds ≤ MOST_ROUNDS }
     requires passes { passes ≤ MOST_PASSES }
     ensures found { IfOk result (λ found.
-        IsFound instance.now.shop rounds many passes seed found.order found.makespan found.cells) }
+        IsFound instance.now.shop rounds take passes seed found.order found.makespan found.cells) }
     ensures short { IfOk result (λ found. found.makespan < 10 ^ 18) }
     ensures memory { IfErr result (λ fault. fault ≡ DeskFault.Memory) }
 {
     let mut bench = instance.metered();
-    let kept = search(alloc, &mut bench, rounds, many, passes, seed)?;
+    let kept = search(alloc, &mut bench, rounds, take, passes, seed)?;
     Ok(Solution {
         order: kept.order,
         makespan: bench.reveal(kept.span),
@@ -115,17 +111,17 @@ fn search<B: Shop>(
     alloc: Global,
     bench: &mut B,
     rounds: u32,
-    many: usize,
+    take: usize,
     passes: u32,
     seed: u64,
 ) -> Result<Kept<B::Span>, DeskFault>
     requires fresh { B.counted bench.old ≡ 0 }
-    requires some { 1 ≤ many }
-    requires few { many ≤ (B.shop bench.old).jobs }
+    requires some { 1 ≤ take }
+    requires few { take ≤ (B.shop bench.old).jobs }
     requires rounds { rounds ≤ MOST_ROUNDS }
     requires passes { passes ≤ MOST_PASSES }
     ensures found { IfOk result (λ kept.
-        IsFound (B.shop bench.old) rounds many passes seed kept.order (B.Span.number kept.span) (B.counted bench.new)) }
+        IsFound (B.shop bench.old) rounds take passes seed kept.order (B.Span.number kept.span) (B.counted bench.new)) }
     ensures short { IfOk result (λ kept. B.Span.number kept.span < 10 ^ 18) }
     ensures memory { IfErr result (λ fault. fault ≡ DeskFault.Memory) }
 {
@@ -137,7 +133,7 @@ fn search<B: Shop>(
     let mut kept = Kept::new(order, bench.zero());
     searcher.neh(alloc, bench, &mut kept)?;
     let mut rng = Pcg32::seed_from_u64(seed);
-    searcher.rounds(alloc, bench, &mut kept, rounds, many, passes, &mut rng)?;
+    searcher.rounds(alloc, bench, &mut kept, rounds, take, passes, &mut rng)?;
     // Called for what it says of an order: that it has each job once.
     let _jobs = kept.order.len();
     Ok(kept)

@@ -2,14 +2,13 @@
 ghost use Rattle.std.specs.Prelude.{◌≡◌, ◌+◌, ◌*◌, ◌<◌, ◌≤◌, ◌^◌, ◌∷◌, ◌++◌, [], false, length, IfOk, IfErr};
 ghost use Rattle.pfs_base.specs.Sends.{Sends};
 ghost use Rattle.pfs_base.specs.Text.{with_line_end, spaced};
-ghost use Rattle.pfs_desk.specs.Engine.{Writes, TableOutput, JudgesFirst, JudgesSecond, ReadsFirst, ReadsSecond};
-ghost use Rattle.pfs_desk.specs.Engine.{TellsRead, TellsOrderRead, RefusesNoSeed, RefusesNoTake, WantsBehindSecond};
+ghost use Rattle.pfs_desk.specs.Engine.{Writes, TableOutput, ReadsBlock, ReadsOrder, RefusesNoTake, WantsBehindSecond};
 ghost use Rattle.pfs_desk.specs.OutputText.{row_text, table_text};
 ghost use Rattle.pfs_desk.specs.Printable.{IsPrintable};
 
-use crate::engines::check::{put_wrong_machines, put_wrong_size};
+use crate::engines::check::put_verdict;
 use crate::fault::{DeskFault, Outcome};
-use pfs_audit::{TimeTable, table};
+use pfs_audit::{TimeTable, Verdict, table};
 use pfs_base::print::{put_named, put_next, put_number};
 use pfs_base::{MOST_BLOCKS, MOST_MACHINES, Sink, Source, WriteFault, put};
 use pfs_layout::{Layout, read_block};
@@ -35,29 +34,25 @@ pub fn run_table<R: Source, O: Source, W: Sink>(
     requires few { block ≤ MOST_BLOCKS }
     ensures written { Writes (TableOutput layout (R.left reader.old) block (O.left order_reader.old))
         (W.written writer.old) (W.written writer.new) (W.has_failed writer.new) result }
-    ensures refused { IfErr result (JudgesFirst layout (R.left reader.old) block) }
-    ensures read { TellsRead (R.has_failed reader.new) result }
-    ensures as_far { ReadsFirst layout block (R.left reader.old) (R.left reader.new) result }
-    ensures no_seed { RefusesNoSeed result }
+    ensures reads { ReadsBlock layout block (R.left reader.old) (R.left reader.new) (R.has_failed reader.new) result }
+    ensures reads_order { ReadsOrder layout block (R.left reader.old) (O.left order_reader.old)
+        (O.left order_reader.new) (O.has_failed order_reader.new) result }
     ensures no_take { IfErr result RefusesNoTake }
-    ensures order_refused { IfErr result (JudgesSecond layout (R.left reader.old) block (O.left order_reader.old)) }
-    ensures order_read { TellsOrderRead (O.has_failed order_reader.new) result }
-    ensures order_as_far { ReadsSecond (O.left order_reader.old) (O.left order_reader.new) result }
     ensures memory { IfErr result (WantsBehindSecond layout (R.left reader.old) block (O.left order_reader.old)) }
 {
     let instance = read_block(alloc, reader, layout, block)?;
     let file = read_order(alloc, order_reader)?;
     let order = file.order();
-    let jobs = instance.jobs();
-    if order.len() != jobs {
-        put_wrong_size(writer, order.len(), jobs)?;
+    let (size, jobs) = (order.len(), instance.jobs());
+    if size != jobs {
+        put_verdict(writer, Verdict::WrongSize { order: size, jobs })?;
         return Ok(Outcome::CheckFailed);
     }
     let machines = instance.machines();
-    if let Some(stated) = file.machines()
-        && stated != machines
+    if let Some(order) = file.machines()
+        && order != machines
     {
-        put_wrong_machines(writer, stated, machines)?;
+        put_verdict(writer, Verdict::WrongMachines { order, machines })?;
         return Ok(Outcome::CheckFailed);
     }
     let table = table(alloc, &instance, order)?;

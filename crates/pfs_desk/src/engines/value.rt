@@ -2,8 +2,8 @@
 ghost use Rattle.std.specs.Prelude.{◌≡◌, ◌≤◌, false, IfOk, IfErr};
 ghost use Rattle.pfs_base.specs.Paths.{makespan};
 ghost use Rattle.pfs_order.specs.Sequence.{all_jobs};
-ghost use Rattle.pfs_desk.specs.Engine.{Writes, ValueOutput, JudgesFirst, ReadsFirst, TellsRead, RefusesNoOrder};
-ghost use Rattle.pfs_desk.specs.Engine.{RefusesNoSeed, RefusesNoTake, WantsBehindFirst};
+ghost use Rattle.pfs_desk.specs.Engine.{Writes, ValueOutput, ReadsBlock, RefusesNoOrder, RefusesNoTake};
+ghost use Rattle.pfs_desk.specs.Engine.{WantsBehindFirst};
 
 use crate::fault::{DeskFault, Outcome};
 use pfs_audit::makespan;
@@ -28,10 +28,7 @@ pub fn run_value<R: Source, W: Sink>(
     requires few { block ≤ MOST_BLOCKS }
     ensures written { Writes (ValueOutput layout (R.left reader.old) block)
         (W.written writer.old) (W.written writer.new) (W.has_failed writer.new) result }
-    ensures refused { IfErr result (JudgesFirst layout (R.left reader.old) block) }
-    ensures read { TellsRead (R.has_failed reader.new) result }
-    ensures as_far { ReadsFirst layout block (R.left reader.old) (R.left reader.new) result }
-    ensures no_seed { RefusesNoSeed result }
+    ensures reads { ReadsBlock layout block (R.left reader.old) (R.left reader.new) (R.has_failed reader.new) result }
     ensures one_file { IfErr result RefusesNoOrder }
     ensures no_take { IfErr result RefusesNoTake }
     ensures memory { IfErr result (WantsBehindFirst layout (R.left reader.old) block) }

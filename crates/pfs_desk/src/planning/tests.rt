@@ -109,13 +109,17 @@ fn assert_planned(
     Ok(())
 }
 
-fn assert_refused(rt: &impl Abort, alloc: Global, line: &str) -> Result<(), UsageFault> {
-    let words = words_of(alloc, line)?;
-    match plan(alloc, words.as_slice()) {
-        Ok(_) => panic!(rt; "planned: {line}"),
-        Err(UsageFault::Usage) => Ok(()),
-        Err(UsageFault::Memory) => Err(UsageFault::Memory),
+// Checks that each of these lines is refused.
+fn assert_refused(rt: &impl Abort, alloc: Global, lines: &[&str]) -> Result<(), UsageFault> {
+    for line in lines {
+        let words = words_of(alloc, line)?;
+        match plan(alloc, words.as_slice()) {
+            Ok(_) => panic!(rt; "planned: {line}"),
+            Err(UsageFault::Usage) => {}
+            Err(UsageFault::Memory) => return Err(UsageFault::Memory),
+        }
     }
+    Ok(())
 }
 
 #[test]
@@ -137,7 +141,8 @@ fn each_command_is_planned(rt: HostRuntime) -> Result<(), Fail> {
             "solve|O|1|0|5000|0|0|false|f",
         ),
         (
-            "solve|--layout|orlib|--block|2|--rounds|1000000|--take|1|--seed|18446744073709551615|--passes|100|--cells|f",
+            "solve|--layout|orlib|--block|2|--rounds|1000000|--take|1|--seed|18446744073709551615|\
+             --passes|100|--cells|f",
             "solve|O|2|1000000|1|18446744073709551615|100|true|f",
         ),
         ("check|--layout|orlib|--block|2|f|o", "check|O|2|f|o"),
@@ -194,7 +199,7 @@ fn odd_forms_are_planned(rt: HostRuntime) -> Result<(), Fail> {
 }
 
 #[test]
-fn other_lines_are_refused(rt: HostRuntime) -> Result<(), Fail> {
+fn other_commands_are_refused(rt: HostRuntime) -> Result<(), Fail> {
     let lines = [
         "",
         "help",
@@ -203,51 +208,91 @@ fn other_lines_are_refused(rt: HostRuntime) -> Result<(), Fail> {
         "Value",
         " value",
         "pfs|value|--layout|orlib|f",
+    ];
+    assert_refused(&rt, rt.alloc(), &lines)?;
+    Ok(())
+}
+
+#[test]
+fn missing_and_superfluous_words_are_refused(rt: HostRuntime) -> Result<(), Fail> {
+    let lines = [
         "value",
         "value|f",
         "value|--layout|orlib",
         "value|--layout|orlib|f|g",
-        "value|--layout|x|f",
-        "value|--layout|ORLIB|f",
-        "value|--layout||f",
-        "value|--lay|orlib|f",
-        "value|--layout|orlib|--layout|orlib|f",
-        "value|--layout|orlib|--block|1|--block|2|f",
-        "value|--layout|orlib|--block|0|f",
-        "value|--layout|orlib|--block|1001|f",
-        "value|--layout|orlib|--block|-1|f",
-        "value|--layout|orlib|--block||f",
         "value|--layout|orlib|f|--block",
-        "value|--layout|orlib|--rounds|1|f",
         "value|--|--layout|orlib|f",
+        "solve|f",
+        "solve|--layout|orlib",
+        "check|--layout|orlib|f",
+        "table|--layout|orlib|f|o|p",
+        "convert|--from|orlib|f",
+        "generate|1|1",
+        "generate|1|1|1|1",
+    ];
+    assert_refused(&rt, rt.alloc(), &lines)?;
+    Ok(())
+}
+
+#[test]
+fn other_options_are_refused(rt: HostRuntime) -> Result<(), Fail> {
+    let lines = [
+        "value|--lay|orlib|f",
+        "value|--layout|orlib|--rounds|1|f",
         "value|-h",
         "value|--help",
         "value|--version",
         "value|--layout|orlib|-x",
-        "solve|f",
+        "solve|--layout|orlib|--cells=true|f",
+        "solve|--layout|orlib|--cells|true|f",
+        "solve|--layout|orlib|--turns|1|f",
+        "convert|--layout|orlib|f",
+    ];
+    assert_refused(&rt, rt.alloc(), &lines)?;
+    Ok(())
+}
+
+#[test]
+fn repeated_options_are_refused(rt: HostRuntime) -> Result<(), Fail> {
+    let lines = [
+        "value|--layout|orlib|--layout|orlib|f",
+        "value|--layout|orlib|--block|1|--block|2|f",
+        "solve|--layout|orlib|--take|3|--take|3|f",
+        "solve|--layout|orlib|--cells|--cells|f",
+        "solve|--layout|orlib|--passes|1|--passes|1|f",
+    ];
+    assert_refused(&rt, rt.alloc(), &lines)?;
+    Ok(())
+}
+
+#[test]
+fn other_layouts_are_refused(rt: HostRuntime) -> Result<(), Fail> {
+    let lines = [
+        "value|--layout|x|f",
+        "value|--layout|ORLIB|f",
+        "value|--layout||f",
         "solve|--layout|x|f",
+    ];
+    assert_refused(&rt, rt.alloc(), &lines)?;
+    Ok(())
+}
+
+#[test]
+fn other_numbers_are_refused(rt: HostRuntime) -> Result<(), Fail> {
+    let lines = [
+        "value|--layout|orlib|--block|0|f",
+        "value|--layout|orlib|--block|1001|f",
+        "value|--layout|orlib|--block|-1|f",
+        "value|--layout|orlib|--block||f",
         "solve|--layout|orlib|--block|1001|f",
         "solve|--layout|orlib|--rounds|1000001|f",
         "solve|--layout|orlib|--rounds=-0|f",
         "solve|--layout|orlib|--take|0|f",
         "solve|--layout|orlib|--take|5001|f",
-        "solve|--layout|orlib|--take|3|--take|3|f",
         "solve|--layout|orlib|--seed|18446744073709551616|f",
         "solve|--layout|orlib|--seed|0x1|f",
-        "solve|--layout|orlib|--cells|--cells|f",
-        "solve|--layout|orlib|--cells=true|f",
-        "solve|--layout|orlib|--cells|true|f",
         "solve|--layout|orlib|--passes|101|f",
         "solve|--layout|orlib|--passes=-0|f",
-        "solve|--layout|orlib|--passes|1|--passes|1|f",
-        "solve|--layout|orlib|--turns|1|f",
-        "solve|--layout|orlib",
-        "check|--layout|orlib|f",
-        "table|--layout|orlib|f|o|p",
-        "convert|--from|orlib|f",
-        "convert|--layout|orlib|f",
-        "generate|1|1",
-        "generate|1|1|1|1",
         "generate|0|1|1",
         "generate|5001|1|1",
         "generate|1|201|1",
@@ -255,8 +300,6 @@ fn other_lines_are_refused(rt: HostRuntime) -> Result<(), Fail> {
         "generate|1|1|1.0",
         "generate|1|1|18446744073709551616",
     ];
-    for line in lines {
-        assert_refused(&rt, rt.alloc(), line)?;
-    }
+    assert_refused(&rt, rt.alloc(), &lines)?;
     Ok(())
 }

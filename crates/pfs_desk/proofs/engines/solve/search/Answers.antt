@@ -15,11 +15,11 @@ rounds-requires-clause-room g c =
     let shop = g.B.Bench.shop c.args.bench.now in
     let then_shop = g.B.Bench.shop c.neh.new.bench in
     let jobs = ap (λ (s : FlowShop). s.jobs) c.in_ok-neh.ensures.shop in
-    let few : c.args.many ≤ then_shop.jobs = omega (arith, c.requires.few) in
+    let few : c.args.take ≤ then_shop.jobs = omega (arith, c.requires.few) in
     omega (
       arith,
       neh_room shop (g.met.B.Bench.within c.args.bench.now),
-      rounds_room then_shop c.args.rounds c.args.many c.args.passes (g.met.B.Bench.within c.neh.new.bench) few c.requires.rounds c.requires.passes,
+      rounds_room then_shop c.args.rounds c.args.take c.args.passes (g.met.B.Bench.within c.neh.new.bench) few c.requires.rounds c.requires.passes,
       c.requires.fresh,
       c.in_ok-neh.ensures.cells.counted,
     )
@@ -38,8 +38,8 @@ returns-clause-found g c =
     let stream = stream_of (steps_u32 pcg32) c.seed_from_u64-rng.result in
     let neh_done : NehDone shop neh.order neh_span neh_cells =
     record { is_order = c.in_ok-neh.ensures.order; is_span = c.in_ok-neh.ensures.span; counted = omega (arith, c.requires.fresh, c.in_ok-neh.ensures.cells.counted) } in
-    let rounds_done : RoundsDone shop c.args.rounds c.args.many c.args.passes stream neh.order neh_span neh_cells kept.order span cells =
-    subst (λ s. RoundsDone s c.args.rounds c.args.many c.args.passes stream neh.order neh_span neh_cells kept.order span cells) c.in_ok-neh.ensures.shop
+    let rounds_done : RoundsDone shop c.args.rounds c.args.take c.args.passes stream neh.order neh_span neh_cells kept.order span cells =
+    subst (λ s. RoundsDone s c.args.rounds c.args.take c.args.passes stream neh.order neh_span neh_cells kept.order span cells) c.in_ok-neh.ensures.shop
     (record {
       is_order = c.in_ok-rounds.ensures.order;
       is_span = c.in_ok-rounds.ensures.span;
@@ -49,7 +49,7 @@ returns-clause-found g c =
     let all : length kept.order ≡ shop.jobs =
     c.in_ok-rounds.ensures.still_fit.order_jobs ∙ ap (λ (s : FlowShop). s.jobs) (c.in_ok-rounds.ensures.shop ∙ c.in_ok-neh.ensures.shop) in
     let distinct = subst (λ n. IsSequence n kept.order) all c.len-jobs.ensures.sequence in
-    found_is shop c.args.rounds c.args.many c.args.passes c.args.seed c.seed_from_u64-rng.result neh.order neh_span neh_cells kept.order span cells c.requires.few
+    found_is shop c.args.rounds c.args.take c.args.passes c.args.seed c.seed_from_u64-rng.result neh.order neh_span neh_cells kept.order span cells c.requires.few
     c.seed_from_u64-rng.ensures neh_done rounds_done all distinct
 
 pub returns-clause-short : goal.returns-clause-short

@@ -7,16 +7,16 @@ use Rattle.pfs_desk.specs.OutputText.{wrong_size_text, wrong_machines_text, tabl
 use Rattle.pfs_desk.proofs.OutputLemmas.{wrong_size_prints, wrong_machines_prints, fitting_prints, least_of}
 use Rattle.pfs_desk.proofs.engines.table.run_table.Goals as goal
 
-pub returns-in_err-put_wrong_size-clause-written : goal.returns-in_err-put_wrong_size-clause-written
-returns-in_err-put_wrong_size-clause-written g c =
+pub returns-in_err-put_verdict-clause-written : goal.returns-in_err-put_verdict-clause-written
+returns-in_err-put_verdict-clause-written g c =
     let file = g.R.Source.left c.args.reader.now in
     let order_file = g.O.Source.left c.args.order_reader.now in
     let old = g.W.Sink.written c.args.writer.now in
-    let new = g.W.Sink.written c.put_wrong_size.new.writer in
-    let failed = g.W.Sink.has_failed c.put_wrong_size.new.writer in
-    let size = c.len-then-len-jobs.result in
+    let new = g.W.Sink.written c.put_verdict.new.writer in
+    let failed = g.W.Sink.has_failed c.put_verdict.new.writer in
+    let size = c.len-size.result in
     let jobs = c.jobs-jobs.result in
-    let front : WritesFront (TableOutput c.args.layout file c.args.block order_file) old new failed c.in_err-put_wrong_size.field-0.0.written =
+    let front : WritesFront (TableOutput c.args.layout file c.args.block order_file) old new failed c.in_err-put_verdict.field-0.0.written =
     record {
       outcome = CheckFailed;
       text = wrong_size_text size jobs;
@@ -26,26 +26,25 @@ returns-in_err-put_wrong_size-clause-written g c =
         holds = c.in_ok-instance.ensures.file;
         states = c.in_ok-file.ensures.accepted;
         prints = wrong_size_prints c.in_ok-instance.instance.shop c.in_ok-file.file size jobs
-            (c.len-then-len-jobs.ensures.value ∙ ap length c.order-order.ensures.value) c.jobs-jobs.ensures.value
-            (λ same. c.if-len-jobs.true (c.len.ensures.value ∙ sym c.len-then-len-jobs.ensures.value ∙ same));
+            (c.len-size.ensures.value ∙ ap length c.order-order.ensures.value) c.jobs-jobs.ensures.value c.if-size-jobs.true;
       };
-      front = c.in_err-put_wrong_size.ensures;
+      front = c.in_err-put_verdict.ensures;
     }
     in
     search rules
 
-pub returns-in_err-put_wrong_machines-clause-written : goal.returns-in_err-put_wrong_machines-clause-written
-returns-in_err-put_wrong_machines-clause-written g c =
+pub returns-in_err-put_verdict-2-clause-written : goal.returns-in_err-put_verdict-2-clause-written
+returns-in_err-put_verdict-2-clause-written g c =
     let file = g.R.Source.left c.args.reader.now in
     let order_file = g.O.Source.left c.args.order_reader.now in
     let old = g.W.Sink.written c.args.writer.now in
-    let new = g.W.Sink.written c.put_wrong_machines.new.writer in
-    let failed = g.W.Sink.has_failed c.put_wrong_machines.new.writer in
-    let stated = c.in-Some.stated in
+    let new = g.W.Sink.written c.put_verdict-2.new.writer in
+    let failed = g.W.Sink.has_failed c.put_verdict-2.new.writer in
+    let stated = c.in-Some.order in
     let machines = c.machines-machines.result in
     let size : length c.in_ok-file.file.order ≡ c.in_ok-instance.instance.shop.jobs =
-    ap length (sym c.order-order.ensures.value) ∙ sym c.len.ensures.value ∙ c.if-len-jobs.false ∙ c.jobs-jobs.ensures.value in
-    let front : WritesFront (TableOutput c.args.layout file c.args.block order_file) old new failed c.in_err-put_wrong_machines.field-0.0.written =
+    ap length (sym c.order-order.ensures.value) ∙ sym c.len-size.ensures.value ∙ c.if-size-jobs.false ∙ c.jobs-jobs.ensures.value in
+    let front : WritesFront (TableOutput c.args.layout file c.args.block order_file) old new failed c.in_err-put_verdict-2.field-0.0.written =
     record {
       outcome = CheckFailed;
       text = wrong_machines_text stated machines;
@@ -55,9 +54,9 @@ returns-in_err-put_wrong_machines-clause-written g c =
         holds = c.in_ok-instance.ensures.file;
         states = c.in_ok-file.ensures.accepted;
         prints = wrong_machines_prints c.in_ok-instance.instance.shop c.in_ok-file.file stated machines size
-            (sym c.machines.ensures.value ∙ c.in-Some.is) c.machines-machines.ensures.value c.if-stated-machines.true;
+            (sym c.machines.ensures.value ∙ c.in-Some.is) c.machines-machines.ensures.value c.if-order-machines.true;
       };
-      front = c.in_err-put_wrong_machines.ensures;
+      front = c.in_err-put_verdict-2.ensures;
     }
     in
     search rules
