@@ -4,7 +4,7 @@ use pfs_layout::LayoutFault;
 use pfs_order::OrderFault;
 use std::process::Abort;
 
-/// Checks the line that tells a fault, and the exit status for it.
+// Checks the line that tells a fault, and the exit status for it.
 fn assert_told(rt: &impl Abort, fault: DeskFault, line: &str, exit_status: u8) {
     let mut printed = [b'.'; 60];
     let mut writer = ToWrite::new(printed.as_mut_slice());

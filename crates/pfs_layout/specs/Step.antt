@@ -2,8 +2,8 @@
 -- the blocks. But for `is_live`, whether a further byte is wanted, only the contracts of private functions speak
 -- of it: what a reader's fields say of the bytes that it has read stands in `Reader`.
 use Rattle.std.specs.Prelude.{◌≡◌, ◌≢◌, ℕ, ◌+◌, ◌-◌, ◌*◌, ◌/◌, ◌%◌, ◌<◌, ◌≤◌, min, Bool, true, false, not, ◌&&◌, ◌||◌}
-use Rattle.std.specs.Prelude.{◌==◌, nat_lt, List, replicate, slice_index, slice_set, Option, Some, None, is_some, option_map}
-use Rattle.std.specs.Prelude.{IfSome, if◌then◌else◌}
+use Rattle.std.specs.Prelude.{◌==◌, nat_lt, List, replicate, slice_index, slice_set, Option, Some, None, is_some}
+use Rattle.std.specs.Prelude.{option_map, IfSome, if◌then◌else◌}
 use Rattle.std.specs.Option.{option_or}
 use Rattle.pfs_base.specs.declared.limits.TheConstants.{LONGEST_TIME, LONGEST_INPUT}
 use Rattle.pfs_base.specs.FlowShop.{with_time}
@@ -108,8 +108,9 @@ size_of jobs machines seed upper lower =
     record { jobs = jobs; machines = machines; notes = record { seed = seed; upper = upper; lower = lower } }
 
 abbrev pub size_of_five : List ℕ → Size
-size_of_five values = size_of (slice_index values 0) (slice_index values 1) (slice_index values 2) (slice_index values 3)
-    (slice_index values 4)
+size_of_five values =
+    size_of (slice_index values 0) (slice_index values 1)
+    (slice_index values 2) (slice_index values 3) (slice_index values 4)
 
 abbrev pub size_of_two : List ℕ → Size
 size_of_two values = size_of (slice_index values 0) (slice_index values 1) 0 0 0

@@ -11,7 +11,8 @@ pub fn sum<B: Bench>(bench: &mut B, job: usize, machine: usize, a: B::Span, b: B
     requires machine { machine < (B.shop bench.old).machines }
     requires room { B.counted bench.old + 1 < 2 ^ 64 }
     requires in_limit { max (B.Span.number a) (B.Span.number b) + time_of (B.shop bench.old) job machine ≤ SPAN_MAX }
-    ensures value { B.Span.number result ≡ max (B.Span.number a) (B.Span.number b) + time_of (B.shop bench.old) job machine }
+    ensures value { B.Span.number result
+        ≡ max (B.Span.number a) (B.Span.number b) + time_of (B.shop bench.old) job machine }
     ensures counted { B.counted bench.new ≡ B.counted bench.old + 1 }
 {
     bench.step(job, machine, a, b)

@@ -7,7 +7,7 @@ use pfs_layout::{Layout, LayoutFault};
 use std::alloc::Global;
 use std::process::Abort;
 
-/// Checks what `convert` answers and prints for block 1 of a file.
+// Checks what `convert` answers and prints for block 1 of a file.
 fn assert_convert(
     rt: &impl Abort,
     alloc: Global,
@@ -37,7 +37,8 @@ fn convert_leads_both_ways(rt: HostRuntime) {
 fn convert_spells_a_file_anew(rt: HostRuntime) {
     let file = b"jobs 5x :\r\n03 2 7 11\t10\r\n 3 2\r\n4\r\nmachine :\r\n2 5 1";
     let text =
-        b"number of jobs, number of machines, initial seed, upper bound and lower bound :\n3 2 7 11 10\nprocessing times :\n3 2 4\n2 5 1\n";
+        b"number of jobs, number of machines, initial seed, upper bound and lower bound :\n\
+          3 2 7 11 10\nprocessing times :\n3 2 4\n2 5 1\n";
     let layout = Layout::Taillard;
     let done = Ok(Outcome::Done);
     assert_convert(&rt, rt.alloc(), file, layout, layout, done, text);
@@ -81,11 +82,14 @@ fn convert_writes_nothing_of_a_refused_file(rt: HostRuntime) {
 #[test]
 fn generate_prints_the_published_times(rt: HostRuntime) {
     let two_by_two =
-        b"number of jobs, number of machines, initial seed, upper bound and lower bound :\n2 2 873654221 0 0\nprocessing times :\n54 83\n15 71\n";
+        b"number of jobs, number of machines, initial seed, upper bound and lower bound :\n\
+          2 2 873654221 0 0\nprocessing times :\n54 83\n15 71\n";
     let greatest_seed =
-        b"number of jobs, number of machines, initial seed, upper bound and lower bound :\n1 1 2147483646 0 0\nprocessing times :\n99\n";
+        b"number of jobs, number of machines, initial seed, upper bound and lower bound :\n\
+          1 1 2147483646 0 0\nprocessing times :\n99\n";
     let least_seed =
-        b"number of jobs, number of machines, initial seed, upper bound and lower bound :\n1 1 1 0 0\nprocessing times :\n1\n";
+        b"number of jobs, number of machines, initial seed, upper bound and lower bound :\n\
+          1 1 1 0 0\nprocessing times :\n1\n";
     let rows: [(usize, usize, u64, &[u8]); 4] = [
         (5, 1, 873_654_221, FIVE_JOBS),
         (2, 2, 873_654_221, two_by_two),

@@ -19,7 +19,7 @@ const WRONG_MACHINES: &[u8] = b"wrong machines\norder 3\nmachines 2\n";
 
 const WRONG_SIZE: &[u8] = b"wrong size\norder 2\njobs 3\n";
 
-/// Checks what `value` answers and prints for block 1 of a file in Taillard's layout.
+// Checks what `value` answers and prints for block 1 of a file in Taillard's layout.
 fn assert_value(
     rt: &impl Abort,
     alloc: Global,
@@ -114,7 +114,7 @@ fn value_reads_the_wanted_block_of_the_other_layout(rt: HostRuntime) {
     }
 }
 
-/// Checks what `check` answers and prints for an order file of the three-job instance.
+// Checks what `check` answers and prints for an order file of the three-job instance.
 fn assert_check(
     rt: &impl Abort,
     alloc: Global,

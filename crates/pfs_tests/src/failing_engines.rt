@@ -62,7 +62,7 @@ const ORDER_READS: [(&[u8], usize, u64); 6] = [
 ];
 
 impl Engine {
-    /// Runs this engine on what it reads of these.
+    // Runs this engine on what it reads of these.
     fn run<R: Source, O: Source, W: Sink>(
         self,
         alloc: Global,
@@ -85,7 +85,7 @@ impl Engine {
         }
     }
 
-    /// What this engine prints of the three-job instance and its order in either version.
+    // What this engine prints of the three-job instance and its order in either version.
     fn text(self) -> &'static [u8] {
         match self {
             Engine::Value => b"makespan 11\n",
@@ -97,7 +97,7 @@ impl Engine {
         }
     }
 
-    /// How often it reads its files, where these are the calls up to the end of an instance and of an order.
+    // How often it reads its files, where these are the calls up to the end of an instance and of an order.
     fn reads(self, instance: u64, order: u64) -> (u64, u64) {
         match self {
             Engine::Value | Engine::Solve | Engine::Convert => (instance, 0),
@@ -107,7 +107,7 @@ impl Engine {
     }
 }
 
-/// Runs `solve` by NEH alone.
+// Runs `solve` by NEH alone.
 fn run_neh<R: Source, W: Sink>(
     alloc: Global,
     reader: &mut R,
@@ -126,7 +126,7 @@ fn run_neh<R: Source, W: Sink>(
     run_solve(alloc, reader, Layout::Taillard, 1, &options, writer)
 }
 
-/// Checks that an engine whose reader has failed answers this, and has written nothing.
+// Checks that an engine whose reader has failed answers this, and has written nothing.
 fn assert_unread(
     rt: &impl Abort,
     writer: &Taken,
@@ -138,7 +138,7 @@ fn assert_unread(
     assert_eq!(rt; writer.calls(), 0);
 }
 
-/// Checks that an engine has printed its whole text.
+// Checks that an engine has printed its whole text.
 fn assert_printed(
     rt: &impl Abort,
     engine: Engine,
@@ -259,7 +259,7 @@ fn each_engine_works_a_byte_a_call(rt: HostRuntime) {
     }
 }
 
-/// Checks that an engine has written so many bytes of its text, and says how many.
+// Checks that an engine has written so many bytes of its text, and says how many.
 fn assert_stopped(
     rt: &impl Abort,
     engine: Engine,

@@ -11,7 +11,7 @@ use std::fmt::Display;
 use std::process::Abort;
 use std::test::Fail;
 
-/// Checks the text of each of these faults.
+// Checks the text of each of these faults.
 fn assert_texts<T: Display>(
     rt: &impl Abort,
     alloc: Global,

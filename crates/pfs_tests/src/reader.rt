@@ -17,7 +17,7 @@ const TIMES: [u32; 6] = [3, 2, 2, 5, 4, 1];
 const TWO_BLOCKS: &[u8] =
     b"+++\ninstance one 1\n+++\nfirst\n1 1\n0 7\n+++\nsecond\n3 2\n0 3 1 2\n0 2 1 5\n0 4 1 1\n+++\n";
 
-/// Whether these are the times of an instance, job by job.
+// Whether these are the times of an instance, job by job.
 fn has_times(instance: &Instance, wanted: &[u32]) -> bool {
     let mut rest = wanted;
     for job in 0..instance.jobs() {
@@ -31,7 +31,7 @@ fn has_times(instance: &Instance, wanted: &[u32]) -> bool {
     rest.is_empty()
 }
 
-/// Reads a text in two pieces.
+// Reads a text in two pieces.
 fn read_cut(
     alloc: Global,
     text: &[u8],
@@ -52,7 +52,7 @@ fn read_cut(
     reader.finish()
 }
 
-/// Reads a text byte by byte.
+// Reads a text byte by byte.
 fn read_bytes(
     alloc: Global,
     text: &[u8],
@@ -69,7 +69,7 @@ fn read_bytes(
     reader.finish()
 }
 
-/// What `BY_MACHINE` answers where it ends after so many bytes.
+// What `BY_MACHINE` answers where it ends after so many bytes.
 fn fault_of_one_block(c: usize) -> Option<LayoutFault> {
     match c {
         0..=80 => Some(LayoutFault::NoBlock { found: 0 }),
@@ -82,7 +82,7 @@ fn fault_of_one_block(c: usize) -> Option<LayoutFault> {
     }
 }
 
-/// What the second block of `TWO_BLOCKS` answers where the text ends after so many bytes.
+// What the second block of `TWO_BLOCKS` answers where the text ends after so many bytes.
 fn fault_of_two_blocks(c: usize) -> Option<LayoutFault> {
     match c {
         0..=29 => Some(LayoutFault::NoBlock { found: 0 }),
@@ -102,7 +102,7 @@ fn answers(answer: &Result<Instance, LayoutFault>, fault: Option<LayoutFault>) -
     }
 }
 
-/// Checks what a block of this text answers, in one piece, in two pieces cut anywhere, and byte by byte.
+// Checks what a block of this text answers, in one piece, in two pieces cut anywhere, and byte by byte.
 fn assert_cuts(
     rt: &impl Abort,
     alloc: Global,
@@ -139,7 +139,7 @@ fn two_blocks_cut_anywhere(rt: HostRuntime) {
     }
 }
 
-/// A front of `BY_MACHINE`, and then this.
+// A front of `BY_MACHINE`, and then this.
 fn with_end(alloc: Global, front: usize, end: &[u8]) -> Result<Vec<u8>, AllocError> {
     let (front, _) = BY_MACHINE.split_at(front.min(BY_MACHINE.len()));
     let mut text = Vec::from_slice(alloc, front)?;
@@ -147,7 +147,7 @@ fn with_end(alloc: Global, front: usize, end: &[u8]) -> Result<Vec<u8>, AllocErr
     Ok(text)
 }
 
-/// Checks what each of these ends answers behind a front of `BY_MACHINE` of so many bytes.
+// Checks what each of these ends answers behind a front of `BY_MACHINE` of so many bytes.
 fn assert_ends(
     rt: &impl Abort,
     alloc: Global,

@@ -29,7 +29,7 @@ const PLAIN: SolveOptions = SolveOptions {
     cells: false,
 };
 
-/// Checks what `solve` prints of block 1 of a file in Taillard's layout.
+// Checks what `solve` prints of block 1 of a file in Taillard's layout.
 fn assert_solve(rt: &impl Abort, alloc: Global, file: &[u8], options: SolveOptions, text: &[u8]) {
     assert!(rt; options.rounds <= MOST_ROUNDS);
     assert!(rt; options.passes <= MOST_PASSES);
@@ -127,7 +127,7 @@ fn solve_plays_a_round_on_one_job(rt: HostRuntime) {
     assert_solve(&rt, rt.alloc(), b"1 1 0 0 0\n0\n", options, text);
 }
 
-/// Checks that `solve` refuses a file, and writes nothing.
+// Checks that `solve` refuses a file, and writes nothing.
 fn assert_refused(
     rt: &impl Abort,
     alloc: Global,
@@ -170,7 +170,7 @@ fn solve_judges_the_take_behind_the_file_and_before_it_writes(rt: HostRuntime) {
     }
 }
 
-/// Checks how the text ends that `solve` prints of the instance of 20 jobs on 5 machines from a seed.
+// Checks how the text ends that `solve` prints of the instance of 20 jobs on 5 machines from a seed.
 fn assert_ends(rt: &impl Abort, alloc: Global, seed: u64, options: SolveOptions, end: &[u8]) {
     assert!(rt; options.rounds <= MOST_ROUNDS);
     assert!(rt; options.passes <= MOST_PASSES);
