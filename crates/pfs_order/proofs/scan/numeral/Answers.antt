@@ -3,7 +3,7 @@ use Rattle.std.proofs.Common.{◌∙◌, Some, None}
 use Rattle.std.proofs.lemmas.List.{drop_all, drop_more}
 use Rattle.std.specs.Option.{ForSome}
 use Rattle.pfs_order.specs.Pieces.{numeral_of}
-use Rattle.pfs_order.proofs.Numerals.{Stops, numeral_fault_at}
+use Rattle.pfs_order.proofs.Numerals.{Stops, numeral_fault_of_text}
 use Rattle.pfs_order.proofs.scan.numeral.Goals as goal
 use Rattle.pfs_order.proofs.scan.numeral.Goals.{in-Some+else-byte-end, in_default}
 
@@ -25,7 +25,7 @@ returns-in-None-clause-fault c =
       no_digit = λ n rest low high e. c.in-None.ensures.ends n rest low high (e ∙ ap (λ number. numeral_of number ++ byte ∷ rest) (sym same));
     } in
     let here : next < length text = omega arith in
-    numeral_fault_at c.args.least c.args.most c.args.end c.loop-next.number text c.args.at next c.loop-next.invariant.number c.requires.end c.requires.at (omega arith)
+    numeral_fault_of_text c.args.least c.args.most c.args.end c.loop-next.number text c.args.at next c.loop-next.invariant.number c.requires.end c.requires.at (omega arith)
     c.loop-next.invariant.read (λ b more e. let f : byte ∷ drop (next + 1) text ≡ b ∷ more = sym (drop_more text next 0 here) ∙ e in let k : byte ≡ b = cc in subst (Stops c.args.least c.args.most c.args.end c.loop-next.number) k stops)
 
 pub returns-clause-fault : goal.returns-clause-fault
@@ -33,5 +33,5 @@ returns-clause-fault c =
     let text : List ℕ = c.args.text.now in
     let end : drop (length text) text ≡ [] = drop_all (length text) text (omega arith) in
     let there : c.loop-next.next ≡ length text = omega arith in
-    numeral_fault_at c.args.least c.args.most c.args.end c.loop-next.number text c.args.at (length text) c.loop-next.invariant.number c.requires.end c.requires.at (omega arith)
+    numeral_fault_of_text c.args.least c.args.most c.args.end c.loop-next.number text c.args.at (length text) c.loop-next.invariant.number c.requires.end c.requires.at (omega arith)
     (c.loop-next.invariant.read ∙ ap (λ k. numeral_of c.loop-next.number ++ drop k text) there) (λ b more e. let f : [] ≡ b ∷ more = sym end ∙ e in cc)
