@@ -188,6 +188,10 @@ wants_count Two = wants_numeral (codes "order2 ") 1 MOST_JOBS 32 (count_begins T
 abbrev pub before_machines : ℕ → List ℕ
 before_machines count = codes "order2 " ++ (decimal count ++ 32 ∷ [])
 
+pub before_machines-append : (count : ℕ) (rest : List ℕ)
+    → before_machines count ++ rest ≡ codes "order2 " ++ (decimal count ++ 32 ∷ rest)
+before_machines-append count rest = simp append_assoc
+
 machines_begin : (count : ℕ) (t : List ℕ) → 1 ≤ count → count ≤ MOST_JOBS → IsText (before_machines count ++ t)
     → Begins (IsNumeral 1 MOST_MACHINES 10) t
 machines_begin count t low high (jobs, (None, (makespan, h))) = absurd (no_other_opening _ _ (sym (lines_of h)))
