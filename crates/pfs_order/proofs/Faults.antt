@@ -63,7 +63,8 @@ fault_of_wanted {front} {piece} after i wants f = record {
         let d : ℕ = n - length front in
         let e : n ≡ length front + d = omega arith in
         let text = rw (e, take-append-add front after d, append_assoc) at c.1 in
-        let small = f.longest d (omega (arith, length-append front after)) (c.0, wants.begins (take d after ++ c.0) text) in
+        let within : d ≤ length after = omega (arith, length-append front after) in
+        let small = f.longest d within (c.0, wants.begins (take d after ++ c.0) text) in
         omega arith)
     | inr short ↦ omega arith
   ];
@@ -75,8 +76,9 @@ fault_of_wanted {front} {piece} after i wants f = record {
           let (more, text) = wants.goes_on p is in
           let longer = append_assoc (take i after) w.0 more in
           (w.0 ++ more, rw (append_assoc, ← longer, ← w.1, ← append_assoc front p more) text))
-      | inr w ↦ absurd (f.no_text
-          (p, (w.0 ++ drop i after, (is, rw (← append_assoc p w.0 (drop i after), ← w.1) (sym (take-append-drop i after))))))
+      | inr w ↦ (
+          let whole = append_assoc p w.0 (drop i after) in
+          absurd (f.no_text (p, (w.0 ++ drop i after, (is, rw (← whole, ← w.1) (sym (take-append-drop i after)))))))
     ]
 
 -- the same of a text and an offset

@@ -148,7 +148,8 @@ reads_over (Some input) (Some rest) bytes c h = record {
 -- one that was read to its end
 pub reads_whole : (old new : Option (List ℕ)) (bytes : List ℕ) (answer : Result StatedOrder OrderFault)
     → Consumes old new bytes → IsAtEnd new → length bytes ≤ LONGEST_ORDER_FILE
-    → IfErr answer (λ fault. JudgesText bytes fault) → IfSome old (λ input. ReadsOrderAsFar input new (result_err answer))
+    → IfErr answer (λ fault. JudgesText bytes fault)
+    → IfSome old (λ input. ReadsOrderAsFar input new (result_err answer))
 reads_whole None new bytes answer c end few h = tt
 reads_whole (Some input) None bytes answer c end few h = absurd c
 reads_whole (Some input) (Some rest) bytes answer c end few h = record {

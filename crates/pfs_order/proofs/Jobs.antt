@@ -1,6 +1,6 @@
 -- The jobs of a text of the grammar, read and judged place by place.
-use Rattle.std.proofs.Common.{◌≡◌, ℕ, ◌+◌, ◌-◌, ◌<◌, ◌≤◌, ◌^◌, ◌⊎◌, inl, inr, List, [], ◌∷◌, ◌++◌, suc, length, take, drop}
-use Rattle.std.proofs.Common.{map, get_or, Contains, refl, sym, ◌∙◌, ap, arith, below_more, Option}
+use Rattle.std.proofs.Common.{◌≡◌, ℕ, ◌+◌, ◌-◌, ◌<◌, ◌≤◌, ◌^◌, ◌⊎◌, inl, inr, List, [], ◌∷◌, ◌++◌, suc, length, take}
+use Rattle.std.proofs.Common.{drop, map, get_or, Contains, refl, sym, ◌∙◌, ap, arith, below_more, Option}
 use Rattle.std.specs.Fmt.{decimal}
 use Rattle.std.specs.Char.{digit_value}
 use Rattle.std.proofs.lemmas.List.{length-map, length-take-le, map-append, take_more, take_all, drop_more, get_or-map}
@@ -92,7 +92,8 @@ module _ (count : ℕ) (text : List ℕ) (at place : ℕ) (seq : Sequence) (h : 
 
   -- what stands at the place
   job_stands : (end : ℕ) → place < count → EndsJob count place end
-      → drop at text ≡ decimal (get_or h.jobs place 0) ++ end ∷ behind_job (drop (place + 1) h.jobs) (last_line h.makespan)
+      → drop at text
+      ≡ decimal (get_or h.jobs place 0) ++ end ∷ behind_job (drop (place + 1) h.jobs) (last_line h.makespan)
   job_stands end lt ends =
       let every = h.every in
       let more : List ℕ = drop (place + 1) h.jobs in
@@ -109,7 +110,8 @@ module _ (count : ℕ) (text : List ℕ) (at place : ℕ) (seq : Sequence) (h : 
       → IsPieceFault (IsNumeral 0 (10 ^ 9 - 1) end) text at fault → RefusesJobs text fault
   numeral_stands end (Syntax offset) lt ends (i, (is, f)) =
       let short = short_here lt in
-      absurd (f.no_text (rw (job_stands end lt ends) (begins_numeral 0 (10 ^ 9 - 1) end _ _ (omega arith) (omega arith))))
+      let numeral = begins_numeral 0 (10 ^ 9 - 1) end (get_or h.jobs place 0) _ (omega arith) (omega arith) in
+      absurd (f.no_text (rw (job_stands end lt ends) numeral))
   numeral_stands end fault lt ends f = absurd f
 
   module _ (end number next : ℕ) (r : IsNextJob count text at place end number next) where
@@ -122,9 +124,10 @@ module _ (count : ℕ) (text : List ℕ) (at place : ℕ) (seq : Sequence) (h : 
         let short = short_here r.further in
         let more : List ℕ = drop (place + 1) h.jobs in
         let no_digit : 10 ≤ digit_value end = elim r.ends [ inl w ↦ rw w.1 ten_32 | inr w ↦ rw w.1 ten_10 ] in
-        let (same, rest) = same_number end number (get_or h.jobs place 0) (drop next text) (behind_job more (last_line h.makespan))
+        let line : List ℕ = last_line h.makespan in
+        let (same, rest) = same_number end number (get_or h.jobs place 0) (drop next text) (behind_job more line)
         no_digit (omega arith) (omega arith) (sym r.read ∙ job_stands end r.further r.ends) in
-        (same, λ further. rest ∙ behind_some more (last_line h.makespan) (omega (arith, length-drop (place + 1) h.jobs)))
+        (same, λ further. rest ∙ behind_some more line (omega (arith, length-drop (place + 1) h.jobs)))
 
     -- a job that is refused
     pub job_refused : (fault : OrderFault) → RefusesJob seq number fault → RefusesJobs text fault
@@ -168,7 +171,9 @@ module _ (count : ℕ) (text : List ℕ) (at place : ℕ) (seq : Sequence) (h : 
           sized = h.sized;
           sequence = rw (insert_end seq.jobs (number - 1)) at
               (IsSequence-insert count (length seq.jobs) (number - 1) seq.jobs (omega arith) absent h.sequence);
-          taken = rw (take_more h.jobs place 0 here, h.taken, map-append (λ job. job + 1) seq.jobs ((number - 1) ∷ []), number_is);
+          taken =
+              let numbers = map-append (λ job. job + 1) seq.jobs ((number - 1) ∷ []) in
+              rw (take_more h.jobs place 0 here, h.taken, numbers, number_is);
           in_range = below_more _ _ h.in_range (omega arith, omega arith);
           distinct = below_more _ _ h.distinct (λ among.
               let before = contains_previous seq.jobs (get_or h.jobs place 0) (rw h.taken at among) in

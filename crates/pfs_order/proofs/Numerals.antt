@@ -1,6 +1,7 @@
 -- Numerals, and how they go on.
 use Rattle.std.proofs.Common.{◌≡◌, ◌≢◌, ℕ, ◌+◌, ◌*◌, ◌<◌, ◌≤◌, ◌^◌, ◌/◌, ◌%◌, ◌⊎◌, inl, inr, false, ◌==◌, List, []}
-use Rattle.std.proofs.Common.{◌∷◌, ◌++◌, length, take, drop, get_or, refl, sym, ap, arith, lit≤, lit<, Option, Some, None}
+use Rattle.std.proofs.Common.{◌∷◌, ◌++◌, length, take, drop, get_or, refl, sym, ap, arith, lit≤, lit<}
+use Rattle.std.proofs.Common.{Option, Some, None}
 use Rattle.std.specs.Fmt.{decimal}
 use Rattle.std.specs.Char.{digit_value}
 use Rattle.std.specs.List.{list_any}
@@ -159,8 +160,8 @@ module _ (least most end : ℕ) where
       let (low, high) = h.in_range n refl in (end ∷ [], begins_numeral least most end n [] low high)
 
   -- what was read of a numeral is not the whole of another one where the byte that ends it is no end
-  no_other_end : (number : Option ℕ) (b n : ℕ) → n < 10 ^ 18 → ForSome number (λ _. b ≢ end) → numeral_of number ≡ decimal n
-      → b ≢ end
+  no_other_end : (number : Option ℕ) (b n : ℕ) → n < 10 ^ 18 → ForSome number (λ _. b ≢ end)
+      → numeral_of number ≡ decimal n → b ≢ end
   no_other_end None b n small never e =
       let some = decimal_nonempty n (omega arith) in absurd (omega (arith, ap length e))
   no_other_end (Some read) b n small never e = never read refl
@@ -191,7 +192,8 @@ module _ (least most end : ℕ) where
   numeral_fault_of_text number text at next h e from to read stops = (
     length (numeral_of number),
     (
-      omega (arith, ap length read, length-append (numeral_of number) (drop next text), length-drop at text, length-drop next text),
+      omega (arith, ap length read, length-append (numeral_of number) (drop next text), length-drop at text,
+        length-drop next text),
       rw read (numeral_fault number (drop next text) h e stops),
     ),
   )

@@ -1,6 +1,6 @@
 -- The texts of the grammar of order files, piece by piece.
-use Rattle.std.proofs.Common.{◌≡◌, ◌≢◌, ℕ, ◌+◌, ◌<◌, ◌≤◌, ◌^◌, ◌⊎◌, inl, inr, List, [], ◌∷◌, ◌++◌, suc, length, refl, sym}
-use Rattle.std.proofs.Common.{ap, arith, codes, lit≤, Option, Some, None}
+use Rattle.std.proofs.Common.{◌≡◌, ◌≢◌, ℕ, ◌+◌, ◌<◌, ◌≤◌, ◌^◌, ◌⊎◌, inl, inr, List, [], ◌∷◌, ◌++◌, suc, length, refl}
+use Rattle.std.proofs.Common.{sym, ap, arith, codes, lit≤, Option, Some, None}
 use Rattle.std.specs.Fmt.{decimal}
 use Rattle.std.specs.Char.{digit_value}
 use Rattle.std.specs.List.{All}
@@ -89,14 +89,15 @@ ten_32 = lit≤ tt
 pub same_number : (end m n : ℕ) (rest other : List ℕ) → 10 ≤ digit_value end → m < 10 ^ 18 → n < 10 ^ 18
     → decimal m ++ end ∷ rest ≡ decimal n ++ end ∷ other → (m ≡ n) × (rest ≡ other)
 same_number end m n rest other no_digit h k e =
-    let (same, behind) = cut_at end _ _ rest other (decimal_lacks end m no_digit h) (decimal_lacks end n no_digit k) e in
+    let one = decimal_lacks end m no_digit h in
+    let (same, behind) = cut_at end _ _ rest other one (decimal_lacks end n no_digit k) e in
     (decimal_one m n h k same, behind)
 
 -- a makespan's line, and no more
 pub same_last_line : (makespan other : ℕ) (more : List ℕ) → makespan < 10 ^ 18 → other < 10 ^ 18
     → last_line makespan ++ more ≡ last_line other → more ≡ []
 same_last_line makespan other more h k e =
-    let numeral = append_cancel_left (codes "makespan ") ((decimal makespan ++ 10 ∷ []) ++ more) (decimal other ++ 10 ∷ []) e in
+    let numeral = append_cancel_left (codes "makespan ") ((decimal makespan ++ 10 ∷ []) ++ more) _ e in
     (same_number 10 makespan other more [] ten_10 h k (rw append_assoc at numeral)).1
 
 -- a job and the space behind it
@@ -116,7 +117,8 @@ more_jobs [] (job ∷ more) rest line p q h e = (job, (more, (e, omega arith, Al
 more_jobs (d ∷ done) (j ∷ k ∷ jobs) rest line p q h e =
     let same = same_first d j done (k ∷ jobs) _ _ p q (rw (job_front j (k ∷ jobs) line) at e) in
     let (job, (more, (is, size, one))) =
-    more_jobs done (k ∷ jobs) rest line (All-tail IsShort d done p) (All-tail IsShort j (k ∷ jobs) q) (omega arith) same.1 in
+    more_jobs done (k ∷ jobs) rest line (All-tail IsShort d done p) (All-tail IsShort j (k ∷ jobs) q) (omega arith)
+    same.1 in
     (job, (more, (is, omega arith, one)))
 more_jobs done jobs rest line p q h e = absurd (omega arith)
 

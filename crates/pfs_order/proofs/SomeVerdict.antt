@@ -2,6 +2,7 @@
 use Rattle.std.proofs.Common.{◌≡◌, ◌≢◌, ℕ, zero, suc, ◌+◌, ◌-◌, ◌<◌, ◌≤◌, ◌⊎◌, inl, inr, List, [], ◌∷◌, false, length}
 use Rattle.std.proofs.Common.{take, map, get_or, refl, sym, ◌∙◌, arith, eqb, below_more, Option}
 use Rattle.std.specs.List.{All}
+use borrow.Author.Count.{below_none}
 use Rattle.std.proofs.lemmas.Bool.{cases_eq, cases_lt, ne_eqb}
 use Rattle.std.proofs.lemmas.List.{get_or-map, length-map, length-take-le, get_or-take, get_or_default}
 use Rattle.std.proofs.lemmas.List.Elements.{All-head, All-tail, All-from_get_or}
@@ -60,7 +61,8 @@ right_or_fault jobs (suc more) i size right new =
       | inr wrong ↦ inr (inl (i + 1, (i, (refl, before, wrong))))
       | inl good ↦ elim (is_repeated jobs i) [
         | inl twice ↦ inr (inr (i + 1, (i, (refl, before, good, twice))))
-        | inr once ↦ right_or_fault jobs more (i + 1) (omega arith) (below_more _ _ right good) (below_more _ _ new once)
+        | inr once ↦
+            right_or_fault jobs more (i + 1) (omega arith) (below_more _ _ right good) (below_more _ _ new once)
       ]
     ]
 
@@ -82,7 +84,8 @@ right_order jobs h =
     let size : length (lowered jobs) ≡ length jobs = length-map jobs (λ (job : ℕ). job - 1) in
     record {
       in_range = All-from_get_or (λ job. job < length (lowered jobs)) (lowered jobs) 0 (λ i lt. small i (omega arith));
-      distinct = IsDistinct-from_apart eqb (lowered jobs) (λ i j d before lt. ne_eqb _ _ (apart i j d before (omega arith)));
+      distinct = IsDistinct-from_apart eqb (lowered jobs)
+          (λ i j d before lt. ne_eqb _ _ (apart i j d before (omega arith)));
     }
   where
     lowered_at : (i d : ℕ) → i < length jobs → get_or (lowered jobs) i d ≡ get_or jobs i 0 - 1
@@ -102,7 +105,8 @@ right_order jobs h =
         h.distinct j lt (
           i,
           omega (arith, length-take-le j jobs (omega arith)),
-          get_or-take j jobs i (get_or jobs j 0) before ∙ get_or_default jobs i (get_or jobs j 0) 0 (omega arith) ∙ equal,
+          get_or-take j jobs i (get_or jobs j 0) before ∙ get_or_default jobs i (get_or jobs j 0) 0 (omega arith)
+          ∙ equal,
         )
 
 -- ---- the verdict
@@ -111,7 +115,7 @@ right_order jobs h =
 verdict_of_text : (input jobs : List ℕ) (machines : Option ℕ) (makespan : ℕ) → HasText input jobs machines makespan
     → ((file : StatedOrder) × IsOrderFile input file) ⊎ ((fault : OrderFault) × RefusesOrder input fault)
 verdict_of_text input jobs machines makespan h =
-    elim (right_or_fault jobs (length jobs) 0 (omega arith) (λ k lt. absurd (omega arith)) (λ k lt. absurd (omega arith))) [
+    elim (right_or_fault jobs (length jobs) 0 (omega arith) (below_none (IsJob jobs)) (below_none _)) [
       | inr (inl (place, fault)) ↦ inr (JobRange place, (jobs, (machines, (makespan, (h, fault)))))
       | inr (inr (place, fault)) ↦ inr (Repeated place, (jobs, (machines, (makespan, (h, fault)))))
       | inl right ↦

@@ -31,8 +31,8 @@ pub lines_of : {text jobs : List ℕ} {machines : Option ℕ} {makespan : ℕ} �
 lines_of {text} {jobs} {machines} {makespan} h = h.spelled ∙ text_shape jobs machines makespan
 
 -- two first lines begin a text alike
-pub same_line : (count n : ℕ) (machines stated : Option ℕ) (rest other : List ℕ) → IsHead count machines → IsHead n stated
-    → counted count machines rest ≡ counted n stated other → (count ≡ n) × (machines ≡ stated) × (rest ≡ other)
+pub same_line : (count n : ℕ) (machines stated : Option ℕ) (rest other : List ℕ) → IsHead count machines
+    → IsHead n stated → counted count machines rest ≡ counted n stated other → (count ≡ n) × (machines ≡ stated) × (rest ≡ other)
 same_line count n machines stated rest other h k =
     same_head count machines rest other n stated (omega arith) (omega arith) h.stated k.stated
 
@@ -41,10 +41,12 @@ pub one_text : {text jobs others : List ℕ} {machines stated : Option ℕ} {mak
     → HasText text jobs machines makespan → HasText text others stated other
     → (jobs ≡ others) × (machines ≡ stated) × (makespan ≡ other)
 one_text {text} {jobs} {others} {machines} {stated} {makespan} {other} h k =
-    let (size, same, lines) = same_line (length jobs) (length others) machines stated (spaced jobs ++ 10 ∷ last_line makespan)
-    (spaced others ++ 10 ∷ last_line other) (head_of h) (head_of k) (sym (lines_of h) ∙ lines_of k) in
-    let (these, last) = same_jobs jobs others (last_line makespan) (last_line other) h.short_jobs k.short_jobs size lines in
-    let numeral = append_cancel_left (codes "makespan ") (decimal makespan ++ 10 ∷ []) (decimal other ++ 10 ∷ []) last in
+    let (size, same, lines) = same_line (length jobs) (length others) machines stated
+    (spaced jobs ++ 10 ∷ last_line makespan) (spaced others ++ 10 ∷ last_line other) (head_of h) (head_of k)
+    (sym (lines_of h) ∙ lines_of k) in
+    let (these, last) = same_jobs jobs others (last_line makespan) (last_line other) h.short_jobs k.short_jobs
+    size lines in
+    let numeral = append_cancel_left (codes "makespan ") (decimal makespan ++ 10 ∷ []) _ last in
     (these, same, (same_number 10 makespan other [] [] ten_10 h.short_makespan k.short_makespan numeral).0)
 
 module _ (count : ℕ) (machines : Option ℕ) where
@@ -76,11 +78,13 @@ module _ (count : ℕ) (machines : Option ℕ) where
       (jobs, (makespan, (record { head = h; short = has.short_jobs; every = sym size }, has.short_makespan, behind)))
 
   -- what stands behind the jobs of a text
-  behind_jobs : (jobs rest : List ℕ) → AreJobs count machines jobs → IsText (counted count machines (spaced jobs ++ 10 ∷ rest))
+  behind_jobs : (jobs rest : List ℕ) → AreJobs count machines jobs
+      → IsText (counted count machines (spaced jobs ++ 10 ∷ rest))
       → (makespan : ℕ) × ((makespan < 10 ^ 18) × (rest ≡ last_line makespan))
   behind_jobs jobs rest h text =
       let (others, (makespan, (are, small, e))) = lines_behind (spaced jobs ++ 10 ∷ rest) h.head text in
-      let (same, last) = same_jobs jobs others rest (last_line makespan) h.short are.short (h.every ∙ sym are.every) e in
+      let size : length jobs ≡ length others = h.every ∙ sym are.every in
+      let (same, last) = same_jobs jobs others rest (last_line makespan) h.short are.short size e in
       (makespan, (small, last))
 
 -- what may stand behind a first line
@@ -199,8 +203,7 @@ machines_begin count t low high (jobs, (Some m, (makespan, h))) =
     let few = h.few_jobs in
     let line : List ℕ = spaced jobs ++ 10 ∷ last_line makespan in
     let same = same_number 32 count (length jobs) t (decimal m ++ 10 ∷ line) ten_32 (omega arith) (omega arith)
-    (append_cancel_left (codes "order2 ") (decimal count ++ 32 ∷ t) (decimal (length jobs) ++ 32 ∷ (decimal m ++ 10 ∷ line))
-    (simp append_assoc at (lines_of h))) in
+    (append_cancel_left (codes "order2 ") (decimal count ++ 32 ∷ t) _ (simp append_assoc at (lines_of h))) in
     begins_behind [] t 1 MOST_MACHINES 10 m line h.stated_machines.0 h.stated_machines.1 same.1
 
 pub wants_machines : (count : ℕ) → 1 ≤ count → count ≤ MOST_JOBS
@@ -237,7 +240,8 @@ module _ (count : ℕ) (machines : Option ℕ) (done : List ℕ) (among : IsAmon
       let (jobs, (makespan, (are, small, e))) = lines_behind count machines (before done t) among.head text in
       let every = are.every in
       let fewer = among.fewer in
-      let (job, (more, (is, size, short))) = more_jobs done jobs t (last_line makespan) among.short are.short (omega arith) e in
+      let (job, (more, (is, size, short))) =
+      more_jobs done jobs t (last_line makespan) among.short are.short (omega arith) e in
       (job, (more, (last_line makespan, (is, omega arith, short))))
 
   -- behind the first line and some jobs, but not all, stands a job
@@ -259,8 +263,9 @@ module _ (count : ℕ) (machines : Option ℕ) (done : List ℕ) (among : IsAmon
                 (All-cons IsShort job more (omega arith) (All-replicate IsShort (count - length done - 1) 0 (lit< tt)));
             every = length-append done (job ∷ more) ∙ size;
           } in
+          let same_end = end_is count (length done) end more ends size in
           (behind_job more (last_line 0),
-            rw (counted-append, before-append, end_is count (length done) end more ends size, ← job_front job more (last_line 0), before-spaced)
+            rw (counted-append, before-append, same_end, ← job_front job more (last_line 0), before-spaced)
             (text_of_lines count machines (done ++ job ∷ more) 0 are (lit< tt))))
 
 -- one job more, and the last one
@@ -281,11 +286,13 @@ module _ (count : ℕ) (machines : Option ℕ) (jobs : List ℕ) (are : AreJobs 
   pub wants_makespan_name : Wants (counted count machines (spaced jobs ++ 10 ∷ [])) (IsWord (codes "makespan "))
   wants_makespan_name = wants_word _ (codes "makespan ")
       (λ t text.
-          let (makespan, (small, is)) = behind_jobs count machines jobs t are (rw (counted-append, append_assoc) at text) in
+          let behind = rw (counted-append, append_assoc) at text in
+          let (makespan, (small, is)) = behind_jobs count machines jobs t are behind in
           (decimal makespan ++ 10 ∷ [], is))
       (decimal 0 ++ 10 ∷ [], rw (counted-append, append_assoc) (text_of_lines count machines jobs 0 are (lit< tt)))
 
-  pub wants_makespan : Wants (counted count machines (spaced jobs ++ 10 ∷ codes "makespan ")) (IsNumeral 0 (10 ^ 18 - 1) 10)
+  pub wants_makespan :
+      Wants (counted count machines (spaced jobs ++ 10 ∷ codes "makespan ")) (IsNumeral 0 (10 ^ 18 - 1) 10)
   wants_makespan = wants_numeral _ 0 (10 ^ 18 - 1) 10
       (λ t text.
           let behind = rw (counted-append, append_assoc) at text in
@@ -305,11 +312,12 @@ text_ends text more b (jobs, (machines, (makespan, h))) longer =
 
 pub more_fault : (text more : List ℕ) (b : ℕ) → IsText text → IsSyntaxFault (text ++ b ∷ more) (length text)
 more_fault text more b h =
-    fault_where_front_ends IsText text (b ∷ more) ([], rw append-nil h) (λ e. absurd (cc)) (λ c others rest is. text_ends text rest c h)
+    fault_where_front_ends IsText text (b ∷ more) ([], rw append-nil h) (λ e. absurd (cc))
+    (λ c others rest is. text_ends text rest c h)
 
 -- a text up to the end of its last line
-pub end_text : (count : ℕ) (machines : Option ℕ) (text : List ℕ) (at next end makespan : ℕ) → HasJobs count machines text at
-    → drop at text ≡ codes "makespan " ++ drop next text → makespan < 10 ^ 18
+pub end_text : (count : ℕ) (machines : Option ℕ) (text : List ℕ) (at next end makespan : ℕ)
+    → HasJobs count machines text at → drop at text ≡ codes "makespan " ++ drop next text → makespan < 10 ^ 18
     → drop next text ≡ decimal makespan ++ 10 ∷ drop end text → end ≤ length text
     → (front : List ℕ) × ((text ≡ front ++ drop end text) × ((jobs : List ℕ)
     × (HasText front jobs machines makespan × (length jobs ≡ count) × (length front ≡ end))))

@@ -11,8 +11,8 @@ use Rattle.std.proofs.lemmas.List.Elements.{All-nil, All-push}
 use Rattle.pfs_base.specs.declared.limits.TheConstants.{MOST_JOBS, MOST_MACHINES}
 use Rattle.pfs_base.specs.Text.{spaced}
 use Rattle.pfs_order.specs.OrderFile.{IsText, IsFaultOf, IsSyntaxFault}
-use Rattle.pfs_order.specs.Pieces.{Begins, IsWord, IsNumeral, numeral_of, IsHead, opening, count_end, counted, last_line}
-use Rattle.pfs_order.specs.Pieces.{AreJobs}
+use Rattle.pfs_order.specs.Pieces.{Begins, IsWord, IsNumeral, numeral_of, IsHead, opening, count_end, counted}
+use Rattle.pfs_order.specs.Pieces.{last_line, AreJobs}
 use Rattle.pfs_order.specs.declared.reading.Version.{Version}
 use Rattle.pfs_order.specs.declared.reading.Version.TheVariants.{One, Two}
 use Rattle.pfs_order.proofs.Faults.{Wants, fault_of_wanted}
@@ -37,7 +37,7 @@ word_from front (c ∷ more) (b ∷ after) = elim (cases_eq b c) [
     | inl w ↦ (let e = w.1 in inl (w.0, cc))
     | inr fault ↦ inr (fault.0, rw same (simp append_assoc at fault.1))
   ]
-  | inr other ↦ inr (length front, word_fault front more (b ∷ after) c (λ d ds e same. let first : b ≡ d = cc in other (cc)))
+  | inr other ↦ inr (length front, word_fault front more (b ∷ after) c (λ d ds e same. other (cc)))
 ]
 
 -- ---- a numeral goes on by a byte, or it doesn't
@@ -68,13 +68,16 @@ module _ (least most b : ℕ) where
   pushed_or_stops : (number : Option ℕ) → IsWithin least most number → NumberPushed number ⊎ StopsNumber number
   unfolding NumberPushed StopsNumber
   pushed_or_stops number h = elim (cases_lt b 48) [
-    | inl low ↦ inr (λ n rest some few. no_digit_ends n b (numeral_of number) rest (let top = h.high in omega arith) (inl low))
+    | inl low ↦ inr (λ n rest some few. no_digit_ends n b (numeral_of number) rest (below n few) (inl low))
     | inr digit ↦ elim (cases_lt 57 b) [
-      | inl high ↦ inr (λ n rest some few. no_digit_ends n b (numeral_of number) rest (let top = h.high in omega arith) (inr high))
+      | inl high ↦ inr (λ n rest some few. no_digit_ends n b (numeral_of number) rest (below n few) (inr high))
       | inr fits ↦ (let byte : 48 + (b - 48) ≡ b = omega arith in by_digit number h byte (omega arith))
     ]
   ]
     where
+      below : (n : ℕ) → n ≤ most → n < 10 ^ 18
+      below n few = let top = h.high in omega arith
+
       by_digit : (read : Option ℕ) → IsWithin least most read → 48 + (b - 48) ≡ b → b - 48 < 10
           → NumberPushed read ⊎ StopsNumber read
       by_digit None k byte small =
@@ -98,7 +101,8 @@ module _ (least most end : ℕ) (end_is_no_digit : 10 ≤ digit_value end) where
       → NumeralOrFault least most end (numeral_of number ++ after)
   unfolding NumeralOrFault NumberPushed StopsNumber
   numeral_on number [] h =
-      inr (length (numeral_of number), numeral_fault least most end number [] h end_is_no_digit (λ b more is. absurd (cc)))
+      let fault = numeral_fault least most end number [] h end_is_no_digit (λ b more is. absurd (cc)) in
+      inr (length (numeral_of number), fault)
   numeral_on number (b ∷ after) h = by_byte (λ m within. numeral_on (Some m) after within) number h (cases_eq b end)
     where
       Next : Type 0
@@ -126,7 +130,8 @@ module _ (least most end : ℕ) (end_is_no_digit : 10 ≤ digit_value end) where
       by_byte next None k any = goes_on next None k (λ n is. absurd (cc)) (pushed_or_stops least most b None k)
       by_byte next (Some n) k (inl same) =
           let (low, high) = k.in_range n refl in inl (n, (after, (low, high, rw same)))
-      by_byte next (Some n) k (inr other) = goes_on next (Some n) k (λ m is. other) (pushed_or_stops least most b (Some n) k)
+      by_byte next (Some n) k (inr other) =
+          goes_on next (Some n) k (λ m is. other) (pushed_or_stops least most b (Some n) k)
 
   numeral_from : least ≤ 1 → least ≤ most → most < 10 ^ 18 → (text : List ℕ) → NumeralOrFault least most end text
   numeral_from low some high text =
@@ -145,22 +150,22 @@ not_wanted {front} after wants (i, f) = inr (length front + i, fault_of_wanted a
 
 module _ (count : ℕ) (machines : Option ℕ) where
   -- the last line, and what stands behind it
-  makespan_from : (jobs line : List ℕ) → AreJobs count machines jobs → Verdict (counted count machines (spaced jobs ++ 10 ∷ line))
+  makespan_from : (jobs line : List ℕ) → AreJobs count machines jobs
+      → Verdict (counted count machines (spaced jobs ++ 10 ∷ line))
   unfolding Verdict NumeralOrFault
   makespan_from jobs line are = elim (word_from [] (codes "makespan ") line) [
     | inr fault ↦ simp joined at (not_wanted line (wants_makespan_name count machines jobs are) fault)
-    | inl named ↦ rw named.1 (elim (numeral_from 0 (10 ^ 18 - 1) 10 ten_10 (lit≤ tt) (lit≤ tt) (lit< tt) named.0) [
-      | inr fault ↦ simp joined at (not_wanted named.0 (wants_makespan count machines jobs are) fault)
-      | inl w ↦ (
-          let (makespan, (behind, (low, high, is))) = w in
-          rw is (simp joined at (ended makespan behind (omega arith))))
+    | inl (rest, named) ↦ rw named (elim (numeral_from 0 (10 ^ 18 - 1) 10 ten_10 (lit≤ tt) (lit≤ tt) (lit< tt) rest) [
+      | inr fault ↦ simp joined at (not_wanted rest (wants_makespan count machines jobs are) fault)
+      | inl (makespan, (behind, (low, high, is))) ↦ rw is (simp joined at (ended makespan behind (omega arith)))
     ])
   ]
     where
       ended : (makespan : ℕ) (behind : List ℕ) → makespan < 10 ^ 18
           → Verdict (counted count machines (spaced jobs ++ 10 ∷ last_line makespan) ++ behind)
       ended makespan [] small = rw append-nil (inl (text_of_lines count machines jobs makespan are small))
-      ended makespan (b ∷ more) small = inr (_, more_fault _ more b (text_of_lines count machines jobs makespan are small))
+      ended makespan (b ∷ more) small =
+          inr (_, more_fault _ more b (text_of_lines count machines jobs makespan are small))
 
   -- so many jobs and the last
   jobs_from : (more : ℕ) (done rest : List ℕ) → IsAmongJobs count machines done → length done + suc more ≡ count
@@ -170,26 +175,24 @@ module _ (count : ℕ) (machines : Option ℕ) where
       elim (numeral_from 0 (10 ^ 9 - 1) 10 ten_10 (lit≤ tt) (lit≤ tt) (lit< tt) rest) [
         | inr fault ↦ simp joined at
             (not_wanted rest (wants_job count machines done among 10 (inr (omega arith, refl))) fault)
-        | inl w ↦ (
-            let (job, (line, (low, high, is))) = w in
+        | inl (job, (line, (low, high, is))) ↦
             rw (is, before-spaced done job [] (10 ∷ line)) (makespan_from (done ++ job ∷ []) line (record {
               head = among.head;
               short = All-push IsShort done job among.short (omega arith);
               every = omega (arith, length-append done (job ∷ []));
-            })))
+            }))
       ]
   jobs_from (suc more) done rest among size =
       elim (numeral_from 0 (10 ^ 9 - 1) 32 ten_32 (lit≤ tt) (lit≤ tt) (lit< tt) rest) [
         | inr fault ↦ simp joined at
             (not_wanted rest (wants_job count machines done among 32 (inl (omega arith, refl))) fault)
-        | inl w ↦ (
-            let (job, (others, (low, high, is))) = w in
+        | inl (job, (others, (low, high, is))) ↦
             let long : length (done ++ job ∷ []) ≡ length done + 1 = length-append done (job ∷ []) in
             rw (is, before-push done job others) (jobs_from more (done ++ job ∷ []) others (record {
               head = among.head;
               short = All-push IsShort done job among.short (omega arith);
               fewer = omega arith;
-            }) (omega arith)))
+            }) (omega arith))
       ]
 
   lines_from : (rest : List ℕ) → IsHead count machines → Verdict (counted count machines rest)

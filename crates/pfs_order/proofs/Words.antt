@@ -1,5 +1,6 @@
 -- Words, and where a text differs from one.
-use Rattle.std.proofs.Common.{◌≡◌, ◌≢◌, ℕ, ◌+◌, ◌<◌, List, [], ◌∷◌, ◌++◌, length, take, drop, get_or, refl, sym, ap, arith}
+use Rattle.std.proofs.Common.{◌≡◌, ◌≢◌, ℕ, ◌+◌, ◌<◌, List, [], ◌∷◌, ◌++◌, length, take, drop, get_or, refl, sym, ap}
+use Rattle.std.proofs.Common.{arith}
 use Rattle.std.proofs.lemmas.List.{append_assoc, append-nil, length-append, take-append-drop, length-take-le}
 use Rattle.std.proofs.lemmas.List.{append_cancel_left, drop_more}
 use Rattle.pfs_order.specs.declared.fault.OrderFault.TheVariants.{Syntax}
@@ -31,4 +32,5 @@ word_fault_of_text word text at next i is small read other =
     let size : length (take i word) ≡ i = length-take-le i word (omega arith) in
     let whole : take i word ++ get_or word i 0 ∷ drop (i + 1) word ≡ word =
     rw (← drop_more word i 0 small, take-append-drop) in
-    (i, (is, rw read (rw (whole, size) at (word_fault (take i word) (drop (i + 1) word) (drop next text) (get_or word i 0) other))))
+    let fault = word_fault (take i word) (drop (i + 1) word) (drop next text) (get_or word i 0) other in
+    (i, (is, rw read (rw (whole, size) at fault)))

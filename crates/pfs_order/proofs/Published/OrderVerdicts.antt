@@ -1,6 +1,7 @@
 -- One input, one answer.
 use Rattle.std.proofs.Common.{◌≡◌, ℕ, ◌+◌, ◌-◌, ◌*◌, ◌<◌, ◌≤◌, ◌^◌, ◌⊎◌, inl, inr, List, [], ◌∷◌, ◌++◌, true, false}
-use Rattle.std.proofs.Common.{length, take, drop, map, get_or, refl, sym, ◌∙◌, ap, arith, lit≤, lit<, eqb, Option, Some, None}
+use Rattle.std.proofs.Common.{length, take, drop, map, get_or, refl, sym, ◌∙◌, ap, arith, lit≤, lit<, eqb, Option}
+use Rattle.std.proofs.Common.{Some, None}
 use Rattle.std.specs.Fmt.{decimal}
 use Rattle.std.specs.List.{All}
 use Rattle.std.proofs.lemmas.Bool.{cases_order, eq-eqb}
@@ -29,7 +30,8 @@ length-decimal : (n : ℕ) → n < 10 ^ 18 → length (decimal n) ≤ 18
 length-decimal n h = length-decimal-le_wide 18 n (lit< tt) h (omega arith)
 
 length-job : (job : ℕ) (jobs : List ℕ) → All IsShort (job ∷ jobs) → length (decimal job) ≤ 9
-length-job job jobs h = length-decimal-le_wide 9 job (lit< tt) (All-head IsShort job jobs h) (let small = All-head IsShort job jobs h in omega arith)
+length-job job jobs h =
+    let short = All-head IsShort job jobs h in length-decimal-le_wide 9 job (lit< tt) short (omega arith)
 
 length-spaced : (jobs : List ℕ) → All IsShort jobs → length (spaced jobs) ≤ 10 * length jobs
 length-spaced [] h = lit≤ tt
@@ -104,7 +106,8 @@ one_job_fault jobs one other f g = absurd f
 
 -- ---- refusals
 
-one_fault_of_jobs : (input : List ℕ) (one other : OrderFault) → HasJobFault input one → HasJobFault input other → one ≡ other
+one_fault_of_jobs : (input : List ℕ) (one other : OrderFault) → HasJobFault input one → HasJobFault input other
+    → one ≡ other
 one_fault_of_jobs input one other (jobs, (machines, (makespan, (h, f)))) (others, (stated, (number, (k, g)))) =
     one_job_fault jobs one other f (rw (one_text h k).0 g)
 
@@ -123,7 +126,8 @@ refused_jobs input Memory text h = absurd h
 one_offset : (input : List ℕ) (p q : ℕ) → IsSyntaxFault input p → IsSyntaxFault input q → p ≡ q
 one_offset input p q h k = omega (arith, k.longest p h.within h.completed, h.longest q k.within k.completed)
 
-pub one_refusal : (input : List ℕ) (one other : OrderFault) → RefusesOrder input one → RefusesOrder input other → one ≡ other
+pub one_refusal : (input : List ℕ) (one other : OrderFault) → RefusesOrder input one → RefusesOrder input other
+    → one ≡ other
 one_refusal input (JobRange p) other h k =
     one_fault_of_jobs input (JobRange p) other h (refused_jobs input other (is_text input (JobRange p) h) k)
 one_refusal input (Repeated p) other h k =
@@ -152,10 +156,12 @@ number_at order i d lt = get_or-map (λ job. job + 1) order i 0 d lt
 length-numbered : (order : List ℕ) → length (numbered order) ≡ length order
 length-numbered order = length-map order (λ (job : ℕ). job + 1)
 
-job_in_range : (order : List ℕ) (i : ℕ) → IsSequence (length order) order → i < length (numbered order) → IsJob (numbered order) i
+job_in_range : (order : List ℕ) (i : ℕ) → IsSequence (length order) order → i < length (numbered order)
+    → IsJob (numbered order) i
 job_in_range order i h lt =
     let size = length-numbered order in
-    let small : get_or order i 0 < length order = All-get_or (λ job. job < length order) order i 0 (omega arith) h.in_range in
+    let small : get_or order i 0 < length order =
+    All-get_or (λ job. job < length order) order i 0 (omega arith) h.in_range in
     let number : get_or (numbered order) i 0 ≡ get_or order i 0 + 1 = number_at order i 0 (omega arith) in
     (omega arith, omega arith)
 
@@ -172,7 +178,8 @@ job_is_new order i h lt (k, within, same) =
     let apart = apart_from_distinct eqb order k i 0 h.distinct (omega arith) (omega arith) in
     absurd (cc)
 
-pub not_both : (input : List ℕ) (file : StatedOrder) (fault : OrderFault) → IsOrderFile input file → ¬ RefusesOrder input fault
+pub not_both : (input : List ℕ) (file : StatedOrder) (fault : OrderFault) → IsOrderFile input file
+    → ¬ RefusesOrder input fault
 not_both input file fault h refused =
     let text : IsText input = (numbered file.order, (file.machines, (file.makespan, h.has_text))) in
     let (jobs, (machines, (makespan, (k, f)))) = refused_jobs input fault text refused in
@@ -189,11 +196,12 @@ unnumbered (job ∷ order) = let first : job + 1 - 1 ≡ job = omega arith in le
 abbrev stated_order : List ℕ → Option ℕ → ℕ → StatedOrder
 stated_order order machines makespan = record { order = order; machines = machines; makespan = makespan }
 
-same_stated : (order other : List ℕ) (machines stated : Option ℕ) (makespan number : ℕ) → order ≡ other → machines ≡ stated
-    → makespan ≡ number → stated_order order machines makespan ≡ stated_order other stated number
+same_stated : (order other : List ℕ) (machines stated : Option ℕ) (makespan number : ℕ) → order ≡ other
+    → machines ≡ stated → makespan ≡ number → stated_order order machines makespan ≡ stated_order other stated number
 same_stated order other machines stated makespan number e f g = cc
 
-pub one_file : (input : List ℕ) (one other : StatedOrder) → IsOrderFile input one → IsOrderFile input other → one ≡ other
+pub one_file : (input : List ℕ) (one other : StatedOrder) → IsOrderFile input one → IsOrderFile input other
+    → one ≡ other
 one_file input one other h k =
     let (numbers, machines, makespan) = one_text h.has_text k.has_text in
     let order : one.order ≡ other.order = rw (numbers, unnumbered) at (sym (unnumbered one.order)) in
@@ -207,13 +215,13 @@ written_file order machines makespan size h stated small =
     let some = size.some in
     let few = size.few in
     let same = length-numbered order in
+    let short : (job : ℕ) → job < length order → IsShort (job + 1) = λ job lt. omega arith in
     record {
       is_order = h;
       has_text = record {
         some_job = omega arith;
         few_jobs = omega arith;
-        short_jobs = All-map IsShort (λ job. job + 1) order
-            (All-weaker (λ job. job < length order) (λ job. IsShort (job + 1)) (λ job lt. omega arith) order h.in_range);
+        short_jobs = All-map IsShort (λ job. job + 1) order (All-weaker _ _ short order h.in_range);
         stated_machines = stated;
         short_makespan = small;
         spelled = refl;

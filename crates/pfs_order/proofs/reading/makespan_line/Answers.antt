@@ -3,7 +3,7 @@ use Rattle.std.proofs.Common.{◌∙◌}
 use Rattle.std.proofs.lemmas.Result.{err_from_is_err_and}
 use Rattle.std.proofs.lemmas.List.{append_assoc, append-nil, drop_all, drop_more}
 use Rattle.pfs_base.specs.Text.{spaced}
-use Rattle.pfs_order.specs.OrderFile.{HasText}
+use Rattle.pfs_order.specs.OrderFile.{HasText, IsText}
 use Rattle.pfs_order.specs.Pieces.{counted}
 use Rattle.pfs_order.proofs.Faults.{wanted_says_syntax}
 use Rattle.pfs_order.proofs.OrderTexts.{counted-append}
@@ -22,7 +22,8 @@ pub returns-in_err-makespan-clause-fault : goal.returns-in_err-makespan-clause-f
 returns-in_err-makespan-clause-fault c =
     let p = err_from_is_err_and c.from_residual-in_err-makespan.result c.from_residual-in_err-makespan.ensures.1 in
     let (jobs, (are, lines)) = c.requires.jobs in
-    let named = lines ∙ ap (λ xs. counted c.args.head.jobs c.args.head.machines (spaced jobs ++ 10 ∷ xs)) c.in_ok-at.ensures.read in
+    let front = λ (xs : List ℕ). counted c.args.head.jobs c.args.head.machines (spaced jobs ++ 10 ∷ xs) in
+    let named = lines ∙ ap front c.in_ok-at.ensures.read in
     rw (p.1, p.2) (wanted_says_syntax c.args.text.now c.in_ok-at.at c.in_err-makespan.field-0.0
     (wants_makespan c.args.head.jobs c.args.head.machines jobs are) c.in_ok-at.ensures.within
     (rw (counted-append, append_assoc) named) c.in_err-makespan.ensures.fault)
@@ -32,19 +33,21 @@ returns-then-end-text-clause-fault c =
     let text : List ℕ = c.args.text.now in
     let end : ℕ = c.in_ok-makespan.end in
     let here : end < length text = c.if-end-text.true in
+    let small : c.in_ok-makespan.makespan < 10 ^ 18 = omega (arith, c.in_ok-makespan.ensures.in_range.1) in
     let (front, (whole, (jobs, (has, every, size)))) = end_text c.args.head.jobs c.args.head.machines text c.args.start
-    c.in_ok-at.at end c.in_ok-makespan.makespan c.requires.jobs c.in_ok-at.ensures.read
-    (omega (arith, c.in_ok-makespan.ensures.in_range.1)) c.in_ok-makespan.ensures.read c.in_ok-makespan.ensures.within in
-    rw (size, ← drop_more text end 0 here, ← whole) at
-        (more_fault front (drop (end + 1) text) (get_or text end 0) (jobs, (c.args.head.machines, (c.in_ok-makespan.makespan, has))))
+    c.in_ok-at.at end c.in_ok-makespan.makespan c.requires.jobs c.in_ok-at.ensures.read small
+    c.in_ok-makespan.ensures.read c.in_ok-makespan.ensures.within in
+    let begun : IsText front = (jobs, (c.args.head.machines, (c.in_ok-makespan.makespan, has))) in
+    rw (size, ← drop_more text end 0 here, ← whole) at (more_fault front (drop (end + 1) text) (get_or text end 0) begun)
 
 pub returns-clause-read : goal.returns-clause-read
 returns-clause-read c =
     let text : List ℕ = c.args.text.now in
     let end : ℕ = c.in_ok-makespan.end in
+    let small : c.in_ok-makespan.makespan < 10 ^ 18 = omega (arith, c.in_ok-makespan.ensures.in_range.1) in
     let (front, (whole, (jobs, (has, every, size)))) = end_text c.args.head.jobs c.args.head.machines text c.args.start
-    c.in_ok-at.at end c.in_ok-makespan.makespan c.requires.jobs c.in_ok-at.ensures.read
-    (omega (arith, c.in_ok-makespan.ensures.in_range.1)) c.in_ok-makespan.ensures.read c.in_ok-makespan.ensures.within in
+    c.in_ok-at.at end c.in_ok-makespan.makespan c.requires.jobs c.in_ok-at.ensures.read small
+    c.in_ok-makespan.ensures.read c.in_ok-makespan.ensures.within in
     let none : drop end text ≡ [] = drop_all end text (omega arith) in
     let same : front ≡ text = sym (rw (none, append-nil) at whole) in
     (jobs, (subst (λ xs. HasText xs jobs c.args.head.machines c.in_ok-makespan.makespan) same has, every))

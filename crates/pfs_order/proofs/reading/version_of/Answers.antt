@@ -21,7 +21,8 @@ returns-then-at-text-clause-fault c =
 
 pub returns-in_err-start-in-50-clause-fault : goal.returns-in_err-start-in-50-clause-fault
 returns-in_err-start-in-50-clause-fault c =
-    let p = err_from_is_err_and c.from_residual-in_err-start-in-50.result c.from_residual-in_err-start-in-50.ensures.1 in
+    let p = err_from_is_err_and c.from_residual-in_err-start-in-50.result
+    c.from_residual-in_err-start-in-50.ensures.1 in
     let text : List ℕ = c.args.text.now in
     let at : ℕ = c.in_ok-at.at in
     let within : at ≤ length text = c.in_ok-at.ensures.within in
