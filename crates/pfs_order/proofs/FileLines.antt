@@ -5,6 +5,7 @@ use Rattle.std.proofs.lemmas.List.{length-map}
 use Rattle.pfs_base.specs.declared.limits.TheConstants.{LONGEST_ORDER_FILE}
 use Rattle.pfs_base.specs.Limits.{limits}
 use Rattle.pfs_base.specs.Text.{spaced, with_line_end, named_number}
+use Rattle.pfs_order.specs.OrderFile.{IsText}
 use Rattle.pfs_order.specs.OrderText.{first_line, order_text, file_text}
 use Rattle.pfs_order.specs.Sequence.{IsSequence, IsSize, AreMachines}
 use Rattle.pfs_order.proofs.Published.OrderVerdicts.{text_fits, written_file}
@@ -26,11 +27,12 @@ order_lines order count machines makespan e =
 -- together they are no longer than an order file may be
 pub lines_fit : (order : List ℕ) (count : ℕ) (machines : Option ℕ) (makespan : ℕ) → count ≡ length order
     → IsSize limits (length order) → IsSequence (length order) order → AreMachines machines → makespan < 10 ^ 18
-    → length (first_line count machines) + length (jobs_line order) + length (makespan_line makespan) ≤ LONGEST_ORDER_FILE
+    → length (first_line count machines) + length (jobs_line order) + length (makespan_line makespan)
+    ≤ LONGEST_ORDER_FILE
 lines_fit order count machines makespan e size sequence stated short =
     let first : List ℕ = first_line count machines in
     let written = written_file order machines makespan size sequence stated short in
-    omega (arith,
-      text_fits (file_text order machines makespan) (map (λ job. job + 1) order, (machines, (makespan, written.has_text))),
+    let is_text : IsText (file_text order machines makespan) = (_, (machines, (makespan, written.has_text))) in
+    omega (arith, text_fits (file_text order machines makespan) is_text,
       ap length (order_lines order count machines makespan e),
       length-append (first ++ jobs_line order) (makespan_line makespan), length-append first (jobs_line order))

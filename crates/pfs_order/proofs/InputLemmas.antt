@@ -1,6 +1,6 @@
 -- What was read of an input, and what its judgement says of the whole.
 use Rattle.std.proofs.Common.{◌≡◌, ◌≢◌, ℕ, ◌+◌, ◌<◌, ◌≤◌, ◌⊎◌, List, ◌++◌, length, take, Option, Some, None, refl, ap}
-use Rattle.std.proofs.Common.{arith, inl, inr}
+use Rattle.std.proofs.Common.{[], arith, inl, inr}
 use Rattle.std.specs.Prelude.{IfSome, IfOk, IfErr, OnOk, Result, Ok, Err}
 use Rattle.std.specs.Io.KnownBytes.{Consumes, IsAtEnd}
 use Rattle.std.specs.Result.{result_err}
@@ -38,6 +38,13 @@ read_within a k n xs ys h l =
     let rest : List ℕ = post_of a k xs in
     omega (arith, length-take-le a xs h, length-append (take a xs) (ys ++ rest), length-append ys rest)
 
+-- what holds of each text that goes on so behind the bytes that were read holds of an input that is known
+of_known : (old new : Option (List ℕ)) (bytes : List ℕ) (P : List ℕ → Type 0) → Consumes old new bytes
+    → ((rest : List ℕ) → new ≡ Some rest → P (bytes ++ rest)) → IfSome old P
+of_known None new bytes P c h = tt
+of_known (Some input) None bytes P c h = absurd c
+of_known (Some input) (Some rest) bytes P c h = rw c (h rest refl)
+
 -- ---- the judgement of an input
 
 pub reads_accepted : (old new : Option (List ℕ)) (bytes : List ℕ) (answer : Result StatedOrder OrderFault)
@@ -62,9 +69,8 @@ reads_refused old new bytes (Err fault) c end h =
 -- an input with more bytes than the limit
 pub reads_too_long : (old new : Option (List ℕ)) (bytes : List ℕ) → Consumes old new bytes
     → LONGEST_ORDER_FILE < length bytes → IfSome old (λ input. RefusesUnlessFailed input TooLong)
-reads_too_long None new bytes c h = tt
-reads_too_long (Some input) None bytes c h = absurd c
-reads_too_long (Some input) (Some rest) bytes c h = omega (arith, ap length c, length-append bytes rest)
+reads_too_long old new bytes c h = of_known old new bytes (λ input. RefusesUnlessFailed input TooLong) c
+    (λ rest is. omega (arith, length-append bytes rest))
 
 -- a failed read says nothing of an input
 pub reads_failed : (old : Option (List ℕ)) (fault : OrderFault) → fault ≡ Read
@@ -114,55 +120,54 @@ on_ok (Err fault) P h = tt
 pub reads_stopped : (old new : Option (List ℕ)) (fault : OrderFault) (room : ℕ) → fault ≡ Read
     → room ≤ LONGEST_ORDER_FILE + 1 → FillsBelow room old new
     → IfSome old (λ input. ReadsOrderAsFar input new (Some fault))
-reads_stopped None new fault room e h f = tt
-reads_stopped (Some input) None fault room e h (front, (few, c)) = absurd c
-reads_stopped (Some input) (Some rest) fault room e h (front, (few, c)) = record {
-  front = front;
-  rest = rest;
-  whole = c;
-  leaves = refl;
-  few = omega arith;
-  failed = λ _. omega arith;
-  too_long = λ is. absurd (cc);
-  ended = λ other. absurd (other (ap Some e));
-  memory = λ is. absurd (cc);
-}
+reads_stopped old new fault room e h (front, (few, c)) =
+    of_known old new front (λ input. ReadsOrderAsFar input new (Some fault)) c (λ rest is. record {
+      front = front;
+      rest = rest;
+      whole = refl;
+      leaves = is;
+      few = omega arith;
+      failed = λ _. omega arith;
+      too_long = λ long. absurd (cc);
+      ended = λ other. absurd (other (ap Some e));
+      memory = λ none. absurd (cc);
+    })
 
 -- one with more bytes than the limit
 pub reads_over : (old new : Option (List ℕ)) (bytes : List ℕ) → Consumes old new bytes
     → length bytes ≡ LONGEST_ORDER_FILE + 1 → IfSome old (λ input. ReadsOrderAsFar input new (Some TooLong))
-reads_over None new bytes c h = tt
-reads_over (Some input) None bytes c h = absurd c
-reads_over (Some input) (Some rest) bytes c h = record {
-  front = bytes;
-  rest = rest;
-  whole = c;
-  leaves = refl;
-  few = omega arith;
-  failed = λ is. absurd (cc);
-  too_long = λ _. h;
-  ended = λ _ other. absurd (other refl);
-  memory = λ is. absurd (cc);
-}
+reads_over old new bytes c h = of_known old new bytes (λ input. ReadsOrderAsFar input new (Some TooLong)) c (λ rest is.
+    record {
+      front = bytes;
+      rest = rest;
+      whole = refl;
+      leaves = is;
+      few = omega arith;
+      failed = λ failed. absurd (cc);
+      too_long = λ _. h;
+      ended = λ _ other. absurd (other refl);
+      memory = λ none. absurd (cc);
+    })
 
 -- one that was read to its end
 pub reads_whole : (old new : Option (List ℕ)) (bytes : List ℕ) (answer : Result StatedOrder OrderFault)
     → Consumes old new bytes → IsAtEnd new → length bytes ≤ LONGEST_ORDER_FILE
     → IfErr answer (λ fault. JudgesText bytes fault)
     → IfSome old (λ input. ReadsOrderAsFar input new (result_err answer))
-reads_whole None new bytes answer c end few h = tt
-reads_whole (Some input) None bytes answer c end few h = absurd c
-reads_whole (Some input) (Some rest) bytes answer c end few h = record {
-  front = bytes;
-  rest = rest;
-  whole = c;
-  leaves = refl;
-  few = omega arith;
-  failed = λ _. few;
-  too_long = λ is. absurd (never_long answer h is);
-  ended = λ _ _. end;
-  memory = λ is. rw (c, end, append-nil) (of_memory answer h is);
-}
+reads_whole old new bytes answer c end few h =
+    of_known old new bytes (λ input. ReadsOrderAsFar input new (result_err answer)) c (λ rest is.
+    let none : rest ≡ [] = rw is at end in
+    record {
+      front = bytes;
+      rest = rest;
+      whole = refl;
+      leaves = is;
+      few = omega arith;
+      failed = λ _. few;
+      too_long = λ long. absurd (never_long answer h long);
+      ended = λ _ _. none;
+      memory = λ memory. rw (none, append-nil) (of_memory answer h memory);
+    })
   where
     never_long : (verdict : Result StatedOrder OrderFault) → IfErr verdict (λ fault. JudgesText bytes fault)
         → result_err verdict ≢ Some TooLong

@@ -31,7 +31,7 @@ lacks_rest : (c b : ℕ) (xs : List ℕ) → LacksByte c (b ∷ xs) → LacksByt
 lacks_rest c b xs lacks = (or_parts (b == c) (list_any (λ i. i == c) xs) lacks).1
 
 -- where a list without c goes on, a list that c ends behind no c ends there, or goes on so too
-pub ends_or_goes_on : (c b : ℕ) (front rest xs more : List ℕ) → LacksByte c front → front ++ b ∷ rest ≡ xs ++ c ∷ more
+ends_or_goes_on : (c b : ℕ) (front rest xs more : List ℕ) → LacksByte c front → front ++ b ∷ rest ≡ xs ++ c ∷ more
     → ((front ≡ xs) × (b ≡ c)) ⊎ ((x : List ℕ) × (xs ≡ front ++ b ∷ x))
 ends_or_goes_on c b [] rest [] more lacks e = inl (refl, cc)
 ends_or_goes_on c b [] rest (y ∷ xs) more lacks e = inr (xs, (let same : b ≡ y = cc in cc))
@@ -44,7 +44,7 @@ ends_or_goes_on c b (f ∷ front) rest (y ∷ xs) more lacks e =
     ]
 
 -- a list without c is none with it
-pub lacks_end : (xs ys : List ℕ) (c : ℕ) (rest : List ℕ) → LacksByte c xs → xs ≢ ys ++ c ∷ rest
+lacks_end : (xs ys : List ℕ) (c : ℕ) (rest : List ℕ) → LacksByte c xs → xs ≢ ys ++ c ∷ rest
 lacks_end xs ys c rest lacks e =
     let parts = or_parts _ _ (rw (e, list_any-append) at lacks) in
     not_first c c rest parts.1 refl
@@ -73,7 +73,7 @@ decimal_one m n p q e =
     let one = value_of_decimal m (omega arith) in let other = value_of_decimal n (omega arith) in cc
 
 -- a numeral that goes on is one of a number that isn't less
-pub decimal_front_le : (m n : ℕ) (x : List ℕ) → m < 10 ^ 20 → n < 10 ^ 18 → decimal n ≡ decimal m ++ x → m ≤ n
+decimal_front_le : (m n : ℕ) (x : List ℕ) → m < 10 ^ 20 → n < 10 ^ 18 → decimal n ≡ decimal m ++ x → m ≤ n
 decimal_front_le m n x p q e =
     let front : ℕ = length (decimal m) in
     let le : digits_value 10 (take front (decimal n)) ≤ digits_value 10 (decimal n) =
@@ -85,7 +85,7 @@ zero_text : decimal 0 ≡ 48 ∷ []
 zero_text = decimal_digit 0 (lit< tt)
 
 -- a numeral that begins with 0 is that of 0
-pub zero_alone : (n : ℕ) (x : List ℕ) → n < 10 ^ 18 → decimal n ≡ decimal 0 ++ x → n ≡ 0
+zero_alone : (n : ℕ) (x : List ℕ) → n < 10 ^ 18 → decimal n ≡ decimal 0 ++ x → n ≡ 0
 zero_alone n x h e = elim (cases_eq n 0) [
   | inl zero ↦ zero
   | inr some ↦
@@ -129,7 +129,7 @@ begins_numeral least most end n rest low high =
     (decimal n ++ end ∷ [], (rest, ((n, (low, high, refl)), sym (append_assoc (decimal n) (end ∷ []) rest))))
 
 -- what it says of a text that it begins with one
-pub numeral_begun : (least most end : ℕ) (text : List ℕ) → Begins (IsNumeral least most end) text
+numeral_begun : (least most end : ℕ) (text : List ℕ) → Begins (IsNumeral least most end) text
     → (n : ℕ) × ((rest : List ℕ) × ((least ≤ n) × (n ≤ most) × (text ≡ decimal n ++ end ∷ rest)))
 numeral_begun least most end text (p, (rest, ((n, (low, high, is)), e))) =
     (n, (rest, (low, high, rw (is, append_assoc (decimal n) (end ∷ []) rest) at e)))

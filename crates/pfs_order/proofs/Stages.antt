@@ -32,7 +32,8 @@ lines_of {text} {jobs} {machines} {makespan} h = h.spelled ∙ text_shape jobs m
 
 -- two first lines begin a text alike
 pub same_line : (count n : ℕ) (machines stated : Option ℕ) (rest other : List ℕ) → IsHead count machines
-    → IsHead n stated → counted count machines rest ≡ counted n stated other → (count ≡ n) × (machines ≡ stated) × (rest ≡ other)
+    → IsHead n stated → counted count machines rest ≡ counted n stated other
+    → (count ≡ n) × (machines ≡ stated) × (rest ≡ other)
 same_line count n machines stated rest other h k =
     same_head count machines rest other n stated (omega arith) (omega arith) h.stated k.stated
 
@@ -51,7 +52,7 @@ one_text {text} {jobs} {others} {machines} {stated} {makespan} {other} h k =
 
 module _ (count : ℕ) (machines : Option ℕ) where
   -- jobs and a makespan as a text
-  pub has_lines : (jobs : List ℕ) (makespan : ℕ) → AreJobs count machines jobs → makespan < 10 ^ 18
+  has_lines : (jobs : List ℕ) (makespan : ℕ) → AreJobs count machines jobs → makespan < 10 ^ 18
       → HasText (counted count machines (spaced jobs ++ 10 ∷ last_line makespan)) jobs machines makespan
   has_lines jobs makespan h small =
       let head = h.head in

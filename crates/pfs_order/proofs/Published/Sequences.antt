@@ -59,8 +59,8 @@ IsSequence-permutation size jobs others moved h = record {
   distinct = IsDistinct-IsPermutation eqb (λ x y. grind (arith, nat_tests)) jobs others moved h.distinct;
 }
 
-pub IsSequence-insert : (size place job : ℕ) (jobs : List ℕ) → job < size → (Contains jobs job → ⊥) → IsSequence size jobs
-    → IsSequence size (insert jobs place job)
+pub IsSequence-insert : (size place job : ℕ) (jobs : List ℕ) → job < size → (Contains jobs job → ⊥)
+    → IsSequence size jobs → IsSequence size (insert jobs place job)
 IsSequence-insert size place job jobs small absent h =
     IsSequence-permutation size (job ∷ jobs) (insert jobs place job) (IsPermutation-insert jobs place job)
     (IsSequence-cons size job jobs small absent h)

@@ -38,7 +38,8 @@ returns-then-end-text-clause-fault c =
     c.in_ok-at.at end c.in_ok-makespan.makespan c.requires.jobs c.in_ok-at.ensures.read small
     c.in_ok-makespan.ensures.read c.in_ok-makespan.ensures.within in
     let begun : IsText front = (jobs, (c.args.head.machines, (c.in_ok-makespan.makespan, has))) in
-    rw (size, ← drop_more text end 0 here, ← whole) at (more_fault front (drop (end + 1) text) (get_or text end 0) begun)
+    let fault = more_fault front (drop (end + 1) text) (get_or text end 0) begun in
+    rw (size, ← drop_more text end 0 here, ← whole) at fault
 
 pub returns-clause-read : goal.returns-clause-read
 returns-clause-read c =

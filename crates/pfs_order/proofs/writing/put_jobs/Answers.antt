@@ -10,8 +10,8 @@ numbers_of order = map (λ job. job + 1) order
 
 -- the line of the jobs goes on with the number of the job at a place
 line_goes_on : (order : List ℕ) (place job : ℕ) → place < length order → job ≡ get_or order place 0
-    → GoesOn (with_line_end (spaced (numbers_of order))) (spaced (take place (numbers_of order))) (entry place (job + 1))
-    (spaced (take (place + 1) (numbers_of order)))
+    → GoesOn (with_line_end (spaced (numbers_of order))) (spaced (take place (numbers_of order)))
+    (entry place (job + 1)) (spaced (take (place + 1) (numbers_of order)))
 line_goes_on order place job within is =
     let number : get_or (numbers_of order) place 0 ≡ job + 1 =
     rw (get_or-map (λ j. j + 1) order place 0 0 within, is) in
