@@ -33,6 +33,10 @@ lines_fit order count machines makespan e size sequence stated short =
     let first : List ℕ = first_line count machines in
     let written = written_file order machines makespan size sequence stated short in
     let is_text : IsText (file_text order machines makespan) = (_, (machines, (makespan, written.has_text))) in
-    omega (arith, text_fits (file_text order machines makespan) is_text,
+    omega (
+      arith,
+      text_fits (file_text order machines makespan) is_text,
       ap length (order_lines order count machines makespan e),
-      length-append (first ++ jobs_line order) (makespan_line makespan), length-append first (jobs_line order))
+      length-append (first ++ jobs_line order) (makespan_line makespan),
+      length-append first (jobs_line order),
+    )

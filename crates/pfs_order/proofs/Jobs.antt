@@ -1,6 +1,6 @@
 -- The jobs of a text of the grammar, read and judged place by place.
-use Rattle.std.proofs.Common.{◌≡◌, ℕ, ◌+◌, ◌-◌, ◌<◌, ◌≤◌, ◌^◌, ◌⊎◌, inl, inr, List, [], ◌∷◌, ◌++◌, suc, length, take}
-use Rattle.std.proofs.Common.{drop, map, get_or, Contains, refl, sym, ◌∙◌, ap, arith, below_more, Option}
+use Rattle.std.proofs.Common.{◌≡◌, ℕ, ◌+◌, ◌-◌, ◌<◌, ◌≤◌, ◌^◌, inl, inr, List, [], ◌∷◌, ◌++◌, suc, length, take}
+use Rattle.std.proofs.Common.{drop, map, get_or, Contains, refl, sym, ◌∙◌, arith, below_more, Option}
 use Rattle.std.specs.Fmt.{decimal}
 use Rattle.std.specs.Char.{digit_value}
 use Rattle.std.proofs.lemmas.List.{length-map, length-take-le, map-append, take_more, take_all, drop_more, get_or-map}
@@ -135,9 +135,19 @@ module _ (count : ℕ) (text : List ℕ) (at place : ℕ) (seq : Sequence) (h : 
         let same = job_is_read.0 in
         let size = judged_length (let lt = r.further in omega arith) in
         let sized = h.sized in
-        let every = h.every in
-        (h.jobs, (h.machines, (h.makespan, (h.has,
-          (place, (omega arith, right_before r.further, λ range. out (omega arith, omega arith)))))))
+        let every = h.every in (
+          h.jobs,
+          (
+            h.machines,
+            (
+              h.makespan,
+              (
+                h.has,
+                (place, (omega arith, right_before r.further, λ range. out (omega arith, omega arith))),
+              ),
+            ),
+          ),
+        )
     job_refused (Repeated p) (is, low, high, among) =
         let same = job_is_read.0 in
         let size = judged_length (let lt = r.further in omega arith) in
@@ -145,9 +155,19 @@ module _ (count : ℕ) (text : List ℕ) (at place : ℕ) (seq : Sequence) (h : 
         let every = h.every in
         let number_is : number - 1 + 1 ≡ get_or h.jobs place 0 = omega arith in
         let there : Contains (take place h.jobs) (get_or h.jobs place 0) =
-        rw h.taken (rw number_is at (contains_next seq.jobs (number - 1) among)) in
-        (h.jobs, (h.machines, (h.makespan, (h.has,
-          (place, (omega arith, right_before r.further, (omega arith, omega arith), there))))))
+        rw h.taken (rw number_is at (contains_next seq.jobs (number - 1) among)) in (
+          h.jobs,
+          (
+            h.machines,
+            (
+              h.makespan,
+              (
+                h.has,
+                (place, (omega arith, right_before r.further, (omega arith, omega arith), there)),
+              ),
+            ),
+          ),
+        )
     job_refused fault f = absurd f
 
     -- a job that is taken
@@ -188,6 +208,9 @@ module _ (count : ℕ) (text : List ℕ) (at place : ℕ) (seq : Sequence) (h : 
   judged_all is =
       let every = h.every in
       let size = judged_length (omega arith) in
-      let all : length seq.jobs ≡ count = omega arith in
-      (all ∙ sym h.sized, rw all h.sequence, λ jobs machines makespan has.
-          (one_text has h.has).0 ∙ sym (take_all place h.jobs (omega arith)) ∙ h.taken)
+      let all : length seq.jobs ≡ count = omega arith in (
+        all ∙ sym h.sized,
+        rw all h.sequence,
+        λ jobs machines makespan has.
+            (one_text has h.has).0 ∙ sym (take_all place h.jobs (omega arith)) ∙ h.taken,
+      )

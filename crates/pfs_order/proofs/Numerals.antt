@@ -173,15 +173,15 @@ module _ (least most end : ℕ) where
   numeral_fault number after h e stops =
       fault_where_front_ends (Begins (IsNumeral least most end)) (numeral_of number) after (numeral_completed number h)
       (λ none whole. let (n, (rest, (low, high, is))) = numeral_begun least most end _ whole in
-          lacks_end (numeral_of number) (decimal n) end rest (numeral_lacks number h e) is)
+      lacks_end (numeral_of number) (decimal n) end rest (numeral_lacks number h e) is)
       (λ b more rest at_byte longer.
-          let (n, (behind, (low, high, is))) = numeral_begun least most end _ longer in
-          let s = stops b more at_byte in
-          let below = h.high in
-          elim (ends_or_goes_on end b (numeral_of number) rest (decimal n) behind (numeral_lacks number h e) is) [
-            | inl w ↦ no_other_end number b n (omega arith) s.no_end w.0 w.1
-            | inr w ↦ s.no_digit n w.0 low high w.1
-          ])
+      let (n, (behind, (low, high, is))) = numeral_begun least most end _ longer in
+      let s = stops b more at_byte in
+      let below = h.high in
+      elim (ends_or_goes_on end b (numeral_of number) rest (decimal n) behind (numeral_lacks number h e) is) [
+        | inl w ↦ no_other_end number b n (omega arith) s.no_end w.0 w.1
+        | inr w ↦ s.no_digit n w.0 low high w.1
+      ])
 
   -- the same of a text and offsets
   pub numeral_fault_of_text : (number : Option ℕ) (text : List ℕ) (at next : ℕ) → IsWithin least most number
@@ -192,8 +192,13 @@ module _ (least most end : ℕ) where
   numeral_fault_of_text number text at next h e from to read stops = (
     length (numeral_of number),
     (
-      omega (arith, ap length read, length-append (numeral_of number) (drop next text), length-drop at text,
-        length-drop next text),
+      omega (
+        arith,
+        ap length read,
+        length-append (numeral_of number) (drop next text),
+        length-drop at text,
+        length-drop next text,
+      ),
       rw read (numeral_fault number (drop next text) h e stops),
     ),
   )

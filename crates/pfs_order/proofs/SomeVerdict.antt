@@ -1,6 +1,6 @@
 -- Each input is an order file or is refused.
-use Rattle.std.proofs.Common.{◌≡◌, ◌≢◌, ℕ, zero, suc, ◌+◌, ◌-◌, ◌<◌, ◌≤◌, ◌⊎◌, inl, inr, List, [], ◌∷◌, false, length}
-use Rattle.std.proofs.Common.{take, map, get_or, refl, sym, ◌∙◌, arith, eqb, below_more, Option}
+use Rattle.std.proofs.Common.{◌≡◌, ◌≢◌, ℕ, zero, suc, ◌+◌, ◌-◌, ◌<◌, ◌≤◌, ◌⊎◌, inl, inr, List, [], ◌∷◌, length}
+use Rattle.std.proofs.Common.{take, map, get_or, refl, ◌∙◌, arith, eqb, below_more, Option}
 use Rattle.std.specs.List.{All}
 use borrow.Author.Count.{below_none}
 use Rattle.std.proofs.lemmas.Bool.{cases_eq, cases_lt, ne_eqb}
@@ -106,7 +106,7 @@ right_order jobs h =
           i,
           omega (arith, length-take-le j jobs (omega arith)),
           get_or-take j jobs i (get_or jobs j 0) before ∙ get_or_default jobs i (get_or jobs j 0) 0 (omega arith)
-          ∙ equal,
+              ∙ equal,
         )
 
 -- ---- the verdict

@@ -1,6 +1,6 @@
 -- What each stage of reading a text wants: the piece that stands there, with which each text can be completed.
 use Rattle.std.proofs.Common.{◌≡◌, ℕ, ◌+◌, ◌-◌, ◌<◌, ◌≤◌, ◌^◌, List, [], ◌∷◌, ◌++◌, suc, length, drop, replicate, refl}
-use Rattle.std.proofs.Common.{sym, ◌∙◌, ap, arith, codes, lit≤, lit<, ◌≢◌, ◌⊎◌, inl, inr, get_or, Option, Some, None}
+use Rattle.std.proofs.Common.{sym, ◌∙◌, ap, arith, codes, lit≤, lit<, ◌≢◌, ◌⊎◌, inl, inr, Option, Some, None}
 use Rattle.std.specs.Fmt.{decimal}
 use Rattle.std.specs.List.{All}
 use Rattle.std.proofs.lemmas.List.{append_assoc, append_cancel_left, append-nil, length-append, length-drop}
@@ -250,24 +250,25 @@ module _ (count : ℕ) (machines : Option ℕ) (done : List ℕ) (among : IsAmon
       → Wants (counted count machines (before done [])) (IsNumeral 0 (10 ^ 9 - 1) end)
   wants_job end ends = wants_numeral _ 0 (10 ^ 9 - 1) end
       (λ t text.
-          let (job, (more, (line, (is, size, short)))) = next_job t (rw (counted-append, before-append) at text) in
-          rw (is, job_front job more line, ← end_is count (length done) end more ends size)
-          (begins_numeral 0 (10 ^ 9 - 1) end job (behind_job more line) (omega arith) (omega arith)))
+      let (job, (more, (line, (is, size, short)))) = next_job t (rw (counted-append, before-append) at text) in
+      rw (is, job_front job more line, ← end_is count (length done) end more ends size)
+      (begins_numeral 0 (10 ^ 9 - 1) end job (behind_job more line) (omega arith) (omega arith)))
       (λ job low high.
-          let fewer = among.fewer in
-          let more : List ℕ = replicate (count - length done - 1) 0 in
-          let others : length more ≡ count - length done - 1 = length-replicate (count - length done - 1) 0 in
-          let size : length done + suc (length more) ≡ count = omega arith in
-          let are : AreJobs count machines (done ++ job ∷ more) = record {
-            head = among.head;
-            short = All-append IsShort done (job ∷ more) among.short
-                (All-cons IsShort job more (omega arith) (All-replicate IsShort (count - length done - 1) 0 (lit< tt)));
-            every = length-append done (job ∷ more) ∙ size;
-          } in
-          let same_end = end_is count (length done) end more ends size in
-          (behind_job more (last_line 0),
-            rw (counted-append, before-append, same_end, ← job_front job more (last_line 0), before-spaced)
-            (text_of_lines count machines (done ++ job ∷ more) 0 are (lit< tt))))
+      let fewer = among.fewer in
+      let more : List ℕ = replicate (count - length done - 1) 0 in
+      let others : length more ≡ count - length done - 1 = length-replicate (count - length done - 1) 0 in
+      let size : length done + suc (length more) ≡ count = omega arith in
+      let are : AreJobs count machines (done ++ job ∷ more) = record {
+        head = among.head;
+        short = All-append IsShort done (job ∷ more) among.short
+            (All-cons IsShort job more (omega arith) (All-replicate IsShort (count - length done - 1) 0 (lit< tt)));
+        every = length-append done (job ∷ more) ∙ size;
+      } in
+      let same_end = end_is count (length done) end more ends size in (
+        behind_job more (last_line 0),
+        rw (counted-append, before-append, same_end, ← job_front job more (last_line 0), before-spaced)
+            (text_of_lines count machines (done ++ job ∷ more) 0 are (lit< tt)),
+      ))
 
 -- one job more, and the last one
 pub next_read : (count : ℕ) (machines : Option ℕ) (job : ℕ) (done text : List ℕ) (at next : ℕ)
@@ -287,20 +288,20 @@ module _ (count : ℕ) (machines : Option ℕ) (jobs : List ℕ) (are : AreJobs 
   pub wants_makespan_name : Wants (counted count machines (spaced jobs ++ 10 ∷ [])) (IsWord (codes "makespan "))
   wants_makespan_name = wants_word _ (codes "makespan ")
       (λ t text.
-          let behind = rw (counted-append, append_assoc) at text in
-          let (makespan, (small, is)) = behind_jobs count machines jobs t are behind in
-          (decimal makespan ++ 10 ∷ [], is))
+      let behind = rw (counted-append, append_assoc) at text in
+      let (makespan, (small, is)) = behind_jobs count machines jobs t are behind in
+      (decimal makespan ++ 10 ∷ [], is))
       (decimal 0 ++ 10 ∷ [], rw (counted-append, append_assoc) (text_of_lines count machines jobs 0 are (lit< tt)))
 
   pub wants_makespan :
       Wants (counted count machines (spaced jobs ++ 10 ∷ codes "makespan ")) (IsNumeral 0 (10 ^ 18 - 1) 10)
   wants_makespan = wants_numeral _ 0 (10 ^ 18 - 1) 10
       (λ t text.
-          let behind = rw (counted-append, append_assoc) at text in
-          let (makespan, (small, is)) = behind_jobs count machines jobs (codes "makespan " ++ t) are behind in
-          begins_behind (codes "makespan ") t 0 (10 ^ 18 - 1) 10 makespan [] (omega arith) (omega arith) is)
+      let behind = rw (counted-append, append_assoc) at text in
+      let (makespan, (small, is)) = behind_jobs count machines jobs (codes "makespan " ++ t) are behind in
+      begins_behind (codes "makespan ") t 0 (10 ^ 18 - 1) 10 makespan [] (omega arith) (omega arith) is)
       (λ makespan low high.
-          ([], rw (counted-append, append_assoc) (text_of_lines count machines jobs makespan are (omega arith))))
+      ([], rw (counted-append, append_assoc) (text_of_lines count machines jobs makespan are (omega arith))))
 
 -- behind the last line stands nothing
 pub text_ends : (text more : List ℕ) (b : ℕ) → IsText text → ¬ IsText (text ++ b ∷ more)

@@ -11,7 +11,7 @@ use Rattle.std.proofs.lemmas.List.Elements.{All-nil, All-push}
 use Rattle.pfs_base.specs.declared.limits.TheConstants.{MOST_JOBS, MOST_MACHINES}
 use Rattle.pfs_base.specs.Text.{spaced}
 use Rattle.pfs_order.specs.OrderFile.{IsText, IsFaultOf, IsSyntaxFault}
-use Rattle.pfs_order.specs.Pieces.{Begins, IsWord, IsNumeral, numeral_of, IsHead, opening, count_end, counted}
+use Rattle.pfs_order.specs.Pieces.{Begins, IsWord, IsNumeral, numeral_of, IsHead, opening, counted}
 use Rattle.pfs_order.specs.Pieces.{last_line, AreJobs}
 use Rattle.pfs_order.specs.declared.reading.Version.{Version}
 use Rattle.pfs_order.specs.declared.reading.Version.TheVariants.{One, Two}
@@ -229,8 +229,11 @@ version_from (b ∷ rest) = elim (cases_eq b 32) [
   | inl space ↦ rw space (count_from One rest)
   | inr other ↦ elim (cases_eq b 50) [
     | inl two ↦ rw two (second rest)
-    | inr neither ↦ inr (5, version_fault (b ∷ rest)
-        (λ c more is. let first : b ≡ c = cc in (λ space. other (cc), λ two. neither (cc))))
+    | inr neither ↦ inr (
+      5,
+      version_fault (b ∷ rest)
+          (λ c more is. let first : b ≡ c = cc in (λ space. other (cc), λ two. neither (cc))),
+    )
   ]
 ]
   where

@@ -16,12 +16,12 @@ word_fault front more after c other =
     fault_where_front_ends (Begins (IsWord word)) front after
     (c ∷ more, (word, ([], (refl, sym (append-nil word)))))
     (λ none begun.
-        let (p, (rest, (is, e))) = begun in
-        absurd (omega (arith, ap length (rw is at e), length-append word rest, length-append front (c ∷ more))))
+    let (p, (rest, (is, e))) = begun in
+    absurd (omega (arith, ap length (rw is at e), length-append word rest, length-append front (c ∷ more))))
     (λ b bs rest at_byte begun.
-        let (p, (behind, (is, e))) = begun in
-        let same = append_cancel_left front (b ∷ rest) (c ∷ more ++ behind) (rw (is, append_assoc) at e) in
-        other b bs at_byte (cc))
+    let (p, (behind, (is, e))) = begun in
+    let same = append_cancel_left front (b ∷ rest) (c ∷ more ++ behind) (rw (is, append_assoc) at e) in
+    other b bs at_byte (cc))
 
 -- the same of a text and offsets
 pub word_fault_of_text : (word text : List ℕ) (at next i : ℕ) → next ≡ at + i → i < length word

@@ -1,5 +1,5 @@
 -- One input, one answer.
-use Rattle.std.proofs.Common.{◌≡◌, ℕ, ◌+◌, ◌-◌, ◌*◌, ◌<◌, ◌≤◌, ◌^◌, ◌⊎◌, inl, inr, List, [], ◌∷◌, ◌++◌, true, false}
+use Rattle.std.proofs.Common.{◌≡◌, ℕ, ◌+◌, ◌-◌, ◌*◌, ◌<◌, ◌≤◌, ◌^◌, ◌⊎◌, inl, inr, List, [], ◌∷◌, ◌++◌}
 use Rattle.std.proofs.Common.{length, take, drop, map, get_or, refl, sym, ◌∙◌, ap, arith, lit≤, lit<, eqb, Option}
 use Rattle.std.proofs.Common.{Some, None}
 use Rattle.std.specs.Fmt.{decimal}
@@ -47,16 +47,27 @@ length-counted count None rest h =
 length-counted count (Some m) rest h =
     let few = h.stated.1 in
     let line : List ℕ = decimal m ++ 10 ∷ rest in
-    omega (arith, length-decimal count (omega arith), length-decimal m (omega arith),
-      length-append (decimal count) (32 ∷ line), length-append (decimal m) (10 ∷ rest))
+    omega (
+      arith,
+      length-decimal count (omega arith),
+      length-decimal m (omega arith),
+      length-append (decimal count) (32 ∷ line),
+      length-append (decimal m) (10 ∷ rest),
+    )
 
 pub text_fits : (text : List ℕ) → IsText text → length text ≤ LONGEST_ORDER_FILE
 text_fits text (jobs, (machines, (makespan, h))) =
     let few = h.few_jobs in
     let rest : List ℕ = spaced jobs ++ 10 ∷ last_line makespan in
-    omega (arith, ap length (lines_of h), length-counted (length jobs) machines rest (head_of h),
-      length-append (spaced jobs) (10 ∷ last_line makespan), length-spaced jobs h.short_jobs,
-      length-append (decimal makespan) (10 ∷ []), length-decimal makespan h.short_makespan)
+    omega (
+      arith,
+      ap length (lines_of h),
+      length-counted (length jobs) machines rest (head_of h),
+      length-append (spaced jobs) (10 ∷ last_line makespan),
+      length-spaced jobs h.short_jobs,
+      length-append (decimal makespan) (10 ∷ []),
+      length-decimal makespan h.short_makespan,
+    )
 
 -- ---- cut texts
 
@@ -68,7 +79,7 @@ cut_fault text cut h lt =
     let whole : IsText (front ++ byte ∷ rest) = rw (← drop_more text cut 0 lt, take-append-drop) h in
     let size : length front ≡ cut = length-take-le cut text (omega arith) in
     rw (append-nil front, size) at (fault_where_front_ends IsText front [] (byte ∷ rest, whole)
-      (λ _ short. text_ends front rest byte short whole) (λ b more rest e. absurd (cc)))
+    (λ _ short. text_ends front rest byte short whole) (λ b more rest e. absurd (cc)))
 
 -- ---- faults of jobs
 

@@ -1,6 +1,6 @@
 -- Sequences under edits.
 use Rattle.std.proofs.Common.{◌≡◌, ℕ, zero, suc, ◌+◌, ◌<◌, ◌≤◌, ◌++◌, refl, List, [], ◌∷◌, length, filter, not}
-use Rattle.std.proofs.Common.{inl, inr, Contains, eqb, false, true, insert, remove, get_or, sym, ◌∙◌, arith}
+use Rattle.std.proofs.Common.{inl, inr, Contains, eqb, false, insert, remove, get_or, sym, ◌∙◌, arith}
 use Rattle.std.specs.List.{IsDistinct, list_any, range_with_len}
 use Rattle.std.specs.List.Sorted.{IsPermutation}
 use Rattle.std.specs.Cmp.{nat_eq_equiv}
@@ -29,7 +29,7 @@ pub IsSequence-cons : (size job : ℕ) (jobs : List ℕ) → job < size → (Con
     → IsSequence size (job ∷ jobs)
 IsSequence-cons size job jobs small absent h =
     let others = recursion_from_All (λ j. eqb job j ≡ false) jobs (λ k d lt.
-        ne_eqb job (get_or jobs k d) (λ same. absent (k, lt, get_or_default jobs k job d lt ∙ sym same))) in
+    ne_eqb job (get_or jobs k d) (λ same. absent (k, lt, get_or_default jobs k job d lt ∙ sym same))) in
     record {
       in_range = All-cons (λ j. j < size) job jobs small h.in_range;
       distinct = IsDistinct-cons eqb job jobs others h.distinct;

@@ -23,7 +23,7 @@ pub returns-in_err-add_job-clause-fault : goal.returns-in_err-add_job-clause-fau
 returns-in_err-add_job-clause-fault c =
     let p = err_from_is_err_and c.from_residual-in_err-add_job.result c.from_residual-in_err-add_job.ensures.1 in
     let next : IsNextJob c.args.head.jobs c.args.text.now c.loop-place.at c.loop-place.place c.if-place-head.end
-        c.in_ok-number.number c.in_ok-number.next = record {
+    c.in_ok-number.number c.in_ok-number.next = record {
       further = c.loop-place-test.true;
       ends = elim c.if-place-head.branch [
         | then-place-head w ↦ inl (w.if-place-head.true, w.end-is)
@@ -38,7 +38,7 @@ returns-in_err-add_job-clause-fault c =
 pub loop-place-preserved : goal.loop-place-preserved
 loop-place-preserved c =
     let next : IsNextJob c.args.head.jobs c.args.text.now c.loop-place.at c.loop-place.place c.if-place-head.end
-        c.in_ok-number.number c.in_ok-number.next = record {
+    c.in_ok-number.number c.in_ok-number.next = record {
       further = c.loop-place-test.true;
       ends = elim c.if-place-head.branch [
         | then-place-head w ↦ inl (w.if-place-head.true, w.end-is)

@@ -1,4 +1,4 @@
-use Rattle.std.proofs.Common.{◌≡◌, ◌≢◌, ℕ, ◌+◌, ◌<◌, ◌≤◌, List, [], ◌∷◌, ◌++◌, length, drop, get_or, refl, sym, ◌∙◌, ap}
+use Rattle.std.proofs.Common.{◌≡◌, ◌≢◌, ℕ, ◌+◌, ◌<◌, ◌≤◌, List, [], ◌∷◌, ◌++◌, length, drop, get_or, refl, ◌∙◌, ap}
 use Rattle.std.proofs.Common.{arith, codes}
 use Rattle.std.proofs.lemmas.List.{drop_all, drop_more}
 use Rattle.std.proofs.lemmas.Result.{err_from_is_err_and}
@@ -41,5 +41,5 @@ returns-in_default-clause-fault c =
     let other : at ≢ length text = c.if-at-text.false in
     let here : at < length text = omega arith in
     version_fault_of_text text at c.in_ok-at.ensures.within c.in_ok-at.ensures.read (λ b more e.
-        let byte : get_or text at 0 ≡ b = cc (drop_more text at 0 here) in
-        (λ space. absurd (omega arith), λ two. absurd (omega arith)))
+    let byte : get_or text at 0 ≡ b = cc (drop_more text at 0 here) in
+    (λ space. absurd (omega arith), λ two. absurd (omega arith)))

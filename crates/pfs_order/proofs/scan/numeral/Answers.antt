@@ -1,7 +1,6 @@
-use Rattle.std.proofs.Common.{◌≡◌, ◌≢◌, ℕ, ◌<◌, ◌+◌, subst, List, [], ◌++◌, ◌∷◌, length, drop, get_or, ap, sym, arith}
+use Rattle.std.proofs.Common.{◌≡◌, ℕ, subst, List, [], ◌++◌, ◌∷◌, length, drop, get_or, ap, sym, arith}
 use Rattle.std.proofs.Common.{◌∙◌, Some, None}
 use Rattle.std.proofs.lemmas.List.{drop_all, drop_more}
-use Rattle.std.specs.Option.{ForSome}
 use Rattle.pfs_order.specs.Pieces.{numeral_of}
 use Rattle.pfs_order.proofs.Numerals.{Stops, numeral_fault_of_text}
 use Rattle.pfs_order.proofs.scan.numeral.Goals as goal
@@ -26,8 +25,8 @@ returns-in-None-clause-fault c =
     } in
     numeral_fault_of_text c.args.least c.args.most c.args.end c.loop-next.number text c.args.at next
     c.loop-next.invariant.number c.requires.end c.requires.at (omega arith) c.loop-next.invariant.read (λ b more e.
-        let first : byte ≡ b = cc (drop_more text next 0 (omega arith)) in
-        subst (Stops c.args.least c.args.most c.args.end c.loop-next.number) first stops)
+    let first : byte ≡ b = cc (drop_more text next 0 (omega arith)) in
+    subst (Stops c.args.least c.args.most c.args.end c.loop-next.number) first stops)
 
 pub returns-clause-fault : goal.returns-clause-fault
 returns-clause-fault c =

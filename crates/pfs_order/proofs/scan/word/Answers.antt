@@ -1,4 +1,4 @@
-use Rattle.std.proofs.Common.{◌≡◌, ◌≢◌, ℕ, ◌<◌, ◌+◌, List, [], ◌∷◌, length, drop, get_or, arith}
+use Rattle.std.proofs.Common.{◌≡◌, ◌≢◌, ℕ, List, ◌∷◌, drop, get_or, arith}
 use Rattle.std.proofs.lemmas.List.{drop_all, drop_more}
 use Rattle.pfs_order.proofs.Words.{word_fault_of_text}
 use Rattle.pfs_order.proofs.scan.word.Goals as goal

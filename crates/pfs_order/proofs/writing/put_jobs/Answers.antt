@@ -1,4 +1,4 @@
-use Rattle.std.proofs.Common.{rules, ◌+◌, ◌≡◌, ◌<◌, ℕ, List, length, map, take, get_or, arith, ap}
+use Rattle.std.proofs.Common.{rules, ◌+◌, ◌≡◌, ◌<◌, ℕ, List, length, map, take, get_or, arith}
 use Rattle.std.proofs.lemmas.List.{length-map, get_or-map}
 use Rattle.pfs_base.specs.Text.{spaced, entry, with_line_end}
 use Rattle.pfs_base.proofs.Published.SendsOn.{GoesOn, goes_on-fits, goes_on-more, goes_on-stopped}
