@@ -11,7 +11,8 @@ use Rattle.pfs_order.specs.declared.fault.OrderFault.{OrderFault}
 use Rattle.pfs_order.specs.declared.fault.OrderFault.TheVariants.{Syntax, JobRange, Repeated}
 use Rattle.pfs_base.specs.Text.{spaced}
 use Rattle.pfs_order.specs.Sequence.{Sequence, IsSequence}
-use Rattle.pfs_order.specs.OrderFile.{HasText, IsText, IsJob, IsRepeated, AreRightBefore}
+use Rattle.pfs_order.specs.OrderFile.{HasText, IsText, IsJob, IsRepeated, AreRightBefore, IsJobFault}
+use Rattle.pfs_order.specs.OrderFile.{HasJobFault}
 use Rattle.pfs_order.specs.Pieces.{IsNumeral, IsPieceFault, RefusesJob, RefusesJobs, IsHead, counted, last_line}
 use Rattle.pfs_order.proofs.Numerals.{begins_numeral}
 use Rattle.pfs_order.proofs.OrderTexts.{IsShort, same_number, ten_10, ten_32, job_front, behind_job}
@@ -90,6 +91,10 @@ module _ (count : ℕ) (text : List ℕ) (at place : ℕ) (seq : Sequence) (h : 
   right_before lt =
       let every = h.every in record { within = omega arith; in_range = h.in_range; distinct = h.distinct }
 
+  -- a fault of the jobs is one of the text
+  job_fault : (fault : OrderFault) → IsJobFault h.jobs fault → HasJobFault text fault
+  job_fault fault f = (h.jobs, (h.machines, (h.makespan, (h.has, f))))
+
   -- what stands at the place
   job_stands : (end : ℕ) → place < count → EndsJob count place end
       → drop at text
@@ -135,19 +140,8 @@ module _ (count : ℕ) (text : List ℕ) (at place : ℕ) (seq : Sequence) (h : 
         let same = job_is_read.0 in
         let size = judged_length (let lt = r.further in omega arith) in
         let sized = h.sized in
-        let every = h.every in (
-          h.jobs,
-          (
-            h.machines,
-            (
-              h.makespan,
-              (
-                h.has,
-                (place, (omega arith, right_before r.further, λ range. out (omega arith, omega arith))),
-              ),
-            ),
-          ),
-        )
+        let every = h.every in
+        job_fault (JobRange p) (place, (omega arith, right_before r.further, λ range. out (omega arith, omega arith)))
     job_refused (Repeated p) (is, low, high, among) =
         let same = job_is_read.0 in
         let size = judged_length (let lt = r.further in omega arith) in
@@ -155,19 +149,8 @@ module _ (count : ℕ) (text : List ℕ) (at place : ℕ) (seq : Sequence) (h : 
         let every = h.every in
         let number_is : number - 1 + 1 ≡ get_or h.jobs place 0 = omega arith in
         let there : Contains (take place h.jobs) (get_or h.jobs place 0) =
-        rw h.taken (rw number_is at (contains_next seq.jobs (number - 1) among)) in (
-          h.jobs,
-          (
-            h.machines,
-            (
-              h.makespan,
-              (
-                h.has,
-                (place, (omega arith, right_before r.further, (omega arith, omega arith), there)),
-              ),
-            ),
-          ),
-        )
+        rw h.taken (rw number_is at (contains_next seq.jobs (number - 1) among)) in
+        job_fault (Repeated p) (place, (omega arith, right_before r.further, (omega arith, omega arith), there))
     job_refused fault f = absurd f
 
     -- a job that is taken
@@ -208,9 +191,6 @@ module _ (count : ℕ) (text : List ℕ) (at place : ℕ) (seq : Sequence) (h : 
   judged_all is =
       let every = h.every in
       let size = judged_length (omega arith) in
-      let all : length seq.jobs ≡ count = omega arith in (
-        all ∙ sym h.sized,
-        rw all h.sequence,
-        λ jobs machines makespan has.
-            (one_text has h.has).0 ∙ sym (take_all place h.jobs (omega arith)) ∙ h.taken,
-      )
+      let all : length seq.jobs ≡ count = omega arith in
+      let whole : h.jobs ≡ map (λ job. job + 1) seq.jobs = rw (take_all place h.jobs (omega arith)) at h.taken in
+      (all ∙ sym h.sized, rw all h.sequence, λ jobs machines makespan has. (one_text has h.has).0 ∙ whole)

@@ -229,11 +229,7 @@ version_from (b ∷ rest) = elim (cases_eq b 32) [
   | inl space ↦ rw space (count_from One rest)
   | inr other ↦ elim (cases_eq b 50) [
     | inl two ↦ rw two (second rest)
-    | inr neither ↦ inr (
-      5,
-      version_fault (b ∷ rest)
-          (λ c more is. let first : b ≡ c = cc in (λ space. other (cc), λ two. neither (cc))),
-    )
+    | inr neither ↦ inr (5, version_fault (b ∷ rest) (λ c more is. (λ space. other (cc), λ two. neither (cc))))
   ]
 ]
   where
