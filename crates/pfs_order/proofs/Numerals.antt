@@ -1,7 +1,7 @@
 -- Numerals, and how they go on.
 use Rattle.std.proofs.Common.{◌≡◌, ◌≢◌, ℕ, ◌+◌, ◌*◌, ◌<◌, ◌≤◌, ◌^◌, ◌/◌, ◌%◌, ◌⊎◌, inl, inr, false, ◌==◌, List, []}
 use Rattle.std.proofs.Common.{◌∷◌, ◌++◌, length, take, drop, get_or, refl, sym, ap, arith, lit≤, lit<}
-use Rattle.std.proofs.Common.{Option, Some, None}
+use Rattle.std.proofs.Common.{◌∙◌, Option, Some, None}
 use Rattle.std.specs.Fmt.{decimal}
 use Rattle.std.specs.Char.{digit_value}
 use Rattle.std.specs.List.{list_any}
@@ -189,16 +189,8 @@ module _ (least most end : ℕ) where
       → drop at text ≡ numeral_of number ++ drop next text
       → ((b : ℕ) (more : List ℕ) → drop next text ≡ b ∷ more → Stops least most end number b)
       → IsPieceFault (IsNumeral least most end) text at (Syntax next)
-  numeral_fault_of_text number text at next h e from to read stops = (
-    length (numeral_of number),
-    (
-      omega (
-        arith,
-        ap length read,
-        length-append (numeral_of number) (drop next text),
-        length-drop at text,
-        length-drop next text,
-      ),
-      rw read (numeral_fault number (drop next text) h e stops),
-    ),
-  )
+  numeral_fault_of_text number text at next h e from to read stops =
+      let before = length-drop at text in
+      let behind = length-drop next text in
+      let size = ap length read ∙ length-append (numeral_of number) (drop next text) in
+      (length (numeral_of number), (omega arith, rw read (numeral_fault number (drop next text) h e stops)))

@@ -102,12 +102,9 @@ right_order jobs h =
         let second = h.in_range j lt in
         let equal : get_or jobs i 0 ≡ get_or jobs j 0 =
         omega (arith, first.0, second.0, lowered_at i d (omega arith), lowered_at j d lt) in
-        h.distinct j lt (
-          i,
-          omega (arith, length-take-le j jobs (omega arith)),
-          get_or-take j jobs i (get_or jobs j 0) before ∙ get_or_default jobs i (get_or jobs j 0) 0 (omega arith)
-              ∙ equal,
-        )
+        let taken = get_or-take j jobs i (get_or jobs j 0) before in
+        let there = taken ∙ get_or_default jobs i (get_or jobs j 0) 0 (omega arith) ∙ equal in
+        h.distinct j lt (i, omega (arith, length-take-le j jobs (omega arith)), there)
 
 -- ---- the verdict
 

@@ -248,27 +248,33 @@ module _ (count : ℕ) (machines : Option ℕ) (done : List ℕ) (among : IsAmon
   -- behind the first line and some jobs, but not all, stands a job
   pub wants_job : (end : ℕ) → EndsJob count (length done) end
       → Wants (counted count machines (before done [])) (IsNumeral 0 (10 ^ 9 - 1) end)
-  wants_job end ends = wants_numeral _ 0 (10 ^ 9 - 1) end
-      (λ t text.
-      let (job, (more, (line, (is, size, short)))) = next_job t (rw (counted-append, before-append) at text) in
-      rw (is, job_front job more line, ← end_is count (length done) end more ends size)
-      (begins_numeral 0 (10 ^ 9 - 1) end job (behind_job more line) (omega arith) (omega arith)))
-      (λ job low high.
-      let fewer = among.fewer in
-      let more : List ℕ = replicate (count - length done - 1) 0 in
-      let others : length more ≡ count - length done - 1 = length-replicate (count - length done - 1) 0 in
-      let size : length done + suc (length more) ≡ count = omega arith in
-      let are : AreJobs count machines (done ++ job ∷ more) = record {
-        head = among.head;
-        short = All-append IsShort done (job ∷ more) among.short
-            (All-cons IsShort job more (omega arith) (All-replicate IsShort (count - length done - 1) 0 (lit< tt)));
-        every = length-append done (job ∷ more) ∙ size;
-      } in
-      let same_end = end_is count (length done) end more ends size in (
-        behind_job more (last_line 0),
-        rw (counted-append, before-append, same_end, ← job_front job more (last_line 0), before-spaced)
-            (text_of_lines count machines (done ++ job ∷ more) 0 are (lit< tt)),
-      ))
+  wants_job end ends = wants_numeral (counted count machines (before done [])) 0 (10 ^ 9 - 1) end begins goes_on
+    where
+      begins : (t : List ℕ) → IsText (counted count machines (before done []) ++ t)
+          → Begins (IsNumeral 0 (10 ^ 9 - 1) end) t
+      begins t text =
+          let (job, (more, (line, (is, size, short)))) = next_job t (rw (counted-append, before-append) at text) in
+          rw (is, job_front job more line, ← end_is count (length done) end more ends size)
+          (begins_numeral 0 (10 ^ 9 - 1) end job (behind_job more line) (omega arith) (omega arith))
+
+      -- the others have the number 0
+      goes_on : (job : ℕ) → 0 ≤ job → job ≤ 10 ^ 9 - 1
+          → (rest : List ℕ) × IsText (counted count machines (before done []) ++ (decimal job ++ end ∷ rest))
+      goes_on job low high =
+          let fewer = among.fewer in
+          let others : ℕ = count - length done - 1 in
+          let more : List ℕ = replicate others 0 in
+          let size : length done + suc (length more) ≡ count = omega (arith, length-replicate {A = ℕ} others 0) in
+          let zeros = All-cons IsShort job more (omega arith) (All-replicate IsShort others 0 (lit< tt)) in
+          let are : AreJobs count machines (done ++ job ∷ more) = record {
+            head = among.head;
+            short = All-append IsShort done (job ∷ more) among.short zeros;
+            every = length-append done (job ∷ more) ∙ size;
+          } in
+          let whole = text_of_lines count machines (done ++ job ∷ more) 0 are (lit< tt) in
+          let front = job_front job more (last_line 0) in
+          let same_end = end_is count (length done) end more ends size in
+          (behind_job more (last_line 0), rw (counted-append, before-append, same_end, ← front, before-spaced) whole)
 
 -- one job more, and the last one
 pub next_read : (count : ℕ) (machines : Option ℕ) (job : ℕ) (done text : List ℕ) (at next : ℕ)
@@ -286,22 +292,32 @@ last_read count machines job done text at next e numeral =
 
 module _ (count : ℕ) (machines : Option ℕ) (jobs : List ℕ) (are : AreJobs count machines jobs) where
   pub wants_makespan_name : Wants (counted count machines (spaced jobs ++ 10 ∷ [])) (IsWord (codes "makespan "))
-  wants_makespan_name = wants_word _ (codes "makespan ")
-      (λ t text.
-      let behind = rw (counted-append, append_assoc) at text in
-      let (makespan, (small, is)) = behind_jobs count machines jobs t are behind in
-      (decimal makespan ++ 10 ∷ [], is))
-      (decimal 0 ++ 10 ∷ [], rw (counted-append, append_assoc) (text_of_lines count machines jobs 0 are (lit< tt)))
+  wants_makespan_name = record {
+    begins = λ t text.
+        let behind = rw (counted-append, append_assoc) at text in
+        let (makespan, (small, is)) = behind_jobs count machines jobs t are behind in
+        (codes "makespan ", (decimal makespan ++ 10 ∷ [], (refl, is)));
+    goes_on = λ p is.
+        let whole = text_of_lines count machines jobs 0 are (lit< tt) in
+        (decimal 0 ++ 10 ∷ [], rw (is, append_assoc, counted-append, append_assoc) whole);
+  }
 
   pub wants_makespan :
       Wants (counted count machines (spaced jobs ++ 10 ∷ codes "makespan ")) (IsNumeral 0 (10 ^ 18 - 1) 10)
-  wants_makespan = wants_numeral _ 0 (10 ^ 18 - 1) 10
-      (λ t text.
-      let behind = rw (counted-append, append_assoc) at text in
-      let (makespan, (small, is)) = behind_jobs count machines jobs (codes "makespan " ++ t) are behind in
-      begins_behind (codes "makespan ") t 0 (10 ^ 18 - 1) 10 makespan [] (omega arith) (omega arith) is)
-      (λ makespan low high.
-      ([], rw (counted-append, append_assoc) (text_of_lines count machines jobs makespan are (omega arith))))
+  wants_makespan =
+      wants_numeral (counted count machines (spaced jobs ++ 10 ∷ codes "makespan ")) 0 (10 ^ 18 - 1) 10 begins goes_on
+    where
+      begins : (t : List ℕ) → IsText (counted count machines (spaced jobs ++ 10 ∷ codes "makespan ") ++ t)
+          → Begins (IsNumeral 0 (10 ^ 18 - 1) 10) t
+      begins t text =
+          let behind = rw (counted-append, append_assoc) at text in
+          let (makespan, (small, is)) = behind_jobs count machines jobs (codes "makespan " ++ t) are behind in
+          begins_behind (codes "makespan ") t 0 (10 ^ 18 - 1) 10 makespan [] (omega arith) (omega arith) is
+
+      goes_on : (makespan : ℕ) → 0 ≤ makespan → makespan ≤ 10 ^ 18 - 1 → (rest : List ℕ)
+          × IsText (counted count machines (spaced jobs ++ 10 ∷ codes "makespan ") ++ (decimal makespan ++ 10 ∷ rest))
+      goes_on makespan low high =
+          ([], rw (counted-append, append_assoc) (text_of_lines count machines jobs makespan are (omega arith)))
 
 -- behind the last line stands nothing
 pub text_ends : (text more : List ℕ) (b : ℕ) → IsText text → ¬ IsText (text ++ b ∷ more)

@@ -4,7 +4,7 @@ use Rattle.std.proofs.lemmas.List.{length-append}
 use Rattle.std.proofs.lemmas.List.Elements.{All-push}
 use Rattle.std.proofs.lemmas.Result.{err_from_is_err_and}
 use Rattle.pfs_order.specs.declared.fault.OrderFault.{OrderFault}
-use Rattle.pfs_order.specs.Pieces.{IsNumeral, IsPieceFault, SaysSyntax, counted}
+use Rattle.pfs_order.specs.Pieces.{IsNumeral, IsPieceFault, SaysSyntax, AreJobs, counted}
 use Rattle.pfs_order.proofs.Faults.{wanted_says_syntax}
 use Rattle.pfs_order.proofs.OrderTexts.{IsShort, before, counted-append, before-append}
 use Rattle.pfs_order.proofs.Stages.{IsAmongJobs, EndsJob, wants_job, next_read, last_read}
@@ -32,16 +32,11 @@ loop-place-preserved c =
     let (done, (short, counted, read)) = c.loop-place.invariant.read in
     let job : ℕ = c.in_ok-next.field-0-0 in
     let small : IsShort job = omega (arith, c.in_ok-next.ensures.in_range.1) in
+    let size = length-append done (job ∷ []) in
+    let on = next_read _ _ job done c.args.text.now c.loop-place.at c.in_ok-next.next read c.in_ok-next.ensures.read in
     record {
       within = c.in_ok-next.ensures.within;
-      read = (
-        done ++ job ∷ [],
-        (
-          All-push IsShort done job short small,
-          omega (arith, length-append done (job ∷ [])),
-          next_read _ _ job done c.args.text.now c.loop-place.at c.in_ok-next.next read c.in_ok-next.ensures.read,
-        ),
-      );
+      read = (done ++ job ∷ [], (All-push IsShort done job short small, omega (arith, size), on));
     }
 
 pub returns-in_err-next-2-clause-fault : goal.returns-in_err-next-2-clause-fault
@@ -56,14 +51,11 @@ pub returns-clause-read : goal.returns-clause-read
 returns-clause-read c =
     let (done, (short, counted, read)) = c.loop-place.invariant.read in
     let job : ℕ = c.in_ok-next-2.field-0-0 in
-    let small : IsShort job = omega (arith, c.in_ok-next-2.ensures.in_range.1) in (
-      done ++ job ∷ [],
-      (
-        record {
-          head = c.requires.head;
-          short = All-push IsShort done job short small;
-          every = omega (arith, length-append done (job ∷ []));
-        },
-        last_read _ _ job done c.args.text.now c.loop-place.at c.in_ok-next-2.next read c.in_ok-next-2.ensures.read,
-      ),
-    )
+    let small : IsShort job = omega (arith, c.in_ok-next-2.ensures.in_range.1) in
+    let are : AreJobs c.args.head.jobs c.args.head.machines (done ++ job ∷ []) = record {
+      head = c.requires.head;
+      short = All-push IsShort done job short small;
+      every = omega (arith, length-append done (job ∷ []));
+    } in
+    let text : List ℕ = c.args.text.now in
+    (done ++ job ∷ [], (are, last_read _ _ job done text c.loop-place.at _ read c.in_ok-next-2.ensures.read))
