@@ -10,13 +10,16 @@ use Rattle.pfs_order.specs.OrderFile.{IsFaultOf, IsSyntaxFault, IsText, CanBeCom
 use Rattle.pfs_order.specs.Pieces.{Begins, IsPieceFault, SaysSyntax}
 
 -- of two fronts of one list, one begins the other
-split_either : (a b c d : List ℕ) → a ++ b ≡ c ++ d
+one_begins_other : (a b c d : List ℕ) → a ++ b ≡ c ++ d
     → ((x : List ℕ) × (c ≡ a ++ x)) ⊎ ((x : List ℕ) × (a ≡ c ++ x))
-split_either [] b c d e = inl (c, refl)
-split_either (h ∷ a) b [] d e = inr (h ∷ a, refl)
-split_either (h ∷ a) b (k ∷ c) d e =
+one_begins_other [] b c d e = inl (c, refl)
+one_begins_other (h ∷ a) b [] d e = inr (h ∷ a, refl)
+one_begins_other (h ∷ a) b (k ∷ c) d e =
     let same : h ≡ k = cc in
-    elim (split_either a b c d (cc)) [ inl w ↦ (let f = w.1 in inl (w.0, cc)) | inr w ↦ (let f = w.1 in inr (w.0, cc)) ]
+    elim (one_begins_other a b c d (cc)) [
+      | inl w ↦ (let f = w.1 in inl (w.0, cc))
+      | inr w ↦ (let f = w.1 in inr (w.0, cc))
+    ]
 
 -- a longer front of two lists joined, where the second begins with a byte
 longer_front : (a : List ℕ) (b : ℕ) (c : List ℕ) (n : ℕ) → length a < n
@@ -71,7 +74,7 @@ fault_of_wanted {front} {piece} after i wants f = record {
 }
   where
     completed : (rest : List ℕ) → Begins piece (take i after ++ rest) → CanBeCompleted IsText (front ++ take i after)
-    completed rest (p, (more, (is, e))) = elim (split_either (take i after) rest p more e) [
+    completed rest (p, (more, (is, e))) = elim (one_begins_other (take i after) rest p more e) [
       | inl w ↦ (
           let (more, text) = wants.goes_on p is in
           let longer = append_assoc (take i after) w.0 more in

@@ -39,11 +39,11 @@ read_within a k n xs ys h l =
     omega (arith, length-take-le a xs h, length-append (take a xs) (ys ++ rest), length-append ys rest)
 
 -- what holds of each text that goes on so behind the bytes that were read holds of an input that is known
-of_known : (old new : Option (List ℕ)) (bytes : List ℕ) (P : List ℕ → Type 0) → Consumes old new bytes
+holds_of_known_input : (old new : Option (List ℕ)) (bytes : List ℕ) (P : List ℕ → Type 0) → Consumes old new bytes
     → ((rest : List ℕ) → new ≡ Some rest → P (bytes ++ rest)) → IfSome old P
-of_known None new bytes P c h = tt
-of_known (Some input) None bytes P c h = absurd c
-of_known (Some input) (Some rest) bytes P c h = rw c (h rest refl)
+holds_of_known_input None new bytes P c h = tt
+holds_of_known_input (Some input) None bytes P c h = absurd c
+holds_of_known_input (Some input) (Some rest) bytes P c h = rw c (h rest refl)
 
 -- ---- the judgement of an input
 
@@ -54,22 +54,22 @@ reads_accepted old new bytes (Ok file) c end h = Consumes-whole old new bytes (�
 reads_accepted old new bytes (Err fault) c end h = tt
 
 -- a judgement of a text is that of an input
-refuses : (text : List ℕ) (fault : OrderFault) → JudgesText text fault → RefusesUnlessFailed text fault
-refuses text Read h = tt
-refuses text Memory h = tt
-refuses text fault h = h
+judged_is_refused : (text : List ℕ) (fault : OrderFault) → JudgesText text fault → RefusesUnlessFailed text fault
+judged_is_refused text Read h = tt
+judged_is_refused text Memory h = tt
+judged_is_refused text fault h = h
 
 pub reads_refused : (old new : Option (List ℕ)) (bytes : List ℕ) (answer : Result StatedOrder OrderFault)
     → Consumes old new bytes → IsAtEnd new → IfErr answer (λ fault. JudgesText bytes fault)
     → IfErr answer (λ fault. IfSome old (λ input. RefusesUnlessFailed input fault))
 reads_refused old new bytes (Ok file) c end h = tt
 reads_refused old new bytes (Err fault) c end h =
-    Consumes-whole old new bytes (λ input. RefusesUnlessFailed input fault) c end (refuses bytes fault h)
+    Consumes-whole old new bytes (λ input. RefusesUnlessFailed input fault) c end (judged_is_refused bytes fault h)
 
 -- an input with more bytes than the limit
 pub reads_too_long : (old new : Option (List ℕ)) (bytes : List ℕ) → Consumes old new bytes
     → LONGEST_ORDER_FILE < length bytes → IfSome old (λ input. RefusesUnlessFailed input TooLong)
-reads_too_long old new bytes c h = of_known old new bytes (λ input. RefusesUnlessFailed input TooLong) c
+reads_too_long old new bytes c h = holds_of_known_input old new bytes (λ input. RefusesUnlessFailed input TooLong) c
     (λ rest is. omega (arith, length-append bytes rest))
 
 -- a failed read says nothing of an input
@@ -121,7 +121,7 @@ pub reads_stopped : (old new : Option (List ℕ)) (fault : OrderFault) (room : �
     → room ≤ LONGEST_ORDER_FILE + 1 → FillsBelow room old new
     → IfSome old (λ input. ReadsOrderAsFar input new (Some fault))
 reads_stopped old new fault room e h (front, (few, c)) =
-    of_known old new front (λ input. ReadsOrderAsFar input new (Some fault)) c (λ rest is. record {
+    holds_of_known_input old new front (λ input. ReadsOrderAsFar input new (Some fault)) c (λ rest is. record {
       front = front;
       rest = rest;
       whole = refl;
@@ -136,7 +136,8 @@ reads_stopped old new fault room e h (front, (few, c)) =
 -- one with more bytes than the limit
 pub reads_over : (old new : Option (List ℕ)) (bytes : List ℕ) → Consumes old new bytes
     → length bytes ≡ LONGEST_ORDER_FILE + 1 → IfSome old (λ input. ReadsOrderAsFar input new (Some TooLong))
-reads_over old new bytes c h = of_known old new bytes (λ input. ReadsOrderAsFar input new (Some TooLong)) c (λ rest is.
+reads_over old new bytes c h =
+    holds_of_known_input old new bytes (λ input. ReadsOrderAsFar input new (Some TooLong)) c (λ rest is.
     record {
       front = bytes;
       rest = rest;
@@ -155,7 +156,7 @@ pub reads_whole : (old new : Option (List ℕ)) (bytes : List ℕ) (answer : Res
     → IfErr answer (λ fault. JudgesText bytes fault)
     → IfSome old (λ input. ReadsOrderAsFar input new (result_err answer))
 reads_whole old new bytes answer c end few h =
-    of_known old new bytes (λ input. ReadsOrderAsFar input new (result_err answer)) c (λ rest is.
+    holds_of_known_input old new bytes (λ input. ReadsOrderAsFar input new (result_err answer)) c (λ rest is.
     let none : rest ≡ [] = rw is at end in
     record {
       front = bytes;

@@ -50,9 +50,9 @@ lacks_end xs ys c rest lacks e =
     not_first c c rest parts.1 refl
 
 -- two lists that c ends are cut there
-pub cut_at : (c : ℕ) (xs ys x y : List ℕ) → LacksByte c xs → LacksByte c ys → xs ++ c ∷ x ≡ ys ++ c ∷ y
+pub cut_at_byte : (c : ℕ) (xs ys x y : List ℕ) → LacksByte c xs → LacksByte c ys → xs ++ c ∷ x ≡ ys ++ c ∷ y
     → (xs ≡ ys) × (x ≡ y)
-cut_at c xs ys x y p q e = elim (ends_or_goes_on c c xs x ys y p e) [
+cut_at_byte c xs ys x y p q e = elim (ends_or_goes_on c c xs x ys y p e) [
   | inl w ↦ (let same = append_cancel_left ys (c ∷ x) (c ∷ y) (rw w.0 at e) in (w.0, cc))
   | inr w ↦ absurd (lacks_end ys xs c w.0 q w.1)
 ]
@@ -68,8 +68,8 @@ decimal_lacks c n h l = digits_lack c (decimal n) h (decimal_is_IsNumeral_wide n
 value_of_decimal : (n : ℕ) → n < 10 ^ 20 → digits_value 10 (decimal n) ≡ n
 value_of_decimal n h = (decimal_is_IsNumeral_wide n (omega arith)).1
 
-pub decimal_one : (m n : ℕ) → m < 10 ^ 18 → n < 10 ^ 18 → decimal m ≡ decimal n → m ≡ n
-decimal_one m n p q e =
+pub decimal_injective : (m n : ℕ) → m < 10 ^ 18 → n < 10 ^ 18 → decimal m ≡ decimal n → m ≡ n
+decimal_injective m n p q e =
     let one = value_of_decimal m (omega arith) in let other = value_of_decimal n (omega arith) in cc
 
 -- a numeral that goes on is one of a number that isn't less

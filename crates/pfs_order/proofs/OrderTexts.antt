@@ -10,7 +10,7 @@ use Rattle.pfs_base.specs.Text.{spaced}
 use Rattle.pfs_order.specs.OrderText.{first_line, order_text}
 use Rattle.pfs_order.specs.Sequence.{AreMachines}
 use Rattle.pfs_order.specs.Pieces.{counted, last_line}
-use Rattle.pfs_order.proofs.Numerals.{cut_at, decimal_lacks, decimal_one}
+use Rattle.pfs_order.proofs.Numerals.{cut_at_byte, decimal_lacks, decimal_injective}
 
 -- a job numeral of at most nine digits
 abbrev pub IsShort : ℕ → Type 0
@@ -90,8 +90,8 @@ pub same_number : (end m n : ℕ) (rest other : List ℕ) → 10 ≤ digit_value
     → decimal m ++ end ∷ rest ≡ decimal n ++ end ∷ other → (m ≡ n) × (rest ≡ other)
 same_number end m n rest other no_digit h k e =
     let one = decimal_lacks end m no_digit h in
-    let (same, behind) = cut_at end _ _ rest other one (decimal_lacks end n no_digit k) e in
-    (decimal_one m n h k same, behind)
+    let (same, behind) = cut_at_byte end _ _ rest other one (decimal_lacks end n no_digit k) e in
+    (decimal_injective m n h k same, behind)
 
 -- a makespan's line, and no more
 pub same_last_line : (makespan other : ℕ) (more : List ℕ) → makespan < 10 ^ 18 → other < 10 ^ 18

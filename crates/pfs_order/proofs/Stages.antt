@@ -97,12 +97,12 @@ unfolding filling
 filled count machines h = text_of_lines count machines (replicate count 0) 0
     (record { head = h; short = All-replicate IsShort count 0 (lit< tt); every = length-replicate count 0 }) (lit< tt)
 
-first_head : (count : ℕ) → 1 ≤ count → count ≤ MOST_JOBS → IsHead count None
-first_head count low high = record { some = low; few = high; stated = tt }
+version_one_head : (count : ℕ) → 1 ≤ count → count ≤ MOST_JOBS → IsHead count None
+version_one_head count low high = record { some = low; few = high; stated = tt }
 
-second_head : (count machines : ℕ) → 1 ≤ count → count ≤ MOST_JOBS → 1 ≤ machines → machines ≤ MOST_MACHINES
+version_two_head : (count machines : ℕ) → 1 ≤ count → count ≤ MOST_JOBS → 1 ≤ machines → machines ≤ MOST_MACHINES
     → IsHead count (Some machines)
-second_head count machines low high some few = record { some = low; few = high; stated = (some, few) }
+version_two_head count machines low high some few = record { some = low; few = high; stated = (some, few) }
 
 -- ---- words and numerals that are wanted
 
@@ -137,7 +137,7 @@ opens t (jobs, (Some m, (makespan, h))) = inr (_, lines_of h)
 pub wants_name : Wants [] (IsWord (codes "order"))
 wants_name = wants_word [] (codes "order")
     (λ t h. elim (opens t h) [ inl w ↦ (32 ∷ w.0, w.1) | inr w ↦ (50 ∷ 32 ∷ w.0, w.1) ])
-    (32 ∷ (decimal 1 ++ 10 ∷ filling 1), filled 1 None (first_head 1 (lit≤ tt) (lit≤ tt)))
+    (32 ∷ (decimal 1 ++ 10 ∷ filling 1), filled 1 None (version_one_head 1 (lit≤ tt) (lit≤ tt)))
 
 -- behind it stands a space or the number of the second version
 pub version_fault : (after : List ℕ) → ((b : ℕ) (more : List ℕ) → after ≡ b ∷ more → (b ≢ 32) × (b ≢ 50))
@@ -165,7 +165,7 @@ wants_space = wants_word (codes "order2") (codes " ")
       | inl w ↦ (let e = w.1 in absurd (cc))
       | inr w ↦ (w.0, append_cancel_left (codes "order2") t (32 ∷ w.0) w.1)
     ])
-    (_, filled 1 (Some 1) (second_head 1 1 (lit≤ tt) (lit≤ tt) (lit≤ tt) (lit≤ tt)))
+    (_, filled 1 (Some 1) (version_two_head 1 1 (lit≤ tt) (lit≤ tt) (lit≤ tt) (lit≤ tt)))
 
 -- a numeral stands behind a front
 begins_behind : (front t : List ℕ) (least most end n : ℕ) (rest : List ℕ) → least ≤ n → n ≤ most
@@ -185,9 +185,9 @@ count_begins Two t (jobs, (None, (makespan, h))) = absurd (no_other_opening _ _ 
 
 pub wants_count : (version : Version) → Wants (opening version) (IsNumeral 1 MOST_JOBS (count_end version))
 wants_count One = wants_numeral (codes "order ") 1 MOST_JOBS 10 (count_begins One)
-    (λ n low high. (filling n, filled n None (first_head n low high)))
+    (λ n low high. (filling n, filled n None (version_one_head n low high)))
 wants_count Two = wants_numeral (codes "order2 ") 1 MOST_JOBS 32 (count_begins Two)
-    (λ n low high. (_, filled n (Some 1) (second_head n 1 low high (lit≤ tt) (lit≤ tt))))
+    (λ n low high. (_, filled n (Some 1) (version_two_head n 1 low high (lit≤ tt) (lit≤ tt))))
 
 -- behind the second version's count stand the machines
 abbrev pub before_machines : ℕ → List ℕ
@@ -211,7 +211,9 @@ pub wants_machines : (count : ℕ) → 1 ≤ count → count ≤ MOST_JOBS
     → Wants (before_machines count) (IsNumeral 1 MOST_MACHINES 10)
 wants_machines count low high = wants_numeral (before_machines count) 1 MOST_MACHINES 10
     (λ t. machines_begin count t low high)
-    (λ m some few. (filling count, simp append_assoc (filled count (Some m) (second_head count m low high some few))))
+    (λ m some few.
+    let head = version_two_head count m low high some few in
+    (filling count, simp append_assoc (filled count (Some m) head)))
 
 -- ---- the line of the jobs
 
@@ -334,12 +336,12 @@ more_fault text more b h =
     (λ c others rest is. text_ends text rest c h)
 
 -- a text up to the end of its last line
-pub end_text : (count : ℕ) (machines : Option ℕ) (text : List ℕ) (at next end makespan : ℕ)
+pub text_up_to_end : (count : ℕ) (machines : Option ℕ) (text : List ℕ) (at next end makespan : ℕ)
     → HasJobs count machines text at → drop at text ≡ codes "makespan " ++ drop next text → makespan < 10 ^ 18
     → drop next text ≡ decimal makespan ++ 10 ∷ drop end text → end ≤ length text
     → (front : List ℕ) × ((text ≡ front ++ drop end text) × ((jobs : List ℕ)
     × (HasText front jobs machines makespan × (length jobs ≡ count) × (length front ≡ end))))
-end_text count machines text at next end makespan (jobs, (are, e)) name small numeral within =
+text_up_to_end count machines text at next end makespan (jobs, (are, e)) name small numeral within =
     let front : List ℕ = counted count machines (spaced jobs ++ 10 ∷ last_line makespan) in
     let lines = rw (name, numeral) at e in
     let whole : text ≡ front ++ drop end text = simp joined lines in

@@ -143,10 +143,10 @@ Verdict : List ℕ → Type 0
 Verdict text = IsText text ⊎ ((offset : ℕ) × IsSyntaxFault text offset)
 
 -- the piece that is wanted behind a front isn't there
-not_wanted : {front : List ℕ} {piece : List ℕ → Type 0} (after : List ℕ) → Wants front piece → PieceFault piece after
+missing_piece : {front : List ℕ} {piece : List ℕ → Type 0} (after : List ℕ) → Wants front piece → PieceFault piece after
     → Verdict (front ++ after)
 unfolding Verdict
-not_wanted {front} after wants (i, f) = inr (length front + i, fault_of_wanted after i wants f)
+missing_piece {front} after wants (i, f) = inr (length front + i, fault_of_wanted after i wants f)
 
 module _ (count : ℕ) (machines : Option ℕ) where
   -- the last line, and what stands behind it
@@ -154,9 +154,9 @@ module _ (count : ℕ) (machines : Option ℕ) where
       → Verdict (counted count machines (spaced jobs ++ 10 ∷ line))
   unfolding Verdict NumeralOrFault
   makespan_from jobs line are = elim (word_from [] (codes "makespan ") line) [
-    | inr fault ↦ simp joined at (not_wanted line (wants_makespan_name count machines jobs are) fault)
+    | inr fault ↦ simp joined at (missing_piece line (wants_makespan_name count machines jobs are) fault)
     | inl (rest, named) ↦ rw named (elim (numeral_from 0 (10 ^ 18 - 1) 10 ten_10 (lit≤ tt) (lit≤ tt) (lit< tt) rest) [
-      | inr fault ↦ simp joined at (not_wanted rest (wants_makespan count machines jobs are) fault)
+      | inr fault ↦ simp joined at (missing_piece rest (wants_makespan count machines jobs are) fault)
       | inl (makespan, (behind, (low, high, is))) ↦ rw is (simp joined at (ended makespan behind (omega arith)))
     ])
   ]
@@ -174,7 +174,7 @@ module _ (count : ℕ) (machines : Option ℕ) where
   jobs_from zero done rest among size =
       elim (numeral_from 0 (10 ^ 9 - 1) 10 ten_10 (lit≤ tt) (lit≤ tt) (lit< tt) rest) [
         | inr fault ↦ simp joined at
-            (not_wanted rest (wants_job count machines done among 10 (inr (omega arith, refl))) fault)
+            (missing_piece rest (wants_job count machines done among 10 (inr (omega arith, refl))) fault)
         | inl (job, (line, (low, high, is))) ↦
             rw (is, before-spaced done job [] (10 ∷ line)) (makespan_from (done ++ job ∷ []) line (record {
               head = among.head;
@@ -185,7 +185,7 @@ module _ (count : ℕ) (machines : Option ℕ) where
   jobs_from (suc more) done rest among size =
       elim (numeral_from 0 (10 ^ 9 - 1) 32 ten_32 (lit≤ tt) (lit≤ tt) (lit< tt) rest) [
         | inr fault ↦ simp joined at
-            (not_wanted rest (wants_job count machines done among 32 (inl (omega arith, refl))) fault)
+            (missing_piece rest (wants_job count machines done among 32 (inl (omega arith, refl))) fault)
         | inl (job, (others, (low, high, is))) ↦
             let long : length (done ++ job ∷ []) ≡ length done + 1 = length-append done (job ∷ []) in
             rw (is, before-push done job others) (jobs_from more (done ++ job ∷ []) others (record {
@@ -205,7 +205,7 @@ machines_from : (count : ℕ) (rest : List ℕ) → 1 ≤ count → count ≤ MO
 unfolding NumeralOrFault
 machines_from count rest some few =
     elim (numeral_from 1 MOST_MACHINES 10 ten_10 (lit≤ tt) (lit≤ tt) (lit< tt) rest) [
-      | inr fault ↦ simp append_assoc at (not_wanted rest (wants_machines count some few) fault)
+      | inr fault ↦ simp append_assoc at (missing_piece rest (wants_machines count some few) fault)
       | inl (machines, (line, (low, high, is))) ↦
           rw is (lines_from count (Some machines) line (record { some = some; few = few; stated = (low, high) }))
     ]
@@ -213,12 +213,12 @@ machines_from count rest some few =
 count_from : (version : Version) (rest : List ℕ) → Verdict (opening version ++ rest)
 unfolding NumeralOrFault
 count_from One rest = elim (numeral_from 1 MOST_JOBS 10 ten_10 (lit≤ tt) (lit≤ tt) (lit< tt) rest) [
-  | inr fault ↦ not_wanted rest (wants_count One) fault
+  | inr fault ↦ missing_piece rest (wants_count One) fault
   | inl (count, (line, (low, high, is))) ↦
       rw is (lines_from count None line (record { some = low; few = high; stated = tt }))
 ]
 count_from Two rest = elim (numeral_from 1 MOST_JOBS 32 ten_32 (lit≤ tt) (lit≤ tt) (lit< tt) rest) [
-  | inr fault ↦ not_wanted rest (wants_count Two) fault
+  | inr fault ↦ missing_piece rest (wants_count Two) fault
   | inl (count, (line, (low, high, is))) ↦ rw is (machines_from count line low high)
 ]
 
@@ -236,12 +236,12 @@ version_from (b ∷ rest) = elim (cases_eq b 32) [
     second : (after : List ℕ) → Verdict (codes "order2" ++ after)
     second after = elim (word_from [] (codes " ") after) [
       | inl w ↦ rw w.1 (count_from Two w.0)
-      | inr fault ↦ not_wanted after wants_space fault
+      | inr fault ↦ missing_piece after wants_space fault
     ]
 
 pub text_or_fault : (text : List ℕ) → IsText text ⊎ ((offset : ℕ) × IsSyntaxFault text offset)
 unfolding Verdict
 text_or_fault text = elim (word_from [] (codes "order") text) [
   | inl w ↦ rw w.1 (version_from w.0)
-  | inr fault ↦ not_wanted text wants_name fault
+  | inr fault ↦ missing_piece text wants_name fault
 ]

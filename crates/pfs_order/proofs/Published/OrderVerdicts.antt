@@ -122,8 +122,8 @@ one_fault_of_jobs : (input : List ℕ) (one other : OrderFault) → HasJobFault 
 one_fault_of_jobs input one other (jobs, (machines, (makespan, (h, f)))) (others, (stated, (number, (k, g)))) =
     one_job_fault jobs one other f (rw (one_text h k).0 g)
 
-is_text : (input : List ℕ) (fault : OrderFault) → HasJobFault input fault → IsText input
-is_text input fault (jobs, (machines, (makespan, (h, f)))) = (jobs, (machines, (makespan, h)))
+text_with_job_fault : (input : List ℕ) (fault : OrderFault) → HasJobFault input fault → IsText input
+text_with_job_fault input fault (jobs, (machines, (makespan, (h, f)))) = (jobs, (machines, (makespan, h)))
 
 -- a text of the grammar is refused for its jobs alone
 refused_jobs : (input : List ℕ) (fault : OrderFault) → IsText input → RefusesOrder input fault → HasJobFault input fault
@@ -140,13 +140,13 @@ one_offset input p q h k = omega (arith, k.longest p h.within h.completed, h.lon
 pub one_refusal : (input : List ℕ) (one other : OrderFault) → RefusesOrder input one → RefusesOrder input other
     → one ≡ other
 one_refusal input (JobRange p) other h k =
-    one_fault_of_jobs input (JobRange p) other h (refused_jobs input other (is_text input (JobRange p) h) k)
+    one_fault_of_jobs input (JobRange p) other h (refused_jobs input other (text_with_job_fault input (JobRange p) h) k)
 one_refusal input (Repeated p) other h k =
-    one_fault_of_jobs input (Repeated p) other h (refused_jobs input other (is_text input (Repeated p) h) k)
+    one_fault_of_jobs input (Repeated p) other h (refused_jobs input other (text_with_job_fault input (Repeated p) h) k)
 one_refusal input one (JobRange q) h k =
-    one_fault_of_jobs input one (JobRange q) (refused_jobs input one (is_text input (JobRange q) k) h) k
+    one_fault_of_jobs input one (JobRange q) (refused_jobs input one (text_with_job_fault input (JobRange q) k) h) k
 one_refusal input one (Repeated q) h k =
-    one_fault_of_jobs input one (Repeated q) (refused_jobs input one (is_text input (Repeated q) k) h) k
+    one_fault_of_jobs input one (Repeated q) (refused_jobs input one (text_with_job_fault input (Repeated q) k) h) k
 one_refusal input (Syntax p) (Syntax q) h k = ap Syntax (one_offset input p q h.1 k.1)
 one_refusal input (Syntax p) TooLong h k = let few = h.0 in absurd (omega arith)
 one_refusal input TooLong (Syntax q) h k = let few = k.0 in absurd (omega arith)

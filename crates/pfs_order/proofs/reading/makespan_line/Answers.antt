@@ -7,7 +7,7 @@ use Rattle.pfs_order.specs.OrderFile.{HasText, IsText}
 use Rattle.pfs_order.specs.Pieces.{counted}
 use Rattle.pfs_order.proofs.Faults.{wanted_says_syntax}
 use Rattle.pfs_order.proofs.OrderTexts.{counted-append}
-use Rattle.pfs_order.proofs.Stages.{wants_makespan_name, wants_makespan, more_fault, end_text}
+use Rattle.pfs_order.proofs.Stages.{wants_makespan_name, wants_makespan, more_fault, text_up_to_end}
 use Rattle.pfs_order.proofs.reading.makespan_line.Goals as goal
 
 pub returns-in_err-at-clause-fault : goal.returns-in_err-at-clause-fault
@@ -34,8 +34,8 @@ returns-then-end-text-clause-fault c =
     let end : ℕ = c.in_ok-makespan.end in
     let here : end < length text = c.if-end-text.true in
     let small : c.in_ok-makespan.makespan < 10 ^ 18 = omega (arith, c.in_ok-makespan.ensures.in_range.1) in
-    let (front, (whole, (jobs, (has, every, size)))) = end_text c.args.head.jobs c.args.head.machines text c.args.start
-    c.in_ok-at.at end c.in_ok-makespan.makespan c.requires.jobs c.in_ok-at.ensures.read small
+    let (front, (whole, (jobs, (has, every, size)))) = text_up_to_end c.args.head.jobs c.args.head.machines text
+    c.args.start c.in_ok-at.at end c.in_ok-makespan.makespan c.requires.jobs c.in_ok-at.ensures.read small
     c.in_ok-makespan.ensures.read c.in_ok-makespan.ensures.within in
     let begun : IsText front = (jobs, (c.args.head.machines, (c.in_ok-makespan.makespan, has))) in
     let fault = more_fault front (drop (end + 1) text) (get_or text end 0) begun in
@@ -46,8 +46,8 @@ returns-clause-read c =
     let text : List ℕ = c.args.text.now in
     let end : ℕ = c.in_ok-makespan.end in
     let small : c.in_ok-makespan.makespan < 10 ^ 18 = omega (arith, c.in_ok-makespan.ensures.in_range.1) in
-    let (front, (whole, (jobs, (has, every, size)))) = end_text c.args.head.jobs c.args.head.machines text c.args.start
-    c.in_ok-at.at end c.in_ok-makespan.makespan c.requires.jobs c.in_ok-at.ensures.read small
+    let (front, (whole, (jobs, (has, every, size)))) = text_up_to_end c.args.head.jobs c.args.head.machines text
+    c.args.start c.in_ok-at.at end c.in_ok-makespan.makespan c.requires.jobs c.in_ok-at.ensures.read small
     c.in_ok-makespan.ensures.read c.in_ok-makespan.ensures.within in
     let none : drop end text ≡ [] = drop_all end text (omega arith) in
     let same : front ≡ text = sym (rw (none, append-nil) at whole) in
