@@ -43,15 +43,14 @@ word_from front (c ∷ more) (b ∷ after) = elim (cases_eq b c) [
 -- ---- a numeral goes on by a byte, or it doesn't
 
 module _ (least most b : ℕ) where
-  NumberPushed : Option ℕ → Type 0
+  abbrev NumberPushed : Option ℕ → Type 0
   NumberPushed number = (m : ℕ) × ((least ≤ m) × (m ≤ most) × (decimal m ≡ numeral_of number ++ b ∷ []))
 
-  StopsNumber : Option ℕ → Type 0
+  abbrev StopsNumber : Option ℕ → Type 0
   StopsNumber number = (n : ℕ) (rest : List ℕ) → least ≤ n → n ≤ most → decimal n ≢ numeral_of number ++ b ∷ rest
 
   in_range_or_stops : (m : ℕ) (number : Option ℕ) → IsWithin least most number → m < 10 ^ 20
       → decimal m ≡ numeral_of number ++ b ∷ [] → NumberPushed number ⊎ StopsNumber number
-  unfolding NumberPushed StopsNumber
   in_range_or_stops m number h small e = elim (cases_lt m least) [
     | inl low ↦ inr (λ n rest some few is. let fits = within n rest some few is in absurd (omega arith))
     | inr fits ↦ elim (cases_lt most m) [
@@ -66,7 +65,6 @@ module _ (least most b : ℕ) where
           front_within least most m n rest h.low h.high small some few (rw (e, append_assoc) is)
 
   pushed_or_stops : (number : Option ℕ) → IsWithin least most number → NumberPushed number ⊎ StopsNumber number
-  unfolding NumberPushed StopsNumber
   pushed_or_stops number h = elim (cases_lt b 48) [
     | inl low ↦ inr (λ n rest some few. no_digit_ends n b (numeral_of number) rest (below n few) (inl low))
     | inr digit ↦ elim (cases_lt 57 b) [
@@ -91,7 +89,7 @@ module _ (least most b : ℕ) where
 
 -- ---- a numeral stands there, or the text goes on otherwise
 
-NumeralOrFault : ℕ → ℕ → ℕ → List ℕ → Type 0
+abbrev NumeralOrFault : ℕ → ℕ → ℕ → List ℕ → Type 0
 NumeralOrFault least most end text =
     ((n : ℕ) × ((rest : List ℕ) × ((least ≤ n) × (n ≤ most) × (text ≡ decimal n ++ end ∷ rest))))
     ⊎ PieceFault (IsNumeral least most end) text
@@ -99,7 +97,6 @@ NumeralOrFault least most end text =
 module _ (least most end : ℕ) (end_is_no_digit : 10 ≤ digit_value end) where
   numeral_on : (number : Option ℕ) (after : List ℕ) → IsWithin least most number
       → NumeralOrFault least most end (numeral_of number ++ after)
-  unfolding NumeralOrFault NumberPushed StopsNumber
   numeral_on number [] h =
       let fault = numeral_fault least most end number [] h end_is_no_digit (λ b more is. absurd (cc)) in
       inr (length (numeral_of number), fault)
@@ -152,7 +149,7 @@ module _ (count : ℕ) (machines : Option ℕ) where
   -- the last line, and what stands behind it
   makespan_from : (jobs line : List ℕ) → AreJobs count machines jobs
       → Verdict (counted count machines (spaced jobs ++ 10 ∷ line))
-  unfolding Verdict NumeralOrFault
+  unfolding Verdict
   makespan_from jobs line are = elim (word_from [] (codes "makespan ") line) [
     | inr fault ↦ simp joined at (missing_piece line (wants_makespan_name count machines jobs are) fault)
     | inl (rest, named) ↦ rw named (elim (numeral_from 0 (10 ^ 18 - 1) 10 ten_10 (lit≤ tt) (lit≤ tt) (lit< tt) rest) [
@@ -170,7 +167,6 @@ module _ (count : ℕ) (machines : Option ℕ) where
   -- so many jobs and the last
   jobs_from : (more : ℕ) (done rest : List ℕ) → IsAmongJobs count machines done → length done + suc more ≡ count
       → Verdict (counted count machines (before done rest))
-  unfolding NumeralOrFault
   jobs_from zero done rest among size =
       elim (numeral_from 0 (10 ^ 9 - 1) 10 ten_10 (lit≤ tt) (lit≤ tt) (lit< tt) rest) [
         | inr fault ↦ simp joined at
@@ -202,7 +198,6 @@ module _ (count : ℕ) (machines : Option ℕ) where
 
 machines_from : (count : ℕ) (rest : List ℕ) → 1 ≤ count → count ≤ MOST_JOBS
     → Verdict (codes "order2 " ++ (decimal count ++ 32 ∷ rest))
-unfolding NumeralOrFault
 machines_from count rest some few =
     elim (numeral_from 1 MOST_MACHINES 10 ten_10 (lit≤ tt) (lit≤ tt) (lit< tt) rest) [
       | inr fault ↦ simp append_assoc at (missing_piece rest (wants_machines count some few) fault)
@@ -211,7 +206,6 @@ machines_from count rest some few =
     ]
 
 count_from : (version : Version) (rest : List ℕ) → Verdict (opening version ++ rest)
-unfolding NumeralOrFault
 count_from One rest = elim (numeral_from 1 MOST_JOBS 10 ten_10 (lit≤ tt) (lit≤ tt) (lit< tt) rest) [
   | inr fault ↦ missing_piece rest (wants_count One) fault
   | inl (count, (line, (low, high, is))) ↦
