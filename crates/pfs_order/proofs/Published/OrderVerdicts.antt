@@ -1,7 +1,7 @@
 -- One input, one answer.
-use Rattle.std.proofs.Common.{◌≡◌, ℕ, ◌+◌, ◌-◌, ◌*◌, ◌<◌, ◌≤◌, ◌^◌, ◌⊎◌, inl, inr, List, [], ◌∷◌, ◌++◌, true, false}
-use Rattle.std.proofs.Common.{length, take, drop, map, get_or, refl, sym, ◌∙◌, ap, subst, arith, lit≤, lit<, eqb}
-use Rattle.std.proofs.Common.{Option, Some, None}
+use Rattle.std.proofs.Common.{◌≡◌, ℕ, ◌+◌, ◌-◌, ◌*◌, ◌<◌, ◌≤◌, ◌^◌, ◌⊎◌, inl, inr, List, [], ◌∷◌, ◌++◌}
+use Rattle.std.proofs.Common.{length, take, drop, map, get_or, refl, sym, ◌∙◌, ap, arith, lit≤, lit<, eqb, Option}
+use Rattle.std.proofs.Common.{Some, None}
 use Rattle.std.specs.Fmt.{decimal}
 use Rattle.std.specs.List.{All}
 use Rattle.std.proofs.lemmas.Bool.{cases_order, eq-eqb}
@@ -17,64 +17,85 @@ use Rattle.pfs_order.specs.declared.fault.OrderFault.TheVariants.{Syntax, JobRan
 use Rattle.pfs_base.specs.Text.{spaced}
 use Rattle.pfs_order.specs.OrderText.{file_text}
 use Rattle.pfs_order.specs.Sequence.{StatedOrder, IsSequence, IsSize, AreMachines}
-use Rattle.pfs_order.specs.OrderFile.{IsText, IsFaultOf, IsSyntaxFault, IsJob, IsRepeated, AreRightBefore, IsJobFault}
+use Rattle.pfs_order.specs.OrderFile.{IsText, IsSyntaxFault, IsJob, IsRepeated, AreRightBefore, IsJobFault}
 use Rattle.pfs_order.specs.OrderFile.{HasJobFault, RefusesOrder, IsOrderFile}
 use Rattle.pfs_order.specs.Pieces.{IsHead, counted, last_line}
-use Rattle.pfs_order.proofs.Faults.{fault_here}
-use Rattle.pfs_order.proofs.Jobs.{one_text}
-use Rattle.pfs_order.proofs.OrderTexts.{IsShort, text_shape, some_machines}
-use Rattle.pfs_order.proofs.Stages.{head_of, more_fault}
+use Rattle.pfs_order.proofs.Faults.{fault_where_front_ends}
+use Rattle.pfs_order.proofs.OrderTexts.{IsShort}
+use Rattle.pfs_order.proofs.Stages.{head_of, lines_of, one_text, text_ends}
 
--- How long a text is.
+-- ---- how long a text is
 
-length_spaced : (jobs : List ℕ) → All IsShort jobs → length (spaced jobs) ≤ 10 * length jobs
-length_spaced [] h = lit≤ tt
-length_spaced (j ∷ []) h =
-    let small = All-head IsShort j [] h in
-    let le = length-decimal-le_wide 9 j (lit< tt) small (omega arith) in omega arith
-length_spaced (j ∷ k ∷ jobs) h =
-    let small = All-head IsShort j (k ∷ jobs) h in
-    let le = length-decimal-le_wide 9 j (lit< tt) small (omega arith) in
-    let rest = length_spaced (k ∷ jobs) (All-tail IsShort j (k ∷ jobs) h) in
-    omega (arith, length-append (decimal j) (32 ∷ spaced (k ∷ jobs)))
+length-decimal : (n : ℕ) → n < 10 ^ 18 → length (decimal n) ≤ 18
+length-decimal n h = length-decimal-le_wide 18 n (lit< tt) h (omega arith)
 
-length_counted : (count : ℕ) (machines : Option ℕ) (rest : List ℕ) → IsHead count machines → length (counted count machines rest) ≤ 60 + length rest
-length_counted count None rest h =
-    let few = h.few in
-    let size = length-decimal-le_wide 18 count (lit< tt) (omega arith) (omega arith) in
-    omega (arith, length-append (decimal count) (10 ∷ rest))
-length_counted count (Some m) rest h =
-    let few = h.few in
-    let size = length-decimal-le_wide 18 count (lit< tt) (omega arith) (omega arith) in
-    let more = length-decimal-le_wide 18 m (lit< tt) (some_machines m h.stated) (omega arith) in
-    omega (arith, length-append (decimal count) (32 ∷ (decimal m ++ 10 ∷ rest)), length-append (decimal m) (10 ∷ rest))
+length-job : (job : ℕ) (jobs : List ℕ) → All IsShort (job ∷ jobs) → length (decimal job) ≤ 9
+length-job job jobs h =
+    let short = All-head IsShort job jobs h in length-decimal-le_wide 9 job (lit< tt) short (omega arith)
+
+length-spaced : (jobs : List ℕ) → All IsShort jobs → length (spaced jobs) ≤ 10 * length jobs
+length-spaced [] h = lit≤ tt
+length-spaced (j ∷ []) h = omega (arith, length-job j [] h)
+length-spaced (j ∷ k ∷ jobs) h =
+    let rest = length-spaced (k ∷ jobs) (All-tail IsShort j (k ∷ jobs) h) in
+    omega (arith, length-job j (k ∷ jobs) h, length-append (decimal j) (32 ∷ spaced (k ∷ jobs)))
+
+length-counted : (count : ℕ) (machines : Option ℕ) (rest : List ℕ) → IsHead count machines
+    → length (counted count machines rest) ≤ 60 + length rest
+length-counted count None rest h =
+    omega (arith, length-decimal count (omega arith), length-append (decimal count) (10 ∷ rest))
+length-counted count (Some m) rest h =
+    let few = h.stated.1 in
+    let line : List ℕ = decimal m ++ 10 ∷ rest in
+    omega (
+      arith,
+      length-decimal count (omega arith),
+      length-decimal m (omega arith),
+      length-append (decimal count) (32 ∷ line),
+      length-append (decimal m) (10 ∷ rest),
+    )
 
 pub text_fits : (text : List ℕ) → IsText text → length text ≤ LONGEST_ORDER_FILE
 text_fits text (jobs, (machines, (makespan, h))) =
     let few = h.few_jobs in
-    let short = h.short_makespan in
-    let last = length-decimal-le_wide 18 makespan (lit< tt) short (omega arith) in
-    let line = length_spaced jobs h.short_jobs in
     let rest : List ℕ = spaced jobs ++ 10 ∷ last_line makespan in
-    omega (arith, ap length (h.spelled ∙ text_shape jobs machines makespan), length_counted (length jobs) machines rest (head_of h), length-append (spaced jobs) (10 ∷ last_line makespan), length-append (decimal makespan) (10 ∷ []))
+    omega (
+      arith,
+      ap length (lines_of h),
+      length-counted (length jobs) machines rest (head_of h),
+      length-append (spaced jobs) (10 ∷ last_line makespan),
+      length-spaced jobs h.short_jobs,
+      length-append (decimal makespan) (10 ∷ []),
+      length-decimal makespan h.short_makespan,
+    )
 
--- Cut and longer texts.
+-- ---- cut texts
 
 pub cut_fault : (text : List ℕ) (cut : ℕ) → IsText text → cut < length text → IsSyntaxFault (take cut text) cut
 cut_fault text cut h lt =
     let front : List ℕ = take cut text in
+    let rest : List ℕ = drop (cut + 1) text in
+    let byte : ℕ = get_or text cut 0 in
+    let whole : IsText (front ++ byte ∷ rest) = rw (← drop_more text cut 0 lt, take-append-drop) h in
     let size : length front ≡ cut = length-take-le cut text (omega arith) in
-    let split : front ++ get_or text cut 0 ∷ drop (cut + 1) text ≡ text = ap (λ xs. front ++ xs) (sym (drop_more text cut 0 lt)) ∙ take-append-drop cut text in
-    let whole : IsText (front ++ get_or text cut 0 ∷ drop (cut + 1) text) = subst IsText (sym split) h in
-    let f = fault_here IsText front [] (get_or text cut 0 ∷ drop (cut + 1) text, whole) (λ _ short. (more_fault front (drop (cut + 1) text) (get_or text cut 0) short).no_text whole) (λ b more rest e. absurd (cc)) in
-    subst (λ n. IsSyntaxFault front n) size (subst (λ xs. IsFaultOf IsText xs (length front)) (append-nil front) f)
+    rw (append-nil front, size) at (fault_where_front_ends IsText front [] (byte ∷ rest, whole)
+    (λ _ short. text_ends front rest byte short whole) (λ b more rest e. absurd (cc)))
 
--- Faults of jobs.
+-- ---- faults of jobs
 
-job_faults : (jobs : List ℕ) (i j : ℕ) → AreRightBefore jobs i → AreRightBefore jobs j → (¬ IsJob jobs i) ⊎ IsRepeated jobs i → (¬ IsJob jobs j) ⊎ IsRepeated jobs j → i ≡ j
-job_faults jobs i j h k wrong bad = elim (cases_order i j) [
+-- the first wrong job
+fault_place : (jobs : List ℕ) (fault : OrderFault) → IsJobFault jobs fault
+    → (i : ℕ) × (AreRightBefore jobs i × ((¬ IsJob jobs i) ⊎ IsRepeated jobs i))
+fault_place jobs (JobRange p) (i, (is, before, out)) = (i, (before, inl out))
+fault_place jobs (Repeated p) (i, (is, before, within, twice)) = (i, (before, inr twice))
+fault_place jobs fault f = absurd f
+
+one_fault_place : (jobs : List ℕ) (i j : ℕ) → AreRightBefore jobs i → AreRightBefore jobs j
+    → (¬ IsJob jobs i) ⊎ IsRepeated jobs i → (¬ IsJob jobs j) ⊎ IsRepeated jobs j → i ≡ j
+one_fault_place jobs i j h k wrong bad = elim (cases_order i j) [
   | inl same ↦ same
-  | inr w ↦ elim w [ inl below ↦ absurd (never i j k below wrong) | inr above ↦ absurd (never j i h above bad) ]
+  | inr (inl below) ↦ absurd (never i j k below wrong)
+  | inr (inr above) ↦ absurd (never j i h above bad)
 ]
   where
     never : (a b : ℕ) → AreRightBefore jobs b → a < b → (¬ IsJob jobs a) ⊎ IsRepeated jobs a → ⊥
@@ -82,67 +103,60 @@ job_faults jobs i j h k wrong bad = elim (cases_order i j) [
     never a b right lt (inr twice) = right.distinct a lt twice
 
 one_job_fault : (jobs : List ℕ) (one other : OrderFault) → IsJobFault jobs one → IsJobFault jobs other → one ≡ other
-one_job_fault jobs (JobRange p) (JobRange q) (i, (e, h, w)) (j, (f, k, v)) = let same = job_faults jobs i j h k (inl w) (inl v) in let places : p ≡ q = omega arith in ap JobRange places
-one_job_fault jobs (JobRange p) (Repeated q) (i, (e, h, w)) (j, (f, k, v, u)) = let same = job_faults jobs i j h k (inl w) (inr u) in absurd (w (subst (IsJob jobs) (sym same) v))
-one_job_fault jobs (Repeated p) (JobRange q) (i, (e, h, w, x)) (j, (f, k, v)) = let same = job_faults jobs i j h k (inr x) (inl v) in absurd (v (subst (IsJob jobs) same w))
-one_job_fault jobs (Repeated p) (Repeated q) (i, (e, h, w, x)) (j, (f, k, v, u)) = let same = job_faults jobs i j h k (inr x) (inr u) in let places : p ≡ q = omega arith in ap Repeated places
-one_job_fault jobs (Syntax p) other h k = absurd h
-one_job_fault jobs TooLong other h k = absurd h
-one_job_fault jobs Read other h k = absurd h
-one_job_fault jobs Memory other h k = absurd h
-one_job_fault jobs (JobRange p) (Syntax q) h k = absurd k
-one_job_fault jobs (JobRange p) TooLong h k = absurd k
-one_job_fault jobs (JobRange p) Read h k = absurd k
-one_job_fault jobs (JobRange p) Memory h k = absurd k
-one_job_fault jobs (Repeated p) (Syntax q) h k = absurd k
-one_job_fault jobs (Repeated p) TooLong h k = absurd k
-one_job_fault jobs (Repeated p) Read h k = absurd k
-one_job_fault jobs (Repeated p) Memory h k = absurd k
+one_job_fault jobs (JobRange p) (JobRange q) (i, (e, h, w)) (j, (f, k, v)) =
+    let same = one_fault_place jobs i j h k (inl w) (inl v) in let places : p ≡ q = omega arith in ap JobRange places
+one_job_fault jobs (Repeated p) (Repeated q) (i, (e, h, w, x)) (j, (f, k, v, u)) =
+    let same = one_fault_place jobs i j h k (inr x) (inr u) in let places : p ≡ q = omega arith in ap Repeated places
+one_job_fault jobs (JobRange p) (Repeated q) (i, (e, h, w)) (j, (f, k, v, u)) =
+    absurd (w (rw (one_fault_place jobs i j h k (inl w) (inr u)) v))
+one_job_fault jobs (Repeated p) (JobRange q) (i, (e, h, w, x)) (j, (f, k, v)) =
+    absurd (v (rw (one_fault_place jobs i j h k (inr x) (inl v)) at w))
+one_job_fault jobs (JobRange p) other f g = absurd g
+one_job_fault jobs (Repeated p) other f g = absurd g
+one_job_fault jobs one other f g = absurd f
 
--- Refusals.
+-- ---- refusals
 
-has_fault : (input : List ℕ) (one other : OrderFault) → HasJobFault input one → HasJobFault input other → one ≡ other
-has_fault input one other (jobs, (machines, (makespan, (h, f)))) (others, (stated, (number, (k, g)))) =
-    one_job_fault jobs one other f (subst (λ xs. IsJobFault xs other) (sym (one_text input jobs others machines stated makespan number h k).0) g)
+one_fault_of_jobs : (input : List ℕ) (one other : OrderFault) → HasJobFault input one → HasJobFault input other
+    → one ≡ other
+one_fault_of_jobs input one other (jobs, (machines, (makespan, (h, f)))) (others, (stated, (number, (k, g)))) =
+    one_job_fault jobs one other f (rw (one_text h k).0 g)
 
-is_text : (input : List ℕ) (fault : OrderFault) → HasJobFault input fault → IsText input
-is_text input fault (jobs, (machines, (makespan, (h, f)))) = (jobs, (machines, (makespan, h)))
+text_with_job_fault : (input : List ℕ) (fault : OrderFault) → HasJobFault input fault → IsText input
+text_with_job_fault input fault (jobs, (machines, (makespan, (h, f)))) = (jobs, (machines, (makespan, h)))
 
-file_text_is : (input : List ℕ) (file : StatedOrder) → IsOrderFile input file → IsText input
-file_text_is input file h = (map (λ job. job + 1) file.order, (file.machines, (file.makespan, h.has_text)))
+-- a text of the grammar is refused for its jobs alone
+refused_jobs : (input : List ℕ) (fault : OrderFault) → IsText input → RefusesOrder input fault → HasJobFault input fault
+refused_jobs input (Syntax p) text h = absurd (h.1.no_text text)
+refused_jobs input (JobRange p) text h = h
+refused_jobs input (Repeated p) text h = h
+refused_jobs input TooLong text h = let fits = text_fits input text in absurd (omega arith)
+refused_jobs input Read text h = absurd h
+refused_jobs input Memory text h = absurd h
 
 one_offset : (input : List ℕ) (p q : ℕ) → IsSyntaxFault input p → IsSyntaxFault input q → p ≡ q
-one_offset input p q h k = let low = k.longest p h.within h.completed in let high = h.longest q k.within k.completed in omega arith
+one_offset input p q h k = omega (arith, k.longest p h.within h.completed, h.longest q k.within k.completed)
 
-pub one_refusal : (input : List ℕ) (one other : OrderFault) → RefusesOrder input one → RefusesOrder input other → one ≡ other
+pub one_refusal : (input : List ℕ) (one other : OrderFault) → RefusesOrder input one → RefusesOrder input other
+    → one ≡ other
+one_refusal input (JobRange p) other h k =
+    one_fault_of_jobs input (JobRange p) other h (refused_jobs input other (text_with_job_fault input (JobRange p) h) k)
+one_refusal input (Repeated p) other h k =
+    one_fault_of_jobs input (Repeated p) other h (refused_jobs input other (text_with_job_fault input (Repeated p) h) k)
+one_refusal input one (JobRange q) h k =
+    one_fault_of_jobs input one (JobRange q) (refused_jobs input one (text_with_job_fault input (JobRange q) k) h) k
+one_refusal input one (Repeated q) h k =
+    one_fault_of_jobs input one (Repeated q) (refused_jobs input one (text_with_job_fault input (Repeated q) k) h) k
 one_refusal input (Syntax p) (Syntax q) h k = ap Syntax (one_offset input p q h.1 k.1)
-one_refusal input (Syntax p) (JobRange q) h k = absurd (h.1.no_text (is_text input (JobRange q) k))
-one_refusal input (Syntax p) (Repeated q) h k = absurd (h.1.no_text (is_text input (Repeated q) k))
 one_refusal input (Syntax p) TooLong h k = let few = h.0 in absurd (omega arith)
-one_refusal input (JobRange p) (Syntax q) h k = absurd (k.1.no_text (is_text input (JobRange p) h))
-one_refusal input (JobRange p) (JobRange q) h k = has_fault input (JobRange p) (JobRange q) h k
-one_refusal input (JobRange p) (Repeated q) h k = has_fault input (JobRange p) (Repeated q) h k
-one_refusal input (JobRange p) TooLong h k = let few = text_fits input (is_text input (JobRange p) h) in absurd (omega arith)
-one_refusal input (Repeated p) (Syntax q) h k = absurd (k.1.no_text (is_text input (Repeated p) h))
-one_refusal input (Repeated p) (JobRange q) h k = has_fault input (Repeated p) (JobRange q) h k
-one_refusal input (Repeated p) (Repeated q) h k = has_fault input (Repeated p) (Repeated q) h k
-one_refusal input (Repeated p) TooLong h k = let few = text_fits input (is_text input (Repeated p) h) in absurd (omega arith)
 one_refusal input TooLong (Syntax q) h k = let few = k.0 in absurd (omega arith)
-one_refusal input TooLong (JobRange q) h k = let few = text_fits input (is_text input (JobRange q) k) in absurd (omega arith)
-one_refusal input TooLong (Repeated q) h k = let few = text_fits input (is_text input (Repeated q) k) in absurd (omega arith)
 one_refusal input TooLong TooLong h k = refl
 one_refusal input Read other h k = absurd h
 one_refusal input Memory other h k = absurd h
-one_refusal input (Syntax p) Read h k = absurd k
-one_refusal input (Syntax p) Memory h k = absurd k
-one_refusal input (JobRange p) Read h k = absurd k
-one_refusal input (JobRange p) Memory h k = absurd k
-one_refusal input (Repeated p) Read h k = absurd k
-one_refusal input (Repeated p) Memory h k = absurd k
-one_refusal input TooLong Read h k = absurd k
-one_refusal input TooLong Memory h k = absurd k
+one_refusal input one Read h k = absurd k
+one_refusal input one Memory h k = absurd k
 
--- Orders.
+-- ---- orders
 
 abbrev numbered : List ℕ → List ℕ
 numbered order = map (λ job. job + 1) order
@@ -150,71 +164,75 @@ numbered order = map (λ job. job + 1) order
 number_at : (order : List ℕ) (i d : ℕ) → i < length order → get_or (numbered order) i d ≡ get_or order i 0 + 1
 number_at order i d lt = get_or-map (λ job. job + 1) order i 0 d lt
 
-job_right : (order : List ℕ) (i : ℕ) → IsSequence (length order) order → i < length (numbered order) → IsJob (numbered order) i
-job_right order i h lt =
-    let size : length (numbered order) ≡ length order = length-map order (λ (job : ℕ). job + 1) in
-    let small : get_or order i 0 < length order = All-get_or (λ job. job < length order) order i 0 (omega arith) h.in_range in
-    let is : get_or (numbered order) i 0 ≡ get_or order i 0 + 1 = number_at order i 0 (omega arith) in
+length-numbered : (order : List ℕ) → length (numbered order) ≡ length order
+length-numbered order = length-map order (λ (job : ℕ). job + 1)
+
+job_in_range : (order : List ℕ) (i : ℕ) → IsSequence (length order) order → i < length (numbered order)
+    → IsJob (numbered order) i
+job_in_range order i h lt =
+    let size = length-numbered order in
+    let small : get_or order i 0 < length order =
+    All-get_or (λ job. job < length order) order i 0 (omega arith) h.in_range in
+    let number : get_or (numbered order) i 0 ≡ get_or order i 0 + 1 = number_at order i 0 (omega arith) in
     (omega arith, omega arith)
 
-job_new : (order : List ℕ) (i : ℕ) → IsSequence (length order) order → i < length (numbered order) → ¬ IsRepeated (numbered order) i
-job_new order i h lt (k, within, same) =
-    let size : length (numbered order) ≡ length order = length-map order (λ (job : ℕ). job + 1) in
+job_is_new : (order : List ℕ) (i : ℕ) → IsSequence (length order) order → i < length (numbered order)
+    → ¬ IsRepeated (numbered order) i
+job_is_new order i h lt (k, within, same) =
+    let size = length-numbered order in
     let job : ℕ = get_or (numbered order) i 0 in
     let taken : length (take i (numbered order)) ≡ i = length-take-le i (numbered order) (omega arith) in
-    let below : k < i = omega arith in
-    let first : get_or (take i (numbered order)) k job ≡ get_or order k 0 + 1 = get_or-take i (numbered order) k job below ∙ number_at order k job (omega arith) in
-    let second : job ≡ get_or order i 0 + 1 = number_at order i 0 (omega arith) in
-    let equal : get_or order k 0 ≡ get_or order i 0 = omega arith in
-    let yes : eqb (get_or order k 0) (get_or order i 0) ≡ true = eq-eqb (get_or order k 0) (get_or order i 0) equal in
-    let apart : eqb (get_or order k 0) (get_or order i 0) ≡ false = apart_from_distinct eqb order k i 0 h.distinct below (omega arith) in
+    let before : get_or (take i (numbered order)) k job ≡ get_or order k 0 + 1 =
+    get_or-take i (numbered order) k job (omega arith) ∙ number_at order k job (omega arith) in
+    let number : job ≡ get_or order i 0 + 1 = number_at order i 0 (omega arith) in
+    let equal = eq-eqb (get_or order k 0) (get_or order i 0) (omega arith) in
+    let apart = apart_from_distinct eqb order k i 0 h.distinct (omega arith) (omega arith) in
     absurd (cc)
 
-no_job_fault : (order : List ℕ) (fault : OrderFault) → IsSequence (length order) order → ¬ IsJobFault (numbered order) fault
-no_job_fault order (JobRange p) h (i, (is, before, wrong)) = wrong (job_right order i h before.within)
-no_job_fault order (Repeated p) h (i, (is, before, right, again)) = job_new order i h before.within again
-no_job_fault order (Syntax p) h f = f
-no_job_fault order TooLong h f = f
-no_job_fault order Read h f = f
-no_job_fault order Memory h f = f
-
-not_job_fault : (input : List ℕ) (file : StatedOrder) (fault : OrderFault) → IsOrderFile input file → ¬ HasJobFault input fault
-not_job_fault input file fault h (jobs, (machines, (makespan, (k, f)))) =
-    no_job_fault file.order fault h.is_order (subst (λ xs. IsJobFault xs fault) (one_text input jobs (numbered file.order) machines file.machines makespan file.makespan k h.has_text).0 f)
-
-pub not_both : (input : List ℕ) (file : StatedOrder) (fault : OrderFault) → IsOrderFile input file → ¬ RefusesOrder input fault
-not_both input file (Syntax p) h k = k.1.no_text (file_text_is input file h)
-not_both input file (JobRange p) h k = not_job_fault input file (JobRange p) h k
-not_both input file (Repeated p) h k = not_job_fault input file (Repeated p) h k
-not_both input file TooLong h k = let few = text_fits input (file_text_is input file h) in absurd (omega arith)
-not_both input file Read h k = k
-not_both input file Memory h k = k
+pub not_both : (input : List ℕ) (file : StatedOrder) (fault : OrderFault) → IsOrderFile input file
+    → ¬ RefusesOrder input fault
+not_both input file fault h refused =
+    let text : IsText input = (numbered file.order, (file.machines, (file.makespan, h.has_text))) in
+    let (jobs, (machines, (makespan, (k, f)))) = refused_jobs input fault text refused in
+    let (i, (before, wrong)) = fault_place (numbered file.order) fault (rw (one_text k h.has_text).0 at f) in
+    elim wrong [
+      | inl out ↦ out (job_in_range file.order i h.is_order before.within)
+      | inr twice ↦ job_is_new file.order i h.is_order before.within twice
+    ]
 
 unnumbered : (order : List ℕ) → map (λ job. job - 1) (numbered order) ≡ order
 unnumbered [] = refl
 unnumbered (job ∷ order) = let first : job + 1 - 1 ≡ job = omega arith in let rest = unnumbered order in cc
 
-stated_same : (order other : List ℕ) (machines stated : Option ℕ) (makespan number : ℕ) → order ≡ other → machines ≡ stated → makespan ≡ number
-    → (let one : StatedOrder = record { order = order; machines = machines; makespan = makespan } in let two : StatedOrder = record { order = other; machines = stated; makespan = number } in one ≡ two)
-stated_same order other machines stated makespan number e f g = cc
+abbrev stated_order : List ℕ → Option ℕ → ℕ → StatedOrder
+stated_order order machines makespan = record { order = order; machines = machines; makespan = makespan }
 
-pub one_file : (input : List ℕ) (one other : StatedOrder) → IsOrderFile input one → IsOrderFile input other → one ≡ other
+same_stated : (order other : List ℕ) (machines stated : Option ℕ) (makespan number : ℕ) → order ≡ other
+    → machines ≡ stated → makespan ≡ number → stated_order order machines makespan ≡ stated_order other stated number
+same_stated order other machines stated makespan number e f g = cc
+
+pub one_file : (input : List ℕ) (one other : StatedOrder) → IsOrderFile input one → IsOrderFile input other
+    → one ≡ other
 one_file input one other h k =
-    let same = one_text input (numbered one.order) (numbered other.order) one.machines other.machines one.makespan other.makespan h.has_text k.has_text in
-    stated_same one.order other.order one.machines other.machines one.makespan other.makespan (sym (unnumbered one.order) ∙ ap (map (λ job. job - 1)) same.0 ∙ unnumbered other.order) same.1 same.2
+    let (numbers, machines, makespan) = one_text h.has_text k.has_text in
+    let order : one.order ≡ other.order = rw (numbers, unnumbered) at (sym (unnumbered one.order)) in
+    same_stated one.order other.order _ _ _ _ order machines makespan
 
-pub written_file : (order : List ℕ) (machines : Option ℕ) (makespan : ℕ) → IsSize limits (length order) → IsSequence (length order) order → AreMachines machines → makespan < 10 ^ 18
-    → IsOrderFile (file_text order machines makespan) (record { order = order; machines = machines; makespan = makespan })
+pub written_file : (order : List ℕ) (machines : Option ℕ) (makespan : ℕ) → IsSize limits (length order)
+    → IsSequence (length order) order → AreMachines machines → makespan < 10 ^ 18
+    → IsOrderFile (file_text order machines makespan)
+    (record { order = order; machines = machines; makespan = makespan })
 written_file order machines makespan size h stated small =
     let some = size.some in
     let few = size.few in
-    let same : length (numbered order) ≡ length order = length-map order (λ (job : ℕ). job + 1) in
+    let same = length-numbered order in
+    let short : (job : ℕ) → job < length order → IsShort (job + 1) = λ job lt. omega arith in
     record {
       is_order = h;
       has_text = record {
         some_job = omega arith;
         few_jobs = omega arith;
-        short_jobs = All-map IsShort (λ job. job + 1) order (All-weaker (λ job. job < length order) (λ job. IsShort (job + 1)) (λ job lt. omega arith) order h.in_range);
+        short_jobs = All-map IsShort (λ job. job + 1) order (All-weaker _ _ short order h.in_range);
         stated_machines = stated;
         short_makespan = small;
         spelled = refl;

@@ -4,10 +4,13 @@ use Rattle.pfs_order.proofs.reading.fill.Goals as goal
 
 pub loop-filled-preserved : goal.loop-filled-preserved
 loop-filled-preserved g c =
-    let reads = c.in-Some.ensures.bytes in
+    let (few, bytes, ends) = c.in-Some.ensures.bytes in
+    let buffer = c.loop-filled.buffer in
+    let room = length buffer - c.loop-filled.filled in
+    let within = c.loop-filled.invariant.within in
     record {
-      within = read_within c.loop-filled.filled (length c.loop-filled.buffer - c.loop-filled.filled) c.in-Some.n c.loop-filled.buffer c.read.new.buf c.loop-filled.invariant.within reads.0;
+      within = read_within c.loop-filled.filled room c.in-Some.n buffer c.read.new.buf within few;
       working = c.in-Some.ensures.failed ∙ c.loop-filled.invariant.working;
-      bytes = read_more (g.R.Source.left c.args.reader.now) (g.R.Source.left c.loop-filled.reader) (g.R.Source.left c.read.new.self)
-          c.loop-filled.filled (length c.loop-filled.buffer - c.loop-filled.filled) c.in-Some.n c.loop-filled.buffer c.read.new.buf c.loop-filled.invariant.within reads.0 c.loop-filled.invariant.bytes reads.1;
+      bytes = read_more (g.R.Source.left c.args.reader.now) (g.R.Source.left c.loop-filled.reader) _
+          c.loop-filled.filled room c.in-Some.n buffer c.read.new.buf within few c.loop-filled.invariant.bytes bytes;
     }

@@ -1,4 +1,4 @@
-use Rattle.std.proofs.Common.{◌≡◌, ◌≤◌, ◌++◌, ◌∷◌, [], ap, sym, arith, ◌∙◌}
+use Rattle.std.proofs.Common.{◌≡◌, ◌++◌, ◌∷◌, [], ap, sym, arith, ◌∙◌}
 use Rattle.std.proofs.lemmas.List.{append_assoc}
 use Rattle.std.specs.Fmt.{decimal}
 use Rattle.pfs_order.specs.Pieces.{numeral_of}
@@ -9,8 +9,11 @@ use Rattle.pfs_order.proofs.scan.longer.Goals.{else-least-n-via-then-least-n+els
 pub returns-else-least-n-clause-ends : goal.returns-else-least-n-clause-ends
 returns-else-least-n-clause-ends c n rest low high e =
     let begun : decimal n ≡ decimal c.in_ok-n.n ++ rest =
-    e ∙ sym (append_assoc (numeral_of c.args.number) (c.args.byte ∷ []) rest) ∙ ap (λ xs. xs ++ rest) (sym c.in_ok-n.ensures.on) in
-    let within = front_within c.args.least c.args.most c.in_ok-n.n n rest c.requires.low c.requires.high c.in_ok-n.ensures.small low high begun in
-    let above : c.args.least ≤ c.in_ok-n.n = within.0 in
-    let below : c.in_ok-n.n ≤ c.args.most = within.1 in
-    elim c.else-least-n.branch [ else-least-n-via-then-least-n+else-n-most w ↦ omega arith | else-least-n-via-else-least-n w ↦ omega arith ]
+    e ∙ sym (append_assoc (numeral_of c.args.number) (c.args.byte ∷ []) rest)
+    ∙ ap (λ xs. xs ++ rest) (sym c.in_ok-n.ensures.on) in
+    let (above, below) = front_within c.args.least c.args.most c.in_ok-n.n n rest c.requires.low c.requires.high
+    c.in_ok-n.ensures.small low high begun in
+    elim c.else-least-n.branch [
+      | else-least-n-via-then-least-n+else-n-most w ↦ omega arith
+      | else-least-n-via-else-least-n w ↦ omega arith
+    ]

@@ -10,12 +10,13 @@ returns-in_err-sent-in-Some-2 g c =
 
 pub returns-in_err-sent-in-Some-3 : goal.returns-in_err-sent-in-Some-3
 returns-in_err-sent-in-Some-3 g c =
-    let machines = then_front (then_all c.in_ok-sent-in-Some.ensures c.in_ok-sent-in-Some-2.ensures.text) c.in_err-sent-in-Some-3.ensures.text in
-    let front = front_of (10 ∷ []) machines in
+    let jobs = then_all c.in_ok-sent-in-Some.ensures c.in_ok-sent-in-Some-2.ensures.text in
+    let front = front_of (10 ∷ []) (then_front jobs c.in_err-sent-in-Some-3.ensures.text) in
     search rules
 
 pub returns-in_ok-sent-in-Some-3 : goal.returns-in_ok-sent-in-Some-3
 returns-in_ok-sent-in-Some-3 g c =
-    let machines = then_all (then_all c.in_ok-sent-in-Some.ensures c.in_ok-sent-in-Some-2.ensures.text) c.in_ok-sent-in-Some-3.ensures.text in
+    let jobs = then_all c.in_ok-sent-in-Some.ensures c.in_ok-sent-in-Some-2.ensures.text in
+    let machines = then_all jobs c.in_ok-sent-in-Some-3.ensures.text in
     let line = then_sends _ _ _ c.put-in-Some.result machines c.put-in-Some.ensures in
     search rules

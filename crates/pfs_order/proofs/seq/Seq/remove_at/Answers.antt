@@ -6,8 +6,9 @@ use Rattle.pfs_order.proofs.seq.Seq.remove_at.Goals as goal
 pub invariant_of-self : goal.invariant_of-self
 invariant_of-self c =
     let within = subst (λ (s : Sequence). c.args.place < length s.jobs) (sym c.self.view_is) c.requires in
+    let left = IsSequence-remove _ _ _ _ within c.remove.ensures.value c.self.invariant.sequence in
     record {
       accepted = c.self.invariant.accepted;
-      sequence = rw c.remove.ensures.items (IsSequence-remove _ _ _ _ within c.remove.ensures.value c.self.invariant.sequence);
+      sequence = rw c.remove.ensures.items left;
       room = omega (arith, c.remove.ensures.capacity);
     }
