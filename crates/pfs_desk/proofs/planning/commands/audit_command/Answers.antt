@@ -8,8 +8,7 @@ pub returns : goal.returns
 returns c =
     let name = c.args.name.now in
     let begun : List Rule = layout_rule c.args.names (codes "layout") ∷ block_rule ∷ [] in
-    let file = path_rule (codes "file") in
-    let filed = one_more name begun file _ c.path_arg.result c.in_ok-layout_command.ensures c.path_arg.ensures.rule c.path_arg.ensures.local
-    c.in_ok-arg.field-0 c.in_ok-arg.ensures in
-    last_one name (begun ++ file ∷ []) (path_rule (codes "order")) _ c.path_arg-2.result filed c.path_arg-2.ensures.rule c.path_arg-2.ensures.local
-    c.arg-2.result c.arg-2.ensures
+    let filed = one_more name begun c.in_ok-arg.ensures c.in_ok-layout_command.ensures
+        c.path_arg.ensures.rule c.path_arg.ensures.local in
+    last_one name (begun ++ path_rule (codes "file") ∷ []) _ c.path_arg-2.result _ c.arg-2.ensures filed
+        c.path_arg-2.ensures.rule c.path_arg-2.ensures.local
