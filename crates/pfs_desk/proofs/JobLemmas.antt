@@ -7,8 +7,8 @@ use Rattle.std.specs.List.{list_any}
 use Rattle.std.specs.Str.{bytes_eq}
 use Rattle.std.proofs.lemmas.Bool.{or_cases}
 use Rattle.std.proofs.lemmas.Slice.Eq.{bytes_eq-Decides}
-use Rattle.clap.specs.Words.{App, Rule, Text, app_of, fault_of, first_of, found_of, is_simple_and_free, matches_of, rows_of}
-use Rattle.clap.specs.Words.{takes}
+use Rattle.clap.specs.Words.{App, Rule, Text, app_of, fault_of, first_of, found_of, is_simple_and_free, matches_of}
+use Rattle.clap.specs.Words.{rows_of, takes}
 use Rattle.clap.specs.Faults.{is_free_app}
 use Rattle.clap.specs.Simple.{built, is_simple}
 use Rattle.clap.specs.Values.{IsUnsignedIn, same_text}
@@ -18,7 +18,8 @@ use Rattle.clap.specs.declared.builder.value_parser.ValueParser.TheVariants as p
 use Rattle.clap.specs.declared.parser.matches.ArgMatches.{ArgMatches}
 use Rattle.clap.proofs.WalkLemmas.{both, list_any-map}
 use Rattle.pfs_desk.specs.Commands.{AreLayoutNames, Names, form_of, layout_rule}
-use Rattle.pfs_desk.specs.Jobs.{IsFaultlessLine, AsksFor, AsksForJob, AsksForNothing, SaysMaybeNumber, number_of, takes_line}
+use Rattle.pfs_desk.specs.Jobs.{IsFaultlessLine, AsksFor, AsksForJob, AsksForNothing, SaysMaybeNumber, number_of}
+use Rattle.pfs_desk.specs.Jobs.{takes_line}
 use Rattle.pfs_desk.specs.Parses.{HasLayout, HasNumber, HasText, IsParseOf, MayHaveNumber}
 use Rattle.pfs_desk.specs.declared.job.Job.{Job}
 use Rattle.pfs_layout.specs.declared.layout.Layout.TheVariants.{Taillard, OrLib}
@@ -51,7 +52,8 @@ module _ (names : Names) (word : Text) (words : List Text) (are : AreLayoutNames
 
   -- and so a command of that form does
   pub refused_by : {app form : App} → app ≡ form → form_of names word ≡ Some form → is_simple_and_free form ≡ true
-      → takes app words ≡ false → (is_simple_and_free app ≡ true → fault_of app words ≡ [] → ⊥) → AsksForNothing word words
+      → takes app words ≡ false → (is_simple_and_free app ≡ true → fault_of app words ≡ [] → ⊥)
+      → AsksForNothing word words
   refused_by is named simple denied faulty = refused_by_form named (subst (λ a. takes a words ≡ false) is denied)
       (λ none. faulty (ap is_simple_and_free is ∙ simple) (subst (λ a. fault_of a words ≡ []) (sym is) none))
 
@@ -83,41 +85,38 @@ within_range least most (Some t) passes = let passed = passes t refl in (passed.
 -- by the place of the argument's rule in the form that the words were parsed by
 module _ {command : Command} {form : App} {words : List Text} {m : ArgMatches} (parse : IsParseOf command words m)
     (is : app_of command ≡ form) where
-  pub text_given : (k : ℕ) (r : Rule) → slice_get form.top.rules k ≡ Some r → has_place form k r && asks_value r ≡ true
-      → HasText m r.id
+  pub text_given : (k : ℕ) (r : Rule) → slice_get form.top.rules k ≡ Some r → has_place form k r ≡ true
+      → asks_value r ≡ true → HasText m r.id
   text_given k r = form_has_value command m form k r is parse.facts
 
   pub layout_given : (k : ℕ) (id : Text) (names : Names) → AreLayoutNames names
-      → slice_get form.top.rules k ≡ Some (layout_rule names id)
-      → has_place form k (layout_rule names id) && asks_value (layout_rule names id) ≡ true → HasLayout m id
-  layout_given k id names are at test =
-      let (t, said) = text_given k (layout_rule names id) at test in
-      let place = (both (has_place form k (layout_rule names id)) _ test).0 in
-      let passed = form_passes command m form k (layout_rule names id) is parse.facts at place t said (parser.Names names) refl in
+      → slice_get form.top.rules k ≡ Some (layout_rule names id) → has_place form k (layout_rule names id) ≡ true
+      → HasLayout m id
+  layout_given k id names are at place =
+      let rule = layout_rule names id in
+      let (t, said) = text_given k rule at place refl in
+      let passed = form_passes command m form k rule is parse.facts at place t said (parser.Names names) refl in
       elim (listed names.now (codes "taillard") (codes "orlib") t are passed) [
         | inl taillard ↦ (Taillard, said ∙ ap Some taillard)
         | inr orlib ↦ (OrLib, said ∙ ap Some orlib)
       ]
 
   module _ (k : ℕ) (r : Rule) {least most : ℕ} (at : slice_get form.top.rules k ≡ Some r)
-      (parsed : r.parser ≡ Some (parser.Unsigned least most)) where
-    number_passes : has_place form k r ≡ true → (t : Text) → first_of r.id (rows_of (found_of m)) ≡ Some t
-        → IsUnsignedIn least most t
-    number_passes test t said =
-        form_passes command m form k r is parse.facts at test t said (parser.Unsigned least most) parsed
+      (parsed : r.parser ≡ Some (parser.Unsigned least most)) (place : has_place form k r ≡ true) where
+    number_passes : (t : Text) → first_of r.id (rows_of (found_of m)) ≡ Some t → IsUnsignedIn least most t
+    number_passes t said = form_passes command m form k r is parse.facts at place t said (parser.Unsigned least most) parsed
 
-    pub number_if_given : has_place form k r ≡ true → MayHaveNumber m r.id
-    number_if_given test t said = any_unsigned least most t (number_passes test t said)
+    pub number_if_given : MayHaveNumber m r.id
+    number_if_given t said = any_unsigned least most t (number_passes t said)
 
-    pub some_number_given : has_place form k r && asks_value r ≡ true → HasNumber m r.id
-    some_number_given test =
-        let (t, said) = text_given k r at test in
-        (t, said, number_if_given (both (has_place form k r) _ test).0 t said)
+    pub some_number_given : asks_value r ≡ true → HasNumber m r.id
+    some_number_given asks =
+        let (t, said) = text_given k r at place asks in
+        (t, said, number_if_given t said)
 
-    pub number_in_range : {o : Option ℕ} → has_place form k r ≡ true → SaysMaybeNumber (rows_of (found_of m)) r.id o
+    pub number_in_range : {o : Option ℕ} → SaysMaybeNumber (rows_of (found_of m)) r.id o
         → IfSome o (λ n. (least ≤ n) × (n ≤ most))
-    number_in_range test says =
-        subst (λ o. IfSome o (λ n. (least ≤ n) × (n ≤ most))) says (within_range least most _ (number_passes test))
+    number_in_range says = subst (λ o. IfSome o (λ n. (least ≤ n) × (n ≤ most))) says (within_range least most _ number_passes)
 
   pub faultless : is_simple_and_free form ≡ true → fault_of form words ≡ []
   faultless simple = subst (λ a. fault_of a words ≡ []) is (parse.faultless (ap is_simple_and_free is ∙ simple))

@@ -9,16 +9,16 @@ use Rattle.pfs_desk.proofs.planning.plan_generate.Goals as goal
 pub number_in-requires : goal.number_in-requires
 number_in-requires c =
     some_number_given c.in_ok-matches.ensures.ok c.in_ok-generate_command.ensures 0
-    (number_rule (codes "jobs") 1 MOST_JOBS) refl refl refl
+    (number_rule (codes "jobs") 1 MOST_JOBS) refl refl refl refl
 
 pub number_in-requires-2 : goal.number_in-requires-2
 number_in-requires-2 c =
     some_number_given c.in_ok-matches.ensures.ok c.in_ok-generate_command.ensures 1
-    (number_rule (codes "machines") 1 MOST_MACHINES) refl refl refl
+    (number_rule (codes "machines") 1 MOST_MACHINES) refl refl refl refl
 
 pub number_in-requires-3 : goal.number_in-requires-3
 number_in-requires-3 c =
-    some_number_given c.in_ok-matches.ensures.ok c.in_ok-generate_command.ensures 2 seed_rule refl refl refl
+    some_number_given c.in_ok-matches.ensures.ok c.in_ok-generate_command.ensures 2 seed_rule refl refl refl refl
 
 pub returns-in_err-matches-clause-usage : goal.returns-in_err-matches-clause-usage
 returns-in_err-matches-clause-usage c e =

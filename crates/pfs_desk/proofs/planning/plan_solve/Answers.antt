@@ -11,15 +11,15 @@ number_in_if-requires c =
 
 pub number_in-requires : goal.number_in-requires
 number_in-requires c =
-    some_number_given c.in_ok-matches.ensures.ok c.in_ok-solve_command.ensures 2 rounds_rule refl refl refl
+    some_number_given c.in_ok-matches.ensures.ok c.in_ok-solve_command.ensures 2 rounds_rule refl refl refl refl
 
 pub number_in-requires-2 : goal.number_in-requires-2
 number_in-requires-2 c =
-    some_number_given c.in_ok-matches.ensures.ok c.in_ok-solve_command.ensures 4 search_seed_rule refl refl refl
+    some_number_given c.in_ok-matches.ensures.ok c.in_ok-solve_command.ensures 4 search_seed_rule refl refl refl refl
 
 pub number_in-requires-3 : goal.number_in-requires-3
 number_in-requires-3 c =
-    some_number_given c.in_ok-matches.ensures.ok c.in_ok-solve_command.ensures 5 passes_rule refl refl refl
+    some_number_given c.in_ok-matches.ensures.ok c.in_ok-solve_command.ensures 5 passes_rule refl refl refl refl
 
 pub layout_in-requires : goal.layout_in-requires
 layout_in-requires c =
@@ -28,11 +28,11 @@ layout_in-requires c =
 
 pub number_in-requires-4 : goal.number_in-requires-4
 number_in-requires-4 c =
-    some_number_given c.in_ok-matches.ensures.ok c.in_ok-solve_command.ensures 1 block_rule refl refl refl
+    some_number_given c.in_ok-matches.ensures.ok c.in_ok-solve_command.ensures 1 block_rule refl refl refl refl
 
 pub path_in-requires : goal.path_in-requires
 path_in-requires c =
-    text_given c.in_ok-matches.ensures.ok c.in_ok-solve_command.ensures 7 (path_rule (codes "file")) refl refl
+    text_given c.in_ok-matches.ensures.ok c.in_ok-solve_command.ensures 7 (path_rule (codes "file")) refl refl refl
 
 pub overflow_cast-options : goal.overflow_cast-options
 overflow_cast-options c =

@@ -12,11 +12,11 @@ layout_in-requires c =
 
 pub number_in-requires : goal.number_in-requires
 number_in-requires c =
-    some_number_given c.in_ok-matches.ensures.ok c.in_ok-value_command.ensures 1 block_rule refl refl refl
+    some_number_given c.in_ok-matches.ensures.ok c.in_ok-value_command.ensures 1 block_rule refl refl refl refl
 
 pub path_in-requires : goal.path_in-requires
 path_in-requires c =
-    text_given c.in_ok-matches.ensures.ok c.in_ok-value_command.ensures 2 (path_rule (codes "file")) refl refl
+    text_given c.in_ok-matches.ensures.ok c.in_ok-value_command.ensures 2 (path_rule (codes "file")) refl refl refl
 
 pub returns-in_err-matches-clause-usage : goal.returns-in_err-matches-clause-usage
 returns-in_err-matches-clause-usage c e =
