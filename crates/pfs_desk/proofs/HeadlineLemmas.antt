@@ -1,6 +1,6 @@
 -- What an engine's answers say of a file whose bytes are told.
-use Rattle.std.proofs.Common.{◌≡◌, ◌≢◌, ℕ, ◌<◌, ◌≤◌, Bool, true, List, Option, Some, None, Result, Ok, Err, IfSome, IfErr}
-use Rattle.std.proofs.Common.{refl, sym, ap, ◌∙◌, subst, ⊎_elim, arith, true≢false, unwrap_or}
+use Rattle.std.proofs.Common.{◌≡◌, ◌≢◌, ℕ, ◌<◌, ◌≤◌, Bool, true, List, Option, Some, None, Result, Ok, Err}
+use Rattle.std.proofs.Common.{IfSome, IfErr, refl, sym, ap, ◌∙◌, subst, ⊎_elim, arith, true≢false, unwrap_or}
 use Rattle.pfs_base.specs.Limits.{limits}
 use Rattle.pfs_base.specs.Problem.{Problem}
 use Rattle.pfs_layout.specs.declared.fault.LayoutFault.{LayoutFault}
@@ -21,8 +21,8 @@ use Rattle.pfs_desk.specs.Solve.{take_for}
 abbrev refusal : LayoutFault → Result Outcome DeskFault
 refusal fault = Err (faults.Layout fault)
 
-module _ (layout : Layout) (file : List ℕ) (block : ℕ) (some : 1 ≤ block) (options : SolveOptions) (old new : Option (List ℕ))
-    (reader_failed writer_failed : Bool) where
+module _ (layout : Layout) (file : List ℕ) (block : ℕ) (some : 1 ≤ block) (options : SolveOptions)
+    (old new : Option (List ℕ)) (reader_failed writer_failed : Bool) where
   abbrev Is : Problem → Type 0
   Is problem = IsInstanceFile limits layout file block problem
 
@@ -42,7 +42,8 @@ module _ (layout : Layout) (file : List ℕ) (block : ℕ) (some : 1 ≤ block) 
 
   -- too many are asked for a problem that allows as many as are taken
   too_many_taken : (problem other : Problem) (asked : ℕ) → Is problem → Is other
-      → take_for options.take other.shop.jobs ≤ other.shop.jobs → options.take ≡ Some asked → problem.shop.jobs < asked → ⊥
+      → take_for options.take other.shop.jobs ≤ other.shop.jobs → options.take ≡ Some asked
+      → problem.shop.jobs < asked → ⊥
   too_many_taken problem other asked holds holds_other few is above =
       let same = ap (λ (p : Problem). p.shop.jobs) (one_problem problem other holds holds_other) in
       let taken : asked ≤ other.shop.jobs = rw is at few in
@@ -76,8 +77,10 @@ module _ (layout : Layout) (file : List ℕ) (block : ℕ) (some : 1 ≤ block) 
         too_many = λ problem asked holds is above reads. absurd (not_both problem fault holds (told reads));
       }
 
-  answers : (result : Result Outcome DeskFault) → Writes (SolveOutput layout (Some file) block options) old new writer_failed result
-      → IfErr result (JudgesFirst layout (Some file) block) → (result ≡ refusal layout_faults.Read → reader_failed ≡ true)
+  answers : (result : Result Outcome DeskFault)
+      → Writes (SolveOutput layout (Some file) block options) old new writer_failed result
+      → IfErr result (JudgesFirst layout (Some file) block)
+      → (result ≡ refusal layout_faults.Read → reader_failed ≡ true)
       → IfErr result RefusesNoOrder → IfErr result (JudgesTake layout (Some file) block options.take) → Answers result
   answers (Ok outcome) writes first read no_order take =
       let output = writes.is_output in

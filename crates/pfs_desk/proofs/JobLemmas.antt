@@ -104,7 +104,8 @@ module _ {command : Command} {form : App} {words : List Text} {m : ArgMatches} (
   module _ (k : ℕ) (r : Rule) {least most : ℕ} (at : slice_get form.top.rules k ≡ Some r)
       (parsed : r.parser ≡ Some (parser.Unsigned least most)) (place : has_place form k r ≡ true) where
     number_passes : (t : Text) → first_of r.id (rows_of (found_of m)) ≡ Some t → IsUnsignedIn least most t
-    number_passes t said = form_passes command m form k r is parse.facts at place t said (parser.Unsigned least most) parsed
+    number_passes t said =
+        form_passes command m form k r is parse.facts at place t said (parser.Unsigned least most) parsed
 
     pub number_if_given : MayHaveNumber m r.id
     number_if_given t said = any_unsigned least most t (number_passes t said)
@@ -116,7 +117,8 @@ module _ {command : Command} {form : App} {words : List Text} {m : ArgMatches} (
 
     pub number_in_range : {o : Option ℕ} → SaysMaybeNumber (rows_of (found_of m)) r.id o
         → IfSome o (λ n. (least ≤ n) × (n ≤ most))
-    number_in_range says = subst (λ o. IfSome o (λ n. (least ≤ n) × (n ≤ most))) says (within_range least most _ number_passes)
+    number_in_range says =
+        subst (λ o. IfSome o (λ n. (least ≤ n) × (n ≤ most))) says (within_range least most _ number_passes)
 
   pub faultless : is_simple_and_free form ≡ true → fault_of form words ≡ []
   faultless simple = subst (λ a. fault_of a words ≡ []) is (parse.faultless (ap is_simple_and_free is ∙ simple))

@@ -33,8 +33,8 @@ unfolding valid_text
 valid_front makespan bound front = front_of _ front
 
 -- an order of a wrong size
-pub wrong_size_prints : (shop : FlowShop) (file : StatedOrder) (size jobs : ℕ) → size ≡ length file.order → jobs ≡ shop.jobs
-    → size ≢ jobs → TablePrints shop file CheckFailed (wrong_size_text size jobs)
+pub wrong_size_prints : (shop : FlowShop) (file : StatedOrder) (size jobs : ℕ) → size ≡ length file.order
+    → jobs ≡ shop.jobs → size ≢ jobs → TablePrints shop file CheckFailed (wrong_size_text size jobs)
 wrong_size_prints shop file size jobs e f wrong = record {
   fits = λ fits. absurd (wrong (e ∙ fits.jobs ∙ sym f));
   wrong_size = λ other. (refl, rw (e, f));
@@ -51,8 +51,8 @@ wrong_machines_prints shop file stated machines size is e wrong = record {
   wrong_machines = λ same other is_other not. let one : stated ≡ other = cc in (refl, rw (one, e));
 }
 
-pub least_of : (shop : FlowShop) (order other : List ℕ) (timing : Timing) → order ≡ other → IsLeastTable shop order timing
-    → IsLeastTable shop other timing
+pub least_of : (shop : FlowShop) (order other : List ℕ) (timing : Timing) → order ≡ other
+    → IsLeastTable shop order timing → IsLeastTable shop other timing
 least_of shop order other timing e least = rw e at least
 
 -- an order that fits

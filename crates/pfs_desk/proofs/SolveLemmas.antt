@@ -1,6 +1,6 @@
 -- What a search finds, counts and prints.
-use Rattle.std.proofs.Common.{◌≡◌, ℕ, zero, suc, ◌+◌, ◌-◌, ◌*◌, ◌<◌, ◌≤◌, ◌^◌, Bool, true, false, List, ◌∷◌, ◌++◌, Option}
-use Rattle.std.proofs.Common.{Some, length, map, codes, refl, ap, ap₂, ◌∙◌, arith, lit<}
+use Rattle.std.proofs.Common.{◌≡◌, ℕ, zero, suc, ◌+◌, ◌-◌, ◌*◌, ◌<◌, ◌≤◌, ◌^◌, Bool, true, false, List, ◌∷◌, ◌++◌}
+use Rattle.std.proofs.Common.{Option, Some, length, map, codes, refl, ap, ap₂, ◌∙◌, arith, lit<}
 use Rattle.std.proofs.lemmas.List.{append-nil}
 use Rattle.std.proofs.Math.Nat.{mul-le-mul, mul-le-mul_left}
 use Rattle.rand_core.specs.Pcg32Seed.{pcg32_seed}
@@ -57,8 +57,10 @@ each_round rounds put_back passes jobs machines width = omega arith
 
 rounds_cells_are : (shop : FlowShop) (rounds many passes : ℕ) → many ≤ shop.jobs
     → rounds * round_cost heads_tails_cost shop.jobs shop.machines many passes ≡ rounds_cells shop rounds many passes
-rounds_cells_are shop rounds many passes few = rw (closed.round shop.jobs shop.machines many passes few)
-    (each_round rounds (2 * many * shop.machines * (2 * shop.jobs - many)) passes shop.jobs shop.machines (4 * shop.jobs - 2))
+rounds_cells_are shop rounds many passes few =
+    let put_back : ℕ = 2 * many * shop.machines * (2 * shop.jobs - many) in
+    rw (closed.round shop.jobs shop.machines many passes few)
+    (each_round rounds put_back passes shop.jobs shop.machines (4 * shop.jobs - 2))
 
 rounds_cells_few : (shop : FlowShop) (rounds many passes : ℕ) → many ≤ shop.jobs
     → rounds_cells shop rounds many passes ≤ rounds * (many + passes * shop.jobs) * shop.machines * (4 * shop.jobs - 2)
@@ -93,8 +95,9 @@ pub neh_room : (shop : FlowShop) → IsWithin limits shop → neh_cost heads_tai
 neh_room shop within = rw (closed.neh shop.jobs shop.machines)
     (below_room _ most_neh_cells (few_neh_cells shop within) (lit< tt))
 
-pub rounds_room : (shop : FlowShop) (rounds many passes : ℕ) → IsWithin limits shop → many ≤ shop.jobs → rounds ≤ MOST_ROUNDS
-    → passes ≤ MOST_PASSES → rounds * round_cost heads_tails_cost shop.jobs shop.machines many passes < 2 ^ 62
+pub rounds_room : (shop : FlowShop) (rounds many passes : ℕ) → IsWithin limits shop → many ≤ shop.jobs
+    → rounds ≤ MOST_ROUNDS → passes ≤ MOST_PASSES
+    → rounds * round_cost heads_tails_cost shop.jobs shop.machines many passes < 2 ^ 62
 rounds_room shop rounds many passes within few short scarce = rw (rounds_cells_are shop rounds many passes few)
     (below_room _ most_rounds_cells (few_rounds_cells shop rounds many passes within few short scarce) (lit< tt))
 
@@ -113,8 +116,8 @@ pub record NehDone (shop : FlowShop) (order : List ℕ) (span cells : ℕ) : Typ
   pub counted : cells ≡ neh_cost heads_tails_cost shop.jobs shop.machines
 
 -- and then so many rounds on the words of a stream
-pub record RoundsDone (shop : FlowShop) (rounds many passes : ℕ) (stream : Stream) (old : List ℕ) (old_span old_cells : ℕ)
-    (order : List ℕ) (span cells : ℕ) : Type 0 where
+pub record RoundsDone (shop : FlowShop) (rounds many passes : ℕ) (stream : Stream) (old : List ℕ)
+    (old_span old_cells : ℕ) (order : List ℕ) (span cells : ℕ) : Type 0 where
   pub is_order : order ≡ after_rounds shop passes rounds many old (words_of (rounds * many) stream)
   pub is_span : span ≡ makespan shop order
   pub never_rises : span ≤ old_span
@@ -125,13 +128,15 @@ pub found_is : (shop : FlowShop) (rounds many passes seed : ℕ) (generator : Lc
     → NehDone shop old old_span old_cells
     → RoundsDone shop rounds many passes (stream_of (steps_u32 pcg32) generator) old old_span old_cells order span cells
     → length order ≡ shop.jobs → IsSequence shop.jobs order → IsFound shop rounds many passes seed order span cells
-found_is shop rounds many passes seed generator old old_span old_cells order span cells few seeded neh done all distinct = record {
+found_is shop rounds many passes seed generator old old_span old_cells order span cells few seeded neh done all
+    distinct = record {
   found = done.is_order ∙ rw (neh.is_order, words_are seed generator (rounds * many) seeded);
   all = all;
   distinct = distinct;
   spanned = done.is_span;
   no_longer = rw (← neh.is_order, ← neh.is_span) done.never_rises;
-  counted = done.counted ∙ ap₂ ◌+◌ (neh.counted ∙ closed.neh shop.jobs shop.machines) (rounds_cells_are shop rounds many passes few);
+  counted = done.counted ∙ ap₂ ◌+◌ (neh.counted ∙ closed.neh shop.jobs shop.machines)
+      (rounds_cells_are shop rounds many passes few);
   few_cells = rounds_cells_few shop rounds many passes few;
 }
 
@@ -142,7 +147,8 @@ pub file_short : (order : List ℕ) (machines span : ℕ) → IsSize limits (len
     → length (file_text order (Some machines) span) ≤ LONGEST_ORDER_FILE
 file_short order machines span size distinct some few short =
     let written = written_file order (Some machines) span size distinct (some, few) short in
-    text_fits (file_text order (Some machines) span) (map (λ job. job + 1) order, (Some machines, (span, written.has_text)))
+    text_fits (file_text order (Some machines) span)
+    (map (λ job. job + 1) order, (Some machines, (span, written.has_text)))
 
 pub solution_counted : (order : List ℕ) (machines span : ℕ) (with_cells : Bool) (cells : ℕ) → with_cells ≡ true
     → solution_text order machines span with_cells cells

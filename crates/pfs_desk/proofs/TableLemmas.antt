@@ -12,84 +12,81 @@ use Rattle.pfs_desk.specs.OutputText.{row_text, table_text}
 
 -- ---- a row
 
-abbrev pub start_part : Timing → ℕ → ℕ → List ℕ
-start_part timing row machine = 32 ∷ decimal (start_in timing row machine)
+module _ (timing : Timing) (row : ℕ) where
+  abbrev start_part : ℕ → List ℕ
+  start_part machine = 32 ∷ decimal (start_in timing row machine)
 
-abbrev pub end_part : Timing → ℕ → ℕ → List ℕ
-end_part timing row machine = 32 ∷ decimal (end_in timing row machine)
+  abbrev end_part : ℕ → List ℕ
+  end_part machine = 32 ∷ decimal (end_in timing row machine)
 
-abbrev pub machine_part : Timing → ℕ → ℕ → List ℕ
-machine_part timing row machine = start_part timing row machine ++ end_part timing row machine
+  abbrev machine_part : ℕ → List ℕ
+  machine_part machine = start_part machine ++ end_part machine
 
--- a row as far as a machine
-unfoldable pub row_to : Timing → ℕ → ℕ → List ℕ
-row_to timing row machine = decimal (get_or timing.jobs row 0 + 1) ++ flat_map (machine_part timing row) (below machine)
+  -- a row as far as a machine
+  unfoldable pub row_to : ℕ → List ℕ
+  row_to machine = decimal (get_or timing.jobs row 0 + 1) ++ flat_map machine_part (below machine)
 
-row_to-more : (timing : Timing) (row machine : ℕ) → row_to timing row (machine + 1)
-    ≡ (row_to timing row machine ++ start_part timing row machine) ++ end_part timing row machine
-unfolding row_to
-row_to-more timing row machine = rw (add-one machine, flat_map_more (machine_part timing row) machine) (simp append_assoc)
+  row_to-more : (machine : ℕ) → row_to (machine + 1) ≡ (row_to machine ++ start_part machine) ++ end_part machine
+  unfolding row_to
+  row_to-more machine = rw (add-one machine, flat_map_more machine_part machine) (simp append_assoc)
 
--- the whole line
-row_whole : (timing : Timing) (row : ℕ) → row_text timing row ≡ row_to timing row timing.machines ++ 10 ∷ []
-unfolding row_text row_to
-row_whole timing row = rw (spaced-cons, spaced_pairs (start_in timing row) (end_in timing row))
+  -- the whole line
+  row_whole : row_text timing row ≡ row_to timing.machines ++ 10 ∷ []
+  unfolding row_text row_to
+  row_whole = rw (spaced-cons, spaced_pairs (start_in timing row) (end_in timing row))
 
-row_front : {a b : Option (List ℕ)} {failed : Bool} {sent reached : ℕ} (timing : Timing) (row machine : ℕ)
-    → machine < timing.machines
-    → SendsFront a b failed sent ((row_to timing row machine ++ start_part timing row machine) ++ end_part timing row machine) reached
-    → SendsFront a b failed sent (row_text timing row) reached
-unfolding row_to
-row_front timing row machine h front =
-    let (rest, parts) = flat_map_from (machine_part timing row) machine timing.machines h in
-    let whole : row_text timing row
-        ≡ ((row_to timing row machine ++ start_part timing row machine) ++ end_part timing row machine) ++ (rest ++ 10 ∷ []) =
-        rw (row_whole timing row, parts) (simp append_assoc) in
-    rw whole (front_of (rest ++ 10 ∷ []) front)
+  row_front : {a b : Option (List ℕ)} {failed : Bool} {sent reached : ℕ} (machine : ℕ) → machine < timing.machines
+      → SendsFront a b failed sent ((row_to machine ++ start_part machine) ++ end_part machine) reached
+      → SendsFront a b failed sent (row_text timing row) reached
+  unfolding row_to
+  row_front machine h front =
+      let (rest, parts) = flat_map_from machine_part machine timing.machines h in
+      let whole : row_text timing row
+          ≡ ((row_to machine ++ start_part machine) ++ end_part machine) ++ (rest ++ 10 ∷ []) =
+          rw (row_whole, parts) (simp append_assoc) in
+      rw whole (front_of (rest ++ 10 ∷ []) front)
 
--- a row's first number, and a front of it
-pub row_job : {a b : Option (List ℕ)} {failed : Bool} {sent total : ℕ} (timing : Timing) (row job : ℕ)
-    → job ≡ get_or timing.jobs row 0
-    → SendsAll a b failed sent (decimal (job + 1)) total → SendsAll a b failed sent (row_to timing row 0) total
-unfolding row_to
-row_job timing row job e all = rw append-nil (rw e at all)
+  -- a row's first number, and a front of it
+  pub row_job : {a b : Option (List ℕ)} {failed : Bool} {sent total : ℕ} (job : ℕ) → job ≡ get_or timing.jobs row 0
+      → SendsAll a b failed sent (decimal (job + 1)) total → SendsAll a b failed sent (row_to 0) total
+  unfolding row_to
+  row_job job e all = rw append-nil (rw e at all)
 
-pub row_job_front : {a b : Option (List ℕ)} {failed : Bool} {sent reached : ℕ} (timing : Timing) (row job : ℕ)
-    → job ≡ get_or timing.jobs row 0
-    → SendsFront a b failed sent (decimal (job + 1)) reached → SendsFront a b failed sent (row_text timing row) reached
-unfolding row_to
-row_job_front timing row job e front = rw (row_whole timing row)
-    (front_of (10 ∷ []) (front_of (flat_map (machine_part timing row) (below timing.machines)) (rw e at front)))
+  pub row_job_front : {a b : Option (List ℕ)} {failed : Bool} {sent reached : ℕ} (job : ℕ)
+      → job ≡ get_or timing.jobs row 0 → SendsFront a b failed sent (decimal (job + 1)) reached
+      → SendsFront a b failed sent (row_text timing row) reached
+  unfolding row_to
+  row_job_front job e front =
+      rw row_whole (front_of (10 ∷ []) (front_of (flat_map machine_part (below timing.machines)) (rw e at front)))
 
--- a front of a start behind a row's earlier numbers
-pub row_start_front : {a b c : Option (List ℕ)} {working failed : Bool} {sent middle reached : ℕ} (timing : Timing)
-    (row machine start : ℕ) → machine < timing.machines → start ≡ start_in timing row machine
-    → SendsAll a b working sent (row_to timing row machine) middle
-    → SendsFront b c failed middle (32 ∷ decimal start) reached → SendsFront a c failed sent (row_text timing row) reached
-row_start_front timing row machine start h e all front =
-    row_front timing row machine h (front_of (end_part timing row machine) (then_front all (rw e at front)))
+  -- a front of a start behind a row's earlier numbers
+  pub row_start_front : {a b c : Option (List ℕ)} {working failed : Bool} {sent middle reached : ℕ}
+      (machine start : ℕ) → machine < timing.machines → start ≡ start_in timing row machine
+      → SendsAll a b working sent (row_to machine) middle → SendsFront b c failed middle (32 ∷ decimal start) reached
+      → SendsFront a c failed sent (row_text timing row) reached
+  row_start_front machine start h e all front =
+      row_front machine h (front_of (end_part machine) (then_front all (rw e at front)))
 
--- a front of an end behind a row's earlier numbers
-pub row_end_front : {a b c d : Option (List ℕ)} {working started failed : Bool} {sent middle next reached : ℕ} (timing : Timing)
-    (row machine start finish : ℕ) → machine < timing.machines → start ≡ start_in timing row machine
-    → finish ≡ end_in timing row machine → SendsAll a b working sent (row_to timing row machine) middle
-    → SendsAll b c started middle (32 ∷ decimal start) next
-    → SendsFront c d failed next (32 ∷ decimal finish) reached → SendsFront a d failed sent (row_text timing row) reached
-row_end_front timing row machine start finish h e f all one front =
-    row_front timing row machine h (then_front (then_all all (rw e at one)) (rw f at front))
+  -- a front of an end behind a row's earlier numbers
+  pub row_end_front : {a b c d : Option (List ℕ)} {working started failed : Bool} {sent middle next reached : ℕ}
+      (machine start finish : ℕ) → machine < timing.machines → start ≡ start_in timing row machine
+      → finish ≡ end_in timing row machine → SendsAll a b working sent (row_to machine) middle
+      → SendsAll b c started middle (32 ∷ decimal start) next → SendsFront c d failed next (32 ∷ decimal finish) reached
+      → SendsFront a d failed sent (row_text timing row) reached
+  row_end_front machine start finish h e f all one front =
+      row_front machine h (then_front (then_all all (rw e at one)) (rw f at front))
 
--- a start and an end more
-pub row_next : {a b c d : Option (List ℕ)} {working started failed : Bool} {sent middle next total : ℕ} (timing : Timing)
-    (row machine start finish : ℕ) → start ≡ start_in timing row machine → finish ≡ end_in timing row machine
-    → SendsAll a b working sent (row_to timing row machine) middle → SendsAll b c started middle (32 ∷ decimal start) next
-    → SendsAll c d failed next (32 ∷ decimal finish) total → SendsAll a d failed sent (row_to timing row (machine + 1)) total
-row_next timing row machine start finish e f all one other =
-    rw (row_to-more timing row machine) (then_all (then_all all (rw e at one)) (rw f at other))
+  -- a start and an end more
+  pub row_next : {a b c d : Option (List ℕ)} {working started failed : Bool} {sent middle next total : ℕ}
+      (machine start finish : ℕ) → start ≡ start_in timing row machine → finish ≡ end_in timing row machine
+      → SendsAll a b working sent (row_to machine) middle → SendsAll b c started middle (32 ∷ decimal start) next
+      → SendsAll c d failed next (32 ∷ decimal finish) total → SendsAll a d failed sent (row_to (machine + 1)) total
+  row_next machine start finish e f all one other =
+      rw (row_to-more machine) (then_all (then_all all (rw e at one)) (rw f at other))
 
--- the end of a row
-pub row_end : (timing : Timing) (row machine : ℕ) → machine ≡ timing.machines
-    → row_text timing row ≡ row_to timing row machine ++ 10 ∷ []
-row_end timing row machine e = rw e (row_whole timing row)
+  -- the end of a row
+  pub row_end : (machine : ℕ) → machine ≡ timing.machines → row_text timing row ≡ row_to machine ++ 10 ∷ []
+  row_end machine e = rw e row_whole
 
 -- ---- a table
 

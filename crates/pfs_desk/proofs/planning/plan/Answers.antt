@@ -16,7 +16,8 @@ none_named : (names : Names) (word : Text) → (word ≡ codes "value" → ⊥) 
     → (word ≡ codes "check" → ⊥) → (word ≡ codes "table" → ⊥) → (word ≡ codes "convert" → ⊥)
     → (word ≡ codes "generate" → ⊥) → form_of names word ≡ None
 none_named names word a b c d e f =
-    rw (is_other word _ a, is_other word _ b, is_other word _ c, is_other word _ d, is_other word _ e, is_other word _ f)
+    rw (is_other word _ a, is_other word _ b, is_other word _ c, is_other word _ d, is_other word _ e,
+        is_other word _ f)
 
 pub returns-in_default-as_str-clause-usage : goal.returns-in_default-as_str-clause-usage
 returns-in_default-as_str-clause-usage c word others are failed =
