@@ -67,7 +67,7 @@ module _ (layout : Layout) (file : List ℕ) (block : ℕ) (some : 1 ≤ block) 
       → (refusal fault ≡ refusal layout_faults.Read → reader_failed ≡ true) → Answers (refusal fault)
   refused_file fault nothing refuses failed =
       let told : ReadsOn reader_failed (refusal fault) → RefusesInstance layout file block fault = λ reads. refuses
-          (λ e. true≢false (sym (failed (ap refusal e)) ∙ reads.reading)) (λ e. reads.room (ap refusal e)) in
+      (λ e. true≢false (sym (failed (ap refusal e)) ∙ reads.reading)) (λ e. reads.room (ap refusal e)) in
       record {
         accepted = λ problem holds few runs. absurd (not_both problem fault holds (told runs.reads));
         refused = λ other refuses_other reads. record {

@@ -63,7 +63,7 @@ listed : (names : List (Bor Text)) (a b t : Text) → texts names ≡ a ∷ b �
     → list_any (λ name. same_text false name.now t) names ≡ true → (t ≡ a) ⊎ (t ≡ b)
 listed names a b t are any =
     let among : list_any (λ name. bytes_eq name t) (texts names) ≡ true =
-        sym (list_any-map (λ name. bytes_eq name t) (λ s. s.now) names) ∙ any in
+    sym (list_any-map (λ name. bytes_eq name t) (λ s. s.now) names) ∙ any in
     let one : (bytes_eq a t || (bytes_eq b t || false)) ≡ true = rw are at among in
     elim (or_cases _ _ one) [
       | inl first ↦ inl (sym ((bytes_eq-Decides a t).0 first))

@@ -130,15 +130,15 @@ pub found_is : (shop : FlowShop) (rounds many passes seed : ℕ) (generator : Lc
     → length order ≡ shop.jobs → IsSequence shop.jobs order → IsFound shop rounds many passes seed order span cells
 found_is shop rounds many passes seed generator old old_span old_cells order span cells few seeded neh done all
     distinct = record {
-  found = done.is_order ∙ rw (neh.is_order, words_are seed generator (rounds * many) seeded);
-  all = all;
-  distinct = distinct;
-  spanned = done.is_span;
-  no_longer = rw (← neh.is_order, ← neh.is_span) done.never_rises;
-  counted = done.counted ∙ ap₂ ◌+◌ (neh.counted ∙ closed.neh shop.jobs shop.machines)
-      (rounds_cells_are shop rounds many passes few);
-  few_cells = rounds_cells_few shop rounds many passes few;
-}
+      found = done.is_order ∙ rw (neh.is_order, words_are seed generator (rounds * many) seeded);
+      all = all;
+      distinct = distinct;
+      spanned = done.is_span;
+      no_longer = rw (← neh.is_order, ← neh.is_span) done.never_rises;
+      counted = done.counted ∙ ap₂ ◌+◌ (neh.counted ∙ closed.neh shop.jobs shop.machines)
+          (rounds_cells_are shop rounds many passes few);
+      few_cells = rounds_cells_few shop rounds many passes few;
+    }
 
 -- ---- what is printed
 

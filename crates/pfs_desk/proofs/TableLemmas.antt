@@ -42,8 +42,8 @@ module _ (timing : Timing) (row : ℕ) where
   row_front machine h front =
       let (rest, parts) = flat_map_from machine_part machine timing.machines h in
       let whole : row_text timing row
-          ≡ ((row_to machine ++ start_part machine) ++ end_part machine) ++ (rest ++ 10 ∷ []) =
-          rw (row_whole, parts) (simp append_assoc) in
+      ≡ ((row_to machine ++ start_part machine) ++ end_part machine) ++ (rest ++ 10 ∷ []) =
+      rw (row_whole, parts) (simp append_assoc) in
       rw whole (front_of (rest ++ 10 ∷ []) front)
 
   -- a row's first number, and a front of it
@@ -119,7 +119,7 @@ table_front timing row h front =
     let (rest, parts) = flat_map_from (row_text timing) row (length timing.jobs) h in
     let last : List ℕ = named_number (codes "makespan") (last_end timing) in
     let whole : table_text timing ≡ (table_to timing row ++ row_text timing row) ++ (rest ++ last) =
-        rw (table_whole timing, parts) (simp append_assoc) in
+    rw (table_whole timing, parts) (simp append_assoc) in
     rw whole (front_of (rest ++ last) front)
 
 -- the first line is a front of the table

@@ -16,8 +16,14 @@ none_named : (names : Names) (word : Text) → (word ≡ codes "value" → ⊥) 
     → (word ≡ codes "check" → ⊥) → (word ≡ codes "table" → ⊥) → (word ≡ codes "convert" → ⊥)
     → (word ≡ codes "generate" → ⊥) → form_of names word ≡ None
 none_named names word a b c d e f =
-    rw (is_other word _ a, is_other word _ b, is_other word _ c, is_other word _ d, is_other word _ e,
-        is_other word _ f)
+    rw (
+      is_other word _ a,
+      is_other word _ b,
+      is_other word _ c,
+      is_other word _ d,
+      is_other word _ e,
+      is_other word _ f,
+    )
 
 pub returns-in_default-as_str-clause-usage : goal.returns-in_default-as_str-clause-usage
 returns-in_default-as_str-clause-usage c word others are failed =
@@ -26,6 +32,6 @@ returns-in_default-as_str-clause-usage c word others are failed =
     let is : c.as_str.result.now ≡ word = cc in
     let other = c.in_default-as_str in
     let none : form_of some_names word ≡ None = rw (← is) (none_named some_names c.as_str.result.now other.not-value
-        other.not-solve other.not-check other.not-table other.not-convert other.not-generate) in
+    other.not-solve other.not-check other.not-table other.not-convert other.not-generate) in
     refused some_names word others refl (ap (λ o. option_map_or (λ form. takes form others) o false) none)
     (λ found. let bad : None ≡ Some found.0 = sym none ∙ found.1 in cc)

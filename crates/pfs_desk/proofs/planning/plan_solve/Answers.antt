@@ -36,13 +36,19 @@ path_in-requires c =
 
 pub overflow_cast-options : goal.overflow_cast-options
 overflow_cast-options c =
-    omega (arith, (number_in_range c.in_ok-matches.ensures.ok c.in_ok-solve_command.ensures 2 rounds_rule refl refl refl
-        c.number_in.ensures).1)
+    omega (
+      arith,
+      (number_in_range c.in_ok-matches.ensures.ok c.in_ok-solve_command.ensures 2 rounds_rule refl refl refl
+          c.number_in.ensures).1,
+    )
 
 pub overflow_cast-options-2 : goal.overflow_cast-options-2
 overflow_cast-options-2 c =
-    omega (arith, (number_in_range c.in_ok-matches.ensures.ok c.in_ok-solve_command.ensures 5 passes_rule refl refl refl
-        c.number_in-3.ensures).1)
+    omega (
+      arith,
+      (number_in_range c.in_ok-matches.ensures.ok c.in_ok-solve_command.ensures 5 passes_rule refl refl refl
+          c.number_in-3.ensures).1,
+    )
 
 pub returns-in_err-matches-clause-usage : goal.returns-in_err-matches-clause-usage
 returns-in_err-matches-clause-usage c e =
