@@ -18,6 +18,7 @@ one_more {argument = argument} {name} {rules} adds form is local =
 -- and as the last call answers it
 pub last_one : {name : Text} {rules : List Rule} {rule : Rule} (old : Command) (argument : Arg)
     (result : Result Command AllocError) → IfOk result (AddsArg old argument) → app_of old ≡ flat_form name rules
-    → rule_of argument ≡ rule → argument.global ≡ false → IfOk result (λ new. app_of new ≡ flat_form name (rules ++ rule ∷ []))
+    → rule_of argument ≡ rule → argument.global ≡ false
+    → IfOk result (λ new. app_of new ≡ flat_form name (rules ++ rule ∷ []))
 last_one old argument result adds form is local =
     IfOk-weaker result _ _ (λ new more. one_more more form is local) adds

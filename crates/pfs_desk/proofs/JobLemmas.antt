@@ -1,5 +1,5 @@
 -- What the readers of a job are given by a parse of a form.
-use Rattle.std.proofs.Common.{◌≡◌, ◌∙◌, ◌⊎◌, ◌≤◌, ◌||◌, ◌&&◌, ℕ, Bool, true, false, ap, codes, inl, inr, List, [], ◌∷◌}
+use Rattle.std.proofs.Common.{◌≡◌, ◌∙◌, ◌⊎◌, ◌≤◌, ◌||◌, ℕ, true, false, ap, codes, inl, inr, List, [], ◌∷◌}
 use Rattle.std.proofs.Common.{Option, Some, None, arith, option_map, refl, subst, sym, unwrap_or}
 use Rattle.std.specs.Prelude.{IfSome, slice_get}
 use Rattle.std.specs.Borrow.{Bor}
