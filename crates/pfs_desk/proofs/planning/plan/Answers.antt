@@ -8,22 +8,14 @@ use Rattle.pfs_desk.specs.Commands.{Names, form_of}
 use Rattle.pfs_desk.proofs.JobLemmas.{refused, some_names}
 use Rattle.pfs_desk.proofs.planning.plan.Goals as goal
 
-is_other : (word name : Text) → (word ≡ name → ⊥) → bytes_eq word name ≡ false
-is_other word name other = false_from_ne_true _ (λ same. other ((bytes_eq-Decides word name).0 same))
+is_other : {word name : Text} → (word ≡ name → ⊥) → bytes_eq word name ≡ false
+is_other {word} {name} other = false_from_ne_true _ (λ same. other ((bytes_eq-Decides word name).0 same))
 
 -- a word that names no command
 none_named : (names : Names) (word : Text) → (word ≡ codes "value" → ⊥) → (word ≡ codes "solve" → ⊥)
     → (word ≡ codes "check" → ⊥) → (word ≡ codes "table" → ⊥) → (word ≡ codes "convert" → ⊥)
     → (word ≡ codes "generate" → ⊥) → form_of names word ≡ None
-none_named names word a b c d e f =
-    rw (
-      is_other word _ a,
-      is_other word _ b,
-      is_other word _ c,
-      is_other word _ d,
-      is_other word _ e,
-      is_other word _ f,
-    )
+none_named names word a b c d e f = rw (is_other a, is_other b, is_other c, is_other d, is_other e, is_other f)
 
 pub returns-in_default-as_str-clause-usage : goal.returns-in_default-as_str-clause-usage
 returns-in_default-as_str-clause-usage c word others are failed =
