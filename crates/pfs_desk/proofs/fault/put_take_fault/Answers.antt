@@ -11,4 +11,5 @@ returns-in_err-sent-2 g c =
 
 pub returns : goal.returns
 returns g c =
-    then_sends _ _ _ c.put_between.result (then_all c.in_ok-sent.ensures c.in_ok-sent-2.ensures.text) c.put_between.ensures.text
+    let numbered = then_all c.in_ok-sent.ensures c.in_ok-sent-2.ensures.text in
+    then_sends _ _ _ c.put_between.result numbered c.put_between.ensures.text

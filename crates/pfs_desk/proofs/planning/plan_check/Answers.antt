@@ -7,5 +7,5 @@ plan_audit-requires c names = refl
 
 pub returns-clause-ok : goal.returns-clause-ok
 returns-clause-ok c =
-    let asked = c.in_ok-audit.ensures.ok in
-    job_for asked.0 (codes "check") _ _ asked.1 (refl, asked.2)
+    let (names, are, asked) = c.in_ok-audit.ensures.ok in
+    job_for names (codes "check") _ are _ (refl, asked)

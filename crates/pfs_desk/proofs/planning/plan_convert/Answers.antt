@@ -1,65 +1,52 @@
-use Rattle.std.proofs.Common.{rules, ◌≡◌, Err, ap, codes, refl, subst}
-use Rattle.clap.specs.Words.{App}
-use Rattle.pfs_base.specs.declared.limits.TheConstants.{MOST_BLOCKS}
+use Rattle.std.proofs.Common.{rules, ◌≡◌, Err, ap, codes, refl}
 use Rattle.pfs_desk.specs.declared.usage.UsageFault.TheVariants.{Usage}
-use Rattle.pfs_desk.specs.Commands.{AreLayoutNames, block_rule, convert_form, path_rule}
-use Rattle.pfs_desk.specs.Jobs.{SaysLayout, SaysNumber, SaysText}
-use Rattle.pfs_desk.proofs.JobLemmas.{faultless, job_for, layout_given, number_in_range, refused_by, rows_are, some_number_given, text_given}
+use Rattle.pfs_desk.specs.Commands.{block_rule, path_rule}
+use Rattle.pfs_desk.proofs.JobLemmas.{faultless, job_for, layout_given, number_in_range, refused_by, rows_are}
+use Rattle.pfs_desk.proofs.JobLemmas.{some_number_given, text_given}
 use Rattle.pfs_desk.proofs.planning.plan_convert.Goals as goal
 
 pub layout_in-requires : goal.layout_in-requires
 layout_in-requires c =
-    let named : AreLayoutNames c.as_slice.result = search rules in
-    layout_given c.in_ok-convert_command.field-0 (convert_form c.as_slice.result) _ c.in_ok-matches.matches c.in_ok-convert_command.ensures c.in_ok-matches.ensures.ok
-    0 (codes "from") c.as_slice.result named refl refl
+    layout_given c.in_ok-matches.ensures.ok c.in_ok-convert_command.ensures 0 (codes "from") c.as_slice.result
+    (search rules) refl refl
 
 pub layout_in-requires-2 : goal.layout_in-requires-2
 layout_in-requires-2 c =
-    let named : AreLayoutNames c.as_slice.result = search rules in
-    layout_given c.in_ok-convert_command.field-0 (convert_form c.as_slice.result) _ c.in_ok-matches.matches c.in_ok-convert_command.ensures c.in_ok-matches.ensures.ok
-    1 (codes "to") c.as_slice.result named refl refl
+    layout_given c.in_ok-matches.ensures.ok c.in_ok-convert_command.ensures 1 (codes "to") c.as_slice.result
+    (search rules) refl refl
 
 pub number_in-requires : goal.number_in-requires
 number_in-requires c =
-    some_number_given c.in_ok-convert_command.field-0 (convert_form c.as_slice.result) _ c.in_ok-matches.matches c.in_ok-convert_command.ensures c.in_ok-matches.ensures.ok
-    2 block_rule 1 MOST_BLOCKS refl refl refl
+    some_number_given c.in_ok-matches.ensures.ok c.in_ok-convert_command.ensures 2 block_rule refl refl refl refl
 
 pub path_in-requires : goal.path_in-requires
 path_in-requires c =
-    text_given c.in_ok-convert_command.field-0 (convert_form c.as_slice.result) _ c.in_ok-matches.matches c.in_ok-convert_command.ensures c.in_ok-matches.ensures.ok
-    3 (path_rule (codes "file")) refl refl
+    text_given c.in_ok-matches.ensures.ok c.in_ok-convert_command.ensures 3 (path_rule (codes "file")) refl refl refl
 
 pub returns-in_err-matches-clause-usage : goal.returns-in_err-matches-clause-usage
 returns-in_err-matches-clause-usage c e =
     let failed : c.in_err-matches.field-0.0 ≡ Usage = search rules in
-    let named : AreLayoutNames c.as_slice.result = search rules in
-    refused_by c.as_slice.result c.in_ok-convert_command.field-0 (convert_form c.as_slice.result) (codes "convert") _ named refl refl c.in_ok-convert_command.ensures (c.in_err-matches.ensures.usage (ap Err failed)) (c.in_err-matches.ensures.fault (ap Err failed))
+    let told = c.in_err-matches.ensures in
+    refused_by c.as_slice.result (codes "convert") _ (search rules) c.in_ok-convert_command.ensures refl refl
+    (told.usage (ap Err failed)) (told.fault (ap Err failed))
 
 pub returns-clause-ok : goal.returns-clause-ok
 returns-clause-ok c =
-    let command = c.in_ok-convert_command.field-0 in
-    let form : App = convert_form c.as_slice.result in
-    let matches = c.in_ok-matches.matches in
     let is = c.in_ok-convert_command.ensures in
     let parse = c.in_ok-matches.ensures.ok in
-    let named : AreLayoutNames c.as_slice.result = search rules in
-    let rows = rows_are command form _ matches is parse refl in
-    job_for c.as_slice.result (codes "convert") _ _ named (
+    let rows = rows_are parse is refl in
+    job_for c.as_slice.result (codes "convert") _ (search rules) _ (
       refl,
       record {
-        faultless = faultless command form _ matches is parse refl;
-        source_said = subst (λ rs. SaysLayout rs (codes "from") c.layout_in.result) rows c.layout_in.ensures;
-        target_said = subst (λ rs. SaysLayout rs (codes "to") c.layout_in-2.result) rows c.layout_in-2.ensures;
-        block_said = subst (λ rs. SaysNumber rs (codes "block") c.number_in.result) rows c.number_in.ensures;
-        file_said = subst (λ rs. SaysText rs (codes "file") c.in_ok-path_in.field-0) rows c.in_ok-path_in.ensures;
+        faultless = faultless parse is refl;
+        source_said = rw rows at c.layout_in.ensures;
+        target_said = rw rows at c.layout_in-2.ensures;
+        block_said = rw rows at c.number_in.ensures;
+        file_said = rw rows at c.in_ok-path_in.ensures;
       },
     )
 
 pub returns-clause-within : goal.returns-clause-within
 returns-clause-within c =
-    let command = c.in_ok-convert_command.field-0 in
-    let form : App = convert_form c.as_slice.result in
-    let matches = c.in_ok-matches.matches in
-    let is = c.in_ok-convert_command.ensures in
-    let parse = c.in_ok-matches.ensures.ok in
-    number_in_range command form _ matches is parse 2 block_rule 1 MOST_BLOCKS c.number_in.result refl refl refl c.number_in.ensures
+    number_in_range c.in_ok-matches.ensures.ok c.in_ok-convert_command.ensures 2 block_rule refl refl refl
+    c.number_in.ensures
