@@ -1,8 +1,8 @@
 -- Where a block leads.
 use Rattle.std.proofs.Common.{◌≡◌, ℕ, ◌+◌, ◌<◌, Bool, true, false, not, List, [], ◌∷◌, ◌++◌, length, fold, flat_map}
-use Rattle.std.proofs.Common.{refl, sym, ◌∙◌, ap, arith, ◌==◌}
+use Rattle.std.proofs.Common.{refl, sym, ◌∙◌, ap, arith, ◌==◌, inl, inr}
 use Rattle.std.specs.List.{AllByRecursion, list_any, list_all}
-use Rattle.std.proofs.lemmas.Bool.{and_parts, eq-eqb, false≢true, ne_eqb, not-true}
+use Rattle.std.proofs.lemmas.Bool.{and_parts, cases_Bool, eq-eqb, false≢true, ne_eqb, not-true}
 use Rattle.std.proofs.Math.Bool.{or-false}
 use Rattle.std.proofs.lemmas.List.{append_assoc, append-nil, length-append}
 use Rattle.std.proofs.lemmas.List.Folds.{list_any-append, list_all-append}
@@ -18,7 +18,7 @@ use Rattle.pfs_layout.specs.Lines.{is_mixed, is_number_line, is_no_digit, values
 use Rattle.pfs_layout.specs.Block.{are_due, due, due_count}
 use Rattle.pfs_layout.specs.Stand.{Block, seeking, inside, standing, completed, begun, after_line, stand_after}
 use Rattle.pfs_layout.specs.File.{AreBlocks, IsSomeBlock, IsBlock}
-use Rattle.pfs_layout.proofs.Files.LineLemmas.{open_part-push, ended_numbers-push, numbers_is}
+use Rattle.pfs_layout.proofs.Files.LineLemmas.{split_some}
 use Rattle.pfs_layout.proofs.Files.SoundLemmas.{values_last}
 use Rattle.pfs_layout.proofs.Files.SizeLemmas.{within_size}
 use Rattle.pfs_layout.proofs.Files.DueLemmas.{due_passes, length-due}
@@ -26,22 +26,15 @@ use Rattle.pfs_layout.proofs.Files.RoundLemmas.{block_of}
 
 -- a line with a digit has a number
 numbers_some : (line : List ℕ) → list_any is_digit line ≡ true → 0 < length (numbers line)
-numbers_some = by_push (λ line. list_any is_digit line ≡ true → 0 < length (numbers line))
-    (λ e. absurd (false≢true e)) (λ line b h any. step (is_digit b) line b refl h any)
-  where
-    step : (d : Bool) (line : List ℕ) (b : ℕ) → is_digit b ≡ d
-        → (list_any is_digit line ≡ true → 0 < length (numbers line))
-        → list_any is_digit (line ++ b ∷ []) ≡ true → 0 < length (numbers (line ++ b ∷ []))
-    step true line b e h any =
-        let digits : List ℕ = last_digits line ++ b ∷ [] in
-        let some : is_empty digits ≡ false = ne_eqb (length digits) 0
-        (λ z. omega (arith, length-append (last_digits line) (b ∷ []))) in
-        let last : length (values (digits ∷ [])) ≡ 1 = ap length (values_last false digits some) in
-        rw (numbers_is (line ++ b ∷ []), open_part-push is_no_digit line b, e)
-        (omega (arith, length-append (ended_numbers (line ++ b ∷ [])) (values (digits ∷ []))))
-    step false line b e h any =
-        let before = h (rw (list_any-append, e, or-false (list_any is_digit line)) at any) in
-        rw (numbers_is (line ++ b ∷ []), ended_numbers-push line b, e) (omega (arith, length-append {A = ℕ}))
+unfolding numbers
+numbers_some [] any = absurd (false≢true any)
+numbers_some (b ∷ line) any = elim (cases_Bool (is_digit b)) [
+  | inl digit ↦
+      let parts = split_some is_no_digit line in
+      let some = ne_eqb (length (b ∷ parts.first)) 0 (λ e. omega arith) in
+      rw (digit, parts.is, some) (omega arith)
+  | inr gap ↦ rw gap (numbers_some line (rw gap at any))
+]
 
 -- the first of numbers that are due are due
 pub are_due_front : (layout : Layout) (size : Size) (xs ys : List ℕ) → are_due layout size (xs ++ ys) ≡ true

@@ -52,22 +52,19 @@ pub values_last : (v : Bool) (run : List ℕ) → is_empty run ≡ v
 values_last true run e = rw e
 values_last false run e = rw e
 
-last_digits-none : last_digits [] ≡ []
-unfolding open_part
-last_digits-none = refl
-
 pub open_line-none : open_line [] ≡ []
 unfolding open_part
 open_line-none = refl
 
 -- the last digits of a text are those of its last line
 pub same_last : (text : List ℕ) → last_digits text ≡ last_digits (open_line text)
-same_last = by_push (λ text. last_digits text ≡ last_digits (open_line text)) (rw open_line-none) (λ text b h.
+unfolding open_part
+same_last = by_push (λ text. last_digits text ≡ last_digits (open_line text)) refl (λ text b h.
     let byte = open_part-push is_no_digit text b in
     elim (cases_Bool (is_line_end b)) [
       | inl ends ↦
           let gap : is_no_digit b ≡ true = rw (eqb-true b 10 ends) in
-          rw (byte, open_part-push is_line_end text b, ends, gap) (sym last_digits-none)
+          rw (byte, open_part-push is_line_end text b, ends, gap)
       | inr on ↦ rw (byte, open_part-push is_line_end text b, on, open_part-push is_no_digit (open_line text) b, h)
     ])
 
@@ -85,8 +82,8 @@ GoodNow layout lost line = ⊥
 
 -- a digit at the end of a line is a digit on it
 pub digit_there : (line : List ℕ) → is_empty (last_digits line) ≡ false → list_any is_digit line ≡ true
-digit_there = by_push (λ line. is_empty (last_digits line) ≡ false → list_any is_digit line ≡ true)
-    (λ none. let nothing = rw last_digits-none at none in absurd (cc))
+unfolding open_part
+digit_there = by_push (λ line. is_empty (last_digits line) ≡ false → list_any is_digit line ≡ true) (λ none. absurd (cc))
     (λ line b h some. elim (cases_Bool (is_digit b)) [
       | inl digit ↦ rw (list_any-append is_digit line (b ∷ []), digit) (or_right (list_any is_digit line) true refl)
       | inr gap ↦ let nothing = rw (open_part-push is_no_digit line b, gap) at some in absurd (cc)
@@ -148,7 +145,7 @@ body_push layout block text b good right_line right_number =
     }
 
 -- the complete blocks stay
-complete_stays : (layout : Layout) (complete : List Block) (now : Now) (line : List ℕ)
+pub complete_stays : (layout : Layout) (complete : List Block) (now : Now) (line : List ℕ)
     → length complete ≤ length (after_line layout complete now line).complete
 complete_stays layout complete seeking line = omega arith
 complete_stays layout complete lost line = omega arith
@@ -156,19 +153,17 @@ complete_stays layout complete (inside block) line = grind (arith, common_steps)
 
 -- ---- a line end
 
-ended_numbers-none : ended_numbers [] ≡ []
+good_start : (layout : Layout) (block : Block) → are_due layout block.size block.numbers ≡ true
+    → GoodBody layout block []
 unfolding ended_numbers ended_parts
-ended_numbers-none = refl
-
-good_begun : (layout : Layout) (size : Size) → GoodBody layout (begun size) []
-unfolding ended_numbers ended_parts are_due
-good_begun layout size = record { due = refl; unmixed = refl }
+good_start layout block due = record { due = rw append-nil due; unmixed = refl }
 
 -- after a size line without a fault
 good_size : (layout : Layout) (line : ℕ) (stated : Option Size) → size_fault stated line ≡ None
     → GoodNow layout (after_size stated) []
+unfolding are_due
 good_size layout line None e = cc
-good_size layout line (Some size) e = rw (not-false _ (then_some_none _ _ e)) (good_begun layout size)
+good_size layout line (Some size) e = rw (not-false _ (then_some_none _ _ e)) (good_start layout (begun size) refl)
 
 good_sought : (layout : Layout) (text : List ℕ) (next : Option ℕ) → ends_line text next ≡ true
     → wrong_size layout text next ≡ None → GoodNow layout (after_line layout [] seeking (open_line text)).now []
@@ -185,9 +180,9 @@ good_sought layout text next ends right =
 good_numbers : (layout : Layout) (complete : List Block) (next : Block) → are_due layout next.size next.numbers ≡ true
     → GoodNow layout (after_numbers layout complete next).now []
 good_numbers layout complete next due =
-    let good : GoodBody layout next [] = record { due = rw (ended_numbers-none, append-nil) due; unmixed = refl } in
     rw due (cond_both (length next.numbers == due_count layout next.size) (completed complete next)
-    (standing complete (inside next)) (λ after. GoodNow layout after.now []) (λ full. tt) (λ short. good))
+    (standing complete (inside next)) (λ after. GoodNow layout after.now []) (λ full. tt)
+    (λ short. good_start layout next due))
 
 pub good_end : (layout : Layout) (k : ℕ) (complete : List Block) (now : Now) (text : List ℕ) (next : Option ℕ)
     → ends_line text next ≡ true → (is_empty (last_digits (open_line text)) ≡ false → ends_number text next ≡ true)
@@ -237,20 +232,11 @@ pub open_line-on : (text : List ℕ) (b : ℕ) → is_line_end b ≡ false
     → open_line (text ++ b ∷ []) ≡ open_line text ++ b ∷ []
 open_line-on text b e = rw (open_part-push is_line_end text b, e)
 
-pub stand_of-push : (layout : Layout) (text : List ℕ) (b : ℕ) → stand_of layout (text ++ b ∷ [])
-    ≡ (if is_line_end b then stand_after layout (stand_of layout text) (open_line text) else stand_of layout text)
-stand_of-push layout text b = cond_both (is_line_end b) _ _ (λ after. stand_of layout (text ++ b ∷ []) ≡ after)
-    (stand_of-end layout text b) (stand_of-on layout text b)
-
 -- while no byte has a fault and fewer than k blocks are complete, the numbers so far are due and a body's line isn't
 -- mixed
 abbrev pub IsSound : Layout → ℕ → List ℕ → Type 0
 IsSound layout k text = byte_fault layout k text ≡ None → length (stand_of layout text).complete < k
     → GoodNow layout (stand_of layout text).now (open_line text)
-
-sound_start : (layout : Layout) (k : ℕ) → IsSound layout k []
-unfolding ended_parts open_part stand
-sound_start layout k right few = tt
 
 sound_more : (layout : Layout) (k : ℕ) (text : List ℕ) (b : ℕ) → IsSound layout k text
     → IsSound layout k (text ++ b ∷ [])
@@ -276,4 +262,5 @@ sound_more layout k text b sound right few =
     ]
 
 pub sound : (layout : Layout) (k : ℕ) (text : List ℕ) → IsSound layout k text
-sound layout k = by_push (IsSound layout k) (sound_start layout k) (sound_more layout k)
+unfolding ended_parts open_part stand
+sound layout k = by_push (IsSound layout k) (λ right few. tt) (sound_more layout k)

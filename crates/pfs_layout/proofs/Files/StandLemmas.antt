@@ -1,8 +1,8 @@
 -- Which lines lead to complete blocks.
 use Rattle.std.proofs.Common.{◌≡◌, ℕ, ◌*◌, ◌≤◌, Bool, true, false, not, ◌||◌, List, [], ◌∷◌, ◌++◌, length, flat_map}
-use Rattle.std.proofs.Common.{refl, sym, ◌∙◌, ap, arith, Option, Some, None, if◌then◌else◌, ◌==◌}
-use Rattle.std.specs.List.{list_any, list_all}
-use Rattle.std.proofs.lemmas.Bool.{cond_both, eqb-false, eqb-true, or_parts, true_from_ne_false}
+use Rattle.std.proofs.Common.{refl, sym, ◌∙◌, ap, arith, Option, Some, None, ◌==◌, inl, inr}
+use Rattle.std.specs.List.{list_any, list_all, AllZip}
+use Rattle.std.proofs.lemmas.Bool.{cases_Bool, eqb-false, eqb-true, or_parts, true_from_ne_false}
 use Rattle.std.proofs.Math.Nat.{mul-le-mul}
 use Rattle.std.proofs.lemmas.List.{append_assoc, append-nil}
 use Rattle.std.proofs.lemmas.List.Folds.{list_any-append, list_all-append}
@@ -25,16 +25,11 @@ use Rattle.pfs_layout.proofs.Files.RoundLemmas.{due_instance, instance_within}
 
 -- ---- a line without a digit has no number
 
-numbers-none : numbers [] ≡ []
-unfolding numbers
-numbers-none = refl
-
 pub no_numbers : (line : List ℕ) → list_any is_digit line ≡ false → numbers line ≡ []
-no_numbers = by_push (λ line. list_any is_digit line ≡ false → numbers line ≡ []) (λ e. numbers-none) (λ line b h none.
-    let parts = or_parts (list_any is_digit line) (is_digit b || false) (rw list_any-append at none) in
-    let last = or_parts (is_digit b) false parts.1 in
-    let before = h parts.0 in
-    rw (numbers_is (line ++ b ∷ []), ended_numbers-push line b, open_part-push is_no_digit line b, last.0, before))
+unfolding numbers
+no_numbers [] none = refl
+no_numbers (b ∷ line) none =
+    let parts = or_parts (is_digit b) (list_any is_digit line) none in rw parts.0 (no_numbers line parts.1)
 
 -- ---- lines that are made of blocks
 
@@ -60,15 +55,11 @@ Fits layout lost tail = Unit {0}
 
 -- the lines of each complete block
 abbrev pub AreOf : Layout → List (List (List ℕ)) → List Block → Type 0
-AreOf layout [] [] = Unit {0}
-AreOf layout [] (block ∷ blocks) = ⊥
-AreOf layout (lines ∷ more) [] = ⊥
-AreOf layout (lines ∷ more) (block ∷ blocks) =
-    IsBlock limits layout (instance_of layout block) lines × AreOf layout more blocks
+AreOf layout blocks complete =
+    AllZip (λ lines block. IsBlock limits layout (instance_of layout block) lines) blocks complete
 
 AreOf-push : (layout : Layout) (all : List (List (List ℕ))) (blocks : List Block) (lines : List (List ℕ))
-    (block : Block)
-    → AreOf layout all blocks → IsBlock limits layout (instance_of layout block) lines
+    (block : Block) → AreOf layout all blocks → IsBlock limits layout (instance_of layout block) lines
     → AreOf layout (all ++ lines ∷ []) (blocks ++ block ∷ [])
 AreOf-push layout [] [] lines block are is = (is, tt)
 AreOf-push layout [] (b ∷ blocks) lines block are is = absurd are
@@ -85,39 +76,30 @@ pub record IsMade (layout : Layout) (text : List (List ℕ)) (reached : Stand) :
 
 -- some number is due
 some_due : (layout : Layout) (size : Size) → is_within_limits size ≡ true → 0 ≡ due_count layout size → ⊥
-some_due layout size e h =
-    let sizes = (size_within size e).sizes in
-    let some = mul-le-mul sizes.some_job sizes.some_machine in
-    by_layout layout some h
-  where
-    by_layout : (layout : Layout) → 1 * 1 ≤ size.jobs * size.machines → 0 ≡ due_count layout size → ⊥
-    by_layout Taillard some h = omega arith
-    by_layout OrLib some h = omega arith
+some_due Taillard size e h =
+    let sizes = (size_within size e).sizes in omega (arith, mul-le-mul sizes.some_job sizes.some_machine)
+some_due OrLib size e h =
+    let sizes = (size_within size e).sizes in omega (arith, mul-le-mul sizes.some_job sizes.some_machine)
 
 module _ (layout : Layout) (text : List (List ℕ)) (complete : List Block) (line : List ℕ) where
   -- one more line behind the complete blocks
-  grown : (now next : Now) (m : IsMade layout text (standing complete now)) → Fits layout next (m.tail ++ line ∷ [])
-      → IsMade layout (text ++ line ∷ []) (standing complete next)
-  grown now next m fits = record {
+  grown : {now : Now} (next : Now) (m : IsMade layout text (standing complete now))
+      → Fits layout next (m.tail ++ line ∷ []) → IsMade layout (text ++ line ∷ []) (standing complete next)
+  grown next m fits = record {
     blocks = m.blocks;
     tail = m.tail ++ line ∷ [];
-    parts = ap (λ ls. ls ++ line ∷ []) m.parts ∙ append_assoc (flat_map (λ block. block) m.blocks) m.tail (line ∷ []);
+    parts = rw m.parts (append_assoc (flat_map (λ block. block) m.blocks) m.tail (line ∷ []));
     each = m.each;
     fits = fits;
   }
-
-  one_more : (test : List ℕ → Bool) (ls : List (List ℕ)) → list_all test ls ≡ true → test line ≡ true
-      → list_all test (ls ++ line ∷ []) ≡ true
-  one_more test ls all last = rw (list_all-append test ls (line ∷ []), all, last)
 
   -- a size line
   stated : (o : Option Size) → stated_size layout (numbers line) ≡ o → is_number_line line ≡ true
       → IsMade layout text (standing complete seeking) → IsMade layout (text ++ line ∷ [])
       (standing complete (after_size o))
-  stated None s numbered m = grown seeking lost m tt
-  stated (Some size) s numbered m = cond_both (is_within_limits size) (inside (begun size)) lost
-      (λ now. IsMade layout (text ++ line ∷ []) (standing complete now))
-      (λ within. grown seeking (inside (begun size)) m (record {
+  stated None s numbered m = grown lost m tt
+  stated (Some size) s numbered m = elim (cases_Bool (is_within_limits size)) [
+    | inl within ↦ rw within (grown (inside (begun size)) m (record {
         skipped = m.tail;
         size_line = line;
         front = [];
@@ -130,7 +112,8 @@ module _ (layout : Layout) (text : List (List ℕ)) (complete : List Block) (lin
         holds = refl;
         short = some_due layout size within;
       }))
-      (λ out. grown seeking lost m tt)
+    | inr out ↦ rw out (grown lost m tt)
+  ]
 
   -- the line that completes a block is a number line
   last_numbers : (block : Block) → (length block.numbers ≡ due_count layout block.size → ⊥)
@@ -149,12 +132,10 @@ module _ (layout : Layout) (text : List (List ℕ)) (complete : List Block) (lin
   unfolding instance_of
   finished block m unmixed right whole =
       let own : List (List ℕ) = m.tail ++ line ∷ [] in
-      let flat : List (List (List ℕ)) → List (List ℕ) = flat_map (λ block. block) in
       record {
         blocks = m.blocks ++ own ∷ [];
         tail = [];
-        parts = rw m.parts (rw (flat_map-append (λ block. block) m.blocks (own ∷ []))
-            (simp (append_assoc, append-nil)));
+        parts = rw (m.parts, flat_map-append (λ block. block) m.blocks (own ∷ [])) (simp (append_assoc, append-nil));
         each = AreOf-push layout m.blocks complete own (with_line block line) m.each (record {
           skipped = m.fits.skipped;
           size_line = m.fits.size_line;
@@ -176,49 +157,45 @@ module _ (layout : Layout) (text : List (List ℕ)) (complete : List Block) (lin
   unfinished : (block : Block) (m : IsMade layout text (standing complete (inside block))) → is_mixed line ≡ false
       → (length (with_line block line).numbers == due_count layout block.size) ≡ false
       → IsMade layout (text ++ line ∷ []) (standing complete (inside (with_line block line)))
-  unfinished block m unmixed short = grown (inside block) (inside (with_line block line)) m (record {
+  unfinished block m unmixed short = grown (inside (with_line block line)) m (record {
     skipped = m.fits.skipped;
     size_line = m.fits.size_line;
     front = m.fits.front ++ line ∷ [];
-    parts = ap (λ ls. ls ++ line ∷ []) m.fits.parts
-        ∙ append_assoc m.fits.skipped (m.fits.size_line ∷ m.fits.front) (line ∷ []);
+    parts = rw m.fits.parts (append_assoc m.fits.skipped (m.fits.size_line ∷ m.fits.front) (line ∷ []));
     no_numbers = m.fits.no_numbers;
     number_line = m.fits.number_line;
     states = m.fits.states;
     within = m.fits.within;
-    unmixed = one_more (λ l. not (is_mixed l)) m.fits.front m.fits.unmixed (ap not unmixed);
+    unmixed = rw (list_all-append, m.fits.unmixed, unmixed);
     holds = rw (flat_map-append numbers m.fits.front (line ∷ []), m.fits.holds, append-nil (numbers line));
     short = eqb-false (length (with_line block line).numbers) (due_count layout block.size) short;
   })
 
   by_now : (now : Now) → IsMade layout text (standing complete now)
       → IsMade layout (text ++ line ∷ []) (after_line layout complete now line)
-  by_now seeking m = cond_both (is_number_line line) (after_size (stated_size layout (numbers line))) seeking
-      (λ now. IsMade layout (text ++ line ∷ []) (standing complete now)) (λ numbered. stated _ refl numbered m)
-      (λ plain. grown seeking seeking m (one_more (λ l. not (is_number_line l)) m.tail m.fits (ap not plain)))
+  by_now seeking m = elim (cases_Bool (is_number_line line)) [
+    | inl numbered ↦ rw numbered (stated _ refl numbered m)
+    | inr plain ↦ rw plain (grown seeking m (rw (list_all-append, m.fits, plain)))
+  ]
   by_now (inside block) m =
       let next : Block = with_line block line in
-      let Made : Stand → Type 0 = IsMade layout (text ++ line ∷ []) in
-      cond_both (is_mixed line) (standing complete lost) (after_numbers layout complete next) Made
-      (λ mixed. grown (inside block) lost m tt)
-      (λ unmixed. cond_both (are_due layout block.size next.numbers)
-      (if length next.numbers == due_count layout block.size then completed complete next
-      else standing complete (inside next))
-      (standing complete lost) Made
-      (λ right. cond_both (length next.numbers == due_count layout block.size) (completed complete next)
-      (standing complete (inside next)) Made
-      (λ full. finished block m unmixed right (eqb-true _ (due_count layout block.size) full))
-      (λ short. unfinished block m unmixed short))
-      (λ wrong. grown (inside block) lost m tt))
-  by_now lost m = grown lost lost m tt
-
-made_start : (layout : Layout) → IsMade layout [] (stand layout [])
-unfolding stand
-made_start layout = record { blocks = []; tail = []; parts = refl; each = tt; fits = refl }
+      let count : ℕ = due_count layout block.size in
+      elim (cases_Bool (is_mixed line)) [
+        | inl mixed ↦ rw mixed (grown lost m tt)
+        | inr unmixed ↦ elim (cases_Bool (are_due layout block.size next.numbers)) [
+            | inl right ↦ elim (cases_Bool (length next.numbers == count)) [
+                | inl full ↦ rw (unmixed, right, full) (finished block m unmixed right (eqb-true _ count full))
+                | inr short ↦ rw (unmixed, right, short) (unfinished block m unmixed short)
+              ]
+            | inr wrong ↦ rw (unmixed, wrong) (grown lost m tt)
+          ]
+      ]
+  by_now lost m = grown lost m tt
 
 -- any lines are those of the complete blocks, and what fits where they lead
 pub made : (layout : Layout) (text : List (List ℕ)) → IsMade layout text (stand layout text)
-unfolding stand_after
-made layout = by_push (λ text. IsMade layout text (stand layout text)) (made_start layout)
+unfolding stand stand_after
+made layout = by_push (λ text. IsMade layout text (stand layout text))
+    (record { blocks = []; tail = []; parts = refl; each = tt; fits = refl })
     (λ text line m. rw (stand-push layout text line)
     (by_now layout text (stand layout text).complete line (stand layout text).now m))
