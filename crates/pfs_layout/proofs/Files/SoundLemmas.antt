@@ -111,38 +111,14 @@ all_due layout block text next due ends right =
           (are_due-push layout block.size before _ due (rw (at, ← same_last text) one))
     ]
 
--- digits at the end of a text are ended by a blank and by a line end
-digits_ended : (text : List ℕ) (b : ℕ) → is_empty (last_digits (open_line text)) ≡ false
-    → (is_blank b || is_line_end b) ≡ true → ends_number text (Some b) ≡ true
-digits_ended text b there ends = rw (same_last text, there) ends
-
 -- on an unmixed line a byte that ends a number is a blank or a line end
 ends_by : (line : List ℕ) (b : ℕ) → is_no_digit b ≡ true → is_mixed (line ++ b ∷ []) ≡ false
     → is_empty (last_digits line) ≡ false → (is_blank b || is_line_end b) ≡ true
-ends_by line b no_digit unmixed there = true_from_ne_false _ (λ e.
-    let blank = or_parts (is_blank b) (is_line_end b) e in
-    let word : is_word_byte b ≡ true = rw (not-true (is_digit b) no_digit, blank.0, blank.1) in
-    let mixed : is_mixed (line ++ b ∷ []) ≡ true =
-    rw (list_any-append is_digit line (b ∷ []), list_any-append is_word_byte line (b ∷ []), digit_there line there)
-    (or_right _ _ (or_left _ false word)) in
-    both_ways _ unmixed mixed)
-
--- a body's line with one more byte that isn't its end
-body_push : (layout : Layout) (block : Block) (text : List ℕ) (b : ℕ) → GoodBody layout block (open_line text)
-    → mixed_line text (Some b) ≡ None → wrong_number layout block text (Some b) ≡ None
-    → GoodBody layout block (open_line text ++ b ∷ [])
-unfolding mixed_line
-body_push layout block text b good right_line right_number =
-    let line = open_line text in
-    let unmixed : is_mixed (line ++ b ∷ []) ≡ false = rw good.unmixed at (then_some_none _ _ right_line) in
-    record {
-      due = rw (ended_numbers-push line b) (elim (cases_Bool (is_no_digit b)) [
-        | inl gap ↦ rw gap (all_due layout block text (Some b) good.due
-            (λ there. digits_ended text b there (ends_by line b gap unmixed there)) right_number)
-        | inr digit ↦ rw digit good.due
-      ]);
-      unmixed = unmixed;
-    }
+ends_by line b no_digit unmixed there =
+    let words = or_parts (list_any is_word_byte line) _ (rw (list_any-append is_digit line,
+    list_any-append is_word_byte line, digit_there line there) at unmixed) in
+    let word = or_parts (is_word_byte b) false words.1 in
+    rw (not-true (is_digit b) no_digit) at (not-false _ word.0)
 
 -- the complete blocks stay
 pub complete_stays : (layout : Layout) (complete : List Block) (now : Now) (line : List ℕ)
@@ -165,46 +141,47 @@ unfolding are_due
 good_size layout line None e = cc
 good_size layout line (Some size) e = rw (not-false _ (then_some_none _ _ e)) (good_start layout (begun size) refl)
 
-good_sought : (layout : Layout) (text : List ℕ) (next : Option ℕ) → ends_line text next ≡ true
-    → wrong_size layout text next ≡ None → GoodNow layout (after_line layout [] seeking (open_line text)).now []
-unfolding wrong_size
-good_sought layout text next ends right =
-    let stated : Option Size = stated_size layout (numbers (open_line text)) in
-    elim (cases_Bool (is_number_line (open_line text))) [
-      | inl numbered ↦
-          rw numbered (good_size layout (1 + count_by is_line_end text) stated (rw (ends, numbered) at right))
-      | inr plain ↦ rw plain tt
-    ]
-
--- after numbers that are due
-good_numbers : (layout : Layout) (complete : List Block) (next : Block) → are_due layout next.size next.numbers ≡ true
-    → GoodNow layout (after_numbers layout complete next).now []
-good_numbers layout complete next due =
-    rw due (cond_both (length next.numbers == due_count layout next.size) (completed complete next)
-    (standing complete (inside next)) (λ after. GoodNow layout after.now []) (λ full. tt)
-    (λ short. good_start layout next due))
-
 pub good_end : (layout : Layout) (k : ℕ) (complete : List Block) (now : Now) (text : List ℕ) (next : Option ℕ)
     → ends_line text next ≡ true → (is_empty (last_digits (open_line text)) ≡ false → ends_number text next ≡ true)
     → GoodNow layout now (open_line text) → first_some (faults layout k now text next) ≡ None
     → GoodNow layout (after_line layout complete now (open_line text)).now []
+unfolding wrong_size
 good_end layout k complete seeking text next ends digits good right =
-    good_sought layout text next ends
-    (all_none (faults layout k seeking text next) right).1.0
+    let right_size = (all_none (faults layout k seeking text next) right).1.0 in
+    elim (cases_Bool (is_number_line (open_line text))) [
+      | inl numbered ↦
+          let stated : Option Size = stated_size layout (numbers (open_line text)) in
+          rw numbered (good_size layout (1 + count_by is_line_end text) stated (rw (ends, numbered) at right_size))
+      | inr plain ↦ rw plain tt
+    ]
 good_end layout k complete (inside block) text next ends digits good right =
+    let next_block : Block = with_line block (open_line text) in
     let rights = all_none (faults layout k (inside block) text next) right in
-    rw good.unmixed (good_numbers layout complete (with_line block (open_line text))
-    (all_due layout block text next good.due digits rights.1.1.0))
+    let due = all_due layout block text next good.due digits rights.1.1.0 in
+    elim (cases_Bool (length next_block.numbers == due_count layout block.size)) [
+      | inl full ↦ rw (good.unmixed, due, full) tt
+      | inr short ↦ rw (good.unmixed, due, short) (good_start layout next_block due)
+    ]
 good_end layout k complete lost text next ends digits good right = good
 
 -- ---- a byte
 
 good_byte : (layout : Layout) (k : ℕ) (now : Now) (text : List ℕ) (b : ℕ) → GoodNow layout now (open_line text)
     → first_some (faults layout k now text (Some b)) ≡ None → GoodNow layout now (open_line text ++ b ∷ [])
+unfolding mixed_line
 good_byte layout k seeking text b good right = tt
 good_byte layout k (inside block) text b good right =
+    let line = open_line text in
     let rights = all_none (faults layout k (inside block) text (Some b)) right in
-    body_push layout block text b good rights.1.0 rights.1.1.0
+    let unmixed : is_mixed (line ++ b ∷ []) ≡ false = rw good.unmixed at (then_some_none _ _ rights.1.0) in
+    record {
+      due = rw (ended_numbers-push line b) (elim (cases_Bool (is_no_digit b)) [
+        | inl gap ↦ rw gap (all_due layout block text (Some b) good.due
+            (λ there. rw (same_last text, there) (ends_by line b gap unmixed there)) rights.1.1.0)
+        | inr digit ↦ rw digit good.due
+      ]);
+      unmixed = unmixed;
+    }
 good_byte layout k lost text b good right = good
 
 pub stand-push : (layout : Layout) (lines : List (List ℕ)) (line : List ℕ)
@@ -254,7 +231,7 @@ sound_more layout k text b sound right few =
           let fewer : length before.complete < k = omega arith in
           rw (stand_of-end layout text b ends, open_line-end text b ends)
           (good_end layout k before.complete before.now text (Some b) ends
-          (λ there. digits_ended text b there (or_right _ _ ends)) (sound rights.0 fewer) (here fewer))
+          (λ there. rw (same_last text, there) (or_right _ _ ends)) (sound rights.0 fewer) (here fewer))
       | inr on ↦
           let fewer = rw (stand_of-on layout text b on) at few in
           rw (stand_of-on layout text b on, open_line-on text b on)
