@@ -1,6 +1,6 @@
 -- Lists of rows of one width, by row and column.
 use Rattle.std.proofs.Common.{◌≡◌, ℕ, zero, suc, ◌+◌, ◌*◌, ◌/◌, ◌%◌, ◌<◌, List, length, get_or, map, flat_map}
-use Rattle.std.proofs.Common.{sym, ◌∙◌, arith}
+use Rattle.std.proofs.Common.{sym, ap, ◌∙◌, ◌++◌, arith}
 use Rattle.std.specs.List.{All, range_with_len}
 use Rattle.std.proofs.Math.Nat.{div-lt_iff_lt-mul, mod-lt}
 use Rattle.std.proofs.lemmas.Grind.{same_number_lists}
@@ -8,31 +8,26 @@ use Rattle.std.proofs.lemmas.List.{get_or_append_left, get_or-append-add, length
 use Rattle.std.proofs.lemmas.List.Elements.{All-from_get_or}
 use Rattle.std.proofs.lemmas.List.FromFn.{get_or-map-range_with_len, length-map-range_with_len}
 use Rattle.pfs_base.specs.Lists.{below}
+use Rattle.pfs_base.proofs.Published.SpacedLemmas.{flat_map_more, flat_map_from}
 
 module _ (f : ℕ → List ℕ) (w : ℕ) (each : (i : ℕ) → length (f i) ≡ w) where
-  rows_from : (a n : ℕ) → length (flat_map f (range_with_len a n)) ≡ n * w
-  rows_from a zero = omega arith
-  rows_from a (suc n) =
-      length-append (f a) (flat_map f (range_with_len (a + 1) n)) ∙ grind (arith, each a, rows_from (a + 1) n)
-
-  at_from : (a n r c d : ℕ) → r < n → c < w
-      → get_or (flat_map f (range_with_len a n)) (r * w + c) d ≡ get_or (f (a + r)) c d
-  at_from a zero r c d h l = absurd (omega arith)
-  at_from a (suc n) zero c d h l =
-      let e : 0 * w + c ≡ c = omega arith in
-      let g : a + 0 ≡ a = omega arith in
-      rw (e, g) (get_or_append_left (f a) (flat_map f (range_with_len (a + 1) n)) d c (omega (arith, each a)))
-  at_from a (suc n) (suc r) c d h l =
-      let e : suc r * w + c ≡ length (f a) + (r * w + c) = grind (arith, each a) in
-      let g : (a + 1) + r ≡ a + suc r = omega arith in
-      rw (e, get_or-append-add (f a) (flat_map f (range_with_len (a + 1) n)) (r * w + c) d, ← g)
-      (at_from (a + 1) n r c d (omega arith) l)
-
   pub length-rows : (n : ℕ) → length (flat_map f (below n)) ≡ n * w
-  length-rows n = rows_from 0 n
+  length-rows zero = omega arith
+  length-rows (suc n) = omega (
+    arith,
+    ap length (flat_map_more f n),
+    length-append (flat_map f (below n)) (f n),
+    each n,
+    length-rows n,
+  )
 
   pub rows_at : (n r c d : ℕ) → r < n → c < w → get_or (flat_map f (below n)) (r * w + c) d ≡ get_or (f r) c d
-  rows_at n r c d h l = let e : 0 + r ≡ r = omega arith in rw e at (at_from 0 n r c d h l)
+  rows_at n r c d h l =
+      let before : List ℕ = flat_map f (below r) in
+      let parts = flat_map_from f r n h in
+      let inside : length before + c < length (before ++ f r) = omega (arith, length-append before (f r), each r) in
+      rw (parts.1, ← length-rows r)
+      (get_or_append_left (before ++ f r) parts.0 d (length before + c) inside ∙ get_or-append-add before (f r) c d)
 
 -- k is row r and column c of rows of this width
 pub record IsAt (k rows width : ℕ) : Type 0 where
@@ -43,8 +38,7 @@ pub record IsAt (k rows width : ℕ) : Type 0 where
   pub is : k ≡ row * width + column
 
 some_factor : (a b k : ℕ) → k < a * b → 0 < b
-some_factor a zero k h = absurd (omega arith)
-some_factor a (suc b) k h = omega arith
+some_factor a b k h = grind arith
 
 pub at_row : (k rows width : ℕ) → k < rows * width → IsAt k rows width
 at_row k rows w h =

@@ -76,12 +76,8 @@ module _ (layout : Layout) (complete : List Block) where
       let longest = length-append (flat_map numbers more) (numbers last) in
       let short : (length here == due_count layout size) ≡ false =
       ne_eqb (length here) (due_count layout size) (λ e. omega (arith, ap length regroup)) in
-      let next : Block = record { size = size; numbers = here } in
-      let step : after_line layout complete (inside (record { size = size; numbers = ns })) line
-      ≡ standing complete (inside next) =
-      rw (not-true (is_mixed line) parts.0, are_due_front layout size here left (rw regroup at due), short) in
-      ap (λ s. fold (stand_after layout) s (more ++ last ∷ [])) step
-      ∙ body_fold size here more last parts.1 numbered all regroup due count
+      rw (fold, not-true (is_mixed line) parts.0, are_due_front layout size here left (rw regroup at due), short)
+      (body_fold size here more last parts.1 numbered all regroup due count)
 
   -- a block is completed by its lines
   pub block_fold : (problem : Problem) (block : List (List ℕ)) → IsBlock limits layout problem block
@@ -89,15 +85,17 @@ module _ (layout : Layout) (complete : List Block) where
   unfolding stand_after
   block_fold problem block b =
       let tail : List (List ℕ) = b.front ++ b.last ∷ [] in
-      let lines : block ≡ b.skipped ++ (b.size_line ∷ tail) =
-      rw b.parts (append_assoc b.skipped (b.size_line ∷ b.front) _) in
-      let step : after_line layout complete seeking b.size_line ≡ standing complete (inside (begun (size_of problem))) =
-      rw (b.size.number_line, b.size.states, within_size problem b.within) in
-      rw (lines, fold-append (stand_after layout) (standing complete seeking) b.skipped (b.size_line ∷ tail))
-      (ap (λ s. fold (stand_after layout) s (b.size_line ∷ tail)) (skip_fold b.skipped b.no_numbers)
-      ∙ ap (λ s. fold (stand_after layout) s tail) step
-      ∙ body_fold (size_of problem) [] b.front b.last b.body.front_unmixed b.body.last_numbers (due layout problem.shop)
-      (sym b.body.holds) (due_passes layout problem b.within.within.short_times) (length-due layout problem))
+      rw (b.parts, append_assoc b.skipped (b.size_line ∷ b.front) (b.last ∷ []))
+      (rw (
+        fold-append (stand_after layout) (standing complete seeking) b.skipped (b.size_line ∷ tail),
+        skip_fold b.skipped b.no_numbers,
+        fold,
+        b.size.number_line,
+        b.size.states,
+        within_size problem b.within,
+      )
+      (body_fold (size_of problem) [] b.front b.last b.body.front_unmixed b.body.last_numbers (due layout problem.shop)
+      (sym b.body.holds) (due_passes layout problem b.within.within.short_times) (length-due layout problem)))
 
 -- blocks lead to as many complete ones, the last of which is the instance's
 pub record LeadsTo (layout : Layout) (complete : List Block) (problem : Problem) (count : ℕ) (text : List (List ℕ))

@@ -31,32 +31,30 @@ no_more_than_due layout size numbers all = elim (cases_lt (due_count layout size
 ]
 
 -- what is due for a problem of the size in which each time is 0
-idle_due : Layout → Size → List ℕ
+abbrev idle_due : Layout → Size → List ℕ
 idle_due layout size = due layout (instance_of layout (begun size)).shop
 
 length-idle_due : (layout : Layout) (size : Size) → length (idle_due layout size) ≡ due_count layout size
-unfolding idle_due instance_of
+unfolding instance_of
 length-idle_due layout size = length-due_instance layout (begun size)
 
 idle_passes : (layout : Layout) (size : Size) → are_due layout size (idle_due layout size) ≡ true
-unfolding idle_due instance_of
+unfolding instance_of
 idle_passes layout size =
     due_passes layout (instance_of layout (begun size))
     (all_table (λ job machine. 0) size.jobs size.machines (λ time. time ≤ LONGEST_TIME)
     (λ job machine j m. omega arith))
 
 -- the numbers, and behind them what is due for the idle problem
-filled : Layout → Size → List ℕ → List ℕ
+abbrev filled : Layout → Size → List ℕ → List ℕ
 filled layout size numbers = numbers ++ drop (length numbers) (idle_due layout size)
 
 module _ (layout : Layout) (size : Size) (numbers : List ℕ) (all : are_due layout size numbers ≡ true) where
   length-filled : length (filled layout size numbers) ≡ due_count layout size
-  unfolding filled
   length-filled =
       simp (length-append, length-drop, length-idle_due) (omega (arith, no_more_than_due layout size numbers all))
 
   filled_passes : are_due layout size (filled layout size numbers) ≡ true
-  unfolding filled
   filled_passes = are_due_by_place layout size (filled layout size numbers) (λ k h. elim (cases_lt k (length numbers)) [
     | inl inside ↦ rw (get_or_append_left numbers (drop (length numbers) (idle_due layout size)) 0 k inside)
         (due_number layout size numbers k all inside)
@@ -69,7 +67,7 @@ module _ (layout : Layout) (size : Size) (numbers : List ℕ) (all : are_due lay
   ])
 
   begin_due : BeginDue layout size numbers
-  unfolding filled instance_of
+  unfolding instance_of
   begin_due =
       let block : Block = record { size = size; numbers = filled layout size numbers } in
       record {

@@ -19,7 +19,7 @@ use Rattle.pfs_layout.specs.Block.{any_time, machine_number, is_due, due_at, are
 use Rattle.pfs_layout.specs.File.{IsInstance}
 use Rattle.pfs_layout.specs.Size.{Size, size_of, is_within_limits}
 use Rattle.pfs_layout.specs.Stand.{Block, place_of_time, instance_of}
-use Rattle.pfs_layout.proofs.Files.DueLemmas.{taillard_at, orlib_at, length-due, time_due, pairs_of, pair_at, in_pair}
+use Rattle.pfs_layout.proofs.Files.DueLemmas.{length-due, time_due, place_within, due_time, a_time, a_number, place_is}
 use Rattle.pfs_layout.proofs.Files.SizeLemmas.{size_within}
 use Rattle.pfs_layout.proofs.Tables.{length-table, table_at, same_table, all_table}
 
@@ -70,28 +70,6 @@ due_number layout size numbers k all h =
     let e : 0 + k ≡ k = omega arith in
     rw (get_or-enumerate_from 0 numbers k (0, 0) h, e) at (AllPass-from_list_all test _ all k (0, 0) within)
 
-orlib_due : (block : Block) (k : ℕ) → k < due_count OrLib block.size
-    → is_due (due_at OrLib block.size k) (get_or block.numbers k 0) ≡ true
-    → get_or (due OrLib (instance_of OrLib block).shop) k 0 ≡ get_or block.numbers k 0
-unfolding instance_of
-orlib_due block k h right =
-    let pair = in_pair block.size k h in
-    ap (λ i. get_or (due OrLib (instance_of OrLib block).shop) i 0) pair.is
-    ∙ pair_at (instance_of OrLib block).shop pair.job pair.machine pair.column 0 pair.job_in pair.machine_in
-    pair.column_in
-    ∙ by_column pair.job pair.machine pair.column pair.job_in pair.machine_in pair.column_in pair.is
-    (rw pair.wanted at right)
-  where
-    by_column : (job machine column : ℕ) → job < block.size.jobs → machine < block.size.machines → column < 2
-        → k ≡ job * (block.size.machines * 2) + (machine * 2 + column)
-        → is_due (if column == 0 then machine_number machine else any_time) (get_or block.numbers k 0) ≡ true
-        → get_or (pairs_of (instance_of OrLib block).shop job machine) column 0 ≡ get_or block.numbers k 0
-    by_column job machine zero j m l is right = sym (eqb-true (get_or block.numbers k 0) machine right)
-    by_column job machine (suc zero) j m l is right =
-        let place : 2 * (job * block.size.machines + machine) + 1 ≡ k = grind (arith, is) in
-        time_at OrLib block job machine j m ∙ ap (λ i. get_or block.numbers i 0) place
-    by_column job machine (suc (suc column)) j m l is right = absurd (omega arith)
-
 pub length-due_instance : (layout : Layout) (block : Block)
     → length (due layout (instance_of layout block).shop) ≡ due_count layout block.size
 unfolding instance_of
@@ -100,34 +78,19 @@ length-due_instance layout block = length-due layout (instance_of layout block)
 -- a complete block's numbers are those that are due for its problem
 pub due_instance : (layout : Layout) (block : Block) → are_due layout block.size block.numbers ≡ true
     → length block.numbers ≡ due_count layout block.size → due layout (instance_of layout block).shop ≡ block.numbers
-unfolding instance_of due due_row
-due_instance Taillard block all full =
-    sym (same_table (λ machine job. time_of (instance_of Taillard block).shop job machine)
-    block.size.machines block.size.jobs block.numbers (full ∙ mul_comm block.size.jobs block.size.machines)
-    (λ machine job m j. sym (time_at Taillard block job machine j m)))
-due_instance OrLib block all full =
-    let count = length-due_instance OrLib block in
-    same_number_lists (due OrLib (instance_of OrLib block).shop) block.numbers (count ∙ sym full)
-    (λ k h. orlib_due block k (omega (arith, count)) (due_number OrLib block.size block.numbers k all
-    (omega (arith, count))))
+unfolding instance_of
+due_instance layout block all full =
+    let count = length-due_instance layout block in
+    same_number_lists (due layout (instance_of layout block).shop) block.numbers (count ∙ sym full) (λ k h.
+    elim (place_is layout (instance_of layout block) k (omega (arith, count))) [
+      | a_time job machine j m place ↦
+          rw place (time_due layout (instance_of layout block) job machine j m ∙ time_at layout block job machine j m)
+      | a_number machine wanted is ↦
+          let right = due_number layout block.size block.numbers k all (omega (arith, count)) in
+          is ∙ sym (eqb-true (get_or block.numbers k 0) machine (rw wanted at right))
+    ])
 
 -- ---- a complete block's problem is within the limits
-
-place_within : (layout : Layout) (size : Size) (job machine : ℕ) → job < size.jobs → machine < size.machines
-    → place_of_time layout size job machine < due_count layout size
-place_within Taillard size job machine j m = grind (arith, mul-add-lt machine size.jobs job size.machines m j)
-place_within OrLib size job machine j m =
-    omega (arith, mul-add-lt job size.machines machine size.jobs j m, mul_comm size.jobs size.machines)
-
-due_time : (layout : Layout) (size : Size) (job machine : ℕ) → job < size.jobs → machine < size.machines
-    → due_at layout size (place_of_time layout size job machine) ≡ any_time
-due_time Taillard size job machine j m =
-    taillard_at size (machine * size.jobs + job) (place_within Taillard size job machine j m)
-due_time OrLib size job machine j m =
-    let x : ℕ = job * size.machines + machine in
-    let turned : 2 * x + 1 ≡ x * 2 + 1 = omega arith in
-    let odd : (2 * x + 1) % 2 ≡ 1 = ap (λ i. i % 2) turned ∙ mod-mul-add x 2 1 (lit< tt) in
-    rw (orlib_at size (2 * x + 1) (place_within OrLib size job machine j m), odd)
 
 pub times_short : (layout : Layout) (block : Block) → are_due layout block.size block.numbers ≡ true
     → length block.numbers ≡ due_count layout block.size
