@@ -8,10 +8,12 @@ unfolding seed_after
 loop-job-init c = record {
   last = refl;
   below = c.requires.seed;
-  same_jobs = refl;
-  same_machines = refl;
-  every_time = c.jobs-job-end.ensures.within.every_time;
-  same_notes = refl;
+  same = record {
+    same_jobs = refl;
+    same_machines = refl;
+    every_time = c.jobs-job-end.ensures.within.every_time;
+    same_notes = refl;
+  };
   drawn = λ job within. absurd (omega arith);
   others = λ job other n differ. refl;
 }
