@@ -1,5 +1,5 @@
 -- Seeds of the generator, and times that are set one by one.
-use Rattle.std.proofs.Common.{◌≡◌, ◌≢◌, ℕ, zero, suc, ◌+◌, ◌*◌, ◌/◌, ◌%◌, ◌<◌, ◌≤◌, inl, inr, List, length}
+use Rattle.std.proofs.Common.{◌≡◌, ◌≢◌, ℕ, zero, suc, ◌+◌, ◌*◌, ◌%◌, ◌<◌, ◌≤◌, inl, inr, length}
 use Rattle.std.proofs.Common.{add-one, sym, ◌∙◌, ap, arith}
 use Rattle.std.proofs.Math.Nat.{mul_comm}
 use Rattle.std.proofs.lemmas.Bool.{cases_eq}
@@ -10,7 +10,7 @@ use Rattle.pfs_base.specs.Problem.{Problem}
 use Rattle.pfs_base.specs.declared.limits.TheConstants.{LONGEST_TIME}
 use Rattle.pfs_base.specs.declared.notes.Notes.{Notes}
 use Rattle.pfs_layout.specs.Generator.{prime, seed_after, drawn_time, generated, SeedsStay, GeneratedWithin}
-use Rattle.pfs_layout.proofs.Tables.{table, length-table, same_table, all_table}
+use Rattle.pfs_layout.proofs.Tables.{length-table, same_table, all_table}
 
 -- so many draws, and then so many more
 pub seed_after-add : (more draws seed : ℕ) → seed_after (more + draws) seed ≡ seed_after more (seed_after draws seed)

@@ -1,25 +1,22 @@
 -- Where a block leads.
-use Rattle.std.proofs.Common.{◌≡◌, ℕ, ◌+◌, ◌<◌, Bool, true, false, not, List, [], ◌∷◌, ◌++◌, length, fold, flat_map}
-use Rattle.std.proofs.Common.{refl, sym, ◌∙◌, ap, arith, ◌==◌, inl, inr}
+use Rattle.std.proofs.Common.{◌≡◌, ℕ, ◌+◌, ◌<◌, true, false, not, List, [], ◌∷◌, ◌++◌, length, fold, flat_map}
+use Rattle.std.proofs.Common.{refl, sym, ap, arith, ◌==◌, inl, inr}
 use Rattle.std.specs.List.{AllByRecursion, list_any, list_all}
 use Rattle.std.proofs.lemmas.Bool.{and_parts, cases_Bool, eq-eqb, false≢true, ne_eqb, not-true}
-use Rattle.std.proofs.Math.Bool.{or-false}
 use Rattle.std.proofs.lemmas.List.{append_assoc, append-nil, length-append}
-use Rattle.std.proofs.lemmas.List.Folds.{list_any-append, list_all-append}
+use Rattle.std.proofs.lemmas.List.Folds.{list_all-append}
 use Rattle.std.proofs.lemmas.List.Sums.{fold-append}
 use Rattle.pfs_layout.specs.declared.layout.Layout.{Layout}
 use Rattle.pfs_layout.specs.Bytes.{is_digit, is_word_byte}
 use Rattle.pfs_base.specs.Limits.{limits}
-use Rattle.pfs_base.specs.Lists.{is_empty}
-use Rattle.pfs_base.proofs.Published.Lists.{by_push, enumerate_from-append}
+use Rattle.pfs_base.proofs.Published.Lists.{enumerate_from-append}
 use Rattle.pfs_base.specs.Problem.{Problem}
 use Rattle.pfs_layout.specs.Size.{Size, size_of}
-use Rattle.pfs_layout.specs.Lines.{is_mixed, is_number_line, is_no_digit, values, numbers, ended_numbers, last_digits}
+use Rattle.pfs_layout.specs.Lines.{is_mixed, is_number_line, is_no_digit, numbers}
 use Rattle.pfs_layout.specs.Block.{are_due, due, due_count}
-use Rattle.pfs_layout.specs.Stand.{Block, seeking, inside, standing, completed, begun, after_line, stand_after}
+use Rattle.pfs_layout.specs.Stand.{Block, seeking, inside, standing, completed, stand_after}
 use Rattle.pfs_layout.specs.File.{AreBlocks, IsSomeBlock, IsBlock}
 use Rattle.pfs_layout.proofs.Files.LineLemmas.{split_some}
-use Rattle.pfs_layout.proofs.Files.SoundLemmas.{values_last}
 use Rattle.pfs_layout.proofs.Files.SizeLemmas.{within_size}
 use Rattle.pfs_layout.proofs.Files.DueLemmas.{due_passes, length-due}
 use Rattle.pfs_layout.proofs.Files.RoundLemmas.{block_of}

@@ -1,6 +1,6 @@
 -- The numbers that are due, by index.
-use Rattle.std.proofs.Common.{◌≡◌, ℕ, zero, suc, ◌+◌, ◌*◌, ◌/◌, ◌%◌, ◌<◌, ◌≤◌, true, List, [], ◌∷◌, length, get_or}
-use Rattle.std.proofs.Common.{refl, ◌∙◌, ap, arith, lit<, ◌==◌, inl, inr, if◌then◌else◌}
+use Rattle.std.proofs.Common.{◌≡◌, ℕ, ◌+◌, ◌*◌, ◌/◌, ◌%◌, ◌<◌, ◌≤◌, true, List, [], ◌∷◌, length, get_or, refl, ◌∙◌, ap}
+use Rattle.std.proofs.Common.{arith, lit<, inl, inr}
 use Rattle.std.specs.List.{All, enumerate_from}
 use Rattle.std.proofs.Math.Nat.{mul_comm}
 use Rattle.std.proofs.lemmas.Bool.{cases_eq, cases_lt, eq-eqb, le-leb, lt-ltb}
@@ -15,8 +15,7 @@ use Rattle.pfs_base.specs.Problem.{Problem}
 use Rattle.pfs_layout.specs.declared.layout.Layout.{Layout}
 use Rattle.pfs_layout.specs.declared.layout.Layout.TheVariants.{Taillard, OrLib}
 use Rattle.pfs_layout.specs.Size.{Size, size_of}
-use Rattle.pfs_layout.specs.Block.{any_time, machine_number, pair_due, is_due, due_at, are_due, due_row, due}
-use Rattle.pfs_layout.specs.Block.{due_count}
+use Rattle.pfs_layout.specs.Block.{any_time, machine_number, pair_due, is_due, due_at, are_due, due_row, due, due_count}
 use Rattle.pfs_layout.specs.Stand.{place_of_time}
 use Rattle.pfs_layout.proofs.Tables.{length-rows, rows_at, at_row, table_at}
 

@@ -1,5 +1,5 @@
 -- What later lines can't undo, and where a text's lines lead from one of its places.
-use Rattle.std.proofs.Common.{◌≡◌, ℕ, ◌≤◌, false, List, [], ◌∷◌, ◌++◌, length, fold, refl, sym, ◌∙◌, ap, arith}
+use Rattle.std.proofs.Common.{◌≡◌, ℕ, ◌≤◌, false, List, [], ◌∷◌, ◌++◌, length, fold, refl, sym, ◌∙◌, arith}
 use Rattle.std.proofs.Common.{◌⊎◌, inl, inr}
 use Rattle.std.specs.List.{list_any}
 use Rattle.std.proofs.lemmas.Bool.{cases_Bool, ne_eqb}
@@ -11,7 +11,7 @@ use Rattle.pfs_layout.specs.declared.layout.Layout.{Layout}
 use Rattle.pfs_layout.specs.Bytes.{is_line_end}
 use Rattle.pfs_layout.specs.Lines.{lines, ended_lines, open_line, ended_parts}
 use Rattle.pfs_layout.specs.Stand.{Block, Now, seeking, inside, lost, Stand, after_line, stand_after}
-use Rattle.pfs_layout.specs.Stand.{stand, standing, completed, with_line}
+use Rattle.pfs_layout.specs.Stand.{stand, completed, with_line}
 use Rattle.pfs_layout.proofs.Files.LineLemmas.{ended_parts-push}
 use Rattle.pfs_layout.proofs.Files.CutLemmas.{unended, ended, first_line, lines-line, lines-open}
 use Rattle.pfs_layout.proofs.Files.SoundLemmas.{stand_of, stand_of-end, stand_of-on, open_line-none, open_line-end}
@@ -126,10 +126,10 @@ line_on line b more none e =
           let some = ne_eqb (length (own ++ more)) 0 (λ z. omega (arith, length-append {A = ℕ})) in
           record { tail = more; others = []; are = rw (lines-open (own ++ more) (without more h), some) }
       | ended tail c rest is h at ↦ record {
-          tail = tail;
-          others = lines rest;
-          are = rw (is, ← append_assoc own tail (c ∷ rest)) (lines-line (own ++ tail) c rest (without tail h) at);
-        }
+        tail = tail;
+        others = lines rest;
+        are = rw (is, ← append_assoc own tail (c ∷ rest)) (lines-line (own ++ tail) c rest (without tail h) at);
+      }
     ]
   where
     without : (tail : List ℕ) → list_any is_line_end tail ≡ false

@@ -1,15 +1,14 @@
 -- The test of a size line's numbers is that they are within the limits.
-use Rattle.std.proofs.Common.{arith, ◌≡◌, ℕ, ◌≤◌, true, List, [], ◌∷◌, nat_le}
+use Rattle.std.proofs.Common.{arith, ◌≡◌, ℕ, ◌≤◌, true, List, nat_le}
 use Rattle.std.specs.List.{All, list_all}
-use Rattle.std.proofs.lemmas.List.Elements.{All-nil, All-cons}
 use Rattle.std.proofs.lemmas.Bool.Decides.{nat_tests}
 use Rattle.std.proofs.lemmas.List.Sums.{AllPass-from_list_all}
-use Rattle.std.proofs.lemmas.Bool.{and_from, and_parts, le-leb, leb-true}
-use Rattle.pfs_base.specs.declared.limits.TheConstants.{MOST_JOBS, MOST_MACHINES, GREATEST_NOTE, LONGEST_TIME}
+use Rattle.std.proofs.lemmas.Bool.{leb-true}
+use Rattle.pfs_base.specs.declared.limits.TheConstants.{GREATEST_NOTE, LONGEST_TIME}
 use Rattle.pfs_base.specs.FlowShop.{AreSizes}
 use Rattle.pfs_base.specs.Limits.{limits}
 use Rattle.pfs_base.specs.Problem.{Problem}
-use Rattle.pfs_layout.specs.Size.{Size, size_of, is_between, is_within_limits}
+use Rattle.pfs_layout.specs.Size.{Size, size_of, is_within_limits}
 use Rattle.pfs_layout.specs.File.{IsInstance}
 
 pub within_size : (problem : Problem) → IsInstance limits problem → is_within_limits (size_of problem) ≡ true

@@ -1,13 +1,10 @@
 -- While no byte has a fault, the numbers so far are due and no line of a body is mixed.
 use Rattle.std.proofs.Common.{◌≡◌, ℕ, ◌+◌, ◌-◌, ◌<◌, ◌≤◌, Bool, true, false, ◌||◌, List, [], ◌∷◌, ◌++◌, length}
-use Rattle.std.proofs.Common.{count_by, refl, sym, arith, Option, Some, None, if◌then◌else◌, ◌==◌}
+use Rattle.std.proofs.Common.{count_by, refl, arith, Option, Some, None, if◌then◌else◌, ◌==◌, inl, inr}
 use Rattle.std.specs.List.{list_any}
 use Rattle.std.specs.Str.Parse.{digits_value}
-use Rattle.std.proofs.lemmas.Bool.{and_from, cond_both, eqb-true, le-leb, lt-ltb, ltb-false, not-false}
-use Rattle.std.proofs.lemmas.Bool.{not-true}
-use Rattle.std.proofs.lemmas.Bool.{or_left, or_parts, or_right}
-use Rattle.std.proofs.lemmas.Bool.{both_ways, cases_Bool, true_from_ne_false}
-use Rattle.std.proofs.Common.{inl, inr}
+use Rattle.std.proofs.lemmas.Bool.{and_from, eqb-true, le-leb, lt-ltb, ltb-false, not-false, not-true, or_parts}
+use Rattle.std.proofs.lemmas.Bool.{or_right, cases_Bool}
 use Rattle.std.proofs.lemmas.Grind.{common_steps}
 use Rattle.std.proofs.lemmas.List.{append-nil, append_assoc, length-append}
 use Rattle.std.proofs.lemmas.List.Folds.{list_any-append, list_all-append}
@@ -22,8 +19,8 @@ use Rattle.pfs_layout.specs.Lines.{ended_parts, open_part, ended_lines, open_lin
 use Rattle.pfs_layout.specs.Lines.{is_no_digit, values, numbers, ended_numbers, last_digits}
 use Rattle.pfs_layout.specs.Block.{Due, any_time, machine_number, nothing, is_due, due_at, are_due, stated_size}
 use Rattle.pfs_layout.specs.Block.{due_count}
-use Rattle.pfs_layout.specs.Stand.{Block, Now, seeking, inside, lost, Stand, standing, completed, begun, with_line}
-use Rattle.pfs_layout.specs.Stand.{after_size, after_numbers, after_line, stand_after, stand}
+use Rattle.pfs_layout.specs.Stand.{Block, Now, seeking, inside, lost, Stand, begun, with_line, after_size, after_line}
+use Rattle.pfs_layout.specs.Stand.{stand_after, stand}
 use Rattle.pfs_layout.specs.Refuse.{mixed_line, misfit, ends_line, ends_number, wrong_number, size_fault, wrong_size}
 use Rattle.pfs_layout.specs.Refuse.{faults, fault_of_place, byte_fault}
 use Rattle.pfs_layout.proofs.Files.LineLemmas.{ended_parts-push, open_part-push, ended_numbers-push, numbers_is}
@@ -115,8 +112,11 @@ all_due layout block text next due ends right =
 ends_by : (line : List ℕ) (b : ℕ) → is_no_digit b ≡ true → is_mixed (line ++ b ∷ []) ≡ false
     → is_empty (last_digits line) ≡ false → (is_blank b || is_line_end b) ≡ true
 ends_by line b no_digit unmixed there =
-    let words = or_parts (list_any is_word_byte line) _ (rw (list_any-append is_digit line,
-    list_any-append is_word_byte line, digit_there line there) at unmixed) in
+    let words = or_parts (list_any is_word_byte line) _ (rw (
+      list_any-append is_digit line,
+      list_any-append is_word_byte line,
+      digit_there line there,
+    ) at unmixed) in
     let word = or_parts (is_word_byte b) false words.1 in
     rw (not-true (is_digit b) no_digit) at (not-false _ word.0)
 

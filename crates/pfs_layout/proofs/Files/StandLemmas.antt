@@ -1,11 +1,11 @@
 -- Which lines lead to complete blocks.
-use Rattle.std.proofs.Common.{◌≡◌, ℕ, ◌*◌, ◌≤◌, Bool, true, false, not, ◌||◌, List, [], ◌∷◌, ◌++◌, length, flat_map}
-use Rattle.std.proofs.Common.{refl, sym, ◌∙◌, ap, arith, Option, Some, None, ◌==◌, inl, inr}
+use Rattle.std.proofs.Common.{◌≡◌, ℕ, true, false, not, List, [], ◌∷◌, ◌++◌, length, flat_map}
+use Rattle.std.proofs.Common.{refl, sym, ap, arith, Option, Some, None, ◌==◌, inl, inr}
 use Rattle.std.specs.List.{list_any, list_all, AllZip}
 use Rattle.std.proofs.lemmas.Bool.{cases_Bool, eqb-false, eqb-true, or_parts, true_from_ne_false}
 use Rattle.std.proofs.Math.Nat.{mul-le-mul}
 use Rattle.std.proofs.lemmas.List.{append_assoc, append-nil}
-use Rattle.std.proofs.lemmas.List.Folds.{list_any-append, list_all-append}
+use Rattle.std.proofs.lemmas.List.Folds.{list_all-append}
 use Rattle.std.proofs.lemmas.Grind.{flat_map-append}
 use Rattle.pfs_base.specs.Limits.{limits}
 use Rattle.pfs_base.proofs.Published.Lists.{by_push}
@@ -13,12 +13,11 @@ use Rattle.pfs_layout.specs.declared.layout.Layout.{Layout}
 use Rattle.pfs_layout.specs.declared.layout.Layout.TheVariants.{Taillard, OrLib}
 use Rattle.pfs_layout.specs.Bytes.{is_digit, is_word_byte}
 use Rattle.pfs_layout.specs.Size.{Size, is_within_limits}
-use Rattle.pfs_layout.specs.Lines.{is_mixed, is_number_line, is_no_digit, numbers}
+use Rattle.pfs_layout.specs.Lines.{is_mixed, is_number_line, numbers}
 use Rattle.pfs_layout.specs.Block.{stated_size, due_count, are_due}
 use Rattle.pfs_layout.specs.File.{IsBlock}
 use Rattle.pfs_layout.specs.Stand.{Block, Now, seeking, inside, lost, Stand, standing, completed, begun, with_line}
-use Rattle.pfs_layout.specs.Stand.{after_size, after_numbers, after_line, stand_after, stand, instance_of}
-use Rattle.pfs_layout.proofs.Files.LineLemmas.{numbers_is, ended_numbers-push, open_part-push}
+use Rattle.pfs_layout.specs.Stand.{after_size, after_line, stand_after, stand, instance_of}
 use Rattle.pfs_layout.proofs.Files.SizeLemmas.{size_within}
 use Rattle.pfs_layout.proofs.Files.SoundLemmas.{stand-push}
 use Rattle.pfs_layout.proofs.Files.RoundLemmas.{due_instance, instance_within}
@@ -100,18 +99,18 @@ module _ (layout : Layout) (text : List (List ℕ)) (complete : List Block) (lin
   stated None s numbered m = grown lost m tt
   stated (Some size) s numbered m = elim (cases_Bool (is_within_limits size)) [
     | inl within ↦ rw within (grown (inside (begun size)) m (record {
-        skipped = m.tail;
-        size_line = line;
-        front = [];
-        parts = refl;
-        no_numbers = m.fits;
-        number_line = numbered;
-        states = s;
-        within = within;
-        unmixed = refl;
-        holds = refl;
-        short = some_due layout size within;
-      }))
+      skipped = m.tail;
+      size_line = line;
+      front = [];
+      parts = refl;
+      no_numbers = m.fits;
+      number_line = numbered;
+      states = s;
+      within = within;
+      unmixed = refl;
+      holds = refl;
+      short = some_due layout size within;
+    }))
     | inr out ↦ rw out (grown lost m tt)
   ]
 
@@ -183,12 +182,12 @@ module _ (layout : Layout) (text : List (List ℕ)) (complete : List Block) (lin
       elim (cases_Bool (is_mixed line)) [
         | inl mixed ↦ rw mixed (grown lost m tt)
         | inr unmixed ↦ elim (cases_Bool (are_due layout block.size next.numbers)) [
-            | inl right ↦ elim (cases_Bool (length next.numbers == count)) [
-                | inl full ↦ rw (unmixed, right, full) (finished block m unmixed right (eqb-true _ count full))
-                | inr short ↦ rw (unmixed, right, short) (unfinished block m unmixed short)
-              ]
-            | inr wrong ↦ rw (unmixed, wrong) (grown lost m tt)
+          | inl right ↦ elim (cases_Bool (length next.numbers == count)) [
+            | inl full ↦ rw (unmixed, right, full) (finished block m unmixed right (eqb-true _ count full))
+            | inr short ↦ rw (unmixed, right, short) (unfinished block m unmixed short)
           ]
+          | inr wrong ↦ rw (unmixed, wrong) (grown lost m tt)
+        ]
       ]
   by_now lost m = grown lost m tt
 

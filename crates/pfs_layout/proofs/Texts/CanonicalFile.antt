@@ -32,7 +32,7 @@ use Rattle.pfs_layout.proofs.Files.DueLemmas.{length-due_row, row_width}
 use Rattle.pfs_layout.proofs.Files.SoundLemmas.{open_line-none}
 use Rattle.pfs_layout.proofs.Files.StandLemmas.{no_numbers}
 use Rattle.pfs_layout.proofs.Texts.CanonicalLemmas.{AllFit, row_fits, title, size_numbers, times_title}
-use Rattle.pfs_layout.proofs.Texts.CanonicalLemmas.{sizes_fit, length-head_lines, length-row_lines}
+use Rattle.pfs_layout.proofs.Texts.CanonicalLemmas.{length-head_lines, length-row_lines}
 
 -- ---- bytes of a line of numbers
 
@@ -54,10 +54,7 @@ line_fails test space digit (n ∷ m ∷ ns) fit =
 no_word_byte : (ns : List ℕ) → AllFit ns → list_any is_word_byte (spaced ns) ≡ false
 no_word_byte = line_fails is_word_byte refl (λ b low high. rw (le-leb 48 b low, le-leb b 57 high))
 
-abbrev NoLineEnd : List ℕ → Type 0
-NoLineEnd line = list_any is_line_end line ≡ false
-
-no_line_end : (ns : List ℕ) → AllFit ns → NoLineEnd (spaced ns)
+no_line_end : (ns : List ℕ) → AllFit ns → list_any is_line_end (spaced ns) ≡ false
 no_line_end = line_fails is_line_end refl (λ b low high. ne_eqb b 10 (λ e. omega arith))
 
 numeral_run : (n : ℕ) → n < 2 ^ 64 → All (λ b. is_no_digit b ≡ false) (decimal n)
@@ -99,7 +96,7 @@ record AreLines (text : List ℕ) (parts : List (List ℕ)) : Type 0 where
   pub are : lines text ≡ parts
   pub nothing : open_line text ≡ []
 
-more_lines : {line text : List ℕ} {parts : List (List ℕ)} → NoLineEnd line → AreLines text parts
+more_lines : {line text : List ℕ} {parts : List (List ℕ)} → list_any is_line_end line ≡ false → AreLines text parts
     → AreLines (with_line_end line ++ text) (line ∷ parts)
 more_lines {line} {text} {parts} none are = rw (append_assoc line (10 ∷ []) text) (record {
   are = rw (lines-line line 10 text none refl, are.are);
@@ -183,17 +180,13 @@ module _ (layout : Layout) (problem : Problem) (is : IsInstance limits problem) 
     blocks = record { earlier = []; own = own; parts = are.are; count = refl; each = tt; is_own = block };
   }
 
-numbers_fit : (layout : Layout) (problem : Problem) → IsInstance limits problem
-    → AllFit (size_numbers layout (size_of problem))
-numbers_fit layout problem is =
-    let sizes = is.within.sizes in
-    sizes_fit layout (size_of problem) (omega (arith, sizes.few_jobs)) (omega (arith, sizes.few_machines))
-    (omega (arith, is.seed)) (omega (arith, is.upper)) (omega (arith, is.lower))
+numbers_fit : (problem : Problem) → IsInstance limits problem → AllFit (size_numbers Taillard (size_of problem))
+numbers_fit problem is = omega arith
 
 pub texts_fit : TextsFit
 unfolding canonical_text
 texts_fit layout problem is =
-    let head = length-head_lines layout (size_of problem) (numbers_fit layout problem is) in
+    let head = length-head_lines layout (size_of problem) (numbers_fit problem is) in
     let rows = length-row_lines layout problem.shop is.within in
     omega (arith, length-append (head_lines layout (size_of problem)) (row_lines layout problem.shop))
 
@@ -201,7 +194,7 @@ pub canonical_law : CanonicalLaw
 unfolding canonical_text stated_size numbers
 canonical_law Taillard problem is =
     let sizes : List ℕ = size_numbers Taillard (size_of problem) in
-    let fit = numbers_fit Taillard problem is in
+    let fit = numbers_fit problem is in
     let rows = rows_are Taillard problem.shop is.within (below problem.shop.machines) in
     file_is Taillard problem is (canonical_text Taillard problem) _
     (rw (append_assoc (with_line_end (title Taillard)) (with_line_end (spaced sizes) ++ with_line_end times_title))
@@ -213,7 +206,8 @@ canonical_law Taillard problem is =
     refl refl refl)
 canonical_law OrLib problem is =
     let sizes : List ℕ = size_numbers OrLib (size_of problem) in
-    let fit = numbers_fit OrLib problem is in
+    let all = numbers_fit problem is in
+    let fit : AllFit sizes = (all.0, (all.1.0, tt)) in
     let written : IsInstance limits (as_written OrLib problem) =
     record { within = is.within; seed = omega arith; upper = omega arith; lower = omega arith } in
     let rows = rows_are OrLib problem.shop is.within (below problem.shop.jobs) in

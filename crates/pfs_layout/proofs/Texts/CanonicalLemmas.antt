@@ -1,5 +1,5 @@
 -- A canonical text: the lines before its rows, and how long it is.
-use Rattle.std.proofs.Common.{◌≡◌, ℕ, suc, zero, ◌+◌, ◌*◌, ◌<◌, ◌≤◌, ◌^◌, List, [], ◌∷◌, length, map, flat_map, codes}
+use Rattle.std.proofs.Common.{ℕ, suc, zero, ◌+◌, ◌*◌, ◌<◌, ◌≤◌, ◌^◌, List, [], ◌∷◌, length, map, flat_map, codes}
 use Rattle.std.proofs.Common.{arith, lit<, length-append}
 use Rattle.std.specs.List.{AllByRecursion, range_with_len}
 use Rattle.std.proofs.Math.Nat.{mul-le-mul}
@@ -46,24 +46,13 @@ size_numbers OrLib size = size.jobs ∷ size.machines ∷ []
 abbrev pub times_title : List ℕ
 times_title = codes "processing times :"
 
-pub sizes_fit : (layout : Layout) (size : Size) → size.jobs < 2 ^ 64 → size.machines < 2 ^ 64
-    → size.notes.seed < 2 ^ 64 → size.notes.upper < 2 ^ 64 → size.notes.lower < 2 ^ 64
-    → AllFit (size_numbers layout size)
-sizes_fit Taillard size jobs machines seed upper lower = (jobs, (machines, (seed, (upper, (lower, tt)))))
-sizes_fit OrLib size jobs machines seed upper lower = (jobs, (machines, tt))
-
-pub length-head_lines : (layout : Layout) (size : Size) → AllFit (size_numbers layout size)
+-- where all numbers of a size are of 64 bits
+pub length-head_lines : (layout : Layout) (size : Size) → AllFit (size_numbers Taillard size)
     → length (head_lines layout size) ≤ 1000
 length-head_lines Taillard size fit =
     grind (arith, length-append {A = ℕ}, length-spaced (size_numbers Taillard size) fit)
 length-head_lines OrLib size fit =
-    omega (arith, length-append {A = ℕ}, length-spaced (size_numbers OrLib size) fit)
-
-pub head_short : (layout : Layout) (size : Size) → size.jobs < 2 ^ 64 → size.machines < 2 ^ 64
-    → size.notes.seed < 2 ^ 64 → size.notes.upper < 2 ^ 64 → size.notes.lower < 2 ^ 64
-    → length (head_lines layout size) ≤ 1000
-head_short layout size jobs machines seed upper lower =
-    length-head_lines layout size (sizes_fit layout size jobs machines seed upper lower)
+    omega (arith, length-append {A = ℕ}, length-spaced (size_numbers OrLib size) (fit.0, (fit.1.0, tt)))
 
 -- ---- the rows
 

@@ -2,22 +2,22 @@ use Rattle.std.proofs.Common.{rules, ◌≡◌, Err, arith}
 use Rattle.pfs_base.proofs.Published.SendsLemmas.{then_all, then_front, front_of}
 use Rattle.pfs_base.proofs.Published.SendsOn.{front_of_whole}
 use Rattle.pfs_layout.specs.CanonicalText.{canonical_text, row_lines}
-use Rattle.pfs_layout.proofs.Texts.CanonicalLemmas.{head_short, length-row_lines}
+use Rattle.pfs_layout.proofs.Texts.CanonicalLemmas.{length-head_lines, length-row_lines}
 use Rattle.pfs_layout.specs.Size.{Size}
 use Rattle.pfs_layout.proofs.writing.write_block.Goals as goal
 
 pub put_head-requires-clause-fits : goal.put_head-requires-clause-fits
 put_head-requires-clause-fits g c =
-    let size : Size = record { jobs = c.jobs-jobs.result; machines = c.machines-machines.result; notes = c.notes-notes.result } in
-    let short = head_short c.args.layout size c.jobs-jobs.type_inv c.machines-machines.type_inv
-    (search rules) (search rules) (search rules) in
+    let size : Size =
+    record { jobs = c.jobs-jobs.result; machines = c.machines-machines.result; notes = c.notes-notes.result } in
+    let short = length-head_lines c.args.layout size (search rules) in
     omega arith
 
 pub put_rows-requires-clause-fits : goal.put_rows-requires-clause-fits
 put_rows-requires-clause-fits g c =
-    let size : Size = record { jobs = c.jobs-jobs.result; machines = c.machines-machines.result; notes = c.notes-notes.result } in
-    let short = head_short c.args.layout size c.jobs-jobs.type_inv c.machines-machines.type_inv
-    (search rules) (search rules) (search rules) in
+    let size : Size =
+    record { jobs = c.jobs-jobs.result; machines = c.machines-machines.result; notes = c.notes-notes.result } in
+    let short = length-head_lines c.args.layout size (search rules) in
     let rows = length-row_lines c.args.layout c.args.instance.now.shop c.jobs-jobs.ensures.within in
     omega (arith, c.in_ok-sent.ensures.counted)
 
