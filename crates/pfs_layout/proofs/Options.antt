@@ -9,25 +9,21 @@ use Rattle.pfs_base.specs.Lists.{below, first_some}
 use Rattle.pfs_base.proofs.Published.Lists.{first_some-append, range_with_len-push}
 
 pub then_some_none : {A : Type 0} (c : Bool) (x : A) → then_some c x ≡ None → c ≡ false
-then_some_none true x e = cc
-then_some_none false x e = refl
+then_some_none c x e = grind arith
 
 pub then_some_some : {A : Type 0} (c : Bool) (x y : A) → then_some c x ≡ Some y → c ≡ true
-then_some_some true x y e = refl
-then_some_some false x y e = cc
+then_some_some c x y e = grind arith
 
 pub if_some : {A : Type 0} (v : Bool) (o : Option A) (x : A) → (if v then o else None) ≡ Some x
     → (v ≡ true) × (o ≡ Some x)
-if_some true o x e = (refl, e)
-if_some false o x e = cc
+if_some v o x e = grind arith
 
 pub cases_option : {A : Type 0} (o : Option A) → (o ≡ None) ⊎ ((x : A) × (o ≡ Some x))
 cases_option None = inl refl
 cases_option (Some x) = inr (x, refl)
 
 pub or_none : {A : Type 0} (o p : Option A) → option_or o p ≡ None → (o ≡ None) × (p ≡ None)
-or_none None p e = (refl, e)
-or_none (Some x) p e = cc
+or_none o p e = grind arith
 
 -- ---- a list of options
 
@@ -43,13 +39,11 @@ all_none (Some x ∷ os) e = cc
 
 -- the others are none
 pub alone : {A : Type 0} (o : Option A) (x : A) → first_some (o ∷ None ∷ []) ≡ Some x → o ≡ Some x
-alone None x e = cc
-alone (Some y) x e = e
+alone o x e = grind arith
 
 pub one_of : {A : Type 0} (o p : Option A) (x : A) → first_some (o ∷ p ∷ None ∷ []) ≡ Some x
     → (o ≡ Some x) ⊎ (p ≡ Some x)
-one_of None p x e = inr (alone p x e)
-one_of (Some y) p x e = inl e
+one_of o p x e = grind arith
 
 -- ---- the first place at which a function is there
 
@@ -62,8 +56,7 @@ module _ {A : Type 0} (f : ℕ → Option A) where
       ∙ rw (map-append f (below n) ((0 + n) ∷ []), first_some-append (map f (below n)) (f (0 + n) ∷ []), e, last (f n))
     where
       last : (o : Option A) → first_some (o ∷ []) ≡ o
-      last None = refl
-      last (Some x) = refl
+      last o = grind arith
 
   -- f gives x at p and nothing before
   pub record IsFirst (p : ℕ) (x : A) : Type 0 where

@@ -37,12 +37,9 @@ pub record IsAt (k rows width : ℕ) : Type 0 where
   pub column_in : column < width
   pub is : k ≡ row * width + column
 
-some_factor : (a b k : ℕ) → k < a * b → 0 < b
-some_factor a b k h = grind arith
-
 pub at_row : (k rows width : ℕ) → k < rows * width → IsAt k rows width
 at_row k rows w h =
-    let some : 0 < w = some_factor rows w k h in
+    let some : 0 < w = grind arith in
     let e : w * (k / w) + k % w ≡ k = omega arith in
     record {
       row = k / w;
@@ -57,20 +54,17 @@ abbrev pub table : (ℕ → ℕ → ℕ) → ℕ → ℕ → List ℕ
 table f rows width = flat_map (λ row. map (λ column. f row column) (below width)) (below rows)
 
 module _ (f : ℕ → ℕ → ℕ) (rows width : ℕ) where
-  row_of : ℕ → List ℕ
+  abbrev row_of : ℕ → List ℕ
   row_of row = map (λ column. f row column) (below width)
 
   length-row_of : (row : ℕ) → length (row_of row) ≡ width
-  unfolding row_of
   length-row_of row = length-map-range_with_len (λ column. f row column) 0 width
 
   pub length-table : length (table f rows width) ≡ rows * width
-  unfolding row_of
   length-table = length-rows row_of width length-row_of rows
 
   pub table_at : (row column d : ℕ) → row < rows → column < width
       → get_or (table f rows width) (row * width + column) d ≡ f row column
-  unfolding row_of
   table_at row column d r c = rows_at row_of width length-row_of rows row column d r c
       ∙ get_or-map-range_with_len (λ column. f row column) 0 width column column d c (omega arith)
 

@@ -22,17 +22,7 @@ pub record AreWithin (size : Size) : Type 0 where
   pub lower : size.notes.lower ≤ GREATEST_NOTE
 
 pub size_within : (size : Size) → is_within_limits size ≡ true → AreWithin size
-size_within size e = record {
-  sizes = record {
-    some_job = grind (arith, nat_tests);
-    few_jobs = grind (arith, nat_tests);
-    some_machine = grind (arith, nat_tests);
-    few_machines = grind (arith, nat_tests);
-  };
-  seed = grind (arith, nat_tests);
-  upper = grind (arith, nat_tests);
-  lower = grind (arith, nat_tests);
-}
+size_within size e = grind (arith, nat_tests)
 
 -- times that pass the test are short
 pub all_short : (times : List ℕ) → list_all (λ time. nat_le time LONGEST_TIME) times ≡ true

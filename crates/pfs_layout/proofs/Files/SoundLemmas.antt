@@ -5,6 +5,7 @@ use Rattle.std.specs.List.{list_any}
 use Rattle.std.specs.Str.Parse.{digits_value}
 use Rattle.std.proofs.lemmas.Bool.{and_from, eqb-true, le-leb, lt-ltb, ltb-false, not-false, not-true, or_parts}
 use Rattle.std.proofs.lemmas.Bool.{or_right, cases_Bool}
+use Rattle.std.proofs.lemmas.Bool.Decides.{nat_tests}
 use Rattle.std.proofs.lemmas.Grind.{common_steps}
 use Rattle.std.proofs.lemmas.List.{append-nil, append_assoc, length-append}
 use Rattle.std.proofs.lemmas.List.Folds.{list_any-append, list_all-append}
@@ -38,16 +39,13 @@ are_due-push layout size ns n all one =
     rw (enumerate_from-append 0 ns (n ∷ []), list_all-append, e) (and_from _ _ all (and_from _ _ one refl))
 
 pub misfit_none : (due : Due) (n offset : ℕ) → misfit due n offset ≡ None → is_due due n ≡ true
-misfit_none any_time n offset e = le-leb n LONGEST_TIME (ltb-false LONGEST_TIME n (then_some_none _ _ e))
-misfit_none (machine_number i) n offset e = not-false _ (then_some_none _ _ e)
-misfit_none nothing n offset e = cc
+misfit_none due n offset e = grind (arith, nat_tests)
 
 -- ---- the number at the end of a line
 
 pub values_last : (v : Bool) (run : List ℕ) → is_empty run ≡ v
     → values (run ∷ []) ≡ (if v then [] else digits_value 10 run ∷ [])
-values_last true run e = rw e
-values_last false run e = rw e
+values_last v run e = grind arith
 
 pub open_line-none : open_line [] ≡ []
 unfolding open_part
@@ -123,9 +121,7 @@ ends_by line b no_digit unmixed there =
 -- the complete blocks stay
 pub complete_stays : (layout : Layout) (complete : List Block) (now : Now) (line : List ℕ)
     → length complete ≤ length (after_line layout complete now line).complete
-complete_stays layout complete seeking line = omega arith
-complete_stays layout complete lost line = omega arith
-complete_stays layout complete (inside block) line = grind (arith, common_steps)
+complete_stays layout complete now line = grind (arith, common_steps)
 
 -- ---- a line end
 

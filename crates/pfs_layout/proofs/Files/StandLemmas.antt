@@ -75,10 +75,8 @@ pub record IsMade (layout : Layout) (text : List (List ℕ)) (reached : Stand) :
 
 -- some number is due
 some_due : (layout : Layout) (size : Size) → is_within_limits size ≡ true → 0 ≡ due_count layout size → ⊥
-some_due Taillard size e h =
-    let sizes = (size_within size e).sizes in omega (arith, mul-le-mul sizes.some_job sizes.some_machine)
-some_due OrLib size e h =
-    let sizes = (size_within size e).sizes in omega (arith, mul-le-mul sizes.some_job sizes.some_machine)
+some_due layout size e h =
+    let sizes = (size_within size e).sizes in grind (arith, mul-le-mul sizes.some_job sizes.some_machine)
 
 module _ (layout : Layout) (text : List (List ℕ)) (complete : List Block) (line : List ℕ) where
   -- one more line behind the complete blocks

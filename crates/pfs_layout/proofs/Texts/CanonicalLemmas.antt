@@ -83,8 +83,7 @@ length-row_line layout shop row within =
 
 all_rows : (layout : Layout) (shop : FlowShop) → IsWithin limits shop
     → row_count layout shop * (21 * row_width layout shop + 1) + 1000 ≤ LONGEST_INPUT
-all_rows Taillard shop within = omega (arith, mul-le-mul within.sizes.few_machines within.sizes.few_jobs)
-all_rows OrLib shop within = omega (arith, mul-le-mul within.sizes.few_machines within.sizes.few_jobs)
+all_rows layout shop within = grind (arith, mul-le-mul within.sizes.few_machines within.sizes.few_jobs)
 
 -- the body, with room for the lines before it
 pub length-row_lines : (layout : Layout) (shop : FlowShop) → IsWithin limits shop
