@@ -87,11 +87,7 @@ module _ {A : Type 0} (f : ℕ → Option A) where
 
   -- one place is first
   pub one_first : (p q : ℕ) (x y : A) → IsFirst p x → IsFirst q y → x ≡ y
-  one_first p q x y s t = elim (cases_order p q) [
-    | inl e ↦ let h = rw e at s.here in let k = t.here in cc
-    | inr (inl l) ↦ absurd (let h = t.before p l in let k = s.here in cc)
-    | inr (inr l) ↦ absurd (let h = s.before q l in let k = t.here in cc)
-  ]
+  one_first p q x y s t = grind (arith, s.before, t.before)
 
   pub first_is : (n : ℕ) (x : A) → first_some (map f (below n)) ≡ Some x ↔ ((p : ℕ) × (p < n) × IsFirst p x)
   first_is n x = (

@@ -4,6 +4,8 @@ use Rattle.std.proofs.Common.{arith, lit<, inl, inr}
 use Rattle.std.specs.List.{All, enumerate_from}
 use Rattle.std.proofs.Math.Nat.{mul_comm}
 use Rattle.std.proofs.lemmas.Bool.{cases_eq, cases_lt, eq-eqb, le-leb, lt-ltb}
+use Rattle.std.proofs.lemmas.Bool.Decides.{nat_tests}
+use Rattle.std.proofs.lemmas.Grind.{elements}
 use Rattle.std.proofs.lemmas.List.{get_or_past, get_or_default}
 use Rattle.std.proofs.lemmas.List.Elements.{All-get_or}
 use Rattle.std.proofs.lemmas.List.FromFn.{get_or-enumerate_from, length-enumerate_from, length-map-range_with_len}
@@ -69,9 +71,11 @@ time_due OrLib problem job machine j m =
 
 pub place_within : (layout : Layout) (size : Size) (job machine : ℕ) → job < size.jobs → machine < size.machines
     → place_of_time layout size job machine < due_count layout size
-place_within Taillard size job machine j m = grind (arith, mul-add-lt machine size.jobs job size.machines m j)
-place_within OrLib size job machine j m =
-    omega (arith, mul-add-lt job size.machines machine size.jobs j m, mul_comm size.jobs size.machines)
+place_within layout size job machine j m = grind (
+  arith,
+  mul-add-lt machine size.jobs job size.machines m j,
+  mul-add-lt job size.machines machine size.jobs j m,
+)
 
 orlib_at : (size : Size) (k : ℕ) → k < due_count OrLib size → due_at OrLib size k ≡ pair_due size k
 unfolding due_at
@@ -80,11 +84,7 @@ orlib_at size k h = rw (lt-ltb k (due_count OrLib size) h)
 pub due_time : (layout : Layout) (size : Size) (job machine : ℕ) → job < size.jobs → machine < size.machines
     → due_at layout size (place_of_time layout size job machine) ≡ any_time
 unfolding due_at
-due_time Taillard size job machine j m =
-    rw (lt-ltb (machine * size.jobs + job) (due_count Taillard size) (place_within Taillard size job machine j m))
-due_time OrLib size job machine j m =
-    let odd : (2 * (job * size.machines + machine) + 1) % 2 ≡ 1 = omega arith in
-    rw (orlib_at size _ (place_within OrLib size job machine j m), odd)
+due_time layout size job machine j m = grind (arith, nat_tests, place_within layout size job machine j m)
 
 number_due : (size : Size) (job machine : ℕ) → job < size.jobs → machine < size.machines
     → due_at OrLib size (2 * (job * size.machines + machine)) ≡ machine_number machine
@@ -125,10 +125,7 @@ place_is OrLib problem k h =
 
 -- the times are within the limit
 pub short_at : (times : List ℕ) → All (λ time. time ≤ LONGEST_TIME) times → (k : ℕ) → get_or times k 0 ≤ LONGEST_TIME
-short_at times short k = elim (cases_lt k (length times)) [
-  | inl h ↦ All-get_or (λ time. time ≤ LONGEST_TIME) times k 0 h short
-  | inr h ↦ omega (arith, get_or_past times k 0 h)
-]
+short_at times short k = grind (arith, elements, get_or_past times k 0)
 
 -- numbers of which each is what is due at its place
 pub are_due_by_place : (layout : Layout) (size : Size) (numbers : List ℕ)

@@ -21,13 +21,8 @@ nothing_there layout size k h = rw (le-ltb k (due_count layout size) h)
 -- no more numbers than that pass
 pub no_more_than_due : (layout : Layout) (size : Size) (numbers : List ℕ) → are_due layout size numbers ≡ true
     → length numbers ≤ due_count layout size
-no_more_than_due layout size numbers all = elim (cases_lt (due_count layout size) (length numbers)) [
-  | inr h ↦ h
-  | inl h ↦
-      let right = due_number layout size numbers (due_count layout size) all h in
-      let wrong = rw (nothing_there layout size (due_count layout size) (omega arith)) at right in
-      absurd (cc)
-]
+no_more_than_due layout size numbers all =
+    grind (arith, due_number layout size numbers (due_count layout size) all, nothing_there layout size (due_count layout size))
 
 -- what is due for a problem of the size in which each time is 0
 abbrev idle_due : Layout → Size → List ℕ

@@ -12,7 +12,7 @@ use Rattle.pfs_layout.specs.Bytes.{is_line_end}
 use Rattle.pfs_layout.specs.Lines.{lines, ended_lines, open_line, ended_parts}
 use Rattle.pfs_layout.specs.Stand.{Block, Now, seeking, inside, lost, Stand, after_line, stand_after}
 use Rattle.pfs_layout.specs.Stand.{stand, completed, with_line}
-use Rattle.pfs_layout.proofs.Files.LineLemmas.{ended_parts-push}
+use Rattle.pfs_layout.proofs.Files.LineLemmas.{open_part-push, ended_parts-push}
 use Rattle.pfs_layout.proofs.Files.CutLemmas.{unended, ended, first_line, lines-line, lines-open}
 use Rattle.pfs_layout.proofs.Files.SoundLemmas.{stand_of, stand_of-end, stand_of-on, open_line-none, open_line-end}
 use Rattle.pfs_layout.proofs.Files.SoundLemmas.{open_line-on, complete_stays}
@@ -63,11 +63,12 @@ more_after : (layout : Layout) (text : List ℕ) (b : ℕ)
 unfolding stand_after
 more_after layout text b =
     let before : Stand = stand_of layout text in
-    elim (cases_Bool (is_line_end b)) [
-      | inl ends ↦
-          rw (stand_of-end layout text b ends) (complete_stays layout before.complete before.now (open_line text))
-      | inr on ↦ rw (stand_of-on layout text b on) (omega arith)
-    ]
+    grind (
+      arith,
+      stand_of-end layout text b,
+      stand_of-on layout text b,
+      complete_stays layout before.complete before.now (open_line text),
+    )
 
 -- the complete blocks of a text are no more than those of a longer one
 pub fewer_before : (layout : Layout) (text more : List ℕ)
@@ -80,11 +81,11 @@ fewer_before layout text =
 -- ---- a text from one of its places on
 
 pub no_end : (text : List ℕ) → list_any is_line_end (open_line text) ≡ false
-no_end = by_push (λ text. list_any is_line_end (open_line text) ≡ false) (rw open_line-none) (λ text b h.
-    elim (cases_Bool (is_line_end b)) [
-      | inl ends ↦ rw (open_line-end text b ends)
-      | inr on ↦ rw (open_line-on text b on, list_any-append, h, on)
-    ])
+no_end = by_push (λ text. list_any is_line_end (open_line text) ≡ false) (rw open_line-none) (λ text b h. grind (
+    arith,
+    open_part-push is_line_end text b,
+    list_any-append is_line_end (open_line text) (b ∷ []),
+))
 
 ended_lines-none : ended_lines [] ≡ []
 unfolding ended_parts

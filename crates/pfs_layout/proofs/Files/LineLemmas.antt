@@ -75,7 +75,4 @@ numbers_is line =
 pub ended_numbers-push : (line : List ℕ) (b : ℕ)
     → ended_numbers (line ++ b ∷ []) ≡ (if is_no_digit b then numbers line else ended_numbers line)
 unfolding numbers ended_numbers
-ended_numbers-push line b = elim (cases_Bool (is_no_digit b)) [
-  | inl gap ↦ rw (ended_parts-push is_no_digit line b, gap) (ap values (sym (split_is is_no_digit line)))
-  | inr digit ↦ rw (ended_parts-push is_no_digit line b, digit)
-]
+ended_numbers-push line b = grind (arith, ended_parts-push is_no_digit line b, split_is is_no_digit line)

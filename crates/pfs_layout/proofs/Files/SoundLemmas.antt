@@ -54,14 +54,13 @@ open_line-none = refl
 -- the last digits of a text are those of its last line
 pub same_last : (text : List ℕ) → last_digits text ≡ last_digits (open_line text)
 unfolding open_part
-same_last = by_push (λ text. last_digits text ≡ last_digits (open_line text)) refl (λ text b h.
-    let byte = open_part-push is_no_digit text b in
-    elim (cases_Bool (is_line_end b)) [
-      | inl ends ↦
-          let gap : is_no_digit b ≡ true = rw (eqb-true b 10 ends) in
-          rw (byte, open_part-push is_line_end text b, ends, gap)
-      | inr on ↦ rw (byte, open_part-push is_line_end text b, on, open_part-push is_no_digit (open_line text) b, h)
-    ])
+same_last = by_push (λ text. last_digits text ≡ last_digits (open_line text)) refl (λ text b h. grind (
+    arith,
+    nat_tests,
+    open_part-push is_no_digit text b,
+    open_part-push is_line_end text b,
+    open_part-push is_no_digit (open_line text) b,
+))
 
 -- ---- what holds while no byte has a fault
 
@@ -79,10 +78,7 @@ GoodNow layout lost line = ⊥
 pub digit_there : (line : List ℕ) → is_empty (last_digits line) ≡ false → list_any is_digit line ≡ true
 unfolding open_part
 digit_there = by_push (λ line. is_empty (last_digits line) ≡ false → list_any is_digit line ≡ true) (λ none. absurd (cc))
-    (λ line b h some. elim (cases_Bool (is_digit b)) [
-      | inl digit ↦ rw (list_any-append is_digit line (b ∷ []), digit) (or_right (list_any is_digit line) true refl)
-      | inr gap ↦ let nothing = rw (open_part-push is_no_digit line b, gap) at some in absurd (cc)
-    ])
+    (λ line b h some. grind (arith, list_any-append is_digit line (b ∷ []), open_part-push is_no_digit line b))
 
 -- where the number at the end of the line is ended without a fault, all numbers of the line are due
 all_due : (layout : Layout) (block : Block) (text : List ℕ) (next : Option ℕ)
@@ -109,14 +105,12 @@ all_due layout block text next due ends right =
 -- on an unmixed line a byte that ends a number is a blank or a line end
 ends_by : (line : List ℕ) (b : ℕ) → is_no_digit b ≡ true → is_mixed (line ++ b ∷ []) ≡ false
     → is_empty (last_digits line) ≡ false → (is_blank b || is_line_end b) ≡ true
-ends_by line b no_digit unmixed there =
-    let words = or_parts (list_any is_word_byte line) _ (rw (
-      list_any-append is_digit line,
-      list_any-append is_word_byte line,
-      digit_there line there,
-    ) at unmixed) in
-    let word = or_parts (is_word_byte b) false words.1 in
-    rw (not-true (is_digit b) no_digit) at (not-false _ word.0)
+ends_by line b no_digit unmixed there = grind (
+  arith,
+  digit_there line there,
+  list_any-append is_digit line (b ∷ []),
+  list_any-append is_word_byte line (b ∷ []),
+)
 
 -- the complete blocks stay
 pub complete_stays : (layout : Layout) (complete : List Block) (now : Now) (line : List ℕ)

@@ -116,11 +116,7 @@ module _ (layout : Layout) (text : List (List ℕ)) (complete : List Block) (lin
   last_numbers : (block : Block) → (length block.numbers ≡ due_count layout block.size → ⊥)
       → length (with_line block line).numbers ≡ due_count layout block.size → is_mixed line ≡ false
       → is_number_line line ≡ true
-  last_numbers block short whole unmixed =
-      let digit : list_any is_digit line ≡ true =
-      true_from_ne_false _ (λ none. short (rw (no_numbers line none, append-nil) at whole)) in
-      let word : list_any is_word_byte line ≡ false = rw digit at unmixed in
-      rw (digit, word)
+  last_numbers block short whole unmixed = grind (arith, no_numbers line, append-nil block.numbers)
 
   finished : (block : Block) → IsMade layout text (standing complete (inside block)) → is_mixed line ≡ false
       → are_due layout block.size (with_line block line).numbers ≡ true

@@ -84,10 +84,7 @@ line_unmixed ns fit = and_right _ _ (no_word_byte ns fit)
 
 number_line : (ns : List ℕ) → 0 < length ns → AllFit ns → is_number_line (spaced ns) ≡ true
 number_line ns some fit =
-    let digit : list_any is_digit (spaced ns) ≡ true = true_from_ne_false _ (λ none.
-    let nothing = rw (numbers_spaced ns fit) at (no_numbers (spaced ns) none) in
-    omega (arith, ap length nothing)) in
-    rw (digit, no_word_byte ns fit)
+    grind (arith, numbers_spaced ns fit, no_numbers (spaced ns), no_word_byte ns fit)
 
 -- ---- lines that are ended
 
