@@ -74,11 +74,13 @@ drawn_more first before machine jobs seed now h j m =
             ∙ h.same.every_time;
         same_notes = h.same.same_notes;
       };
-      drawn = λ job k. elim (cases_eq job jobs) [
-        | inl e ↦ rw (e, ← last) (with_time-same now.shop jobs machine (drawn_time next) every row column)
-        | inr differs ↦ with_time-other now.shop jobs machine (drawn_time next) job machine column column
-            (λ same. absurd (differs same)) ∙ h.drawn job (omega arith)
-      ];
+      drawn = λ job k. grind (
+        arith,
+        last,
+        with_time-same now.shop jobs machine (drawn_time next) every row column,
+        with_time-other now.shop jobs machine (drawn_time next) job machine column column,
+        h.drawn job,
+      );
       others = λ job other n differ. with_time-other now.shop jobs machine (drawn_time next) job other column
           (omega (arith, h.same.same_machines)) (λ same. differ) ∙ h.others job other n differ;
     }

@@ -25,13 +25,8 @@ use Rattle.pfs_layout.proofs.Files.RoundLemmas.{block_of}
 numbers_some : (line : List ℕ) → list_any is_digit line ≡ true → 0 < length (numbers line)
 unfolding numbers
 numbers_some [] any = absurd (false≢true any)
-numbers_some (b ∷ line) any = elim (cases_Bool (is_digit b)) [
-  | inl digit ↦
-      let parts = split_some is_no_digit line in
-      let some = ne_eqb (length (b ∷ parts.first)) 0 (λ e. omega arith) in
-      rw (digit, parts.is, some) (omega arith)
-  | inr gap ↦ rw gap (numbers_some line (rw gap at any))
-]
+numbers_some (b ∷ line) any =
+    let parts = split_some is_no_digit line in grind (arith, parts.is, numbers_some line)
 
 -- the first of numbers that are due are due
 pub are_due_front : (layout : Layout) (size : Size) (xs ys : List ℕ) → are_due layout size (xs ++ ys) ≡ true
@@ -60,9 +55,7 @@ module _ (layout : Layout) (complete : List Block) where
       ≡ completed complete (record { size = size; numbers = all })
   unfolding stand_after
   body_fold size ns [] last unmixed numbered all is due count =
-      let parts = and_parts (list_any is_digit last) (not (list_any is_word_byte last)) numbered in
-      let plain = not-true (list_any is_word_byte last) parts.1 in
-      rw (parts.0, plain, ← is, due, eq-eqb (length all) (due_count layout size) count)
+      grind arith
   body_fold size ns (line ∷ more) last unmixed numbered all is due count =
       let parts = and_parts (not (is_mixed line)) (list_all (λ l. not (is_mixed l)) more) unmixed in
       let here : List ℕ = ns ++ numbers line in

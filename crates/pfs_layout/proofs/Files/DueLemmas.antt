@@ -89,11 +89,7 @@ due_time layout size job machine j m = grind (arith, nat_tests, place_within lay
 number_due : (size : Size) (job machine : ℕ) → job < size.jobs → machine < size.machines
     → due_at OrLib size (2 * (job * size.machines + machine)) ≡ machine_number machine
 number_due size job machine j m =
-    let x : ℕ = job * size.machines + machine in
-    let within = place_within OrLib size job machine j m in
-    let even : 2 * x % 2 ≡ 0 = omega arith in
-    let half : 2 * x / 2 ≡ x = omega arith in
-    rw (orlib_at size (2 * x) (omega arith), even, half) (ap machine_number (mod-mul-add job size.machines machine m))
+    grind (arith, nat_tests, place_within OrLib size job machine j m, orlib_at size (2 * (job * size.machines + machine)), mod-mul-add job size.machines machine m)
 
 -- a place is a time's, or a machine number's
 pub data PlaceIs (layout : Layout) (problem : Problem) (k : ℕ) : Type 0 where
@@ -134,9 +130,7 @@ pub are_due_by_place : (layout : Layout) (size : Size) (numbers : List ℕ)
 unfolding are_due
 are_due_by_place layout size numbers each =
     list_all-from_AllPass (λ placed. is_due (due_at layout size placed.0) placed.1) (enumerate_from 0 numbers) (λ k d h.
-    let inside : k < length numbers = omega (arith, length-enumerate_from 0 numbers) in
-    let e : 0 + k ≡ k = omega arith in
-    rw (get_or-enumerate_from 0 numbers k d inside, e, get_or_default numbers k d.1 0 inside) (each k inside))
+    grind (arith, length-enumerate_from 0 numbers, get_or-enumerate_from 0 numbers k d, get_or_default numbers k d.1 0, each k))
 
 -- what is due passes
 pub due_passes : (layout : Layout) (problem : Problem) → All (λ time. time ≤ LONGEST_TIME) problem.shop.times

@@ -48,18 +48,24 @@ split-push p (x ∷ xs) b =
 pub ended_parts-push : (p : ℕ → Bool) (xs : List ℕ) (b : ℕ)
     → ended_parts p (xs ++ b ∷ []) ≡ (if p b then ended_parts p xs ++ open_part p xs ∷ [] else ended_parts p xs)
 unfolding ended_parts
-ended_parts-push p xs b = elim (cases_Bool (p b)) [
-  | inl ends ↦ rw (split-push p xs b, ends, all_but_last-push) (split_is p xs)
-  | inr on ↦ rw (split-push p xs b, on, all_but_last-push)
-]
+ended_parts-push p xs b =
+    grind (
+      arith,
+      split-push p xs b,
+      split_is p xs,
+      all_but_last-push (slice_split p xs),
+      all_but_last-push (all_but_last (slice_split p xs)),
+    )
 
 pub open_part-push : (p : ℕ → Bool) (xs : List ℕ) (b : ℕ)
     → open_part p (xs ++ b ∷ []) ≡ (if p b then [] else open_part p xs ++ b ∷ [])
 unfolding open_part
-open_part-push p xs b = elim (cases_Bool (p b)) [
-  | inl ends ↦ rw (split-push p xs b, ends, last_of-push)
-  | inr on ↦ rw (split-push p xs b, on, last_of-push)
-]
+open_part-push p xs b = grind (
+  arith,
+  split-push p xs b,
+  last_of-push [] (slice_split p xs),
+  last_of-push [] (all_but_last (slice_split p xs)),
+)
 
 pub values-append : (xs ys : List (List ℕ)) → values (xs ++ ys) ≡ values xs ++ values ys
 values-append xs ys =

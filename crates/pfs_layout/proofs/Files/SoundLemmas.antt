@@ -138,20 +138,12 @@ pub good_end : (layout : Layout) (k : ℕ) (complete : List Block) (now : Now) (
 unfolding wrong_size
 good_end layout k complete seeking text next ends digits good right =
     let right_size = (all_none (faults layout k seeking text next) right).1.0 in
-    elim (cases_Bool (is_number_line (open_line text))) [
-      | inl numbered ↦
-          let stated : Option Size = stated_size layout (numbers (open_line text)) in
-          rw numbered (good_size layout (1 + count_by is_line_end text) stated (rw (ends, numbered) at right_size))
-      | inr plain ↦ rw plain tt
-    ]
+    grind (arith, good_size layout (1 + count_by is_line_end text) (stated_size layout (numbers (open_line text))))
 good_end layout k complete (inside block) text next ends digits good right =
     let next_block : Block = with_line block (open_line text) in
     let rights = all_none (faults layout k (inside block) text next) right in
     let due = all_due layout block text next good.due digits rights.1.1.0 in
-    elim (cases_Bool (length next_block.numbers == due_count layout block.size)) [
-      | inl full ↦ rw (good.unmixed, due, full) tt
-      | inr short ↦ rw (good.unmixed, due, short) (good_start layout next_block due)
-    ]
+    grind (arith, good_start layout next_block)
 good_end layout k complete lost text next ends digits good right = good
 
 -- ---- a byte
