@@ -102,13 +102,13 @@ machine_more jobs machines first done seed next now then h within more =
       last = rw (h.same.same_jobs, next_machine) at (more.last ∙ drawn_behind now.shop.jobs);
       below = more.below;
       same = rw (h.same.same_jobs, h.same.same_machines, h.same.same_notes) at more.same;
-      drawn = λ job machine j m. elim (cases_eq machine done) [
-        | inl e ↦
-            let place : (job + 1) + done * jobs ≡ done * jobs + job + 1 = omega arith in
-            rw e (more.drawn job (omega (arith, h.same.same_jobs)) ∙ ap drawn_time (rw place at (drawn_behind (job + 1))))
-        | inr differs ↦ more.others job machine (omega (arith, h.same.same_machines)) differs
-            ∙ h.drawn job machine j (omega arith)
-      ];
+      drawn = λ job machine j m. grind (
+        arith,
+        more.drawn job,
+        more.others job machine,
+        h.drawn job machine,
+        drawn_behind (job + 1),
+      );
     }
   where
     drawn_behind : (more : ℕ) → seed_after more seed ≡ seed_after (more + done * jobs) first

@@ -65,13 +65,7 @@ module _ {A : Type 0} (f : ℕ → Option A) where
 
   pub first_not_found : (n : ℕ) → first_some (map f (below n)) ≡ None → (q : ℕ) → q < n → f q ≡ None
   first_not_found zero e q h = absurd (omega arith)
-  first_not_found (suc n) e q h =
-      let parts = or_none (first_some (map f (below n))) (f n) (rw first_push at e) in
-      let earlier = first_not_found n parts.0 q in
-      elim (cases_lt q n) [
-        | inl low ↦ earlier low
-        | inr high ↦ let same : q ≡ n = omega arith in rw same parts.1
-      ]
+  first_not_found (suc n) e q h = grind (arith, first_push n, first_not_found n)
 
   pub first_found : (n : ℕ) (x : A) → first_some (map f (below n)) ≡ Some x → (p : ℕ) × (p < n) × IsFirst p x
   first_found zero x e = cc

@@ -1,6 +1,7 @@
 -- Numbers that pass begin what is due for some problem.
 use Rattle.std.proofs.Common.{◌≡◌, ℕ, ◌+◌, ◌-◌, ◌≤◌, true, List, ◌++◌, length, drop, refl, arith, inl, inr}
 use Rattle.std.proofs.lemmas.Bool.{cases_lt, le-ltb}
+use Rattle.std.proofs.lemmas.Grind.{elements}
 use Rattle.std.proofs.lemmas.List.{get_or_append_left, get_or-append_right, get_or-drop, length-append, length-drop}
 use Rattle.pfs_base.specs.declared.limits.TheConstants.{LONGEST_TIME}
 use Rattle.pfs_layout.specs.declared.layout.Layout.{Layout}
@@ -49,16 +50,14 @@ module _ (layout : Layout) (size : Size) (numbers : List ℕ) (all : are_due lay
       simp (length-append, length-drop, length-idle_due) (omega (arith, no_more_than_due layout size numbers all))
 
   filled_passes : are_due layout size (filled layout size numbers) ≡ true
-  filled_passes = are_due_by_place layout size (filled layout size numbers) (λ k h. elim (cases_lt k (length numbers)) [
-    | inl inside ↦ rw (get_or_append_left numbers (drop (length numbers) (idle_due layout size)) 0 k inside)
-        (due_number layout size numbers k all inside)
-    | inr behind ↦
-        let back : length numbers + (k - length numbers) ≡ k = omega arith in
-        rw (get_or-append_right numbers (drop (length numbers) (idle_due layout size)) (length numbers) k 0 refl behind)
-        (rw (get_or-drop (length numbers) (idle_due layout size) (k - length numbers) 0, back)
-        (due_number layout size (idle_due layout size) k (idle_passes layout size)
-        (omega (arith, length-filled, length-idle_due layout size))))
-  ])
+  filled_passes = are_due_by_place layout size (filled layout size numbers) (λ k h. grind (
+      arith,
+      elements,
+      length-filled,
+      length-idle_due layout size,
+      due_number layout size numbers k all,
+      due_number layout size (idle_due layout size) k (idle_passes layout size),
+  ))
 
   begin_due : BeginDue layout size numbers
   unfolding instance_of

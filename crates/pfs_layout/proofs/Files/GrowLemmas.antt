@@ -24,18 +24,9 @@ abbrev pub OneLine : List Block → Stand → Type 0
 OneLine complete after =
     (after.complete ≡ complete) ⊎ ((block : Block) × (after ≡ completed complete block))
 
--- and within a block, no other than this one
-body_line : (layout : Layout) (complete : List Block) (block : Block) (line : List ℕ)
-    → ((after_line layout complete (inside block) line).complete ≡ complete)
-    ⊎ (after_line layout complete (inside block) line ≡ completed complete (with_line block line))
-body_line layout complete block line = grind arith
-
 pub one_line : (layout : Layout) (complete : List Block) (now : Now) (line : List ℕ)
     → OneLine complete (after_line layout complete now line)
-one_line layout complete seeking line = inl refl
-one_line layout complete lost line = inl refl
-one_line layout complete (inside block) line =
-    elim (body_line layout complete block line) [ inl none ↦ inl none | inr one ↦ inr (with_line block line, one) ]
+one_line layout complete now line = grind arith
 
 -- these blocks, and maybe more
 abbrev pub Extends : List Block → List Block → Type 0

@@ -61,9 +61,8 @@ pub due_number : (layout : Layout) (size : Size) (numbers : List ℕ) (k : ℕ) 
 unfolding are_due
 due_number layout size numbers k all h =
     let test : ℕ × ℕ → Bool = λ placed. is_due (due_at layout size placed.0) placed.1 in
-    let within : k < length (enumerate_from 0 numbers) = omega (arith, length-enumerate_from 0 numbers) in
-    let e : 0 + k ≡ k = omega arith in
-    rw (get_or-enumerate_from 0 numbers k (0, 0) h, e) at (AllPass-from_list_all test _ all k (0, 0) within)
+    let placed = AllPass-from_list_all test (enumerate_from 0 numbers) all k (0, 0) in
+    grind (arith, placed, length-enumerate_from 0 numbers, get_or-enumerate_from 0 numbers k (0, 0))
 
 pub length-due_instance : (layout : Layout) (block : Block)
     → length (due layout (instance_of layout block).shop) ≡ due_count layout block.size

@@ -171,18 +171,7 @@ module _ (layout : Layout) (text : List (List ℕ)) (complete : List Block) (lin
     | inr plain ↦ rw plain (grown seeking m (rw (list_all-append, m.fits, plain)))
   ]
   by_now (inside block) m =
-      let next : Block = with_line block line in
-      let count : ℕ = due_count layout block.size in
-      elim (cases_Bool (is_mixed line)) [
-        | inl mixed ↦ rw mixed (grown lost m tt)
-        | inr unmixed ↦ elim (cases_Bool (are_due layout block.size next.numbers)) [
-          | inl right ↦ elim (cases_Bool (length next.numbers == count)) [
-            | inl full ↦ rw (unmixed, right, full) (finished block m unmixed right (eqb-true _ count full))
-            | inr short ↦ rw (unmixed, right, short) (unfinished block m unmixed short)
-          ]
-          | inr wrong ↦ rw (unmixed, wrong) (grown lost m tt)
-        ]
-      ]
+      grind (arith, grown lost m tt, finished block m, unfinished block m)
   by_now lost m = grown lost m tt
 
 -- any lines are those of the complete blocks, and what fits where they lead
