@@ -81,8 +81,12 @@ drawn_more first before machine jobs seed now h j m =
         with_time-other now.shop jobs machine (drawn_time next) job machine column column,
         h.drawn job,
       );
-      others = λ job other n differ. with_time-other now.shop jobs machine (drawn_time next) job other column
-          (omega (arith, h.same.same_machines)) (λ same. differ) ∙ h.others job other n differ;
+      others = λ job other n differ. grind (
+        arith,
+        with_time-other now.shop jobs machine (drawn_time next) job other column,
+        h.others job other,
+        h.same.same_machines,
+      );
     }
 
 -- the times on so many machines are drawn, the last by this seed

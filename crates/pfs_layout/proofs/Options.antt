@@ -70,13 +70,13 @@ module _ {A : Type 0} (f : ℕ → Option A) where
   pub first_found : (n : ℕ) (x : A) → first_some (map f (below n)) ≡ Some x → (p : ℕ) × (p < n) × IsFirst p x
   first_found zero x e = cc
   first_found (suc n) x e =
-      let earlier = first_found n x in
       elim (cases_option (first_some (map f (below n)))) [
         | inr one ↦
-            let same = rw (first_push n, one.1) at e in
-            let found = earlier (one.1 ∙ same) in
-            (found.0, omega (arith, found.1), found.2)
-        | inl none ↦ (n, omega arith, record { here = rw (first_push n, none) at e; before = first_not_found n none })
+            let found = first_found n x (grind (arith, first_push n)) in (found.0, omega (arith, found.1), found.2)
+        | inl none ↦ (n, omega arith, record {
+            here = grind (arith, first_push n);
+            before = first_not_found n none;
+          })
       ]
 
   -- one place is first
@@ -96,4 +96,4 @@ module _ {A : Type 0} (f : ℕ → Option A) where
 
   pub none_first : (n : ℕ) → ((q : ℕ) → q < n → f q ≡ None) → first_some (map f (below n)) ≡ None
   none_first zero none = refl
-  none_first (suc n) none = rw (first_push n, none_first n (λ q h. none q (omega arith)), none n (omega arith))
+  none_first (suc n) none = grind (arith, first_push n, none_first n, none)

@@ -25,9 +25,15 @@ module _ (f : ℕ → List ℕ) (w : ℕ) (each : (i : ℕ) → length (f i) ≡
   rows_at n r c d h l =
       let before : List ℕ = flat_map f (below r) in
       let parts = flat_map_from f r n h in
-      let inside : length before + c < length (before ++ f r) = omega (arith, length-append before (f r), each r) in
-      rw (parts.1, ← length-rows r)
-      (get_or_append_left (before ++ f r) parts.0 d (length before + c) inside ∙ get_or-append-add before (f r) c d)
+      grind (
+        arith,
+        parts.1,
+        length-rows r,
+        each r,
+        length-append before (f r),
+        get_or_append_left (before ++ f r) parts.0 d,
+        get_or-append-add before (f r) c d,
+      )
 
 -- k is row r and column c of rows of this width
 pub record IsAt (k rows width : ℕ) : Type 0 where

@@ -41,9 +41,7 @@ module _ (layout : Layout) (complete : List Block) where
       → fold (stand_after layout) (standing complete seeking) skipped ≡ standing complete seeking
   unfolding stand_after
   skip_fold [] e = refl
-  skip_fold (line ∷ more) e =
-      let parts = and_parts (not (is_number_line line)) (list_all (λ line. not (is_number_line line)) more) e in
-      rw (not-true (is_number_line line) parts.0) (skip_fold more parts.1)
+  skip_fold (line ∷ more) e = grind (arith, skip_fold more)
 
   -- the lines of a body complete a block
   body_fold : (size : Size) (ns : List ℕ) (front : List (List ℕ)) (last : List ℕ)

@@ -128,8 +128,7 @@ good_start layout block due = record { due = rw append-nil due; unmixed = refl }
 good_size : (layout : Layout) (line : ℕ) (stated : Option Size) → size_fault stated line ≡ None
     → GoodNow layout (after_size stated) []
 unfolding are_due
-good_size layout line None e = cc
-good_size layout line (Some size) e = rw (not-false _ (then_some_none _ _ e)) (good_start layout (begun size) refl)
+good_size layout line stated e = grind (arith, good_start layout)
 
 pub good_end : (layout : Layout) (k : ℕ) (complete : List Block) (now : Now) (text : List ℕ) (next : Option ℕ)
     → ends_line text next ≡ true → (is_empty (last_digits (open_line text)) ≡ false → ends_number text next ≡ true)
@@ -157,11 +156,14 @@ good_byte layout k (inside block) text b good right =
     let rights = all_none (faults layout k (inside block) text (Some b)) right in
     let unmixed : is_mixed (line ++ b ∷ []) ≡ false = rw good.unmixed at (then_some_none _ _ rights.1.0) in
     record {
-      due = rw (ended_numbers-push line b) (elim (cases_Bool (is_no_digit b)) [
-        | inl gap ↦ rw gap (all_due layout block text (Some b) good.due
-            (λ there. rw (same_last text, there) (ends_by line b gap unmixed there)) rights.1.1.0)
-        | inr digit ↦ rw digit good.due
-      ]);
+      due = grind (
+        arith,
+        good.due,
+        ended_numbers-push line b,
+        same_last text,
+        ends_by line b,
+        all_due layout block text (Some b) good.due,
+      );
       unmixed = unmixed;
     }
 good_byte layout k lost text b good right = good
@@ -204,21 +206,18 @@ sound_more layout k text b sound right few =
     let before : Stand = stand_of layout text in
     let rights = or_none (byte_fault layout k text) (fault_of_place layout k text (Some b))
     (rw byte_fault-push at right) in
-    let here : length before.complete < k → first_some (faults layout k before.now text (Some b)) ≡ None =
-    λ fewer. rw (lt-ltb _ k fewer) at rights.1 in
-    elim (cases_Bool (is_line_end b)) [
-      | inl ends ↦
-          let within = rw (stand_of-end layout text b ends) at few in
-          let more = complete_stays layout before.complete before.now (open_line text) in
-          let fewer : length before.complete < k = omega arith in
-          rw (stand_of-end layout text b ends, open_line-end text b ends)
-          (good_end layout k before.complete before.now text (Some b) ends
-          (λ there. rw (same_last text, there) (or_right _ _ ends)) (sound rights.0 fewer) (here fewer))
-      | inr on ↦
-          let fewer = rw (stand_of-on layout text b on) at few in
-          rw (stand_of-on layout text b on, open_line-on text b on)
-          (good_byte layout k before.now text b (sound rights.0 fewer) (here fewer))
-    ]
+    grind (
+      arith,
+      nat_tests,
+      stand_of-end layout text b,
+      stand_of-on layout text b,
+      open_line-end text b,
+      open_line-on text b,
+      same_last text,
+      complete_stays layout before.complete before.now (open_line text),
+      good_end layout k before.complete before.now text (Some b),
+      good_byte layout k before.now text b,
+    )
 
 pub sound : (layout : Layout) (k : ℕ) (text : List ℕ) → IsSound layout k text
 unfolding ended_parts open_part stand

@@ -91,32 +91,22 @@ module _ (layout : Layout) (text : List (List ℕ)) (complete : List Block) (lin
   }
 
   -- a size line
-  stated : (o : Option Size) → stated_size layout (numbers line) ≡ o → is_number_line line ≡ true
-      → IsMade layout text (standing complete seeking) → IsMade layout (text ++ line ∷ [])
-      (standing complete (after_size o))
-  stated None s numbered m = grown lost m tt
-  stated (Some size) s numbered m = elim (cases_Bool (is_within_limits size)) [
-    | inl within ↦ rw within (grown (inside (begun size)) m (record {
-      skipped = m.tail;
-      size_line = line;
-      front = [];
-      parts = refl;
-      no_numbers = m.fits;
-      number_line = numbered;
-      states = s;
-      within = within;
-      unmixed = refl;
-      holds = refl;
-      short = some_due layout size within;
-    }))
-    | inr out ↦ rw out (grown lost m tt)
-  ]
-
-  -- the line that completes a block is a number line
-  last_numbers : (block : Block) → (length block.numbers ≡ due_count layout block.size → ⊥)
-      → length (with_line block line).numbers ≡ due_count layout block.size → is_mixed line ≡ false
-      → is_number_line line ≡ true
-  last_numbers block short whole unmixed = grind (arith, no_numbers line, append-nil block.numbers)
+  began : (m : IsMade layout text (standing complete seeking)) (size : Size)
+      → stated_size layout (numbers line) ≡ Some size → is_number_line line ≡ true → is_within_limits size ≡ true
+      → IsMade layout (text ++ line ∷ []) (standing complete (inside (begun size)))
+  began m size states numbered within = grown (inside (begun size)) m (record {
+    skipped = m.tail;
+    size_line = line;
+    front = [];
+    parts = refl;
+    no_numbers = m.fits;
+    number_line = numbered;
+    states = states;
+    within = within;
+    unmixed = refl;
+    holds = refl;
+    short = some_due layout size within;
+  })
 
   finished : (block : Block) → IsMade layout text (standing complete (inside block)) → is_mixed line ≡ false
       → are_due layout block.size (with_line block line).numbers ≡ true
@@ -139,7 +129,7 @@ module _ (layout : Layout) (text : List (List ℕ)) (complete : List Block) (lin
           size = record { number_line = m.fits.number_line; states = m.fits.states };
           body = record {
             front_unmixed = m.fits.unmixed;
-            last_numbers = last_numbers block m.fits.short whole unmixed;
+            last_numbers = grind (arith, m.fits.short, no_numbers line, append-nil block.numbers);
             holds = rw m.fits.holds (sym (due_instance layout (with_line block line) right whole));
           };
           within = instance_within layout (with_line block line) m.fits.within right whole;
@@ -167,11 +157,10 @@ module _ (layout : Layout) (text : List (List ℕ)) (complete : List Block) (lin
   by_now : (now : Now) → IsMade layout text (standing complete now)
       → IsMade layout (text ++ line ∷ []) (after_line layout complete now line)
   by_now seeking m = elim (cases_Bool (is_number_line line)) [
-    | inl numbered ↦ rw numbered (stated _ refl numbered m)
+    | inl numbered ↦ grind (arith, grown lost m tt, began m)
     | inr plain ↦ rw plain (grown seeking m (rw (list_all-append, m.fits, plain)))
   ]
-  by_now (inside block) m =
-      grind (arith, grown lost m tt, finished block m, unfinished block m)
+  by_now (inside block) m = grind (arith, grown lost m tt, finished block m, unfinished block m)
   by_now lost m = grown lost m tt
 
 -- any lines are those of the complete blocks, and what fits where they lead
