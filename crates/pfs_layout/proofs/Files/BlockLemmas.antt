@@ -52,20 +52,20 @@ module _ (layout : Layout) (complete : List Block) where
       (front ++ last ∷ [])
       ≡ completed complete (record { size = size; numbers = all })
   unfolding stand_after
-  body_fold size ns [] last unmixed numbered all is due count =
-      grind arith
+  body_fold size ns [] last unmixed numbered all is due count = grind arith
   body_fold size ns (line ∷ more) last unmixed numbered all is due count =
-      let parts = and_parts (not (is_mixed line)) (list_all (λ l. not (is_mixed l)) more) unmixed in
       let here : List ℕ = ns ++ numbers line in
       let left : List ℕ = flat_map numbers more ++ numbers last in
       let regroup : all ≡ here ++ left = rw is (simp append_assoc) in
-      let some = numbers_some last (and_parts (list_any is_digit last) (not (list_any is_word_byte last)) numbered).0 in
-      let longer = length-append here left in
-      let longest = length-append (flat_map numbers more) (numbers last) in
-      let short : (length here == due_count layout size) ≡ false =
-      ne_eqb (length here) (due_count layout size) (λ e. omega (arith, ap length regroup)) in
-      rw (fold, not-true (is_mixed line) parts.0, are_due_front layout size here left (rw regroup at due), short)
-      (body_fold size here more last parts.1 numbered all regroup due count)
+      grind (
+        arith,
+        regroup,
+        numbers_some last,
+        are_due_front layout size here left,
+        length-append here left,
+        length-append (flat_map numbers more) (numbers last),
+        body_fold size here more last,
+      )
 
   -- a block is completed by its lines
   pub block_fold : (problem : Problem) (block : List (List ℕ)) → IsBlock limits layout problem block
@@ -73,8 +73,9 @@ module _ (layout : Layout) (complete : List Block) where
   unfolding stand_after
   block_fold problem block b =
       let tail : List (List ℕ) = b.front ++ b.last ∷ [] in
-      rw (b.parts, append_assoc b.skipped (b.size_line ∷ b.front) (b.last ∷ []))
-      (rw (
+      rw (
+        b.parts,
+        append_assoc b.skipped (b.size_line ∷ b.front) (b.last ∷ []),
         fold-append (stand_after layout) (standing complete seeking) b.skipped (b.size_line ∷ tail),
         skip_fold b.skipped b.no_numbers,
         fold,
@@ -83,7 +84,7 @@ module _ (layout : Layout) (complete : List Block) where
         within_size problem b.within,
       )
       (body_fold (size_of problem) [] b.front b.last b.body.front_unmixed b.body.last_numbers (due layout problem.shop)
-      (sym b.body.holds) (due_passes layout problem b.within.within.short_times) (length-due layout problem)))
+      (sym b.body.holds) (due_passes layout problem b.within.within.short_times) (length-due layout problem))
 
 -- blocks lead to as many complete ones, the last of which is the instance's
 pub record LeadsTo (layout : Layout) (complete : List Block) (problem : Problem) (count : ℕ) (text : List (List ℕ))
@@ -118,5 +119,4 @@ pub file_leads : (layout : Layout) (k : ℕ) (problem : Problem) (text : List (L
     → AreBlocks limits layout k problem text → LeadsTo layout [] problem k text
 unfolding stand_after
 file_leads layout k problem text a =
-    let count : k ≡ length a.earlier + 1 = sym a.count in
-    rw (a.parts, count) (blocks_lead layout [] problem a.earlier a.own a.each a.is_own)
+    rw (a.parts, ← a.count) (blocks_lead layout [] problem a.earlier a.own a.each a.is_own)

@@ -62,10 +62,7 @@ pub time_due : (layout : Layout) (problem : Problem) (job machine : ℕ) → job
 unfolding due due_row
 time_due Taillard problem job machine j m =
     table_at (λ machine job. time_of problem.shop job machine) _ _ machine job 0 m j
-time_due OrLib problem job machine j m =
-    let place : 2 * (job * problem.shop.machines + machine) + 1
-    ≡ job * (problem.shop.machines * 2) + (machine * 2 + 1) = grind arith in
-    rw place (pair_at problem.shop job machine 1 0 j m (lit< tt))
+time_due OrLib problem job machine j m = grind (arith, pair_at problem.shop job machine 1 0)
 
 -- ---- what is due at a place
 
@@ -77,10 +74,6 @@ place_within layout size job machine j m = grind (
   mul-add-lt job size.machines machine size.jobs j m,
 )
 
-orlib_at : (size : Size) (k : ℕ) → k < due_count OrLib size → due_at OrLib size k ≡ pair_due size k
-unfolding due_at
-orlib_at size k h = rw (lt-ltb k (due_count OrLib size) h)
-
 pub due_time : (layout : Layout) (size : Size) (job machine : ℕ) → job < size.jobs → machine < size.machines
     → due_at layout size (place_of_time layout size job machine) ≡ any_time
 unfolding due_at
@@ -88,8 +81,9 @@ due_time layout size job machine j m = grind (arith, nat_tests, place_within lay
 
 number_due : (size : Size) (job machine : ℕ) → job < size.jobs → machine < size.machines
     → due_at OrLib size (2 * (job * size.machines + machine)) ≡ machine_number machine
+unfolding due_at
 number_due size job machine j m =
-    grind (arith, nat_tests, place_within OrLib size job machine j m, orlib_at size (2 * (job * size.machines + machine)), mod-mul-add job size.machines machine m)
+    grind (arith, nat_tests, place_within OrLib size job machine j m, mod-mul-add job size.machines machine m)
 
 -- a place is a time's, or a machine number's
 pub data PlaceIs (layout : Layout) (problem : Problem) (k : ℕ) : Type 0 where
@@ -108,12 +102,8 @@ place_is OrLib problem k h =
     let at = at_row (k / 2) problem.shop.jobs m (omega arith) in
     elim (cases_eq (k % 2) 0) [
       | inl even ↦
-          let place : k ≡ 2 * (at.row * m + at.column) = omega (arith, at.is) in
-          let pair : k ≡ at.row * (m * 2) + (at.column * 2 + 0) = omega (arith, at.is) in
-          a_number at.column
-          (ap (due_at OrLib (size_of problem)) place ∙ number_due (size_of problem) at.row at.column at.row_in at.column_in)
-          (ap (λ i. get_or (due OrLib problem.shop) i 0) pair
-          ∙ pair_at problem.shop at.row at.column 0 0 at.row_in at.column_in (lit< tt))
+          a_number at.column (grind (arith, at.is, number_due (size_of problem) at.row at.column))
+          (grind (arith, at.is, pair_at problem.shop at.row at.column 0 0))
       | inr odd ↦ a_time at.row at.column at.row_in at.column_in (omega (arith, at.is))
     ]
 

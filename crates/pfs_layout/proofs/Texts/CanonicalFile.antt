@@ -64,9 +64,7 @@ numeral_run = numeral_fails is_no_digit (λ b low high. rw (le-leb 48 b low, le-
 
 numeral_value : (n : ℕ) → n < 2 ^ 64 → (runs : List (List ℕ)) → values (decimal n ∷ runs) ≡ n ∷ values runs
 numeral_value n h runs =
-    let numeral = decimal_is_IsNumeral n h in
-    let some : is_empty (decimal n) ≡ false = ne_eqb (length (decimal n)) 0 (λ e. omega (arith, numeral.0.0)) in
-    rw (some, numeral.1)
+    let numeral = decimal_is_IsNumeral n h in grind (arith, numeral.0.0, numeral.1)
 
 numbers_spaced : (ns : List ℕ) → AllFit ns → numbers (spaced ns) ≡ ns
 unfolding numbers
