@@ -3,7 +3,6 @@ use Rattle.std.proofs.Common.{◌≡◌, ◌↔◌, ℕ, zero, suc, ◌+◌, ◌
 use Rattle.std.proofs.Common.{arith, Option, Some, None, ◌⊎◌, inl, inr, if◌then◌else◌}
 use Rattle.std.specs.Bool.{then_some}
 use Rattle.std.specs.Option.{option_or}
-use Rattle.std.proofs.lemmas.Bool.{cases_lt, cases_order}
 use Rattle.std.proofs.lemmas.List.{map-append}
 use Rattle.pfs_base.specs.Lists.{below, first_some}
 use Rattle.pfs_base.proofs.Published.Lists.{first_some-append, range_with_len-push}
@@ -73,10 +72,14 @@ module _ {A : Type 0} (f : ℕ → Option A) where
       elim (cases_option (first_some (map f (below n)))) [
         | inr one ↦
             let found = first_found n x (grind (arith, first_push n)) in (found.0, omega (arith, found.1), found.2)
-        | inl none ↦ (n, omega arith, record {
+        | inl none ↦ (
+          n,
+          omega arith,
+          record {
             here = grind (arith, first_push n);
             before = first_not_found n none;
-          })
+          },
+        )
       ]
 
   -- one place is first

@@ -1,13 +1,13 @@
 -- Where a block leads.
-use Rattle.std.proofs.Common.{◌≡◌, ℕ, ◌+◌, ◌<◌, true, false, not, List, [], ◌∷◌, ◌++◌, length, fold, flat_map}
-use Rattle.std.proofs.Common.{refl, sym, ap, arith, ◌==◌, inl, inr}
+use Rattle.std.proofs.Common.{◌≡◌, ℕ, ◌+◌, ◌<◌, true, not, List, [], ◌∷◌, ◌++◌, length, fold, flat_map}
+use Rattle.std.proofs.Common.{refl, sym, arith}
 use Rattle.std.specs.List.{AllByRecursion, list_any, list_all}
-use Rattle.std.proofs.lemmas.Bool.{and_parts, cases_Bool, eq-eqb, false≢true, ne_eqb, not-true}
+use Rattle.std.proofs.lemmas.Bool.{and_parts, false≢true}
 use Rattle.std.proofs.lemmas.List.{append_assoc, append-nil, length-append}
 use Rattle.std.proofs.lemmas.List.Folds.{list_all-append}
 use Rattle.std.proofs.lemmas.List.Sums.{fold-append}
 use Rattle.pfs_layout.specs.declared.layout.Layout.{Layout}
-use Rattle.pfs_layout.specs.Bytes.{is_digit, is_word_byte}
+use Rattle.pfs_layout.specs.Bytes.{is_digit}
 use Rattle.pfs_base.specs.Limits.{limits}
 use Rattle.pfs_base.proofs.Published.Lists.{enumerate_from-append}
 use Rattle.pfs_base.specs.Problem.{Problem}

@@ -1,8 +1,8 @@
 -- Numbers that pass begin what is due for some problem.
-use Rattle.std.proofs.Common.{◌≡◌, ℕ, ◌+◌, ◌-◌, ◌≤◌, true, List, ◌++◌, length, drop, refl, arith, inl, inr}
-use Rattle.std.proofs.lemmas.Bool.{cases_lt, le-ltb}
+use Rattle.std.proofs.Common.{◌≡◌, ℕ, ◌≤◌, true, List, ◌++◌, length, drop, refl, arith}
+use Rattle.std.proofs.lemmas.Bool.{le-ltb}
 use Rattle.std.proofs.lemmas.Grind.{elements}
-use Rattle.std.proofs.lemmas.List.{get_or_append_left, get_or-append_right, get_or-drop, length-append, length-drop}
+use Rattle.std.proofs.lemmas.List.{length-append, length-drop}
 use Rattle.pfs_base.specs.declared.limits.TheConstants.{LONGEST_TIME}
 use Rattle.pfs_layout.specs.declared.layout.Layout.{Layout}
 use Rattle.pfs_layout.specs.Size.{Size}
@@ -51,12 +51,12 @@ module _ (layout : Layout) (size : Size) (numbers : List ℕ) (all : are_due lay
 
   filled_passes : are_due layout size (filled layout size numbers) ≡ true
   filled_passes = are_due_by_place layout size (filled layout size numbers) (λ k h. grind (
-      arith,
-      elements,
-      length-filled,
-      length-idle_due layout size,
-      due_number layout size numbers k all,
-      due_number layout size (idle_due layout size) k (idle_passes layout size),
+    arith,
+    elements,
+    length-filled,
+    length-idle_due layout size,
+    due_number layout size numbers k all,
+    due_number layout size (idle_due layout size) k (idle_passes layout size),
   ))
 
   begin_due : BeginDue layout size numbers

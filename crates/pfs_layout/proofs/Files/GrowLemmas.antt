@@ -1,6 +1,6 @@
 -- What later lines can't undo, and where a text's lines lead from one of its places.
-use Rattle.std.proofs.Common.{◌≡◌, ℕ, ◌≤◌, false, List, [], ◌∷◌, ◌++◌, length, fold, refl, sym, ◌∙◌, arith}
-use Rattle.std.proofs.Common.{◌⊎◌, inl, inr}
+use Rattle.std.proofs.Common.{◌≡◌, ℕ, ◌≤◌, false, List, [], ◌∷◌, ◌++◌, length, fold, refl, sym, ◌∙◌, arith, ◌⊎◌, inl}
+use Rattle.std.proofs.Common.{inr}
 use Rattle.std.specs.List.{list_any}
 use Rattle.std.proofs.lemmas.Bool.{cases_Bool, ne_eqb}
 use Rattle.std.proofs.lemmas.List.{append_assoc, append-nil, length-append}
@@ -10,8 +10,7 @@ use Rattle.pfs_base.proofs.Published.Lists.{by_push}
 use Rattle.pfs_layout.specs.declared.layout.Layout.{Layout}
 use Rattle.pfs_layout.specs.Bytes.{is_line_end}
 use Rattle.pfs_layout.specs.Lines.{lines, ended_lines, open_line, ended_parts}
-use Rattle.pfs_layout.specs.Stand.{Block, Now, seeking, inside, lost, Stand, after_line, stand_after}
-use Rattle.pfs_layout.specs.Stand.{stand, completed, with_line}
+use Rattle.pfs_layout.specs.Stand.{Block, Now, lost, Stand, after_line, stand_after, stand, completed}
 use Rattle.pfs_layout.proofs.Files.LineLemmas.{open_part-push, ended_parts-push}
 use Rattle.pfs_layout.proofs.Files.CutLemmas.{unended, ended, first_line, lines-line, lines-open}
 use Rattle.pfs_layout.proofs.Files.SoundLemmas.{stand_of, stand_of-end, stand_of-on, open_line-none, open_line-end}
@@ -73,9 +72,9 @@ fewer_before layout text =
 
 pub no_end : (text : List ℕ) → list_any is_line_end (open_line text) ≡ false
 no_end = by_push (λ text. list_any is_line_end (open_line text) ≡ false) (rw open_line-none) (λ text b h. grind (
-    arith,
-    open_part-push is_line_end text b,
-    list_any-append is_line_end (open_line text) (b ∷ []),
+  arith,
+  open_part-push is_line_end text b,
+  list_any-append is_line_end (open_line text) (b ∷ []),
 ))
 
 ended_lines-none : ended_lines [] ≡ []

@@ -1,8 +1,8 @@
 -- Which lines lead to complete blocks.
 use Rattle.std.proofs.Common.{◌≡◌, ℕ, true, false, not, List, [], ◌∷◌, ◌++◌, length, flat_map}
-use Rattle.std.proofs.Common.{refl, sym, ap, arith, Option, Some, None, ◌==◌, inl, inr}
+use Rattle.std.proofs.Common.{refl, sym, ap, arith, Some, ◌==◌, inl, inr}
 use Rattle.std.specs.List.{list_any, list_all, AllZip}
-use Rattle.std.proofs.lemmas.Bool.{cases_Bool, eqb-false, eqb-true, or_parts, true_from_ne_false}
+use Rattle.std.proofs.lemmas.Bool.{cases_Bool, eqb-false, or_parts}
 use Rattle.std.proofs.Math.Nat.{mul-le-mul}
 use Rattle.std.proofs.lemmas.List.{append_assoc, append-nil}
 use Rattle.std.proofs.lemmas.List.Folds.{list_all-append}
@@ -10,14 +10,13 @@ use Rattle.std.proofs.lemmas.Grind.{flat_map-append}
 use Rattle.pfs_base.specs.Limits.{limits}
 use Rattle.pfs_base.proofs.Published.Lists.{by_push}
 use Rattle.pfs_layout.specs.declared.layout.Layout.{Layout}
-use Rattle.pfs_layout.specs.declared.layout.Layout.TheVariants.{Taillard, OrLib}
-use Rattle.pfs_layout.specs.Bytes.{is_digit, is_word_byte}
+use Rattle.pfs_layout.specs.Bytes.{is_digit}
 use Rattle.pfs_layout.specs.Size.{Size, is_within_limits}
 use Rattle.pfs_layout.specs.Lines.{is_mixed, is_number_line, numbers}
 use Rattle.pfs_layout.specs.Block.{stated_size, due_count, are_due}
 use Rattle.pfs_layout.specs.File.{IsBlock}
 use Rattle.pfs_layout.specs.Stand.{Block, Now, seeking, inside, lost, Stand, standing, completed, begun, with_line}
-use Rattle.pfs_layout.specs.Stand.{after_size, after_line, stand_after, stand, instance_of}
+use Rattle.pfs_layout.specs.Stand.{after_line, stand_after, stand, instance_of}
 use Rattle.pfs_layout.proofs.Files.SizeLemmas.{size_within}
 use Rattle.pfs_layout.proofs.Files.SoundLemmas.{stand-push}
 use Rattle.pfs_layout.proofs.Files.RoundLemmas.{due_instance, instance_within}

@@ -1,9 +1,9 @@
 -- A canonical text is an instance file.
 use Rattle.std.proofs.Common.{◌≡◌, ℕ, ◌+◌, ◌-◌, ◌<◌, ◌≤◌, ◌^◌, Bool, true, false, not, List, [], ◌∷◌, ◌++◌}
-use Rattle.std.proofs.Common.{length, map, flat_map, decimal, Some, refl, sym, ap, inl, add-one, arith}
+use Rattle.std.proofs.Common.{length, map, flat_map, decimal, Some, refl, sym, inl, add-one, arith}
 use Rattle.std.proofs.Common.{length-append, append_assoc, append-nil}
 use Rattle.std.specs.List.{slice_split, list_any, list_all, All}
-use Rattle.std.proofs.lemmas.Bool.{and_right, le-leb, ne_eqb, true_from_ne_false}
+use Rattle.std.proofs.lemmas.Bool.{and_right, le-leb, ne_eqb}
 use Rattle.std.proofs.lemmas.Fmt.{decimal_is_IsNumeral}
 use Rattle.std.proofs.lemmas.Grind.{flat_map-append}
 use Rattle.std.proofs.lemmas.List.Elements.{All-from_get_or}
@@ -13,7 +13,7 @@ use Rattle.std.proofs.lemmas.List.Splits.{slice_split_none, slice_split_at}
 use Rattle.std.proofs.lemmas.Str.Parse.{digit_at}
 use Rattle.pfs_base.specs.FlowShop.{FlowShop, IsWithin}
 use Rattle.pfs_base.specs.Limits.{limits}
-use Rattle.pfs_base.specs.Lists.{below, is_empty}
+use Rattle.pfs_base.specs.Lists.{below}
 use Rattle.pfs_base.specs.Problem.{Problem}
 use Rattle.pfs_base.specs.Text.{with_line_end, spaced}
 use Rattle.pfs_base.specs.declared.limits.TheConstants.{LONGEST_INPUT}
@@ -21,7 +21,7 @@ use Rattle.pfs_base.proofs.Published.SpacedLemmas.{flat_map_more}
 use Rattle.pfs_layout.specs.declared.layout.Layout.{Layout}
 use Rattle.pfs_layout.specs.declared.layout.Layout.TheVariants.{Taillard, OrLib}
 use Rattle.pfs_layout.specs.Block.{due_row, row_count, due, stated_size}
-use Rattle.pfs_layout.specs.Bytes.{is_digit, is_line_end, is_word_byte}
+use Rattle.pfs_layout.specs.Bytes.{is_line_end, is_word_byte}
 use Rattle.pfs_layout.specs.CanonicalText.{head_lines, row_line, row_lines, canonical_text, as_written, CanonicalLaw, TextsFit}
 use Rattle.pfs_layout.specs.File.{IsInstance, IsBlock, IsInstanceFile}
 use Rattle.pfs_layout.specs.Lines.{lines, open_line, is_mixed, is_number_line, is_no_digit}
