@@ -72,19 +72,8 @@ drawn_more first before machine jobs seed now h j m =
             ∙ h.same.every_time;
         same_notes = h.same.same_notes;
       };
-      drawn = λ job k. grind (
-        arith,
-        last,
-        with_time-same now.shop jobs machine (drawn_time next) every row column,
-        with_time-other now.shop jobs machine (drawn_time next) job machine column column,
-        h.drawn job,
-      );
-      others = λ job other n differ. grind (
-        arith,
-        with_time-other now.shop jobs machine (drawn_time next) job other column,
-        h.others job other,
-        h.same.same_machines,
-      );
+      drawn = λ job k. grind (arith, last, every, h.drawn, with_time-same, with_time-other);
+      others = λ job other n differ. grind (arith, h.others, h.same.same_machines, with_time-other);
     }
 
 -- the times on so many machines are drawn, the last by this seed
@@ -104,13 +93,7 @@ machine_more jobs machines first done seed next now then h within more =
       last = rw (h.same.same_jobs, next_machine) at (more.last ∙ drawn_behind now.shop.jobs);
       below = more.below;
       same = rw (h.same.same_jobs, h.same.same_machines, h.same.same_notes) at more.same;
-      drawn = λ job machine j m. grind (
-        arith,
-        more.drawn job,
-        more.others job machine,
-        h.drawn job machine,
-        drawn_behind (job + 1),
-      );
+      drawn = λ job machine j m. grind (arith, more.drawn, more.others, h.drawn, drawn_behind);
     }
   where
     drawn_behind : (more : ℕ) → seed_after more seed ≡ seed_after (more + done * jobs) first

@@ -28,9 +28,9 @@ module _ (f : ℕ → List ℕ) (w : ℕ) (each : (i : ℕ) → length (f i) ≡
       grind (
         arith,
         parts.1,
-        length-rows r,
-        each r,
-        length-append before (f r),
+        each,
+        length-rows,
+        length-append {A = ℕ},
         get_or_append_left (before ++ f r) parts.0 d,
         get_or-append-add before (f r) c d,
       )

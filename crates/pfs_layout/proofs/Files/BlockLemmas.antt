@@ -57,15 +57,7 @@ module _ (layout : Layout) (complete : List Block) where
       let here : List ℕ = ns ++ numbers line in
       let left : List ℕ = flat_map numbers more ++ numbers last in
       let regroup : all ≡ here ++ left = rw is (simp append_assoc) in
-      grind (
-        arith,
-        regroup,
-        numbers_some last,
-        are_due_front layout size here left,
-        length-append here left,
-        length-append (flat_map numbers more) (numbers last),
-        body_fold size here more last,
-      )
+      grind (arith, regroup, numbers_some, are_due_front, length-append {A = ℕ}, body_fold size here more last)
 
   -- a block is completed by its lines
   pub block_fold : (problem : Problem) (block : List (List ℕ)) → IsBlock limits layout problem block

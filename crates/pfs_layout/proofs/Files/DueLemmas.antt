@@ -66,22 +66,17 @@ time_due OrLib problem job machine j m = grind (arith, pair_at problem.shop job 
 
 pub place_within : (layout : Layout) (size : Size) (job machine : ℕ) → job < size.jobs → machine < size.machines
     → place_of_time layout size job machine < due_count layout size
-place_within layout size job machine j m = grind (
-  arith,
-  mul-add-lt machine size.jobs job size.machines m j,
-  mul-add-lt job size.machines machine size.jobs j m,
-)
+place_within layout size job machine j m = grind (arith, mul-add-lt)
 
 pub due_time : (layout : Layout) (size : Size) (job machine : ℕ) → job < size.jobs → machine < size.machines
     → due_at layout size (place_of_time layout size job machine) ≡ any_time
 unfolding due_at
-due_time layout size job machine j m = grind (arith, nat_tests, place_within layout size job machine j m)
+due_time layout size job machine j m = grind (arith, nat_tests, place_within)
 
 number_due : (size : Size) (job machine : ℕ) → job < size.jobs → machine < size.machines
     → due_at OrLib size (2 * (job * size.machines + machine)) ≡ machine_number machine
 unfolding due_at
-number_due size job machine j m =
-    grind (arith, nat_tests, place_within OrLib size job machine j m, mod-mul-add job size.machines machine m)
+number_due size job machine j m = grind (arith, nat_tests, place_within, mod-mul-add job size.machines machine m)
 
 -- a place is a time's, or a machine number's
 pub data PlaceIs (layout : Layout) (problem : Problem) (k : ℕ) : Type 0 where
@@ -118,7 +113,7 @@ pub are_due_by_place : (layout : Layout) (size : Size) (numbers : List ℕ)
 unfolding are_due
 are_due_by_place layout size numbers each =
     list_all-from_AllPass (λ placed. is_due (due_at layout size placed.0) placed.1) (enumerate_from 0 numbers) (λ k d h.
-    grind (arith, length-enumerate_from 0 numbers, get_or-enumerate_from 0 numbers k d, get_or_default numbers k d.1 0, each k))
+    grind (arith, each, length-enumerate_from {X = ℕ}, get_or-enumerate_from {X = ℕ}, get_or_default {X = ℕ}))
 
 -- what is due passes
 pub due_passes : (layout : Layout) (problem : Problem) → All (λ time. time ≤ LONGEST_TIME) problem.shop.times

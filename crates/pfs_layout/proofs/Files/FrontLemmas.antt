@@ -23,7 +23,7 @@ nothing_there layout size k h = rw (le-ltb k (due_count layout size) h)
 pub no_more_than_due : (layout : Layout) (size : Size) (numbers : List ℕ) → are_due layout size numbers ≡ true
     → length numbers ≤ due_count layout size
 no_more_than_due layout size numbers all =
-    grind (arith, due_number layout size numbers (due_count layout size) all, nothing_there layout size (due_count layout size))
+    grind (arith, due_number layout size numbers (due_count layout size), nothing_there)
 
 -- what is due for a problem of the size in which each time is 0
 abbrev idle_due : Layout → Size → List ℕ
@@ -50,14 +50,8 @@ module _ (layout : Layout) (size : Size) (numbers : List ℕ) (all : are_due lay
       simp (length-append, length-drop, length-idle_due) (omega (arith, no_more_than_due layout size numbers all))
 
   filled_passes : are_due layout size (filled layout size numbers) ≡ true
-  filled_passes = are_due_by_place layout size (filled layout size numbers) (λ k h. grind (
-    arith,
-    elements,
-    length-filled,
-    length-idle_due layout size,
-    due_number layout size numbers k all,
-    due_number layout size (idle_due layout size) k (idle_passes layout size),
-  ))
+  filled_passes = are_due_by_place layout size (filled layout size numbers)
+      (λ k h. grind (arith, elements, length-filled, length-idle_due, due_number, idle_passes))
 
   begin_due : BeginDue layout size numbers
   unfolding instance_of

@@ -53,12 +53,8 @@ more_after : (layout : Layout) (text : List ℕ) (b : ℕ)
 unfolding stand_after
 more_after layout text b =
     let before : Stand = stand_of layout text in
-    grind (
-      arith,
-      stand_of-end layout text b,
-      stand_of-on layout text b,
-      complete_stays layout before.complete before.now (open_line text),
-    )
+    let stays = complete_stays layout before.complete before.now (open_line text) in
+    grind (arith, stand_of-end, stand_of-on)
 
 -- the complete blocks of a text are no more than those of a longer one
 pub fewer_before : (layout : Layout) (text more : List ℕ)
@@ -71,11 +67,8 @@ fewer_before layout text =
 -- ---- a text from one of its places on
 
 pub no_end : (text : List ℕ) → list_any is_line_end (open_line text) ≡ false
-no_end = by_push (λ text. list_any is_line_end (open_line text) ≡ false) (rw open_line-none) (λ text b h. grind (
-  arith,
-  open_part-push is_line_end text b,
-  list_any-append is_line_end (open_line text) (b ∷ []),
-))
+no_end = by_push (λ text. list_any is_line_end (open_line text) ≡ false) (rw open_line-none)
+    (λ text b h. grind (arith, open_part-push, list_any-append {X = ℕ}))
 
 ended_lines-none : ended_lines [] ≡ []
 unfolding ended_parts

@@ -48,24 +48,12 @@ split-push p (x ∷ xs) b =
 pub ended_parts-push : (p : ℕ → Bool) (xs : List ℕ) (b : ℕ)
     → ended_parts p (xs ++ b ∷ []) ≡ (if p b then ended_parts p xs ++ open_part p xs ∷ [] else ended_parts p xs)
 unfolding ended_parts
-ended_parts-push p xs b =
-    grind (
-      arith,
-      split-push p xs b,
-      split_is p xs,
-      all_but_last-push (slice_split p xs),
-      all_but_last-push (all_but_last (slice_split p xs)),
-    )
+ended_parts-push p xs b = grind (arith, split-push, split_is, all_but_last-push {A = List ℕ})
 
 pub open_part-push : (p : ℕ → Bool) (xs : List ℕ) (b : ℕ)
     → open_part p (xs ++ b ∷ []) ≡ (if p b then [] else open_part p xs ++ b ∷ [])
 unfolding open_part
-open_part-push p xs b = grind (
-  arith,
-  split-push p xs b,
-  last_of-push [] (slice_split p xs),
-  last_of-push [] (all_but_last (slice_split p xs)),
-)
+open_part-push p xs b = grind (arith, split-push, last_of-push {A = List ℕ})
 
 pub values-append : (xs ys : List (List ℕ)) → values (xs ++ ys) ≡ values xs ++ values ys
 values-append xs ys =
@@ -81,4 +69,4 @@ numbers_is line =
 pub ended_numbers-push : (line : List ℕ) (b : ℕ)
     → ended_numbers (line ++ b ∷ []) ≡ (if is_no_digit b then numbers line else ended_numbers line)
 unfolding numbers ended_numbers
-ended_numbers-push line b = grind (arith, ended_parts-push is_no_digit line b, split_is is_no_digit line)
+ended_numbers-push line b = grind (arith, ended_parts-push, split_is)

@@ -62,7 +62,7 @@ unfolding are_due
 due_number layout size numbers k all h =
     let test : ℕ × ℕ → Bool = λ placed. is_due (due_at layout size placed.0) placed.1 in
     let placed = AllPass-from_list_all test (enumerate_from 0 numbers) all k (0, 0) in
-    grind (arith, placed, length-enumerate_from 0 numbers, get_or-enumerate_from 0 numbers k (0, 0))
+    grind (arith, placed, length-enumerate_from {X = ℕ}, get_or-enumerate_from {X = ℕ})
 
 pub length-due_instance : (layout : Layout) (block : Block)
     → length (due layout (instance_of layout block).shop) ≡ due_count layout block.size

@@ -51,13 +51,8 @@ open_line-none = refl
 -- the last digits of a text are those of its last line
 pub same_last : (text : List ℕ) → last_digits text ≡ last_digits (open_line text)
 unfolding open_part
-same_last = by_push (λ text. last_digits text ≡ last_digits (open_line text)) refl (λ text b h. grind (
-  arith,
-  nat_tests,
-  open_part-push is_no_digit text b,
-  open_part-push is_line_end text b,
-  open_part-push is_no_digit (open_line text) b,
-))
+same_last = by_push (λ text. last_digits text ≡ last_digits (open_line text)) refl
+    (λ text b h. grind (arith, nat_tests, open_part-push))
 
 -- ---- what holds while no byte has a fault
 
@@ -74,8 +69,9 @@ GoodNow layout lost line = ⊥
 -- a digit at the end of a line is a digit on it
 pub digit_there : (line : List ℕ) → is_empty (last_digits line) ≡ false → list_any is_digit line ≡ true
 unfolding open_part
-digit_there = by_push (λ line. is_empty (last_digits line) ≡ false → list_any is_digit line ≡ true) (λ none. absurd (cc))
-    (λ line b h some. grind (arith, list_any-append is_digit line (b ∷ []), open_part-push is_no_digit line b))
+digit_there =
+    by_push (λ line. is_empty (last_digits line) ≡ false → list_any is_digit line ≡ true) (λ none. absurd (cc))
+    (λ line b h some. grind (arith, list_any-append {X = ℕ}, open_part-push))
 
 -- where the number at the end of the line is ended without a fault, all numbers of the line are due
 all_due : (layout : Layout) (block : Block) (text : List ℕ) (next : Option ℕ)
@@ -102,12 +98,7 @@ all_due layout block text next due ends right =
 -- on an unmixed line a byte that ends a number is a blank or a line end
 ends_by : (line : List ℕ) (b : ℕ) → is_no_digit b ≡ true → is_mixed (line ++ b ∷ []) ≡ false
     → is_empty (last_digits line) ≡ false → (is_blank b || is_line_end b) ≡ true
-ends_by line b no_digit unmixed there = grind (
-  arith,
-  digit_there line there,
-  list_any-append is_digit line (b ∷ []),
-  list_any-append is_word_byte line (b ∷ []),
-)
+ends_by line b no_digit unmixed there = grind (arith, digit_there, list_any-append {X = ℕ})
 
 -- the complete blocks stay
 pub complete_stays : (layout : Layout) (complete : List Block) (now : Now) (line : List ℕ)
@@ -134,12 +125,11 @@ pub good_end : (layout : Layout) (k : ℕ) (complete : List Block) (now : Now) (
 unfolding wrong_size
 good_end layout k complete seeking text next ends digits good right =
     let right_size = (all_none (faults layout k seeking text next) right).1.0 in
-    grind (arith, good_size layout (1 + count_by is_line_end text) (stated_size layout (numbers (open_line text))))
+    grind (arith, good_size)
 good_end layout k complete (inside block) text next ends digits good right =
-    let next_block : Block = with_line block (open_line text) in
     let rights = all_none (faults layout k (inside block) text next) right in
     let due = all_due layout block text next good.due digits rights.1.1.0 in
-    grind (arith, good_start layout next_block)
+    grind (arith, good_start layout (with_line block (open_line text)))
 good_end layout k complete lost text next ends digits good right = good
 
 -- ---- a byte
@@ -153,14 +143,7 @@ good_byte layout k (inside block) text b good right =
     let rights = all_none (faults layout k (inside block) text (Some b)) right in
     let unmixed : is_mixed (line ++ b ∷ []) ≡ false = rw good.unmixed at (then_some_none _ _ rights.1.0) in
     record {
-      due = grind (
-        arith,
-        good.due,
-        ended_numbers-push line b,
-        same_last text,
-        ends_by line b,
-        all_due layout block text (Some b) good.due,
-      );
+      due = grind (arith, good.due, ended_numbers-push, same_last, ends_by, all_due);
       unmixed = unmixed;
     }
 good_byte layout k lost text b good right = good
@@ -203,18 +186,10 @@ sound_more layout k text b sound right few =
     let before : Stand = stand_of layout text in
     let rights = or_none (byte_fault layout k text) (fault_of_place layout k text (Some b))
     (rw byte_fault-push at right) in
-    grind (
-      arith,
-      nat_tests,
-      stand_of-end layout text b,
-      stand_of-on layout text b,
-      open_line-end text b,
-      open_line-on text b,
-      same_last text,
-      complete_stays layout before.complete before.now (open_line text),
-      good_end layout k before.complete before.now text (Some b),
-      good_byte layout k before.now text b,
-    )
+    let within = complete_stays layout before.complete before.now (open_line text) in
+    let ended = good_end layout k before.complete before.now text (Some b) in
+    let longer = good_byte layout k before.now text b in
+    grind (arith, nat_tests, stand_of-end, stand_of-on, open_line-end, open_line-on, same_last, ended, longer)
 
 pub sound : (layout : Layout) (k : ℕ) (text : List ℕ) → IsSound layout k text
 unfolding ended_parts open_part stand
