@@ -1,6 +1,7 @@
 -- Seeds of the generator, and times that are set one by one.
 use Rattle.std.proofs.Common.{◌≡◌, ◌≢◌, ℕ, zero, suc, ◌+◌, ◌*◌, ◌%◌, ◌<◌, ◌≤◌, length, add-one, sym, ◌∙◌, arith}
 use Rattle.std.proofs.Math.Nat.{mul_comm}
+use Rattle.std.proofs.lemmas.Grind.{rows}
 use Rattle.std.proofs.lemmas.List.{get_or-set_same, get_or-set_other, length-set}
 use Rattle.std.proofs.lemmas.Nat.{mul-add-lt, same_from_place}
 use Rattle.pfs_base.specs.FlowShop.{FlowShop, time_of, with_time}
@@ -21,15 +22,13 @@ seed_after-add (suc more) draws seed =
 pub with_time-same : (shop : FlowShop) (job machine time : ℕ) → length shop.times ≡ shop.jobs * shop.machines
     → job < shop.jobs → machine < shop.machines → time_of (with_time shop job machine time) job machine ≡ time
 with_time-same shop job machine time all j m =
-    let place = mul-add-lt job shop.machines machine shop.jobs j m in
-    get_or-set_same shop.times (job * shop.machines + machine) time 0 (omega (arith, mul_comm shop.jobs shop.machines))
+    grind (arith, rows, get_or-set_same shop.times (job * shop.machines + machine) time 0)
 
 -- and the others
 pub with_time-other : (shop : FlowShop) (job machine time other at : ℕ) → machine < shop.machines → at < shop.machines
     → (other ≡ job → at ≢ machine) → time_of (with_time shop job machine time) other at ≡ time_of shop other at
 with_time-other shop job machine time other at m n differ =
-    get_or-set_other shop.times (job * shop.machines + machine) (other * shop.machines + at) time 0 (λ same.
-    let parts = same_from_place other at job machine shop.machines n m same in differ parts.0 parts.1)
+    grind (arith, get_or-set_other {A = ℕ}, same_from_place other at job machine shop.machines n m)
 
 -- the problem has so many jobs and machines, a time of each job on each machine, and these notes
 pub record IsOf (jobs machines : ℕ) (notes : Notes) (now : Problem) : Type 0 where
@@ -59,8 +58,6 @@ unfolding seed_after
 drawn_more first before machine jobs seed now h j m =
     let next : ℕ = 16807 * seed % prime in
     let last : next ≡ seed_after (jobs + 1) first = rw (add-one jobs, h.last) in
-    let row : jobs < now.shop.jobs = omega (arith, h.same.same_jobs) in
-    let column : machine < now.shop.machines = omega (arith, h.same.same_machines) in
     let every = rw (← h.same.same_jobs, ← h.same.same_machines) at h.same.every_time in
     record {
       last = last;
@@ -72,7 +69,7 @@ drawn_more first before machine jobs seed now h j m =
             ∙ h.same.every_time;
         same_notes = h.same.same_notes;
       };
-      drawn = λ job k. grind (arith, last, every, h.drawn, with_time-same, with_time-other);
+      drawn = λ job k. grind (arith, last, every, h.same.same_jobs, h.same.same_machines, h.drawn, with_time-same, with_time-other);
       others = λ job other n differ. grind (arith, h.others, h.same.same_machines, with_time-other);
     }
 

@@ -52,10 +52,7 @@ module _ {A : Type 0} (f : ℕ → Option A) where
   first_push n =
       let e : 0 + n ≡ n = omega arith in
       ap (λ ns. first_some (map f ns)) (range_with_len-push 0 n)
-      ∙ rw (map-append f (below n) ((0 + n) ∷ []), first_some-append (map f (below n)) (f (0 + n) ∷ []), e, last (f n))
-    where
-      last : (o : Option A) → first_some (o ∷ []) ≡ o
-      last o = grind arith
+      ∙ rw (map-append f (below n) ((0 + n) ∷ []), first_some-append (map f (below n)) (f (0 + n) ∷ []), e) (grind arith)
 
   -- f gives x at p and nothing before
   pub record IsFirst (p : ℕ) (x : A) : Type 0 where
@@ -72,14 +69,9 @@ module _ {A : Type 0} (f : ℕ → Option A) where
       elim (cases_option (first_some (map f (below n)))) [
         | inr one ↦
             let found = first_found n x (grind (arith, first_push n)) in (found.0, omega (arith, found.1), found.2)
-        | inl none ↦ (
-          n,
-          omega arith,
-          record {
-            here = grind (arith, first_push n);
-            before = first_not_found n none;
-          },
-        )
+        | inl none ↦
+            let here : f n ≡ Some x = grind (arith, first_push n) in
+            (n, omega arith, record { here = here; before = first_not_found n none })
       ]
 
   -- one place is first
@@ -87,15 +79,7 @@ module _ {A : Type 0} (f : ℕ → Option A) where
   one_first p q x y s t = grind (arith, s.before, t.before)
 
   pub first_is : (n : ℕ) (x : A) → first_some (map f (below n)) ≡ Some x ↔ ((p : ℕ) × (p < n) × IsFirst p x)
-  first_is n x = (
-    first_found n x,
-    λ found. elim (cases_option (first_some (map f (below n)))) [
-      | inl none ↦ let no_fault = first_not_found n none found.0 found.1 in let here = found.2.here in cc
-      | inr one ↦
-          let other = first_found n one.0 one.1 in
-          one.1 ∙ ap Some (one_first other.0 found.0 one.0 x other.2 found.2)
-    ],
-  )
+  first_is n x = (first_found n x, λ found. grind (arith, first_not_found n, first_found n, one_first))
 
   pub none_first : (n : ℕ) → ((q : ℕ) → q < n → f q ≡ None) → first_some (map f (below n)) ≡ None
   none_first zero none = refl

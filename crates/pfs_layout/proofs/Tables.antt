@@ -3,7 +3,7 @@ use Rattle.std.proofs.Common.{◌≡◌, ℕ, zero, suc, ◌+◌, ◌*◌, ◌/�
 use Rattle.std.proofs.Common.{sym, ap, ◌∙◌, ◌++◌, arith}
 use Rattle.std.specs.List.{All}
 use Rattle.std.proofs.Math.Nat.{div-lt_iff_lt-mul, mod-lt}
-use Rattle.std.proofs.lemmas.Grind.{same_number_lists}
+use Rattle.std.proofs.lemmas.Grind.{elements, same_number_lists}
 use Rattle.std.proofs.lemmas.List.{get_or_append_left, get_or-append-add, length-append}
 use Rattle.std.proofs.lemmas.List.Elements.{All-from_get_or}
 use Rattle.std.proofs.lemmas.List.FromFn.{get_or-map-range_with_len, length-map-range_with_len}
@@ -13,27 +13,11 @@ use Rattle.pfs_base.proofs.Published.SpacedLemmas.{flat_map_more, flat_map_from}
 module _ (f : ℕ → List ℕ) (w : ℕ) (each : (i : ℕ) → length (f i) ≡ w) where
   pub length-rows : (n : ℕ) → length (flat_map f (below n)) ≡ n * w
   length-rows zero = omega arith
-  length-rows (suc n) = omega (
-    arith,
-    ap length (flat_map_more f n),
-    length-append (flat_map f (below n)) (f n),
-    each n,
-    length-rows n,
-  )
+  length-rows (suc n) = grind (arith, flat_map_more f n, each, length-rows n, length-append {A = ℕ})
 
   pub rows_at : (n r c d : ℕ) → r < n → c < w → get_or (flat_map f (below n)) (r * w + c) d ≡ get_or (f r) c d
   rows_at n r c d h l =
-      let before : List ℕ = flat_map f (below r) in
-      let parts = flat_map_from f r n h in
-      grind (
-        arith,
-        parts.1,
-        each,
-        length-rows,
-        length-append {A = ℕ},
-        get_or_append_left (before ++ f r) parts.0 d,
-        get_or-append-add before (f r) c d,
-      )
+      let parts = flat_map_from f r n h in grind (arith, elements, parts.1, each, length-rows)
 
 -- k is row r and column c of rows of this width
 pub record IsAt (k rows width : ℕ) : Type 0 where

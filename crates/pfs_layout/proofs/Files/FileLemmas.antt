@@ -73,12 +73,7 @@ completes_file layout input k problem c =
       text = f.front;
       rest = f.rest ++ c.rest;
       whole = rw (← append_assoc f.front f.rest c.rest, ← f.whole) c.whole;
-      ended = elim f.ended [
-        | inl e ↦ inl e
-        | inr e ↦
-            let same : c.text ≡ f.front = rw (e, append-nil) at f.whole in
-            elim c.ended [ inl ended ↦ inl (rw same at ended) | inr none ↦ inr (rw (e, none)) ]
-      ];
+      ended = grind (arith, f.ended, c.ended, f.whole, append-nil f.front);
       short = omega (arith, c.short, ap length f.whole, length-append f.front f.rest);
       blocks = record {
         earlier = l.before;

@@ -1,6 +1,7 @@
 -- Numbers that pass begin what is due for some problem.
 use Rattle.std.proofs.Common.{◌≡◌, ℕ, ◌≤◌, true, List, ◌++◌, length, drop, refl, arith}
 use Rattle.std.proofs.lemmas.Bool.{le-ltb}
+use Rattle.std.proofs.lemmas.Bool.Decides.{nat_tests}
 use Rattle.std.proofs.lemmas.Grind.{elements}
 use Rattle.std.proofs.lemmas.List.{length-append, length-drop}
 use Rattle.pfs_base.specs.declared.limits.TheConstants.{LONGEST_TIME}
@@ -15,23 +16,16 @@ use Rattle.pfs_layout.proofs.Files.RoundLemmas.{length-times, due_number, length
 use Rattle.pfs_layout.proofs.Files.RoundLemmas.{times_short}
 use Rattle.pfs_layout.proofs.Tables.{all_table}
 
-nothing_there : (layout : Layout) (size : Size) (k : ℕ) → due_count layout size ≤ k → due_at layout size k ≡ nothing
-unfolding due_at
-nothing_there layout size k h = rw (le-ltb k (due_count layout size) h)
-
 -- no more numbers than that pass
 pub no_more_than_due : (layout : Layout) (size : Size) (numbers : List ℕ) → are_due layout size numbers ≡ true
     → length numbers ≤ due_count layout size
+unfolding due_at
 no_more_than_due layout size numbers all =
-    grind (arith, due_number layout size numbers (due_count layout size), nothing_there)
+    grind (arith, nat_tests, due_number layout size numbers (due_count layout size) all)
 
 -- what is due for a problem of the size in which each time is 0
 abbrev idle_due : Layout → Size → List ℕ
 idle_due layout size = due layout (instance_of layout (begun size)).shop
-
-length-idle_due : (layout : Layout) (size : Size) → length (idle_due layout size) ≡ due_count layout size
-unfolding instance_of
-length-idle_due layout size = length-due_instance layout (begun size)
 
 idle_passes : (layout : Layout) (size : Size) → are_due layout size (idle_due layout size) ≡ true
 unfolding instance_of
@@ -47,11 +41,11 @@ filled layout size numbers = numbers ++ drop (length numbers) (idle_due layout s
 module _ (layout : Layout) (size : Size) (numbers : List ℕ) (all : are_due layout size numbers ≡ true) where
   length-filled : length (filled layout size numbers) ≡ due_count layout size
   length-filled =
-      simp (length-append, length-drop, length-idle_due) (omega (arith, no_more_than_due layout size numbers all))
+      simp (length-append, length-drop, length-due_instance) (omega (arith, no_more_than_due layout size numbers all))
 
   filled_passes : are_due layout size (filled layout size numbers) ≡ true
   filled_passes = are_due_by_place layout size (filled layout size numbers)
-      (λ k h. grind (arith, elements, length-filled, length-idle_due, due_number, idle_passes))
+      (λ k h. grind (arith, elements, length-filled, length-due_instance layout (begun size), due_number, idle_passes))
 
   begin_due : BeginDue layout size numbers
   unfolding instance_of

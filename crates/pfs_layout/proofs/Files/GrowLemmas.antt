@@ -81,12 +81,7 @@ lines_from =
     by_push (λ before. (after : List ℕ) → lines (before ++ after) ≡ ended_lines before ++ lines (open_line before ++ after))
     (λ after. rw (ended_lines-none, open_line-none)) (λ before b h after.
     rw (append_assoc before (b ∷ []) after, h (b ∷ after), ended_parts-push is_line_end before b)
-    (elim (cases_Bool (is_line_end b)) [
-      | inl ends ↦
-          rw (open_line-end before b ends, ends, lines-line (open_line before) b after (no_end before) ends)
-          (sym (append_assoc (ended_lines before) (open_line before ∷ []) (lines after)))
-      | inr on ↦ rw (open_line-on before b on, on, append_assoc (open_line before) (b ∷ []) after)
-    ]))
+    (grind (arith, open_part-push, lines-line, no_end, append_assoc {A = ℕ}, append_assoc {A = List ℕ})))
 
 -- where a text's lines lead from a place
 pub stand_from : (layout : Layout) (before after : List ℕ)

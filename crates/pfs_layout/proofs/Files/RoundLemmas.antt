@@ -29,11 +29,6 @@ module _ (layout : Layout) (block : Block) where
   unfolding instance_of
   length-times = length-table stands_at block.size.jobs block.size.machines
 
-  pub time_at : (job machine : ℕ) → job < block.size.jobs → machine < block.size.machines
-      → time_of (instance_of layout block).shop job machine ≡ stands_at job machine
-  unfolding instance_of
-  time_at job machine j m = table_at stands_at block.size.jobs block.size.machines job machine 0 j m
-
 -- ---- from a problem to its due numbers and back
 
 module _ (layout : Layout) (problem : Problem) where
@@ -48,10 +43,7 @@ module _ (layout : Layout) (problem : Problem) where
       let times = same_table
       (stands_at layout block_of) problem.shop.jobs problem.shop.machines problem.shop.times every
       (λ job machine j m. sym (time_due layout problem job machine j m)) in
-      ap with_times (sym times)
-    where
-      with_times : List ℕ → Problem
-      with_times times = record problem { shop = record problem.shop { times = times } }
+      rw (← times)
 
 -- ---- from a complete block's numbers to a problem and back
 
@@ -78,7 +70,8 @@ due_instance layout block all full =
     same_number_lists (due layout (instance_of layout block).shop) block.numbers (count ∙ sym full) (λ k h.
     elim (place_is layout (instance_of layout block) k (omega (arith, count))) [
       | a_time job machine j m place ↦
-          rw place (time_due layout (instance_of layout block) job machine j m ∙ time_at layout block job machine j m)
+          rw place (time_due layout (instance_of layout block) job machine j m
+          ∙ table_at (stands_at layout block) block.size.jobs block.size.machines job machine 0 j m)
       | a_number machine wanted is ↦
           let right = due_number layout block.size block.numbers k all (omega (arith, count)) in
           is ∙ sym (eqb-true (get_or block.numbers k 0) machine (rw wanted at right))
