@@ -1,9 +1,8 @@
 -- Seeds of the generator, and times that are set one by one.
 use Rattle.std.proofs.Common.{◌≡◌, ◌≢◌, ℕ, zero, suc, ◌+◌, ◌*◌, ◌%◌, ◌<◌, ◌≤◌, length, add-one, sym, ◌∙◌, arith}
-use Rattle.std.proofs.Math.Nat.{mul_comm}
 use Rattle.std.proofs.lemmas.Grind.{rows}
 use Rattle.std.proofs.lemmas.List.{get_or-set_same, get_or-set_other, length-set}
-use Rattle.std.proofs.lemmas.Nat.{mul-add-lt, same_from_place}
+use Rattle.std.proofs.lemmas.Nat.{same_from_place}
 use Rattle.pfs_base.specs.FlowShop.{FlowShop, time_of, with_time}
 use Rattle.pfs_base.specs.Problem.{Problem}
 use Rattle.pfs_base.specs.declared.limits.TheConstants.{LONGEST_TIME}

@@ -1,13 +1,12 @@
 -- Numbers that pass begin what is due for some problem.
 use Rattle.std.proofs.Common.{◌≡◌, ℕ, ◌≤◌, true, List, ◌++◌, length, drop, refl, arith}
-use Rattle.std.proofs.lemmas.Bool.{le-ltb}
 use Rattle.std.proofs.lemmas.Bool.Decides.{nat_tests}
 use Rattle.std.proofs.lemmas.Grind.{elements}
 use Rattle.std.proofs.lemmas.List.{length-append, length-drop}
 use Rattle.pfs_base.specs.declared.limits.TheConstants.{LONGEST_TIME}
 use Rattle.pfs_layout.specs.declared.layout.Layout.{Layout}
 use Rattle.pfs_layout.specs.Size.{Size}
-use Rattle.pfs_layout.specs.Block.{nothing, due_at, are_due, due, due_count}
+use Rattle.pfs_layout.specs.Block.{due_at, are_due, due, due_count}
 use Rattle.pfs_layout.specs.Stand.{Block, begun, instance_of}
 use Rattle.pfs_layout.specs.Laws.{BeginDue, DueFronts}
 use Rattle.pfs_layout.proofs.Files.BlockLemmas.{are_due_front}

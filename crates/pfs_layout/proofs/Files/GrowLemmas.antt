@@ -2,7 +2,7 @@
 use Rattle.std.proofs.Common.{◌≡◌, ℕ, ◌≤◌, false, List, [], ◌∷◌, ◌++◌, length, fold, refl, sym, ◌∙◌, arith, ◌⊎◌, inl}
 use Rattle.std.proofs.Common.{inr}
 use Rattle.std.specs.List.{list_any}
-use Rattle.std.proofs.lemmas.Bool.{cases_Bool, ne_eqb}
+use Rattle.std.proofs.lemmas.Bool.{ne_eqb}
 use Rattle.std.proofs.lemmas.List.{append_assoc, append-nil, length-append}
 use Rattle.std.proofs.lemmas.List.Folds.{list_any-append}
 use Rattle.std.proofs.lemmas.List.Sums.{fold-append}
@@ -13,8 +13,7 @@ use Rattle.pfs_layout.specs.Lines.{lines, ended_lines, open_line, ended_parts}
 use Rattle.pfs_layout.specs.Stand.{Block, Now, lost, Stand, after_line, stand_after, stand, completed}
 use Rattle.pfs_layout.proofs.Files.LineLemmas.{open_part-push, ended_parts-push}
 use Rattle.pfs_layout.proofs.Files.CutLemmas.{unended, ended, first_line, lines-line, lines-open}
-use Rattle.pfs_layout.proofs.Files.SoundLemmas.{stand_of, stand_of-end, stand_of-on, open_line-none, open_line-end}
-use Rattle.pfs_layout.proofs.Files.SoundLemmas.{open_line-on, complete_stays}
+use Rattle.pfs_layout.proofs.Files.SoundLemmas.{stand_of, stand_of-end, stand_of-on, open_line-none, complete_stays}
 
 -- ---- complete blocks stay
 
