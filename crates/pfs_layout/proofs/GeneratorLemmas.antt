@@ -118,14 +118,6 @@ seeds_stay (suc draws) seed is = let before = seeds_stay draws seed is in (omega
 pub generated_within : GeneratedWithin
 unfolding generated
 generated_within jobs machines seed sizes is =
-    record {
-      within = record {
-        sizes = sizes;
-        every_time = length-table (time jobs seed) jobs machines;
-        short_times = all_table (time jobs seed) jobs machines (λ drawn. drawn ≤ LONGEST_TIME) (λ job machine j m.
-            let seed_is = seeds_stay (machine * jobs + job + 1) seed is in omega arith);
-      };
-      seed = omega arith;
-      upper = omega arith;
-      lower = omega arith;
-    }
+    let short = all_table (time jobs seed) jobs machines (λ drawn. drawn ≤ LONGEST_TIME) (λ job machine j m.
+    let seed_is = seeds_stay (machine * jobs + job + 1) seed is in omega arith) in
+    grind (arith, sizes, length-table (time jobs seed) jobs machines, short)

@@ -95,14 +95,4 @@ pub instance_within : (layout : Layout) (block : Block) → is_within_limits blo
     → IsInstance limits (instance_of layout block)
 unfolding instance_of
 instance_within layout block size all full =
-    let fits = size_within block.size size in
-    record {
-      within = record {
-        sizes = fits.sizes;
-        every_time = length-times layout block;
-        short_times = times_short layout block all full;
-      };
-      seed = fits.seed;
-      upper = fits.upper;
-      lower = fits.lower;
-    }
+    grind (arith, size_within block.size size, length-times layout block, times_short layout block all full)

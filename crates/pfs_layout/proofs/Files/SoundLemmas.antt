@@ -142,10 +142,7 @@ good_byte layout k (inside block) text b good right =
     let line = open_line text in
     let rights = all_none (faults layout k (inside block) text (Some b)) right in
     let unmixed : is_mixed (line ++ b ∷ []) ≡ false = rw good.unmixed at (then_some_none _ _ rights.1.0) in
-    record {
-      due = grind (arith, good.due, ended_numbers-push, same_last, ends_by, all_due);
-      unmixed = unmixed;
-    }
+    grind (arith, unmixed, good.due, ended_numbers-push, same_last, ends_by, all_due)
 good_byte layout k lost text b good right = good
 
 pub stand-push : (layout : Layout) (lines : List (List ℕ)) (line : List ℕ)

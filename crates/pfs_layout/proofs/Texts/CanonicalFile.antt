@@ -4,6 +4,7 @@ use Rattle.std.proofs.Common.{length, map, flat_map, decimal, Some, refl, sym, i
 use Rattle.std.proofs.Common.{length-append, append_assoc, append-nil}
 use Rattle.std.specs.List.{slice_split, list_any, list_all, All}
 use Rattle.std.proofs.lemmas.Bool.{and_right, le-leb, ne_eqb}
+use Rattle.std.proofs.lemmas.Bool.Decides.{nat_tests}
 use Rattle.std.proofs.lemmas.Fmt.{decimal_is_IsNumeral}
 use Rattle.std.proofs.lemmas.Grind.{flat_map-append}
 use Rattle.std.proofs.lemmas.List.Elements.{All-from_get_or}
@@ -36,29 +37,27 @@ use Rattle.pfs_layout.proofs.Texts.CanonicalLemmas.{length-head_lines, length-ro
 
 -- ---- bytes of a line of numbers
 
--- a test that fails at the digits fails at each byte of a numeral
-numeral_fails : (test : ℕ → Bool) → ((b : ℕ) → 48 ≤ b → b ≤ 57 → test b ≡ false) → (n : ℕ) → n < 2 ^ 64
-    → All (λ b. test b ≡ false) (decimal n)
-numeral_fails test digit n h = All-from_get_or (λ b. test b ≡ false) (decimal n) 0 (λ i within.
-    let range = digit_at (decimal n) i (decimal_is_IsNumeral n h).0.1 within in digit _ range.0 range.1)
+module _ (test : ℕ → Bool) (digit : (b : ℕ) → 48 ≤ b → b ≤ 57 → test b ≡ false) where
+  -- a test that fails at the digits fails at each byte of a numeral
+  numeral_fails : (n : ℕ) → n < 2 ^ 64 → All (λ b. test b ≡ false) (decimal n)
+  numeral_fails n h = All-from_get_or (λ b. test b ≡ false) (decimal n) 0 (λ i within.
+      let range = digit_at (decimal n) i (decimal_is_IsNumeral n h).0.1 within in digit _ range.0 range.1)
 
--- and if it fails at a space, at each byte of a line of numbers
-line_fails : (test : ℕ → Bool) → test 32 ≡ false → ((b : ℕ) → 48 ≤ b → b ≤ 57 → test b ≡ false) → (ns : List ℕ)
-    → AllFit ns → list_any test (spaced ns) ≡ false
-line_fails test space digit [] fit = refl
-line_fails test space digit (n ∷ []) fit = list_any_none test (decimal n) (numeral_fails test digit n fit.0)
-line_fails test space digit (n ∷ m ∷ ns) fit =
-    rw (list_any-append, list_any_none test (decimal n) (numeral_fails test digit n fit.0), space)
-    (line_fails test space digit (m ∷ ns) fit.1)
+  -- and if it fails at a space, at each byte of a line of numbers
+  line_fails : test 32 ≡ false → (ns : List ℕ) → AllFit ns → list_any test (spaced ns) ≡ false
+  line_fails space [] fit = refl
+  line_fails space (n ∷ []) fit = list_any_none test (decimal n) (numeral_fails n fit.0)
+  line_fails space (n ∷ m ∷ ns) fit =
+      rw (list_any-append, list_any_none test (decimal n) (numeral_fails n fit.0), space) (line_fails space (m ∷ ns) fit.1)
 
 no_word_byte : (ns : List ℕ) → AllFit ns → list_any is_word_byte (spaced ns) ≡ false
-no_word_byte = line_fails is_word_byte refl (λ b low high. rw (le-leb 48 b low, le-leb b 57 high))
+no_word_byte = line_fails is_word_byte (λ b low high. grind (arith, nat_tests)) refl
 
 no_line_end : (ns : List ℕ) → AllFit ns → list_any is_line_end (spaced ns) ≡ false
-no_line_end = line_fails is_line_end refl (λ b low high. ne_eqb b 10 (λ e. omega arith))
+no_line_end = line_fails is_line_end (λ b low high. grind (arith, nat_tests)) refl
 
 numeral_run : (n : ℕ) → n < 2 ^ 64 → All (λ b. is_no_digit b ≡ false) (decimal n)
-numeral_run = numeral_fails is_no_digit (λ b low high. rw (le-leb 48 b low, le-leb b 57 high))
+numeral_run = numeral_fails is_no_digit (λ b low high. grind (arith, nat_tests))
 
 -- ---- numbers of a line of numbers
 
@@ -77,9 +76,6 @@ numbers_spaced (n ∷ m ∷ ns) fit =
 
 -- ---- kinds of a line of numbers
 
-line_unmixed : (ns : List ℕ) → AllFit ns → is_mixed (spaced ns) ≡ false
-line_unmixed ns fit = and_right _ _ (no_word_byte ns fit)
-
 number_line : (ns : List ℕ) → 0 < length ns → AllFit ns → is_number_line (spaced ns) ≡ true
 number_line ns some fit =
     grind (arith, numbers_spaced ns fit, no_numbers (spaced ns), no_word_byte ns fit)
@@ -93,10 +89,13 @@ record AreLines (text : List ℕ) (parts : List (List ℕ)) : Type 0 where
 
 more_lines : {line text : List ℕ} {parts : List (List ℕ)} → list_any is_line_end line ≡ false → AreLines text parts
     → AreLines (with_line_end line ++ text) (line ∷ parts)
-more_lines {line} {text} {parts} none are = rw (append_assoc line (10 ∷ []) text) (record {
-  are = rw (lines-line line 10 text none refl, are.are);
-  nothing = rw (open_part-part is_line_end line 10 text none refl) are.nothing;
-})
+more_lines {line} {text} {parts} none are = rw (append_assoc line (10 ∷ []) text) (grind (
+  arith,
+  are.are,
+  are.nothing,
+  lines-line line 10 text none refl,
+  open_part-part is_line_end line 10 text none refl,
+))
 
 -- ---- the rows of a body
 
@@ -113,7 +112,7 @@ module _ (layout : Layout) (shop : FlowShop) (within : IsWithin limits shop) whe
 
   rows_unmixed : (rows : List ℕ) → list_all (λ line. not (is_mixed line)) (map (row_text layout shop) rows) ≡ true
   rows_unmixed [] = refl
-  rows_unmixed (row ∷ rows) = rw (line_unmixed (due_row layout shop row) (fits row), rows_unmixed rows)
+  rows_unmixed (row ∷ rows) = grind (arith, no_word_byte (due_row layout shop row) (fits row), rows_unmixed rows)
 
   rows_numbers : (rows : List ℕ)
       → flat_map numbers (map (row_text layout shop) rows) ≡ flat_map (due_row layout shop) rows
@@ -164,17 +163,6 @@ module _ (layout : Layout) (problem : Problem) (is : IsInstance limits problem) 
         within = is;
       }
 
-  file_is : (text : List ℕ) (own : List (List ℕ)) → AreLines text own → length text ≤ LONGEST_INPUT
-      → IsBlock limits layout problem own → IsInstanceFile limits layout text 1 problem
-  file_is text own are short block = record {
-    text = text;
-    rest = [];
-    whole = sym (append-nil text);
-    ended = inl are.nothing;
-    short = short;
-    blocks = record { earlier = []; own = own; parts = are.are; count = refl; each = tt; is_own = block };
-  }
-
 numbers_fit : (problem : Problem) → IsInstance limits problem → AllFit (size_numbers Taillard (size_of problem))
 numbers_fit problem is = omega arith
 
@@ -185,17 +173,28 @@ texts_fit layout problem is =
     let rows = length-row_lines layout problem.shop is.within in
     omega (arith, length-append (head_lines layout (size_of problem)) (row_lines layout problem.shop))
 
+file_is : (layout : Layout) (problem : Problem) → IsInstance limits problem → (own : List (List ℕ))
+    → AreLines (canonical_text layout problem) own → IsBlock limits layout problem own
+    → IsInstanceFile limits layout (canonical_text layout problem) 1 problem
+file_is layout problem is own are block = record {
+  text = canonical_text layout problem;
+  rest = [];
+  whole = sym (append-nil (canonical_text layout problem));
+  ended = inl are.nothing;
+  short = texts_fit layout problem is;
+  blocks = record { earlier = []; own = own; parts = are.are; count = refl; each = tt; is_own = block };
+}
+
 pub canonical_law : CanonicalLaw
 unfolding canonical_text stated_size numbers
 canonical_law Taillard problem is =
     let sizes : List ℕ = size_numbers Taillard (size_of problem) in
     let fit = numbers_fit problem is in
     let rows = rows_are Taillard problem.shop is.within (below problem.shop.machines) in
-    file_is Taillard problem is (canonical_text Taillard problem) _
+    file_is Taillard problem is _
     (rw (append_assoc (with_line_end (title Taillard)) (with_line_end (spaced sizes) ++ with_line_end times_title))
     (rw (append_assoc (with_line_end (spaced sizes)) (with_line_end times_title))
     (more_lines refl (more_lines (no_line_end sizes fit) (more_lines refl rows)))))
-    (texts_fit Taillard problem is)
     (block_is Taillard problem is (title Taillard) sizes (times_title ∷ []) (problem.shop.machines - 1)
     (omega (arith, is.within.sizes.some_machine)) (omega (arith, is.within.sizes.some_job)) refl fit (omega arith)
     refl refl refl)
@@ -206,10 +205,9 @@ canonical_law OrLib problem is =
     let written : IsInstance limits (as_written OrLib problem) =
     record { within = is.within; seed = omega arith; upper = omega arith; lower = omega arith } in
     let rows = rows_are OrLib problem.shop is.within (below problem.shop.jobs) in
-    file_is OrLib (as_written OrLib problem) written (canonical_text OrLib problem) _
+    file_is OrLib (as_written OrLib problem) written _
     (rw (append_assoc (with_line_end (title OrLib)) (with_line_end (spaced sizes)))
     (more_lines refl (more_lines (no_line_end sizes fit) rows)))
-    (texts_fit OrLib problem is)
     (block_is OrLib (as_written OrLib problem) written (title OrLib) sizes [] (problem.shop.jobs - 1)
     (omega (arith, is.within.sizes.some_job)) (omega (arith, is.within.sizes.some_machine)) refl fit (omega arith)
     refl refl refl)
