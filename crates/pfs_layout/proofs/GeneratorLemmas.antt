@@ -55,21 +55,16 @@ pub drawn_more : (first : ℕ) (before : Problem) (machine jobs seed : ℕ) (now
     (problem_with now jobs machine (drawn_time (16807 * seed % prime)))
 unfolding seed_after
 drawn_more first before machine jobs seed now h j m =
-    let next : ℕ = 16807 * seed % prime in
-    let last : next ≡ seed_after (jobs + 1) first = rw (add-one jobs, h.last) in
+    let last : 16807 * seed % prime ≡ seed_after (jobs + 1) first = rw (add-one jobs, h.last) in
     let every = rw (← h.same.same_jobs, ← h.same.same_machines) at h.same.every_time in
+    let jobs_are = h.same.same_jobs in
+    let machines_are = h.same.same_machines in
     record {
       last = last;
       below = omega arith;
-      same = record {
-        same_jobs = h.same.same_jobs;
-        same_machines = h.same.same_machines;
-        every_time = length-set now.shop.times (jobs * now.shop.machines + machine) (drawn_time next)
-            ∙ h.same.every_time;
-        same_notes = h.same.same_notes;
-      };
-      drawn = λ job k. grind (arith, last, every, h.same.same_jobs, h.same.same_machines, h.drawn, with_time-same, with_time-other);
-      others = λ job other n differ. grind (arith, h.others, h.same.same_machines, with_time-other);
+      same = grind (arith, h.same, length-set {A = ℕ});
+      drawn = λ job k. grind (arith, last, every, jobs_are, machines_are, h.drawn, with_time-same, with_time-other);
+      others = λ job other n differ. grind (arith, machines_are, h.others, with_time-other);
     }
 
 -- the times on so many machines are drawn, the last by this seed
@@ -84,13 +79,7 @@ pub machine_more : (jobs machines first done seed next : ℕ) (now then : Proble
     → DrawnMachines jobs machines first done seed now → done < machines → DrawnSoFar seed now done now.shop.jobs next then
     → DrawnMachines jobs machines first (done + 1) next then
 machine_more jobs machines first done seed next now then h within more =
-    let next_machine : jobs + done * jobs ≡ (done + 1) * jobs = grind arith in
-    record {
-      last = rw (h.same.same_jobs, next_machine) at (more.last ∙ drawn_behind now.shop.jobs);
-      below = more.below;
-      same = rw (h.same.same_jobs, h.same.same_machines, h.same.same_notes) at more.same;
-      drawn = λ job machine j m. grind (arith, more.drawn, more.others, h.drawn, drawn_behind);
-    }
+    grind (arith, drawn_behind, drawn_behind now.shop.jobs)
   where
     drawn_behind : (more : ℕ) → seed_after more seed ≡ seed_after (more + done * jobs) first
     drawn_behind more = rw h.last (sym (seed_after-add more (done * jobs) first))
