@@ -63,9 +63,7 @@ module _ (f : ℕ → ℕ → ℕ) (rows width : ℕ) where
       → ((row column : ℕ) → row < rows → column < width → get_or xs (row * width + column) 0 ≡ f row column)
       → xs ≡ table f rows width
   same_table xs size each = same_number_lists xs (table f rows width) (size ∙ sym length-table) (λ k h.
-      let at = at_row k rows width (omega (arith, size)) in
-      rw at.is (each at.row at.column at.row_in at.column_in
-      ∙ sym (table_at at.row at.column 0 at.row_in at.column_in)))
+      let at = at_row k rows width (omega (arith, size)) in grind (arith, at.is, each, table_at))
 
   pub all_table : (P : ℕ → Type 0) → ((row column : ℕ) → row < rows → column < width → P (f row column))
       → All P (table f rows width)

@@ -38,12 +38,7 @@ split-push : (p : ℕ → Bool) (xs : List ℕ) (b : ℕ)
     → slice_split p (xs ++ b ∷ []) ≡ with_element (p b) b (slice_split p xs)
 split-push p [] b = refl
 split-push p (x ∷ xs) b =
-    let s = split_some p xs in rw (split-push p xs b, s.is) (by_tests (p x) (p b) s.first s.more)
-  where
-    by_tests : (begins ends : Bool) (first : List ℕ) (more : List (List ℕ))
-        → (if begins then [] ∷ with_element ends b (first ∷ more) else onto_first x (with_element ends b (first ∷ more)))
-        ≡ with_element ends b (if begins then [] ∷ first ∷ more else (x ∷ first) ∷ more)
-    by_tests begins ends first more = grind arith
+    let s = split_some p xs in rw (split-push p xs b, s.is) (grind arith)
 
 pub ended_parts-push : (p : ℕ → Bool) (xs : List ℕ) (b : ℕ)
     → ended_parts p (xs ++ b ∷ []) ≡ (if p b then ended_parts p xs ++ open_part p xs ∷ [] else ended_parts p xs)

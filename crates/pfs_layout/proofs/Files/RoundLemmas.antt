@@ -2,6 +2,7 @@
 use Rattle.std.proofs.Common.{◌≡◌, ℕ, ◌*◌, ◌<◌, ◌≤◌, Bool, true, List, length, get_or, sym, ◌∙◌, arith}
 use Rattle.std.specs.List.{All, enumerate_from}
 use Rattle.std.proofs.lemmas.Bool.{eqb-true, leb-true}
+use Rattle.std.proofs.lemmas.Bool.Decides.{nat_tests}
 use Rattle.std.proofs.lemmas.Grind.{same_number_lists}
 use Rattle.std.proofs.lemmas.List.FromFn.{get_or-enumerate_from, length-enumerate_from}
 use Rattle.std.proofs.lemmas.List.Sums.{AllPass-from_list_all}
@@ -72,8 +73,7 @@ due_instance layout block all full =
           rw place (time_due layout (instance_of layout block) job machine j m
           ∙ table_at (stands_at layout block) block.size.jobs block.size.machines job machine 0 j m)
       | a_number machine wanted is ↦
-          let right = due_number layout block.size block.numbers k all (omega (arith, count)) in
-          is ∙ sym (eqb-true (get_or block.numbers k 0) machine (rw wanted at right))
+          grind (arith, nat_tests, is, wanted, full, count, due_number layout block.size block.numbers k all)
     ])
 
 -- ---- a complete block's problem is within the limits

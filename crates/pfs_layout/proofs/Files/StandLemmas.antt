@@ -126,11 +126,7 @@ module _ (layout : Layout) (text : List (List ℕ)) (complete : List Block) (lin
           parts = ap (λ ls. ls ++ line ∷ []) m.fits.parts;
           no_numbers = m.fits.no_numbers;
           size = record { number_line = m.fits.number_line; states = m.fits.states };
-          body = record {
-            front_unmixed = m.fits.unmixed;
-            last_numbers = grind (arith, m.fits.short, no_numbers line, append-nil block.numbers);
-            holds = rw m.fits.holds (sym (due_instance layout (with_line block line) right whole));
-          };
+          body = grind (arith, due_instance layout (with_line block line) right whole, no_numbers line, append-nil {A = ℕ});
           within = instance_within layout (with_line block line) m.fits.within right whole;
         });
         fits = refl;

@@ -27,9 +27,8 @@ returns-in_err-sent g c =
     let head = rw (c.jobs-jobs.ensures.value, c.machines-machines.ensures.value, c.notes-notes.ensures) at
     c.in_err-sent.ensures in
     let front = front_of (row_lines c.args.layout c.args.instance.now.shop) head in
-    let answer : c.from_residual.result ≡ Err c.in_err-sent.field-0.0 = search rules in
     let whole = front_of_whole _ _ _ _ _ front in
-    rw answer (record { text = tt; working = tt; failed = front.stopped; within = whole.0; front = whole.1 })
+    search rules
 
 pub returns-in_err-put_rows : goal.returns-in_err-put_rows
 unfolding canonical_text
@@ -37,9 +36,8 @@ returns-in_err-put_rows g c =
     let head = rw (c.jobs-jobs.ensures.value, c.machines-machines.ensures.value, c.notes-notes.ensures) at
     c.in_ok-sent.ensures in
     let front = then_front head c.in_err-put_rows.ensures in
-    let answer : c.from_residual-in_err-put_rows.result ≡ Err c.in_err-put_rows.field-0.0 = search rules in
     let whole = front_of_whole _ _ _ _ _ front in
-    rw answer (record { text = tt; working = tt; failed = front.stopped; within = whole.0; front = whole.1 })
+    search rules
 
 pub returns-clause-text : goal.returns-clause-text
 unfolding canonical_text
