@@ -1,6 +1,6 @@
 -- Which lines lead to complete blocks.
 use Rattle.std.proofs.Common.{◌≡◌, ℕ, true, false, not, List, [], ◌∷◌, ◌++◌, length, flat_map}
-use Rattle.std.proofs.Common.{refl, sym, ap, arith, Some, ◌==◌, inl, inr}
+use Rattle.std.proofs.Common.{refl, ap, arith, Some, ◌==◌, inl, inr}
 use Rattle.std.specs.List.{list_any, list_all, AllZip}
 use Rattle.std.proofs.lemmas.Bool.{cases_Bool, eqb-false, or_parts}
 use Rattle.std.proofs.Math.Nat.{mul-le-mul}

@@ -1,4 +1,4 @@
-use Rattle.std.proofs.Common.{ℕ, ◌≡◌, refl, arith, ◌*◌, sym, ap, ◌∙◌}
+use Rattle.std.proofs.Common.{ℕ, ◌≡◌, arith}
 use Rattle.std.proofs.lemmas.List.{length-replicate}
 use Rattle.pfs_layout.specs.Generator.{seed_after}
 use Rattle.pfs_layout.proofs.GeneratorLemmas.{DrawnSoFar, machine_more, drawn_all}

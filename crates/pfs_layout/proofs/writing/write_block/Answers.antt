@@ -1,4 +1,4 @@
-use Rattle.std.proofs.Common.{rules, ◌≡◌, Err, arith}
+use Rattle.std.proofs.Common.{rules, arith}
 use Rattle.pfs_base.proofs.Published.SendsLemmas.{then_all, then_front, front_of}
 use Rattle.pfs_base.proofs.Published.SendsOn.{front_of_whole}
 use Rattle.pfs_layout.specs.CanonicalText.{canonical_text, row_lines}
