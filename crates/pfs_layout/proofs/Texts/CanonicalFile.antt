@@ -87,39 +87,35 @@ record AreLines (text : List ℕ) (parts : List (List ℕ)) : Type 0 where
 
 more_lines : {line text : List ℕ} {parts : List (List ℕ)} → list_any is_line_end line ≡ false → AreLines text parts
     → AreLines (with_line_end line ++ text) (line ∷ parts)
-more_lines {line} {text} {parts} none are = rw (append_assoc line (10 ∷ []) text) (grind (
-  arith,
-  are.are,
-  are.nothing,
-  lines-line line 10 text none refl,
-  open_part-part is_line_end line 10 text none refl,
-))
+more_lines {line} {text} {parts} none are =
+    let first = lines-line line 10 text none refl in
+    let behind = open_part-part is_line_end line 10 text none refl in
+    rw (append_assoc line (10 ∷ []) text) (grind (arith, are.are, are.nothing))
 
--- ---- the rows of a body
+-- ---- the lines of a text
 
 abbrev row_text : Layout → FlowShop → ℕ → List ℕ
 row_text layout shop row = spaced (due_row layout shop row)
 
-module _ (layout : Layout) (shop : FlowShop) (within : IsWithin limits shop) where
-  fits : (row : ℕ) → AllFit (due_row layout shop row)
-  fits row = row_fits layout shop row within
+module _ (layout : Layout) (problem : Problem) (is : IsInstance limits problem) where
+  fits : (row : ℕ) → AllFit (due_row layout problem.shop row)
+  fits row = row_fits layout problem.shop row is.within
 
-  rows_are : (rows : List ℕ) → AreLines (flat_map (row_line layout shop) rows) (map (row_text layout shop) rows)
+  rows_are : (rows : List ℕ)
+      → AreLines (flat_map (row_line layout problem.shop) rows) (map (row_text layout problem.shop) rows)
   rows_are [] = record { are = lines-none; nothing = open_line-none }
-  rows_are (row ∷ rows) = more_lines (no_line_end (due_row layout shop row) (fits row)) (rows_are rows)
+  rows_are (row ∷ rows) = more_lines (no_line_end (due_row layout problem.shop row) (fits row)) (rows_are rows)
 
-  rows_unmixed : (rows : List ℕ) → list_all (λ line. not (is_mixed line)) (map (row_text layout shop) rows) ≡ true
+  rows_unmixed : (rows : List ℕ)
+      → list_all (λ line. not (is_mixed line)) (map (row_text layout problem.shop) rows) ≡ true
   rows_unmixed [] = refl
-  rows_unmixed (row ∷ rows) = grind (arith, no_word_byte (due_row layout shop row) (fits row), rows_unmixed rows)
+  rows_unmixed (row ∷ rows) = grind (arith, no_word_byte (due_row layout problem.shop row) (fits row), rows_unmixed rows)
 
   rows_numbers : (rows : List ℕ)
-      → flat_map numbers (map (row_text layout shop) rows) ≡ flat_map (due_row layout shop) rows
+      → flat_map numbers (map (row_text layout problem.shop) rows) ≡ flat_map (due_row layout problem.shop) rows
   rows_numbers [] = refl
-  rows_numbers (row ∷ rows) = rw (numbers_spaced (due_row layout shop row) (fits row), rows_numbers rows)
+  rows_numbers (row ∷ rows) = rw (numbers_spaced (due_row layout problem.shop row) (fits row), rows_numbers rows)
 
--- ---- the whole text
-
-module _ (layout : Layout) (problem : Problem) (is : IsInstance limits problem) where
   -- a title, a size line, lines without numbers, and the rows
   abbrev with_rows : List ℕ → List ℕ → List (List ℕ) → List (List ℕ)
   with_rows heading sizes between =
@@ -132,6 +128,9 @@ module _ (layout : Layout) (problem : Problem) (is : IsInstance limits problem) 
   unfolding due
   block_is heading sizes between n rows columns plain fit some states unmixed none =
       let row : ℕ → List ℕ = row_text layout problem.shop in
+      let last : List ℕ = due_row layout problem.shop n in
+      let joined = flat_map-append numbers between (map row (below n)) in
+      let all_rows = flat_map_more (due_row layout problem.shop) n in
       record {
         skipped = heading ∷ [];
         size_line = spaced sizes;
@@ -140,23 +139,11 @@ module _ (layout : Layout) (problem : Problem) (is : IsInstance limits problem) 
         parts =
             rw (rows, map-range_with_len_more row 0 n n (omega arith), append_assoc between (map row (below n)));
         no_numbers = rw plain;
-        size = record {
-          number_line = number_line sizes some fit;
-          states = rw (numbers_spaced sizes fit) states;
-        };
+        size = grind (arith, number_line sizes some fit, numbers_spaced sizes fit);
         body = record {
-          front_unmixed = rw (list_all-append, unmixed) (rows_unmixed layout problem.shop is.within (below n));
-          last_numbers = number_line (due_row layout problem.shop n)
-              (omega (arith, length-due_row layout problem.shop n)) (fits layout problem.shop is.within n);
-          holds = rw (
-            flat_map-append numbers between (map row (below n)),
-            none,
-            rows_numbers layout problem.shop is.within (below n),
-            numbers_spaced (due_row layout problem.shop n) (fits layout problem.shop is.within n),
-            rows,
-            add-one,
-          )
-              (sym (flat_map_more (due_row layout problem.shop) n));
+          front_unmixed = rw (list_all-append, unmixed) (rows_unmixed (below n));
+          last_numbers = number_line last (omega (arith, length-due_row layout problem.shop n)) (fits n);
+          holds = rw (joined, none, rows_numbers (below n), numbers_spaced last (fits n), rows, add-one) (sym all_rows);
         };
         within = is;
       }
@@ -188,7 +175,7 @@ unfolding canonical_text stated_size numbers
 canonical_law Taillard problem is =
     let sizes : List ℕ = size_numbers Taillard (size_of problem) in
     let fit = numbers_fit problem is in
-    let rows = rows_are Taillard problem.shop is.within (below problem.shop.machines) in
+    let rows = rows_are Taillard problem is (below problem.shop.machines) in
     file_is Taillard problem is _
     (rw (append_assoc (with_line_end (title Taillard)) (with_line_end (spaced sizes) ++ with_line_end times_title))
     (rw (append_assoc (with_line_end (spaced sizes)) (with_line_end times_title))
@@ -202,7 +189,7 @@ canonical_law OrLib problem is =
     let fit : AllFit sizes = (all.0, (all.1.0, tt)) in
     let written : IsInstance limits (as_written OrLib problem) =
     record { within = is.within; seed = omega arith; upper = omega arith; lower = omega arith } in
-    let rows = rows_are OrLib problem.shop is.within (below problem.shop.jobs) in
+    let rows = rows_are OrLib (as_written OrLib problem) written (below problem.shop.jobs) in
     file_is OrLib (as_written OrLib problem) written _
     (rw (append_assoc (with_line_end (title OrLib)) (with_line_end (spaced sizes)))
     (more_lines refl (more_lines (no_line_end sizes fit) rows)))

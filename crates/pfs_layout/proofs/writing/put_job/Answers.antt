@@ -46,12 +46,10 @@ loop-machine-preserved g c =
 
 pub put-requires-clause-fits : goal.put-requires-clause-fits
 put-requires-clause-fits g c =
-    let shop = c.args.instance.now.shop in
-    let ends = row_ends OrLib shop c.args.job (2 * c.loop-machine.machine) (omega arith) in
+    let ends = row_ends OrLib c.args.instance.now.shop c.args.job (2 * c.loop-machine.machine) (omega arith) in
     last_fits _ _ _ c.args.sent c.loop-machine.reached _ _ (10 ∷ []) ends c.loop-machine.invariant c.requires.fits
 
 pub returns : goal.returns
 returns g c =
-    let shop = c.args.instance.now.shop in
-    let ends = row_ends OrLib shop c.args.job (2 * c.loop-machine.machine) (omega arith) in
+    let ends = row_ends OrLib c.args.instance.now.shop c.args.job (2 * c.loop-machine.machine) (omega arith) in
     last_sends _ _ _ _ _ c.args.sent c.loop-machine.reached _ _ (10 ∷ []) _ ends c.loop-machine.invariant c.put.ensures

@@ -25,12 +25,10 @@ loop-job-preserved g c =
 
 pub put-requires-clause-fits : goal.put-requires-clause-fits
 put-requires-clause-fits g c =
-    let shop = c.args.instance.now.shop in
-    let ends = row_ends Taillard shop c.args.machine c.loop-job.job (omega arith) in
+    let ends = row_ends Taillard c.args.instance.now.shop c.args.machine c.loop-job.job (omega arith) in
     last_fits _ _ _ c.args.sent c.loop-job.reached _ _ (10 ∷ []) ends c.loop-job.invariant c.requires.fits
 
 pub returns : goal.returns
 returns g c =
-    let shop = c.args.instance.now.shop in
-    let ends = row_ends Taillard shop c.args.machine c.loop-job.job (omega arith) in
+    let ends = row_ends Taillard c.args.instance.now.shop c.args.machine c.loop-job.job (omega arith) in
     last_sends _ _ _ _ _ c.args.sent c.loop-job.reached _ _ (10 ∷ []) _ ends c.loop-job.invariant c.put.ensures
