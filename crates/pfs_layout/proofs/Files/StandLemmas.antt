@@ -1,7 +1,7 @@
 -- Which lines lead to complete blocks.
 use Rattle.std.proofs.Common.{◌≡◌, ℕ, true, false, not, List, [], ◌∷◌, ◌++◌, length, flat_map}
-use Rattle.std.proofs.Common.{refl, ap, arith, Some, ◌==◌, inl, inr}
-use Rattle.std.specs.List.{list_any, list_all, AllZip}
+use Rattle.std.proofs.Common.{sym, refl, ap, arith, Some, ◌==◌, inl, inr}
+use Rattle.std.specs.List.{list_any, list_all}
 use Rattle.std.proofs.lemmas.Bool.{cases_Bool, eqb-false, or_parts}
 use Rattle.std.proofs.Math.Nat.{mul-le-mul}
 use Rattle.std.proofs.lemmas.List.{append_assoc, append-nil}
@@ -51,25 +51,25 @@ Fits layout seeking tail = list_all (λ line. not (is_number_line line)) tail �
 Fits layout (inside block) tail = IsBegun layout block tail
 Fits layout lost tail = Unit {0}
 
--- the lines of each complete block
-abbrev pub AreOf : Layout → List (List (List ℕ)) → List Block → Type 0
-AreOf layout blocks complete =
-    AllZip (λ lines block. IsBlock limits layout (instance_of layout block) lines) blocks complete
+-- lines are those of complete blocks, one behind the other
+abbrev pub AreOf : Layout → List Block → List (List ℕ) → Type 0
+AreOf layout [] text = text ≡ []
+AreOf layout (block ∷ more) text = (own : List (List ℕ)) × (rest : List (List ℕ)) × (text ≡ own ++ rest)
+    × IsBlock limits layout (instance_of layout block) own × AreOf layout more rest
 
-AreOf-push : (layout : Layout) (all : List (List (List ℕ))) (blocks : List Block) (lines : List (List ℕ))
-    (block : Block) → AreOf layout all blocks → IsBlock limits layout (instance_of layout block) lines
-    → AreOf layout (all ++ lines ∷ []) (blocks ++ block ∷ [])
-AreOf-push layout [] [] lines block are is = (is, tt)
-AreOf-push layout [] (b ∷ blocks) lines block are is = absurd are
-AreOf-push layout (l ∷ all) [] lines block are is = absurd are
-AreOf-push layout (l ∷ all) (b ∷ blocks) lines block are is = (are.0, AreOf-push layout all blocks lines block are.1 is)
+AreOf-push : (layout : Layout) (complete : List Block) (text own : List (List ℕ)) (block : Block)
+    → AreOf layout complete text → IsBlock limits layout (instance_of layout block) own
+    → AreOf layout (complete ++ block ∷ []) (text ++ own)
+AreOf-push layout [] text own block are is = (own, [], rw are (sym (append-nil own)), is, refl)
+AreOf-push layout (first ∷ more) text own block are is =
+    (are.0, are.1 ++ own, rw are.2 (append_assoc are.0 are.1 own), are.3, AreOf-push layout more are.1 own block are.4 is)
 
 -- lines are those of the complete blocks, and what fits where they lead
 pub record IsMade (layout : Layout) (text : List (List ℕ)) (reached : Stand) : Type 0 where
-  pub blocks : List (List (List ℕ))
+  pub front : List (List ℕ)
   pub tail : List (List ℕ)
-  pub parts : text ≡ flat_map (λ block. block) blocks ++ tail
-  pub each : AreOf layout blocks reached.complete
+  pub parts : text ≡ front ++ tail
+  pub each : AreOf layout reached.complete front
   pub fits : Fits layout reached.now tail
 
 -- some number is due
@@ -82,9 +82,9 @@ module _ (layout : Layout) (text : List (List ℕ)) (complete : List Block) (lin
   grown : {now : Now} (next : Now) (m : IsMade layout text (standing complete now))
       → Fits layout next (m.tail ++ line ∷ []) → IsMade layout (text ++ line ∷ []) (standing complete next)
   grown next m fits = record {
-    blocks = m.blocks;
+    front = m.front;
     tail = m.tail ++ line ∷ [];
-    parts = rw m.parts (append_assoc (flat_map (λ block. block) m.blocks) m.tail (line ∷ []));
+    parts = rw m.parts (append_assoc m.front m.tail (line ∷ []));
     each = m.each;
     fits = fits;
   }
@@ -115,10 +115,10 @@ module _ (layout : Layout) (text : List (List ℕ)) (complete : List Block) (lin
   finished block m unmixed right whole =
       let own : List (List ℕ) = m.tail ++ line ∷ [] in
       record {
-        blocks = m.blocks ++ own ∷ [];
+        front = m.front ++ own;
         tail = [];
-        parts = rw (m.parts, flat_map-append (λ block. block) m.blocks (own ∷ [])) (simp (append_assoc, append-nil));
-        each = AreOf-push layout m.blocks complete own (with_line block line) m.each (record {
+        parts = rw m.parts (simp (append_assoc, append-nil));
+        each = AreOf-push layout complete m.front own (with_line block line) m.each (record {
           skipped = m.fits.skipped;
           size_line = m.fits.size_line;
           front = m.fits.front;
@@ -162,6 +162,6 @@ module _ (layout : Layout) (text : List (List ℕ)) (complete : List Block) (lin
 pub made : (layout : Layout) (text : List (List ℕ)) → IsMade layout text (stand layout text)
 unfolding stand stand_after
 made layout = by_push (λ text. IsMade layout text (stand layout text))
-    (record { blocks = []; tail = []; parts = refl; each = tt; fits = refl })
+    (record { front = []; tail = []; parts = refl; each = refl; fits = refl })
     (λ text line m. rw (stand-push layout text line)
     (by_now layout text (stand layout text).complete line (stand layout text).now m))
