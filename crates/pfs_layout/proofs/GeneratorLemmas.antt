@@ -45,14 +45,10 @@ pub record DrawnSoFar (first : ℕ) (before : Problem) (machine jobs seed : ℕ)
   pub others : (job other : ℕ) → other < before.shop.machines → other ≢ machine
       → time_of now.shop job other ≡ time_of before.shop job other
 
--- the problem with another time
-abbrev pub problem_with : Problem → ℕ → ℕ → ℕ → Problem
-problem_with now job machine time = record now { shop = with_time now.shop job machine time }
-
 pub drawn_more : (first : ℕ) (before : Problem) (machine jobs seed : ℕ) (now : Problem)
     → DrawnSoFar first before machine jobs seed now → jobs < before.shop.jobs → machine < before.shop.machines
     → DrawnSoFar first before machine (jobs + 1) (16807 * seed % prime)
-    (problem_with now jobs machine (drawn_time (16807 * seed % prime)))
+    (record now { shop = with_time now.shop jobs machine (drawn_time (16807 * seed % prime)) })
 unfolding seed_after
 drawn_more first before machine jobs seed now h j m =
     let last : 16807 * seed % prime ≡ seed_after (jobs + 1) first = rw (add-one jobs, h.last) in

@@ -105,10 +105,3 @@ blocks_lead layout complete problem (block ∷ earlier) own each b =
           )
           (rw more.end (simp append_assoc)));
     }
-
--- the lines of k blocks lead to k complete ones, of which the last is the instance's
-pub file_leads : (layout : Layout) (k : ℕ) (problem : Problem) (text : List (List ℕ))
-    → AreBlocks limits layout k problem text → LeadsTo layout [] problem k text
-unfolding stand_after
-file_leads layout k problem text a =
-    rw (a.parts, ← a.count) (blocks_lead layout [] problem a.earlier a.own a.each a.is_own)

@@ -6,18 +6,19 @@ use Rattle.pfs_base.specs.Problem.{Problem}
 use Rattle.pfs_layout.specs.declared.layout.Layout.{Layout}
 use Rattle.pfs_layout.specs.Lines.{lines}
 use Rattle.pfs_layout.specs.File.{AreBlocks, IsInstanceFile}
-use Rattle.pfs_layout.specs.Stand.{Block, completed, stand, instance_of}
+use Rattle.pfs_layout.specs.Stand.{Block, completed, stand, stand_after, instance_of}
 use Rattle.pfs_layout.specs.Laws.{Completes, FileStands}
-use Rattle.pfs_layout.proofs.Files.BlockLemmas.{file_leads}
+use Rattle.pfs_layout.proofs.Files.BlockLemmas.{blocks_lead}
 use Rattle.pfs_layout.proofs.Files.CutLemmas.{front_of_lines}
 use Rattle.pfs_layout.proofs.Files.RoundLemmas.{block_of, instance_due}
 use Rattle.pfs_layout.proofs.Files.StandLemmas.{AreOf, IsMade, made}
 
 pub file_completes : (layout : Layout) (input : List ℕ) (k : ℕ) (problem : Problem)
     → IsInstanceFile limits layout input k problem → Completes layout input k problem
-unfolding stand
+unfolding stand stand_after
 file_completes layout input k problem f =
-    let lead = file_leads layout k problem (lines f.text) f.blocks in
+    let blocks = f.blocks in
+    let lead = blocks_lead layout [] problem blocks.earlier blocks.own blocks.each blocks.is_own in
     record {
       text = f.text;
       rest = f.rest;
@@ -26,9 +27,9 @@ file_completes layout input k problem f =
       short = f.short;
       earlier = lead.before;
       own = block_of layout problem;
-      count = lead.as_many;
-      stands = lead.end;
-      is = sym (instance_due layout problem f.blocks.is_own.within.within.every_time);
+      count = rw blocks.count at lead.as_many;
+      stands = rw blocks.parts lead.end;
+      is = sym (instance_due layout problem blocks.is_own.within.within.every_time);
     }
 
 -- ---- and back

@@ -47,21 +47,16 @@ unfolding stand_after
 stays_lost layout before [] e = e
 stays_lost layout before (line ∷ text) e = stays_lost layout (stand_after layout before line) text (rw e)
 
-more_after : (layout : Layout) (text : List ℕ) (b : ℕ)
-    → length (stand_of layout text).complete ≤ length (stand_of layout (text ++ b ∷ [])).complete
-unfolding stand_after
-more_after layout text b =
-    let before : Stand = stand_of layout text in
-    let stays = complete_stays layout before.complete before.now (open_line text) in
-    grind (arith, stand_of-end, stand_of-on)
-
 -- the complete blocks of a text are no more than those of a longer one
 pub fewer_before : (layout : Layout) (text more : List ℕ)
     → length (stand_of layout text).complete ≤ length (stand_of layout (text ++ more)).complete
+unfolding stand_after
 fewer_before layout text =
     by_push (λ more. length (stand_of layout text).complete ≤ length (stand_of layout (text ++ more)).complete)
-    (rw (append-nil text) (omega arith))
-    (λ more b h. rw (← append_assoc text more (b ∷ [])) (omega (arith, h, more_after layout (text ++ more) b)))
+    (rw (append-nil text) (omega arith)) (λ more b h.
+    let before : Stand = stand_of layout (text ++ more) in
+    let stays = complete_stays layout before.complete before.now (open_line (text ++ more)) in
+    rw (← append_assoc text more (b ∷ [])) (grind (arith, h, stand_of-end, stand_of-on)))
 
 -- ---- a text from one of its places on
 

@@ -72,11 +72,6 @@ pub record IsMade (layout : Layout) (text : List (List ℕ)) (reached : Stand) :
   pub each : AreOf layout reached.complete front
   pub fits : Fits layout reached.now tail
 
--- some number is due
-some_due : (layout : Layout) (size : Size) → is_within_limits size ≡ true → 0 ≡ due_count layout size → ⊥
-some_due layout size e h =
-    let sizes = (size_within size e).sizes in grind (arith, mul-le-mul sizes.some_job sizes.some_machine)
-
 module _ (layout : Layout) (text : List (List ℕ)) (complete : List Block) (line : List ℕ) where
   -- one more line behind the complete blocks
   grown : {now : Now} (next : Now) (m : IsMade layout text (standing complete now))
@@ -93,7 +88,10 @@ module _ (layout : Layout) (text : List (List ℕ)) (complete : List Block) (lin
   began : (m : IsMade layout text (standing complete seeking)) (size : Size)
       → stated_size layout (numbers line) ≡ Some size → is_number_line line ≡ true → is_within_limits size ≡ true
       → IsMade layout (text ++ line ∷ []) (standing complete (inside (begun size)))
-  began m size states numbered within = grown (inside (begun size)) m (record {
+  began m size states numbered within =
+      let sizes = (size_within size within).sizes in
+      let some = mul-le-mul sizes.some_job sizes.some_machine in
+      grown (inside (begun size)) m (record {
     skipped = m.tail;
     size_line = line;
     front = [];
@@ -104,7 +102,7 @@ module _ (layout : Layout) (text : List (List ℕ)) (complete : List Block) (lin
     within = within;
     unmixed = refl;
     holds = refl;
-    short = some_due layout size within;
+    short = λ none. grind (arith, some);
   })
 
   finished : (block : Block) → IsMade layout text (standing complete (inside block)) → is_mixed line ≡ false

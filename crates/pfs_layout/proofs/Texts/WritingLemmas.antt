@@ -28,17 +28,12 @@ NextNumber layout shop row place number =
     GoesOn (row_line layout shop row) (row_begun layout shop row place) (entry place number)
     (row_begun layout shop row (place + 1))
 
-number_on : (layout : Layout) (shop : FlowShop) (row place : ℕ) → place < row_width layout shop
-    → NextNumber layout shop row place (get_or (due_row layout shop row) place 0)
-number_on layout shop row place within =
-    line_on (due_row layout shop row) place (omega (arith, length-due_row layout shop row))
-
 pub time_on : (shop : FlowShop) (machine job : ℕ) → job < shop.jobs
     → NextNumber Taillard shop machine job (time_of shop job machine)
 unfolding due_row
 time_on shop machine job within =
     let time = get_or-map-range_with_len (λ i. time_of shop i machine) 0 shop.jobs job job 0 within (omega arith) in
-    rw time at (number_on Taillard shop machine job within)
+    rw time at (line_on (due_row Taillard shop machine) job (omega (arith, length-due_row Taillard shop machine)))
 
 -- the number of a machine, or its time
 pair_on : (shop : FlowShop) (job machine column : ℕ) → machine < shop.machines → column < 2
@@ -47,7 +42,8 @@ unfolding due_row
 pair_on shop job machine column row_in column_in =
     let place : machine * 2 + column ≡ 2 * machine + column = omega arith in
     let number = rows_at (pairs_of shop job) 2 (λ i. refl) shop.machines machine column 0 row_in column_in in
-    rw (rw place at number) at (number_on OrLib shop job (2 * machine + column) (omega arith))
+    rw (rw place at number) at
+    (line_on (due_row OrLib shop job) (2 * machine + column) (omega (arith, length-due_row OrLib shop job)))
 
 pub machine_on : (shop : FlowShop) (job machine : ℕ) → machine < shop.machines
     → NextNumber OrLib shop job (2 * machine) machine
