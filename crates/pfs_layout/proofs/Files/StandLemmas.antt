@@ -31,11 +31,9 @@ no_numbers (b ∷ line) none =
 
 -- ---- lines that are made of blocks
 
--- a block that is begun and not complete, by its lines
-pub record IsBegun (layout : Layout) (block : Block) (tail : List (List ℕ)) : Type 0 where
-  pub skipped : List (List ℕ)
-  pub size_line : List ℕ
-  pub front : List (List ℕ)
+-- skipped lines, a size line, and lines that hold the block's numbers so far
+pub record Opens (layout : Layout) (block : Block) (skipped : List (List ℕ)) (size_line : List ℕ)
+    (front tail : List (List ℕ)) : Type 0 where
   pub parts : tail ≡ skipped ++ size_line ∷ front
   pub no_numbers : list_all (λ line. not (is_number_line line)) skipped ≡ true
   pub number_line : is_number_line size_line ≡ true
@@ -43,6 +41,13 @@ pub record IsBegun (layout : Layout) (block : Block) (tail : List (List ℕ)) : 
   pub within : is_within_limits block.size ≡ true
   pub unmixed : list_all (λ line. not (is_mixed line)) front ≡ true
   pub holds : flat_map numbers front ≡ block.numbers
+
+-- a block that is begun and not complete, by its lines
+pub record IsBegun (layout : Layout) (block : Block) (tail : List (List ℕ)) : Type 0 where
+  pub skipped : List (List ℕ)
+  pub size_line : List ℕ
+  pub front : List (List ℕ)
+  pub opens : Opens layout block skipped size_line front tail
   pub short : length block.numbers ≡ due_count layout block.size → ⊥
 
 -- what the lines behind the last complete block are
@@ -92,18 +97,12 @@ module _ (layout : Layout) (text : List (List ℕ)) (complete : List Block) (lin
       let sizes = (size_within size within).sizes in
       let some = mul-le-mul sizes.some_job sizes.some_machine in
       grown (inside (begun size)) m (record {
-    skipped = m.tail;
-    size_line = line;
-    front = [];
-    parts = refl;
-    no_numbers = m.fits;
-    number_line = numbered;
-    states = states;
-    within = within;
-    unmixed = refl;
-    holds = refl;
-    short = λ none. grind (arith, some);
-  })
+        skipped = m.tail;
+        size_line = line;
+        front = [];
+        opens = grind (arith, m.fits);
+        short = λ none. grind (arith, some);
+      })
 
   finished : (block : Block) → IsMade layout text (standing complete (inside block)) → is_mixed line ≡ false
       → are_due layout block.size (with_line block line).numbers ≡ true
@@ -121,11 +120,11 @@ module _ (layout : Layout) (text : List (List ℕ)) (complete : List Block) (lin
           size_line = m.fits.size_line;
           front = m.fits.front;
           last = line;
-          parts = ap (λ ls. ls ++ line ∷ []) m.fits.parts;
-          no_numbers = m.fits.no_numbers;
-          size = record { number_line = m.fits.number_line; states = m.fits.states };
+          parts = ap (λ ls. ls ++ line ∷ []) m.fits.opens.parts;
+          no_numbers = m.fits.opens.no_numbers;
+          size = grind (arith, m.fits.opens);
           body = grind (arith, due_instance layout (with_line block line) right whole, no_numbers line, append-nil {A = ℕ});
-          within = instance_within layout (with_line block line) m.fits.within right whole;
+          within = instance_within layout (with_line block line) m.fits.opens.within right whole;
         });
         fits = refl;
       }
@@ -133,19 +132,16 @@ module _ (layout : Layout) (text : List (List ℕ)) (complete : List Block) (lin
   unfinished : (block : Block) (m : IsMade layout text (standing complete (inside block))) → is_mixed line ≡ false
       → (length (with_line block line).numbers == due_count layout block.size) ≡ false
       → IsMade layout (text ++ line ∷ []) (standing complete (inside (with_line block line)))
-  unfinished block m unmixed short = grown (inside (with_line block line)) m (record {
-    skipped = m.fits.skipped;
-    size_line = m.fits.size_line;
-    front = m.fits.front ++ line ∷ [];
-    parts = rw m.fits.parts (append_assoc m.fits.skipped (m.fits.size_line ∷ m.fits.front) (line ∷ []));
-    no_numbers = m.fits.no_numbers;
-    number_line = m.fits.number_line;
-    states = m.fits.states;
-    within = m.fits.within;
-    unmixed = rw (list_all-append, m.fits.unmixed, unmixed);
-    holds = rw (flat_map-append numbers m.fits.front (line ∷ []), m.fits.holds, append-nil (numbers line));
-    short = eqb-false (length (with_line block line).numbers) (due_count layout block.size) short;
-  })
+  unfinished block m unmixed short =
+      let more_lines = append_assoc m.fits.skipped (m.fits.size_line ∷ m.fits.front) (line ∷ []) in
+      let more_numbers = flat_map-append numbers m.fits.front (line ∷ []) in
+      grown (inside (with_line block line)) m (record {
+        skipped = m.fits.skipped;
+        size_line = m.fits.size_line;
+        front = m.fits.front ++ line ∷ [];
+        opens = grind (arith, m.fits.opens, list_all-append {X = List ℕ}, append-nil {A = ℕ});
+        short = eqb-false (length (with_line block line).numbers) (due_count layout block.size) short;
+      })
 
   by_now : (now : Now) → IsMade layout text (standing complete now)
       → IsMade layout (text ++ line ∷ []) (after_line layout complete now line)
