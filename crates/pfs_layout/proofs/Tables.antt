@@ -30,13 +30,12 @@ pub record IsAt (k rows width : ℕ) : Type 0 where
 pub at_row : (k rows width : ℕ) → k < rows * width → IsAt k rows width
 at_row k rows w h =
     let some : 0 < w = grind arith in
-    let e : w * (k / w) + k % w ≡ k = omega arith in
     record {
       row = k / w;
       column = k % w;
       row_in = (div-lt_iff_lt-mul some).1 h;
       column_in = mod-lt k some;
-      is = grind (arith, e);
+      is = omega arith;
     }
 
 -- what a function gives at each row and column

@@ -121,7 +121,7 @@ pub due_passes : (layout : Layout) (problem : Problem) → All (λ time. time �
 due_passes layout problem within = are_due_by_place layout (size_of problem) (due layout problem.shop) (λ k h.
     elim (place_is layout problem k (omega (arith, length-due layout problem))) [
       | a_time job machine j m place ↦
-          rw (place, due_time layout (size_of problem) job machine j m, time_due layout problem job machine j m)
-          (le-leb (time_of problem.shop job machine) LONGEST_TIME (short_at problem.shop.times within _))
+          let short = short_at problem.shop.times within (job * problem.shop.machines + machine) in
+          grind (arith, nat_tests, place, due_time, time_due layout problem job machine)
       | a_number machine wanted is ↦ rw (wanted, is) (eq-eqb machine machine refl)
     ])

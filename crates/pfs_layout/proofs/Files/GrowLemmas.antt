@@ -64,16 +64,13 @@ pub no_end : (text : List ℕ) → list_any is_line_end (open_line text) ≡ fal
 no_end = by_push (λ text. list_any is_line_end (open_line text) ≡ false) (rw open_line-none)
     (λ text b h. grind (arith, open_part-push, list_any-append {X = ℕ}))
 
-ended_lines-none : ended_lines [] ≡ []
-unfolding ended_parts
-ended_lines-none = refl
-
 -- the lines of a text are those that are ended before a place, and those of the line there and what follows
 pub lines_from : (before after : List ℕ)
     → lines (before ++ after) ≡ ended_lines before ++ lines (open_line before ++ after)
+unfolding ended_parts
 lines_from =
     by_push (λ before. (after : List ℕ) → lines (before ++ after) ≡ ended_lines before ++ lines (open_line before ++ after))
-    (λ after. rw (ended_lines-none, open_line-none)) (λ before b h after.
+    (λ after. rw open_line-none) (λ before b h after.
     rw (append_assoc before (b ∷ []) after, h (b ∷ after), ended_parts-push is_line_end before b)
     (grind (arith, open_part-push, lines-line, no_end, append_assoc {A = ℕ}, append_assoc {A = List ℕ})))
 

@@ -87,8 +87,8 @@ times_short layout block all full =
     (λ job machine j m.
     let place : ℕ = place_of_time layout block.size job machine in
     let within = place_within layout block.size job machine j m in
-    let right = due_number layout block.size block.numbers place all (omega arith) in
-    leb-true (get_or block.numbers place 0) LONGEST_TIME (rw (due_time layout block.size job machine j m) at right))
+    let time = due_time layout block.size job machine j m in
+    grind (arith, nat_tests, full, due_number layout block.size block.numbers place all))
 
 pub instance_within : (layout : Layout) (block : Block) → is_within_limits block.size ≡ true
     → are_due layout block.size block.numbers ≡ true → length block.numbers ≡ due_count layout block.size
