@@ -13,9 +13,9 @@ use Rattle.pfs_layout.proofs.Tables.{length-table, same_table, all_table}
 -- so many draws, and then so many more
 pub seed_after-add : (more draws seed : ℕ) → seed_after (more + draws) seed ≡ seed_after more (seed_after draws seed)
 unfolding seed_after
-seed_after-add zero draws seed = let e : 0 + draws ≡ draws = omega arith in rw e
+seed_after-add zero draws seed = grind arith
 seed_after-add (suc more) draws seed =
-    let e : suc more + draws ≡ suc (more + draws) = omega arith in rw (e, seed_after-add more draws seed)
+    let next : suc more + draws ≡ suc (more + draws) = omega arith in rw (next, seed_after-add more draws seed)
 
 -- a time that was set
 pub with_time-same : (shop : FlowShop) (job machine time : ℕ) → length shop.times ≡ shop.jobs * shop.machines
@@ -78,7 +78,7 @@ machine_more jobs machines first done seed next now then h within more =
     grind (arith, drawn_behind, drawn_behind now.shop.jobs)
   where
     drawn_behind : (more : ℕ) → seed_after more seed ≡ seed_after (more + done * jobs) first
-    drawn_behind more = rw h.last (sym (seed_after-add more (done * jobs) first))
+    drawn_behind more = grind (arith, h.last, seed_after-add more (done * jobs) first)
 
 -- the time of a job on a machine
 abbrev time : ℕ → ℕ → ℕ → ℕ → ℕ

@@ -40,8 +40,7 @@ module _ (layout : Layout) (problem : Problem) where
       → instance_of layout block_of ≡ problem
   unfolding instance_of
   instance_due every =
-      let times = same_table
-      (stands_at layout block_of) problem.shop.jobs problem.shop.machines problem.shop.times every
+      let times = same_table (stands_at layout block_of) problem.shop.jobs problem.shop.machines problem.shop.times every
       (λ job machine j m. sym (time_due layout problem job machine j m)) in
       rw (← times)
 

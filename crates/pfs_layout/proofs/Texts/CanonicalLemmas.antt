@@ -29,8 +29,7 @@ length-spaced [] fit = omega arith
 length-spaced (n ∷ []) fit = omega (arith, length-decimal-le 20 n (lit< tt) (omega arith) fit.0)
 length-spaced (n ∷ m ∷ ns) fit =
     let numeral = length-decimal-le 20 n (lit< tt) (omega arith) fit.0 in
-    let others = length-spaced (m ∷ ns) fit.1 in
-    omega (arith, length-append {A = ℕ})
+    omega (arith, length-append {A = ℕ}, length-spaced (m ∷ ns) fit.1)
 
 -- ---- the lines before the rows
 
