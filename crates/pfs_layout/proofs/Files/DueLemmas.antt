@@ -73,11 +73,6 @@ pub due_time : (layout : Layout) (size : Size) (job machine : ℕ) → job < siz
 unfolding due_at
 due_time layout size job machine j m = grind (arith, nat_tests, place_within)
 
-number_due : (size : Size) (job machine : ℕ) → job < size.jobs → machine < size.machines
-    → due_at OrLib size (2 * (job * size.machines + machine)) ≡ machine_number machine
-unfolding due_at
-number_due size job machine j m = grind (arith, nat_tests, place_within, mod-mul-add job size.machines machine m)
-
 -- a place is a time's, or a machine number's
 pub data PlaceIs (layout : Layout) (problem : Problem) (k : ℕ) : Type 0 where
   a_time : (job machine : ℕ) → job < problem.shop.jobs → machine < problem.shop.machines
@@ -87,6 +82,7 @@ pub data PlaceIs (layout : Layout) (problem : Problem) (k : ℕ) : Type 0 where
 
 pub place_is : (layout : Layout) (problem : Problem) (k : ℕ) → k < due_count layout (size_of problem)
     → PlaceIs layout problem k
+unfolding due_at
 place_is Taillard problem k h =
     let at = at_row k problem.shop.machines problem.shop.jobs (grind (arith, h)) in
     a_time at.column at.row at.column_in at.row_in at.is
@@ -95,7 +91,7 @@ place_is OrLib problem k h =
     let at = at_row (k / 2) problem.shop.jobs m (omega arith) in
     elim (cases_eq (k % 2) 0) [
       | inl even ↦
-          a_number at.column (grind (arith, at.is, number_due (size_of problem) at.row at.column))
+          a_number at.column (grind (arith, nat_tests, at.is, mod-mul-add at.row m at.column))
           (grind (arith, at.is, pair_at problem.shop at.row at.column 0 0))
       | inr odd ↦ a_time at.row at.column at.row_in at.column_in (omega (arith, at.is))
     ]

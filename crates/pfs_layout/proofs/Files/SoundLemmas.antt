@@ -95,11 +95,6 @@ all_due layout block text next due ends right =
           (are_due-push layout block.size before _ due (rw (at, ← same_last text) one))
     ]
 
--- on an unmixed line a byte that ends a number is a blank or a line end
-ends_by : (line : List ℕ) (b : ℕ) → is_no_digit b ≡ true → is_mixed (line ++ b ∷ []) ≡ false
-    → is_empty (last_digits line) ≡ false → (is_blank b || is_line_end b) ≡ true
-ends_by line b no_digit unmixed there = grind (arith, digit_there, list_any-append {X = ℕ})
-
 -- the complete blocks stay
 pub complete_stays : (layout : Layout) (complete : List Block) (now : Now) (line : List ℕ)
     → length complete ≤ length (after_line layout complete now line).complete
@@ -112,20 +107,14 @@ good_start : (layout : Layout) (block : Block) → are_due layout block.size blo
 unfolding ended_numbers ended_parts
 good_start layout block due = record { due = rw append-nil due; unmixed = refl }
 
--- after a size line without a fault
-good_size : (layout : Layout) (line : ℕ) (stated : Option Size) → size_fault stated line ≡ None
-    → GoodNow layout (after_size stated) []
-unfolding are_due
-good_size layout line stated e = grind (arith, good_start layout)
-
 pub good_end : (layout : Layout) (k : ℕ) (complete : List Block) (now : Now) (text : List ℕ) (next : Option ℕ)
     → ends_line text next ≡ true → (is_empty (last_digits (open_line text)) ≡ false → ends_number text next ≡ true)
     → GoodNow layout now (open_line text) → first_some (faults layout k now text next) ≡ None
     → GoodNow layout (after_line layout complete now (open_line text)).now []
-unfolding wrong_size
+unfolding wrong_size are_due
 good_end layout k complete seeking text next ends digits good right =
     let right_size = (all_none (faults layout k seeking text next) right).1.0 in
-    grind (arith, good_size)
+    grind (arith, good_start)
 good_end layout k complete (inside block) text next ends digits good right =
     let rights = all_none (faults layout k (inside block) text next) right in
     let due = all_due layout block text next good.due digits rights.1.1.0 in
@@ -142,7 +131,7 @@ good_byte layout k (inside block) text b good right =
     let line = open_line text in
     let rights = all_none (faults layout k (inside block) text (Some b)) right in
     let unmixed : is_mixed (line ++ b ∷ []) ≡ false = rw good.unmixed at (then_some_none _ _ rights.1.0) in
-    grind (arith, unmixed, good.due, ended_numbers-push, same_last, ends_by, all_due)
+    grind (arith, unmixed, good.due, ended_numbers-push, same_last, digit_there, list_any-append {X = ℕ}, all_due)
 good_byte layout k lost text b good right = good
 
 pub stand-push : (layout : Layout) (lines : List (List ℕ)) (line : List ℕ)

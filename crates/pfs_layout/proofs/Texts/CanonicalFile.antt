@@ -59,18 +59,16 @@ numeral_run = numeral_fails is_no_digit (λ b low high. grind (arith, nat_tests)
 
 -- ---- numbers of a line of numbers
 
-numeral_value : (n : ℕ) → n < 2 ^ 64 → (runs : List (List ℕ)) → values (decimal n ∷ runs) ≡ n ∷ values runs
-numeral_value n h runs =
-    let numeral = decimal_is_IsNumeral n h in grind (arith, numeral.0.0, numeral.1)
-
 numbers_spaced : (ns : List ℕ) → AllFit ns → numbers (spaced ns) ≡ ns
 unfolding numbers
 numbers_spaced [] fit = refl
 numbers_spaced (n ∷ []) fit =
-    rw (slice_split_none is_no_digit (decimal n) (numeral_run n fit.0)) (numeral_value n fit.0 [])
+    let numeral = decimal_is_IsNumeral n fit.0 in
+    rw (slice_split_none is_no_digit (decimal n) (numeral_run n fit.0)) (grind (arith, numeral.0.0, numeral.1))
 numbers_spaced (n ∷ m ∷ ns) fit =
+    let numeral = decimal_is_IsNumeral n fit.0 in
     rw (slice_split_at is_no_digit (decimal n) 32 (spaced (m ∷ ns)) (numeral_run n fit.0) refl)
-    (rw (numbers_spaced (m ∷ ns) fit.1) at (numeral_value n fit.0 (slice_split is_no_digit (spaced (m ∷ ns)))))
+    (grind (arith, numeral.0.0, numeral.1, numbers_spaced (m ∷ ns) fit.1))
 
 -- ---- kinds of a line of numbers
 
