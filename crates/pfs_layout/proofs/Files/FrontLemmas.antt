@@ -26,13 +26,6 @@ no_more_than_due layout size numbers all =
 abbrev idle_due : Layout → Size → List ℕ
 idle_due layout size = due layout (instance_of layout (begun size)).shop
 
-idle_passes : (layout : Layout) (size : Size) → are_due layout size (idle_due layout size) ≡ true
-unfolding instance_of
-idle_passes layout size =
-    due_passes layout (instance_of layout (begun size))
-    (all_table (λ job machine. 0) size.jobs size.machines (λ time. time ≤ LONGEST_TIME)
-    (λ job machine j m. omega arith))
-
 -- the numbers, and behind them what is due for the idle problem
 abbrev filled : Layout → Size → List ℕ → List ℕ
 filled layout size numbers = numbers ++ drop (length numbers) (idle_due layout size)
@@ -43,8 +36,12 @@ module _ (layout : Layout) (size : Size) (numbers : List ℕ) (all : are_due lay
       simp (length-append, length-drop, length-due_instance) (omega (arith, no_more_than_due layout size numbers all))
 
   filled_passes : are_due layout size (filled layout size numbers) ≡ true
-  filled_passes = are_due_by_place layout size (filled layout size numbers)
-      (λ k h. grind (arith, elements, length-filled, length-due_instance layout (begun size), due_number, idle_passes))
+  unfolding instance_of
+  filled_passes = are_due_by_place layout size (filled layout size numbers) (λ k h.
+      let none_long = all_table (λ job machine. 0) size.jobs size.machines (λ time. time ≤ LONGEST_TIME)
+      (λ job machine j m. omega arith) in
+      let idle_passes = due_passes layout (instance_of layout (begun size)) none_long in
+      grind (arith, elements, length-filled, length-due_instance layout (begun size), due_number))
 
   begin_due : BeginDue layout size numbers
   unfolding instance_of

@@ -29,13 +29,10 @@ pub split_is : (p : ℕ → Bool) (xs : List ℕ) → slice_split p xs ≡ ended
 unfolding ended_parts open_part
 split_is p xs = let s = split_some p xs in rw s.is (all_and_last [] s.first s.more)
 
--- the parts behind one more element, which ends the last of them or stands at its end
-abbrev with_element : Bool → ℕ → List (List ℕ) → List (List ℕ)
-with_element ends b parts =
-    if ends then parts ++ [] ∷ [] else all_but_last parts ++ (last_of [] parts ++ b ∷ []) ∷ []
-
+-- one more element ends the last part, or stands at its end
 split-push : (p : ℕ → Bool) (xs : List ℕ) (b : ℕ)
-    → slice_split p (xs ++ b ∷ []) ≡ with_element (p b) b (slice_split p xs)
+    → slice_split p (xs ++ b ∷ []) ≡ (if p b then slice_split p xs ++ [] ∷ []
+    else all_but_last (slice_split p xs) ++ (last_of [] (slice_split p xs) ++ b ∷ []) ∷ [])
 split-push p [] b = refl
 split-push p (x ∷ xs) b =
     let s = split_some p xs in rw (split-push p xs b, s.is) (grind arith)

@@ -115,14 +115,11 @@ module _ (layout : Layout) (problem : Problem) (is : IsInstance limits problem) 
   rows_numbers (row ∷ rows) = rw (numbers_spaced (due_row layout problem.shop row) (fits row), rows_numbers rows)
 
   -- a title, a size line, lines without numbers, and the rows
-  abbrev with_rows : List ℕ → List ℕ → List (List ℕ) → List (List ℕ)
-  with_rows heading sizes between =
-      heading ∷ spaced sizes ∷ (between ++ map (row_text layout problem.shop) (below (row_count layout problem.shop)))
-
   block_is : (heading sizes : List ℕ) (between : List (List ℕ)) (n : ℕ) → row_count layout problem.shop ≡ n + 1
       → 0 < row_width layout problem.shop → is_number_line heading ≡ false → AllFit sizes → 0 < length sizes
       → stated_size layout sizes ≡ Some (size_of problem) → list_all (λ line. not (is_mixed line)) between ≡ true
-      → flat_map numbers between ≡ [] → IsBlock limits layout problem (with_rows heading sizes between)
+      → flat_map numbers between ≡ [] → IsBlock limits layout problem (heading ∷ spaced sizes
+      ∷ (between ++ map (row_text layout problem.shop) (below (row_count layout problem.shop))))
   unfolding due
   block_is heading sizes between n rows columns plain fit some states unmixed none =
       let row : ℕ → List ℕ = row_text layout problem.shop in
