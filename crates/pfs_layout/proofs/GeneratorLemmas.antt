@@ -1,5 +1,5 @@
 -- Seeds of the generator, and times that are set one by one.
-use Rattle.std.proofs.Common.{◌≡◌, ◌≢◌, ℕ, zero, suc, ◌+◌, ◌*◌, ◌%◌, ◌<◌, ◌≤◌, length, add-one, sym, arith}
+use Rattle.std.proofs.Common.{◌≡◌, ◌≢◌, ℕ, zero, suc, ◌+◌, ◌*◌, ◌%◌, ◌<◌, ◌≤◌, length, add-one, arith}
 use Rattle.std.proofs.lemmas.Grind.{rows}
 use Rattle.std.proofs.lemmas.List.{get_or-set_same, get_or-set_other, length-set}
 use Rattle.std.proofs.lemmas.Nat.{same_from_place}
@@ -72,8 +72,8 @@ pub record DrawnMachines (jobs machines first done seed : ℕ) (now : Problem) :
       → time_of now.shop job machine ≡ drawn_time (seed_after (machine * jobs + job + 1) first)
 
 pub machine_more : (jobs machines first done seed next : ℕ) (now then : Problem)
-    → DrawnMachines jobs machines first done seed now → done < machines → DrawnSoFar seed now done now.shop.jobs next then
-    → DrawnMachines jobs machines first (done + 1) next then
+    → DrawnMachines jobs machines first done seed now → done < machines
+    → DrawnSoFar seed now done now.shop.jobs next then → DrawnMachines jobs machines first (done + 1) next then
 machine_more jobs machines first done seed next now then h within more =
     grind (arith, drawn_behind, drawn_behind now.shop.jobs)
   where

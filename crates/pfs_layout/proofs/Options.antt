@@ -52,7 +52,8 @@ module _ {A : Type 0} (f : ℕ → Option A) where
   first_push n =
       let e : 0 + n ≡ n = omega arith in
       ap (λ ns. first_some (map f ns)) (range_with_len-push 0 n)
-      ∙ rw (map-append f (below n) ((0 + n) ∷ []), first_some-append (map f (below n)) (f (0 + n) ∷ []), e) (grind arith)
+      ∙ rw (map-append f (below n) ((0 + n) ∷ []), first_some-append (map f (below n)) (f (0 + n) ∷ []), e)
+      (grind arith)
 
   -- f gives x at p and nothing before
   pub record IsFirst (p : ℕ) (x : A) : Type 0 where

@@ -15,7 +15,7 @@ use Rattle.pfs_layout.specs.Size.{Size, size_of}
 use Rattle.pfs_layout.specs.Lines.{is_mixed, is_number_line, is_no_digit, numbers}
 use Rattle.pfs_layout.specs.Block.{are_due, due, due_count}
 use Rattle.pfs_layout.specs.Stand.{Block, seeking, inside, standing, completed, stand_after}
-use Rattle.pfs_layout.specs.File.{AreBlocks, IsSomeBlock, IsBlock}
+use Rattle.pfs_layout.specs.File.{IsSomeBlock, IsBlock}
 use Rattle.pfs_layout.proofs.Files.LineLemmas.{split_some}
 use Rattle.pfs_layout.proofs.Files.SizeLemmas.{within_size}
 use Rattle.pfs_layout.proofs.Files.DueLemmas.{due_passes, length-due}

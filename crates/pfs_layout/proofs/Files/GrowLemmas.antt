@@ -1,6 +1,5 @@
 -- What later lines can't undo, and where a text's lines lead from one of its places.
-use Rattle.std.proofs.Common.{◌≡◌, ℕ, ◌≤◌, false, List, [], ◌∷◌, ◌++◌, length, fold, refl, sym, ◌∙◌, arith, ◌⊎◌, inl}
-use Rattle.std.proofs.Common.{inr}
+use Rattle.std.proofs.Common.{◌≡◌, ℕ, ◌≤◌, false, List, [], ◌∷◌, ◌++◌, length, fold, sym, ◌∙◌, arith, ◌⊎◌, inl, inr}
 use Rattle.std.specs.List.{list_any}
 use Rattle.std.proofs.lemmas.Bool.{ne_eqb}
 use Rattle.std.proofs.lemmas.List.{append_assoc, append-nil, length-append}
@@ -69,7 +68,8 @@ pub lines_from : (before after : List ℕ)
     → lines (before ++ after) ≡ ended_lines before ++ lines (open_line before ++ after)
 unfolding ended_parts
 lines_from =
-    by_push (λ before. (after : List ℕ) → lines (before ++ after) ≡ ended_lines before ++ lines (open_line before ++ after))
+    by_push
+    (λ before. (after : List ℕ) → lines (before ++ after) ≡ ended_lines before ++ lines (open_line before ++ after))
     (λ after. rw open_line-none) (λ before b h after.
     rw (append_assoc before (b ∷ []) after, h (b ∷ after), ended_parts-push is_line_end before b)
     (grind (arith, open_part-push, lines-line, no_end, append_assoc {A = ℕ}, append_assoc {A = List ℕ})))
@@ -79,7 +79,8 @@ pub stand_from : (layout : Layout) (before after : List ℕ)
     → stand layout (lines (before ++ after))
     ≡ fold (stand_after layout) (stand_of layout before) (lines (open_line before ++ after))
 unfolding stand
-stand_from layout before after = rw (lines_from before after) (fold-append (stand_after layout) _ (ended_lines before) _)
+stand_from layout before after =
+    rw (lines_from before after) (fold-append (stand_after layout) _ (ended_lines before) _)
 
 -- the line of a byte that doesn't end it, and the lines behind it
 pub record LineOn (line more : List ℕ) : Type 0 where

@@ -1,7 +1,6 @@
 -- A problem's due numbers give it back, and the numbers of a complete block are those that are due.
 use Rattle.std.proofs.Common.{◌≡◌, ℕ, ◌*◌, ◌<◌, ◌≤◌, Bool, true, List, length, get_or, sym, ◌∙◌, arith}
 use Rattle.std.specs.List.{All, enumerate_from}
-use Rattle.std.proofs.lemmas.Bool.{leb-true}
 use Rattle.std.proofs.lemmas.Bool.Decides.{nat_tests}
 use Rattle.std.proofs.lemmas.Grind.{same_number_lists}
 use Rattle.std.proofs.lemmas.List.FromFn.{get_or-enumerate_from, length-enumerate_from}
@@ -40,8 +39,8 @@ module _ (layout : Layout) (problem : Problem) where
       → instance_of layout block_of ≡ problem
   unfolding instance_of
   instance_due every =
-      let times = same_table (stands_at layout block_of) problem.shop.jobs problem.shop.machines problem.shop.times every
-      (λ job machine j m. sym (time_due layout problem job machine j m)) in
+      let times = same_table (stands_at layout block_of) problem.shop.jobs problem.shop.machines problem.shop.times
+      every (λ job machine j m. sym (time_due layout problem job machine j m)) in
       rw (← times)
 
 -- ---- from a complete block's numbers to a problem and back

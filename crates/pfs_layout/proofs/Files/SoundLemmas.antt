@@ -1,6 +1,6 @@
 -- While no byte has a fault, the numbers so far are due and no line of a body is mixed.
-use Rattle.std.proofs.Common.{◌≡◌, ℕ, ◌+◌, ◌-◌, ◌<◌, ◌≤◌, Bool, true, false, ◌||◌, List, [], ◌∷◌, ◌++◌, length}
-use Rattle.std.proofs.Common.{refl, arith, Option, Some, None, if◌then◌else◌, inl, inr}
+use Rattle.std.proofs.Common.{◌≡◌, ℕ, ◌+◌, ◌-◌, ◌<◌, ◌≤◌, Bool, true, false, List, [], ◌∷◌, ◌++◌, length, refl, arith}
+use Rattle.std.proofs.Common.{Option, Some, None, if◌then◌else◌, inl, inr}
 use Rattle.std.specs.List.{list_any}
 use Rattle.std.specs.Str.Parse.{digits_value}
 use Rattle.std.proofs.lemmas.Bool.{and_from, cases_Bool}
@@ -10,17 +10,16 @@ use Rattle.std.proofs.lemmas.List.{append-nil, append_assoc, length-append}
 use Rattle.std.proofs.lemmas.List.Folds.{list_any-append, list_all-append}
 use Rattle.std.proofs.lemmas.List.Sums.{fold-append}
 use Rattle.pfs_layout.specs.declared.layout.Layout.{Layout}
-use Rattle.pfs_layout.specs.Bytes.{is_digit, is_blank, is_line_end}
+use Rattle.pfs_layout.specs.Bytes.{is_digit, is_line_end}
 use Rattle.pfs_base.specs.Lists.{is_empty, first_some}
 use Rattle.pfs_base.proofs.Published.Lists.{by_push, enumerate_from-append}
 use Rattle.pfs_layout.specs.Size.{Size}
-use Rattle.pfs_layout.specs.Lines.{ended_parts, open_part, ended_lines, open_line, is_mixed, is_no_digit, values}
-use Rattle.pfs_layout.specs.Lines.{numbers, ended_numbers, last_digits}
+use Rattle.pfs_layout.specs.Lines.{ended_parts, open_part, ended_lines, open_line, is_mixed, values, numbers}
+use Rattle.pfs_layout.specs.Lines.{ended_numbers, last_digits}
 use Rattle.pfs_layout.specs.Block.{Due, is_due, due_at, are_due}
-use Rattle.pfs_layout.specs.Stand.{Block, Now, seeking, inside, lost, Stand, with_line, after_size, after_line}
-use Rattle.pfs_layout.specs.Stand.{stand_after, stand}
-use Rattle.pfs_layout.specs.Refuse.{mixed_line, misfit, ends_line, ends_number, wrong_number, size_fault, wrong_size}
-use Rattle.pfs_layout.specs.Refuse.{faults, fault_of_place, byte_fault}
+use Rattle.pfs_layout.specs.Stand.{Block, Now, seeking, inside, lost, Stand, with_line, after_line, stand_after, stand}
+use Rattle.pfs_layout.specs.Refuse.{mixed_line, misfit, ends_line, ends_number, wrong_number, wrong_size, faults}
+use Rattle.pfs_layout.specs.Refuse.{fault_of_place, byte_fault}
 use Rattle.pfs_layout.proofs.Files.LineLemmas.{ended_parts-push, open_part-push, ended_numbers-push, numbers_is}
 use Rattle.pfs_layout.proofs.Published.PlaceLemmas.{byte_fault-push}
 use Rattle.pfs_layout.proofs.Options.{then_some_none, all_none, or_none}

@@ -66,8 +66,13 @@ AreOf-push : (layout : Layout) (complete : List Block) (text own : List (List �
     → AreOf layout complete text → IsBlock limits layout (instance_of layout block) own
     → AreOf layout (complete ++ block ∷ []) (text ++ own)
 AreOf-push layout [] text own block are is = (own, [], rw are (sym (append-nil own)), is, refl)
-AreOf-push layout (first ∷ more) text own block are is =
-    (are.0, are.1 ++ own, rw are.2 (append_assoc are.0 are.1 own), are.3, AreOf-push layout more are.1 own block are.4 is)
+AreOf-push layout (first ∷ more) text own block are is = (
+  are.0,
+  are.1 ++ own,
+  rw are.2 (append_assoc are.0 are.1 own),
+  are.3,
+  AreOf-push layout more are.1 own block are.4 is,
+)
 
 -- lines are those of the complete blocks, and what fits where they lead
 pub record IsMade (layout : Layout) (text : List (List ℕ)) (reached : Stand) : Type 0 where
@@ -111,6 +116,7 @@ module _ (layout : Layout) (text : List (List ℕ)) (complete : List Block) (lin
   unfolding instance_of
   finished block m unmixed right whole =
       let own : List (List ℕ) = m.tail ++ line ∷ [] in
+      let all_due = due_instance layout (with_line block line) right whole in
       record {
         front = m.front ++ own;
         tail = [];
@@ -123,7 +129,7 @@ module _ (layout : Layout) (text : List (List ℕ)) (complete : List Block) (lin
           parts = ap (λ ls. ls ++ line ∷ []) m.fits.opens.parts;
           no_numbers = m.fits.opens.no_numbers;
           size = grind (arith, m.fits.opens);
-          body = grind (arith, due_instance layout (with_line block line) right whole, no_numbers line, append-nil {A = ℕ});
+          body = grind (arith, no_numbers line, append-nil {A = ℕ});
           within = instance_within layout (with_line block line) m.fits.opens.within right whole;
         });
         fits = refl;

@@ -2,7 +2,7 @@
 use Rattle.std.proofs.Common.{◌≡◌, ℕ, ◌+◌, ◌-◌, ◌<◌, ◌≤◌, ◌^◌, Bool, true, false, not, List, [], ◌∷◌, ◌++◌}
 use Rattle.std.proofs.Common.{length, map, flat_map, decimal, Some, refl, sym, inl, add-one, arith}
 use Rattle.std.proofs.Common.{length-append, append_assoc, append-nil}
-use Rattle.std.specs.List.{slice_split, list_any, list_all, All}
+use Rattle.std.specs.List.{list_any, list_all, All}
 use Rattle.std.proofs.lemmas.Bool.Decides.{nat_tests}
 use Rattle.std.proofs.lemmas.Fmt.{decimal_is_IsNumeral}
 use Rattle.std.proofs.lemmas.Grind.{flat_map-append}
@@ -21,10 +21,11 @@ use Rattle.pfs_layout.specs.declared.layout.Layout.{Layout}
 use Rattle.pfs_layout.specs.declared.layout.Layout.TheVariants.{Taillard, OrLib}
 use Rattle.pfs_layout.specs.Block.{due_row, row_count, due, stated_size}
 use Rattle.pfs_layout.specs.Bytes.{is_line_end, is_word_byte}
-use Rattle.pfs_layout.specs.CanonicalText.{head_lines, row_line, row_lines, canonical_text, as_written, CanonicalLaw, TextsFit}
+use Rattle.pfs_layout.specs.CanonicalText.{head_lines, row_line, row_lines, canonical_text, as_written}
+use Rattle.pfs_layout.specs.CanonicalText.{CanonicalLaw, TextsFit}
 use Rattle.pfs_layout.specs.File.{IsInstance, IsBlock, IsInstanceFile}
 use Rattle.pfs_layout.specs.Lines.{lines, open_line, is_mixed, is_number_line, is_no_digit}
-use Rattle.pfs_layout.specs.Lines.{values, numbers}
+use Rattle.pfs_layout.specs.Lines.{numbers}
 use Rattle.pfs_layout.specs.Size.{size_of}
 use Rattle.pfs_layout.proofs.Files.CutLemmas.{lines-line, lines-none, open_part-part}
 use Rattle.pfs_layout.proofs.Files.DueLemmas.{length-due_row, row_width}
@@ -46,7 +47,8 @@ module _ (test : ℕ → Bool) (digit : (b : ℕ) → 48 ≤ b → b ≤ 57 → 
   line_fails space [] fit = refl
   line_fails space (n ∷ []) fit = list_any_none test (decimal n) (numeral_fails n fit.0)
   line_fails space (n ∷ m ∷ ns) fit =
-      rw (list_any-append, list_any_none test (decimal n) (numeral_fails n fit.0), space) (line_fails space (m ∷ ns) fit.1)
+      rw (list_any-append, list_any_none test (decimal n) (numeral_fails n fit.0), space)
+      (line_fails space (m ∷ ns) fit.1)
 
 no_word_byte : (ns : List ℕ) → AllFit ns → list_any is_word_byte (spaced ns) ≡ false
 no_word_byte = line_fails is_word_byte (λ b low high. grind (arith, nat_tests)) refl
@@ -107,7 +109,8 @@ module _ (layout : Layout) (problem : Problem) (is : IsInstance limits problem) 
   rows_unmixed : (rows : List ℕ)
       → list_all (λ line. not (is_mixed line)) (map (row_text layout problem.shop) rows) ≡ true
   rows_unmixed [] = refl
-  rows_unmixed (row ∷ rows) = grind (arith, no_word_byte (due_row layout problem.shop row) (fits row), rows_unmixed rows)
+  rows_unmixed (row ∷ rows) =
+      grind (arith, no_word_byte (due_row layout problem.shop row) (fits row), rows_unmixed rows)
 
   rows_numbers : (rows : List ℕ)
       → flat_map numbers (map (row_text layout problem.shop) rows) ≡ flat_map (due_row layout problem.shop) rows
