@@ -65,18 +65,14 @@ module _ (layout : Layout) (complete : List Block) where
   unfolding stand_after
   block_fold problem block b =
       let tail : List (List ℕ) = b.front ++ b.last ∷ [] in
-      rw (
-        b.parts,
-        append_assoc b.skipped (b.size_line ∷ b.front) (b.last ∷ []),
-        fold-append (stand_after layout) (standing complete seeking) b.skipped (b.size_line ∷ tail),
-        skip_fold b.skipped b.no_numbers,
-        fold,
-        b.size.number_line,
-        b.size.states,
-        within_size problem b.within,
-      )
-      (body_fold (size_of problem) [] b.front b.last b.body.front_unmixed b.body.last_numbers (due layout problem.shop)
-      (sym b.body.holds) (due_passes layout problem b.within.within.short_times) (length-due layout problem))
+      let lines = append_assoc b.skipped (b.size_line ∷ b.front) (b.last ∷ []) in
+      let skipped = skip_fold b.skipped b.no_numbers in
+      let within = within_size problem b.within in
+      let body = body_fold (size_of problem) [] b.front b.last b.body.front_unmixed b.body.last_numbers
+      (due layout problem.shop) (sym b.body.holds) (due_passes layout problem b.within.within.short_times)
+      (length-due layout problem) in
+      let joined = fold-append (stand_after layout) (standing complete seeking) b.skipped (b.size_line ∷ tail) in
+      grind (arith, b.parts, b.size)
 
 -- blocks lead to as many complete ones, the last of which is the instance's
 pub record LeadsTo (layout : Layout) (complete : List Block) (problem : Problem) (count : ℕ) (text : List (List ℕ))

@@ -66,13 +66,9 @@ AreOf-push : (layout : Layout) (complete : List Block) (text own : List (List �
     → AreOf layout complete text → IsBlock limits layout (instance_of layout block) own
     → AreOf layout (complete ++ block ∷ []) (text ++ own)
 AreOf-push layout [] text own block are is = (own, [], rw are (sym (append-nil own)), is, refl)
-AreOf-push layout (first ∷ more) text own block are is = (
-  are.0,
-  are.1 ++ own,
-  rw are.2 (append_assoc are.0 are.1 own),
-  are.3,
-  AreOf-push layout more are.1 own block are.4 is,
-)
+AreOf-push layout (first ∷ more) text own block are is =
+    let others = AreOf-push layout more are.1 own block are.4 is in
+    (are.0, are.1 ++ own, rw are.2 (append_assoc are.0 are.1 own), are.3, others)
 
 -- lines are those of the complete blocks, and what fits where they lead
 pub record IsMade (layout : Layout) (text : List (List ℕ)) (reached : Stand) : Type 0 where
