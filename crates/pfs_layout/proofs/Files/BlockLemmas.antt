@@ -91,13 +91,10 @@ blocks_lead layout complete problem (block ∷ earlier) own each b =
     let first : Block = block_of layout each.0.0 in
     let more = blocks_lead layout (complete ++ first ∷ []) problem earlier own each.1 b in
     let rest : List (List ℕ) = flat_map (λ block. block) earlier ++ own in
+    let lines = append_assoc block (flat_map (λ block. block) earlier) own in
+    let joined = fold-append (stand_after layout) (standing complete seeking) block rest in
     record {
       before = first ∷ more.before;
       as_many = omega (arith, more.as_many);
-      end = rw (append_assoc block (flat_map (λ block. block) earlier) own)
-          (rw (
-            fold-append (stand_after layout) (standing complete seeking) block rest,
-            block_fold layout complete each.0.0 block each.0.1,
-          )
-          (rw more.end (simp append_assoc)));
+      end = rw (lines, joined, block_fold layout complete each.0.0 block each.0.1) (rw more.end (simp append_assoc));
     }

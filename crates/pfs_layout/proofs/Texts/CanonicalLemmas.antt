@@ -84,13 +84,9 @@ length-row_line layout shop row within =
 pub length-row_lines : (layout : Layout) (shop : FlowShop) → IsWithin limits shop
     → length (row_lines layout shop) + 1000 ≤ LONGEST_INPUT
 length-row_lines layout shop within =
-    let rows : List ℕ = below (row_count layout shop) in
+    let count = length-range_with_len 0 (row_count layout shop) in
     let room : row_count layout shop * (21 * row_width layout shop + 1) + 1000 ≤ LONGEST_INPUT =
     grind (arith, mul-le-mul within.sizes.few_machines within.sizes.few_jobs) in
-    let each = sum_by-le (λ row. length (row_line layout shop row)) (21 * row_width layout shop + 1) rows
-    (λ k d h. length-row_line layout shop _ within) in
-    omega (
-      arith,
-      length-flat_map (row_line layout shop) rows,
-      rw (length-range_with_len 0 (row_count layout shop)) at each,
-    )
+    let each = sum_by-le (λ row. length (row_line layout shop row)) (21 * row_width layout shop + 1)
+    (below (row_count layout shop)) (λ k d h. length-row_line layout shop _ within) in
+    omega (arith, rw count at each, length-flat_map (row_line layout shop) (below (row_count layout shop)))
