@@ -23,12 +23,10 @@ returns-in_err-sent-in-OrLib g c =
 
 pub returns-in_ok-sent-in-Taillard-2 : goal.returns-in_ok-sent-in-Taillard-2
 returns-in_ok-sent-in-Taillard-2 g c =
-    let both = then_sends _ _ (with_line_end times_title) c.put-in-Taillard.result c.in_ok-sent-in-Taillard-2.ensures
-    c.put-in-Taillard.ensures in
+    let both = then_sends _ _ _ c.put-in-Taillard.result c.in_ok-sent-in-Taillard-2.ensures c.put-in-Taillard.ensures in
     rw c.in-Taillard.is (then_sends _ _ _ c.put-in-Taillard.result c.in_ok-sent-in-Taillard.ensures both)
 
 pub returns-in_ok-sent-in-OrLib : goal.returns-in_ok-sent-in-OrLib
 returns-in_ok-sent-in-OrLib g c =
-    rw c.in-OrLib.is (then_sends _ _
-    (with_line_end (spaced (c.args.jobs ∷ c.args.machines ∷ []))) c.put_numbers-in-OrLib.result
-    c.in_ok-sent-in-OrLib.ensures c.put_numbers-in-OrLib.ensures)
+    rw c.in-OrLib.is
+    (then_sends _ _ _ c.put_numbers-in-OrLib.result c.in_ok-sent-in-OrLib.ensures c.put_numbers-in-OrLib.ensures)
