@@ -53,14 +53,12 @@ unfolding seed_after
 drawn_more first before machine jobs seed now h j m =
     let last : 16807 * seed % prime ≡ seed_after (jobs + 1) first = rw (add-one jobs, h.last) in
     let every = rw (← h.same.same_jobs, ← h.same.same_machines) at h.same.every_time in
-    let jobs_are = h.same.same_jobs in
-    let machines_are = h.same.same_machines in
     record {
       last = last;
       below = omega arith;
       same = grind (arith, h.same, length-set {A = ℕ});
-      drawn = λ job k. grind (arith, last, every, jobs_are, machines_are, h.drawn, with_time-same, with_time-other);
-      others = λ job other n differ. grind (arith, machines_are, h.others, with_time-other);
+      drawn = λ job k. grind (arith, last, every, h.same, h.drawn, with_time-same, with_time-other);
+      others = λ job other n differ. grind (arith, h.same, h.others, with_time-other);
     }
 
 -- the times on so many machines are drawn, the last by this seed

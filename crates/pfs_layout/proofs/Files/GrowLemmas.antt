@@ -17,12 +17,9 @@ use Rattle.pfs_layout.proofs.Files.SoundLemmas.{stand_of, stand_of-end, stand_of
 -- ---- complete blocks stay
 
 -- a line completes no block, or one
-abbrev pub OneLine : List Block → Stand → Type 0
-OneLine complete after =
-    (after.complete ≡ complete) ⊎ ((block : Block) × (after ≡ completed complete block))
-
 pub one_line : (layout : Layout) (complete : List Block) (now : Now) (line : List ℕ)
-    → OneLine complete (after_line layout complete now line)
+    → ((after_line layout complete now line).complete ≡ complete)
+    ⊎ ((block : Block) × (after_line layout complete now line ≡ completed complete block))
 one_line layout complete now line = grind arith
 
 -- these blocks, and maybe more

@@ -158,8 +158,7 @@ pub open_line-on : (text : List ℕ) (b : ℕ) → is_line_end b ≡ false
     → open_line (text ++ b ∷ []) ≡ open_line text ++ b ∷ []
 open_line-on text b e = rw (open_part-push is_line_end text b, e)
 
--- while no byte has a fault and fewer than k blocks are complete, the numbers so far are due and a body's line isn't
--- mixed
+-- the same, while no byte of the text has a fault and fewer than k blocks are complete
 abbrev pub IsSound : Layout → ℕ → List ℕ → Type 0
 IsSound layout k text = byte_fault layout k text ≡ None → length (stand_of layout text).complete < k
     → GoodNow layout (stand_of layout text).now (open_line text)
