@@ -111,7 +111,6 @@ are_due_by_place layout size numbers each =
     list_all-from_AllPass (λ placed. is_due (due_at layout size placed.0) placed.1) (enumerate_from 0 numbers) (λ k d h.
     grind (arith, each, length-enumerate_from {X = ℕ}, get_or-enumerate_from {X = ℕ}, get_or_default {X = ℕ}))
 
--- what is due passes
 pub due_passes : (layout : Layout) (problem : Problem) → All (λ time. time ≤ LONGEST_TIME) problem.shop.times
     → are_due layout (size_of problem) (due layout problem.shop) ≡ true
 due_passes layout problem within = are_due_by_place layout (size_of problem) (due layout problem.shop) (λ k h.

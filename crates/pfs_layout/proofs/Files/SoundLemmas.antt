@@ -120,8 +120,7 @@ good_end layout k complete (inside block) text next ends digits good right =
     grind (arith, good_start layout (with_line block (open_line text)))
 good_end layout k complete lost text next ends digits good right = good
 
--- ---- a byte
-
+-- a byte that doesn't end the line
 good_byte : (layout : Layout) (k : ℕ) (now : Now) (text : List ℕ) (b : ℕ) → GoodNow layout now (open_line text)
     → first_some (faults layout k now text (Some b)) ≡ None → GoodNow layout now (open_line text ++ b ∷ [])
 unfolding mixed_line

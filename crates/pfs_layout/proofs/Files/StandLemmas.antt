@@ -21,8 +21,7 @@ use Rattle.pfs_layout.proofs.Files.SizeLemmas.{size_within}
 use Rattle.pfs_layout.proofs.Files.SoundLemmas.{stand-push}
 use Rattle.pfs_layout.proofs.Files.RoundLemmas.{due_instance, instance_within}
 
--- ---- a line without a digit has no number
-
+-- a line without a digit has no number
 pub no_numbers : (line : List ℕ) → list_any is_digit line ≡ false → numbers line ≡ []
 unfolding numbers
 no_numbers [] none = refl

@@ -1,7 +1,7 @@
 -- A canonical text is an instance file.
-use Rattle.std.proofs.Common.{◌≡◌, ℕ, ◌+◌, ◌-◌, ◌<◌, ◌≤◌, ◌^◌, Bool, true, false, not, List, [], ◌∷◌, ◌++◌}
-use Rattle.std.proofs.Common.{length, map, flat_map, decimal, Some, refl, sym, inl, add-one, arith}
-use Rattle.std.proofs.Common.{length-append, append_assoc, append-nil}
+use Rattle.std.proofs.Common.{◌≡◌, ℕ, ◌+◌, ◌-◌, ◌<◌, ◌≤◌, ◌^◌, Bool, true, false, not, List, [], ◌∷◌, ◌++◌, length, map}
+use Rattle.std.proofs.Common.{flat_map, decimal, Some, refl, sym, inl, add-one, arith, length-append, append_assoc}
+use Rattle.std.proofs.Common.{append-nil}
 use Rattle.std.specs.List.{list_any, list_all, All}
 use Rattle.std.proofs.lemmas.Bool.Decides.{nat_tests}
 use Rattle.std.proofs.lemmas.Fmt.{decimal_is_IsNumeral}
@@ -21,11 +21,10 @@ use Rattle.pfs_layout.specs.declared.layout.Layout.{Layout}
 use Rattle.pfs_layout.specs.declared.layout.Layout.TheVariants.{Taillard, OrLib}
 use Rattle.pfs_layout.specs.Block.{due_row, row_count, due, stated_size}
 use Rattle.pfs_layout.specs.Bytes.{is_line_end, is_word_byte}
-use Rattle.pfs_layout.specs.CanonicalText.{head_lines, row_line, row_lines, canonical_text, as_written}
-use Rattle.pfs_layout.specs.CanonicalText.{CanonicalLaw, TextsFit}
+use Rattle.pfs_layout.specs.CanonicalText.{head_lines, row_line, row_lines, canonical_text, as_written, CanonicalLaw}
+use Rattle.pfs_layout.specs.CanonicalText.{TextsFit}
 use Rattle.pfs_layout.specs.File.{IsInstance, IsBlock, IsInstanceFile}
-use Rattle.pfs_layout.specs.Lines.{lines, open_line, is_mixed, is_number_line, is_no_digit}
-use Rattle.pfs_layout.specs.Lines.{numbers}
+use Rattle.pfs_layout.specs.Lines.{lines, open_line, is_mixed, is_number_line, is_no_digit, numbers}
 use Rattle.pfs_layout.specs.Size.{size_of}
 use Rattle.pfs_layout.proofs.Files.CutLemmas.{lines-line, lines-none, open_part-part}
 use Rattle.pfs_layout.proofs.Files.DueLemmas.{length-due_row, row_width}
@@ -59,7 +58,7 @@ no_line_end = line_fails is_line_end (λ b low high. grind (arith, nat_tests)) r
 numeral_run : (n : ℕ) → n < 2 ^ 64 → All (λ b. is_no_digit b ≡ false) (decimal n)
 numeral_run = numeral_fails is_no_digit (λ b low high. grind (arith, nat_tests))
 
--- ---- numbers of a line of numbers
+-- ---- numbers and kind of a line of numbers
 
 numbers_spaced : (ns : List ℕ) → AllFit ns → numbers (spaced ns) ≡ ns
 unfolding numbers
@@ -72,13 +71,11 @@ numbers_spaced (n ∷ m ∷ ns) fit =
     rw (slice_split_at is_no_digit (decimal n) 32 (spaced (m ∷ ns)) (numeral_run n fit.0) refl)
     (grind (arith, numeral.0.0, numeral.1, numbers_spaced (m ∷ ns) fit.1))
 
--- ---- kinds of a line of numbers
-
 number_line : (ns : List ℕ) → 0 < length ns → AllFit ns → is_number_line (spaced ns) ≡ true
 number_line ns some fit =
     grind (arith, numbers_spaced ns fit, no_numbers (spaced ns), no_word_byte ns fit)
 
--- ---- lines that are ended
+-- ---- the lines of a text
 
 -- a text of ended lines
 record AreLines (text : List ℕ) (parts : List (List ℕ)) : Type 0 where
@@ -91,8 +88,6 @@ more_lines {line} {text} {parts} none are =
     let first = lines-line line 10 text none refl in
     let behind = open_part-part is_line_end line 10 text none refl in
     rw (append_assoc line (10 ∷ []) text) (grind (arith, are.are, are.nothing))
-
--- ---- the lines of a text
 
 abbrev row_text : Layout → FlowShop → ℕ → List ℕ
 row_text layout shop row = spaced (due_row layout shop row)

@@ -1,7 +1,5 @@
-use Rattle.std.proofs.Common.{rules, ◌≡◌, Err, List, [], ◌∷◌, ◌++◌}
-use Rattle.pfs_base.specs.Text.{with_line_end, spaced}
+use Rattle.std.proofs.Common.{rules, ◌≡◌, Err}
 use Rattle.pfs_base.proofs.Published.SendsLemmas.{then_front, then_sends, front_of}
-use Rattle.pfs_layout.proofs.Texts.CanonicalLemmas.{times_title}
 use Rattle.pfs_layout.proofs.writing.put_head.Goals as goal
 
 pub returns-in_err-sent-in-Taillard : goal.returns-in_err-sent-in-Taillard
