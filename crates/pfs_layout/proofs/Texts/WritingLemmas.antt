@@ -1,7 +1,6 @@
 -- The rows of a body, number by number and line by line.
-use Rattle.std.proofs.Common.{◌≡◌, ℕ, ◌+◌, ◌*◌, ◌<◌, List, [], ◌∷◌, ◌++◌, take, flat_map, get_or, refl, add-one}
-use Rattle.std.proofs.Common.{arith, lit<}
-use Rattle.std.proofs.lemmas.List.{take_all}
+use Rattle.std.proofs.Common.{◌≡◌, ℕ, ◌+◌, ◌*◌, ◌<◌, List, [], ◌∷◌, ◌++◌, take, flat_map, get_or, refl, add-one, arith}
+use Rattle.std.proofs.Common.{lit<, take_all}
 use Rattle.std.proofs.lemmas.List.FromFn.{get_or-map-range_with_len}
 use Rattle.pfs_base.specs.FlowShop.{FlowShop, time_of}
 use Rattle.pfs_base.specs.Lists.{below}
