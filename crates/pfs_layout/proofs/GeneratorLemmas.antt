@@ -1,122 +1,82 @@
 -- Seeds of the generator, and times that are set one by one.
-use Rattle.std.proofs.Common.{◌≡◌, ◌≢◌, ℕ, zero, suc, ◌+◌, ◌*◌, ◌/◌, ◌%◌, ◌<◌, ◌≤◌, inl, inr, List, length}
-use Rattle.std.proofs.Common.{add-one, sym, ◌∙◌, ap, arith}
-use Rattle.std.proofs.Math.Nat.{mul_comm}
-use Rattle.std.proofs.lemmas.Bool.{cases_eq}
+use Rattle.std.proofs.Common.{◌≡◌, ◌≢◌, ℕ, zero, suc, ◌+◌, ◌*◌, ◌%◌, ◌<◌, ◌≤◌, length, add-one, arith}
+use Rattle.std.proofs.lemmas.Grind.{rows}
 use Rattle.std.proofs.lemmas.List.{get_or-set_same, get_or-set_other, length-set}
-use Rattle.std.proofs.lemmas.Nat.{div-mul-add, mod-mul-add, mul-add-lt}
+use Rattle.std.proofs.lemmas.Nat.{same_from_place}
 use Rattle.pfs_base.specs.FlowShop.{FlowShop, time_of, with_time}
 use Rattle.pfs_base.specs.Problem.{Problem}
 use Rattle.pfs_base.specs.declared.limits.TheConstants.{LONGEST_TIME}
 use Rattle.pfs_base.specs.declared.notes.Notes.{Notes}
 use Rattle.pfs_layout.specs.Generator.{prime, seed_after, drawn_time, generated, SeedsStay, GeneratedWithin}
-use Rattle.pfs_layout.proofs.Tables.{table, length-table, same_table, all_table}
-
-pub seed_after-below : (draws seed : ℕ) → seed < prime → seed_after draws seed < prime
-unfolding seed_after
-seed_after-below zero seed h = h
-seed_after-below (suc draws) seed h = omega arith
+use Rattle.pfs_layout.proofs.Tables.{length-table, same_table, all_table}
 
 -- so many draws, and then so many more
 pub seed_after-add : (more draws seed : ℕ) → seed_after (more + draws) seed ≡ seed_after more (seed_after draws seed)
 unfolding seed_after
-seed_after-add zero draws seed = let e : 0 + draws ≡ draws = omega arith in rw e
+seed_after-add zero draws seed = grind arith
 seed_after-add (suc more) draws seed =
-    let e : suc more + draws ≡ suc (more + draws) = omega arith in rw (e, seed_after-add more draws seed)
+    let next : suc more + draws ≡ suc (more + draws) = omega arith in rw (next, seed_after-add more draws seed)
 
 -- a time that was set
 pub with_time-same : (shop : FlowShop) (job machine time : ℕ) → length shop.times ≡ shop.jobs * shop.machines
     → job < shop.jobs → machine < shop.machines → time_of (with_time shop job machine time) job machine ≡ time
 with_time-same shop job machine time all j m =
-    let place = mul-add-lt job shop.machines machine shop.jobs j m in
-    get_or-set_same shop.times (job * shop.machines + machine) time 0 (omega (arith, mul_comm shop.jobs shop.machines))
+    grind (arith, rows, get_or-set_same shop.times (job * shop.machines + machine) time 0)
 
 -- and the others
 pub with_time-other : (shop : FlowShop) (job machine time other at : ℕ) → machine < shop.machines → at < shop.machines
     → (other ≡ job → at ≢ machine) → time_of (with_time shop job machine time) other at ≡ time_of shop other at
 with_time-other shop job machine time other at m n differ =
-    get_or-set_other shop.times (job * shop.machines + machine) (other * shop.machines + at) time 0 (λ same.
-    let rows = ap (λ k. k / shop.machines) same in
-    let columns = ap (λ k. k % shop.machines) same in
-    differ (rw (div-mul-add other shop.machines at n, div-mul-add job shop.machines machine m) at rows)
-    (rw (mod-mul-add other shop.machines at n, mod-mul-add job shop.machines machine m) at columns))
+    grind (arith, get_or-set_other {A = ℕ}, same_from_place other at job machine shop.machines n m)
+
+-- the problem has so many jobs and machines, a time of each job on each machine, and these notes
+pub record IsOf (jobs machines : ℕ) (notes : Notes) (now : Problem) : Type 0 where
+  pub same_jobs : now.shop.jobs ≡ jobs
+  pub same_machines : now.shop.machines ≡ machines
+  pub every_time : length now.shop.times ≡ jobs * machines
+  pub same_notes : now.notes ≡ notes
 
 -- so many jobs' times on a machine are drawn, the last by this seed, and the other machines' times are as before
 pub record DrawnSoFar (first : ℕ) (before : Problem) (machine jobs seed : ℕ) (now : Problem) : Type 0 where
   pub last : seed ≡ seed_after jobs first
   pub below : seed < prime
-  pub same_jobs : now.shop.jobs ≡ before.shop.jobs
-  pub same_machines : now.shop.machines ≡ before.shop.machines
-  pub every_time : length now.shop.times ≡ now.shop.jobs * now.shop.machines
-  pub same_notes : now.notes ≡ before.notes
+  pub same : IsOf before.shop.jobs before.shop.machines before.notes now
   pub drawn : (job : ℕ) → job < jobs → time_of now.shop job machine ≡ drawn_time (seed_after (job + 1) first)
   pub others : (job other : ℕ) → other < before.shop.machines → other ≢ machine
       → time_of now.shop job other ≡ time_of before.shop job other
 
--- the problem with another time
-abbrev pub problem_with : Problem → ℕ → ℕ → ℕ → Problem
-problem_with now job machine time = record now { shop = with_time now.shop job machine time }
-
 pub drawn_more : (first : ℕ) (before : Problem) (machine jobs seed : ℕ) (now : Problem)
     → DrawnSoFar first before machine jobs seed now → jobs < before.shop.jobs → machine < before.shop.machines
     → DrawnSoFar first before machine (jobs + 1) (16807 * seed % prime)
-    (problem_with now jobs machine (drawn_time (16807 * seed % prime)))
+    (record now { shop = with_time now.shop jobs machine (drawn_time (16807 * seed % prime)) })
 unfolding seed_after
 drawn_more first before machine jobs seed now h j m =
-    let next : ℕ = 16807 * seed % prime in
-    let last : next ≡ seed_after (jobs + 1) first = rw (add-one jobs, h.last) in
-    let row : jobs < now.shop.jobs = omega (arith, h.same_jobs) in
-    let column : machine < now.shop.machines = omega (arith, h.same_machines) in
+    let last : 16807 * seed % prime ≡ seed_after (jobs + 1) first = rw (add-one jobs, h.last) in
+    let every = rw (← h.same.same_jobs, ← h.same.same_machines) at h.same.every_time in
     record {
       last = last;
       below = omega arith;
-      same_jobs = h.same_jobs;
-      same_machines = h.same_machines;
-      every_time = length-set now.shop.times (jobs * now.shop.machines + machine) (drawn_time next) ∙ h.every_time;
-      same_notes = h.same_notes;
-      drawn = λ job k. elim (cases_eq job jobs) [
-        | inl e ↦ rw (e, ← last) (with_time-same now.shop jobs machine (drawn_time next) h.every_time row column)
-        | inr differs ↦ with_time-other now.shop jobs machine (drawn_time next) job machine column column
-            (λ same. absurd (differs same)) ∙ h.drawn job (omega arith)
-      ];
-      others = λ job other n differ. with_time-other now.shop jobs machine (drawn_time next) job other column
-          (omega (arith, h.same_machines)) (λ same. differ) ∙ h.others job other n differ;
+      same = grind (arith, h.same, length-set {A = ℕ});
+      drawn = λ job k. grind (arith, last, every, h.same, h.drawn, with_time-same, with_time-other);
+      others = λ job other n differ. grind (arith, h.same, h.others, with_time-other);
     }
 
 -- the times on so many machines are drawn, the last by this seed
 pub record DrawnMachines (jobs machines first done seed : ℕ) (now : Problem) : Type 0 where
   pub last : seed ≡ seed_after (done * jobs) first
   pub below : seed < prime
-  pub same_jobs : now.shop.jobs ≡ jobs
-  pub same_machines : now.shop.machines ≡ machines
-  pub every_time : length now.shop.times ≡ jobs * machines
-  pub same_notes : now.notes ≡ record { seed = first; upper = 0; lower = 0 }
+  pub same : IsOf jobs machines (record { seed = first; upper = 0; lower = 0 }) now
   pub drawn : (job machine : ℕ) → job < jobs → machine < done
       → time_of now.shop job machine ≡ drawn_time (seed_after (machine * jobs + job + 1) first)
 
 pub machine_more : (jobs machines first done seed next : ℕ) (now then : Problem)
-    → DrawnMachines jobs machines first done seed now → done < machines → DrawnSoFar seed now done jobs next then
-    → DrawnMachines jobs machines first (done + 1) next then
+    → DrawnMachines jobs machines first done seed now → done < machines
+    → DrawnSoFar seed now done now.shop.jobs next then → DrawnMachines jobs machines first (done + 1) next then
 machine_more jobs machines first done seed next now then h within more =
-    let next_machine : jobs + done * jobs ≡ (done + 1) * jobs = grind arith in
-    record {
-      last = rw next_machine at (more.last ∙ drawn_behind jobs);
-      below = more.below;
-      same_jobs = more.same_jobs ∙ h.same_jobs;
-      same_machines = more.same_machines ∙ h.same_machines;
-      every_time = rw (more.same_jobs, more.same_machines, h.same_jobs, h.same_machines) at more.every_time;
-      same_notes = more.same_notes ∙ h.same_notes;
-      drawn = λ job machine j m. elim (cases_eq machine done) [
-        | inl e ↦
-            let place : (job + 1) + done * jobs ≡ done * jobs + job + 1 = omega arith in
-            rw e (more.drawn job j ∙ ap drawn_time (rw place at (drawn_behind (job + 1))))
-        | inr differs ↦ more.others job machine (omega (arith, h.same_machines)) differs
-            ∙ h.drawn job machine j (omega arith)
-      ];
-    }
+    grind (arith, drawn_behind, drawn_behind now.shop.jobs)
   where
     drawn_behind : (more : ℕ) → seed_after more seed ≡ seed_after (more + done * jobs) first
-    drawn_behind more = rw h.last (sym (seed_after-add more (done * jobs) first))
+    drawn_behind more = grind (arith, h.last, seed_after-add more (done * jobs) first)
 
 -- the time of a job on a machine
 abbrev time : ℕ → ℕ → ℕ → ℕ → ℕ
@@ -127,19 +87,9 @@ pub drawn_all : (jobs machines first seed : ℕ) (now : Problem) → DrawnMachin
     → now ≡ generated jobs machines first
 unfolding generated
 drawn_all jobs machines first seed now h =
-    let times : now.shop.times ≡ table (time jobs first) jobs machines =
-    same_table (time jobs first) jobs machines now.shop.times h.every_time
-    (λ job machine j m. rw h.same_machines at (h.drawn job machine j m)) in
-    ap (λ j. made j now.shop.machines now.shop.times now.notes) h.same_jobs
-    ∙ ap (λ m. made jobs m now.shop.times now.notes) h.same_machines
-    ∙ ap (λ t. made jobs machines t now.notes) times
-    ∙ ap (λ n. made jobs machines (table (time jobs first) jobs machines) n) h.same_notes
-  where
-    made : ℕ → ℕ → List ℕ → Notes → Problem
-    made jobs machines times notes = record {
-      shop = record { jobs = jobs; machines = machines; times = times };
-      notes = notes;
-    }
+    let times = same_table (time jobs first) jobs machines now.shop.times h.same.every_time
+    (λ job machine j m. rw h.same.same_machines at (h.drawn job machine j m)) in
+    rw (← times, ← h.same.same_jobs, ← h.same.same_machines, ← h.same.same_notes)
 
 -- ---- laws
 
@@ -151,14 +101,6 @@ seeds_stay (suc draws) seed is = let before = seeds_stay draws seed is in (omega
 pub generated_within : GeneratedWithin
 unfolding generated
 generated_within jobs machines seed sizes is =
-    record {
-      within = record {
-        sizes = sizes;
-        every_time = length-table (time jobs seed) jobs machines;
-        short_times = all_table (time jobs seed) jobs machines (λ drawn. drawn ≤ LONGEST_TIME) (λ job machine j m.
-            let below = seed_after-below (machine * jobs + job + 1) seed is.1 in omega arith);
-      };
-      seed = omega arith;
-      upper = omega arith;
-      lower = omega arith;
-    }
+    let short = all_table (time jobs seed) jobs machines (λ drawn. drawn ≤ LONGEST_TIME) (λ job machine j m.
+    let seed_is = seeds_stay (machine * jobs + job + 1) seed is in omega arith) in
+    grind (arith, sizes, length-table (time jobs seed) jobs machines, short)

@@ -3,31 +3,26 @@ use Rattle.std.proofs.Common.{◌≡◌, ◌↔◌, ℕ, zero, suc, ◌+◌, ◌
 use Rattle.std.proofs.Common.{arith, Option, Some, None, ◌⊎◌, inl, inr, if◌then◌else◌}
 use Rattle.std.specs.Bool.{then_some}
 use Rattle.std.specs.Option.{option_or}
-use Rattle.std.proofs.lemmas.Bool.{cases_lt, cases_order}
 use Rattle.std.proofs.lemmas.List.{map-append}
 use Rattle.pfs_base.specs.Lists.{below, first_some}
 use Rattle.pfs_base.proofs.Published.Lists.{first_some-append, range_with_len-push}
 
 pub then_some_none : {A : Type 0} (c : Bool) (x : A) → then_some c x ≡ None → c ≡ false
-then_some_none true x e = cc
-then_some_none false x e = refl
+then_some_none c x e = grind arith
 
 pub then_some_some : {A : Type 0} (c : Bool) (x y : A) → then_some c x ≡ Some y → c ≡ true
-then_some_some true x y e = refl
-then_some_some false x y e = cc
+then_some_some c x y e = grind arith
 
 pub if_some : {A : Type 0} (v : Bool) (o : Option A) (x : A) → (if v then o else None) ≡ Some x
     → (v ≡ true) × (o ≡ Some x)
-if_some true o x e = (refl, e)
-if_some false o x e = cc
+if_some v o x e = grind arith
 
 pub cases_option : {A : Type 0} (o : Option A) → (o ≡ None) ⊎ ((x : A) × (o ≡ Some x))
 cases_option None = inl refl
 cases_option (Some x) = inr (x, refl)
 
 pub or_none : {A : Type 0} (o p : Option A) → option_or o p ≡ None → (o ≡ None) × (p ≡ None)
-or_none None p e = (refl, e)
-or_none (Some x) p e = cc
+or_none o p e = grind arith
 
 -- ---- a list of options
 
@@ -43,13 +38,11 @@ all_none (Some x ∷ os) e = cc
 
 -- the others are none
 pub alone : {A : Type 0} (o : Option A) (x : A) → first_some (o ∷ None ∷ []) ≡ Some x → o ≡ Some x
-alone None x e = cc
-alone (Some y) x e = e
+alone o x e = grind arith
 
 pub one_of : {A : Type 0} (o p : Option A) (x : A) → first_some (o ∷ p ∷ None ∷ []) ≡ Some x
     → (o ≡ Some x) ⊎ (p ≡ Some x)
-one_of None p x e = inr (alone p x e)
-one_of (Some y) p x e = inl e
+one_of o p x e = grind arith
 
 -- ---- the first place at which a function is there
 
@@ -59,11 +52,8 @@ module _ {A : Type 0} (f : ℕ → Option A) where
   first_push n =
       let e : 0 + n ≡ n = omega arith in
       ap (λ ns. first_some (map f ns)) (range_with_len-push 0 n)
-      ∙ rw (map-append f (below n) ((0 + n) ∷ []), first_some-append (map f (below n)) (f (0 + n) ∷ []), e, last (f n))
-    where
-      last : (o : Option A) → first_some (o ∷ []) ≡ o
-      last None = refl
-      last (Some x) = refl
+      ∙ rw (map-append f (below n) ((0 + n) ∷ []), first_some-append (map f (below n)) (f (0 + n) ∷ []), e)
+      (grind arith)
 
   -- f gives x at p and nothing before
   pub record IsFirst (p : ℕ) (x : A) : Type 0 where
@@ -72,45 +62,26 @@ module _ {A : Type 0} (f : ℕ → Option A) where
 
   pub first_not_found : (n : ℕ) → first_some (map f (below n)) ≡ None → (q : ℕ) → q < n → f q ≡ None
   first_not_found zero e q h = absurd (omega arith)
-  first_not_found (suc n) e q h =
-      let parts = or_none (first_some (map f (below n))) (f n) (rw first_push at e) in
-      let earlier = first_not_found n parts.0 q in
-      elim (cases_lt q n) [
-        | inl low ↦ earlier low
-        | inr high ↦ let same : q ≡ n = omega arith in rw same parts.1
-      ]
+  first_not_found (suc n) e q h = grind (arith, first_push n, first_not_found n)
 
   pub first_found : (n : ℕ) (x : A) → first_some (map f (below n)) ≡ Some x → (p : ℕ) × (p < n) × IsFirst p x
   first_found zero x e = cc
   first_found (suc n) x e =
-      let earlier = first_found n x in
       elim (cases_option (first_some (map f (below n)))) [
         | inr one ↦
-            let same = rw (first_push n, one.1) at e in
-            let found = earlier (one.1 ∙ same) in
-            (found.0, omega (arith, found.1), found.2)
-        | inl none ↦ (n, omega arith, record { here = rw (first_push n, none) at e; before = first_not_found n none })
+            let found = first_found n x (grind (arith, first_push n)) in (found.0, omega (arith, found.1), found.2)
+        | inl none ↦
+            let here : f n ≡ Some x = grind (arith, first_push n) in
+            (n, omega arith, record { here = here; before = first_not_found n none })
       ]
 
   -- one place is first
   pub one_first : (p q : ℕ) (x y : A) → IsFirst p x → IsFirst q y → x ≡ y
-  one_first p q x y s t = elim (cases_order p q) [
-    | inl e ↦ let h = rw e at s.here in let k = t.here in cc
-    | inr (inl l) ↦ absurd (let h = t.before p l in let k = s.here in cc)
-    | inr (inr l) ↦ absurd (let h = s.before q l in let k = t.here in cc)
-  ]
+  one_first p q x y s t = grind (arith, s.before, t.before)
 
   pub first_is : (n : ℕ) (x : A) → first_some (map f (below n)) ≡ Some x ↔ ((p : ℕ) × (p < n) × IsFirst p x)
-  first_is n x = (
-    first_found n x,
-    λ found. elim (cases_option (first_some (map f (below n)))) [
-      | inl none ↦ let no_fault = first_not_found n none found.0 found.1 in let here = found.2.here in cc
-      | inr one ↦
-          let other = first_found n one.0 one.1 in
-          one.1 ∙ ap Some (one_first other.0 found.0 one.0 x other.2 found.2)
-    ],
-  )
+  first_is n x = (first_found n x, λ found. grind (arith, first_not_found n, first_found n, one_first))
 
   pub none_first : (n : ℕ) → ((q : ℕ) → q < n → f q ≡ None) → first_some (map f (below n)) ≡ None
   none_first zero none = refl
-  none_first (suc n) none = rw (first_push n, none_first n (λ q h. none q (omega arith)), none n (omega arith))
+  none_first (suc n) none = grind (arith, first_push n, none_first n, none)

@@ -1,38 +1,20 @@
 -- Lists of rows of one width, by row and column.
-use Rattle.std.proofs.Common.{◌≡◌, ℕ, zero, suc, ◌+◌, ◌*◌, ◌/◌, ◌%◌, ◌<◌, List, length, get_or, map, flat_map}
-use Rattle.std.proofs.Common.{sym, ◌∙◌, arith}
-use Rattle.std.specs.List.{All, range_with_len}
-use Rattle.std.proofs.Math.Nat.{div-lt_iff_lt-mul, mod-lt}
-use Rattle.std.proofs.lemmas.Grind.{same_number_lists}
-use Rattle.std.proofs.lemmas.List.{get_or_append_left, get_or-append-add, length-append}
+use Rattle.std.proofs.Common.{◌≡◌, ℕ, zero, suc, ◌+◌, ◌*◌, ◌/◌, ◌%◌, ◌<◌, List, length, get_or, map, flat_map, sym, ◌∙◌}
+use Rattle.std.proofs.Common.{arith, All, div-lt_iff_lt-mul, mod-lt, length-append}
+use Rattle.std.proofs.lemmas.Grind.{elements, same_number_lists}
 use Rattle.std.proofs.lemmas.List.Elements.{All-from_get_or}
 use Rattle.std.proofs.lemmas.List.FromFn.{get_or-map-range_with_len, length-map-range_with_len}
 use Rattle.pfs_base.specs.Lists.{below}
+use Rattle.pfs_base.proofs.Published.SpacedLemmas.{flat_map_more, flat_map_from}
 
 module _ (f : ℕ → List ℕ) (w : ℕ) (each : (i : ℕ) → length (f i) ≡ w) where
-  rows_from : (a n : ℕ) → length (flat_map f (range_with_len a n)) ≡ n * w
-  rows_from a zero = omega arith
-  rows_from a (suc n) =
-      length-append (f a) (flat_map f (range_with_len (a + 1) n)) ∙ grind (arith, each a, rows_from (a + 1) n)
-
-  at_from : (a n r c d : ℕ) → r < n → c < w
-      → get_or (flat_map f (range_with_len a n)) (r * w + c) d ≡ get_or (f (a + r)) c d
-  at_from a zero r c d h l = absurd (omega arith)
-  at_from a (suc n) zero c d h l =
-      let e : 0 * w + c ≡ c = omega arith in
-      let g : a + 0 ≡ a = omega arith in
-      rw (e, g) (get_or_append_left (f a) (flat_map f (range_with_len (a + 1) n)) d c (omega (arith, each a)))
-  at_from a (suc n) (suc r) c d h l =
-      let e : suc r * w + c ≡ length (f a) + (r * w + c) = grind (arith, each a) in
-      let g : (a + 1) + r ≡ a + suc r = omega arith in
-      rw (e, get_or-append-add (f a) (flat_map f (range_with_len (a + 1) n)) (r * w + c) d, ← g)
-      (at_from (a + 1) n r c d (omega arith) l)
-
   pub length-rows : (n : ℕ) → length (flat_map f (below n)) ≡ n * w
-  length-rows n = rows_from 0 n
+  length-rows zero = omega arith
+  length-rows (suc n) = grind (arith, flat_map_more f n, each, length-rows n, length-append {A = ℕ})
 
   pub rows_at : (n r c d : ℕ) → r < n → c < w → get_or (flat_map f (below n)) (r * w + c) d ≡ get_or (f r) c d
-  rows_at n r c d h l = let e : 0 + r ≡ r = omega arith in rw e at (at_from 0 n r c d h l)
+  rows_at n r c d h l =
+      let parts = flat_map_from f r n h in grind (arith, elements, parts.1, each, length-rows)
 
 -- k is row r and column c of rows of this width
 pub record IsAt (k rows width : ℕ) : Type 0 where
@@ -42,20 +24,15 @@ pub record IsAt (k rows width : ℕ) : Type 0 where
   pub column_in : column < width
   pub is : k ≡ row * width + column
 
-some_factor : (a b k : ℕ) → k < a * b → 0 < b
-some_factor a zero k h = absurd (omega arith)
-some_factor a (suc b) k h = omega arith
-
 pub at_row : (k rows width : ℕ) → k < rows * width → IsAt k rows width
 at_row k rows w h =
-    let some : 0 < w = some_factor rows w k h in
-    let e : w * (k / w) + k % w ≡ k = omega arith in
+    let some : 0 < w = grind arith in
     record {
       row = k / w;
       column = k % w;
       row_in = (div-lt_iff_lt-mul some).1 h;
       column_in = mod-lt k some;
-      is = grind (arith, e);
+      is = omega arith;
     }
 
 -- what a function gives at each row and column
@@ -63,21 +40,16 @@ abbrev pub table : (ℕ → ℕ → ℕ) → ℕ → ℕ → List ℕ
 table f rows width = flat_map (λ row. map (λ column. f row column) (below width)) (below rows)
 
 module _ (f : ℕ → ℕ → ℕ) (rows width : ℕ) where
-  row_of : ℕ → List ℕ
+  abbrev row_of : ℕ → List ℕ
   row_of row = map (λ column. f row column) (below width)
 
-  length-row_of : (row : ℕ) → length (row_of row) ≡ width
-  unfolding row_of
-  length-row_of row = length-map-range_with_len (λ column. f row column) 0 width
-
   pub length-table : length (table f rows width) ≡ rows * width
-  unfolding row_of
-  length-table = length-rows row_of width length-row_of rows
+  length-table = length-rows row_of width (λ row. length-map-range_with_len (λ column. f row column) 0 width) rows
 
   pub table_at : (row column d : ℕ) → row < rows → column < width
       → get_or (table f rows width) (row * width + column) d ≡ f row column
-  unfolding row_of
-  table_at row column d r c = rows_at row_of width length-row_of rows row column d r c
+  table_at row column d r c =
+      rows_at row_of width (λ row. length-map-range_with_len (λ column. f row column) 0 width) rows row column d r c
       ∙ get_or-map-range_with_len (λ column. f row column) 0 width column column d c (omega arith)
 
   -- a list with those elements is that table
@@ -85,9 +57,7 @@ module _ (f : ℕ → ℕ → ℕ) (rows width : ℕ) where
       → ((row column : ℕ) → row < rows → column < width → get_or xs (row * width + column) 0 ≡ f row column)
       → xs ≡ table f rows width
   same_table xs size each = same_number_lists xs (table f rows width) (size ∙ sym length-table) (λ k h.
-      let at = at_row k rows width (omega (arith, size)) in
-      rw at.is (each at.row at.column at.row_in at.column_in
-      ∙ sym (table_at at.row at.column 0 at.row_in at.column_in)))
+      let at = at_row k rows width (omega (arith, size)) in grind (arith, at.is, each, table_at))
 
   pub all_table : (P : ℕ → Type 0) → ((row column : ℕ) → row < rows → column < width → P (f row column))
       → All P (table f rows width)

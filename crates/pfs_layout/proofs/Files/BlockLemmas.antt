@@ -1,47 +1,31 @@
 -- Where a block leads.
-use Rattle.std.proofs.Common.{◌≡◌, ℕ, ◌+◌, ◌<◌, Bool, true, false, not, List, [], ◌∷◌, ◌++◌, length, fold, flat_map}
-use Rattle.std.proofs.Common.{refl, sym, ◌∙◌, ap, arith, ◌==◌}
+use Rattle.std.proofs.Common.{◌≡◌, ℕ, ◌+◌, ◌<◌, true, not, List, [], ◌∷◌, ◌++◌, length, fold, flat_map, refl, sym}
+use Rattle.std.proofs.Common.{arith, append_assoc, append-nil, length-append}
 use Rattle.std.specs.List.{AllByRecursion, list_any, list_all}
-use Rattle.std.proofs.lemmas.Bool.{and_parts, eq-eqb, false≢true, ne_eqb, not-true}
-use Rattle.std.proofs.Math.Bool.{or-false}
-use Rattle.std.proofs.lemmas.List.{append_assoc, append-nil, length-append}
-use Rattle.std.proofs.lemmas.List.Folds.{list_any-append, list_all-append}
+use Rattle.std.proofs.lemmas.Bool.{and_parts, false≢true}
+use Rattle.std.proofs.lemmas.List.Folds.{list_all-append}
 use Rattle.std.proofs.lemmas.List.Sums.{fold-append}
 use Rattle.pfs_layout.specs.declared.layout.Layout.{Layout}
-use Rattle.pfs_layout.specs.Bytes.{is_digit, is_word_byte}
+use Rattle.pfs_layout.specs.Bytes.{is_digit}
 use Rattle.pfs_base.specs.Limits.{limits}
-use Rattle.pfs_base.specs.Lists.{is_empty}
-use Rattle.pfs_base.proofs.Published.Lists.{by_push, enumerate_from-append}
+use Rattle.pfs_base.proofs.Published.Lists.{enumerate_from-append}
 use Rattle.pfs_base.specs.Problem.{Problem}
 use Rattle.pfs_layout.specs.Size.{Size, size_of}
-use Rattle.pfs_layout.specs.Lines.{is_mixed, is_number_line, is_no_digit, values, numbers, ended_numbers, last_digits}
+use Rattle.pfs_layout.specs.Lines.{is_mixed, is_number_line, is_no_digit, numbers}
 use Rattle.pfs_layout.specs.Block.{are_due, due, due_count}
-use Rattle.pfs_layout.specs.Stand.{Block, seeking, inside, standing, completed, begun, after_line, stand_after}
-use Rattle.pfs_layout.specs.File.{AreBlocks, IsSomeBlock, IsBlock}
-use Rattle.pfs_layout.proofs.Files.LineLemmas.{open_part-push, ended_numbers-push, numbers_is}
-use Rattle.pfs_layout.proofs.Files.SoundLemmas.{values_last}
+use Rattle.pfs_layout.specs.Stand.{Block, seeking, inside, standing, completed, stand_after}
+use Rattle.pfs_layout.specs.File.{IsSomeBlock, IsBlock}
+use Rattle.pfs_layout.proofs.Files.LineLemmas.{split_some}
 use Rattle.pfs_layout.proofs.Files.SizeLemmas.{within_size}
 use Rattle.pfs_layout.proofs.Files.DueLemmas.{due_passes, length-due}
 use Rattle.pfs_layout.proofs.Files.RoundLemmas.{block_of}
 
 -- a line with a digit has a number
 numbers_some : (line : List ℕ) → list_any is_digit line ≡ true → 0 < length (numbers line)
-numbers_some = by_push (λ line. list_any is_digit line ≡ true → 0 < length (numbers line))
-    (λ e. absurd (false≢true e)) (λ line b h any. step (is_digit b) line b refl h any)
-  where
-    step : (d : Bool) (line : List ℕ) (b : ℕ) → is_digit b ≡ d
-        → (list_any is_digit line ≡ true → 0 < length (numbers line))
-        → list_any is_digit (line ++ b ∷ []) ≡ true → 0 < length (numbers (line ++ b ∷ []))
-    step true line b e h any =
-        let digits : List ℕ = last_digits line ++ b ∷ [] in
-        let some : is_empty digits ≡ false = ne_eqb (length digits) 0
-        (λ z. omega (arith, length-append (last_digits line) (b ∷ []))) in
-        let last : length (values (digits ∷ [])) ≡ 1 = ap length (values_last false digits some) in
-        rw (numbers_is (line ++ b ∷ []), open_part-push is_no_digit line b, e)
-        (omega (arith, length-append (ended_numbers (line ++ b ∷ [])) (values (digits ∷ []))))
-    step false line b e h any =
-        let before = h (rw (list_any-append, e, or-false (list_any is_digit line)) at any) in
-        rw (numbers_is (line ++ b ∷ []), ended_numbers-push line b, e) (omega (arith, length-append {A = ℕ}))
+unfolding numbers
+numbers_some [] any = absurd (false≢true any)
+numbers_some (b ∷ line) any =
+    let parts = split_some is_no_digit line in grind (arith, parts.is, numbers_some line)
 
 -- the first of numbers that are due are due
 pub are_due_front : (layout : Layout) (size : Size) (xs ys : List ℕ) → are_due layout size (xs ++ ys) ≡ true
@@ -56,9 +40,7 @@ module _ (layout : Layout) (complete : List Block) where
       → fold (stand_after layout) (standing complete seeking) skipped ≡ standing complete seeking
   unfolding stand_after
   skip_fold [] e = refl
-  skip_fold (line ∷ more) e =
-      let parts = and_parts (not (is_number_line line)) (list_all (λ line. not (is_number_line line)) more) e in
-      rw (not-true (is_number_line line) parts.0) (skip_fold more parts.1)
+  skip_fold (line ∷ more) e = grind (arith, skip_fold more)
 
   -- the lines of a body complete a block
   body_fold : (size : Size) (ns : List ℕ) (front : List (List ℕ)) (last : List ℕ)
@@ -69,26 +51,12 @@ module _ (layout : Layout) (complete : List Block) where
       (front ++ last ∷ [])
       ≡ completed complete (record { size = size; numbers = all })
   unfolding stand_after
-  body_fold size ns [] last unmixed numbered all is due count =
-      let parts = and_parts (list_any is_digit last) (not (list_any is_word_byte last)) numbered in
-      let plain = not-true (list_any is_word_byte last) parts.1 in
-      rw (parts.0, plain, ← is, due, eq-eqb (length all) (due_count layout size) count)
+  body_fold size ns [] last unmixed numbered all is due count = grind arith
   body_fold size ns (line ∷ more) last unmixed numbered all is due count =
-      let parts = and_parts (not (is_mixed line)) (list_all (λ l. not (is_mixed l)) more) unmixed in
       let here : List ℕ = ns ++ numbers line in
       let left : List ℕ = flat_map numbers more ++ numbers last in
       let regroup : all ≡ here ++ left = rw is (simp append_assoc) in
-      let some = numbers_some last (and_parts (list_any is_digit last) (not (list_any is_word_byte last)) numbered).0 in
-      let longer = length-append here left in
-      let longest = length-append (flat_map numbers more) (numbers last) in
-      let short : (length here == due_count layout size) ≡ false =
-      ne_eqb (length here) (due_count layout size) (λ e. omega (arith, ap length regroup)) in
-      let next : Block = record { size = size; numbers = here } in
-      let step : after_line layout complete (inside (record { size = size; numbers = ns })) line
-      ≡ standing complete (inside next) =
-      rw (not-true (is_mixed line) parts.0, are_due_front layout size here left (rw regroup at due), short) in
-      ap (λ s. fold (stand_after layout) s (more ++ last ∷ [])) step
-      ∙ body_fold size here more last parts.1 numbered all regroup due count
+      grind (arith, regroup, numbers_some, are_due_front, length-append {A = ℕ}, body_fold size here more last)
 
   -- a block is completed by its lines
   pub block_fold : (problem : Problem) (block : List (List ℕ)) → IsBlock limits layout problem block
@@ -96,15 +64,14 @@ module _ (layout : Layout) (complete : List Block) where
   unfolding stand_after
   block_fold problem block b =
       let tail : List (List ℕ) = b.front ++ b.last ∷ [] in
-      let lines : block ≡ b.skipped ++ (b.size_line ∷ tail) =
-      rw b.parts (append_assoc b.skipped (b.size_line ∷ b.front) _) in
-      let step : after_line layout complete seeking b.size_line ≡ standing complete (inside (begun (size_of problem))) =
-      rw (b.size.number_line, b.size.states, within_size problem b.within) in
-      rw (lines, fold-append (stand_after layout) (standing complete seeking) b.skipped (b.size_line ∷ tail))
-      (ap (λ s. fold (stand_after layout) s (b.size_line ∷ tail)) (skip_fold b.skipped b.no_numbers)
-      ∙ ap (λ s. fold (stand_after layout) s tail) step
-      ∙ body_fold (size_of problem) [] b.front b.last b.body.front_unmixed b.body.last_numbers (due layout problem.shop)
-      (sym b.body.holds) (due_passes layout problem b.within.within.short_times) (length-due layout problem))
+      let lines = append_assoc b.skipped (b.size_line ∷ b.front) (b.last ∷ []) in
+      let skipped = skip_fold b.skipped b.no_numbers in
+      let within = within_size problem b.within in
+      let body = body_fold (size_of problem) [] b.front b.last b.body.front_unmixed b.body.last_numbers
+      (due layout problem.shop) (sym b.body.holds) (due_passes layout problem b.within.within.short_times)
+      (length-due layout problem) in
+      let joined = fold-append (stand_after layout) (standing complete seeking) b.skipped (b.size_line ∷ tail) in
+      grind (arith, b.parts, b.size)
 
 -- blocks lead to as many complete ones, the last of which is the instance's
 pub record LeadsTo (layout : Layout) (complete : List Block) (problem : Problem) (count : ℕ) (text : List (List ℕ))
@@ -123,21 +90,10 @@ blocks_lead layout complete problem (block ∷ earlier) own each b =
     let first : Block = block_of layout each.0.0 in
     let more = blocks_lead layout (complete ++ first ∷ []) problem earlier own each.1 b in
     let rest : List (List ℕ) = flat_map (λ block. block) earlier ++ own in
+    let lines = append_assoc block (flat_map (λ block. block) earlier) own in
+    let joined = fold-append (stand_after layout) (standing complete seeking) block rest in
     record {
       before = first ∷ more.before;
       as_many = omega (arith, more.as_many);
-      end = rw (append_assoc block (flat_map (λ block. block) earlier) own)
-          (rw (
-            fold-append (stand_after layout) (standing complete seeking) block rest,
-            block_fold layout complete each.0.0 block each.0.1,
-          )
-          (rw more.end (simp append_assoc)));
+      end = rw (lines, joined, block_fold layout complete each.0.0 block each.0.1) (rw more.end (simp append_assoc));
     }
-
--- the lines of k blocks lead to k complete ones, of which the last is the instance's
-pub file_leads : (layout : Layout) (k : ℕ) (problem : Problem) (text : List (List ℕ))
-    → AreBlocks limits layout k problem text → LeadsTo layout [] problem k text
-unfolding stand_after
-file_leads layout k problem text a =
-    let count : k ≡ length a.earlier + 1 = sym a.count in
-    rw (a.parts, count) (blocks_lead layout [] problem a.earlier a.own a.each a.is_own)

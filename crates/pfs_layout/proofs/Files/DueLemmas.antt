@@ -1,13 +1,14 @@
 -- The numbers that are due, by index.
-use Rattle.std.proofs.Common.{◌≡◌, ℕ, zero, suc, ◌+◌, ◌*◌, ◌/◌, ◌%◌, ◌<◌, ◌≤◌, true, List, [], ◌∷◌, length, get_or}
-use Rattle.std.proofs.Common.{refl, ◌∙◌, ap, arith, lit<, ◌==◌, inl, inr, if◌then◌else◌}
+use Rattle.std.proofs.Common.{◌≡◌, ℕ, ◌+◌, ◌*◌, ◌/◌, ◌%◌, ◌<◌, ◌≤◌, true, List, [], ◌∷◌, length, get_or, refl, ◌∙◌}
+use Rattle.std.proofs.Common.{arith, inl, inr}
 use Rattle.std.specs.List.{All, enumerate_from}
-use Rattle.std.proofs.lemmas.Bool.{cases_lt, eq-eqb, le-leb, lt-ltb}
+use Rattle.std.proofs.lemmas.Bool.{cases_eq, eq-eqb}
+use Rattle.std.proofs.lemmas.Bool.Decides.{nat_tests}
+use Rattle.std.proofs.lemmas.Grind.{elements}
 use Rattle.std.proofs.lemmas.List.{get_or_past, get_or_default}
-use Rattle.std.proofs.lemmas.List.Elements.{All-get_or}
 use Rattle.std.proofs.lemmas.List.FromFn.{get_or-enumerate_from, length-enumerate_from, length-map-range_with_len}
 use Rattle.std.proofs.lemmas.List.Sums.{list_all-from_AllPass}
-use Rattle.std.proofs.lemmas.Nat.{div-mul-add, mod-mul-add}
+use Rattle.std.proofs.lemmas.Nat.{mod-mul-add, mul-add-lt}
 use Rattle.pfs_base.specs.declared.limits.TheConstants.{LONGEST_TIME}
 use Rattle.pfs_base.specs.FlowShop.{FlowShop, time_of}
 use Rattle.pfs_base.specs.Problem.{Problem}
@@ -42,12 +43,6 @@ length-due Taillard problem =
 length-due OrLib problem =
     length-rows (due_row OrLib problem.shop) _ (length-due_row OrLib problem.shop) problem.shop.jobs ∙ grind arith
 
--- a machine's time of a job, in Taillard's layout
-pub taillard_entry : (shop : FlowShop) (machine job d : ℕ) → machine < shop.machines → job < shop.jobs
-    → get_or (due Taillard shop) (machine * shop.jobs + job) d ≡ time_of shop job machine
-unfolding due due_row
-taillard_entry shop machine job d m j = table_at (λ machine job. time_of shop job machine) _ _ machine job d m j
-
 -- the number of a machine and its time of a job, in the OR-Library's layout
 pub pair_at : (shop : FlowShop) (job machine c d : ℕ) → job < shop.jobs → machine < shop.machines → c < 2
     → get_or (due OrLib shop) (job * (shop.machines * 2) + (machine * 2 + c)) d ≡ get_or (pairs_of shop job machine) c d
@@ -62,62 +57,50 @@ pub time_due : (layout : Layout) (problem : Problem) (job machine : ℕ) → job
     → machine < problem.shop.machines
     → get_or (due layout problem.shop) (place_of_time layout (size_of problem) job machine) 0
     ≡ time_of problem.shop job machine
-time_due Taillard problem job machine j m = taillard_entry problem.shop machine job 0 m j
-time_due OrLib problem job machine j m =
-    let place : 2 * (job * problem.shop.machines + machine) + 1
-    ≡ job * (problem.shop.machines * 2) + (machine * 2 + 1) = grind arith in
-    rw place (pair_at problem.shop job machine 1 0 j m (lit< tt))
+unfolding due due_row
+time_due Taillard problem job machine j m =
+    table_at (λ machine job. time_of problem.shop job machine) _ _ machine job 0 m j
+time_due OrLib problem job machine j m = grind (arith, pair_at problem.shop job machine 1 0)
+
+-- ---- what is due at a place
+
+pub place_within : (layout : Layout) (size : Size) (job machine : ℕ) → job < size.jobs → machine < size.machines
+    → place_of_time layout size job machine < due_count layout size
+place_within layout size job machine j m = grind (arith, mul-add-lt)
+
+pub due_time : (layout : Layout) (size : Size) (job machine : ℕ) → job < size.jobs → machine < size.machines
+    → due_at layout size (place_of_time layout size job machine) ≡ any_time
+unfolding due_at
+due_time layout size job machine j m = grind (arith, nat_tests, place_within)
+
+-- a place is a time's, or a machine number's
+pub data PlaceIs (layout : Layout) (problem : Problem) (k : ℕ) : Type 0 where
+  a_time : (job machine : ℕ) → job < problem.shop.jobs → machine < problem.shop.machines
+      → k ≡ place_of_time layout (size_of problem) job machine → PlaceIs layout problem k
+  a_number : (machine : ℕ) → due_at layout (size_of problem) k ≡ machine_number machine
+      → get_or (due layout problem.shop) k 0 ≡ machine → PlaceIs layout problem k
+
+pub place_is : (layout : Layout) (problem : Problem) (k : ℕ) → k < due_count layout (size_of problem)
+    → PlaceIs layout problem k
+unfolding due_at
+place_is Taillard problem k h =
+    let at = at_row k problem.shop.machines problem.shop.jobs (grind (arith, h)) in
+    a_time at.column at.row at.column_in at.row_in at.is
+place_is OrLib problem k h =
+    let m : ℕ = problem.shop.machines in
+    let at = at_row (k / 2) problem.shop.jobs m (omega arith) in
+    elim (cases_eq (k % 2) 0) [
+      | inl even ↦
+          a_number at.column (grind (arith, nat_tests, at.is, mod-mul-add at.row m at.column))
+          (grind (arith, at.is, pair_at problem.shop at.row at.column 0 0))
+      | inr odd ↦ a_time at.row at.column at.row_in at.column_in (omega (arith, at.is))
+    ]
 
 -- ---- what is due passes
 
 -- the times are within the limit
 pub short_at : (times : List ℕ) → All (λ time. time ≤ LONGEST_TIME) times → (k : ℕ) → get_or times k 0 ≤ LONGEST_TIME
-short_at times short k = elim (cases_lt k (length times)) [
-  | inl h ↦ All-get_or (λ time. time ≤ LONGEST_TIME) times k 0 h short
-  | inr h ↦ omega (arith, get_or_past times k 0 h)
-]
-
-pub taillard_at : (s : Size) (k : ℕ) → k < due_count Taillard s → due_at Taillard s k ≡ any_time
-unfolding due_at
-taillard_at s k h = rw (lt-ltb k (due_count Taillard s) h)
-
-pub orlib_at : (s : Size) (k : ℕ) → k < due_count OrLib s
-    → due_at OrLib s k ≡ (if k % 2 == 0 then machine_number (k / 2 % s.machines) else any_time)
-unfolding due_at
-orlib_at s k h = rw (lt-ltb k (due_count OrLib s) h)
-
--- k is in the pair of a job and a machine, the number of the machine or its time
-pub record IsInPair (size : Size) (k : ℕ) : Type 0 where
-  pub job : ℕ
-  pub machine : ℕ
-  pub column : ℕ
-  pub job_in : job < size.jobs
-  pub machine_in : machine < size.machines
-  pub column_in : column < 2
-  pub is : k ≡ job * (size.machines * 2) + (machine * 2 + column)
-  pub wanted : due_at OrLib size k ≡ (if column == 0 then machine_number machine else any_time)
-
-pub in_pair : (size : Size) (k : ℕ) → k < due_count OrLib size → IsInPair size k
-in_pair size k h =
-    let m : ℕ = size.machines in
-    let at = at_row k size.jobs (m * 2) (grind (arith, h)) in
-    let pair = at_row at.column m 2 at.column_in in
-    let is : k ≡ at.row * (m * 2) + (pair.row * 2 + pair.column) = omega (arith, at.is, pair.is) in
-    let halves : k ≡ (at.row * m + pair.row) * 2 + pair.column = grind (arith, is) in
-    let odd : k % 2 ≡ pair.column = ap (λ i. i % 2) halves
-    ∙ mod-mul-add (at.row * m + pair.row) 2 pair.column pair.column_in in
-    let half : k / 2 ≡ at.row * m + pair.row =
-    ap (λ i. i / 2) halves ∙ div-mul-add (at.row * m + pair.row) 2 pair.column pair.column_in in
-    record {
-      job = at.row;
-      machine = pair.row;
-      column = pair.column;
-      job_in = at.row_in;
-      machine_in = pair.row_in;
-      column_in = pair.column_in;
-      is = is;
-      wanted = rw (orlib_at size k h, odd, half, mod-mul-add at.row m pair.row pair.row_in);
-    }
+short_at times short k = grind (arith, elements, get_or_past times k 0)
 
 -- numbers of which each is what is due at its place
 pub are_due_by_place : (layout : Layout) (size : Size) (numbers : List ℕ)
@@ -126,38 +109,14 @@ pub are_due_by_place : (layout : Layout) (size : Size) (numbers : List ℕ)
 unfolding are_due
 are_due_by_place layout size numbers each =
     list_all-from_AllPass (λ placed. is_due (due_at layout size placed.0) placed.1) (enumerate_from 0 numbers) (λ k d h.
-    let inside : k < length numbers = omega (arith, length-enumerate_from 0 numbers) in
-    let e : 0 + k ≡ k = omega arith in
-    rw (get_or-enumerate_from 0 numbers k d inside, e, get_or_default numbers k d.1 0 inside) (each k inside))
+    grind (arith, each, length-enumerate_from {X = ℕ}, get_or-enumerate_from {X = ℕ}, get_or_default {X = ℕ}))
 
-module _ (problem : Problem) (within : All (λ time. time ≤ LONGEST_TIME) problem.shop.times) where
-  -- a machine number and a time
-  pair_passes : (job machine column : ℕ) → column < 2
-      → is_due (if column == 0 then machine_number machine else any_time)
-      (get_or (pairs_of problem.shop job machine) column 0)
-      ≡ true
-  pair_passes job machine zero l = eq-eqb machine machine refl
-  pair_passes job machine (suc zero) l =
-      le-leb (time_of problem.shop job machine) LONGEST_TIME (short_at problem.shop.times within _)
-  pair_passes job machine (suc (suc column)) l = absurd (omega arith)
-
-  passes : (layout : Layout) (k : ℕ) → k < due_count layout (size_of problem)
-      → is_due (due_at layout (size_of problem) k) (get_or (due layout problem.shop) k 0) ≡ true
-  passes Taillard k h =
-      let at = at_row k problem.shop.machines problem.shop.jobs (grind (arith, h)) in
-      let time = taillard_entry problem.shop at.row at.column 0 at.row_in at.column_in in
-      rw (taillard_at (size_of problem) k h) (le-leb (get_or (due Taillard problem.shop) k 0) LONGEST_TIME
-      (rw (at.is, time) (short_at problem.shop.times within _)))
-  passes OrLib k h =
-      let pair = in_pair (size_of problem) k h in
-      let number = pair_at problem.shop pair.job pair.machine pair.column 0 pair.job_in pair.machine_in pair.column_in
-      in
-      rw (pair.wanted, ap (λ i. get_or (due OrLib problem.shop) i 0) pair.is, number)
-      (pair_passes pair.job pair.machine pair.column pair.column_in)
-
--- what is due passes
 pub due_passes : (layout : Layout) (problem : Problem) → All (λ time. time ≤ LONGEST_TIME) problem.shop.times
     → are_due layout (size_of problem) (due layout problem.shop) ≡ true
-due_passes layout problem within =
-    are_due_by_place layout (size_of problem) (due layout problem.shop)
-    (λ k h. passes problem within layout k (omega (arith, length-due layout problem)))
+due_passes layout problem within = are_due_by_place layout (size_of problem) (due layout problem.shop) (λ k h.
+    elim (place_is layout problem k (omega (arith, length-due layout problem))) [
+      | a_time job machine j m place ↦
+          let short = short_at problem.shop.times within (job * problem.shop.machines + machine) in
+          grind (arith, nat_tests, place, due_time, time_due layout problem job machine)
+      | a_number machine wanted is ↦ rw (wanted, is) (eq-eqb machine machine refl)
+    ])

@@ -1,12 +1,11 @@
 -- Numbers that pass begin what is due for some problem.
-use Rattle.std.proofs.Common.{◌≡◌, ℕ, ◌+◌, ◌-◌, ◌≤◌, true, List, ◌++◌, length, drop, refl, arith}
-use Rattle.std.proofs.Common.{inl, inr}
-use Rattle.std.proofs.lemmas.Bool.{cases_lt, le-ltb}
-use Rattle.std.proofs.lemmas.List.{get_or_append_left, get_or-append_right, get_or-drop, length-append, length-drop}
+use Rattle.std.proofs.Common.{◌≡◌, ℕ, ◌≤◌, true, List, ◌++◌, length, drop, refl, arith, length-append, length-drop}
+use Rattle.std.proofs.lemmas.Bool.Decides.{nat_tests}
+use Rattle.std.proofs.lemmas.Grind.{elements}
 use Rattle.pfs_base.specs.declared.limits.TheConstants.{LONGEST_TIME}
 use Rattle.pfs_layout.specs.declared.layout.Layout.{Layout}
 use Rattle.pfs_layout.specs.Size.{Size}
-use Rattle.pfs_layout.specs.Block.{nothing, due_at, are_due, due, due_count}
+use Rattle.pfs_layout.specs.Block.{due_at, are_due, due, due_count}
 use Rattle.pfs_layout.specs.Stand.{Block, begun, instance_of}
 use Rattle.pfs_layout.specs.Laws.{BeginDue, DueFronts}
 use Rattle.pfs_layout.proofs.Files.BlockLemmas.{are_due_front}
@@ -15,61 +14,36 @@ use Rattle.pfs_layout.proofs.Files.RoundLemmas.{length-times, due_number, length
 use Rattle.pfs_layout.proofs.Files.RoundLemmas.{times_short}
 use Rattle.pfs_layout.proofs.Tables.{all_table}
 
-nothing_there : (layout : Layout) (size : Size) (k : ℕ) → due_count layout size ≤ k → due_at layout size k ≡ nothing
-unfolding due_at
-nothing_there layout size k h = rw (le-ltb k (due_count layout size) h)
-
 -- no more numbers than that pass
 pub no_more_than_due : (layout : Layout) (size : Size) (numbers : List ℕ) → are_due layout size numbers ≡ true
     → length numbers ≤ due_count layout size
-no_more_than_due layout size numbers all = elim (cases_lt (due_count layout size) (length numbers)) [
-  | inr h ↦ h
-  | inl h ↦
-      let right = due_number layout size numbers (due_count layout size) all h in
-      let wrong = rw (nothing_there layout size (due_count layout size) (omega arith)) at right in
-      absurd (cc)
-]
+unfolding due_at
+no_more_than_due layout size numbers all =
+    grind (arith, nat_tests, due_number layout size numbers (due_count layout size) all)
 
 -- what is due for a problem of the size in which each time is 0
-idle_due : Layout → Size → List ℕ
+abbrev idle_due : Layout → Size → List ℕ
 idle_due layout size = due layout (instance_of layout (begun size)).shop
 
-length-idle_due : (layout : Layout) (size : Size) → length (idle_due layout size) ≡ due_count layout size
-unfolding idle_due instance_of
-length-idle_due layout size = length-due_instance layout (begun size)
-
-idle_passes : (layout : Layout) (size : Size) → are_due layout size (idle_due layout size) ≡ true
-unfolding idle_due instance_of
-idle_passes layout size =
-    due_passes layout (instance_of layout (begun size))
-    (all_table (λ job machine. 0) size.jobs size.machines (λ time. time ≤ LONGEST_TIME)
-    (λ job machine j m. omega arith))
-
 -- the numbers, and behind them what is due for the idle problem
-filled : Layout → Size → List ℕ → List ℕ
+abbrev filled : Layout → Size → List ℕ → List ℕ
 filled layout size numbers = numbers ++ drop (length numbers) (idle_due layout size)
 
 module _ (layout : Layout) (size : Size) (numbers : List ℕ) (all : are_due layout size numbers ≡ true) where
   length-filled : length (filled layout size numbers) ≡ due_count layout size
-  unfolding filled
   length-filled =
-      simp (length-append, length-drop, length-idle_due) (omega (arith, no_more_than_due layout size numbers all))
+      simp (length-append, length-drop, length-due_instance) (omega (arith, no_more_than_due layout size numbers all))
 
   filled_passes : are_due layout size (filled layout size numbers) ≡ true
-  unfolding filled
-  filled_passes = are_due_by_place layout size (filled layout size numbers) (λ k h. elim (cases_lt k (length numbers)) [
-    | inl inside ↦ rw (get_or_append_left numbers (drop (length numbers) (idle_due layout size)) 0 k inside)
-        (due_number layout size numbers k all inside)
-    | inr behind ↦
-        let back : length numbers + (k - length numbers) ≡ k = omega arith in
-        rw (get_or-append_right numbers (drop (length numbers) (idle_due layout size)) (length numbers) k 0 refl behind)
-        (rw (get_or-drop (length numbers) (idle_due layout size) (k - length numbers) 0, back)
-        (due_number layout size (idle_due layout size) k (idle_passes layout size)
-        (omega (arith, length-filled, length-idle_due layout size))))
-  ])
+  unfolding instance_of
+  filled_passes = are_due_by_place layout size (filled layout size numbers) (λ k h.
+      let none_long = all_table (λ job machine. 0) size.jobs size.machines (λ time. time ≤ LONGEST_TIME)
+      (λ job machine j m. omega arith) in
+      let idle_passes = due_passes layout (instance_of layout (begun size)) none_long in
+      grind (arith, elements, length-filled, length-due_instance layout (begun size), due_number))
 
   begin_due : BeginDue layout size numbers
-  unfolding filled instance_of
+  unfolding instance_of
   begin_due =
       let block : Block = record { size = size; numbers = filled layout size numbers } in
       record {

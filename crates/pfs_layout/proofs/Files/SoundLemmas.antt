@@ -1,31 +1,24 @@
 -- While no byte has a fault, the numbers so far are due and no line of a body is mixed.
-use Rattle.std.proofs.Common.{◌≡◌, ℕ, ◌+◌, ◌-◌, ◌<◌, ◌≤◌, Bool, true, false, ◌||◌, List, [], ◌∷◌, ◌++◌, length}
-use Rattle.std.proofs.Common.{count_by, refl, sym, arith, Option, Some, None, if◌then◌else◌, ◌==◌}
+use Rattle.std.proofs.Common.{◌≡◌, ℕ, ◌+◌, ◌-◌, ◌<◌, ◌≤◌, Bool, true, false, List, [], ◌∷◌, ◌++◌, length, refl, arith}
+use Rattle.std.proofs.Common.{Option, Some, None, if◌then◌else◌, inl, inr, append-nil, append_assoc, length-append}
 use Rattle.std.specs.List.{list_any}
 use Rattle.std.specs.Str.Parse.{digits_value}
-use Rattle.std.proofs.lemmas.Bool.{and_from, cond_both, eqb-true, le-leb, lt-ltb, ltb-false, not-false}
-use Rattle.std.proofs.lemmas.Bool.{not-true}
-use Rattle.std.proofs.lemmas.Bool.{or_left, or_parts, or_right}
-use Rattle.std.proofs.lemmas.Bool.{both_ways, cases_Bool, true_from_ne_false}
-use Rattle.std.proofs.Common.{inl, inr}
+use Rattle.std.proofs.lemmas.Bool.{and_from, cases_Bool}
+use Rattle.std.proofs.lemmas.Bool.Decides.{nat_tests}
 use Rattle.std.proofs.lemmas.Grind.{common_steps}
-use Rattle.std.proofs.lemmas.List.{append-nil, append_assoc, length-append}
 use Rattle.std.proofs.lemmas.List.Folds.{list_any-append, list_all-append}
 use Rattle.std.proofs.lemmas.List.Sums.{fold-append}
 use Rattle.pfs_layout.specs.declared.layout.Layout.{Layout}
-use Rattle.pfs_layout.specs.Bytes.{is_digit, is_blank, is_line_end, is_word_byte}
-use Rattle.pfs_base.specs.declared.limits.TheConstants.{LONGEST_TIME}
+use Rattle.pfs_layout.specs.Bytes.{is_digit, is_line_end}
 use Rattle.pfs_base.specs.Lists.{is_empty, first_some}
 use Rattle.pfs_base.proofs.Published.Lists.{by_push, enumerate_from-append}
 use Rattle.pfs_layout.specs.Size.{Size}
-use Rattle.pfs_layout.specs.Lines.{ended_parts, open_part, ended_lines, open_line, is_mixed, is_number_line}
-use Rattle.pfs_layout.specs.Lines.{is_no_digit, values, numbers, ended_numbers, last_digits}
-use Rattle.pfs_layout.specs.Block.{Due, any_time, machine_number, nothing, is_due, due_at, are_due, stated_size}
-use Rattle.pfs_layout.specs.Block.{due_count}
-use Rattle.pfs_layout.specs.Stand.{Block, Now, seeking, inside, lost, Stand, standing, completed, begun, with_line}
-use Rattle.pfs_layout.specs.Stand.{after_size, after_numbers, after_line, stand_after, stand}
-use Rattle.pfs_layout.specs.Refuse.{mixed_line, misfit, ends_line, ends_number, wrong_number, size_fault, wrong_size}
-use Rattle.pfs_layout.specs.Refuse.{faults, fault_of_place, byte_fault}
+use Rattle.pfs_layout.specs.Lines.{ended_parts, open_part, ended_lines, open_line, is_mixed, values, numbers}
+use Rattle.pfs_layout.specs.Lines.{ended_numbers, last_digits}
+use Rattle.pfs_layout.specs.Block.{Due, is_due, due_at, are_due}
+use Rattle.pfs_layout.specs.Stand.{Block, Now, seeking, inside, lost, Stand, with_line, after_line, stand_after, stand}
+use Rattle.pfs_layout.specs.Refuse.{mixed_line, misfit, ends_line, ends_number, wrong_number, wrong_size, faults}
+use Rattle.pfs_layout.specs.Refuse.{fault_of_place, byte_fault}
 use Rattle.pfs_layout.proofs.Files.LineLemmas.{ended_parts-push, open_part-push, ended_numbers-push, numbers_is}
 use Rattle.pfs_layout.proofs.Published.PlaceLemmas.{byte_fault-push}
 use Rattle.pfs_layout.proofs.Options.{then_some_none, all_none, or_none}
@@ -41,20 +34,13 @@ are_due-push layout size ns n all one =
     rw (enumerate_from-append 0 ns (n ∷ []), list_all-append, e) (and_from _ _ all (and_from _ _ one refl))
 
 pub misfit_none : (due : Due) (n offset : ℕ) → misfit due n offset ≡ None → is_due due n ≡ true
-misfit_none any_time n offset e = le-leb n LONGEST_TIME (ltb-false LONGEST_TIME n (then_some_none _ _ e))
-misfit_none (machine_number i) n offset e = not-false _ (then_some_none _ _ e)
-misfit_none nothing n offset e = cc
+misfit_none due n offset e = grind (arith, nat_tests)
 
 -- ---- the number at the end of a line
 
 pub values_last : (v : Bool) (run : List ℕ) → is_empty run ≡ v
     → values (run ∷ []) ≡ (if v then [] else digits_value 10 run ∷ [])
-values_last true run e = rw e
-values_last false run e = rw e
-
-last_digits-none : last_digits [] ≡ []
-unfolding open_part
-last_digits-none = refl
+values_last v run e = grind arith
 
 pub open_line-none : open_line [] ≡ []
 unfolding open_part
@@ -62,14 +48,9 @@ open_line-none = refl
 
 -- the last digits of a text are those of its last line
 pub same_last : (text : List ℕ) → last_digits text ≡ last_digits (open_line text)
-same_last = by_push (λ text. last_digits text ≡ last_digits (open_line text)) (rw open_line-none) (λ text b h.
-    let byte = open_part-push is_no_digit text b in
-    elim (cases_Bool (is_line_end b)) [
-      | inl ends ↦
-          let gap : is_no_digit b ≡ true = rw (eqb-true b 10 ends) in
-          rw (byte, open_part-push is_line_end text b, ends, gap) (sym last_digits-none)
-      | inr on ↦ rw (byte, open_part-push is_line_end text b, on, open_part-push is_no_digit (open_line text) b, h)
-    ])
+unfolding open_part
+same_last = by_push (λ text. last_digits text ≡ last_digits (open_line text)) refl
+    (λ text b h. grind (arith, nat_tests, open_part-push))
 
 -- ---- what holds while no byte has a fault
 
@@ -85,12 +66,10 @@ GoodNow layout lost line = ⊥
 
 -- a digit at the end of a line is a digit on it
 pub digit_there : (line : List ℕ) → is_empty (last_digits line) ≡ false → list_any is_digit line ≡ true
-digit_there = by_push (λ line. is_empty (last_digits line) ≡ false → list_any is_digit line ≡ true)
-    (λ none. let nothing = rw last_digits-none at none in absurd (cc))
-    (λ line b h some. elim (cases_Bool (is_digit b)) [
-      | inl digit ↦ rw (list_any-append is_digit line (b ∷ []), digit) (or_right (list_any is_digit line) true refl)
-      | inr gap ↦ let nothing = rw (open_part-push is_no_digit line b, gap) at some in absurd (cc)
-    ])
+unfolding open_part
+digit_there =
+    by_push (λ line. is_empty (last_digits line) ≡ false → list_any is_digit line ≡ true) (λ none. absurd (cc))
+    (λ line b h some. grind (arith, list_any-append {X = ℕ}, open_part-push))
 
 -- where the number at the end of the line is ended without a fault, all numbers of the line are due
 all_due : (layout : Layout) (block : Block) (text : List ℕ) (next : Option ℕ)
@@ -114,102 +93,42 @@ all_due layout block text next due ends right =
           (are_due-push layout block.size before _ due (rw (at, ← same_last text) one))
     ]
 
--- digits at the end of a text are ended by a blank and by a line end
-digits_ended : (text : List ℕ) (b : ℕ) → is_empty (last_digits (open_line text)) ≡ false
-    → (is_blank b || is_line_end b) ≡ true → ends_number text (Some b) ≡ true
-digits_ended text b there ends = rw (same_last text, there) ends
-
--- on an unmixed line a byte that ends a number is a blank or a line end
-ends_by : (line : List ℕ) (b : ℕ) → is_no_digit b ≡ true → is_mixed (line ++ b ∷ []) ≡ false
-    → is_empty (last_digits line) ≡ false → (is_blank b || is_line_end b) ≡ true
-ends_by line b no_digit unmixed there = true_from_ne_false _ (λ e.
-    let blank = or_parts (is_blank b) (is_line_end b) e in
-    let word : is_word_byte b ≡ true = rw (not-true (is_digit b) no_digit, blank.0, blank.1) in
-    let mixed : is_mixed (line ++ b ∷ []) ≡ true =
-    rw (list_any-append is_digit line (b ∷ []), list_any-append is_word_byte line (b ∷ []), digit_there line there)
-    (or_right _ _ (or_left _ false word)) in
-    both_ways _ unmixed mixed)
-
--- a body's line with one more byte that isn't its end
-body_push : (layout : Layout) (block : Block) (text : List ℕ) (b : ℕ) → GoodBody layout block (open_line text)
-    → mixed_line text (Some b) ≡ None → wrong_number layout block text (Some b) ≡ None
-    → GoodBody layout block (open_line text ++ b ∷ [])
-unfolding mixed_line
-body_push layout block text b good right_line right_number =
-    let line = open_line text in
-    let unmixed : is_mixed (line ++ b ∷ []) ≡ false = rw good.unmixed at (then_some_none _ _ right_line) in
-    record {
-      due = rw (ended_numbers-push line b) (elim (cases_Bool (is_no_digit b)) [
-        | inl gap ↦ rw gap (all_due layout block text (Some b) good.due
-            (λ there. digits_ended text b there (ends_by line b gap unmixed there)) right_number)
-        | inr digit ↦ rw digit good.due
-      ]);
-      unmixed = unmixed;
-    }
-
 -- the complete blocks stay
-complete_stays : (layout : Layout) (complete : List Block) (now : Now) (line : List ℕ)
+pub complete_stays : (layout : Layout) (complete : List Block) (now : Now) (line : List ℕ)
     → length complete ≤ length (after_line layout complete now line).complete
-complete_stays layout complete seeking line = omega arith
-complete_stays layout complete lost line = omega arith
-complete_stays layout complete (inside block) line = grind (arith, common_steps)
+complete_stays layout complete now line = grind (arith, common_steps)
 
 -- ---- a line end
 
-ended_numbers-none : ended_numbers [] ≡ []
+good_start : (layout : Layout) (block : Block) → are_due layout block.size block.numbers ≡ true
+    → GoodBody layout block []
 unfolding ended_numbers ended_parts
-ended_numbers-none = refl
-
-good_begun : (layout : Layout) (size : Size) → GoodBody layout (begun size) []
-unfolding ended_numbers ended_parts are_due
-good_begun layout size = record { due = refl; unmixed = refl }
-
--- after a size line without a fault
-good_size : (layout : Layout) (line : ℕ) (stated : Option Size) → size_fault stated line ≡ None
-    → GoodNow layout (after_size stated) []
-good_size layout line None e = cc
-good_size layout line (Some size) e = rw (not-false _ (then_some_none _ _ e)) (good_begun layout size)
-
-good_sought : (layout : Layout) (text : List ℕ) (next : Option ℕ) → ends_line text next ≡ true
-    → wrong_size layout text next ≡ None → GoodNow layout (after_line layout [] seeking (open_line text)).now []
-unfolding wrong_size
-good_sought layout text next ends right =
-    let stated : Option Size = stated_size layout (numbers (open_line text)) in
-    elim (cases_Bool (is_number_line (open_line text))) [
-      | inl numbered ↦
-          rw numbered (good_size layout (1 + count_by is_line_end text) stated (rw (ends, numbered) at right))
-      | inr plain ↦ rw plain tt
-    ]
-
--- after numbers that are due
-good_numbers : (layout : Layout) (complete : List Block) (next : Block) → are_due layout next.size next.numbers ≡ true
-    → GoodNow layout (after_numbers layout complete next).now []
-good_numbers layout complete next due =
-    let good : GoodBody layout next [] = record { due = rw (ended_numbers-none, append-nil) due; unmixed = refl } in
-    rw due (cond_both (length next.numbers == due_count layout next.size) (completed complete next)
-    (standing complete (inside next)) (λ after. GoodNow layout after.now []) (λ full. tt) (λ short. good))
+good_start layout block due = record { due = rw append-nil due; unmixed = refl }
 
 pub good_end : (layout : Layout) (k : ℕ) (complete : List Block) (now : Now) (text : List ℕ) (next : Option ℕ)
     → ends_line text next ≡ true → (is_empty (last_digits (open_line text)) ≡ false → ends_number text next ≡ true)
     → GoodNow layout now (open_line text) → first_some (faults layout k now text next) ≡ None
     → GoodNow layout (after_line layout complete now (open_line text)).now []
+unfolding wrong_size are_due
 good_end layout k complete seeking text next ends digits good right =
-    good_sought layout text next ends
-    (all_none (faults layout k seeking text next) right).1.0
+    let right_size = (all_none (faults layout k seeking text next) right).1.0 in
+    grind (arith, good_start)
 good_end layout k complete (inside block) text next ends digits good right =
     let rights = all_none (faults layout k (inside block) text next) right in
-    rw good.unmixed (good_numbers layout complete (with_line block (open_line text))
-    (all_due layout block text next good.due digits rights.1.1.0))
+    let due = all_due layout block text next good.due digits rights.1.1.0 in
+    grind (arith, good_start layout (with_line block (open_line text)))
 good_end layout k complete lost text next ends digits good right = good
 
--- ---- a byte
-
+-- a byte that doesn't end the line
 good_byte : (layout : Layout) (k : ℕ) (now : Now) (text : List ℕ) (b : ℕ) → GoodNow layout now (open_line text)
     → first_some (faults layout k now text (Some b)) ≡ None → GoodNow layout now (open_line text ++ b ∷ [])
+unfolding mixed_line
 good_byte layout k seeking text b good right = tt
 good_byte layout k (inside block) text b good right =
+    let line = open_line text in
     let rights = all_none (faults layout k (inside block) text (Some b)) right in
-    body_push layout block text b good rights.1.0 rights.1.1.0
+    let unmixed : is_mixed (line ++ b ∷ []) ≡ false = rw good.unmixed at (then_some_none _ _ rights.1.0) in
+    grind (arith, unmixed, good.due, ended_numbers-push, same_last, digit_there, list_any-append {X = ℕ}, all_due)
 good_byte layout k lost text b good right = good
 
 pub stand-push : (layout : Layout) (lines : List (List ℕ)) (line : List ℕ)
@@ -237,20 +156,10 @@ pub open_line-on : (text : List ℕ) (b : ℕ) → is_line_end b ≡ false
     → open_line (text ++ b ∷ []) ≡ open_line text ++ b ∷ []
 open_line-on text b e = rw (open_part-push is_line_end text b, e)
 
-pub stand_of-push : (layout : Layout) (text : List ℕ) (b : ℕ) → stand_of layout (text ++ b ∷ [])
-    ≡ (if is_line_end b then stand_after layout (stand_of layout text) (open_line text) else stand_of layout text)
-stand_of-push layout text b = cond_both (is_line_end b) _ _ (λ after. stand_of layout (text ++ b ∷ []) ≡ after)
-    (stand_of-end layout text b) (stand_of-on layout text b)
-
--- while no byte has a fault and fewer than k blocks are complete, the numbers so far are due and a body's line isn't
--- mixed
+-- the same, while no byte of the text has a fault and fewer than k blocks are complete
 abbrev pub IsSound : Layout → ℕ → List ℕ → Type 0
 IsSound layout k text = byte_fault layout k text ≡ None → length (stand_of layout text).complete < k
     → GoodNow layout (stand_of layout text).now (open_line text)
-
-sound_start : (layout : Layout) (k : ℕ) → IsSound layout k []
-unfolding ended_parts open_part stand
-sound_start layout k right few = tt
 
 sound_more : (layout : Layout) (k : ℕ) (text : List ℕ) (b : ℕ) → IsSound layout k text
     → IsSound layout k (text ++ b ∷ [])
@@ -259,21 +168,11 @@ sound_more layout k text b sound right few =
     let before : Stand = stand_of layout text in
     let rights = or_none (byte_fault layout k text) (fault_of_place layout k text (Some b))
     (rw byte_fault-push at right) in
-    let here : length before.complete < k → first_some (faults layout k before.now text (Some b)) ≡ None =
-    λ fewer. rw (lt-ltb _ k fewer) at rights.1 in
-    elim (cases_Bool (is_line_end b)) [
-      | inl ends ↦
-          let within = rw (stand_of-end layout text b ends) at few in
-          let more = complete_stays layout before.complete before.now (open_line text) in
-          let fewer : length before.complete < k = omega arith in
-          rw (stand_of-end layout text b ends, open_line-end text b ends)
-          (good_end layout k before.complete before.now text (Some b) ends
-          (λ there. digits_ended text b there (or_right _ _ ends)) (sound rights.0 fewer) (here fewer))
-      | inr on ↦
-          let fewer = rw (stand_of-on layout text b on) at few in
-          rw (stand_of-on layout text b on, open_line-on text b on)
-          (good_byte layout k before.now text b (sound rights.0 fewer) (here fewer))
-    ]
+    let within = complete_stays layout before.complete before.now (open_line text) in
+    let ended = good_end layout k before.complete before.now text (Some b) in
+    let longer = good_byte layout k before.now text b in
+    grind (arith, nat_tests, stand_of-end, stand_of-on, open_line-end, open_line-on, same_last, ended, longer)
 
 pub sound : (layout : Layout) (k : ℕ) (text : List ℕ) → IsSound layout k text
-sound layout k = by_push (IsSound layout k) (sound_start layout k) (sound_more layout k)
+unfolding ended_parts open_part stand
+sound layout k = by_push (IsSound layout k) (λ right few. tt) (sound_more layout k)

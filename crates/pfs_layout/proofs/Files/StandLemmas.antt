@@ -1,48 +1,36 @@
 -- Which lines lead to complete blocks.
-use Rattle.std.proofs.Common.{◌≡◌, ℕ, ◌*◌, ◌≤◌, Bool, true, false, not, ◌||◌, List, [], ◌∷◌, ◌++◌, length, flat_map}
-use Rattle.std.proofs.Common.{refl, sym, ◌∙◌, ap, arith, Option, Some, None, if◌then◌else◌, ◌==◌}
+use Rattle.std.proofs.Common.{◌≡◌, ℕ, true, false, not, List, [], ◌∷◌, ◌++◌, length, flat_map, sym, refl, ap, arith}
+use Rattle.std.proofs.Common.{Some, ◌==◌, inl, inr, mul-le-mul, append_assoc, append-nil}
 use Rattle.std.specs.List.{list_any, list_all}
-use Rattle.std.proofs.lemmas.Bool.{cond_both, eqb-false, eqb-true, or_parts, true_from_ne_false}
-use Rattle.std.proofs.Math.Nat.{mul-le-mul}
-use Rattle.std.proofs.lemmas.List.{append_assoc, append-nil}
-use Rattle.std.proofs.lemmas.List.Folds.{list_any-append, list_all-append}
+use Rattle.std.proofs.lemmas.Bool.{cases_Bool, eqb-false, or_parts}
+use Rattle.std.proofs.lemmas.List.Folds.{list_all-append}
 use Rattle.std.proofs.lemmas.Grind.{flat_map-append}
 use Rattle.pfs_base.specs.Limits.{limits}
 use Rattle.pfs_base.proofs.Published.Lists.{by_push}
 use Rattle.pfs_layout.specs.declared.layout.Layout.{Layout}
-use Rattle.pfs_layout.specs.declared.layout.Layout.TheVariants.{Taillard, OrLib}
-use Rattle.pfs_layout.specs.Bytes.{is_digit, is_word_byte}
+use Rattle.pfs_layout.specs.Bytes.{is_digit}
 use Rattle.pfs_layout.specs.Size.{Size, is_within_limits}
-use Rattle.pfs_layout.specs.Lines.{is_mixed, is_number_line, is_no_digit, numbers}
+use Rattle.pfs_layout.specs.Lines.{is_mixed, is_number_line, numbers}
 use Rattle.pfs_layout.specs.Block.{stated_size, due_count, are_due}
 use Rattle.pfs_layout.specs.File.{IsBlock}
 use Rattle.pfs_layout.specs.Stand.{Block, Now, seeking, inside, lost, Stand, standing, completed, begun, with_line}
-use Rattle.pfs_layout.specs.Stand.{after_size, after_numbers, after_line, stand_after, stand, instance_of}
-use Rattle.pfs_layout.proofs.Files.LineLemmas.{numbers_is, ended_numbers-push, open_part-push}
+use Rattle.pfs_layout.specs.Stand.{after_line, stand_after, stand, instance_of}
 use Rattle.pfs_layout.proofs.Files.SizeLemmas.{size_within}
 use Rattle.pfs_layout.proofs.Files.SoundLemmas.{stand-push}
 use Rattle.pfs_layout.proofs.Files.RoundLemmas.{due_instance, instance_within}
 
--- ---- a line without a digit has no number
-
-numbers-none : numbers [] ≡ []
-unfolding numbers
-numbers-none = refl
-
+-- a line without a digit has no number
 pub no_numbers : (line : List ℕ) → list_any is_digit line ≡ false → numbers line ≡ []
-no_numbers = by_push (λ line. list_any is_digit line ≡ false → numbers line ≡ []) (λ e. numbers-none) (λ line b h none.
-    let parts = or_parts (list_any is_digit line) (is_digit b || false) (rw list_any-append at none) in
-    let last = or_parts (is_digit b) false parts.1 in
-    let before = h parts.0 in
-    rw (numbers_is (line ++ b ∷ []), ended_numbers-push line b, open_part-push is_no_digit line b, last.0, before))
+unfolding numbers
+no_numbers [] none = refl
+no_numbers (b ∷ line) none =
+    let parts = or_parts (is_digit b) (list_any is_digit line) none in rw parts.0 (no_numbers line parts.1)
 
 -- ---- lines that are made of blocks
 
--- a block that is begun and not complete, by its lines
-pub record IsBegun (layout : Layout) (block : Block) (tail : List (List ℕ)) : Type 0 where
-  pub skipped : List (List ℕ)
-  pub size_line : List ℕ
-  pub front : List (List ℕ)
+-- skipped lines, a size line, and lines that hold the block's numbers so far
+pub record Opens (layout : Layout) (block : Block) (skipped : List (List ℕ)) (size_line : List ℕ)
+    (front tail : List (List ℕ)) : Type 0 where
   pub parts : tail ≡ skipped ++ size_line ∷ front
   pub no_numbers : list_all (λ line. not (is_number_line line)) skipped ≡ true
   pub number_line : is_number_line size_line ≡ true
@@ -50,6 +38,13 @@ pub record IsBegun (layout : Layout) (block : Block) (tail : List (List ℕ)) : 
   pub within : is_within_limits block.size ≡ true
   pub unmixed : list_all (λ line. not (is_mixed line)) front ≡ true
   pub holds : flat_map numbers front ≡ block.numbers
+
+-- a block that is begun and not complete, by its lines
+pub record IsBegun (layout : Layout) (block : Block) (tail : List (List ℕ)) : Type 0 where
+  pub skipped : List (List ℕ)
+  pub size_line : List ℕ
+  pub front : List (List ℕ)
+  pub opens : Opens layout block skipped size_line front tail
   pub short : length block.numbers ≡ due_count layout block.size → ⊥
 
 -- what the lines behind the last complete block are
@@ -58,89 +53,54 @@ Fits layout seeking tail = list_all (λ line. not (is_number_line line)) tail �
 Fits layout (inside block) tail = IsBegun layout block tail
 Fits layout lost tail = Unit {0}
 
--- the lines of each complete block
-abbrev pub AreOf : Layout → List (List (List ℕ)) → List Block → Type 0
-AreOf layout [] [] = Unit {0}
-AreOf layout [] (block ∷ blocks) = ⊥
-AreOf layout (lines ∷ more) [] = ⊥
-AreOf layout (lines ∷ more) (block ∷ blocks) =
-    IsBlock limits layout (instance_of layout block) lines × AreOf layout more blocks
+-- lines are those of complete blocks, one behind the other
+abbrev pub AreOf : Layout → List Block → List (List ℕ) → Type 0
+AreOf layout [] text = text ≡ []
+AreOf layout (block ∷ more) text = (own : List (List ℕ)) × (rest : List (List ℕ)) × (text ≡ own ++ rest)
+    × IsBlock limits layout (instance_of layout block) own × AreOf layout more rest
 
-AreOf-push : (layout : Layout) (all : List (List (List ℕ))) (blocks : List Block) (lines : List (List ℕ))
-    (block : Block)
-    → AreOf layout all blocks → IsBlock limits layout (instance_of layout block) lines
-    → AreOf layout (all ++ lines ∷ []) (blocks ++ block ∷ [])
-AreOf-push layout [] [] lines block are is = (is, tt)
-AreOf-push layout [] (b ∷ blocks) lines block are is = absurd are
-AreOf-push layout (l ∷ all) [] lines block are is = absurd are
-AreOf-push layout (l ∷ all) (b ∷ blocks) lines block are is = (are.0, AreOf-push layout all blocks lines block are.1 is)
+AreOf-push : (layout : Layout) (complete : List Block) (text own : List (List ℕ)) (block : Block)
+    → AreOf layout complete text → IsBlock limits layout (instance_of layout block) own
+    → AreOf layout (complete ++ block ∷ []) (text ++ own)
+AreOf-push layout [] text own block are is = (own, [], rw are (sym (append-nil own)), is, refl)
+AreOf-push layout (first ∷ more) text own block are is =
+    let others = AreOf-push layout more are.1 own block are.4 is in
+    (are.0, are.1 ++ own, rw are.2 (append_assoc are.0 are.1 own), are.3, others)
 
 -- lines are those of the complete blocks, and what fits where they lead
 pub record IsMade (layout : Layout) (text : List (List ℕ)) (reached : Stand) : Type 0 where
-  pub blocks : List (List (List ℕ))
+  pub front : List (List ℕ)
   pub tail : List (List ℕ)
-  pub parts : text ≡ flat_map (λ block. block) blocks ++ tail
-  pub each : AreOf layout blocks reached.complete
+  pub parts : text ≡ front ++ tail
+  pub each : AreOf layout reached.complete front
   pub fits : Fits layout reached.now tail
-
--- some number is due
-some_due : (layout : Layout) (size : Size) → is_within_limits size ≡ true → 0 ≡ due_count layout size → ⊥
-some_due layout size e h =
-    let sizes = (size_within size e).sizes in
-    let some = mul-le-mul sizes.some_job sizes.some_machine in
-    by_layout layout some h
-  where
-    by_layout : (layout : Layout) → 1 * 1 ≤ size.jobs * size.machines → 0 ≡ due_count layout size → ⊥
-    by_layout Taillard some h = omega arith
-    by_layout OrLib some h = omega arith
 
 module _ (layout : Layout) (text : List (List ℕ)) (complete : List Block) (line : List ℕ) where
   -- one more line behind the complete blocks
-  grown : (now next : Now) (m : IsMade layout text (standing complete now)) → Fits layout next (m.tail ++ line ∷ [])
-      → IsMade layout (text ++ line ∷ []) (standing complete next)
-  grown now next m fits = record {
-    blocks = m.blocks;
+  grown : {now : Now} (next : Now) (m : IsMade layout text (standing complete now))
+      → Fits layout next (m.tail ++ line ∷ []) → IsMade layout (text ++ line ∷ []) (standing complete next)
+  grown next m fits = record {
+    front = m.front;
     tail = m.tail ++ line ∷ [];
-    parts = ap (λ ls. ls ++ line ∷ []) m.parts ∙ append_assoc (flat_map (λ block. block) m.blocks) m.tail (line ∷ []);
+    parts = rw m.parts (append_assoc m.front m.tail (line ∷ []));
     each = m.each;
     fits = fits;
   }
 
-  one_more : (test : List ℕ → Bool) (ls : List (List ℕ)) → list_all test ls ≡ true → test line ≡ true
-      → list_all test (ls ++ line ∷ []) ≡ true
-  one_more test ls all last = rw (list_all-append test ls (line ∷ []), all, last)
-
   -- a size line
-  stated : (o : Option Size) → stated_size layout (numbers line) ≡ o → is_number_line line ≡ true
-      → IsMade layout text (standing complete seeking) → IsMade layout (text ++ line ∷ [])
-      (standing complete (after_size o))
-  stated None s numbered m = grown seeking lost m tt
-  stated (Some size) s numbered m = cond_both (is_within_limits size) (inside (begun size)) lost
-      (λ now. IsMade layout (text ++ line ∷ []) (standing complete now))
-      (λ within. grown seeking (inside (begun size)) m (record {
+  began : (m : IsMade layout text (standing complete seeking)) (size : Size)
+      → stated_size layout (numbers line) ≡ Some size → is_number_line line ≡ true → is_within_limits size ≡ true
+      → IsMade layout (text ++ line ∷ []) (standing complete (inside (begun size)))
+  began m size states numbered within =
+      let sizes = (size_within size within).sizes in
+      let some = mul-le-mul sizes.some_job sizes.some_machine in
+      grown (inside (begun size)) m (record {
         skipped = m.tail;
         size_line = line;
         front = [];
-        parts = refl;
-        no_numbers = m.fits;
-        number_line = numbered;
-        states = s;
-        within = within;
-        unmixed = refl;
-        holds = refl;
-        short = some_due layout size within;
-      }))
-      (λ out. grown seeking lost m tt)
-
-  -- the line that completes a block is a number line
-  last_numbers : (block : Block) → (length block.numbers ≡ due_count layout block.size → ⊥)
-      → length (with_line block line).numbers ≡ due_count layout block.size → is_mixed line ≡ false
-      → is_number_line line ≡ true
-  last_numbers block short whole unmixed =
-      let digit : list_any is_digit line ≡ true =
-      true_from_ne_false _ (λ none. short (rw (no_numbers line none, append-nil) at whole)) in
-      let word : list_any is_word_byte line ≡ false = rw digit at unmixed in
-      rw (digit, word)
+        opens = grind (arith, m.fits);
+        short = λ none. grind (arith, some);
+      })
 
   finished : (block : Block) → IsMade layout text (standing complete (inside block)) → is_mixed line ≡ false
       → are_due layout block.size (with_line block line).numbers ≡ true
@@ -149,26 +109,21 @@ module _ (layout : Layout) (text : List (List ℕ)) (complete : List Block) (lin
   unfolding instance_of
   finished block m unmixed right whole =
       let own : List (List ℕ) = m.tail ++ line ∷ [] in
-      let flat : List (List (List ℕ)) → List (List ℕ) = flat_map (λ block. block) in
+      let all_due = due_instance layout (with_line block line) right whole in
       record {
-        blocks = m.blocks ++ own ∷ [];
+        front = m.front ++ own;
         tail = [];
-        parts = rw m.parts (rw (flat_map-append (λ block. block) m.blocks (own ∷ []))
-            (simp (append_assoc, append-nil)));
-        each = AreOf-push layout m.blocks complete own (with_line block line) m.each (record {
+        parts = rw m.parts (simp (append_assoc, append-nil));
+        each = AreOf-push layout complete m.front own (with_line block line) m.each (record {
           skipped = m.fits.skipped;
           size_line = m.fits.size_line;
           front = m.fits.front;
           last = line;
-          parts = ap (λ ls. ls ++ line ∷ []) m.fits.parts;
-          no_numbers = m.fits.no_numbers;
-          size = record { number_line = m.fits.number_line; states = m.fits.states };
-          body = record {
-            front_unmixed = m.fits.unmixed;
-            last_numbers = last_numbers block m.fits.short whole unmixed;
-            holds = rw m.fits.holds (sym (due_instance layout (with_line block line) right whole));
-          };
-          within = instance_within layout (with_line block line) m.fits.within right whole;
+          parts = ap (λ ls. ls ++ line ∷ []) m.fits.opens.parts;
+          no_numbers = m.fits.opens.no_numbers;
+          size = grind (arith, m.fits.opens);
+          body = grind (arith, no_numbers line, append-nil {A = ℕ});
+          within = instance_within layout (with_line block line) m.fits.opens.within right whole;
         });
         fits = refl;
       }
@@ -176,49 +131,30 @@ module _ (layout : Layout) (text : List (List ℕ)) (complete : List Block) (lin
   unfinished : (block : Block) (m : IsMade layout text (standing complete (inside block))) → is_mixed line ≡ false
       → (length (with_line block line).numbers == due_count layout block.size) ≡ false
       → IsMade layout (text ++ line ∷ []) (standing complete (inside (with_line block line)))
-  unfinished block m unmixed short = grown (inside block) (inside (with_line block line)) m (record {
-    skipped = m.fits.skipped;
-    size_line = m.fits.size_line;
-    front = m.fits.front ++ line ∷ [];
-    parts = ap (λ ls. ls ++ line ∷ []) m.fits.parts
-        ∙ append_assoc m.fits.skipped (m.fits.size_line ∷ m.fits.front) (line ∷ []);
-    no_numbers = m.fits.no_numbers;
-    number_line = m.fits.number_line;
-    states = m.fits.states;
-    within = m.fits.within;
-    unmixed = one_more (λ l. not (is_mixed l)) m.fits.front m.fits.unmixed (ap not unmixed);
-    holds = rw (flat_map-append numbers m.fits.front (line ∷ []), m.fits.holds, append-nil (numbers line));
-    short = eqb-false (length (with_line block line).numbers) (due_count layout block.size) short;
-  })
+  unfinished block m unmixed short =
+      let more_lines = append_assoc m.fits.skipped (m.fits.size_line ∷ m.fits.front) (line ∷ []) in
+      let more_numbers = flat_map-append numbers m.fits.front (line ∷ []) in
+      grown (inside (with_line block line)) m (record {
+        skipped = m.fits.skipped;
+        size_line = m.fits.size_line;
+        front = m.fits.front ++ line ∷ [];
+        opens = grind (arith, m.fits.opens, list_all-append {X = List ℕ}, append-nil {A = ℕ});
+        short = eqb-false (length (with_line block line).numbers) (due_count layout block.size) short;
+      })
 
   by_now : (now : Now) → IsMade layout text (standing complete now)
       → IsMade layout (text ++ line ∷ []) (after_line layout complete now line)
-  by_now seeking m = cond_both (is_number_line line) (after_size (stated_size layout (numbers line))) seeking
-      (λ now. IsMade layout (text ++ line ∷ []) (standing complete now)) (λ numbered. stated _ refl numbered m)
-      (λ plain. grown seeking seeking m (one_more (λ l. not (is_number_line l)) m.tail m.fits (ap not plain)))
-  by_now (inside block) m =
-      let next : Block = with_line block line in
-      let Made : Stand → Type 0 = IsMade layout (text ++ line ∷ []) in
-      cond_both (is_mixed line) (standing complete lost) (after_numbers layout complete next) Made
-      (λ mixed. grown (inside block) lost m tt)
-      (λ unmixed. cond_both (are_due layout block.size next.numbers)
-      (if length next.numbers == due_count layout block.size then completed complete next
-      else standing complete (inside next))
-      (standing complete lost) Made
-      (λ right. cond_both (length next.numbers == due_count layout block.size) (completed complete next)
-      (standing complete (inside next)) Made
-      (λ full. finished block m unmixed right (eqb-true _ (due_count layout block.size) full))
-      (λ short. unfinished block m unmixed short))
-      (λ wrong. grown (inside block) lost m tt))
-  by_now lost m = grown lost lost m tt
-
-made_start : (layout : Layout) → IsMade layout [] (stand layout [])
-unfolding stand
-made_start layout = record { blocks = []; tail = []; parts = refl; each = tt; fits = refl }
+  by_now seeking m = elim (cases_Bool (is_number_line line)) [
+    | inl numbered ↦ grind (arith, grown lost m tt, began m)
+    | inr plain ↦ rw plain (grown seeking m (rw (list_all-append, m.fits, plain)))
+  ]
+  by_now (inside block) m = grind (arith, grown lost m tt, finished block m, unfinished block m)
+  by_now lost m = grown lost m tt
 
 -- any lines are those of the complete blocks, and what fits where they lead
 pub made : (layout : Layout) (text : List (List ℕ)) → IsMade layout text (stand layout text)
-unfolding stand_after
-made layout = by_push (λ text. IsMade layout text (stand layout text)) (made_start layout)
+unfolding stand stand_after
+made layout = by_push (λ text. IsMade layout text (stand layout text))
+    (record { front = []; tail = []; parts = refl; each = refl; fits = refl })
     (λ text line m. rw (stand-push layout text line)
     (by_now layout text (stand layout text).complete line (stand layout text).now m))

@@ -1,20 +1,11 @@
-use Rattle.std.proofs.Common.{refl, arith}
+use Rattle.std.proofs.Common.{arith}
 use Rattle.pfs_layout.specs.Generator.{seed_after}
 use Rattle.pfs_layout.proofs.GeneratorLemmas.{drawn_more}
 use Rattle.pfs_layout.proofs.generator.draw_times.Goals as goal
 
 pub loop-job-init : goal.loop-job-init
 unfolding seed_after
-loop-job-init c = record {
-  last = refl;
-  below = c.requires.seed;
-  same_jobs = refl;
-  same_machines = refl;
-  every_time = c.jobs-job-end.ensures.within.every_time;
-  same_notes = refl;
-  drawn = λ job within. absurd (omega arith);
-  others = λ job other n differ. refl;
-}
+loop-job-init c = grind (arith, c.requires.seed, c.jobs-job-end.ensures.within.every_time)
 
 pub loop-job-preserved : goal.loop-job-preserved
 loop-job-preserved c =

@@ -1,4 +1,4 @@
-use Rattle.std.proofs.Common.{◌≡◌, refl, arith, ◌*◌, sym, ap, ◌∙◌}
+use Rattle.std.proofs.Common.{ℕ, ◌≡◌, arith}
 use Rattle.std.proofs.lemmas.List.{length-replicate}
 use Rattle.pfs_layout.specs.Generator.{seed_after}
 use Rattle.pfs_layout.proofs.GeneratorLemmas.{DrawnSoFar, machine_more, drawn_all}
@@ -6,35 +6,16 @@ use Rattle.pfs_layout.proofs.generator.generate.Goals as goal
 
 pub loop-machine-init : goal.loop-machine-init
 unfolding seed_after
-loop-machine-init c = rw c.in-Ok.ensures.made (record {
-  last = let none : 0 * c.args.jobs ≡ 0 = omega arith in ap (λ draws. seed_after draws c.args.seed) (sym none);
-  below = c.if-seed-ge-MODULUS.false;
-  same_jobs = refl;
-  same_machines = refl;
-  every_time = length-replicate (c.args.jobs * c.args.machines) 0;
-  same_notes = refl;
-  drawn = λ job machine j m. absurd (omega arith);
-})
+loop-machine-init c =
+    rw c.in-Ok.ensures.made (grind (arith, c.if-seed-ge-MODULUS.false, length-replicate {A = ℕ}))
 
 pub loop-machine-preserved : goal.loop-machine-preserved
 loop-machine-preserved c =
     let so_far = c.loop-machine.invariant in
-    let before = c.loop-machine.instance in
-    let after = c.draw_times-drawn.new.instance in
     let row = c.draw_times-drawn.ensures in
-    let on_machine : DrawnSoFar c.loop-machine.drawn before c.loop-machine.machine c.args.jobs c.draw_times-drawn.result
-    after = record {
-      last = row.seed ∙ ap (λ draws. seed_after draws c.loop-machine.drawn) so_far.same_jobs;
-      below = row.below;
-      same_jobs = row.jobs;
-      same_machines = row.machines;
-      every_time = row.times ∙ so_far.every_time ∙ ap (λ jobs. jobs * c.args.machines)
-          (sym (row.jobs ∙ so_far.same_jobs))
-          ∙ ap (λ machines. after.shop.jobs * machines) (sym (row.machines ∙ so_far.same_machines));
-      same_notes = row.notes;
-      drawn = λ job within. row.drawn job (omega (arith, so_far.same_jobs));
-      others = row.others;
-    } in
+    let before = c.loop-machine.instance.shop in
+    let on_machine : DrawnSoFar c.loop-machine.drawn c.loop-machine.instance c.loop-machine.machine before.jobs
+    c.draw_times-drawn.result c.draw_times-drawn.new.instance = grind (arith, row, so_far.same) in
     machine_more c.args.jobs c.args.machines c.args.seed c.loop-machine.machine c.loop-machine.drawn _ _ _ so_far
     c.loop-machine-test.true on_machine
 

@@ -1,7 +1,5 @@
-use Rattle.std.proofs.Common.{rules, ◌≡◌, Err, List, [], ◌∷◌, ◌++◌}
-use Rattle.pfs_base.specs.Text.{with_line_end, spaced}
+use Rattle.std.proofs.Common.{rules, ◌≡◌, Err}
 use Rattle.pfs_base.proofs.Published.SendsLemmas.{then_front, then_sends, front_of}
-use Rattle.pfs_layout.proofs.Texts.CanonicalLemmas.{times_title}
 use Rattle.pfs_layout.proofs.writing.put_head.Goals as goal
 
 pub returns-in_err-sent-in-Taillard : goal.returns-in_err-sent-in-Taillard
@@ -23,16 +21,10 @@ returns-in_err-sent-in-OrLib g c =
 
 pub returns-in_ok-sent-in-Taillard-2 : goal.returns-in_ok-sent-in-Taillard-2
 returns-in_ok-sent-in-Taillard-2 g c =
-    let sizes : List _ =
-    with_line_end (spaced (c.args.jobs ∷ c.args.machines ∷ c.args.notes.seed ∷ c.args.notes.upper ∷ c.args.notes.lower
-    ∷ [])) in
-    let both = then_sends _ _
-    (with_line_end times_title) c.put-in-Taillard.result c.in_ok-sent-in-Taillard-2.ensures c.put-in-Taillard.ensures in
-    rw c.in-Taillard.is (then_sends _ _
-    (sizes ++ with_line_end times_title) c.put-in-Taillard.result c.in_ok-sent-in-Taillard.ensures both)
+    let both = then_sends _ _ _ c.put-in-Taillard.result c.in_ok-sent-in-Taillard-2.ensures c.put-in-Taillard.ensures in
+    rw c.in-Taillard.is (then_sends _ _ _ c.put-in-Taillard.result c.in_ok-sent-in-Taillard.ensures both)
 
 pub returns-in_ok-sent-in-OrLib : goal.returns-in_ok-sent-in-OrLib
 returns-in_ok-sent-in-OrLib g c =
-    rw c.in-OrLib.is (then_sends _ _
-    (with_line_end (spaced (c.args.jobs ∷ c.args.machines ∷ []))) c.put_numbers-in-OrLib.result
-    c.in_ok-sent-in-OrLib.ensures c.put_numbers-in-OrLib.ensures)
+    rw c.in-OrLib.is
+    (then_sends _ _ _ c.put_numbers-in-OrLib.result c.in_ok-sent-in-OrLib.ensures c.put_numbers-in-OrLib.ensures)

@@ -7,8 +7,7 @@ use Rattle.pfs_layout.proofs.writing.put_machine.Goals as goal
 pub put_entry-requires-clause-fits : goal.put_entry-requires-clause-fits
 put_entry-requires-clause-fits g c =
     let on = time_on c.args.instance.now.shop c.args.machine c.loop-job.job (omega arith) in
-    rw c.time.ensures.value
-    (goes_on-fits _ _ _ c.args.sent c.loop-job.reached _ _ _ _ on c.loop-job.invariant c.requires.fits)
+    rw c.time.ensures.value (goes_on-fits _ _ _ _ _ _ _ _ _ on c.loop-job.invariant c.requires.fits)
 
 pub returns-in_err-reached : goal.returns-in_err-reached
 returns-in_err-reached g c =
@@ -20,17 +19,14 @@ returns-in_err-reached g c =
 pub loop-job-preserved : goal.loop-job-preserved
 loop-job-preserved g c =
     let on = time_on c.args.instance.now.shop c.args.machine c.loop-job.job (omega arith) in
-    goes_on-more _ _ _ _ _ c.args.sent c.loop-job.reached _ _ _ _ _ on c.loop-job.invariant
-    (rw c.time.ensures.value at c.in_ok-reached.ensures)
+    goes_on-more _ _ _ _ _ _ _ _ _ _ _ _ on c.loop-job.invariant (rw c.time.ensures.value at c.in_ok-reached.ensures)
 
 pub put-requires-clause-fits : goal.put-requires-clause-fits
 put-requires-clause-fits g c =
-    let shop = c.args.instance.now.shop in
-    let ends = row_ends Taillard shop c.args.machine c.loop-job.job (omega arith) in
+    let ends = row_ends Taillard c.args.instance.now.shop c.args.machine c.loop-job.job (omega arith) in
     last_fits _ _ _ c.args.sent c.loop-job.reached _ _ (10 ∷ []) ends c.loop-job.invariant c.requires.fits
 
 pub returns : goal.returns
 returns g c =
-    let shop = c.args.instance.now.shop in
-    let ends = row_ends Taillard shop c.args.machine c.loop-job.job (omega arith) in
+    let ends = row_ends Taillard c.args.instance.now.shop c.args.machine c.loop-job.job (omega arith) in
     last_sends _ _ _ _ _ c.args.sent c.loop-job.reached _ _ (10 ∷ []) _ ends c.loop-job.invariant c.put.ensures

@@ -11,8 +11,7 @@ put_row-requires-clause-fits g c =
 pub returns-in_err-reached : goal.returns-in_err-reached
 returns-in_err-reached g c =
     let on = row_on c.args.layout c.args.instance.now.shop c.loop-row.row (omega arith) in
-    let front = goes_on-stopped _ _ _ _ _ c.args.sent c.loop-row.reached _ _ _ _ _ on c.loop-row.invariant
-    c.in_err-reached.ensures in
+    let front = goes_on-stopped _ _ _ _ _ _ _ _ _ _ _ _ on c.loop-row.invariant c.in_err-reached.ensures in
     search rules
 
 pub loop-row-preserved : goal.loop-row-preserved

@@ -1,55 +1,47 @@
-use Rattle.std.proofs.Common.{rules, ◌≡◌, Err, arith}
+use Rattle.std.proofs.Common.{rules, arith}
+use Rattle.pfs_base.proofs.Published.SendsLemmas.{then_all, then_front, front_of}
 use Rattle.pfs_base.proofs.Published.SendsOn.{front_of_whole}
-use Rattle.pfs_layout.proofs.Texts.CanonicalLemmas.{head_short, length-row_lines, head_front}
-use Rattle.pfs_layout.proofs.Texts.CanonicalLemmas.{rows_front, rows_all}
+use Rattle.pfs_layout.specs.CanonicalText.{canonical_text, row_lines}
+use Rattle.pfs_layout.proofs.Texts.CanonicalLemmas.{length-head_lines, length-row_lines}
+use Rattle.pfs_layout.specs.Size.{Size}
 use Rattle.pfs_layout.proofs.writing.write_block.Goals as goal
 
 pub put_head-requires-clause-fits : goal.put_head-requires-clause-fits
 put_head-requires-clause-fits g c =
-    let short = head_short c.args.layout _ _ c.notes-notes.result c.jobs-jobs.type_inv c.machines-machines.type_inv
-    (search rules) (search rules) (search rules) in
+    let size : Size =
+    record { jobs = c.jobs-jobs.result; machines = c.machines-machines.result; notes = c.notes-notes.result } in
+    let short = length-head_lines c.args.layout size (search rules) in
     omega arith
 
 pub put_rows-requires-clause-fits : goal.put_rows-requires-clause-fits
 put_rows-requires-clause-fits g c =
-    let short = head_short c.args.layout _ _ c.notes-notes.result c.jobs-jobs.type_inv c.machines-machines.type_inv
-    (search rules) (search rules) (search rules) in
+    let size : Size =
+    record { jobs = c.jobs-jobs.result; machines = c.machines-machines.result; notes = c.notes-notes.result } in
+    let short = length-head_lines c.args.layout size (search rules) in
     let rows = length-row_lines c.args.layout c.args.instance.now.shop c.jobs-jobs.ensures.within in
     omega (arith, c.in_ok-sent.ensures.counted)
 
-pub returns-in_err-sent-clause-within : goal.returns-in_err-sent-clause-within
-returns-in_err-sent-clause-within g c =
-    let front = head_front c.args.layout c.args.instance.now _ _ _ c.jobs-jobs.ensures.value
-    c.machines-machines.ensures.value c.notes-notes.ensures _ _ _ _ c.in_err-sent.ensures in
-    let answer : c.from_residual.result ≡ Err c.in_err-sent.field-0.0 = search rules in
-    rw answer (front_of_whole _ _ _ _ _ front).0
+pub returns-in_err-sent : goal.returns-in_err-sent
+unfolding canonical_text
+returns-in_err-sent g c =
+    let head = rw (c.jobs-jobs.ensures.value, c.machines-machines.ensures.value, c.notes-notes.ensures) at
+    c.in_err-sent.ensures in
+    let front = front_of (row_lines c.args.layout c.args.instance.now.shop) head in
+    let whole = front_of_whole _ _ _ _ _ front in
+    search rules
 
-pub returns-in_err-sent-clause-front : goal.returns-in_err-sent-clause-front
-returns-in_err-sent-clause-front g c =
-    let front = head_front c.args.layout c.args.instance.now _ _ _ c.jobs-jobs.ensures.value
-    c.machines-machines.ensures.value c.notes-notes.ensures _ _ _ _ c.in_err-sent.ensures in
-    let answer : c.from_residual.result ≡ Err c.in_err-sent.field-0.0 = search rules in
-    rw answer (front_of_whole _ _ _ _ _ front).1
-
-pub returns-in_err-put_rows-clause-within : goal.returns-in_err-put_rows-clause-within
-returns-in_err-put_rows-clause-within g c =
-    let front = rows_front c.args.layout c.args.instance.now _ _ _ c.jobs-jobs.ensures.value
-    c.machines-machines.ensures.value c.notes-notes.ensures _ _ _ _ _ c.in_ok-sent.sent _ c.in_ok-sent.ensures
-    c.in_err-put_rows.ensures in
-    let answer : c.from_residual-in_err-put_rows.result ≡ Err c.in_err-put_rows.field-0.0 = search rules in
-    rw answer (front_of_whole _ _ _ _ _ front).0
-
-pub returns-in_err-put_rows-clause-front : goal.returns-in_err-put_rows-clause-front
-returns-in_err-put_rows-clause-front g c =
-    let front = rows_front c.args.layout c.args.instance.now _ _ _ c.jobs-jobs.ensures.value
-    c.machines-machines.ensures.value c.notes-notes.ensures _ _ _ _ _ c.in_ok-sent.sent _ c.in_ok-sent.ensures
-    c.in_err-put_rows.ensures in
-    let answer : c.from_residual-in_err-put_rows.result ≡ Err c.in_err-put_rows.field-0.0 = search rules in
-    rw answer (front_of_whole _ _ _ _ _ front).1
+pub returns-in_err-put_rows : goal.returns-in_err-put_rows
+unfolding canonical_text
+returns-in_err-put_rows g c =
+    let head = rw (c.jobs-jobs.ensures.value, c.machines-machines.ensures.value, c.notes-notes.ensures) at
+    c.in_ok-sent.ensures in
+    let front = then_front head c.in_err-put_rows.ensures in
+    let whole = front_of_whole _ _ _ _ _ front in
+    search rules
 
 pub returns-clause-text : goal.returns-clause-text
+unfolding canonical_text
 returns-clause-text g c =
-    let all = rows_all c.args.layout c.args.instance.now _ _ _ c.jobs-jobs.ensures.value
-    c.machines-machines.ensures.value c.notes-notes.ensures _ _ _ _ _ c.in_ok-sent.sent _ c.in_ok-sent.ensures
-    c.in_ok-put_rows.ensures in
-    all.bytes
+    let head = rw (c.jobs-jobs.ensures.value, c.machines-machines.ensures.value, c.notes-notes.ensures) at
+    c.in_ok-sent.ensures in
+    (then_all head c.in_ok-put_rows.ensures).bytes
