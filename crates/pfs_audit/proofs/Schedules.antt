@@ -1,5 +1,5 @@
 -- The least schedule, and that none ends before the makespan.
-use Rattle.std.proofs.Common.{◌≡◌, ℕ, zero, suc, ◌+◌, ◌-◌, ◌<◌, ◌≤◌, max, List, [], ◌∷◌, length, ap, ◌∙◌, add-one}
+use Rattle.std.proofs.Common.{◌≡◌, ℕ, zero, suc, ◌+◌, ◌-◌, ◌<◌, ◌≤◌, max, List, [], ◌∷◌, length, add-one}
 use Rattle.std.proofs.Common.{arith}
 use Rattle.pfs_base.specs.FlowShop.{FlowShop}
 use Rattle.pfs_base.specs.Paths.{makespan, operation}
