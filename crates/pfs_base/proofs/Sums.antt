@@ -48,8 +48,16 @@ lanes_most a b (suc chunks) =
     let second : sum_at a b (start + 2) ≡ sum_at a b (suc (suc start)) = ap (sum_at a b) (omega arith) in
     let third : sum_at a b (start + 3) ≡ sum_at a b (suc (suc (suc start))) = ap (sum_at a b) (omega arith) in
     let four : most_to a b (suc (suc (suc (suc start))))
-        ≡ max (max (max (max (most_to a b start) (sum_at a b (start + 0))) (sum_at a b (start + 1))) (sum_at a b (start + 2))) (sum_at a b (start + 3)) = cc in
+    ≡ max (max (max (max (most_to a b start) (sum_at a b (start + 0))) (sum_at a b (start + 1))) (sum_at a b (start + 2)))
+    (sum_at a b (start + 3)) = cc in
     sums ∙ rw (lanes_most a b chunks) (sym four) ∙ ap (most_to a b) (sym end)
+
+-- the four lanes of the first chunks, and the four lengths from a place on
+abbrev pub lanes_at : List ℕ → List ℕ → ℕ → List ℕ
+lanes_at a b chunks = let lane = lane_most a b chunks in lane 0 ∷ lane 1 ∷ lane 2 ∷ lane 3 ∷ []
+
+abbrev pub four_at : List ℕ → ℕ → List ℕ
+four_at row at = get_or row (at + 0) 0 ∷ get_or row (at + 1) 0 ∷ get_or row (at + 2) 0 ∷ get_or row (at + 3) 0 ∷ []
 
 -- four equal elements
 pub four_same : {X : Type 0} {a b c d e f g h : X} → a ≡ e → b ≡ f → c ≡ g → d ≡ h
@@ -68,8 +76,15 @@ chunk_four [] (suc at) p q r s le = absurd (omega arith)
 chunk_four (x ∷ row) (suc at) p q r s le =
     rw (suc-add at 1, suc-add at 2, suc-add at 3) (chunk_four row at p q r s (omega arith))
 
+pub chunk_is : (row : List ℕ) (at : ℕ) → at + 4 ≤ length row → chunk at 4 row ≡ four_at row at
+chunk_is row at le =
+    let none : at ≡ at + 0 = omega arith in
+    chunk_four row at 0 0 0 0 le ∙ ap (λ place. get_or row place 0 ∷ get_or row (at + 1) 0 ∷ get_or row (at + 2) 0
+    ∷ get_or row (at + 3) 0 ∷ []) none
+
 -- the first sums of rows that begin with two lengths
-most_behind : (x y : ℕ) (a b : List ℕ) (place : ℕ) → most_to (x ∷ a) (y ∷ b) (suc place) ≡ max (x + y) (most_to a b place)
+most_behind : (x y : ℕ) (a b : List ℕ) (place : ℕ)
+    → most_to (x ∷ a) (y ∷ b) (suc place) ≡ max (x + y) (most_to a b place)
 most_behind x y a b zero = omega arith
 most_behind x y a b (suc place) = let rest = most_behind x y a b place in omega arith
 
