@@ -47,9 +47,9 @@ lanes_most a b (suc chunks) =
     let first : sum_at a b (start + 1) ≡ sum_at a b (suc start) = ap (sum_at a b) (omega arith) in
     let second : sum_at a b (start + 2) ≡ sum_at a b (suc (suc start)) = ap (sum_at a b) (omega arith) in
     let third : sum_at a b (start + 3) ≡ sum_at a b (suc (suc (suc start))) = ap (sum_at a b) (omega arith) in
+    let two : ℕ = max (max (most_to a b start) (sum_at a b (start + 0))) (sum_at a b (start + 1)) in
     let four : most_to a b (suc (suc (suc (suc start))))
-    ≡ max (max (max (max (most_to a b start) (sum_at a b (start + 0))) (sum_at a b (start + 1))) (sum_at a b (start + 2)))
-    (sum_at a b (start + 3)) = cc in
+    ≡ max (max two (sum_at a b (start + 2))) (sum_at a b (start + 3)) = cc in
     sums ∙ rw (lanes_most a b chunks) (sym four) ∙ ap (most_to a b) (sym end)
 
 -- the four lanes of the first chunks, and the four lengths from a place on

@@ -79,7 +79,7 @@ time_of-le shop within job machine =
     let place = job * shop.machines + machine in
     ⊎_elim (λ (inside : place < length shop.times). within.short_times place 0 inside)
     (λ (past : length shop.times ≤ place). let none =
-        get_or_past shop.times place 0 past in omega arith) (cases_lt place (length shop.times))
+    get_or_past shop.times place 0 past in omega arith) (cases_lt place (length shop.times))
 
 -- a path has at most as many cells as there are jobs and machines, less one
 cells_few : (jobs all machines : ℕ) → jobs ≤ all → AreSizes limits all machines

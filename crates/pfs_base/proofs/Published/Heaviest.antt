@@ -23,7 +23,8 @@ greatest-append xs ys = fold-append max 0 xs ys ∙ greatest_from (greatest xs) 
 module _ (weigh : ℕ → ℕ → ℕ) where
   -- a cell before each of some paths
   greatest_after : (row machine : ℕ) (path : List Cell) (others : List (List Cell)) →
-      greatest (map (weight weigh) (map (λ p. (row, machine) ∷ p) (path ∷ others))) ≡ weigh row machine + greatest (map (weight weigh) (path ∷ others))
+      greatest (map (weight weigh) (map (λ p. (row, machine) ∷ p) (path ∷ others)))
+      ≡ weigh row machine + greatest (map (weight weigh) (path ∷ others))
   greatest_after row machine path [] =
       let a = sum_by-cons (λ (c : Cell). weigh c.0 c.1) (row, machine) path in
       omega (arith, greatest-cons (weight weigh ((row, machine) ∷ path)) [], greatest-cons (weight weigh path) [])
@@ -53,7 +54,8 @@ paths_some zero zero row machine = ((row, machine) ∷ [], [], refl)
 paths_some zero (suc ons) row machine = after_some row machine _ (paths_some zero ons row (suc machine))
 paths_some (suc downs) zero row machine = after_some row machine _ (paths_some downs zero (suc row) machine)
 paths_some (suc downs) (suc ons) row machine =
-    after_some row machine _ (append_some _ (paths (suc downs) ons row (suc machine)) (paths_some downs (suc ons) (suc row) machine))
+    after_some row machine _ (append_some _ (paths (suc downs) ons row (suc machine))
+    (paths_some downs (suc ons) (suc row) machine))
 
 module _ (weigh : ℕ → ℕ → ℕ) where
   -- the heaviest path so many rows down and machines on
@@ -61,7 +63,8 @@ module _ (weigh : ℕ → ℕ → ℕ) where
   most downs ons row machine = greatest (map (weight weigh) (paths downs ons row machine))
 
   greatest_after_some : (row machine : ℕ) (all : List (List Cell)) → IsSome all →
-      greatest (map (weight weigh) (map (λ p. (row, machine) ∷ p) all)) ≡ weigh row machine + greatest (map (weight weigh) all)
+      greatest (map (weight weigh) (map (λ p. (row, machine) ∷ p) all))
+      ≡ weigh row machine + greatest (map (weight weigh) all)
   greatest_after_some row machine all (path, others, is) =
       rw is (greatest_after weigh row machine path others)
 
@@ -84,7 +87,8 @@ module _ (weigh : ℕ → ℕ → ℕ) where
   most_first downs ons row machine =
       let below = paths downs (suc ons) (suc row) machine in
       let beside = paths (suc downs) ons row (suc machine) in
-      greatest_after_some row machine (below ++ beside) (append_some below beside (paths_some downs (suc ons) (suc row) machine))
+      greatest_after_some row machine (below ++ beside)
+      (append_some below beside (paths_some downs (suc ons) (suc row) machine))
       ∙ ap (λ x. weigh row machine + x) (ap greatest (map-append (weight weigh) below beside)
       ∙ greatest-append (map (weight weigh) below) (map (weight weigh) beside))
 
@@ -120,7 +124,8 @@ module _ (weigh : ℕ → ℕ → ℕ) where
       omega arith
 
   pub most_last : (downs ons row machine r m : ℕ) → r ≡ row + suc downs → m ≡ machine + suc ons →
-      most (suc downs) (suc ons) row machine ≡ max (most downs (suc ons) row machine) (most (suc downs) ons row machine) + weigh r m
+      most (suc downs) (suc ons) row machine
+      ≡ max (most downs (suc ons) row machine) (most (suc downs) ons row machine) + weigh r m
   most_last zero zero row machine r m p q =
       let e = most_first zero zero row machine in
       let f = most_on_last zero (suc row) machine r m (omega arith) q in
@@ -188,7 +193,8 @@ module _ (weigh : ℕ → ℕ → ℕ) where
   most_is_some zero (suc ons) row machine r m p q =
       has_on row machine r m _ _ (most_is_some zero ons row (suc machine) r m p (omega arith)) (most_on ons row machine)
   most_is_some (suc downs) zero row machine r m p q =
-      has_down row machine r m _ _ (most_is_some downs zero (suc row) machine r m (omega arith) q) (most_down downs row machine)
+      has_down row machine r m _ _ (most_is_some downs zero (suc row) machine r m (omega arith) q)
+      (most_down downs row machine)
   most_is_some (suc downs) (suc ons) row machine r m p q =
       has_larger row machine r m _ _ _ (most_is_some downs (suc ons) (suc row) machine r m (omega arith) q)
       (most_is_some (suc downs) ons row (suc machine) r m p (omega arith)) (most_first downs ons row machine)

@@ -37,10 +37,12 @@ spaced_front (n ∷ ns) ms some = (behind ms, spaced-append n ns ms)
 
 -- a line goes on with the number at a place
 pub line_on : (ns : List ℕ) (place : ℕ) → place < length ns
-    → GoesOn (with_line_end (spaced ns)) (spaced (take place ns)) (entry place (get_or ns place 0)) (spaced (take (place + 1) ns))
+    → GoesOn (with_line_end (spaced ns)) (spaced (take place ns)) (entry place (get_or ns place 0))
+    (spaced (take (place + 1) ns))
 line_on ns place less =
     let begins =
-    spaced_front (take (place + 1) ns) (drop (place + 1) ns) (omega (arith, length-take-le (place + 1) ns (omega arith))) in
+    spaced_front (take (place + 1) ns) (drop (place + 1) ns)
+    (omega (arith, length-take-le (place + 1) ns (omega arith))) in
     record {
       rest = begins.0 ++ 10 ∷ [];
       adds = spaced-more ns place less;

@@ -54,7 +54,8 @@ front_of {a} {b} {failed} {sent} {reached} {text} rest p =
     }
 
 -- a part went out, and then all of the next or a front of it
-pub then_sends : {a b : Option (List ℕ)} {working_b : Bool} {sent middle : ℕ} {done : List ℕ} (c : Option (List ℕ)) (failed : Bool) (part : List ℕ) (result : Result ℕ WriteFault)
+pub then_sends : {a b : Option (List ℕ)} {working_b : Bool} {sent middle : ℕ} {done : List ℕ}
+    (c : Option (List ℕ)) (failed : Bool) (part : List ℕ) (result : Result ℕ WriteFault)
     → SendsAll a b working_b sent done middle → Sends b c failed middle part result
     → Sends a c failed sent (done ++ part) result
 then_sends c failed part (Ok total) p q = then_all p q

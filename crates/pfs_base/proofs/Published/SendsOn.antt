@@ -18,12 +18,14 @@ pub goes_on-fits : (a b : Option (List ℕ)) (failed : Bool) (sent reached : ℕ
 goes_on-fits a b failed sent reached text done part next on p fits =
     omega (arith, p.counted, ap length on.whole, ap length on.adds, length-append next on.rest, length-append done part)
 
-pub goes_on-more : (a b c : Option (List ℕ)) (worked failed : Bool) (sent middle total : ℕ) (text done part next : List ℕ)
+pub goes_on-more : (a b c : Option (List ℕ)) (worked failed : Bool) (sent middle total : ℕ)
+    (text done part next : List ℕ)
     → GoesOn text done part next
     → SendsAll a b worked sent done middle → SendsAll b c failed middle part total → SendsAll a c failed sent next total
 goes_on-more a b c worked failed sent middle total text done part next on p q = rw on.adds (then_all p q)
 
-pub goes_on-stopped : (a b c : Option (List ℕ)) (worked failed : Bool) (sent middle reached : ℕ) (text done part next : List ℕ)
+pub goes_on-stopped : (a b c : Option (List ℕ)) (worked failed : Bool) (sent middle reached : ℕ)
+    (text done part next : List ℕ)
     → GoesOn text done part next
     → SendsAll a b worked sent done middle → SendsFront b c failed middle part reached
     → SendsFront a c failed sent text reached
@@ -31,7 +33,8 @@ goes_on-stopped a b c worked failed sent middle reached text done part next on p
     rw (on.whole, on.adds) (front_of on.rest (then_front p q))
 
 -- the last part of a text
-pub last_sends : (a b c : Option (List ℕ)) (worked failed : Bool) (sent middle : ℕ) (text done part : List ℕ) (result : Result ℕ WriteFault)
+pub last_sends : (a b c : Option (List ℕ)) (worked failed : Bool) (sent middle : ℕ)
+    (text done part : List ℕ) (result : Result ℕ WriteFault)
     → text ≡ done ++ part
     → SendsAll a b worked sent done middle → Sends b c failed middle part result → Sends a c failed sent text result
 last_sends a b c worked failed sent middle text done part result whole p q =

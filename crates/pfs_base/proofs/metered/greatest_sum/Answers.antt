@@ -63,8 +63,8 @@ module _ (a b : List ℕ) (same : length a ≡ length b) (small : greatest_join 
       λ (k : ℕ) (lt : k < 4). lane_small a b SPAN_MAX whole k (λ c less. each_small (4 * c + k) (omega arith)) in
       let back = λ (k : ℕ) (lt : k < 4). of_z-to_z w64 (lane k) (let le = small k lt in omega arith) in
       ap (λ l. greatest (map (of_z w64) (map (to_z w64) l))) told
-     
-      ∙ ap greatest (four_same (back 0 (omega arith)) (back 1 (omega arith)) (back 2 (omega arith)) (back 3 (omega arith)))
+      ∙ ap greatest (four_same (back 0 (omega arith)) (back 1 (omega arith))
+      (back 2 (omega arith)) (back 3 (omega arith)))
       ∙ greatest_four (lane 0) (lane 1) (lane 2) (lane 3) ∙ lanes_most a b whole
 
 pub greatest_lane-most-requires-clause-in_limit : goal.greatest_lane-most-requires-clause-in_limit

@@ -5,4 +5,5 @@ use Rattle.pfs_base.proofs.print.put_numbers.Given as goal
 
 abbrev pub invariant-loop-place : goal.invariant-loop-place
 invariant-loop-place g l =
-    SendsAll (g.W.Sink.written l.fn.writer) (g.W.Sink.written l.writer) (g.W.Sink.has_failed l.writer) l.fn.sent (spaced (take l.place l.numbers)) l.reached
+    SendsAll (g.W.Sink.written l.fn.writer) (g.W.Sink.written l.writer) (g.W.Sink.has_failed l.writer) l.fn.sent
+    (spaced (take l.place l.numbers)) l.reached
