@@ -1,4 +1,4 @@
-use Rattle.std.proofs.Common.{◌≡◌, ℕ, ◌+◌, ◌-◌, ◌*◌, ◌%◌, ◌<◌, ◌≤◌, max, List, [], ◌∷◌, length, map, get_or, refl, ap}
+use Rattle.std.proofs.Common.{◌≡◌, ℕ, ◌+◌, ◌-◌, ◌*◌, ◌%◌, ◌<◌, ◌≤◌, max, List, length, map, refl, ap}
 use Rattle.std.proofs.Common.{sym, add-one, ◌∙◌, arith, ℤ, to_z, of_z}
 use Rattle.std.specs.Int.{w64}
 use Rattle.pfs_base.specs.declared.bench.TheConstants.{SPAN_MAX}

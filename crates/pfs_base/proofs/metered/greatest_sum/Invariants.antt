@@ -1,4 +1,4 @@
-use Rattle.std.proofs.Common.{◌≡◌, ◌+◌, ◌-◌, ◌%◌, [], ◌∷◌, length}
+use Rattle.std.proofs.Common.{◌≡◌, ◌+◌, ◌-◌, ◌%◌, length}
 use Rattle.pfs_base.proofs.Sums.{lanes_at, most_to}
 use Rattle.pfs_base.proofs.metered.greatest_sum.Given as goal
 
