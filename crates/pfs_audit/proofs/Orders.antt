@@ -1,65 +1,54 @@
 -- Sums over the jobs of an order.
-use Rattle.std.proofs.Common.{◌≡◌, ℕ, zero, suc, ◌+◌, ◌<◌, ◌≤◌, List, [], ◌∷◌, length, take, Contains, eqb, true, false}
-use Rattle.std.proofs.Common.{get_or, remove, refl, sym, ap, ◌∙◌, add-one, ⊎_elim, arith}
-use Rattle.std.specs.Cmp.{nat_eq_equiv}
-use Rattle.std.specs.List.{sum_by, list_any, range_with_len}
-use Rattle.std.proofs.lemmas.Bool.{cases_Bool, eqb-true, false≢true}
+use Rattle.std.proofs.Common.{◌≡◌, ℕ, zero, suc, ◌<◌, ◌≤◌, List, [], ◌∷◌, length, take}
+use Rattle.std.proofs.Common.{get_or, remove, refl, sym, ◌∙◌, add-one, arith}
+use Rattle.std.specs.List.{sum_by, range_with_len}
 use Rattle.std.proofs.lemmas.List.{get_or_default, take_all}
 use Rattle.std.proofs.lemmas.List.Edits.{length-remove}
-use Rattle.std.proofs.lemmas.List.Sorted.{IsPermutation-remove}
 use Rattle.std.proofs.lemmas.List.Sums.{sum_by_more, sum_by-remove}
-use Rattle.std.proofs.lemmas.Map.Views.{Contains-from_any, list_any-from_Contains}
 use Rattle.pfs_order.specs.Sequence.{IsSequence, all_jobs}
-use Rattle.pfs_order.proofs.Published.Sequences.{length-lt-size, IsSequence-remove, IsSequence-permutation}
-use Rattle.pfs_order.proofs.Published.Sequences.{IsSequence-head}
+use Rattle.pfs_order.proofs.Published.Sequences.{Contains-all, IsSequence-remove, absent-remove}
 use Rattle.pfs_audit.proofs.Ranges.{sum_by-below-suc}
 
--- every job stands in an order of all jobs
-pub Contains-order : (size job : ℕ) (order : List ℕ) → IsSequence size order → length order ≡ size → job < size → Contains order job
-Contains-order size job order sequence full small =
-    ⊎_elim
-    (λ (among : list_any (eqb job) order ≡ true). Contains-from_any (λ x y. eqb-true x y) job order among)
-    (λ (none : list_any (eqb job) order ≡ false).
-    let absent : Contains order job → ⊥ = λ contains. false≢true (sym none ∙ list_any-from_Contains nat_eq_equiv job order contains) in
-    let fewer = length-lt-size size job order small absent sequence in
-    absurd (omega arith))
-    (cases_Bool (list_any (eqb job) order))
-
 -- without the last job it is an order of the others
-rest_is : (size at : ℕ) (order : List ℕ) → at < length order → size ≡ get_or order at size → IsSequence (suc size) order → IsSequence size (remove order at)
+rest_is : (size at : ℕ) (order : List ℕ) → at < length order → size ≡ get_or order at size → IsSequence (suc size) order
+    → IsSequence size (remove order at)
 rest_is size at order within is sequence =
-    let rest = remove order at in
     let wide = IsSequence-remove (suc size) at size order within is sequence in
-    let absent = IsSequence-head (suc size) size rest (IsSequence-permutation (suc size) order (size ∷ rest) (IsPermutation-remove order at size within is) sequence) in
+    let absent = absent-remove (suc size) at size order sequence within (is ∙ get_or_default order at size 0 within) in
     record {
       in_range = λ k d l.
           let small = wide.in_range k d l in
-          let other : get_or rest k d ≡ size → ⊥ = λ same. absent (k, l, get_or_default rest k size d l ∙ same) in
+          let other : get_or (remove order at) k d ≡ size → ⊥ =
+          λ same. absent (k, l, get_or_default (remove order at) k size d l ∙ same) in
           omega arith;
       distinct = wide.distinct;
     }
 
 -- a sum over an order of all jobs is the sum over all jobs
-pub sum_by-order : (f : ℕ → ℕ) (size : ℕ) (order : List ℕ) → IsSequence size order → length order ≡ size → sum_by f order ≡ sum_by f (all_jobs size)
+pub sum_by-order : (f : ℕ → ℕ) (size : ℕ) (order : List ℕ) → IsSequence size order → length order ≡ size
+    → sum_by f order ≡ sum_by f (all_jobs size)
 sum_by-order f zero [] sequence full = refl
 sum_by-order f zero (job ∷ jobs) sequence full = absurd (omega arith)
 sum_by-order f (suc size) order sequence full =
-    let (at, within, found) = Contains-order (suc size) size order sequence full (omega arith) in
+    let (at, within, found) = Contains-all (suc size) size order sequence full (omega arith) in
     let shorter = length-remove order at within in
-    let rest = sum_by-order f size (remove order at) (rest_is size at order within (sym found) sequence) (omega arith) in
-    let without = sum_by-remove f order at size within in
-    let here = ap f found in
+    let left = rest_is size at order within (sym found) sequence in
+    let rest = sum_by-order f size (remove order at) left (omega arith) in
+    let without = rw found at (sum_by-remove f order at size within) in
     let more = sum_by-below-suc f size in
     omega arith
 
 -- the sum of so many rows
-sum_by-rows : (f : ℕ → ℕ) (order : List ℕ) (rows : ℕ) → rows ≤ length order → sum_by (λ row. f (get_or order row 0)) (range_with_len 0 rows) ≡ sum_by f (take rows order)
+sum_by-rows : (f : ℕ → ℕ) (order : List ℕ) (rows : ℕ) → rows ≤ length order
+    → sum_by (λ row. f (get_or order row 0)) (range_with_len 0 rows) ≡ sum_by f (take rows order)
 sum_by-rows f order zero le = refl
 sum_by-rows f order (suc rows) le =
     let before = sum_by-rows f order rows (omega arith) in
     let left = sum_by-below-suc (λ row. f (get_or order row 0)) rows in
-    let right : sum_by f (take (suc rows) order) ≡ sum_by f (take rows order) + f (get_or order rows 0) = rw add-one at (sum_by_more f order rows 0 (omega arith)) in
+    let right = rw add-one at (sum_by_more f order rows 0 (omega arith)) in
     omega arith
 
-pub sum_by-all_rows : (f : ℕ → ℕ) (order : List ℕ) → sum_by (λ row. f (get_or order row 0)) (range_with_len 0 (length order)) ≡ sum_by f order
-sum_by-all_rows f order = sum_by-rows f order (length order) (omega arith) ∙ ap (sum_by f) (take_all (length order) order (omega arith))
+pub sum_by-all_rows : (f : ℕ → ℕ) (order : List ℕ)
+    → sum_by (λ row. f (get_or order row 0)) (range_with_len 0 (length order)) ≡ sum_by f order
+sum_by-all_rows f order =
+    rw (take_all (length order) order (omega arith)) at (sum_by-rows f order (length order) (omega arith))

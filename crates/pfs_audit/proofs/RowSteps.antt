@@ -1,19 +1,20 @@
 -- A loop that writes a row from its start on.
-use Rattle.std.proofs.Common.{◌≡◌, ◌≢◌, ℕ, ◌+◌, ◌<◌, ◌≤◌, List, length, get_or, set, ap, subst, sym, ◌∙◌, ⊎_elim, arith}
-use Rattle.std.proofs.lemmas.Bool.{cases_lt}
+use Rattle.std.proofs.Common.{◌≡◌, ◌≢◌, ℕ, ◌+◌, ◌<◌, ◌≤◌, List, length, get_or, set, ap, ◌∙◌, inl, inr, arith}
+use Rattle.std.proofs.lemmas.Bool.{cases_eq}
 use Rattle.std.proofs.lemmas.List.{get_or-set_same, get_or-set_other}
 
 module _ {X : Type 0} (number : X → ℕ) (items : List X) (at : ℕ) (x : X) (within : at < length items) where
   -- what stands before `at` and what is written there
-  pub written_more : (f : ℕ → ℕ) → ((k : ℕ) (d : X) → k < at → number (get_or items k d) ≡ f k) → number x ≡ f at →
-      (k : ℕ) (d : X) → k < at + 1 → number (get_or (set items at x) k d) ≡ f k
-  written_more f before here k d below =
-      ⊎_elim
-      (λ (lt : k < at). let ne : k ≢ at = omega arith in ap number (get_or-set_other items at k x d ne) ∙ before k d lt)
-      (λ (ge : at ≤ k). let e : k ≡ at = omega arith in subst (λ i. number (get_or (set items at x) i d) ≡ f i) (sym e) (ap number (get_or-set_same items at x d within) ∙ here))
-      (cases_lt k at)
+  pub written_more : (f : ℕ → ℕ) → ((k : ℕ) (d : X) → k < at → number (get_or items k d) ≡ f k) → number x ≡ f at
+      → (k : ℕ) (d : X) → k < at + 1 → number (get_or (set items at x) k d) ≡ f k
+  written_more f before here k d below = elim (cases_eq k at) [
+    | inl is ↦ rw is (ap number (get_or-set_same items at x d within) ∙ here)
+    | inr other ↦ ap number (get_or-set_other items at k x d other) ∙ before k d (omega arith)
+  ]
 
   -- what stands after it stays
-  pub written_rest : (f : ℕ → ℕ) (size : ℕ) → ((k : ℕ) (d : X) → at ≤ k → k < size → number (get_or items k d) ≡ f k) →
-      (k : ℕ) (d : X) → at + 1 ≤ k → k < size → number (get_or (set items at x) k d) ≡ f k
-  written_rest f size after k d above lt = let ne : k ≢ at = omega arith in ap number (get_or-set_other items at k x d ne) ∙ after k d (omega arith) lt
+  pub written_rest : (f : ℕ → ℕ) (size : ℕ) → ((k : ℕ) (d : X) → at ≤ k → k < size → number (get_or items k d) ≡ f k)
+      → (k : ℕ) (d : X) → at + 1 ≤ k → k < size → number (get_or (set items at x) k d) ≡ f k
+  written_rest f size after k d above lt =
+      let other : k ≢ at = omega arith in
+      ap number (get_or-set_other items at k x d other) ∙ after k d (omega arith) lt

@@ -1,5 +1,5 @@
 -- The least schedule, and that none ends before the makespan.
-use Rattle.std.proofs.Common.{◌≡◌, ℕ, zero, suc, ◌+◌, ◌-◌, ◌<◌, ◌≤◌, max, List, [], ◌∷◌, length, ap, ◌∙◌, add-one}
+use Rattle.std.proofs.Common.{◌≡◌, ℕ, zero, suc, ◌+◌, ◌-◌, ◌<◌, ◌≤◌, max, List, [], ◌∷◌, length, add-one}
 use Rattle.std.proofs.Common.{arith}
 use Rattle.pfs_base.specs.FlowShop.{FlowShop}
 use Rattle.pfs_base.specs.Paths.{makespan, operation}
@@ -16,68 +16,72 @@ module _ (shop : FlowShop) (order : List ℕ) where
   least_end-is row machine = heaviest_is weigh row machine
 
   -- an operation starts at the later of the ends above it and before it
-  pub least_start-is : (row machine : ℕ) → least_start shop order row machine ≡ max (head weigh row machine) (head_before weigh row machine)
-  least_start-is row machine = let e = least_end-is row machine in let step = head_step weigh row machine in omega arith
+  pub least_start-is : (row machine : ℕ)
+      → least_start shop order row machine ≡ max (head weigh row machine) (head_before weigh row machine)
+  least_start-is row machine =
+      let e = least_end-is row machine in let step = head_step weigh row machine in omega arith
 
-  pub end_of_least : (row machine : ℕ) → end_of shop order (least_start shop order) row machine ≡ head weigh (suc row) machine
-  end_of_least row machine = let e = least_start-is row machine in let step = head_step weigh row machine in omega arith
+  pub end_of_least : (row machine : ℕ)
+      → end_of shop order (least_start shop order) row machine ≡ head weigh (suc row) machine
+  end_of_least row machine =
+      let e = least_start-is row machine in let step = head_step weigh row machine in omega arith
 
   -- the last operation ends last
-  pub head_le_makespan : (row machine : ℕ) → row < length order → machine < shop.machines → head weigh (suc row) machine ≤ makespan shop order
+  head_le_makespan : (row machine : ℕ) → row < length order → machine < shop.machines
+      → head weigh (suc row) machine ≤ makespan shop order
   head_le_makespan row machine r m =
-      let along = head_along weigh row machine (shop.machines - 1 - machine) in
       let e : machine + (shop.machines - 1 - machine) ≡ shop.machines - 1 = omega arith in
-      let there = ap (head weigh (suc row)) e in
-      let down = head_down weigh (suc row) (shop.machines - 1) (length order - suc row) in
       let f : suc row + (length order - suc row) ≡ length order = omega arith in
-      let last = ap (λ rows. head weigh rows (shop.machines - 1)) f in
+      let along = rw e at (head_along weigh row machine (shop.machines - 1 - machine)) in
+      let down = rw f at (head_down weigh (suc row) (shop.machines - 1) (length order - suc row)) in
       let is = makespan_is shop order in
       omega arith
 
   module _ (others : Starts) (feasible : IsFeasible shop order others) where
-    pub not_earlier : (row machine : ℕ) → row < length order → machine < shop.machines → least_start shop order row machine ≤ others row machine
+    not_earlier : (row machine : ℕ) → row < length order → machine < shop.machines
+        → least_start shop order row machine ≤ others row machine
     not_earlier zero zero r m = let e = least_start-is 0 0 in omega arith
     not_earlier zero (suc machine) r m =
         let e = least_start-is 0 (suc machine) in
-        let before = not_earlier zero machine r (omega arith) in
         let is = end_of_least 0 machine in
-        let on : others 0 machine + weigh 0 machine ≤ others 0 (suc machine) = rw add-one at (feasible.one_machine 0 machine r (omega arith)) in
+        let before = not_earlier zero machine r (omega arith) in
+        let on = rw add-one at (feasible.one_machine 0 machine r (omega arith)) in
         omega arith
     not_earlier (suc row) zero r m =
         let e = least_start-is (suc row) 0 in
-        let above = not_earlier row zero (omega arith) m in
         let is = end_of_least row 0 in
-        let down : others row 0 + weigh row 0 ≤ others (suc row) 0 = rw add-one at (feasible.one_job row 0 (omega arith) m) in
+        let above = not_earlier row zero (omega arith) m in
+        let down = rw add-one at (feasible.one_job row 0 (omega arith) m) in
         omega arith
     not_earlier (suc row) (suc machine) r m =
         let e = least_start-is (suc row) (suc machine) in
-        let above = not_earlier row (suc machine) (omega arith) m in
-        let before = not_earlier (suc row) machine r (omega arith) in
         let above_is = end_of_least row (suc machine) in
         let before_is = end_of_least (suc row) machine in
-        let down : others row (suc machine) + weigh row (suc machine) ≤ others (suc row) (suc machine) = rw add-one at (feasible.one_job row (suc machine) (omega arith) m) in
-        let on : others (suc row) machine + weigh (suc row) machine ≤ others (suc row) (suc machine) = rw add-one at (feasible.one_machine (suc row) machine r (omega arith)) in
+        let above = not_earlier row (suc machine) (omega arith) m in
+        let before = not_earlier (suc row) machine r (omega arith) in
+        let down = rw (add-one row) at (feasible.one_job row (suc machine) (omega arith) m) in
+        let on = rw (add-one machine) at (feasible.one_machine (suc row) machine r (omega arith)) in
         omega arith
 
-  pub least_is_feasible : IsFeasible shop order (least_start shop order)
+  least_is_feasible : IsFeasible shop order (least_start shop order)
   least_is_feasible = record {
     one_machine = λ row machine r m.
         let e = least_start-is row (machine + 1) in
         let is = end_of_least row machine in
-        let before : head_before weigh row (machine + 1) ≡ head weigh (suc row) machine = head_before_more weigh row machine ∙ ap (λ rows. head weigh rows machine) (add-one row) in
+        let before = rw (add-one row) at (head_before_more weigh row machine) in
         omega arith;
     one_job = λ row machine r m.
-        let e = least_start-is (row + 1) machine in
+        let e = rw (add-one row) at (least_start-is (row + 1) machine) in
         let is = end_of_least row machine in
-        let above = ap (λ rows. head weigh rows machine) (add-one row) in
-        omega arith;
+        rw (add-one row) (omega arith);
   }
 
   pub is_least_schedule : IsLeastSchedule shop order (least_start shop order)
   is_least_schedule = record { feasible = least_is_feasible; least = not_earlier }
 
   pub ends_by_makespan : EndsBy shop order (least_start shop order) (makespan shop order)
-  ends_by_makespan row machine r m = let is = end_of_least row machine in let le = head_le_makespan row machine r m in omega arith
+  ends_by_makespan row machine r m =
+      let is = end_of_least row machine in let le = head_le_makespan row machine r m in omega arith
 
 pub least_schedule_law : LeastScheduleLaw
 least_schedule_law shop order = (is_least_schedule shop order, ends_by_makespan shop order)
@@ -99,8 +103,3 @@ one_least_schedule shop order one other a b row machine r m =
     let below = a.least other b.feasible row machine r m in
     let above = b.least one a.feasible row machine r m in
     omega arith
-
--- the least schedule is that of the heaviest paths
-pub least_is : (shop : FlowShop) (order : List ℕ) (starts : Starts) → IsLeastSchedule shop order starts → (row machine : ℕ) → row < length order → machine < shop.machines →
-    starts row machine ≡ least_start shop order row machine
-least_is shop order starts is = one_least_schedule shop order starts (least_start shop order) is (is_least_schedule shop order)

@@ -1,9 +1,10 @@
 -- The sums of the first jobs: one job more, and machine by machine.
 use Rattle.std.proofs.Common.{◌≡◌, ◌≢◌, ℕ, zero, suc, ◌+◌, ◌-◌, ◌*◌, ◌<◌, ◌≤◌, min, List, [], ◌∷◌, map, length, get_or}
-use Rattle.std.proofs.Common.{replicate, set, ap, subst, sym, ◌∙◌, add-one, ⊎_elim, arith}
+use Rattle.std.proofs.Common.{replicate, set, ap, ◌∙◌, add-one, inl, inr, arith}
 use Rattle.std.specs.List.{sum_by, range_with_len, fold}
 use Rattle.std.proofs.Math.ListN.{length-set}
-use Rattle.std.proofs.lemmas.Bool.{cases_lt}
+use Rattle.std.proofs.Math.Nat.{add-zero, add-suc}
+use Rattle.std.proofs.lemmas.Bool.{cases_eq}
 use Rattle.std.proofs.lemmas.List.{get_or-replicate, get_or-set_same, get_or-set_other, length-replicate}
 use Rattle.std.proofs.lemmas.List.Sums.{fold-append}
 use Rattle.std.proofs.lemmas.List.FromFn.{map-range_with_len_more}
@@ -16,12 +17,15 @@ use Rattle.pfs_audit.specs.Sums.{least_among, load_among, AreOf}
 use Rattle.pfs_audit.specs.declared.bounds.TheConstants.{LONGEST_TOTAL}
 use Rattle.pfs_audit.proofs.Ranges.{sum_by-range-suc, sum_by-below-suc, sum_by-below-more}
 
-pub least_among-more : (shop : FlowShop) (jobs from many : ℕ) → least_among shop (jobs + 1) from many ≡ min (least_among shop jobs from many) (time_on shop from many jobs)
+pub least_among-more : (shop : FlowShop) (jobs from many : ℕ)
+    → least_among shop (jobs + 1) from many ≡ min (least_among shop jobs from many) (time_on shop from many jobs)
 least_among-more shop jobs from many =
     let f = time_on shop from many in
-    ap (fold min LONGEST_TOTAL) (map-range_with_len_more f 0 jobs jobs (omega arith)) ∙ fold-append min LONGEST_TOTAL (map f (range_with_len 0 jobs)) (f jobs ∷ [])
+    ap (fold min LONGEST_TOTAL) (map-range_with_len_more f 0 jobs jobs (omega arith))
+    ∙ fold-append min LONGEST_TOTAL (map f (range_with_len 0 jobs)) (f jobs ∷ [])
 
-pub load_among-more : (shop : FlowShop) (jobs machine : ℕ) → load_among shop (jobs + 1) machine ≡ load_among shop jobs machine + time_of shop jobs machine
+pub load_among-more : (shop : FlowShop) (jobs machine : ℕ)
+    → load_among shop (jobs + 1) machine ≡ load_among shop jobs machine + time_of shop jobs machine
 load_among-more shop jobs machine = sum_by-below-more (λ job. time_of shop job machine) jobs
 
 pub least_among-le : (shop : FlowShop) (jobs from many : ℕ) → least_among shop jobs from many ≤ LONGEST_TOTAL
@@ -31,7 +35,8 @@ least_among-le shop (suc jobs) from many =
     let before = least_among-le shop jobs from many in
     omega arith
 
-pub load_among-le : (shop : FlowShop) → IsWithin limits shop → (jobs machine : ℕ) → load_among shop jobs machine ≤ LONGEST_TIME * jobs
+pub load_among-le : (shop : FlowShop) → IsWithin limits shop → (jobs machine : ℕ)
+    → load_among shop jobs machine ≤ LONGEST_TIME * jobs
 load_among-le shop within zero machine = omega arith
 load_among-le shop within (suc jobs) machine =
     let more = sum_by-below-suc (λ job. time_of shop job machine) jobs in
@@ -39,7 +44,8 @@ load_among-le shop within (suc jobs) machine =
     let here = time_of-le shop within jobs machine in
     omega arith
 
-pub time_on-le : (shop : FlowShop) → IsWithin limits shop → (from many job : ℕ) → time_on shop from many job ≤ LONGEST_TIME * many
+pub time_on-le : (shop : FlowShop) → IsWithin limits shop → (from many job : ℕ)
+    → time_on shop from many job ≤ LONGEST_TIME * many
 time_on-le shop within from zero job = omega arith
 time_on-le shop within from (suc many) job =
     let more = sum_by-range-suc (time_of shop job) from many in
@@ -48,7 +54,8 @@ time_on-le shop within from (suc many) job =
     omega arith
 
 -- of some jobs the least is that of the definition
-pub least_among-is : (shop : FlowShop) → IsWithin limits shop → (jobs from many : ℕ) → 1 ≤ jobs → many ≤ MOST_MACHINES → least_among shop jobs from many ≡ least (map (time_on shop from many) (range_with_len 0 jobs))
+pub least_among-is : (shop : FlowShop) → IsWithin limits shop → (jobs from many : ℕ) → 1 ≤ jobs → many ≤ MOST_MACHINES
+    → least_among shop jobs from many ≡ least (map (time_on shop from many) (range_with_len 0 jobs))
 least_among-is shop within zero from many some few = absurd (omega arith)
 least_among-is shop within (suc jobs) from many some few =
     let small = time_on-le shop within from many 0 in
@@ -56,26 +63,29 @@ least_among-is shop within (suc jobs) from many some few =
     ap (λ a. fold min a (map (time_on shop from many) (range_with_len 1 jobs))) first
 
 -- a sum in two parts
-sum_by-parts : (f : ℕ → ℕ) (n more : ℕ) → sum_by f (range_with_len 0 (n + more)) ≡ sum_by f (range_with_len 0 n) + sum_by f (range_with_len n more)
-sum_by-parts f n zero = let e : n + 0 ≡ n = omega arith in let same = ap (λ k. sum_by f (range_with_len 0 k)) e in omega arith
+sum_by-parts : (f : ℕ → ℕ) (n more : ℕ)
+    → sum_by f (range_with_len 0 (n + more)) ≡ sum_by f (range_with_len 0 n) + sum_by f (range_with_len n more)
+sum_by-parts f n zero = rw (add-zero n) (omega arith)
 sum_by-parts f n (suc more) =
     let before = sum_by-parts f n more in
-    let e : n + suc more ≡ suc (n + more) = omega arith in
-    let same = ap (λ k. sum_by f (range_with_len 0 k)) e in
     let whole = sum_by-below-suc f (n + more) in
     let part = sum_by-range-suc f n more in
-    omega arith
+    rw (add-suc n more) (omega arith)
 
 -- the time of a job through a machine, and after it
 pub time_on-parts : (shop : FlowShop) (job machine : ℕ) → machine < shop.machines
-    → time_on shop 0 shop.machines job ≡ time_on shop 0 (machine + 1) job + time_on shop (machine + 1) (shop.machines - (machine + 1)) job
+    → time_on shop 0 shop.machines job
+    ≡ time_on shop 0 (machine + 1) job + time_on shop (machine + 1) (shop.machines - (machine + 1)) job
 time_on-parts shop job machine within =
-    let e : shop.machines ≡ machine + 1 + (shop.machines - (machine + 1)) = omega arith in
-    ap (λ n. time_on shop 0 n job) e ∙ sum_by-parts (time_of shop job) (machine + 1) (shop.machines - (machine + 1))
+    let e : machine + 1 + (shop.machines - (machine + 1)) ≡ shop.machines = omega arith in
+    rw e at (sum_by-parts (time_of shop job) (machine + 1) (shop.machines - (machine + 1)))
 
 -- one number, many times
 pub all_same : (machines many x : ℕ) → machines ≤ many → AreOf (λ _. x) machines (replicate many x)
-all_same machines many x few = record { every = omega (arith, length-replicate many x); values = λ machine small. get_or-replicate many machine x 0 (omega arith) }
+all_same machines many x few = record {
+  every = omega (arith, length-replicate many x);
+  values = λ machine small. get_or-replicate many machine x 0 (omega arith);
+}
 
 -- the numbers before a machine have one job more than those from it on
 pub record HavePartly (value : ℕ → ℕ → ℕ) (machines job machine : ℕ) (numbers : List ℕ) : Type 0 where
@@ -83,20 +93,26 @@ pub record HavePartly (value : ℕ → ℕ → ℕ) (machines job machine : ℕ)
   pub done : (k : ℕ) → k < machine → get_or numbers k 0 ≡ value (job + 1) k
   pub to_do : (k : ℕ) → machine ≤ k → k < machines → get_or numbers k 0 ≡ value job k
 
-pub have_none : (value : ℕ → ℕ → ℕ) (machines job : ℕ) (numbers : List ℕ) → AreOf (value job) machines numbers → HavePartly value machines job 0 numbers
-have_none value machines job numbers are = record { every = are.every; done = λ k h. absurd (omega arith); to_do = λ k h small. are.values k small }
-
-pub have_all : (value : ℕ → ℕ → ℕ) (machines job machine : ℕ) (numbers : List ℕ) → machines ≤ machine → HavePartly value machines job machine numbers → AreOf (value (job + 1)) machines numbers
-have_all value machines job machine numbers end have = record { every = have.every; values = λ k small. have.done k (omega arith) }
-
-pub have_more : (value : ℕ → ℕ → ℕ) (machines job machine x : ℕ) (numbers : List ℕ) → machine < machines → HavePartly value machines job machine numbers → x ≡ value (job + 1) machine
-    → HavePartly value machines job (machine + 1) (set numbers machine x)
-have_more value machines job machine x numbers small have here = record {
-  every = let e = have.every in omega (arith, length-set numbers machine x);
-  done = λ k below.
-      ⊎_elim
-      (λ (lt : k < machine). let ne : k ≢ machine = omega arith in get_or-set_other numbers machine k x 0 ne ∙ have.done k lt)
-      (λ (ge : machine ≤ k). let e : k ≡ machine = omega arith in subst (λ i. get_or (set numbers machine x) i 0 ≡ value (job + 1) i) (sym e) (get_or-set_same numbers machine x 0 (let e = have.every in omega arith) ∙ here))
-      (cases_lt k machine);
-  to_do = λ k above within. let ne : k ≢ machine = omega arith in get_or-set_other numbers machine k x 0 ne ∙ have.to_do k (omega arith) within;
+pub have_none : (value : ℕ → ℕ → ℕ) (machines job : ℕ) (numbers : List ℕ) → AreOf (value job) machines numbers
+    → HavePartly value machines job 0 numbers
+have_none value machines job numbers are = record {
+  every = are.every;
+  done = λ k h. absurd (omega arith);
+  to_do = λ k h small. are.values k small;
 }
+
+pub have_more : (value : ℕ → ℕ → ℕ) (machines job machine x : ℕ) (numbers : List ℕ) → machine < machines
+    → HavePartly value machines job machine numbers → x ≡ value (job + 1) machine
+    → HavePartly value machines job (machine + 1) (set numbers machine x)
+have_more value machines job machine x numbers small have here =
+    let within : machine < length numbers = omega (arith, have.every) in
+    record {
+      every = omega (arith, length-set numbers machine x);
+      done = λ k below. elim (cases_eq k machine) [
+        | inl is ↦ rw is (get_or-set_same numbers machine x 0 within ∙ here)
+        | inr other ↦ get_or-set_other numbers machine k x 0 other ∙ have.done k (omega arith)
+      ];
+      to_do = λ k above inside.
+          let other : k ≢ machine = omega arith in
+          get_or-set_other numbers machine k x 0 other ∙ have.to_do k (omega arith) inside;
+    }

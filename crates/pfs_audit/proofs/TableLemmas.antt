@@ -6,12 +6,13 @@ use Rattle.pfs_base.proofs.Published.Heads.{head, makespan_is}
 use Rattle.pfs_audit.specs.Schedule.{Starts, end_of, EndsBy, IsLeastSchedule, least_end, least_start, AreRows}
 use Rattle.pfs_audit.proofs.Schedules.{end_of_least, ends_by_makespan, is_least_schedule, least_end-is}
 
-module _ (shop : FlowShop) (order : List ℕ) (starts : Starts) (same : (row machine : ℕ) → row < length order → machine < shop.machines → starts row machine ≡ least_start shop order row machine) where
-  ends_alike : (row machine : ℕ) → row < length order → machine < shop.machines → end_of shop order starts row machine ≡ end_of shop order (least_start shop order) row machine
-  ends_alike row machine r m = ap (λ n. n + operation shop order row machine) (same row machine r m)
-
-  pub table_ends : (row machine : ℕ) → row < length order → machine < shop.machines → least_end shop order row machine ≡ end_of shop order starts row machine
-  table_ends row machine r m = least_end-is shop order row machine ∙ sym (end_of_least shop order row machine) ∙ sym (ends_alike row machine r m)
+module _ (shop : FlowShop) (order : List ℕ) (starts : Starts) (same :
+    (row machine : ℕ) → row < length order → machine < shop.machines
+    → starts row machine ≡ least_start shop order row machine) where
+  pub table_ends : (row machine : ℕ) → row < length order → machine < shop.machines
+      → least_end shop order row machine ≡ end_of shop order starts row machine
+  table_ends row machine r m =
+      rw (same row machine r m) (least_end-is shop order row machine ∙ sym (end_of_least shop order row machine))
 
   pub table_is_least : IsLeastSchedule shop order starts
   table_is_least =
@@ -36,16 +37,20 @@ module _ (shop : FlowShop) (order : List ℕ) (starts : Starts) (same : (row mac
       }
 
   pub table_ends_by : EndsBy shop order starts (makespan shop order)
-  table_ends_by row machine r m = let by = ends_by_makespan shop order row machine r m in let here = same row machine r m in omega arith
+  table_ends_by row machine r m =
+      let by = ends_by_makespan shop order row machine r m in let here = same row machine r m in omega arith
 
 -- the last entry is the makespan
-pub last_is_makespan : (shop : FlowShop) (order : List ℕ) → 1 ≤ length order → least_end shop order (length order - 1) (shop.machines - 1) ≡ makespan shop order
+pub last_is_makespan : (shop : FlowShop) (order : List ℕ) → 1 ≤ length order
+    → least_end shop order (length order - 1) (shop.machines - 1) ≡ makespan shop order
 last_is_makespan shop order some =
     let e : suc (length order - 1) ≡ length order = omega arith in
-    least_end-is shop order (length order - 1) (shop.machines - 1) ∙ ap (λ rows. head (operation shop order) rows (shop.machines - 1)) e ∙ sym (makespan_is shop order)
+    least_end-is shop order (length order - 1) (shop.machines - 1)
+    ∙ ap (λ rows. head (operation shop order) rows (shop.machines - 1)) e ∙ sym (makespan_is shop order)
 
 -- an entry of a table of so many rows
-pub entry_at : (value : ℕ → ℕ → ℕ) (machines rows width many : ℕ) (items : List ℕ) → AreRows value machines rows items → width ≡ machines → many ≤ rows →
-    (row machine : ℕ) → row < many → machine < machines → get_or items (row * width + machine) 0 ≡ value row machine
+pub entry_at : (value : ℕ → ℕ → ℕ) (machines rows width many : ℕ) (items : List ℕ)
+    → AreRows value machines rows items → width ≡ machines → many ≤ rows
+    → (row machine : ℕ) → row < many → machine < machines → get_or items (row * width + machine) 0 ≡ value row machine
 entry_at value machines rows width many items are same le row machine r m =
-    ap (λ w. get_or items (row * w + machine) 0) same ∙ are.entries row machine (omega arith) m
+    rw same (are.entries row machine (omega arith) m)

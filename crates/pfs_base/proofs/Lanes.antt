@@ -29,7 +29,8 @@ pub chosen_is : (x y : ℕ) → x ≤ SPAN_MAX → y ≤ SPAN_MAX → cond (top 
 chosen_is x y small less = grind (arith, nat_tests, ints)
 
 -- a lane that is read
-lane_read : (lane : ℤ) → of_z w64 lane ≤ SPAN_MAX → of_z w64 (to_z w64 (of_z w64 (to_z w64 (of_z w64 lane)))) ≡ of_z w64 lane
+lane_read : (lane : ℤ) → of_z w64 lane ≤ SPAN_MAX
+    → of_z w64 (to_z w64 (of_z w64 (to_z w64 (of_z w64 lane)))) ≡ of_z w64 lane
 lane_read lane small =
     let once : of_z w64 (to_z w64 (of_z w64 lane)) ≡ of_z w64 lane = of_z-to_z w64 (of_z w64 lane) (omega arith) in
     ap (λ n. of_z w64 (to_z w64 n)) once ∙ once
@@ -38,20 +39,23 @@ abbrev pub read_at : List ℤ → ℕ → ℕ
 read_at lanes lane = of_z w64 (to_z w64 (of_z w64 (get_or (map (to_z w64) (map (of_z w64) lanes)) lane (pos 0))))
 
 pub greatest_four : (w x y z : ℕ) → greatest (w ∷ x ∷ y ∷ z ∷ []) ≡ max (max w x) (max y z)
-greatest_four w x y z = ap (λ n. max (max (max n x) y) z) (let none : max 0 w ≡ w = omega arith in none) ∙ max_last (max w x) y z
+greatest_four w x y z =
+    ap (λ n. max (max (max n x) y) z) (let none : max 0 w ≡ w = omega arith in none) ∙ max_last (max w x) y z
 
-pub lanes_read : (lanes : List ℤ) → length lanes ≡ 4 → greatest (map (of_z w64) lanes) ≤ SPAN_MAX → max (max (read_at lanes 0) (read_at lanes 1)) (max (read_at lanes 2) (read_at lanes 3)) ≡ greatest (map (of_z w64) lanes)
+most_same : {a b c d e f g h : ℕ} → a ≡ e → b ≡ f → c ≡ g → d ≡ h
+    → max (max a b) (max c d) ≡ max (max e f) (max g h)
+most_same p q r s = cc
+
+pub lanes_read : (lanes : List ℤ) → length lanes ≡ 4 → greatest (map (of_z w64) lanes) ≤ SPAN_MAX
+    → max (max (read_at lanes 0) (read_at lanes 1)) (max (read_at lanes 2) (read_at lanes 3))
+    ≡ greatest (map (of_z w64) lanes)
 lanes_read (w ∷ x ∷ y ∷ z ∷ []) four small =
     let all = greatest_four (of_z w64 w) (of_z w64 x) (of_z w64 y) (of_z w64 z) in
     let a = lane_read w (omega arith) in
     let b = lane_read x (omega arith) in
     let c = lane_read y (omega arith) in
     let d = lane_read z (omega arith) in
-    ap (λ n. max (max n (read_at (w ∷ x ∷ y ∷ z ∷ []) 1)) (max (read_at (w ∷ x ∷ y ∷ z ∷ []) 2) (read_at (w ∷ x ∷ y ∷ z ∷ []) 3))) a
-    ∙ ap (λ n. max (max (of_z w64 w) n) (max (read_at (w ∷ x ∷ y ∷ z ∷ []) 2) (read_at (w ∷ x ∷ y ∷ z ∷ []) 3))) b
-    ∙ ap (λ n. max (max (of_z w64 w) (of_z w64 x)) (max n (read_at (w ∷ x ∷ y ∷ z ∷ []) 3))) c
-    ∙ ap (λ n. max (max (of_z w64 w) (of_z w64 x)) (max (of_z w64 y) n)) d
-    ∙ sym all
+    most_same a b c d ∙ sym all
 lanes_read [] four small = absurd (omega arith)
 lanes_read (w ∷ []) four small = absurd (omega arith)
 lanes_read (w ∷ x ∷ []) four small = absurd (omega arith)
@@ -65,11 +69,16 @@ raised lanes a b =
     sel_l (map (top 63) (zip2 is_less lanes sums)) sums lanes
 
 -- one lane of them
-raised_at : (lane x y : ℕ) → lane ≤ SPAN_MAX → x + y ≤ SPAN_MAX →
-    cond (top 63 (is_less lane (added (of_z w64 (to_z w64 x)) (of_z w64 (to_z w64 y))))) (added (of_z w64 (to_z w64 x)) (of_z w64 (to_z w64 y))) lane ≡ max lane (x + y)
-raised_at lane x y small sum_small = ap (λ s. cond (top 63 (is_less lane s)) s lane) (added_is x y sum_small) ∙ chosen_is lane (x + y) small sum_small
+raised_at : (lane x y : ℕ) → lane ≤ SPAN_MAX → x + y ≤ SPAN_MAX
+    → let sum : ℕ = added (of_z w64 (to_z w64 x)) (of_z w64 (to_z w64 y)) in
+    cond (top 63 (is_less lane sum)) sum lane ≡ max lane (x + y)
+raised_at lane x y small sum_small =
+    ap (λ s. cond (top 63 (is_less lane s)) s lane) (added_is x y sum_small) ∙ chosen_is lane (x + y) small sum_small
 
-pub raised_is : (k l m n p q r s w x y z : ℕ) → k ≤ SPAN_MAX → l ≤ SPAN_MAX → m ≤ SPAN_MAX → n ≤ SPAN_MAX → p + w ≤ SPAN_MAX → q + x ≤ SPAN_MAX → r + y ≤ SPAN_MAX → s + z ≤ SPAN_MAX →
-    raised (k ∷ l ∷ m ∷ n ∷ []) (map (to_z w64) (p ∷ q ∷ r ∷ s ∷ [])) (map (to_z w64) (w ∷ x ∷ y ∷ z ∷ [])) ≡ max k (p + w) ∷ max l (q + x) ∷ max m (r + y) ∷ max n (s + z) ∷ []
+pub raised_is : (k l m n p q r s w x y z : ℕ) → k ≤ SPAN_MAX → l ≤ SPAN_MAX → m ≤ SPAN_MAX → n ≤ SPAN_MAX
+    → p + w ≤ SPAN_MAX → q + x ≤ SPAN_MAX → r + y ≤ SPAN_MAX → s + z ≤ SPAN_MAX
+    → raised (k ∷ l ∷ m ∷ n ∷ []) (map (to_z w64) (p ∷ q ∷ r ∷ s ∷ [])) (map (to_z w64) (w ∷ x ∷ y ∷ z ∷ []))
+    ≡ max k (p + w) ∷ max l (q + x) ∷ max m (r + y) ∷ max n (s + z) ∷ []
 raised_is k l m n p q r s w x y z small_k small_l small_m small_n small_p small_q small_r small_s =
-    four_same (raised_at k p w small_k small_p) (raised_at l q x small_l small_q) (raised_at m r y small_m small_r) (raised_at n s z small_n small_s)
+    four_same (raised_at k p w small_k small_p) (raised_at l q x small_l small_q)
+    (raised_at m r y small_m small_r) (raised_at n s z small_n small_s)

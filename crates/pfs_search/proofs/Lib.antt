@@ -1,4 +1,5 @@
 pub mod Published
+pub mod InTurn
 pub mod Moves
 pub mod NoLonger
 pub mod OneRanking

@@ -1,6 +1,6 @@
 -- Taking jobs out.
 use Rattle.std.proofs.Common.{◌≡◌, ℕ, ◌+◌, ◌<◌, List, [], ◌∷◌, ◌++◌, length, get_or, drop, insert, remove, Contains}
-use Rattle.std.proofs.Common.{◌∙◌, subst}
+use Rattle.std.proofs.Common.{◌∙◌}
 use Rattle.std.proofs.lemmas.List.{get_or_default, drop_more}
 use Rattle.std.proofs.lemmas.List.Elements.{Contains-append_right}
 use Rattle.std.proofs.lemmas.List.Sorted.{IsPermutation-more, IsPermutation-refl}
@@ -9,25 +9,27 @@ use Rattle.pfs_order.proofs.Published.Sequences.{IsSequence-permutation, IsSeque
 use Rattle.pfs_order.proofs.Published.Sequences.{IsSequence-moved}
 
 -- one more job goes from the jobs that are left to the taken ones
-pub taken_more : (size : ℕ) (done jobs : List ℕ) (place job : ℕ) → place < length jobs → job ≡ get_or jobs place 0 → IsSequence size (done ++ jobs) → IsSequence size ((done ++ job ∷ []) ++ remove jobs place)
-taken_more size done jobs place job within at h =
-    IsSequence-permutation size (done ++ jobs) ((done ++ job ∷ []) ++ remove jobs place)
-    (IsPermutation-more (done ++ jobs) done jobs place job within (at ∙ get_or_default jobs place 0 job within) (IsPermutation-refl (done ++ jobs))) h
+pub taken_more : (size : ℕ) (done jobs : List ℕ) (place job : ℕ) → place < length jobs → job ≡ get_or jobs place 0
+    → IsSequence size (done ++ jobs) → IsSequence size ((done ++ job ∷ []) ++ remove jobs place)
+taken_more size done jobs place job within at =
+    let here : job ≡ get_or jobs place job = at ∙ get_or_default jobs place 0 job within in
+    IsSequence-permutation size _ _ (IsPermutation-more _ done jobs place job within here (IsPermutation-refl _))
 
 -- ---- the job that is put back next, of those that are taken
 
-module _ (size : ℕ) (taken jobs : List ℕ) (i : ℕ) (within : i < length taken) (together : IsSequence size (drop i taken ++ jobs)) where
+module _ (size : ℕ) (taken jobs : List ℕ) (i : ℕ) (within : i < length taken)
+    (together : IsSequence size (drop i taken ++ jobs)) where
   abbrev next : ℕ
   next = get_or taken i 0
 
   with_next : IsSequence size (next ∷ (drop (i + 1) taken ++ jobs))
-  with_next = subst (λ l. IsSequence size (l ++ jobs)) (drop_more taken i 0 within) together
+  with_next = rw (drop_more taken i 0 within) at together
 
   pub next_small : next < size
   next_small = IsSequence-first size next (drop (i + 1) taken ++ jobs) with_next
 
   pub next_absent : Contains jobs next → ⊥
-  next_absent h = IsSequence-head size next (drop (i + 1) taken ++ jobs) with_next (Contains-append_right (drop (i + 1) taken) jobs next h)
+  next_absent among = IsSequence-head size next _ with_next (Contains-append_right (drop (i + 1) taken) jobs next among)
 
   pub next_moved : (place : ℕ) → IsSequence size (drop (i + 1) taken ++ insert jobs place next)
   next_moved place = IsSequence-moved size next place (drop (i + 1) taken) jobs with_next

@@ -10,7 +10,8 @@ use Rattle.pfs_base.specs.Sends.{Sends, SendsAll, SendsFront}
 
 -- a part went out, and then the next
 pub then_all : {a b c : Option (List ℕ)} {working_b failed : Bool} {sent middle total : ℕ} {done part : List ℕ}
-    → SendsAll a b working_b sent done middle → SendsAll b c failed middle part total → SendsAll a c failed sent (done ++ part) total
+    → SendsAll a b working_b sent done middle → SendsAll b c failed middle part total
+    → SendsAll a c failed sent (done ++ part) total
 then_all {a} {b} {c} {working_b} {failed} {sent} {middle} {total} {done} {part} p q =
     let first = p.counted in
     let second = q.counted in
@@ -22,7 +23,8 @@ then_all {a} {b} {c} {working_b} {failed} {sent} {middle} {total} {done} {part} 
 
 -- a part went out, and then a front of the next
 pub then_front : {a b c : Option (List ℕ)} {working_b failed : Bool} {sent middle reached : ℕ} {done part : List ℕ}
-    → SendsAll a b working_b sent done middle → SendsFront b c failed middle part reached → SendsFront a c failed sent (done ++ part) reached
+    → SendsAll a b working_b sent done middle → SendsFront b c failed middle part reached
+    → SendsFront a c failed sent (done ++ part) reached
 then_front {a} {b} {c} {working_b} {failed} {sent} {middle} {reached} {done} {part} p q =
     let first = p.counted in
     let low = q.from in
@@ -52,7 +54,9 @@ front_of {a} {b} {failed} {sent} {reached} {text} rest p =
     }
 
 -- a part went out, and then all of the next or a front of it
-pub then_sends : {a b : Option (List ℕ)} {working_b : Bool} {sent middle : ℕ} {done : List ℕ} (c : Option (List ℕ)) (failed : Bool) (part : List ℕ) (result : Result ℕ WriteFault)
-    → SendsAll a b working_b sent done middle → Sends b c failed middle part result → Sends a c failed sent (done ++ part) result
+pub then_sends : {a b : Option (List ℕ)} {working_b : Bool} {sent middle : ℕ} {done : List ℕ}
+    (c : Option (List ℕ)) (failed : Bool) (part : List ℕ) (result : Result ℕ WriteFault)
+    → SendsAll a b working_b sent done middle → Sends b c failed middle part result
+    → Sends a c failed sent (done ++ part) result
 then_sends c failed part (Ok total) p q = then_all p q
 then_sends c failed part (Err fault) p q = then_front p q

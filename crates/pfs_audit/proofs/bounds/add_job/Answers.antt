@@ -17,7 +17,8 @@ loop-machine-init c =
       through = refl;
       before = have_none (λ jobs. least_among shop jobs 0) shop.machines job c.args.sums.now.before sums.before;
       load = have_none (load_among shop) shop.machines job c.args.sums.now.load sums.load;
-      after = have_none (λ jobs machine. least_among shop jobs (machine + 1) (shop.machines - (machine + 1))) shop.machines job c.args.sums.now.after sums.after;
+      after = have_none (λ jobs machine. least_among shop jobs (machine + 1) (shop.machines - (machine + 1)))
+          shop.machines job c.args.sums.now.after sums.after;
     }
 
 pub overflow_add-sums : goal.overflow_add-sums
@@ -30,7 +31,8 @@ overflow_add-sums c =
 
 pub overflow_add-through : goal.overflow_add-through
 overflow_add-through c =
-    let short = time_on-le c.args.instance.now.shop c.machines-machine-end.ensures.within 0 c.loop-machine.machine c.args.job in
+    let within = c.machines-machine-end.ensures.within in
+    let short = time_on-le c.args.instance.now.shop within 0 c.loop-machine.machine c.args.job in
     omega arith
 
 pub overflow_sub-total : goal.overflow_sub-total
@@ -62,7 +64,10 @@ loop-machine-preserved c =
     record {
       longest = invariant.longest;
       through = omega arith;
-      before = have_more (λ jobs. least_among shop jobs 0) shop.machines job machine c.min.result sums.before (omega arith) invariant.before (omega arith);
-      load = have_more (load_among shop) shop.machines job machine _ sums.load (omega arith) invariant.load (omega arith);
-      after = have_more (λ jobs at. least_among shop jobs (at + 1) (shop.machines - (at + 1))) shop.machines job machine c.min-in-loop-machine.result sums.after (omega arith) invariant.after (omega arith);
+      before = have_more (λ jobs. least_among shop jobs 0) shop.machines job machine _ sums.before
+          (omega arith) invariant.before (omega arith);
+      load = have_more (load_among shop) shop.machines job machine _ sums.load
+          (omega arith) invariant.load (omega arith);
+      after = have_more (λ jobs at. least_among shop jobs (at + 1) (shop.machines - (at + 1)))
+          shop.machines job machine _ sums.after (omega arith) invariant.after (omega arith);
     }

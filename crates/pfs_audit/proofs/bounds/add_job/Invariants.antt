@@ -15,5 +15,6 @@ invariant-loop-machine l =
       through : l.through ≡ time_on shop 0 l.machine l.job;
       before : HavePartly (λ jobs. least_among shop jobs 0) shop.machines l.job l.machine l.sums.before;
       load : HavePartly (load_among shop) shop.machines l.job l.machine l.sums.load;
-      after : HavePartly (λ jobs machine. least_among shop jobs (machine + 1) (shop.machines - (machine + 1))) shop.machines l.job l.machine l.sums.after;
+      after : HavePartly (λ jobs machine. least_among shop jobs (machine + 1) (shop.machines - (machine + 1)))
+          shop.machines l.job l.machine l.sums.after;
     }

@@ -12,5 +12,6 @@ loop-machine-preserved c =
 pub returns : goal.returns
 returns c =
     let is = total_of-is c.args.instance.now.shop c.args.job in
-    let all = ap (λ n. time_on c.args.instance.now.shop 0 n c.args.job) (let e : c.loop-machine.machine ≡ c.args.instance.now.shop.machines = omega arith in e) in
+    let end : c.loop-machine.machine ≡ c.args.instance.now.shop.machines = omega arith in
+    let all = ap (λ n. time_on c.args.instance.now.shop 0 n c.args.job) end in
     omega arith

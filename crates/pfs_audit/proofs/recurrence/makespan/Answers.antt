@@ -16,10 +16,12 @@ step-before-requires-clause-in_limit g c =
     let machine = c.loop-machine.machine in
     let above = head_le weigh LONGEST_TIME small place machine in
     let before = head_before_le weigh LONGEST_TIME small place machine in
-    let time = time_of-le (g.B.Bench.shop c.loop-machine.bench) (g.met.B.Bench.within c.loop-machine.bench) c.at-job.result machine in
+    let here = c.loop-machine.bench in
+    let time = time_of-le (g.B.Bench.shop here) (g.met.B.Bench.within here) c.at-job.result machine in
     let number = g.B.Span.Length.number in
     let items = c.loop-machine.row.items in
-    let read : number c.index.result.now ≡ number (get_or items machine c.index.result.now) = ap number c.index.ensures in
+    let read : number c.index.result.now ≡ number (get_or items machine c.index.result.now) =
+    ap number c.index.ensures in
     let above_it = c.loop-machine.invariant.to_do machine c.index.result.now (omega arith) (omega arith) in
     let before_it = c.loop-machine.invariant.before_it in
     let few = shop_within.sizes in
@@ -35,7 +37,8 @@ loop-machine-preserved g c =
     let items = c.loop-machine.row.items in
     let invariant = c.loop-machine.invariant in
     let within : machine < length items = omega (arith, c.loop-machine.row.ok.0) in
-    let read : number c.index.result.now ≡ number (get_or items machine c.index.result.now) = ap number c.index.ensures in
+    let read : number c.index.result.now ≡ number (get_or items machine c.index.result.now) =
+    ap number c.index.ensures in
     let above_it = invariant.to_do machine c.index.result.now (omega arith) (omega arith) in
     let same_time = ap (λ (s : FlowShop). time_of s c.at-job.result machine) invariant.same_shop in
     let time = ap (λ job. time_of shop job machine) c.at-job.ensures.value in
@@ -49,7 +52,7 @@ loop-machine-preserved g c =
       same_shop = c.step-before.ensures.shop ∙ invariant.same_shop;
       counted = omega (arith, c.step-before.ensures.counted, invariant.counted);
       width = invariant.width;
-      done = written_more number items machine c.step-before.result within (head weigh (place + 1)) invariant.done written;
-      to_do = written_rest number items machine c.step-before.result within (head weigh place) shop.machines invariant.to_do;
+      done = written_more number items machine _ within (head weigh (place + 1)) invariant.done written;
+      to_do = written_rest number items machine _ within (head weigh place) shop.machines invariant.to_do;
       before_it = written ∙ sym (head_before_more weigh place machine);
     }

@@ -11,7 +11,8 @@ invariant-loop-place g l =
       same_shop : g.B.Bench.shop l.bench ≡ shop;
       counted : g.B.Bench.counted l.bench ≡ g.B.Bench.counted l.fn.bench + l.place * shop.machines;
       width : vec_len l.row ≡ shop.machines;
-      heads : (m : ℕ) (d : _) → m < shop.machines → number (get_or l.row.items m d) ≡ head (operation shop l.seq.jobs) l.place m;
+      heads : (m : ℕ) (d : _) → m < shop.machines
+          → number (get_or l.row.items m d) ≡ head (operation shop l.seq.jobs) l.place m;
     }
 
 abbrev pub invariant-loop-machine : goal.invariant-loop-machine
@@ -24,6 +25,7 @@ invariant-loop-machine g l =
       counted : g.B.Bench.counted l.bench ≡ g.B.Bench.counted l.fn.bench + l.place * shop.machines + l.machine;
       width : vec_len l.row ≡ shop.machines;
       done : (m : ℕ) (d : _) → m < l.machine → number (get_or l.row.items m d) ≡ head weigh (l.place + 1) m;
-      to_do : (m : ℕ) (d : _) → l.machine ≤ m → m < shop.machines → number (get_or l.row.items m d) ≡ head weigh l.place m;
+      to_do : (m : ℕ) (d : _) → l.machine ≤ m → m < shop.machines
+          → number (get_or l.row.items m d) ≡ head weigh l.place m;
       before_it : number l.before ≡ head_before weigh l.place l.machine;
     }

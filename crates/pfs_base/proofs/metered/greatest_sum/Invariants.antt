@@ -1,10 +1,10 @@
-use Rattle.std.proofs.Common.{◌≡◌, ◌+◌, ◌-◌, ◌%◌, [], ◌∷◌, length}
-use Rattle.pfs_base.proofs.Sums.{lane_most, most_to}
+use Rattle.std.proofs.Common.{◌≡◌, ◌+◌, ◌-◌, ◌%◌, length}
+use Rattle.pfs_base.proofs.Sums.{lanes_at, most_to}
 use Rattle.pfs_base.proofs.metered.greatest_sum.Given as goal
 
 abbrev pub invariant-loop-chunk : goal.invariant-loop-chunk
 invariant-loop-chunk l = record {
-  lanes_are : l.lanes ≡ lane_most l.a l.b l.chunk 0 ∷ lane_most l.a l.b l.chunk 1 ∷ lane_most l.a l.b l.chunk 2 ∷ lane_most l.a l.b l.chunk 3 ∷ [];
+  lanes_are : l.lanes ≡ lanes_at l.a l.b l.chunk;
 }
 
 abbrev pub invariant-loop-left : goal.invariant-loop-left

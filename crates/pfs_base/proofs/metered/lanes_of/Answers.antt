@@ -17,4 +17,6 @@ returns c =
     let x = to_z-of_z w64 c.signed-2.result first ∙ c.signed-2.ensures ∙ ap (to_z w64) c.index-row-at-2.is in
     let y = to_z-of_z w64 c.signed-3.result second ∙ c.signed-3.ensures ∙ ap (to_z w64) c.index-row-at-3.is in
     let z = to_z-of_z w64 c.signed-4.result third ∙ c.signed-4.ensures ∙ ap (to_z w64) c.index-row-at-4.is in
-    four_same w x y z ∙ sym (ap (map (to_z w64)) (chunk_four row at c.index-row-at.result c.index-row-at-2.result c.index-row-at-3.result c.index-row-at-4.result c.requires))
+    four_same w x y z
+    ∙ sym (ap (map (to_z w64)) (chunk_four row at c.index-row-at.result c.index-row-at-2.result
+    c.index-row-at-3.result c.index-row-at-4.result c.requires))

@@ -11,4 +11,5 @@ returns-in_err-numbered-clause-text g c =
 pub returns-clause-text : goal.returns-clause-text
 returns-clause-text g c =
     let numbered = then_all c.in_ok-sent.ensures c.in_ok-numbered.ensures.text in
-    rw (append_assoc (c.args.before.now ++ decimal c.args.number) c.args.after.now (10 ∷ [])) (then_sends _ _ _ c.put_line.result numbered c.put_line.ensures.text)
+    rw (append_assoc (c.args.before.now ++ decimal c.args.number) c.args.after.now (10 ∷ []))
+    (then_sends _ _ _ c.put_line.result numbered c.put_line.ensures.text)

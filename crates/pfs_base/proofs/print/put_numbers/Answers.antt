@@ -11,7 +11,9 @@ put_entry-requires-clause-fits g c =
 pub returns-in_err-reached : goal.returns-in_err-reached
 returns-in_err-reached g c =
     let on = line_on c.args.numbers.now c.loop-place.place c.loop-place-test.true in
-    let front = goes_on-stopped _ _ _ _ _ c.args.sent c.loop-place.reached _ _ _ _ _ on c.loop-place.invariant c.in_err-reached.ensures in
+    let front =
+    goes_on-stopped _ _ _ _ _ c.args.sent c.loop-place.reached _ _ _ _ _ on c.loop-place.invariant
+    c.in_err-reached.ensures in
     search rules
 
 pub loop-place-preserved : goal.loop-place-preserved

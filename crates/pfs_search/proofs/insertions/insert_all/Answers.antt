@@ -1,11 +1,8 @@
-use Rattle.std.proofs.Common.{◌≡◌, ◌+◌, ◌∷◌, ◌++◌, length, drop, get_or, insert, subst, arith, ap, sym, ◌∙◌}
+use Rattle.std.proofs.Common.{◌≡◌, length, get_or, insert, arith, ap, sym, ◌∙◌}
 use Rattle.std.proofs.lemmas.List.{at_drop_more}
 use Rattle.std.proofs.lemmas.List.Edits.{length-insert}
-use Rattle.pfs_base.specs.FlowShop.{FlowShop}
-use Rattle.pfs_base.specs.Paths.{makespan}
-use Rattle.pfs_order.specs.Sequence.{Sequence, IsSequence}
-use Rattle.pfs_insert.specs.Inserter.{Fits}
-use Rattle.pfs_insert.specs.Insertion.{best_place, with_job}
+use Rattle.pfs_order.specs.Sequence.{Sequence}
+use Rattle.pfs_insert.specs.Insertion.{with_job}
 use Rattle.pfs_search.specs.Neh.{with_jobs}
 use Rattle.pfs_search.proofs.Taking.{next_small, next_absent, next_moved}
 use Rattle.pfs_search.proofs.Published.CostSums.{insertions_within, insertions_more}
@@ -18,40 +15,29 @@ best-requires-clause-absent g c =
 
 pub best-requires-clause-room : goal.best-requires-clause-room
 best-requires-clause-room g c =
-    let cost = g.I.Inserter.cost in
-    let shop = g.B.Bench.shop c.args.bench.now in
     let before = length c.args.seq.now.jobs in
-    let invariant = c.loop-job.invariant in
-    let done = c.loop-job.job-index in
-    let width = ap (λ (s : FlowShop). cost (length c.loop-job.seq.jobs + 1) s.machines) invariant.same_shop in
-    let here = ap (λ n. cost (n + 1) shop.machines) invariant.count in
-    let fits = insertions_within cost shop.machines before (length c.args.jobs.now) done c.loop-job-test.true in
+    let fits = insertions_within g.I.Inserter.cost (g.B.Bench.shop c.args.bench.now).machines before
+    (length c.args.jobs.now) c.loop-job.job-index c.loop-job-test.true in
     let counted = c.loop-job.invariant.counted in
     let room = c.requires.room in
-    omega arith
+    rw (c.loop-job.invariant.same_shop, c.loop-job.invariant.count) (omega arith)
 
 pub returns-in-Err-clause-cells : goal.returns-in-Err-clause-cells
 returns-in-Err-clause-cells g c =
-    let cost = g.I.Inserter.cost in
-    let shop = g.B.Bench.shop c.args.bench.now in
     let before = length c.args.seq.now.jobs in
-    let invariant = c.loop-job.invariant in
-    let done = c.loop-job.job-index in
-    let width = ap (λ (s : FlowShop). cost (length c.loop-job.seq.jobs + 1) s.machines) invariant.same_shop in
-    let here = ap (λ n. cost (n + 1) shop.machines) invariant.count in
-    let fits = insertions_within cost shop.machines before (length c.args.jobs.now) done c.loop-job-test.true in
+    let fits = insertions_within g.I.Inserter.cost (g.B.Bench.shop c.args.bench.now).machines before
+    (length c.args.jobs.now) c.loop-job.job-index c.loop-job-test.true in
     let counted = c.loop-job.invariant.counted in
     let low = c.in-Err.ensures.cells.fault_low in
-    let high = c.in-Err.ensures.cells.fault_high in
+    let high = rw (c.loop-job.invariant.same_shop, c.loop-job.invariant.count) at c.in-Err.ensures.cells.fault_high in
     record { counted = tt; fault_low = omega arith; fault_high = omega arith }
 
 pub insert_at-requires-clause-in_range : goal.insert_at-requires-clause-in_range
 insert_at-requires-clause-in_range g c =
-    let shop = g.B.Bench.shop c.args.bench.now in
-    let small = next_small shop.jobs c.args.jobs.now c.loop-job.seq.jobs c.loop-job.job-index c.loop-job-test.true
-    c.loop-job.invariant.together in
-    let jobs = ap (λ (s : FlowShop). s.jobs) c.loop-job.invariant.same_shop in
-    omega (arith, c.loop-job.invariant.fits.seq_jobs)
+    let small = next_small (g.B.Bench.shop c.args.bench.now).jobs c.args.jobs.now c.loop-job.seq.jobs
+    c.loop-job.job-index c.loop-job-test.true c.loop-job.invariant.together in
+    let jobs = rw c.loop-job.invariant.same_shop at c.loop-job.invariant.fits.seq_jobs in
+    omega arith
 
 pub insert_at-requires-clause-absent : goal.insert_at-requires-clause-absent
 insert_at-requires-clause-absent g c =
@@ -60,9 +46,7 @@ insert_at-requires-clause-absent g c =
 
 pub loop-job-preserved : goal.loop-job-preserved
 loop-job-preserved g c =
-    let cost = g.I.Inserter.cost in
     let shop = g.B.Bench.shop c.args.bench.now in
-    let before = length c.args.seq.now.jobs in
     let items = c.args.jobs.now in
     let i = c.loop-job.job-index in
     let jobs = c.loop-job.seq.jobs in
@@ -70,25 +54,20 @@ loop-job-preserved g c =
     let place = c.in-Ok.best.place in
     let found = c.in-Ok.ensures.best in
     let next = get_or items i 0 in
-    let new = c.insert_at.new.self.jobs in
-    let jobs_are : new ≡ insert jobs place next = ap (λ (s : Sequence). s.jobs) c.insert_at.ensures in
-    let longer : length new ≡ length jobs + 1 = ap length jobs_are ∙ length-insert jobs place next found.within in
-    let width = ap (λ (s : FlowShop). cost (length jobs + 1) s.machines) invariant.same_shop in
-    let here = ap (λ n. cost (n + 1) shop.machines) invariant.count in
-    let more = insertions_more cost shop.machines before i in
+    let new_jobs : c.insert_at.new.self.jobs ≡ insert jobs place next =
+    ap (λ (s : Sequence). s.jobs) c.insert_at.ensures in
+    let longer = length-insert jobs place next found.within in
+    let more = insertions_more g.I.Inserter.cost shop.machines (length c.args.seq.now.jobs) i in
+    let counted = rw (invariant.same_shop, invariant.count) at c.in-Ok.ensures.cells.counted in
     let best : insert jobs place next ≡ with_job shop jobs next =
-    ap (λ p. insert jobs p next) (found.place_is ∙ ap (λ (s : FlowShop). best_place s jobs next) invariant.same_shop) in
-    let rest : with_jobs shop jobs (next ∷ drop (i + 1) items) ≡ with_jobs shop c.args.seq.now.jobs items =
-    sym (at_drop_more (with_jobs shop jobs) items i 0 c.loop-job-test.true) ∙ invariant.order in
+    rw (← invariant.same_shop) (ap (λ p. insert jobs p next) found.place_is) in
     record {
       same_shop = c.in-Ok.ensures.shop ∙ invariant.same_shop;
-      fits = subst (Fits (g.B.Bench.shop c.best.new.bench) (g.I.Inserter.sizes c.best.new.self))
-          (sym (ap (λ (s : Sequence). s.size) c.insert_at.ensures)) c.in-Ok.ensures.still_fits;
-      counted = omega (arith, c.in-Ok.ensures.cells.counted, invariant.counted);
-      together = subst (λ js. IsSequence shop.jobs (drop (i + 1) items ++ js)) (sym jobs_are)
-          (next_moved shop.jobs items jobs i c.loop-job-test.true invariant.together place);
-      count = omega (arith, invariant.count);
-      order = ap (λ js. with_jobs shop js (drop (i + 1) items)) (jobs_are ∙ best) ∙ rest;
-      span = λ _. found.span_is ∙ ap (λ (s : FlowShop). makespan s (insert jobs place next)) invariant.same_shop
-          ∙ ap (makespan shop) (sym jobs_are);
+      fits = rw (ap (λ (s : Sequence). s.size) c.insert_at.ensures) c.in-Ok.ensures.still_fits;
+      counted = omega (arith, invariant.counted);
+      together = rw new_jobs (next_moved shop.jobs items jobs i c.loop-job-test.true invariant.together place);
+      count = omega (arith, ap length new_jobs, invariant.count);
+      order = rw (new_jobs, best)
+          (sym (at_drop_more (with_jobs shop jobs) items i 0 c.loop-job-test.true) ∙ invariant.order);
+      span = λ _. rw (new_jobs, ← invariant.same_shop) found.span_is;
     }

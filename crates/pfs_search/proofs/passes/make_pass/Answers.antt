@@ -1,8 +1,6 @@
-use Rattle.std.proofs.Common.{ℕ, List, ap, sym, ◌∙◌, arith}
-use Rattle.pfs_base.specs.FlowShop.{FlowShop}
-use Rattle.pfs_base.specs.Paths.{makespan}
+use Rattle.std.proofs.Common.{sym, ◌∙◌, arith}
 use Rattle.pfs_search.specs.Greedy.{moved}
-use Rattle.pfs_search.proofs.Moves.{moved_more}
+use Rattle.pfs_search.proofs.InTurn.{fold_more}
 use Rattle.pfs_search.proofs.passes.make_pass.Goals as goal
 
 pub loop-job-preserved : goal.loop-job-preserved
@@ -11,15 +9,13 @@ loop-job-preserved g c =
     let job = c.loop-job.job in
     let invariant = c.loop-job.invariant in
     let gives = c.in_ok-span.ensures in
-    let cells = ap (λ (t : FlowShop). g.I.Inserter.cost t.jobs t.machines) invariant.same_shop in
+    let counted = rw invariant.same_shop at gives.cells.counted in
     record {
       same_shop = gives.shop ∙ invariant.same_shop;
       fits = gives.still_fits;
-      counted = omega (arith, gives.cells.counted, invariant.counted);
+      counted = omega (arith, invariant.counted);
       count = gives.count ∙ invariant.count;
-      order = gives.jobs
-          ∙ ap (λ (t : FlowShop). moved t c.loop-job.seq.jobs job) invariant.same_shop
-          ∙ ap (λ (js : List ℕ). moved shop js job) invariant.order
-          ∙ sym (moved_more shop c.args.seq.now.jobs job);
-      span = gives.span ∙ ap (λ (t : FlowShop). makespan t c.move_job.new.seq.jobs) invariant.same_shop;
+      order = rw (gives.jobs, invariant.same_shop, invariant.order)
+          (sym (fold_more (moved shop) c.args.seq.now.jobs job));
+      span = rw (← invariant.same_shop) gives.span;
     }

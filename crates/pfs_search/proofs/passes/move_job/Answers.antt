@@ -1,4 +1,4 @@
-use Rattle.std.proofs.Common.{◌≡◌, ◌+◌, length, insert, Contains, subst, ap, sym, ◌∙◌, arith}
+use Rattle.std.proofs.Common.{◌≡◌, ◌+◌, length, insert, ap, sym, ◌∙◌, arith}
 use Rattle.std.proofs.lemmas.List.Edits.{length-insert, length-remove}
 use Rattle.pfs_order.specs.Sequence.{Sequence}
 use Rattle.pfs_order.proofs.Published.Sequences.{Contains-all, absent-remove}
@@ -8,36 +8,27 @@ use Rattle.pfs_search.proofs.passes.move_job.Goals as goal
 
 pub place_of-place-requires : goal.place_of-place-requires
 place_of-place-requires g c =
-    let size = c.args.seq.now.size in
-    Contains-all size c.args.job c.args.seq.now.jobs c.size-size.ensures.sequence
+    Contains-all c.args.seq.now.size c.args.job c.args.seq.now.jobs c.size-size.ensures.sequence
     (c.requires.all_jobs ∙ sym c.requires.fits.seq_jobs) (omega (arith, c.requires.fits.seq_jobs, c.requires.job))
 
 pub best-requires-clause-absent : goal.best-requires-clause-absent
 best-requires-clause-absent g c =
-    let rest = ap (λ (s : Sequence). s.jobs) c.remove_at.ensures.rest in
-    let found = c.place_of-place.ensures in
-    subst (λ js. Contains js c.args.job → ⊥) (sym rest)
-    (absent-remove c.args.seq.now.size c.place_of-place.result c.args.job c.args.seq.now.jobs
-    c.size-size.ensures.sequence found.within (sym found.job))
+    rw (ap (λ (s : Sequence). s.jobs) c.remove_at.ensures.rest) (absent-remove c.args.seq.now.size _ c.args.job _
+    c.size-size.ensures.sequence c.place_of-place.ensures.within (sym c.place_of-place.ensures.job))
 
 pub insert_at-requires-clause-absent : goal.insert_at-requires-clause-absent
 insert_at-requires-clause-absent g c =
-    let rest = ap (λ (s : Sequence). s.jobs) c.remove_at.ensures.rest in
-    let found = c.place_of-place.ensures in
-    subst (λ js. Contains js c.args.job → ⊥) (sym rest)
-    (absent-remove c.args.seq.now.size c.place_of-place.result c.args.job c.args.seq.now.jobs
-    c.size-size.ensures.sequence found.within (sym found.job))
+    rw (ap (λ (s : Sequence). s.jobs) c.remove_at.ensures.rest) (absent-remove c.args.seq.now.size _ c.args.job _
+    c.size-size.ensures.sequence c.place_of-place.ensures.within (sym c.place_of-place.ensures.job))
 
 pub returns-clause-jobs : goal.returns-clause-jobs
 returns-clause-jobs g c =
     let shop = g.B.Bench.shop c.args.bench.now in
     let job = c.args.job in
-    let left = c.remove_at.new.self.jobs in
-    let rest = ap (λ (s : Sequence). s.jobs) c.remove_at.ensures.rest in
     let found = c.place_of-place.ensures in
     ap (λ (s : Sequence). s.jobs) c.insert_at.ensures
-    ∙ ap (λ place. insert left place job) c.in_ok-best.ensures.best.place_is
-    ∙ ap (λ js. with_job shop js job) rest
+    ∙ ap (λ place. insert c.remove_at.new.self.jobs place job) c.in_ok-best.ensures.best.place_is
+    ∙ ap (λ (s : Sequence). with_job shop s.jobs job) c.remove_at.ensures.rest
     ∙ sym (moved_is shop c.args.seq.now.size c.place_of-place.result job c.args.seq.now.jobs
     c.size-size.ensures.sequence found.within (sym found.job))
 
@@ -56,5 +47,4 @@ returns-clause-cells g c =
     let fewer = ap (λ (s : Sequence). length s.jobs) c.remove_at.ensures.rest in
     let gone = length-remove c.args.seq.now.jobs c.place_of-place.result c.place_of-place.ensures.within in
     let all : length c.remove_at.new.self.jobs + 1 ≡ shop.jobs = omega (arith, c.requires.all_jobs) in
-    let cells = ap (λ n. g.I.Inserter.cost n shop.machines) all in
-    record { counted = omega (arith, c.in_ok-best.ensures.cells.counted); fault_low = tt; fault_high = tt }
+    record { counted = rw all at c.in_ok-best.ensures.cells.counted; fault_low = tt; fault_high = tt }

@@ -1,5 +1,4 @@
-use Rattle.std.proofs.Common.{◌≡◌, map, ap, sym, ◌∙◌, subst, rules, arith}
-use Rattle.std.specs.List.{All}
+use Rattle.std.proofs.Common.{◌≡◌, rules, arith}
 use Rattle.std.proofs.lemmas.Grind.{common_steps}
 use Rattle.std.proofs.lemmas.List.Elements.{All-push}
 use Rattle.pfs_base.specs.FlowShop.{total_of}
@@ -9,14 +8,12 @@ use Rattle.pfs_search.proofs.rankings.list_totals.Goals as goal
 pub loop-job-preserved : goal.loop-job-preserved
 loop-job-preserved g c =
     let shop = g.B.Bench.shop c.args.bench.now in
-    let job = c.loop-job.job in
     let listed = c.loop-job.listed.items in
-    let entry : Listed = (record { 0 = c.total.result }, job) in
-    let pushed = c.in-Ok.ensures.items in
-    let told = λ (entry : Listed). entry.0.0 ≡ total_of shop entry.1 in
+    let job = c.loop-job.job in
     record {
-      jobs = ap (map (λ (entry : Listed). entry.1)) pushed ∙ listed_more listed c.total.result job c.loop-job.invariant.jobs;
-      totals = subst (All told) (sym pushed) (All-push told listed entry c.loop-job.invariant.totals c.total.ensures);
+      jobs = rw c.in-Ok.ensures.items (listed_more listed c.total.result job c.loop-job.invariant.jobs);
+      totals = rw c.in-Ok.ensures.items (All-push (λ (entry : Listed). entry.0.0 ≡ total_of shop entry.1) listed _
+          c.loop-job.invariant.totals c.total.ensures);
       count = first_of (search rules, grind (arith, common_steps));
       capacity = first_of (search rules, grind (arith, common_steps));
     }

@@ -1,6 +1,5 @@
-use Rattle.std.proofs.Common.{length, map, ap, sym, ◌∙◌, subst, arith}
+use Rattle.std.proofs.Common.{length, map, ap, ◌∙◌, arith}
 use Rattle.std.proofs.lemmas.List.{length-map}
-use Rattle.pfs_order.specs.Sequence.{IsSequence}
 use Rattle.pfs_order.proofs.Published.Sequences.{length-all_jobs}
 use Rattle.pfs_search.proofs.OneRanking.{IsSequence-ranking, length-ranking}
 use Rattle.pfs_search.proofs.SortedJobs.{Listed, sorted_ranking}
@@ -20,9 +19,8 @@ returns-clause-ranking g c =
     c.list_totals.ensures.jobs c.list_totals.ensures.totals c.sort_jobs.ensures.permutation c.sort_jobs.ensures.sorted
 
 pub returns-clause-count : goal.returns-clause-count
-returns-clause-count g c = omega (arith, ap length (returns-clause-ranking g c), length-ranking (g.B.Bench.shop c.args.bench.now))
+returns-clause-count g c =
+    omega (arith, ap length (returns-clause-ranking g c), length-ranking (g.B.Bench.shop c.args.bench.now))
 
 pub returns-clause-sequence : goal.returns-clause-sequence
-returns-clause-sequence g c =
-    let shop = g.B.Bench.shop c.args.bench.now in
-    subst (IsSequence shop.jobs) (sym (returns-clause-ranking g c)) (IsSequence-ranking shop)
+returns-clause-sequence g c = rw (returns-clause-ranking g c) (IsSequence-ranking (g.B.Bench.shop c.args.bench.now))
