@@ -4,5 +4,4 @@ pub mod FirstLeast
 pub mod FlatRows
 pub mod Joined
 pub mod RowSteps
-pub mod SoFar
 pub mod TailRows
