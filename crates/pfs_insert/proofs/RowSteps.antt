@@ -97,9 +97,9 @@ module _ {X : Type 0} (number : X → ℕ) (shop : FlowShop) (above : List X) wh
       step over before value (ap (λ (s : FlowShop). time_of s job machine) same)
       (rw same (time_of-le shop within job machine))
 
-  pub head_stored : {jobs : List ℕ} {machine : ℕ} {row : List X} {before new : X} → HeadRow jobs machine row before
+  pub head_stored : (jobs : List ℕ) {machine : ℕ} {row : List X} {before new : X} → HeadRow jobs machine row before
       → Head jobs (machine + 1) new → machine < length row → HeadRow jobs (machine + 1) (set row machine new) new
-  head_stored so_far latest inside = store so_far latest refl inside (λ m lt. omega arith)
+  head_stored jobs so_far latest inside = store so_far latest refl inside (λ m lt. omega arith)
 
 -- a row of tails from the last machine on, and the values of the row below it
 module _ {X : Type 0} (number : X → ℕ) (shop : FlowShop) (below : List X) where
@@ -130,9 +130,9 @@ module _ {X : Type 0} (number : X → ℕ) (shop : FlowShop) (below : List X) wh
       step over before value (ap (λ (s : FlowShop). time_of s job (left - 1)) same ∙ ap (time_of shop job) place)
       (rw same (time_of-le shop within job (left - 1)))
 
-  pub tail_stored : {jobs : List ℕ} {left : ℕ} {row : List X} {before new : X} → 1 ≤ left → left ≤ shop.machines
+  pub tail_stored : (jobs : List ℕ) {left : ℕ} {row : List X} {before new : X} → 1 ≤ left → left ≤ shop.machines
       → TailRow jobs (shop.machines - left) row before → Tail jobs (shop.machines - left + 1) new → length row ≡ shop.machines
       → TailRow jobs (shop.machines - (left - 1)) (set row (left - 1) new) new
-  tail_stored {jobs} {left} some most so_far latest long =
+  tail_stored jobs {left} some most so_far latest long =
       let more : shop.machines - (left - 1) ≡ shop.machines - left + 1 = omega arith in
       rw more (store so_far latest (omega arith) (omega arith) (λ back lt. omega arith))

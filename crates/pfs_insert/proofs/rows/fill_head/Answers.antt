@@ -1,4 +1,4 @@
-use Rattle.std.proofs.Common.{◌∙◌, arith}
+use Rattle.std.proofs.Common.{[], ◌∷◌, ◌∙◌, arith}
 use Rattle.pfs_insert.proofs.RowSteps.{head_above, head_step, head_stored}
 use Rattle.pfs_insert.proofs.rows.fill_head.Goals as goal
 
@@ -16,5 +16,6 @@ loop-machine-preserved g c =
     record {
       same_shop = c.step-before.ensures.shop ∙ same;
       counted = omega (arith, c.step-before.ensures.counted, c.loop-machine.invariant.counted);
-      row_is = head_stored number shop above row_is new (omega (arith, c.loop-machine.auto.row));
+      row_is = head_stored number shop above (c.args.job ∷ []) row_is new
+          (omega (arith, c.loop-machine.auto.row));
     }

@@ -1,4 +1,4 @@
-use Rattle.std.proofs.Common.{◌≤◌, ◌∙◌, arith}
+use Rattle.std.proofs.Common.{◌≤◌, [], ◌∷◌, ◌∙◌, arith}
 use Rattle.pfs_insert.proofs.RowSteps.{tail_below, tail_step, tail_stored}
 use Rattle.pfs_insert.proofs.rows.fill_tail.Goals as goal
 
@@ -19,7 +19,8 @@ loop-machine-preserved g c =
     record {
       same_shop = c.step-after.ensures.shop ∙ same;
       counted = omega (arith, c.step-after.ensures.counted, c.loop-machine.invariant.counted);
-      row_is = tail_stored number shop below some most row_is new (c.loop-machine.auto.row ∙ c.requires.row_width);
+      row_is = tail_stored number shop below (c.args.job ∷ []) some most row_is new
+          (c.loop-machine.auto.row ∙ c.requires.row_width);
     }
 
 pub returns-clause-row : goal.returns-clause-row

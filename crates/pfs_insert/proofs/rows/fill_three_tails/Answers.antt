@@ -1,4 +1,4 @@
-use Rattle.std.proofs.Common.{◌≤◌, ◌∙◌, arith}
+use Rattle.std.proofs.Common.{◌≤◌, [], ◌∷◌, ◌∙◌, arith}
 use Rattle.pfs_insert.proofs.RowSteps.{tail_below, tail_step, tail_stored}
 use Rattle.pfs_insert.proofs.rows.fill_three_tails.Goals as goal
 
@@ -25,11 +25,12 @@ loop-machine-preserved g c =
       same_shop = c.step-three.ensures.shop ∙ same_two;
       counted = omega (arith, c.step-one.ensures.counted, c.step-two.ensures.counted, c.step-three.ensures.counted,
           invariant.counted);
-      row_is = tail_stored number shop below some most invariant.row_is one
+      row_is = tail_stored number shop below (c.args.first ∷ []) some most invariant.row_is one
           (c.loop-machine.auto.row ∙ c.requires.row_width);
-      next_is = tail_stored number shop below some most invariant.next_is two
+      next_is = tail_stored number shop below (c.args.second ∷ c.args.first ∷ []) some most invariant.next_is two
           (c.loop-machine.auto.next ∙ c.requires.next_width);
-      last_is = tail_stored number shop below some most invariant.last_is three
+      last_is = tail_stored number shop below (c.args.third ∷ c.args.second ∷ c.args.first ∷ []) some most
+          invariant.last_is three
           (c.loop-machine.auto.last ∙ c.requires.last_width);
     }
 

@@ -1,4 +1,4 @@
-use Rattle.std.proofs.Common.{◌<◌, length, ◌∙◌, arith}
+use Rattle.std.proofs.Common.{◌<◌, length, [], ◌∷◌, ◌∙◌, arith}
 use Rattle.pfs_insert.proofs.RowSteps.{head_above, head_step, head_stored}
 use Rattle.pfs_insert.proofs.rows.fill_two_places.Goals as goal
 
@@ -27,12 +27,12 @@ loop-machine-preserved g c =
       same_shop = c.step-two.ensures.shop ∙ same_next;
       counted = omega (arith, c.step-put.ensures.counted, c.step-one.ensures.counted, c.step-put_next.ensures.counted,
           c.step-two.ensures.counted, invariant.counted);
-      row_is = head_stored number shop above invariant.row_is put
+      row_is = head_stored number shop above (c.args.job ∷ []) invariant.row_is put
           (omega (arith, c.loop-machine.auto.row, c.requires.row_width));
       one_is = one;
-      next_is = head_stored number shop above invariant.next_is next
+      next_is = head_stored number shop above (c.args.job ∷ c.args.first ∷ []) invariant.next_is next
           (omega (arith, c.loop-machine.auto.next, c.requires.next_width));
-      head_is = head_stored number shop above invariant.head_is two
+      head_is = head_stored number shop above (c.args.second ∷ c.args.first ∷ []) invariant.head_is two
           (omega (arith, c.loop-machine.auto.head, c.requires.head_width));
     }
 
