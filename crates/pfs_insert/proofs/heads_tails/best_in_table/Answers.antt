@@ -58,8 +58,8 @@ fill_tails-requires-clause-no_tail g c =
     let behind = row_behind number machines none c.split_at_mut-heads.result.0.now c.split_at_mut-heads.result.1.now
         ((2 * shop.jobs - 1) * machines) start (omega (arith, heads_long g here))
         (rw c.split_at_mut-heads.ensures.value at c.requires.table.no_tail) in
-    rw append-nil at (row_in_front number machines none c.split_at_mut-tails.result.0.now c.split_at_mut-tails.result.1.now []
-    start
+    let tails = c.split_at_mut-tails.result.0.now in
+    rw append-nil at (row_in_front number machines none tails c.split_at_mut-tails.result.1.now [] start
     (omega (arith, tails_long g here)) (rw c.split_at_mut-tails.ensures.value at behind))
 
 pub best_by_rows-requires-clause-partial : goal.best_by_rows-requires-clause-partial
