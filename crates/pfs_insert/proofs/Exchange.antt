@@ -29,11 +29,13 @@ module _ (shop : FlowShop) (jobs : List ℕ) (job place : ℕ) (within : place �
 
   -- the operations of the rows behind the inserted one are those of the sequence
   operation_behind : (row machine : ℕ) → place ≤ row → weigh (row + 1) machine ≡ operation shop jobs row machine
-  operation_behind row machine le = ap (λ j. time_of shop j machine) (get_or-insert_above jobs place job 0 row le within)
+  operation_behind row machine le =
+      ap (λ j. time_of shop j machine) (get_or-insert_above jobs place job 0 row le within)
 
   -- and so are those before it
   pub operation_before : (row machine : ℕ) → row < place → weigh row machine ≡ operation shop jobs row machine
-  operation_before row machine lt = ap (λ j. time_of shop j machine) (get_or-insert_below jobs place job 0 row lt within)
+  operation_before row machine lt =
+      ap (λ j. time_of shop j machine) (get_or-insert_below jobs place job 0 row lt within)
 
   pub operation_at : (machine : ℕ) → weigh place machine ≡ time_of shop job machine
   operation_at machine = ap (λ j. time_of shop j machine) (get_or-insert_at jobs place job 0 within)

@@ -49,8 +49,8 @@ module _ {X : Type 0} (number : X → ℕ) (machines : ℕ) (values : ℕ → �
       ap number (get_behind front back (at + machine) (start + machine) d (omega arith)) ∙ told machine d lt
 
   -- a row at the front of a list
-  pub put_first : (row rest : List X) (start : ℕ) → start ≡ 0 → length row ≡ machines → AreNumbers number row machines values
-      → AreNumbersFrom number (row ++ rest) start machines values
+  pub put_first : (row rest : List X) (start : ℕ) → start ≡ 0 → length row ≡ machines
+      → AreNumbers number row machines values → AreNumbersFrom number (row ++ rest) start machines values
   put_first row rest start none long told machine d lt =
       rw (none, zero-add) (ap number (get_or_append_left row rest d machine (omega arith)) ∙ told machine d lt)
 
@@ -72,7 +72,8 @@ module _ {X : Type 0} (number : X → ℕ) (machines : ℕ) (values : ℕ → �
 
 -- how long it is
 pub row_long : {X : Type 0} {machines : ℕ} (rows : List X) (place width total : ℕ) → width ≡ machines → place < total
-    → length rows ≡ total * machines → length (take ((place + 1) * width - place * width) (drop (place * width) rows)) ≡ machines
+    → length rows ≡ total * machines
+    → length (take ((place + 1) * width - place * width) (drop (place * width) rows)) ≡ machines
 row_long {X} {machines} rows place width total wide inside long =
     let fits = row_le (place + 1) total machines (omega arith) in
     let start = place * machines in

@@ -21,7 +21,8 @@ pub next_row_same : (times others above below : ℕ → ℕ) (m : ℕ) → ((k :
 next_row_same times others above below zero same_times same =
     omega (arith, same_times 0 (omega arith), same 0 (omega arith))
 next_row_same times others above below (suc m) same_times same =
-    let rest = next_row_same times others above below m (λ k le. same_times k (omega arith)) (λ k le. same k (omega arith)) in
+    let rest = next_row_same times others above below m (λ k le. same_times k (omega arith))
+        (λ k le. same k (omega arith)) in
     omega (arith, same_times (suc m) (omega arith), same (suc m) (omega arith))
 
 -- the values of the first job's row, where each job's row is the next of that of the job behind it in the list
@@ -30,8 +31,8 @@ values_of times [] values = values
 values_of times (job ∷ jobs) values = next_row (times job) (values_of times jobs values)
 
 -- the latest length of a row of which so many are done, whatever values are given
-pub record Latest {X : Type 0} (number : X → ℕ) (times : ℕ → ℕ → ℕ) (Given : (ℕ → ℕ) → Type 0) (jobs : List ℕ) (done : ℕ)
-    (x : X) : Type 0 where
+pub record Latest {X : Type 0} (number : X → ℕ) (times : ℕ → ℕ → ℕ) (Given : (ℕ → ℕ) → Type 0) (jobs : List ℕ)
+    (done : ℕ) (x : X) : Type 0 where
   pub is : (values : ℕ → ℕ) → Given values → number x ≡ value_before (values_of times jobs values) done
   pub short : number x ≤ (MOST_JOBS + MOST_MACHINES + done + length jobs) * LONGEST_TIME
 
@@ -67,7 +68,8 @@ module _ {X : Type 0} {number : X → ℕ} {times : ℕ → ℕ → ℕ} {Given 
   store {place} {jobs} {done} {at} {row} {before} {new} so_far latest here within apart = record {
     is = λ values given m d lt.
         elim (cases_lt m done) [
-          inl earlier ↦ ap number (get_or-set_other row at (place m) new d (apart m earlier)) ∙ so_far.is values given m d earlier
+          inl earlier ↦
+            ap number (get_or-set_other row at (place m) new d (apart m earlier)) ∙ so_far.is values given m d earlier
         | inr later ↦
             let e : m ≡ done = omega arith in
             rw (e, ← here) (ap number (get_or-set_same row at new d within) ∙ rw add-one at latest.is values given)
@@ -90,8 +92,9 @@ module _ {X : Type 0} (number : X → ℕ) (shop : FlowShop) (above : List X) wh
     short = let small = short machine x inside in omega (arith, ap number is);
   }
 
-  pub head_step : {jobs : List ℕ} {job machine : ℕ} {over before new : X} {other : FlowShop} → Head jobs (machine + 1) over
-      → Head (job ∷ jobs) machine before → number new ≡ max (number over) (number before) + time_of other job machine
+  pub head_step : {jobs : List ℕ} {job machine : ℕ} {over before new : X} {other : FlowShop}
+      → Head jobs (machine + 1) over → Head (job ∷ jobs) machine before
+      → number new ≡ max (number over) (number before) + time_of other job machine
       → other ≡ shop → IsWithin limits shop → Head (job ∷ jobs) (machine + 1) new
   head_step {jobs} {job} {machine} over before value same within =
       step over before value (ap (λ (s : FlowShop). time_of s job machine) same)
@@ -117,22 +120,23 @@ module _ {X : Type 0} (number : X → ℕ) (shop : FlowShop) (below : List X) wh
   tail_below left x some most short is =
       let place : left - 1 ≡ shop.machines - 1 - (shop.machines - left) = omega arith in
       record {
-        is = λ tails told. rw add-one (ap number (is ∙ ap (λ i. get_or below i x) place) ∙ told (shop.machines - left) x (omega arith));
+        is = λ tails told.
+            rw add-one (ap number (is ∙ ap (λ i. get_or below i x) place) ∙ told (shop.machines - left) x (omega arith));
         short = let small = short (left - 1) x (omega arith) in omega (arith, ap number is);
       }
 
-  pub tail_step : {jobs : List ℕ} {job left : ℕ} {over before new : X} {other : FlowShop} → 1 ≤ left → left ≤ shop.machines
-      → Tail jobs (shop.machines - left + 1) over → Tail (job ∷ jobs) (shop.machines - left) before
-      → number new ≡ max (number over) (number before) + time_of other job (left - 1)
-      → other ≡ shop → IsWithin limits shop → Tail (job ∷ jobs) (shop.machines - left + 1) new
+  pub tail_step : {jobs : List ℕ} {job left : ℕ} {over before new : X} {other : FlowShop} → 1 ≤ left
+      → left ≤ shop.machines → Tail jobs (shop.machines - left + 1) over → Tail (job ∷ jobs) (shop.machines - left) before
+      → number new ≡ max (number over) (number before) + time_of other job (left - 1) → other ≡ shop
+      → IsWithin limits shop → Tail (job ∷ jobs) (shop.machines - left + 1) new
   tail_step {jobs} {job} {left} some most over before value same within =
       let place : left - 1 ≡ shop.machines - 1 - (shop.machines - left) = omega arith in
       step over before value (ap (λ (s : FlowShop). time_of s job (left - 1)) same ∙ ap (time_of shop job) place)
       (rw same (time_of-le shop within job (left - 1)))
 
   pub tail_stored : (jobs : List ℕ) {left : ℕ} {row : List X} {before new : X} → 1 ≤ left → left ≤ shop.machines
-      → TailRow jobs (shop.machines - left) row before → Tail jobs (shop.machines - left + 1) new → length row ≡ shop.machines
-      → TailRow jobs (shop.machines - (left - 1)) (set row (left - 1) new) new
+      → TailRow jobs (shop.machines - left) row before → Tail jobs (shop.machines - left + 1) new
+      → length row ≡ shop.machines → TailRow jobs (shop.machines - (left - 1)) (set row (left - 1) new) new
   tail_stored jobs {left} some most so_far latest long =
       let more : shop.machines - (left - 1) ≡ shop.machines - left + 1 = omega arith in
       rw more (store so_far latest (omega arith) (omega arith) (λ back lt. omega arith))

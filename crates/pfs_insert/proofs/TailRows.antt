@@ -18,9 +18,11 @@ most_le : (weigh : ℕ → ℕ → ℕ) → ((row machine : ℕ) → weigh row m
     → most weigh downs ons row machine ≤ (downs + ons + 1) * LONGEST_TIME
 most_le weigh small zero zero row machine = omega (arith, most_here weigh row machine, small row machine)
 most_le weigh small zero (suc ons) row machine =
-    omega (arith, most_on weigh ons row machine, small row machine, most_le weigh small zero ons row (suc machine))
+    let beside = most_le weigh small zero ons row (suc machine) in
+    omega (arith, most_on weigh ons row machine, small row machine)
 most_le weigh small (suc downs) zero row machine =
-    omega (arith, most_down weigh downs row machine, small row machine, most_le weigh small downs zero (suc row) machine)
+    let under = most_le weigh small downs zero (suc row) machine in
+    omega (arith, most_down weigh downs row machine, small row machine)
 most_le weigh small (suc downs) (suc ons) row machine =
     let under = most_le weigh small downs (suc ons) (suc row) machine in
     let beside = most_le weigh small (suc downs) ons row (suc machine) in
@@ -28,7 +30,8 @@ most_le weigh small (suc downs) (suc ons) row machine =
 
 -- values that are the tails from a row on, by how many machines they stand before the last
 pub record IsTail (shop : FlowShop) (jobs : List ℕ) (values : ℕ → ℕ) (row : ℕ) : Type 0 where
-  pub same : (back : ℕ) → back ≤ shop.machines - 1 → values back ≡ heaviest_back shop jobs row (shop.machines - 1 - back)
+  pub same : (back : ℕ) → back ≤ shop.machines - 1 →
+      values back ≡ heaviest_back shop jobs row (shop.machines - 1 - back)
 
 pub tail_first : (shop : FlowShop) (jobs : List ℕ) (row : ℕ)
     → IsTail shop jobs (λ back. heaviest_back shop jobs row (shop.machines - 1 - back)) row
@@ -155,8 +158,8 @@ module _ {shop : FlowShop} {jobs : List ℕ} {values : ℕ → ℕ} {place : ℕ
   pub put_row : (job : ℕ) → place ≤ length jobs → (machine : ℕ) →
       head_row shop job values machine ≡ heaviest_front shop (insert jobs place job) place machine
   put_row job within machine =
-      next_row_same (time_of shop job) (time_of shop job) values (head (operation shop jobs) place) machine (λ m le. refl)
-      (λ m le. same_values m) ∙ front_is shop jobs job place within machine
+      next_row_same (time_of shop job) (time_of shop job) values (head (operation shop jobs) place) machine
+      (λ m le. refl) (λ m le. same_values m) ∙ front_is shop jobs job place within machine
 
 -- heads and tails are as short as a path can be
 module _ (shop : FlowShop) (within : IsWithin limits shop) (jobs : List ℕ) (few : length jobs ≤ shop.jobs) where
@@ -177,8 +180,8 @@ module _ (shop : FlowShop) (within : IsWithin limits shop) (jobs : List ℕ) (fe
       head_of shop jobs place machine ≤ (MOST_JOBS + MOST_MACHINES) * LONGEST_TIME
   heads_short place machine le lt =
       let sizes = within.sizes in
-      omega (arith, head_of_is shop jobs place machine,
-      head_le (operation shop jobs) LONGEST_TIME (λ r m. time_of-le shop within (get_or jobs r 0) m) place machine)
+      let small = λ (r m : ℕ). time_of-le shop within (get_or jobs r 0) m in
+      omega (arith, head_of_is shop jobs place machine, head_le (operation shop jobs) LONGEST_TIME small place machine)
 
   -- and so is the row of an inserted job
   pub put_short : (job place machine : ℕ) → place ≤ length jobs → machine < shop.machines →
@@ -186,5 +189,5 @@ module _ (shop : FlowShop) (within : IsWithin limits shop) (jobs : List ℕ) (fe
   put_short job place machine le lt =
       let sizes = within.sizes in
       let weigh = operation shop (insert jobs place job) in
-      omega (arith, heaviest_is weigh place machine,
-      head_le weigh LONGEST_TIME (λ r m. time_of-le shop within (get_or (insert jobs place job) r 0) m) (suc place) machine)
+      let small = λ (r m : ℕ). time_of-le shop within (get_or (insert jobs place job) r 0) m in
+      omega (arith, heaviest_is weigh place machine, head_le weigh LONGEST_TIME small (suc place) machine)

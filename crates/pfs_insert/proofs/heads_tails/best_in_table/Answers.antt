@@ -1,7 +1,6 @@
-use Rattle.std.proofs.Common.{◌≡◌, ℕ, ◌+◌, ◌-◌, ◌*◌, ◌<◌, ◌≤◌, List, [], ◌++◌, length, take, drop, refl, ap, sym, ◌∙◌, arith, rules}
-use Rattle.std.proofs.Math.Nat.{zero-add}
+use Rattle.std.proofs.Common.{◌≡◌, ℕ, ◌+◌, ◌-◌, ◌*◌, ◌<◌, ◌≤◌, List, [], ◌++◌, length, drop, refl, ap, sym}
+use Rattle.std.proofs.Common.{◌∙◌, arith, rules}
 use Rattle.std.proofs.lemmas.List.{append-nil, get_or_append_left, length-drop, take_all}
-use Rattle.pfs_base.specs.FlowShop.{FlowShop}
 use Rattle.pfs_order.proofs.Published.Sequences.{length-lt-size}
 use Rattle.pfs_insert.specs.Insertion.{makespan_with}
 use Rattle.pfs_insert.proofs.FirstLeast.{first_least_is}
@@ -9,7 +8,7 @@ use Rattle.pfs_insert.proofs.FlatRows.{row_le, row_split, row_behind, put_behind
 use Rattle.pfs_insert.proofs.TailRows.{back_none}
 use Rattle.pfs_insert.proofs.TailTables.{backs_taken}
 use Rattle.pfs_insert.proofs.heads_tails.best_in_table.Given.{Over}
-use Rattle.pfs_insert.proofs.heads_tails.best_in_table.Goals.{After-split_at_mut-tails, After-len}
+use Rattle.pfs_insert.proofs.heads_tails.best_in_table.Goals.{After-split_at_mut-tails}
 use Rattle.pfs_insert.proofs.heads_tails.best_in_table.Goals as goal
 
 few_jobs : (g : Over) (c : After-split_at_mut-tails g) →
@@ -42,7 +41,8 @@ last_fits jobs machines some = let all = row_split jobs (jobs - 1) 1 machines (o
 
 pub fill_tails-requires-clause-partial : goal.fill_tails-requires-clause-partial
 fill_tails-requires-clause-partial g c =
-    record { size = c.requires.size; few = few_jobs g (goal.at.fill_tails-requires-clause-partial g c).After-split_at_mut-tails }
+    let less = few_jobs g (goal.at.fill_tails-requires-clause-partial g c).After-split_at_mut-tails in
+    record { size = c.requires.size; few = less }
 
 pub fill_tails-requires-clause-no_tail : goal.fill_tails-requires-clause-no_tail
 fill_tails-requires-clause-no_tail g c =
@@ -72,51 +72,42 @@ overflow_sub-first-2 g c =
     let less = few_jobs g (goal.at.overflow_sub-first-2 g c).After-split_at_mut-tails in
     omega (arith, c.size-3.ensures.value, c.len.ensures.value, c.requires.size)
 
--- where the rows of tails of the sequence begin
-record Begins (g : Over) (c : After-len g) (shop : FlowShop) (rows : List g.row.B-Span.Denot) : Type 0 where
-  begins : (c.size-3.result - 1 - c.len.result) * c.machines-machines.result
-      ≡ (shop.jobs - 1 - length c.args.seq.now.jobs) * shop.machines
-  rows_long : length rows ≡ shop.jobs * shop.machines
-  split : shop.jobs * shop.machines ≡ (shop.jobs - 1 - length c.args.seq.now.jobs) * shop.machines
-      + (length c.args.seq.now.jobs + 1) * shop.machines
-
-begins_is : (g : Over) (c : After-len g) → length c.args.seq.now.jobs < (g.B.Bench.shop c.args.bench.now).jobs
-    → Begins g c (g.B.Bench.shop c.args.bench.now) c.fill_tails.new.rows
-begins_is g c less =
-    let shop = g.B.Bench.shop c.args.bench.now in
-    let len = length c.args.seq.now.jobs in
-    record {
-      begins = rw (c.size-3.ensures.value, c.requires.size, c.len.ensures.value, c.machines-machines.ensures) refl;
-      rows_long = c.fill_tails.auto.rows
-          ∙ rw (c.size-2.ensures.value, c.requires.size, c.machines-machines.ensures) at c.split_at_mut-tails.ensures.front_len;
-      split = row_split shop.jobs (shop.jobs - 1 - len) (len + 1) shop.machines (omega arith);
-    }
+-- the rows of tails of the sequence are the last of the table's
+rows_of_all : (jobs len machines : ℕ) → len < jobs
+    → jobs * machines ≡ (jobs - 1 - len) * machines + (len + 1) * machines
+rows_of_all jobs len machines inside = row_split jobs (jobs - 1 - len) (len + 1) machines (omega arith)
 
 pub best_by_rows-requires-clause-parts : goal.best_by_rows-requires-clause-parts
 best_by_rows-requires-clause-parts g c =
-    let split = (goal.at.best_by_rows-requires-clause-parts g c).After-split_at_mut-tails in
-    let is = begins_is g (goal.at.best_by_rows-requires-clause-parts g c).After-len (few_jobs g split) in
+    let here = (goal.at.best_by_rows-requires-clause-parts g c).After-split_at_mut-tails in
     let shop = g.B.Bench.shop c.args.bench.now in
+    let len = length c.args.seq.now.jobs in
     let rows = c.fill_tails.new.rows in
-    let start = (c.size-3.result - 1 - c.len.result) * c.machines-machines.result in
-    let heads = heads_long g split in
-    let tails = tails_long g split in
-    let long = length-drop start rows in
+    let start = (shop.jobs - 1 - len) * shop.machines in
+    let heads = heads_long g here in
+    let tails = tails_long g here in
+    let rows_long = c.fill_tails.auto.rows ∙ tails in
+    let rest = rows_of_all shop.jobs len shop.machines (few_jobs g here) in
     let all = row_split (2 * shop.jobs + 1) shop.jobs (shop.jobs + 1) shop.machines (omega arith) in
-    rw (c.fill_tails.ensures.shop, take_all (length rows - start) (drop start rows) (omega arith))
-    (record {
+    let behind = length-drop start rows in
+    rw (c.fill_tails.ensures.shop, c.size-3.ensures.value, c.requires.size, c.len.ensures.value,
+    c.machines-machines.ensures, take_all (length rows - start) (drop start rows) (omega arith)) (record {
       heads_long = heads;
-      backs_long = omega (arith, is.begins, is.rows_long, is.split);
+      backs_long = omega arith;
       put_long = omega (arith, c.requires.table.size, c.split_at_mut-heads.ensures.back_len,
           c.split_at_mut-tails.ensures.back_len);
     })
 
 pub best_by_rows-requires-clause-backs : goal.best_by_rows-requires-clause-backs
 best_by_rows-requires-clause-backs g c =
-    let split = (goal.at.best_by_rows-requires-clause-backs g c).After-split_at_mut-tails in
-    let is = begins_is g (goal.at.best_by_rows-requires-clause-backs g c).After-len (few_jobs g split) in
-    rw c.fill_tails.ensures.shop (backs_taken _ (g.B.Bench.shop c.args.bench.now) c.args.seq.now.jobs _ _ _ is.begins
-    (omega (arith, is.begins, is.rows_long, is.split)) (omega arith) c.fill_tails.ensures.tails)
+    let here = (goal.at.best_by_rows-requires-clause-backs g c).After-split_at_mut-tails in
+    let shop = g.B.Bench.shop c.args.bench.now in
+    let len = length c.args.seq.now.jobs in
+    let rows_long = c.fill_tails.auto.rows ∙ tails_long g here in
+    let rest = rows_of_all shop.jobs len shop.machines (few_jobs g here) in
+    rw (c.fill_tails.ensures.shop, c.size-3.ensures.value, c.requires.size, c.len.ensures.value,
+    c.machines-machines.ensures) (backs_taken g.B.Span.Length.number shop c.args.seq.now.jobs c.fill_tails.new.rows _ _ refl
+    (omega arith) (omega arith) c.fill_tails.ensures.tails)
 
 pub best_by_rows-requires-clause-no_head : goal.best_by_rows-requires-clause-no_head
 best_by_rows-requires-clause-no_head g c =
@@ -130,7 +121,8 @@ best_by_rows-requires-clause-no_head g c =
       row_is = λ machine d lt.
           let at : 0 * shop.machines + machine ≡ machine = omega arith in
           let read = get_or_append_left heads c.split_at_mut-heads.result.1.now d machine (omega arith) in
-          rw at (ap number (sym read) ∙ (rw c.split_at_mut-heads.ensures.value at c.requires.table.no_head) machine d lt);
+          let told = rw c.split_at_mut-heads.ensures.value at (c.requires.table.no_head machine d lt) in
+          rw at (ap number (sym read) ∙ told);
     })
 
 -- the cells of the tails and of the places
@@ -184,9 +176,10 @@ returns-clause-table g c =
       size = search rules;
       no_head = λ machine d lt.
           let at : 0 * machines + machine ≡ machine = omega arith in
-          ap number (get_or_append_left heads (tails ++ put) d machine (omega arith)) ∙ rw at at (has.row_is machine d lt);
-      no_tail = put_behind number machines none heads (tails ++ put) ((2 * shop.jobs - 1) * machines) start (omega arith)
-          (row_in_front number machines none tails [] put start (omega arith) (rw append-nil zeros));
+          ap number (get_or_append_left heads (tails ++ put) d machine (omega arith))
+          ∙ rw at at (has.row_is machine d lt);
+      no_tail = put_behind number machines none heads (tails ++ put) ((2 * shop.jobs - 1) * machines) start
+          (omega arith) (row_in_front number machines none tails [] put start (omega arith) (rw append-nil zeros));
     }
 
 pub returns-clause-counted : goal.returns-clause-counted

@@ -15,7 +15,8 @@ fill_head-requires-clause-above_short g c =
     let split = c.split_at_mut-front.ensures in
     short_heads g.B.Span.Length.number shop jobs (g.met.B.Bench.within c.args.bench.now)
     (omega (arith, c.requires.partial.few)) c.args.place (omega (arith, c.requires.place)) _
-    (head_above _ shop jobs _ _ _ c.args.place _ c.machines-machines.ensures split.value split.front_len c.requires.head)
+    (head_above _ shop jobs _ _ _ c.args.place _ c.machines-machines.ensures split.value split.front_len
+    c.requires.head)
 
 pub returns-clause-head : goal.returns-clause-head
 returns-clause-head g c =

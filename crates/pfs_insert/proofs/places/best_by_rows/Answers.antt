@@ -64,4 +64,5 @@ try_place-best-requires-clause-head g c =
     let starts = c.loop-place-2.auto.place in
     let inside = c.loop-place-2-test.true in
     let done = c.loop-place-test.false in
-    rw c.loop-place-2.invariant.same_shop (c.loop-place.invariant.heads c.loop-place-2.place (omega arith) (omega arith))
+    rw c.loop-place-2.invariant.same_shop
+    (c.loop-place.invariant.heads c.loop-place-2.place (omega arith) (omega arith))

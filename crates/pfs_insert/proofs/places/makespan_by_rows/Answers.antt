@@ -1,4 +1,4 @@
-use Rattle.std.proofs.Common.{◌≡◌, ℕ, ◌+◌, ◌-◌, ◌*◌, length, take, drop, insert, sym, ◌∙◌, arith}
+use Rattle.std.proofs.Common.{◌≡◌, ℕ, ◌+◌, ◌-◌, ◌*◌, ◌<◌, length, take, drop, insert, sym, ◌∙◌, arith}
 use Rattle.pfs_base.specs.declared.limits.TheConstants.{MOST_JOBS, MOST_MACHINES, LONGEST_TIME}
 use Rattle.pfs_base.specs.Joins.{greatest_join}
 use Rattle.pfs_insert.specs.Exchange.{heaviest_front, heaviest_back}
@@ -19,7 +19,8 @@ joined : (g : Over) (c : After-machines-machines g) →
     let width = c.machines-machines.result in
     greatest_join g.B.Span.Length.number c.args.put.now
     (take ((place + 1) * width - place * width) (drop (place * width) c.args.backs.now))
-    ≡ greatest_sum shop.machines (heaviest_front shop (insert jobs place c.args.job) place) (heaviest_back shop jobs place)
+    ≡ greatest_sum shop.machines (heaviest_front shop (insert jobs place c.args.job) place)
+    (heaviest_back shop jobs place)
 joined g c =
     let number = g.B.Span.Length.number in
     let shop = g.B.Bench.shop c.args.bench.now in
@@ -27,7 +28,8 @@ joined g c =
     let place = c.args.place in
     let wide = c.machines-machines.ensures in
     let backs = heaviest_back shop jobs place in
-    let long = row_long c.args.backs.now place _ (length jobs + 1) wide (omega (arith, c.requires.place)) c.requires.long in
+    let inside : place < length jobs + 1 = omega (arith, c.requires.place) in
+    let long = row_long c.args.backs.now place _ (length jobs + 1) wide inside c.requires.long in
     let told = row_taken number shop.machines backs c.args.backs.now place _ _ wide (omega arith)
         (c.requires.backs.rows_are place c.requires.place) in
     join_is number (heaviest_front shop (insert jobs place c.args.job) place) backs shop.machines c.args.put.now _

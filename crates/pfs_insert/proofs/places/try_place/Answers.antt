@@ -1,8 +1,8 @@
 use Rattle.std.proofs.Common.{◌+◌, ◌-◌, ◌*◌, take, drop, ◌∙◌, arith}
 use Rattle.pfs_insert.specs.Insertion.{makespan_with}
-use Rattle.pfs_insert.specs.Rows.{head_of, AreNumbers}
+use Rattle.pfs_insert.specs.Rows.{head_of}
 use Rattle.pfs_insert.proofs.FlatRows.{row_taken}
-use Rattle.pfs_insert.proofs.HeadTables.{short_heads}
+use Rattle.pfs_insert.proofs.HeadTables.{HoldsHeads, short_heads}
 use Rattle.pfs_insert.proofs.TailRows.{head_first, put_row}
 use Rattle.pfs_insert.proofs.places.try_place.Given.{Over}
 use Rattle.pfs_insert.proofs.places.try_place.Goals.{After-machines-machines}
@@ -13,8 +13,8 @@ above_told : (g : Over) (c : After-machines-machines g) →
     let place = c.args.place in
     let width = c.machines-machines.result in
     let shop = g.B.Bench.shop c.args.bench.now in
-    AreNumbers g.B.Span.Length.number (take ((place + 1) * width - place * width) (drop (place * width) c.args.heads.now))
-    shop.machines (head_of shop c.args.seq.now.jobs place)
+    HoldsHeads g.B.Span.Length.number shop c.args.seq.now.jobs
+    (take ((place + 1) * width - place * width) (drop (place * width) c.args.heads.now)) place
 above_told g c =
     let shop = g.B.Bench.shop c.args.bench.now in
     row_taken g.B.Span.Length.number shop.machines (head_of shop c.args.seq.now.jobs c.args.place) c.args.heads.now

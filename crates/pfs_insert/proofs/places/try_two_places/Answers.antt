@@ -1,9 +1,8 @@
 use Rattle.std.proofs.Common.{◌≡◌, ◌+◌, ◌-◌, ◌*◌, ◌≤◌, ◌++◌, length, take, drop, refl, sym, ◌∙◌, arith}
 use Rattle.std.proofs.lemmas.List.{length-take-le, length-append, append_assoc}
 use Rattle.pfs_insert.specs.Insertion.{makespan_with}
-use Rattle.pfs_insert.specs.Rows.{head_of, AreNumbers}
 use Rattle.pfs_insert.proofs.FlatRows.{row_fits}
-use Rattle.pfs_insert.proofs.HeadTables.{head_above, head_behind, heads_kept, short_heads}
+use Rattle.pfs_insert.proofs.HeadTables.{HoldsHeads, head_above, head_behind, heads_kept, short_heads}
 use Rattle.pfs_insert.proofs.TailRows.{IsHead, head_first, head_next, put_row}
 use Rattle.pfs_insert.proofs.places.try_two_places.Given.{Over}
 use Rattle.pfs_insert.proofs.places.try_two_places.Goals.{After-at-2, After-fill_two_places}
@@ -35,8 +34,8 @@ above_told : (g : Over) (c : After-at-2 g) →
     let front = c.split_at_mut-front.result.0.now in
     let start = c.args.place * c.machines-machines.result in
     let shop = g.B.Bench.shop c.args.bench.now in
-    AreNumbers g.B.Span.Length.number (take (length front - start) (drop start front)) shop.machines
-    (head_of shop c.args.seq.now.jobs c.args.place)
+    HoldsHeads g.B.Span.Length.number shop c.args.seq.now.jobs (take (length front - start) (drop start front))
+    c.args.place
 above_told g c =
     let split = c.split_at_mut-front.ensures in
     head_above _ (g.B.Bench.shop c.args.bench.now) c.args.seq.now.jobs _ _ _ c.args.place _ c.machines-machines.ensures
@@ -98,8 +97,8 @@ returns-clause-head g c =
     let between = head_next (head_first shop jobs place) refl c.at.ensures.value in
     let after : IsHead shop jobs _ (place + 2) = head_next between (omega arith) c.at-2.ensures.value in
     let told = c.fill_two_places.ensures.head _ (above_told g here) in
-    rw append_assoc at (head_behind g.B.Span.Length.number shop jobs (front ++ next) new (drop width behind) (place + 2) both new_long
-    (λ machine d lt. told machine d lt ∙ after.same machine))
+    rw append_assoc at (head_behind g.B.Span.Length.number shop jobs (front ++ next) new (drop width behind) (place + 2)
+    both new_long (λ machine d lt. told machine d lt ∙ after.same machine))
 
 pub returns-clause-kept : goal.returns-clause-kept
 returns-clause-kept g c =

@@ -18,7 +18,8 @@ loop-machine-preserved g c =
         c.index-below-machine.is in
     let one = tail_step number shop below some most over invariant.row_is.latest c.step-one.ensures.value
         invariant.same_shop within in
-    let two = tail_step number shop below some most one invariant.next_is.latest c.step-two.ensures.value same_one within in
+    let two = tail_step number shop below some most one invariant.next_is.latest c.step-two.ensures.value
+        same_one within in
     let three = tail_step number shop below some most two invariant.last_is.latest c.step-three.ensures.value same_two
         within in
     record {

@@ -19,7 +19,8 @@ loop-machine-preserved g c =
         c.index-above-machine.is in
     let over_one = head_above number shop above machine c.index-above-machine-in-loop-machine.result inside
         c.requires.above_short c.index-above-machine-in-loop-machine.is in
-    let put = head_step number shop above over invariant.row_is.latest c.step-put.ensures.value invariant.same_shop within in
+    let put = head_step number shop above over invariant.row_is.latest c.step-put.ensures.value
+        invariant.same_shop within in
     let one = head_step number shop above over_one invariant.one_is c.step-one.ensures.value same_put within in
     let next = head_step number shop above one invariant.next_is.latest c.step-put_next.ensures.value same_one within in
     let two = head_step number shop above one invariant.head_is.latest c.step-two.ensures.value same_next within in

@@ -1,12 +1,10 @@
 use Rattle.std.proofs.Common.{◌≡◌, ◌+◌, ◌-◌, ◌*◌, ◌<◌, ◌≤◌, [], length, take, drop, refl, ◌∙◌, arith}
 use Rattle.std.proofs.lemmas.List.{length-take-le, length-drop, drop_all, append-nil, append_assoc}
 use borrow.Rule.Slice.PartMut.{post_of}
-use Rattle.pfs_insert.specs.Exchange.{heaviest_back}
-use Rattle.pfs_insert.specs.Rows.{AreNumbers}
 use Rattle.pfs_insert.proofs.FlatRows.{row_le, row_fits, row_between}
 use Rattle.pfs_insert.proofs.TailRows.{tail_first, tail_next}
-use Rattle.pfs_insert.proofs.TailTables.{TailsOn, tails_behind, tails_joined, tails_more, first_tails, row_back, row_told}
-use Rattle.pfs_insert.proofs.TailTables.{short_tails}
+use Rattle.pfs_insert.proofs.TailTables.{HoldsTails, TailsOn, tails_behind, tails_joined, tails_more}
+use Rattle.pfs_insert.proofs.TailTables.{first_tails, row_back, row_told, short_tails}
 use Rattle.pfs_insert.proofs.tails.add_tail.Given.{Over}
 use Rattle.pfs_insert.proofs.tails.add_tail.Goals.{After-at}
 use Rattle.pfs_insert.proofs.tails.add_tail.Goals as goal
@@ -46,9 +44,8 @@ fill_tail-requires-clause-below_width g c =
 
 -- the row below
 below_told : (g : Over) (c : After-at g) →
-    AreNumbers g.B.Span.Length.number (take c.machines-machines.result c.split_at_mut-front.result.1.now)
-    (g.B.Bench.shop c.args.bench.now).machines
-    (heaviest_back (g.B.Bench.shop c.args.bench.now) c.args.seq.now.jobs (c.args.place + 1))
+    HoldsTails g.B.Span.Length.number (g.B.Bench.shop c.args.bench.now) c.args.seq.now.jobs
+    (take c.machines-machines.result c.split_at_mut-front.result.1.now) (c.args.place + 1)
 below_told g c =
     first_tails _ (g.B.Bench.shop c.args.bench.now) c.args.seq.now.jobs _ (c.args.place + 1) c.machines-machines.result
     (omega (arith, c.machines-machines.ensures)) (omega (arith, c.requires.place)) (split_is g c).tails
@@ -57,7 +54,8 @@ pub fill_tail-requires-clause-below_short : goal.fill_tail-requires-clause-below
 fill_tail-requires-clause-below_short g c =
     let shop = g.B.Bench.shop c.args.bench.now in
     short_tails g.B.Span.Length.number shop c.args.seq.now.jobs (g.met.B.Bench.within c.args.bench.now)
-    (omega (arith, c.requires.partial.few)) (c.args.place + 1) _ (below_told g (goal.at.fill_tail-requires-clause-below_short g c).After-at)
+    (omega (arith, c.requires.partial.few)) (c.args.place + 1) _
+    (below_told g (goal.at.fill_tail-requires-clause-below_short g c).After-at)
 
 pub returns-clause-tails : goal.returns-clause-tails
 returns-clause-tails g c =
@@ -78,10 +76,11 @@ returns-clause-tails g c =
     let top : below - 1 ≡ shop.jobs - 1 - length jobs + place = omega arith in
     let fits = row_le (below - 1) below c.machines-machines.result (omega arith) in
     let above_long = length-take-le start front (omega arith) in
-    let new_long = c.fill_tail.auto.row ∙ length-take-le k (drop start front) (omega (arith, length-drop start front)) in
+    let under = length-drop start front in
+    let new_long = c.fill_tail.auto.row ∙ length-take-le k (drop start front) (omega arith) in
     let width : length new ≡ shop.machines =
         row_between (below - 1) wide (omega arith) front_long (omega (arith, new_long)) in
-    let rest : post_of start k front ≡ [] = drop_all k (drop start front) (omega (arith, length-drop start front)) in
+    let rest : post_of start k front ≡ [] = drop_all k (drop start front) (omega arith) in
     let one = tail_next (tail_first shop jobs (place + 1)) refl c.requires.place c.at.ensures.value in
     let some = (g.met.B.Bench.within c.args.bench.now).sizes.some_machine in
     let told = row_told number shop jobs new place _ one

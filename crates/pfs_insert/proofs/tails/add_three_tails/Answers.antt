@@ -1,11 +1,9 @@
 use Rattle.std.proofs.Common.{◌≡◌, ◌+◌, ◌-◌, ◌*◌, ◌<◌, ◌≤◌, length, take, sym, ◌∙◌, arith}
 use Rattle.std.proofs.lemmas.List.{length-take-le, append_assoc}
-use Rattle.pfs_insert.specs.Exchange.{heaviest_back}
-use Rattle.pfs_insert.specs.Rows.{AreNumbers}
 use Rattle.pfs_insert.proofs.FlatRows.{row_fits, row_between}
 use Rattle.pfs_insert.proofs.TailRows.{tail_first, tail_next}
-use Rattle.pfs_insert.proofs.TailTables.{TailsOn, tails_begin, tails_behind, tails_joined, tails_more, first_tails, row_back}
-use Rattle.pfs_insert.proofs.TailTables.{row_told, short_tails}
+use Rattle.pfs_insert.proofs.TailTables.{HoldsTails, TailsOn, tails_behind, tails_joined, tails_more}
+use Rattle.pfs_insert.proofs.TailTables.{first_tails, row_back, row_told, short_tails}
 use Rattle.pfs_insert.proofs.tails.add_three_tails.Given.{Over}
 use Rattle.pfs_insert.proofs.tails.add_three_tails.Goals.{After-at-third}
 use Rattle.pfs_insert.proofs.tails.add_three_tails.Goals as goal
@@ -30,7 +28,8 @@ split_is g c =
     record {
       below_is = below_is;
       back_long = row_fits wide inside c.requires.rows split.back_len;
-      tails = tails_behind _ shop _ _ _ _ c.args.from split.value (rw (below_is, wide) at split.front_len) c.requires.tails;
+      tails = tails_behind _ shop _ _ _ _ c.args.from split.value (rw (below_is, wide) at split.front_len)
+          c.requires.tails;
     }
 
 pub slice_bounds-fill_three_tails-end : goal.slice_bounds-fill_three_tails-end
@@ -48,9 +47,8 @@ fill_three_tails-requires-clause-below_width g c =
 
 -- the row below
 below_told : (g : Over) (c : After-at-third g) →
-    AreNumbers g.B.Span.Length.number (take c.machines-machines.result c.split_at_mut-front.result.1.now)
-    (g.B.Bench.shop c.args.bench.now).machines
-    (heaviest_back (g.B.Bench.shop c.args.bench.now) c.args.seq.now.jobs c.args.from)
+    HoldsTails g.B.Span.Length.number (g.B.Bench.shop c.args.bench.now) c.args.seq.now.jobs
+    (take c.machines-machines.result c.split_at_mut-front.result.1.now) c.args.from
 below_told g c =
     first_tails _ (g.B.Bench.shop c.args.bench.now) c.args.seq.now.jobs _ c.args.from c.machines-machines.result
     (omega (arith, c.machines-machines.ensures)) c.requires.from (split_is g c).tails
@@ -59,7 +57,8 @@ pub fill_three_tails-requires-clause-below_short : goal.fill_three_tails-require
 fill_three_tails-requires-clause-below_short g c =
     let shop = g.B.Bench.shop c.args.bench.now in
     short_tails g.B.Span.Length.number shop c.args.seq.now.jobs (g.met.B.Bench.within c.args.bench.now)
-    (omega (arith, c.requires.partial.few)) c.args.from _ (below_told g (goal.at.fill_three_tails-requires-clause-below_short g c).After-at-third)
+    (omega (arith, c.requires.partial.few)) c.args.from _
+    (below_told g (goal.at.fill_three_tails-requires-clause-below_short g c).After-at-third)
 
 pub returns-clause-tails : goal.returns-clause-tails
 returns-clause-tails g c =
@@ -76,24 +75,25 @@ returns-clause-tails g c =
     let last = c.fill_three_tails.new.last in
     let ensures = c.fill_three_tails.ensures in
     let same = c.fill_three_tails.auto in
-    let second_split = c.split_at_mut-front-2.ensures in
-    let third_split = c.split_at_mut-front-3.ensures in
-    let last_split = c.split_at_mut-last.ensures in
+    let split = c.split_at_mut-front.ensures in
+    let second = c.split_at_mut-front-2.ensures in
+    let third = c.split_at_mut-front-3.ensures in
+    let fourth = c.split_at_mut-last.ensures in
     let inside = c.requires.from in
     let enough = c.requires.some in
     let below_is = is.below_is in
     let few = c.requires.partial.few in
-    let row_long = same.row ∙ row_between (below - 1) wide (omega arith) c.split_at_mut-front.ensures.front_len
-        second_split.back_len in
-    let next_long = same.next ∙ row_between (below - 2) wide (omega arith) second_split.front_len third_split.back_len in
-    let last_long = same.last ∙ row_between (below - 3) wide (omega arith) third_split.front_len last_split.back_len in
+    let row_long = same.row ∙ row_between (below - 1) wide (omega arith) split.front_len second.back_len in
+    let next_long = same.next ∙ row_between (below - 2) wide (omega arith) second.front_len third.back_len in
+    let last_long = same.last ∙ row_between (below - 3) wide (omega arith) third.front_len fourth.back_len in
     let top : below - 3 ≡ shop.jobs - 1 - length jobs + (from - 3) = omega arith in
-    let one = tail_next {row = from - 1} (tail_first shop jobs from) (omega arith) (omega arith) c.at-first.ensures.value in
+    let zero = tail_first shop jobs from in
+    let one = tail_next {row = from - 1} zero (omega arith) (omega arith) c.at-first.ensures.value in
     let two = tail_next {row = from - 2} one (omega arith) (omega arith) c.at-second.ensures.value in
     let three = tail_next {row = from - 3} two (omega arith) (omega arith) c.at-third.ensures.value in
     let some = (g.met.B.Bench.within c.args.bench.now).sizes.some_machine in
     let tails = row_back number shop jobs _ from some (below_told g here) in
-    simp append_assoc (tails_joined number shop jobs _ _ (from - 3) (rw (top, wide) at last_split.front_len)
+    simp append_assoc (tails_joined number shop jobs _ _ (from - 3) (rw (top, wide) at fourth.front_len)
     (tails_more number shop jobs last _ (from - 3) (from - 2) (omega arith) last_long
     (row_told number shop jobs last (from - 3) _ three (ensures.last _ tails))
     (tails_more number shop jobs next _ (from - 2) (from - 1) (omega arith) next_long

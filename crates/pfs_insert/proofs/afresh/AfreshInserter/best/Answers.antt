@@ -58,8 +58,9 @@ pub returns-clause-cells : goal.returns-clause-cells
 returns-clause-cells g c =
     let count = length c.args.seq.now.jobs + 1 in
     let all : c.loop-place.place ≡ count = omega (arith, c.len-place-end.ensures.value) in
+    let cells = mul_assoc count count (g.B.Bench.shop c.args.bench.now).machines in
     record {
-      counted = rw (all, ← mul_assoc count count (g.B.Bench.shop c.args.bench.now).machines) at c.loop-place.invariant.counted;
+      counted = rw (all, ← cells) at c.loop-place.invariant.counted;
       fault_low = tt;
       fault_high = tt;
     }
