@@ -35,7 +35,7 @@ module _ (value : ℕ → ℕ) where
       (λ _. rw (place_at count place 0 within) (test_yes count place is.least))
 
   -- one more place, which is not better than the best so far
-  pub first_least_keeps : (count place : ℕ) → IsFirstLeast value count place → value place ≤ value count →
+  first_least_keeps : (count place : ℕ) → IsFirstLeast value count place → value place ≤ value count →
       IsFirstLeast value (count + 1) place
   first_least_keeps count place is le = record {
     within = omega (arith, is.within);
@@ -48,7 +48,7 @@ module _ (value : ℕ → ℕ) where
   }
 
   -- one more place, which is better than the best so far
-  pub first_least_takes : (count place : ℕ) → IsFirstLeast value count place → value count < value place →
+  first_least_takes : (count place : ℕ) → IsFirstLeast value count place → value count < value place →
       IsFirstLeast value (count + 1) count
   first_least_takes count place is less = record {
     within = omega arith;
@@ -60,7 +60,7 @@ module _ (value : ℕ → ℕ) where
     first = λ other small. omega (arith, is.least other small);
   }
 
-  pub first_least_one : IsFirstLeast value 1 0
+  first_least_one : IsFirstLeast value 1 0
   first_least_one = record {
     within = omega arith;
     least = λ other small. let e : other ≡ 0 = omega arith in rw e (omega arith);

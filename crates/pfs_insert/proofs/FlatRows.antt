@@ -30,7 +30,7 @@ row_between place {next} {width} wide later front_is row_is =
 
 module _ {X : Type 0} where
   -- what is read behind a front
-  pub get_behind : (front back : List X) (at i : ℕ) (d : X) → i ≡ length front + at →
+  get_behind : (front back : List X) (at i : ℕ) (d : X) → i ≡ length front + at →
       get_or (front ++ back) i d ≡ get_or back at d
   get_behind front back at i d is =
       let e : i - length front ≡ at = omega arith in

@@ -44,11 +44,8 @@ pub record Stored {X : Type 0} (number : X → ℕ) (times : ℕ → ℕ → ℕ
   pub latest : Latest number times Given jobs done x
 
 module _ {X : Type 0} {number : X → ℕ} {times : ℕ → ℕ → ℕ} {Given : (ℕ → ℕ) → Type 0} where
-  pub none_yet : (x : X) (jobs : List ℕ) → number x ≡ 0 → Latest number times Given jobs 0 x
-  none_yet x jobs none = record { is = λ values given. none; short = omega arith }
-
   -- the next length of a row, from the one above it and the one before it
-  pub step : {jobs : List ℕ} {job done t : ℕ} {above before new : X} → Latest number times Given jobs (done + 1) above
+  step : {jobs : List ℕ} {job done t : ℕ} {above before new : X} → Latest number times Given jobs (done + 1) above
       → Latest number times Given (job ∷ jobs) done before → number new ≡ max (number above) (number before) + t
       → t ≡ times job done → t ≤ LONGEST_TIME → Latest number times Given (job ∷ jobs) (done + 1) new
   step {jobs} {job} {done} above before value time small = record {
@@ -61,7 +58,7 @@ module _ {X : Type 0} {number : X → ℕ} {times : ℕ → ℕ → ℕ} {Given 
   }
 
   -- it is stored
-  pub store : {place : ℕ → ℕ} {jobs : List ℕ} {done at : ℕ} {row : List X} {before new : X}
+  store : {place : ℕ → ℕ} {jobs : List ℕ} {done at : ℕ} {row : List X} {before new : X}
       → Stored number times Given place jobs done row before → Latest number times Given jobs (done + 1) new
       → at ≡ place done → at < length row → ((m : ℕ) → m < done → place m ≢ at)
       → Stored number times Given place jobs (done + 1) (set row at new) new
@@ -121,14 +118,16 @@ module _ {X : Type 0} (number : X → ℕ) (shop : FlowShop) (below : List X) wh
       let place : left - 1 ≡ shop.machines - 1 - (shop.machines - left) = omega arith in
       record {
         is = λ tails told.
-            rw add-one (ap number (is ∙ ap (λ i. get_or below i x) place) ∙ told (shop.machines - left) x (omega arith));
+            let same = told (shop.machines - left) x (omega arith) in
+            rw add-one (ap number (is ∙ ap (λ i. get_or below i x) place) ∙ same);
         short = let small = short (left - 1) x (omega arith) in omega (arith, ap number is);
       }
 
   pub tail_step : {jobs : List ℕ} {job left : ℕ} {over before new : X} {other : FlowShop} → 1 ≤ left
-      → left ≤ shop.machines → Tail jobs (shop.machines - left + 1) over → Tail (job ∷ jobs) (shop.machines - left) before
-      → number new ≡ max (number over) (number before) + time_of other job (left - 1) → other ≡ shop
-      → IsWithin limits shop → Tail (job ∷ jobs) (shop.machines - left + 1) new
+      → left ≤ shop.machines → Tail jobs (shop.machines - left + 1) over
+      → Tail (job ∷ jobs) (shop.machines - left) before
+      → number new ≡ max (number over) (number before) + time_of other job (left - 1)
+      → other ≡ shop → IsWithin limits shop → Tail (job ∷ jobs) (shop.machines - left + 1) new
   tail_step {jobs} {job} {left} some most over before value same within =
       let place : left - 1 ≡ shop.machines - 1 - (shop.machines - left) = omega arith in
       step over before value (ap (λ (s : FlowShop). time_of s job (left - 1)) same ∙ ap (time_of shop job) place)

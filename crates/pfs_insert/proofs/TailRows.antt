@@ -86,7 +86,7 @@ module _ (shop : FlowShop) (jobs : List ℕ) where
       ]
 
   -- a row of heads is the next row of those above it
-  pub next_row_heads : (row machine : ℕ) → next_row (weigh row) (head weigh row) machine ≡ head weigh (suc row) machine
+  next_row_heads : (row machine : ℕ) → next_row (weigh row) (head weigh row) machine ≡ head weigh (suc row) machine
   next_row_heads row zero = omega (arith, head_step weigh row 0)
   next_row_heads row (suc machine) = omega (arith, head_step weigh row (suc machine), next_row_heads row machine)
 

@@ -105,9 +105,10 @@ best_by_rows-requires-clause-backs g c =
     let len = length c.args.seq.now.jobs in
     let rows_long = c.fill_tails.auto.rows ∙ tails_long g here in
     let rest = rows_of_all shop.jobs len shop.machines (few_jobs g here) in
+    let backs = backs_taken g.B.Span.Length.number shop c.args.seq.now.jobs c.fill_tails.new.rows _ _ refl (omega arith)
+        (omega arith) c.fill_tails.ensures.tails in
     rw (c.fill_tails.ensures.shop, c.size-3.ensures.value, c.requires.size, c.len.ensures.value,
-    c.machines-machines.ensures) (backs_taken g.B.Span.Length.number shop c.args.seq.now.jobs c.fill_tails.new.rows _ _ refl
-    (omega arith) (omega arith) c.fill_tails.ensures.tails)
+    c.machines-machines.ensures) backs
 
 pub best_by_rows-requires-clause-no_head : goal.best_by_rows-requires-clause-no_head
 best_by_rows-requires-clause-no_head g c =
