@@ -1,12 +1,14 @@
 -- The first least of some values.
-use Rattle.std.proofs.Common.{◌≡◌, ℕ, zero, suc, ◌+◌, ◌<◌, ◌≤◌, length, get_or, true, false, leb, inl, inr, ◌∙◌}
-use Rattle.std.proofs.Common.{add-one, arith}
+use Rattle.std.proofs.Common.{◌≡◌, ℕ, zero, suc, ◌+◌, ◌<◌, ◌≤◌, List, length, get_or, true, false, leb, inl, inr, ◌∙◌}
+use Rattle.std.proofs.Common.{sym, add-one, arith}
 use Rattle.std.specs.List.{list_all, range_with_len}
 use Rattle.std.proofs.lemmas.Bool.{cases_lt, le-leb, lt-leb}
 use Rattle.std.proofs.lemmas.List.FromFn.{length-range_with_len, get_or-range_with_len}
 use Rattle.std.proofs.lemmas.List.Folds.{list_all_at}
 use Rattle.std.proofs.lemmas.List.Sums.{list_all-from_AllPass, position_or_len_is}
-use Rattle.pfs_insert.specs.Insertion.{first_least, makespan_with, IsFirstLeast, BestPlaceLaw}
+use Rattle.pfs_base.specs.FlowShop.{FlowShop}
+use Rattle.pfs_insert.specs.Inserter.{IsBestPlace}
+use Rattle.pfs_insert.specs.Insertion.{first_least, makespan_with, IsBest, IsFirstLeast, BestPlaceLaw}
 
 place_at : (count k d : ℕ) → k < count → get_or (range_with_len 0 count) k d ≡ k
 place_at count k d small = get_or-range_with_len 0 count k d small ∙ omega arith
@@ -27,7 +29,7 @@ module _ (value : ℕ → ℕ) where
       (omega (arith, length-range_with_len 0 count))
       (rw (place_at count other 0 small) (lt-leb (value place) (value other) less))
 
-  pub first_least_is : (count place : ℕ) → IsFirstLeast value count place → first_least value count ≡ place
+  first_least_is : (count place : ℕ) → IsFirstLeast value count place → first_least value count ≡ place
   first_least_is count place is =
       let within = is.within in
       position_or_len_is _ (range_with_len 0 count) place 0 (omega (arith, length-range_with_len 0 count))
@@ -83,3 +85,15 @@ best_place_law shop jobs job =
     let value = makespan_with shop jobs job in
     let found = some_least value (length jobs) in
     rw (first_least_is value (length jobs + 1) found.0 found.1) found.1
+
+-- the best of all places is the best place
+pub best_is : {X : Type 0} {number : X → ℕ} (shop : FlowShop) (jobs : List ℕ) (job : ℕ) {place : ℕ} {span : X}
+    → IsBest number (makespan_with shop jobs job) (length jobs + 1) place span
+    → IsBestPlace shop jobs job place (number span)
+best_is shop jobs job {place} best =
+    let small = best.first.within in
+    record {
+      place_is = sym (first_least_is (makespan_with shop jobs job) (length jobs + 1) place best.first);
+      within = omega arith;
+      span_is = best.value_is;
+    }

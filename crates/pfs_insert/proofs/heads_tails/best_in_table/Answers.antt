@@ -2,8 +2,7 @@ use Rattle.std.proofs.Common.{◌≡◌, ℕ, ◌+◌, ◌-◌, ◌*◌, ◌<◌
 use Rattle.std.proofs.Common.{◌∙◌, arith, rules}
 use Rattle.std.proofs.lemmas.List.{append-nil, get_or_append_left, length-drop, take_all}
 use Rattle.pfs_order.proofs.Published.Sequences.{length-lt-size}
-use Rattle.pfs_insert.specs.Insertion.{makespan_with}
-use Rattle.pfs_insert.proofs.FirstLeast.{first_least_is}
+use Rattle.pfs_insert.proofs.FirstLeast.{best_is}
 use Rattle.pfs_insert.proofs.FlatRows.{row_le, row_split, row_behind, put_behind, row_in_front}
 use Rattle.pfs_insert.proofs.TailRows.{back_none}
 use Rattle.pfs_insert.proofs.TailTables.{backs_taken}
@@ -139,15 +138,8 @@ best_by_rows-requires-clause-room g c =
 
 pub returns-clause-best : goal.returns-clause-best
 returns-clause-best g c =
-    let jobs = c.args.seq.now.jobs in
-    let best = rw c.fill_tails.ensures.shop at c.best_by_rows.ensures.best in
-    let small = best.first.within in
-    record {
-      place_is = sym (first_least_is (makespan_with (g.B.Bench.shop c.args.bench.now) jobs c.args.job) (length jobs + 1)
-          c.best_by_rows.result.place best.first);
-      within = omega arith;
-      span_is = best.value_is;
-    }
+    best_is (g.B.Bench.shop c.args.bench.now) c.args.seq.now.jobs c.args.job
+    (rw c.fill_tails.ensures.shop at c.best_by_rows.ensures.best)
 
 pub returns-clause-table : goal.returns-clause-table
 returns-clause-table g c =

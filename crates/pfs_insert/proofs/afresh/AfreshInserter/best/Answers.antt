@@ -5,7 +5,7 @@ use Rattle.std.proofs.lemmas.List.Edits.{length-insert}
 use Rattle.pfs_base.specs.FlowShop.{FlowShop}
 use Rattle.pfs_order.specs.Sequence.{Sequence}
 use Rattle.pfs_insert.specs.Insertion.{makespan_with}
-use Rattle.pfs_insert.proofs.FirstLeast.{first_least_is}
+use Rattle.pfs_insert.proofs.FirstLeast.{best_is}
 use Rattle.pfs_insert.proofs.FlatRows.{row_le}
 use Rattle.pfs_insert.proofs.afresh.AfreshInserter.best.Goals as goal
 
@@ -45,14 +45,7 @@ pub returns-clause-best : goal.returns-clause-best
 returns-clause-best g c =
     let jobs = c.args.seq.now.jobs in
     let all : c.loop-place.place ≡ length jobs + 1 = omega (arith, c.len-place-end.ensures.value) in
-    let best = rw all at (c.loop-place.invariant.best (omega arith)) in
-    let small = best.first.within in
-    record {
-      place_is = sym (first_least_is (makespan_with (g.B.Bench.shop c.args.bench.now) jobs c.args.job) (length jobs + 1)
-          c.loop-place.best.place best.first);
-      within = omega arith;
-      span_is = best.value_is;
-    }
+    best_is (g.B.Bench.shop c.args.bench.now) jobs c.args.job (rw all at (c.loop-place.invariant.best (omega arith)))
 
 pub returns-clause-cells : goal.returns-clause-cells
 returns-clause-cells g c =
