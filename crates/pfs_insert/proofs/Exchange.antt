@@ -66,20 +66,20 @@ module _ (shop : FlowShop) (jobs : List ℕ) (job place : ℕ) (within : place �
   exchange_to : most weigh (length jobs) last 0 0 ≡ greatest_to sum_at last
   exchange_to =
       elim (cases_lt place (length jobs)) [
-        inl inside ↦
-          let rest = length jobs - 1 - place in
-          let total = length jobs - 1 in
-          let one_more : length jobs ≡ suc total = omega arith in
-          ap (λ n. most weigh n last 0 0) one_more
-          ∙ most_by_exit weigh rest (suc place) last place last 0 0 total (omega arith) (omega arith) (omega arith)
-          ∙ greatest_to_same (by_exit weigh rest (suc place) last place 0 0) sum_at last
-          (λ x le. rw zero-add (omega (arith, heaviest_is weigh place x, back_is inside x)))
-      | inr behind ↦
-          let all : length jobs ≡ place = omega arith in
-          ap (λ n. most weigh n last 0 0) all
-          ∙ sym (greatest_to_last (λ x. most weigh place x 0 0) last (rises weigh place))
-          ∙ greatest_to_same (λ x. most weigh place x 0 0) sum_at last
-          (λ x le. omega (arith, heaviest_is weigh place x, back_none behind x))
+        | inl inside ↦
+            let rest = length jobs - 1 - place in
+            let total = length jobs - 1 in
+            let one_more : length jobs ≡ suc total = omega arith in
+            ap (λ n. most weigh n last 0 0) one_more
+            ∙ most_by_exit weigh rest (suc place) last place last 0 0 total (omega arith) (omega arith) (omega arith)
+            ∙ greatest_to_same (by_exit weigh rest (suc place) last place 0 0) sum_at last
+            (λ x le. rw zero-add (omega (arith, heaviest_is weigh place x, back_is inside x)))
+        | inr behind ↦
+            let all : length jobs ≡ place = omega arith in
+            ap (λ n. most weigh n last 0 0) all
+            ∙ sym (greatest_to_last (λ x. most weigh place x 0 0) last (rises weigh place))
+            ∙ greatest_to_same (λ x. most weigh place x 0 0) sum_at last
+            (λ x le. omega (arith, heaviest_is weigh place x, back_none behind x))
       ]
 
 pub exchange_law : ExchangeLaw

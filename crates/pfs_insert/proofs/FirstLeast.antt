@@ -43,8 +43,8 @@ module _ (value : ℕ → ℕ) where
     within = omega (arith, is.within);
     least = λ other small.
         elim (cases_lt other count) [
-          inl earlier ↦ is.least other earlier
-        | inr later ↦ let e : other ≡ count = omega arith in rw e le
+          | inl earlier ↦ is.least other earlier
+          | inr later ↦ let e : other ≡ count = omega arith in rw e le
         ];
     first = is.first;
   }
@@ -56,8 +56,8 @@ module _ (value : ℕ → ℕ) where
     within = omega arith;
     least = λ other small.
         elim (cases_lt other count) [
-          inl earlier ↦ omega (arith, is.least other earlier)
-        | inr later ↦ let e : other ≡ count = omega arith in rw e (omega arith)
+          | inl earlier ↦ omega (arith, is.least other earlier)
+          | inr later ↦ let e : other ≡ count = omega arith in rw e (omega arith)
         ];
     first = λ other small. omega (arith, is.least other small);
   }
@@ -76,8 +76,8 @@ module _ (value : ℕ → ℕ) where
       let place = (some_least count).0 in
       let so_far : IsFirstLeast value (suc count) place = rw add-one at (some_least count).1 in
       elim (cases_lt (value (suc count)) (value place)) [
-        inl less ↦ (suc count, first_least_takes (suc count) place so_far less)
-      | inr least ↦ (place, first_least_keeps (suc count) place so_far least)
+        | inl less ↦ (suc count, first_least_takes (suc count) place so_far less)
+        | inr least ↦ (place, first_least_keeps (suc count) place so_far least)
       ]
 
 pub best_place_law : BestPlaceLaw

@@ -21,8 +21,8 @@ module _ {X : Type 0} (number : X → ℕ) (fronts backs : ℕ → ℕ) where
       let first : number x ≡ fronts from = one 0 x (omega arith) ∙ ap fronts here in
       let second : number y ≡ backs from = two 0 y (omega arith) ∙ ap backs here in
       let rest = sums_are a b (from + 1) (omega arith)
-          (λ machine d lt. one (suc machine) d (omega arith) ∙ ap fronts (omega arith))
-          (λ machine d lt. two (suc machine) d (omega arith) ∙ ap backs (omega arith)) in
+      (λ machine d lt. one (suc machine) d (omega arith) ∙ ap fronts (omega arith))
+      (λ machine d lt. two (suc machine) d (omega arith) ∙ ap backs (omega arith)) in
       cc
 
   pub join_is : (machines : ℕ) (a b : List X) → length a ≡ machines → length b ≡ machines

@@ -22,7 +22,7 @@ next_row_same times others above below zero same_times same =
     omega (arith, same_times 0 (omega arith), same 0 (omega arith))
 next_row_same times others above below (suc m) same_times same =
     let rest = next_row_same times others above below m (λ k le. same_times k (omega arith))
-        (λ k le. same k (omega arith)) in
+    (λ k le. same k (omega arith)) in
     omega (arith, same_times (suc m) (omega arith), same (suc m) (omega arith))
 
 -- the values of the first job's row, where each job's row is the next of that of the job behind it in the list
@@ -65,11 +65,11 @@ module _ {X : Type 0} {number : X → ℕ} {times : ℕ → ℕ → ℕ} {Given 
   store {place} {jobs} {done} {at} {row} {before} {new} so_far latest here within apart = record {
     is = λ values given m d lt.
         elim (cases_lt m done) [
-          inl earlier ↦
-            ap number (get_or-set_other row at (place m) new d (apart m earlier)) ∙ so_far.is values given m d earlier
-        | inr later ↦
-            let e : m ≡ done = omega arith in
-            rw (e, ← here) (ap number (get_or-set_same row at new d within) ∙ rw add-one at latest.is values given)
+          | inl earlier ↦
+              ap number (get_or-set_other row at (place m) new d (apart m earlier)) ∙ so_far.is values given m d earlier
+          | inr later ↦
+              let e : m ≡ done = omega arith in
+              rw (e, ← here) (ap number (get_or-set_same row at new d within) ∙ rw add-one at latest.is values given)
         ];
     latest = latest;
   }

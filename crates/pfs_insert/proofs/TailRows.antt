@@ -60,13 +60,21 @@ module _ (shop : FlowShop) (jobs : List ℕ) where
       heaviest_back shop jobs row machine ≡ heaviest_back shop jobs (suc row) machine + weigh row machine
   back_last row machine inside at_end =
       elim (cases_lt (suc row) (length jobs)) [
-        inl more ↦
-          let downs = length jobs - 1 - suc row in
-          omega (arith, back_is row machine (suc downs) 0 (omega arith) (omega arith),
-          back_is (suc row) machine downs 0 (omega arith) (omega arith), most_down weigh downs row machine)
-      | inr none ↦
-          omega (arith, back_is row machine 0 0 (omega arith) (omega arith), back_none (suc row) machine none,
-          most_here weigh row machine)
+        | inl more ↦
+            let downs = length jobs - 1 - suc row in
+            omega (
+              arith,
+              back_is row machine (suc downs) 0 (omega arith) (omega arith),
+              back_is (suc row) machine downs 0 (omega arith) (omega arith),
+              most_down weigh downs row machine,
+            )
+        | inr none ↦
+            omega (
+              arith,
+              back_is row machine 0 0 (omega arith) (omega arith),
+              back_none (suc row) machine none,
+              most_here weigh row machine,
+            )
       ]
 
   -- and on one before it
@@ -75,14 +83,23 @@ module _ (shop : FlowShop) (jobs : List ℕ) where
   back_more row machine inside before =
       let ons = last - suc machine in
       elim (cases_lt (suc row) (length jobs)) [
-        inl more ↦
-          let downs = length jobs - 1 - suc row in
-          omega (arith, back_is row machine (suc downs) (suc ons) (omega arith) (omega arith),
-          back_is (suc row) machine downs (suc ons) (omega arith) (omega arith),
-          back_is row (suc machine) (suc downs) ons (omega arith) (omega arith), most_first weigh downs ons row machine)
-      | inr none ↦
-          omega (arith, back_is row machine 0 (suc ons) (omega arith) (omega arith), back_none (suc row) machine none,
-          back_is row (suc machine) 0 ons (omega arith) (omega arith), most_on weigh ons row machine)
+        | inl more ↦
+            let downs = length jobs - 1 - suc row in
+            omega (
+              arith,
+              back_is row machine (suc downs) (suc ons) (omega arith) (omega arith),
+              back_is (suc row) machine downs (suc ons) (omega arith) (omega arith),
+              back_is row (suc machine) (suc downs) ons (omega arith) (omega arith),
+              most_first weigh downs ons row machine,
+            )
+        | inr none ↦
+            omega (
+              arith,
+              back_is row machine 0 (suc ons) (omega arith) (omega arith),
+              back_none (suc row) machine none,
+              back_is row (suc machine) 0 ons (omega arith) (omega arith),
+              most_on weigh ons row machine,
+            )
       ]
 
   -- a row of heads is the next row of those above it
@@ -103,13 +120,24 @@ module _ {shop : FlowShop} {jobs : List ℕ} {values : ℕ → ℕ} {row next jo
           tail_row shop job values back ≡ heaviest_back shop jobs row (shop.machines - 1 - back)
       by_machine zero le =
           let machine = shop.machines - 1 - 0 in
-          omega (arith, back_last shop jobs row machine inside (omega arith), under machine, below.same 0 le,
-          ap (λ j. time_of shop j machine) job_is)
+          omega (
+            arith,
+            back_last shop jobs row machine inside (omega arith),
+            under machine,
+            below.same 0 le,
+            ap (λ j. time_of shop j machine) job_is,
+          )
       by_machine (suc back) le =
           let machine = shop.machines - 1 - suc back in
           let on : shop.machines - 1 - back ≡ suc machine = omega arith in
-          omega (arith, back_more shop jobs row machine inside (omega arith), under machine, below.same (suc back) le,
-          ap (λ j. time_of shop j machine) job_is, rw on at (by_machine back (omega arith)))
+          omega (
+            arith,
+            back_more shop jobs row machine inside (omega arith),
+            under machine,
+            below.same (suc back) le,
+            ap (λ j. time_of shop j machine) job_is,
+            rw on at (by_machine back (omega arith)),
+          )
 
 module _ (shop : FlowShop) (jobs : List ℕ) (job place : ℕ) (within : place ≤ length jobs) where
   -- the heads of the rows before the inserted one are those of the sequence
@@ -170,10 +198,13 @@ module _ (shop : FlowShop) (within : IsWithin limits shop) (jobs : List ℕ) (fe
       let downs = length jobs - 1 - row in
       let ons = shop.machines - 1 - machine in
       elim (cases_lt row (length jobs)) [
-        inl inside ↦
-          omega (arith, back_is shop jobs row machine downs ons (omega arith) (omega arith),
-          most_le (operation shop jobs) (λ r m. time_of-le shop within (get_or jobs r 0) m) downs ons row machine)
-      | inr none ↦ omega (arith, back_none shop jobs row machine none)
+        | inl inside ↦
+            omega (
+              arith,
+              back_is shop jobs row machine downs ons (omega arith) (omega arith),
+              most_le (operation shop jobs) (λ r m. time_of-le shop within (get_or jobs r 0) m) downs ons row machine,
+            )
+        | inr none ↦ omega (arith, back_none shop jobs row machine none)
       ]
 
   pub heads_short : (place machine : ℕ) → place ≤ length jobs → machine < shop.machines →

@@ -52,7 +52,7 @@ module _ {X : Type 0} (number : X → ℕ) (shop : FlowShop) (jobs : List ℕ) w
       → HasBacks number shop jobs (take k (drop start rows))
   backs_taken rows start k begin fits all has =
       let long : length (take start rows) ≡ tails_begin 0 =
-          length-take-le start rows fits ∙ begin ∙ rw add-zero refl in
+      length-take-le start rows fits ∙ begin ∙ rw add-zero refl in
       let parts = sym (take-append-drop start rows) in
       let on = tails_behind rows (take start rows) (drop start rows) 0 parts long has in
       rw (take_all k (drop start rows) (omega (arith, length-drop start rows)))

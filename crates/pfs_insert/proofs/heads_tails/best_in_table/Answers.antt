@@ -15,7 +15,7 @@ few_jobs : (g : Over) (c : After-split_at_mut-tails g) →
 few_jobs g c =
     let size = c.requires.size in
     let less = length-lt-size c.args.seq.now.size c.args.job c.args.seq.now.jobs (omega (arith, c.requires.job))
-        c.requires.absent c.size.ensures.sequence in
+    c.requires.absent c.size.ensures.sequence in
     omega arith
 
 -- how long the rows of heads are, and those of tails
@@ -55,8 +55,8 @@ fill_tails-requires-clause-no_tail g c =
     let begin = no_tail_at shop.jobs machines some in
     let fits = last_fits shop.jobs machines some in
     let behind = row_behind number machines none c.split_at_mut-heads.result.0.now c.split_at_mut-heads.result.1.now
-        ((2 * shop.jobs - 1) * machines) start (omega (arith, heads_long g here))
-        (rw c.split_at_mut-heads.ensures.value at c.requires.table.no_tail) in
+    ((2 * shop.jobs - 1) * machines) start (omega (arith, heads_long g here))
+    (rw c.split_at_mut-heads.ensures.value at c.requires.table.no_tail) in
     let tails = c.split_at_mut-tails.result.0.now in
     rw append-nil at (row_in_front number machines none tails c.split_at_mut-tails.result.1.now [] start
     (omega (arith, tails_long g here)) (rw c.split_at_mut-tails.ensures.value at behind))
@@ -89,12 +89,22 @@ best_by_rows-requires-clause-parts g c =
     let rest = rows_of_all shop.jobs len shop.machines (few_jobs g here) in
     let all = row_split (2 * shop.jobs + 1) shop.jobs (shop.jobs + 1) shop.machines (omega arith) in
     let behind = length-drop start rows in
-    rw (c.fill_tails.ensures.shop, c.size-3.ensures.value, c.requires.size, c.len.ensures.value,
-    c.machines-machines.ensures, take_all (length rows - start) (drop start rows) (omega arith)) (record {
+    rw (
+      c.fill_tails.ensures.shop,
+      c.size-3.ensures.value,
+      c.requires.size,
+      c.len.ensures.value,
+      c.machines-machines.ensures,
+      take_all (length rows - start) (drop start rows) (omega arith),
+    ) (record {
       heads_long = heads;
       backs_long = omega arith;
-      put_long = omega (arith, c.requires.table.size, c.split_at_mut-heads.ensures.back_len,
-          c.split_at_mut-tails.ensures.back_len);
+      put_long = omega (
+        arith,
+        c.requires.table.size,
+        c.split_at_mut-heads.ensures.back_len,
+        c.split_at_mut-tails.ensures.back_len,
+      );
     })
 
 pub best_by_rows-requires-clause-backs : goal.best_by_rows-requires-clause-backs
@@ -105,9 +115,14 @@ best_by_rows-requires-clause-backs g c =
     let rows_long = c.fill_tails.auto.rows ∙ tails_long g here in
     let rest = rows_of_all shop.jobs len shop.machines (few_jobs g here) in
     let backs = backs_taken g.B.Span.Length.number shop c.args.seq.now.jobs c.fill_tails.new.rows _ _ refl (omega arith)
-        (omega arith) c.fill_tails.ensures.tails in
-    rw (c.fill_tails.ensures.shop, c.size-3.ensures.value, c.requires.size, c.len.ensures.value,
-    c.machines-machines.ensures) backs
+    (omega arith) c.fill_tails.ensures.tails in
+    rw (
+      c.fill_tails.ensures.shop,
+      c.size-3.ensures.value,
+      c.requires.size,
+      c.len.ensures.value,
+      c.machines-machines.ensures,
+    ) backs
 
 pub best_by_rows-requires-clause-no_head : goal.best_by_rows-requires-clause-no_head
 best_by_rows-requires-clause-no_head g c =
@@ -164,7 +179,7 @@ returns-clause-table g c =
     let all : shop.jobs - 1 - length jobs + length jobs ≡ shop.jobs - 1 = omega arith in
     let last = rw all at (c.fill_tails.ensures.tails.rows_are (length jobs) (omega arith) (omega arith)) in
     let zeros = λ (machine : ℕ) (d : g.row.B-Span.Denot) (lt : machine < machines).
-        last machine d lt ∙ back_none shop jobs (length jobs) machine (omega arith) in
+    last machine d lt ∙ back_none shop jobs (length jobs) machine (omega arith) in
     record {
       size = search rules;
       no_head = λ machine d lt.

@@ -31,7 +31,7 @@ returns-clause-head g c =
     let long = rw wide at split.front_len in
     let behind : width ≤ length back = omega (arith, rw wide at split.back_len, c.requires.heads) in
     let told = c.fill_head.ensures.row (head_of shop jobs place)
-        (head_above _ shop jobs _ _ _ place _ wide split.value split.front_len c.requires.head) in
+    (head_above _ shop jobs _ _ _ place _ wide split.value split.front_len c.requires.head) in
     let next = head_next (head_first shop jobs place) refl c.at.ensures.value in
     head_behind _ shop jobs _ c.fill_head.new.row (drop width back) (place + 1) long
     (c.fill_head.auto.row ∙ length-take-le width back behind ∙ wide)

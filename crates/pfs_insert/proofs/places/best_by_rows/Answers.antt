@@ -53,8 +53,8 @@ loop-place-preserved g c =
       no_head = kept 0 (omega arith) invariant.no_head;
       heads = λ row low high.
           elim (cases_lt row (place + 1)) [
-            inl earlier ↦ kept row (omega arith) (invariant.heads row low (omega arith))
-          | inr later ↦ let is : row ≡ place + 1 = omega arith in rw is (rw same at ensures.head)
+            | inl earlier ↦ kept row (omega arith) (invariant.heads row low (omega arith))
+            | inr later ↦ let is : row ≡ place + 1 = omega arith in rw is (rw same at ensures.head)
           ];
     }
 

@@ -31,7 +31,7 @@ joined g c =
     let inside : place < length jobs + 1 = omega (arith, c.requires.place) in
     let long = row_long c.args.backs.now place _ (length jobs + 1) wide inside c.requires.long in
     let told = row_taken number shop.machines backs c.args.backs.now place _ _ wide (omega arith)
-        (c.requires.backs.rows_are place c.requires.place) in
+    (c.requires.backs.rows_are place c.requires.place) in
     join_is number (heaviest_front shop (insert jobs place c.args.job) place) backs shop.machines c.args.put.now _
     c.requires.width long c.requires.put.row_is told
 
@@ -44,12 +44,12 @@ join_rows-requires-clause-in_limit g c =
     let few = c.requires.partial.few in
     let is = joined g (goal.at.join_rows-requires-clause-in_limit g c).After-machines-machines in
     let sum = λ (machine : ℕ).
-        heaviest_front shop (insert jobs place c.args.job) place machine + heaviest_back shop jobs place machine in
+    heaviest_front shop (insert jobs place c.args.job) place machine + heaviest_back shop jobs place machine in
     let small = greatest_small sum ((2 * (MOST_JOBS + MOST_MACHINES) + 1) * LONGEST_TIME) 0 shop.machines
-        (λ machine lt.
-        let one = put_short shop within jobs (omega arith) c.args.job place machine c.requires.place (omega arith) in
-        let two = tails_short shop within jobs (omega arith) place machine (omega arith) in
-        omega arith) in
+    (λ machine lt.
+    let one = put_short shop within jobs (omega arith) c.args.job place machine c.requires.place (omega arith) in
+    let two = tails_short shop within jobs (omega arith) place machine (omega arith) in
+    omega arith) in
     omega arith
 
 pub returns-clause-value : goal.returns-clause-value

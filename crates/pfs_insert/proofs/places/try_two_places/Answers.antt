@@ -74,7 +74,7 @@ returns-clause-best g c =
     let same = c.fill_two_places.ensures.shop in
     let first = c.better-best.ensures value c.requires.best (rw same at c.makespan_by_rows-span.ensures.value) in
     let second = c.better.ensures value (λ some. first)
-        (rw (c.makespan_by_rows-span.ensures.shop, same) at c.makespan_by_rows-span-2.ensures.value) in
+    (rw (c.makespan_by_rows-span.ensures.shop, same) at c.makespan_by_rows-span-2.ensures.value) in
     let two : place + 1 + 1 ≡ place + 2 = omega arith in
     rw two at second
 

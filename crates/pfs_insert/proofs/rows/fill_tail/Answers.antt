@@ -13,9 +13,9 @@ loop-machine-preserved g c =
     let row_is = c.loop-machine.invariant.row_is in
     let same = c.loop-machine.invariant.same_shop in
     let over = tail_below number shop below left c.index-below-machine.result some most c.requires.below_short
-        c.index-below-machine.is in
+    c.index-below-machine.is in
     let new = tail_step number shop below some most over row_is.latest c.step-after.ensures.value same
-        (g.met.B.Bench.within c.args.bench.now) in
+    (g.met.B.Bench.within c.args.bench.now) in
     record {
       same_shop = c.step-after.ensures.shop ∙ same;
       counted = omega (arith, c.step-after.ensures.counted, c.loop-machine.invariant.counted);

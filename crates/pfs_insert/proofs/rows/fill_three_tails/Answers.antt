@@ -15,17 +15,22 @@ loop-machine-preserved g c =
     let same_one = c.step-one.ensures.shop ∙ invariant.same_shop in
     let same_two = c.step-two.ensures.shop ∙ same_one in
     let over = tail_below number shop below left c.index-below-machine.result some most c.requires.below_short
-        c.index-below-machine.is in
+    c.index-below-machine.is in
     let one = tail_step number shop below some most over invariant.row_is.latest c.step-one.ensures.value
-        invariant.same_shop within in
+    invariant.same_shop within in
     let two = tail_step number shop below some most one invariant.next_is.latest c.step-two.ensures.value
-        same_one within in
+    same_one within in
     let three = tail_step number shop below some most two invariant.last_is.latest c.step-three.ensures.value same_two
-        within in
+    within in
     record {
       same_shop = c.step-three.ensures.shop ∙ same_two;
-      counted = omega (arith, c.step-one.ensures.counted, c.step-two.ensures.counted, c.step-three.ensures.counted,
-          invariant.counted);
+      counted = omega (
+        arith,
+        c.step-one.ensures.counted,
+        c.step-two.ensures.counted,
+        c.step-three.ensures.counted,
+        invariant.counted,
+      );
       row_is = tail_stored number shop below (c.args.first ∷ []) some most invariant.row_is one
           (c.loop-machine.auto.row ∙ c.requires.row_width);
       next_is = tail_stored number shop below (c.args.second ∷ c.args.first ∷ []) some most invariant.next_is two

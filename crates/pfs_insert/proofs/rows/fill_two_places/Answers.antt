@@ -16,18 +16,24 @@ loop-machine-preserved g c =
     let same_one = c.step-one.ensures.shop ∙ same_put in
     let same_next = c.step-put_next.ensures.shop ∙ same_one in
     let over = head_above number shop above machine c.index-above-machine.result inside c.requires.above_short
-        c.index-above-machine.is in
+    c.index-above-machine.is in
     let over_one = head_above number shop above machine c.index-above-machine-in-loop-machine.result inside
-        c.requires.above_short c.index-above-machine-in-loop-machine.is in
+    c.requires.above_short c.index-above-machine-in-loop-machine.is in
     let put = head_step number shop above over invariant.row_is.latest c.step-put.ensures.value
-        invariant.same_shop within in
+    invariant.same_shop within in
     let one = head_step number shop above over_one invariant.one_is c.step-one.ensures.value same_put within in
     let next = head_step number shop above one invariant.next_is.latest c.step-put_next.ensures.value same_one within in
     let two = head_step number shop above one invariant.head_is.latest c.step-two.ensures.value same_next within in
     record {
       same_shop = c.step-two.ensures.shop ∙ same_next;
-      counted = omega (arith, c.step-put.ensures.counted, c.step-one.ensures.counted, c.step-put_next.ensures.counted,
-          c.step-two.ensures.counted, invariant.counted);
+      counted = omega (
+        arith,
+        c.step-put.ensures.counted,
+        c.step-one.ensures.counted,
+        c.step-put_next.ensures.counted,
+        c.step-two.ensures.counted,
+        invariant.counted,
+      );
       row_is = head_stored number shop above (c.args.job ∷ []) invariant.row_is put
           (omega (arith, c.loop-machine.auto.row, c.requires.row_width));
       one_is = one;

@@ -25,7 +25,7 @@ split_is g c =
     let split = c.split_at_mut-front.ensures in
     let few = c.requires.partial.few in
     let below_is : below ≡ shop.jobs - 1 - length c.args.seq.now.jobs + (c.args.place + 1) =
-        omega (arith, c.size.ensures.value, c.len.ensures.value, c.requires.partial.size) in
+    omega (arith, c.size.ensures.value, c.len.ensures.value, c.requires.partial.size) in
     let inside : below < shop.jobs = omega (arith, c.requires.place) in
     record {
       below_is = below_is;
@@ -79,11 +79,11 @@ returns-clause-tails g c =
     let under = length-drop start front in
     let new_long = c.fill_tail.auto.row ∙ length-take-le k (drop start front) (omega arith) in
     let width : length new ≡ shop.machines =
-        row_between (below - 1) wide (omega arith) front_long (omega (arith, new_long)) in
+    row_between (below - 1) wide (omega arith) front_long (omega (arith, new_long)) in
     let rest : post_of start k front ≡ [] = drop_all k (drop start front) (omega arith) in
     let one = tail_next (tail_first shop jobs (place + 1)) refl c.requires.place c.at.ensures.value in
     let some = (g.met.B.Bench.within c.args.bench.now).sizes.some_machine in
     let told = row_told number shop jobs new place _ one
-        (c.fill_tail.ensures.row _ (row_back number shop jobs _ (place + 1) some (below_told g here))) in
+    (c.fill_tail.ensures.row _ (row_back number shop jobs _ (place + 1) some (below_told g here))) in
     rw (rest, append-nil, append_assoc) (tails_joined number shop jobs (take start front) _ place
     (above_long ∙ rw (top, wide) refl) (tails_more number shop jobs new _ place (place + 1) refl width told is.tails))

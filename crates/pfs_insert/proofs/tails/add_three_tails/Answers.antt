@@ -23,7 +23,7 @@ split_is g c =
     let wide = c.machines-machines.ensures in
     let split = c.split_at_mut-front.ensures in
     let below_is : below ≡ shop.jobs - 1 - length c.args.seq.now.jobs + c.args.from =
-        omega (arith, c.size.ensures.value, c.len.ensures.value, c.requires.partial.size) in
+    omega (arith, c.size.ensures.value, c.len.ensures.value, c.requires.partial.size) in
     let inside : below < shop.jobs = omega (arith, c.requires.partial.few, c.requires.from) in
     record {
       below_is = below_is;

@@ -28,7 +28,7 @@ loop-place-preserved g c =
     let invariant = c.loop-place.invariant in
     let same = invariant.same_shop in
     let inserted : c.insert_at.new.self ≡ record { size = c.args.seq.now.size; jobs = insert jobs place job } =
-        rw c.copy_from.ensures at c.insert_at.ensures in
+    rw c.copy_from.ensures at c.insert_at.ensures in
     let long = length-insert jobs place job (omega (arith, c.len-place-end.ensures.value)) in
     let counted = rw (same, inserted, long) at c.in-Ok.ensures.counted in
     let so_far = invariant.counted in
