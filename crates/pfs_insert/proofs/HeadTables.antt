@@ -1,5 +1,5 @@
 -- Tables of rows of heads, as a loop splits and fills them.
-use Rattle.std.proofs.Common.{◌≡◌, ℕ, ◌+◌, ◌-◌, ◌*◌, ◌<◌, ◌≤◌, List, [], ◌++◌, length, take, drop, refl}
+use Rattle.std.proofs.Common.{◌≡◌, ℕ, ◌+◌, ◌-◌, ◌*◌, ◌≤◌, List, [], ◌++◌, length, take, drop, refl}
 use Rattle.std.proofs.Common.{arith}
 use Rattle.std.proofs.lemmas.List.{append-nil}
 use Rattle.pfs_base.specs.FlowShop.{FlowShop, IsWithin}

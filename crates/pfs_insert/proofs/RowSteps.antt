@@ -1,6 +1,6 @@
 -- Rows that a loop over the machines computes a value at a time, each from the row above or below it.
 use Rattle.std.proofs.Common.{◌≡◌, ◌≢◌, ℕ, zero, suc, ◌+◌, ◌-◌, ◌*◌, ◌<◌, ◌≤◌, max, List, [], ◌∷◌, length, get_or, set}
-use Rattle.std.proofs.Common.{refl, ap, sym, ◌∙◌, inl, inr, add-one, arith}
+use Rattle.std.proofs.Common.{refl, ap, ◌∙◌, inl, inr, add-one, arith}
 use Rattle.std.proofs.lemmas.Bool.{cases_lt}
 use Rattle.std.proofs.lemmas.List.{get_or-set_same, get_or-set_other}
 use Rattle.pfs_base.specs.declared.limits.TheConstants.{MOST_JOBS, MOST_MACHINES, LONGEST_TIME}

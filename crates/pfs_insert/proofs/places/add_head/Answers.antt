@@ -1,10 +1,9 @@
-use Rattle.std.proofs.Common.{◌≡◌, ◌+◌, ◌*◌, ◌≤◌, length, drop, refl, ap, ◌∙◌, arith}
+use Rattle.std.proofs.Common.{◌+◌, ◌≤◌, length, drop, refl, ◌∙◌, arith}
 use Rattle.std.proofs.lemmas.List.{length-take-le}
-use Rattle.pfs_insert.specs.Rows.{head_of, AreNumbers, KeepsHeads}
+use Rattle.pfs_insert.specs.Rows.{head_of}
 use Rattle.pfs_insert.proofs.FlatRows.{row_le}
 use Rattle.pfs_insert.proofs.HeadTables.{head_above, head_behind, heads_kept, short_heads}
 use Rattle.pfs_insert.proofs.TailRows.{head_first, head_next}
-use Rattle.pfs_insert.proofs.places.add_head.Given.{Over}
 use Rattle.pfs_insert.proofs.places.add_head.Goals.{After-at}
 use Rattle.pfs_insert.proofs.places.add_head.Goals as goal
 

@@ -1,4 +1,4 @@
-use Rattle.std.proofs.Common.{◌<◌, length, [], ◌∷◌, ◌∙◌, arith}
+use Rattle.std.proofs.Common.{◌<◌, [], ◌∷◌, ◌∙◌, arith}
 use Rattle.pfs_insert.proofs.RowSteps.{head_above, head_step, head_stored}
 use Rattle.pfs_insert.proofs.rows.fill_two_places.Goals as goal
 

@@ -1,8 +1,7 @@
-use Rattle.std.proofs.Common.{◌≡◌, ◌+◌, ◌*◌, ◌<◌, length, ap, sym, ◌∙◌, arith}
+use Rattle.std.proofs.Common.{◌≡◌, ◌+◌, ◌*◌, length, ap, sym, ◌∙◌, arith}
 use Rattle.std.proofs.Math.Nat.{mul_assoc}
 use Rattle.std.specs.List.{insert}
 use Rattle.std.proofs.lemmas.List.Edits.{length-insert}
-use Rattle.pfs_base.specs.FlowShop.{FlowShop}
 use Rattle.pfs_order.specs.Sequence.{Sequence}
 use Rattle.pfs_insert.specs.Insertion.{makespan_with}
 use Rattle.pfs_insert.proofs.FirstLeast.{best_is}
