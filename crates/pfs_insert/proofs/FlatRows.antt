@@ -1,100 +1,81 @@
 -- Rows of a flat list.
 use Rattle.std.proofs.Common.{◌≡◌, ℕ, ◌+◌, ◌-◌, ◌*◌, ◌<◌, ◌≤◌, List, ◌++◌, length, take, drop, get_or, refl, ap, sym}
-use Rattle.std.proofs.Common.{subst, ◌∙◌, arith}
-use Rattle.std.proofs.Math.Nat.{mul-le-mul_right}
-use borrow.Rule.Slice.PartMut.{put_mid, post_of}
-use Rattle.std.proofs.lemmas.List.{get_or-take, get_or-drop, get_or_append_left, get_or-append_right, length-take-le}
-use Rattle.pfs_insert.specs.Rows.{from_last, AreNumbers, AreNumbersFrom, AreBack}
+use Rattle.std.proofs.Common.{◌∙◌, arith}
+use Rattle.std.proofs.Math.Nat.{mul-le-mul_right, zero-add}
+use Rattle.std.proofs.lemmas.List.{get_or-take, get_or-drop, get_or_append_left, get_or-append_right}
+use Rattle.std.proofs.lemmas.List.{length-drop, length-take-le}
+use Rattle.pfs_insert.specs.Rows.{AreNumbers, AreNumbersFrom}
 
 -- a row so many behind another
 pub row_split : (row above more width : ℕ) → row ≡ above + more → row * width ≡ above * width + more * width
-row_split row above more width e = let f = ap (λ r. r * width) e in omega arith
+row_split row above more width is = rw is (omega arith)
 
 -- a row and those behind it
 pub row_le : (row other width : ℕ) → row ≤ other → row * width ≤ other * width
 row_le row other width le = mul-le-mul_right width le
 
--- where a row begins, by equal rows and widths
-pub begins : {row other width machines : ℕ} → row ≡ other → width ≡ machines → row * width ≡ other * machines
-begins {row} {other} {width} {machines} is wide = ap (λ r. r * width) is ∙ ap (λ w. other * w) wide
+-- a list that is split before its last row has room for a row behind that
+pub row_fits : {place total width machines all back : ℕ} → width ≡ machines → place < total → all ≡ total * machines
+    → back + place * width ≡ all → width ≤ back
+row_fits {place} {total} {width} {machines} wide inside all_is back_is =
+    let fits = row_le (place + 1) total machines (omega arith) in
+    omega (arith, rw wide at back_is)
+
+-- what lies between two rows at which a list is split
+pub row_between : (place : ℕ) {next width machines front row : ℕ} → width ≡ machines → next ≡ place + 1
+    → front ≡ next * width → row + place * width ≡ front → row ≡ machines
+row_between place {next} {width} wide later front_is row_is =
+    let split = row_split next place 1 width later in
+    omega arith
 
 module _ {X : Type 0} where
   -- what is read behind a front
-  pub get_behind : (xs ys : List X) (n at i : ℕ) (d : X) → length xs ≡ n → i ≡ n + at → get_or (xs ++ ys) i d ≡ get_or ys at d
-  get_behind xs ys n at i d long is =
-      let e : i - n ≡ at = omega arith in
-      get_or-append_right xs ys n i d long (omega arith) ∙ ap (λ k. get_or ys k d) e
+  get_behind : (front back : List X) (at i : ℕ) (d : X) → i ≡ length front + at →
+      get_or (front ++ back) i d ≡ get_or back at d
+  get_behind front back at i d is =
+      let e : i - length front ≡ at = omega arith in
+      get_or-append_right front back (length front) i d refl (omega arith) ∙ ap (λ k. get_or back k d) e
 
-  -- what is read of a part
-  get_of_part : (a k at : ℕ) (xs : List X) (d : X) → at < k → get_or (take k (drop a xs)) at d ≡ get_or xs (a + at) d
-  get_of_part a k at xs d lt = get_or-take k (drop a xs) at d lt ∙ get_or-drop a xs at d
+module _ {X : Type 0} (number : X → ℕ) (machines : ℕ) (values : ℕ → ℕ) where
+  -- a row that lies behind a front
+  pub row_behind : (front back : List X) (start at : ℕ) → start ≡ length front + at
+      → AreNumbersFrom number (front ++ back) start machines values → AreNumbersFrom number back at machines values
+  row_behind front back start at is told machine d lt =
+      ap number (sym (get_behind front back (at + machine) (start + machine) d (omega arith))) ∙ told machine d lt
 
-module _ {X : Type 0} (number : X → ℕ) (width : ℕ) (some : 1 ≤ width) (values : ℕ → ℕ) where
-  -- the same numbers from the front and from the back
-  pub numbers_back : (row : List X) → AreNumbers number row width values → AreBack number row (width - 1) (from_last (width - 1) values)
-  numbers_back row told back d le = told (width - 1 - back) d (omega arith)
+  pub put_behind : (front back : List X) (start at : ℕ) → start ≡ length front + at
+      → AreNumbersFrom number back at machines values → AreNumbersFrom number (front ++ back) start machines values
+  put_behind front back start at is told machine d lt =
+      ap number (get_behind front back (at + machine) (start + machine) d (omega arith)) ∙ told machine d lt
 
-  pub back_numbers : (row : List X) → AreBack number row (width - 1) (from_last (width - 1) values) → AreNumbers number row width values
-  back_numbers row told machine d lt =
-      let e : width - 1 - (width - 1 - machine) ≡ machine = omega arith in
-      subst (λ i. number (get_or row i d) ≡ values i) e (told (width - 1 - machine) d (omega arith))
+  -- a row at the front of a list
+  pub put_first : (row rest : List X) (start : ℕ) → start ≡ 0 → length row ≡ machines
+      → AreNumbers number row machines values → AreNumbersFrom number (row ++ rest) start machines values
+  put_first row rest start none long told machine d lt =
+      rw (none, zero-add) (ap number (get_or_append_left row rest d machine (omega arith)) ∙ told machine d lt)
 
-module _ {X : Type 0} (number : X → ℕ) (start machines : ℕ) (values : ℕ → ℕ) where
-  -- the row where a table is split
-  pub behind_told : (rows front back : List X) (k : ℕ) → rows ≡ front ++ back → length front ≡ start → machines ≤ k
-      → AreNumbersFrom number rows start machines values → AreNumbers number (take k back) machines values
-  behind_told rows front back k parts long few told machine d lt =
-      let same = get_behind front back start machine (start + machine) d long refl in
-      ap number (get_or-take k back machine d (omega arith) ∙ sym same ∙ ap (λ xs. get_or xs (start + machine) d) (sym parts)) ∙ told machine d lt
+  -- a row that lies in a front, whatever is behind that
+  pub row_in_front : (front back other : List X) (start : ℕ) → start + machines ≤ length front
+      → AreNumbersFrom number (front ++ back) start machines values
+      → AreNumbersFrom number (front ++ other) start machines values
+  row_in_front front back other start fits told machine d lt =
+      ap number (get_or_append_left front other d (start + machine) (omega arith)
+      ∙ sym (get_or_append_left front back d (start + machine) (omega arith))) ∙ told machine d lt
 
-  -- a row that lies in the front of a split table
-  pub front_told : (rows front back : List X) (k : ℕ) → rows ≡ front ++ back → start + machines ≤ length front → machines ≤ k
-      → AreNumbersFrom number rows start machines values → AreNumbers number (take k (drop start front)) machines values
-  front_told rows front back k parts fits few told machine d lt =
-      ap number (get_of_part start k machine front d (omega arith) ∙ sym (get_or_append_left front back d (start + machine) (omega arith)) ∙ ap (λ xs. get_or xs (start + machine) d) (sym parts))
-      ∙ told machine d lt
+  -- a row that is taken out of a list
+  pub row_taken : (rows : List X) (place width k : ℕ) → width ≡ machines → width ≤ k
+      → AreNumbersFrom number rows (place * machines) machines values
+      → AreNumbers number (take k (drop (place * width) rows)) machines values
+  row_taken rows place width k wide few told machine d lt =
+      rw wide (ap number (get_or-take k (drop (place * machines) rows) machine d (omega arith)
+      ∙ get_or-drop (place * machines) rows machine d) ∙ told machine d lt)
 
-  -- a row of a table
-  pub part_told : (rows : List X) (k : ℕ) → machines ≤ k → AreNumbersFrom number rows start machines values → AreNumbers number (take k (drop start rows)) machines values
-  part_told rows k few told machine d lt = ap number (get_of_part start k machine rows d (omega arith)) ∙ told machine d lt
-
-  -- a row of a part of a table
-  pub row_of_part : (rows : List X) (k at : ℕ) → at + machines ≤ k → AreNumbersFrom number rows (start + at) machines values
-      → AreNumbersFrom number (take k (drop start rows)) at machines values
-  row_of_part rows k at fits told machine d lt =
-      let same : start + (at + machine) ≡ start + at + machine = omega arith in
-      ap number (get_of_part start k (at + machine) rows d (omega arith) ∙ ap (λ i. get_or rows i d) same) ∙ told machine d lt
-
-  -- a row of a table of parts: it lies in the front, it begins what is behind the front, or it replaced a part
-  pub left_told : (front back : List X) → start + machines ≤ length front → AreNumbersFrom number front start machines values → AreNumbersFrom number (front ++ back) start machines values
-  left_told front back fits told machine d lt = ap number (get_or_append_left front back d (start + machine) (omega arith)) ∙ told machine d lt
-
-  pub right_told : (front back : List X) → length front ≡ start → AreNumbers number back machines values → AreNumbersFrom number (front ++ back) start machines values
-  right_told front back long told machine d lt = ap number (get_behind front back start machine (start + machine) d long refl) ∙ told machine d lt
-
-  pub mid_told : (k : ℕ) (rows part : List X) → start ≤ length rows → machines ≤ length part → AreNumbers number part machines values → AreNumbersFrom number (put_mid start k rows part) start machines values
-  mid_told k rows part fits wide told machine d lt =
-      ap number (get_behind (take start rows) (part ++ post_of start k rows) start machine (start + machine) d (length-take-le start rows fits) refl ∙ get_or_append_left part (post_of start k rows) d machine (omega arith))
-      ∙ told machine d lt
-
-  -- the front part of what is behind a front
-  pub begin_told : (part rest : List X) → machines ≤ length part → AreNumbers number part machines values → AreNumbers number (part ++ rest) machines values
-  begin_told part rest wide told machine d lt = ap number (get_or_append_left part rest d machine (omega arith)) ∙ told machine d lt
-
-  -- the same row elsewhere
-  pub moved : (rows : List X) (other : ℕ) → start ≡ other → AreNumbersFrom number rows start machines values → AreNumbersFrom number rows other machines values
-  moved rows other is told = subst (λ s. AreNumbersFrom number rows s machines values) is told
-
-  -- what is behind a front that was written to, or before a back
-  pub kept_behind : (rows front new back : List X) → rows ≡ front ++ back → length new ≡ length front → length front ≤ start
-      → AreNumbersFrom number rows start machines values → AreNumbersFrom number (new ++ back) start machines values
-  kept_behind rows front new back parts long behind told machine d lt =
-      let at = start - length front + machine in
-      ap number (get_behind new back (length front) at (start + machine) d long (omega arith) ∙ sym (get_behind front back (length front) at (start + machine) d refl (omega arith)) ∙ ap (λ xs. get_or xs (start + machine) d) (sym parts))
-      ∙ told machine d lt
-
-  pub kept_before : (rows front back new : List X) → rows ≡ front ++ back → start + machines ≤ length front
-      → AreNumbersFrom number rows start machines values → AreNumbersFrom number (front ++ new) start machines values
-  kept_before rows front back new parts fits told machine d lt =
-      ap number (get_or_append_left front new d (start + machine) (omega arith) ∙ sym (get_or_append_left front back d (start + machine) (omega arith)) ∙ ap (λ xs. get_or xs (start + machine) d) (sym parts))
-      ∙ told machine d lt
+-- how long it is
+pub row_long : {X : Type 0} {machines : ℕ} (rows : List X) (place width total : ℕ) → width ≡ machines → place < total
+    → length rows ≡ total * machines
+    → length (take ((place + 1) * width - place * width) (drop (place * width) rows)) ≡ machines
+row_long {X} {machines} rows place width total wide inside long =
+    let fits = row_le (place + 1) total machines (omega arith) in
+    let start = place * machines in
+    rw wide (length-take-le ((place + 1) * machines - start) (drop start rows) (omega (arith, length-drop start rows))
+    ∙ omega arith)

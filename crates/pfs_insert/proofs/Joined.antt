@@ -1,5 +1,5 @@
 -- The greatest sum of two rows whose numbers are known.
-use Rattle.std.proofs.Common.{◌≡◌, ℕ, zero, suc, ◌+◌, ◌<◌, ◌≤◌, List, [], ◌∷◌, length, map, get_or, refl, ap, ◌∙◌}
+use Rattle.std.proofs.Common.{◌≡◌, ℕ, zero, suc, ◌+◌, ◌<◌, ◌≤◌, List, [], ◌∷◌, length, map, refl, ap, ◌∙◌}
 use Rattle.std.proofs.Common.{arith}
 use Rattle.std.specs.List.{range_with_len}
 use Rattle.std.specs.Simd.Lanes.{zip2}
@@ -9,32 +9,35 @@ use Rattle.pfs_base.proofs.Published.Heaviest.{greatest-cons}
 use Rattle.pfs_insert.specs.Rows.{greatest_sum, AreNumbers}
 
 module _ {X : Type 0} (number : X → ℕ) (fronts backs : ℕ → ℕ) where
-  sums_are : (a b : List X) (from : ℕ) → length a ≡ length b → ((machine : ℕ) (d : X) → machine < length a → number (get_or a machine d) ≡ fronts (from + machine)) → ((machine : ℕ) (d : X) → machine < length a → number (get_or b machine d) ≡ backs (from + machine))
-      → zip2 (λ x y. number x + number y) a b ≡ map (λ machine. fronts machine + backs machine) (range_with_len from (length a))
+  sums_are : (a b : List X) (from : ℕ) → length a ≡ length b
+      → AreNumbers number a (length a) (λ machine. fronts (from + machine))
+      → AreNumbers number b (length a) (λ machine. backs (from + machine))
+      → zip2 (λ x y. number x + number y) a b
+      ≡ map (λ machine. fronts machine + backs machine) (range_with_len from (length a))
   sums_are [] b from same one two = refl
   sums_are (x ∷ a) [] from same one two = absurd (omega arith)
   sums_are (x ∷ a) (y ∷ b) from same one two =
       let here : from + 0 ≡ from = omega arith in
       let first : number x ≡ fronts from = one 0 x (omega arith) ∙ ap fronts here in
       let second : number y ≡ backs from = two 0 y (omega arith) ∙ ap backs here in
-      let sum : number x + number y ≡ fronts from + backs from = omega arith in
       let rest = sums_are a b (from + 1) (omega arith)
       (λ machine d lt. one (suc machine) d (omega arith) ∙ ap fronts (omega arith))
       (λ machine d lt. two (suc machine) d (omega arith) ∙ ap backs (omega arith)) in
       cc
 
-  pub join_is : (machines : ℕ) (a b : List X) → length a ≡ machines → length b ≡ machines → AreNumbers number a machines fronts → AreNumbers number b machines backs → greatest_join number a b ≡ greatest_sum machines fronts backs
+  pub join_is : (machines : ℕ) (a b : List X) → length a ≡ machines → length b ≡ machines
+      → AreNumbers number a machines fronts → AreNumbers number b machines backs
+      → greatest_join number a b ≡ greatest_sum machines fronts backs
   join_is machines a b wide wide_too one two =
-      ap greatest (sums_are a b 0 (omega arith)
+      rw (← wide) (ap greatest (sums_are a b 0 (omega arith)
       (λ machine d lt. one machine d (omega arith) ∙ ap fronts (omega arith))
-      (λ machine d lt. two machine d (omega arith) ∙ ap backs (omega arith)))
-      ∙ ap (λ n. greatest_sum n fronts backs) wide
+      (λ machine d lt. two machine d (omega arith) ∙ ap backs (omega arith))))
 
 -- it is no greater than each sum may be
-pub greatest_small : (values : ℕ → ℕ) (limit from count : ℕ) → ((place : ℕ) → place < from + count → values place ≤ limit) → greatest (map values (range_with_len from count)) ≤ limit
+pub greatest_small : (values : ℕ → ℕ) (limit from count : ℕ)
+    → ((place : ℕ) → place < from + count → values place ≤ limit)
+    → greatest (map values (range_with_len from count)) ≤ limit
 greatest_small values limit from zero small = omega arith
 greatest_small values limit from (suc count) small =
-    let first = greatest-cons (values from) (map values (range_with_len (from + 1) count)) in
-    let here = small from (omega arith) in
     let rest = greatest_small values limit (from + 1) count (λ place lt. small place (omega arith)) in
-    omega arith
+    omega (arith, greatest-cons (values from) (map values (range_with_len (from + 1) count)), small from (omega arith))

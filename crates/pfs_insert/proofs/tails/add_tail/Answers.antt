@@ -1,68 +1,61 @@
-use Rattle.std.proofs.Common.{◌≡◌, ◌+◌, ◌-◌, ◌*◌, ◌<◌, ◌≤◌, length, take, drop, refl, ap, subst, ◌∙◌, ⊎_elim, arith}
-use Rattle.std.proofs.lemmas.Bool.{cases_lt}
-use Rattle.std.proofs.lemmas.List.{length-take-le, length-drop}
-use borrow.Rule.Slice.PartMut.{same_len_mid}
-use Rattle.pfs_insert.specs.Exchange.{heaviest_back}
-use Rattle.pfs_insert.specs.Rows.{AreNumbers}
-use Rattle.pfs_insert.proofs.FlatRows.{row_split, row_le, begins, numbers_back, behind_told, mid_told, left_told, moved}
-use Rattle.pfs_insert.proofs.FlatRows.{kept_behind}
-use Rattle.pfs_insert.proofs.TailRows.{tails_short, tails_at, tail_next, row_told}
+use Rattle.std.proofs.Common.{◌≡◌, ◌+◌, ◌-◌, ◌*◌, ◌<◌, ◌≤◌, [], length, take, drop, refl, ◌∙◌, arith}
+use Rattle.std.proofs.lemmas.List.{length-take-le, length-drop, drop_all, append-nil, append_assoc}
+use borrow.Rule.Slice.PartMut.{post_of}
+use Rattle.pfs_insert.proofs.FlatRows.{row_le, row_fits, row_between}
+use Rattle.pfs_insert.proofs.TailRows.{tail_first, tail_next}
+use Rattle.pfs_insert.proofs.TailTables.{HoldsTails, TailsOn, tails_behind, tails_joined, tails_more}
+use Rattle.pfs_insert.proofs.TailTables.{first_tails, row_back, row_told, short_tails}
 use Rattle.pfs_insert.proofs.tails.add_tail.Given.{Over}
 use Rattle.pfs_insert.proofs.tails.add_tail.Goals.{After-at}
 use Rattle.pfs_insert.proofs.tails.add_tail.Goals as goal
 
--- the rows that the table is split at
+-- where the table is split
 record Split (g : Over) (c : After-at g) : Type 0 where
-  starts : c.size.result - c.len.result + c.args.place ≡ (c.size.result - c.len.result + c.args.place - 1) + 1
-  row_is : c.size.result - c.len.result + c.args.place - 1 ≡ (g.B.Bench.shop c.args.bench.now).jobs - 1 - length c.args.seq.now.jobs + c.args.place
-  below_is : c.size.result - c.len.result + c.args.place ≡ (g.B.Bench.shop c.args.bench.now).jobs - 1 - length c.args.seq.now.jobs + (c.args.place + 1)
-  front_long : length c.split_at_mut-front.result.0.now ≡ (c.size.result - c.len.result + c.args.place - 1) * c.machines-machines.result + c.machines-machines.result
+  below_is : c.size.result - c.len.result + c.args.place
+      ≡ (g.B.Bench.shop c.args.bench.now).jobs - 1 - length c.args.seq.now.jobs + (c.args.place + 1)
   back_long : c.machines-machines.result ≤ length c.split_at_mut-front.result.1.now
+  tails : TailsOn g.B.Span.Length.number (g.B.Bench.shop c.args.bench.now) c.args.seq.now.jobs
+      c.split_at_mut-front.result.1.now (c.args.place + 1)
 
 split_is : (g : Over) (c : After-at g) → Split g c
 split_is g c =
     let shop = g.B.Bench.shop c.args.bench.now in
-    let width = c.machines-machines.result in
     let below = c.size.result - c.len.result + c.args.place in
-    let size = c.size.ensures.value in
-    let sizes = c.requires.partial.size in
-    let every = c.len.ensures.value in
+    let wide = c.machines-machines.ensures in
+    let split = c.split_at_mut-front.ensures in
     let few = c.requires.partial.few in
-    let inside = c.requires.place in
-    let all = c.requires.rows in
-    let wide = ap (λ w. shop.jobs * w) c.machines-machines.ensures in
-    let split = row_split below (below - 1) 1 width (omega arith) in
-    let fits = row_le (below + 1) shop.jobs width (omega arith) in
-    let next = row_split (below + 1) below 1 width refl in
-    let front = c.split_at_mut-front.ensures.front_len in
-    let back = c.split_at_mut-front.ensures.back_len in
-    record { starts = omega arith; row_is = omega arith; below_is = omega arith; front_long = omega arith; back_long = omega arith }
+    let below_is : below ≡ shop.jobs - 1 - length c.args.seq.now.jobs + (c.args.place + 1) =
+    omega (arith, c.size.ensures.value, c.len.ensures.value, c.requires.partial.size) in
+    let inside : below < shop.jobs = omega (arith, c.requires.place) in
+    record {
+      below_is = below_is;
+      back_long = row_fits wide inside c.requires.rows split.back_len;
+      tails = tails_behind _ shop _ _ _ _ (c.args.place + 1) split.value (rw (below_is, wide) at split.front_len)
+          c.requires.tails;
+    }
 
 pub slice_bounds-fill_tail-end : goal.slice_bounds-fill_tail-end
 slice_bounds-fill_tail-end g c = (split_is g c).back_long
 
 pub fill_tail-requires-clause-below_width : goal.fill_tail-requires-clause-below_width
 fill_tail-requires-clause-below_width g c =
-    length-take-le c.machines-machines.result c.split_at_mut-front.result.1.now (split_is g (goal.at.fill_tail-requires-clause-below_width g c).After-at).back_long ∙ c.machines-machines.ensures
+    let is = split_is g (goal.at.fill_tail-requires-clause-below_width g c).After-at in
+    length-take-le _ _ is.back_long ∙ c.machines-machines.ensures
 
 -- the row below
-below_told : (g : Over) (c : After-at g) → AreNumbers g.B.Span.Length.number (take c.machines-machines.result c.split_at_mut-front.result.1.now) (g.B.Bench.shop c.args.bench.now).machines
-    (heaviest_back (g.B.Bench.shop c.args.bench.now) c.args.seq.now.jobs (c.args.place + 1))
+below_told : (g : Over) (c : After-at g) →
+    HoldsTails g.B.Span.Length.number (g.B.Bench.shop c.args.bench.now) c.args.seq.now.jobs
+    (take c.machines-machines.result c.split_at_mut-front.result.1.now) (c.args.place + 1)
 below_told g c =
-    let shop = g.B.Bench.shop c.args.bench.now in
-    let jobs = c.args.seq.now.jobs in
-    let is = split_is g c in
-    let split = c.split_at_mut-front.ensures in
-    behind_told g.B.Span.Length.number ((shop.jobs - 1 - length jobs + (c.args.place + 1)) * shop.machines) shop.machines (heaviest_back shop jobs (c.args.place + 1))
-    c.args.rows.now c.split_at_mut-front.result.0.now c.split_at_mut-front.result.1.now c.machines-machines.result split.value (split.front_len ∙ begins is.below_is c.machines-machines.ensures) (omega (arith, c.machines-machines.ensures))
-    (c.requires.tails.rows_are (c.args.place + 1) (omega arith) (omega (arith, c.requires.place)))
+    first_tails _ (g.B.Bench.shop c.args.bench.now) c.args.seq.now.jobs _ (c.args.place + 1) c.machines-machines.result
+    (omega (arith, c.machines-machines.ensures)) (omega (arith, c.requires.place)) (split_is g c).tails
 
 pub fill_tail-requires-clause-below_short : goal.fill_tail-requires-clause-below_short
-fill_tail-requires-clause-below_short g c = λ machine d lt.
+fill_tail-requires-clause-below_short g c =
     let shop = g.B.Bench.shop c.args.bench.now in
-    let told = below_told g (goal.at.fill_tail-requires-clause-below_short g c).After-at machine d lt in
-    let short = tails_short shop (g.met.B.Bench.within c.args.bench.now) c.args.seq.now.jobs (omega (arith, c.requires.partial.few)) (c.args.place + 1) machine in
-    omega arith
+    short_tails g.B.Span.Length.number shop c.args.seq.now.jobs (g.met.B.Bench.within c.args.bench.now)
+    (omega (arith, c.requires.partial.few)) (c.args.place + 1) _
+    (below_told g (goal.at.fill_tail-requires-clause-below_short g c).After-at)
 
 pub returns-clause-tails : goal.returns-clause-tails
 returns-clause-tails g c =
@@ -72,34 +65,25 @@ returns-clause-tails g c =
     let place = c.args.place in
     let here = (goal.at.returns-clause-tails g c).After-at in
     let is = split_is g here in
-    let split = c.split_at_mut-front.ensures in
-    let front = c.split_at_mut-front.result.0.now in
-    let back = c.split_at_mut-front.result.1.now in
-    let width = c.machines-machines.result in
+    let below = c.size.result - c.len.result + place in
     let wide = c.machines-machines.ensures in
-    let some = (g.met.B.Bench.within c.args.bench.now).sizes.some_machine in
-    let row = c.size.result - c.len.result + place - 1 in
-    let a = row * width in
+    let front = c.split_at_mut-front.result.0.now in
     let new = c.fill_tail.new.row in
-    let k = length front - a in
-    let front_long = is.front_long in
-    let new_long : length new ≡ width = c.fill_tail.auto.row ∙ length-take-le k (drop a front) (omega (arith, length-drop a front)) ∙ omega arith in
-    let same = same_len_mid a k front new c.fill_tail.auto.row in
-    let values = tails_at number shop jobs some (place + 1) in
-    let one = row_told number shop jobs some place _ new (tail_next number shop jobs some place c.at.result values c.requires.place c.at.ensures.value (λ b le. refl))
-    (c.fill_tail.ensures.row values (numbers_back number shop.machines some (heaviest_back shop jobs (place + 1)) (take width back) (below_told g here))) in
-    record {
-      rows_are = λ at low high.
-          let start = (shop.jobs - 1 - length jobs + at) * shop.machines in
-          ⊎_elim
-          (λ (lt : at < place + 1).
-          let e : place ≡ at = omega arith in
-          let begin : a ≡ (shop.jobs - 1 - length jobs + at) * shop.machines = begins (is.row_is ∙ ap (λ p. shop.jobs - 1 - length jobs + p) e) wide in
-          moved number a shop.machines _ _ start begin
-          (left_told number a shop.machines _ _ back (omega arith) (mid_told number a shop.machines _ k front new (omega arith) (omega arith) (subst (λ p. AreNumbers number new shop.machines (heaviest_back shop jobs p)) e one))))
-          (λ (ge : place + 1 ≤ at).
-          let later = row_le (shop.jobs - 1 - length jobs + (place + 1)) (shop.jobs - 1 - length jobs + at) shop.machines (omega arith) in
-          let long = split.front_len ∙ begins is.below_is wide in
-          kept_behind number start shop.machines _ c.args.rows.now front _ back split.value same (omega arith) (c.requires.tails.rows_are at ge high))
-          (cases_lt at (place + 1));
-    }
+    let start = (below - 1) * c.machines-machines.result in
+    let k = length front - start in
+    let below_is = is.below_is in
+    let front_long = c.split_at_mut-front.ensures.front_len in
+    let top : below - 1 ≡ shop.jobs - 1 - length jobs + place = omega arith in
+    let fits = row_le (below - 1) below c.machines-machines.result (omega arith) in
+    let above_long = length-take-le start front (omega arith) in
+    let under = length-drop start front in
+    let new_long = c.fill_tail.auto.row ∙ length-take-le k (drop start front) (omega arith) in
+    let width : length new ≡ shop.machines =
+    row_between (below - 1) wide (omega arith) front_long (omega (arith, new_long)) in
+    let rest : post_of start k front ≡ [] = drop_all k (drop start front) (omega arith) in
+    let one = tail_next (tail_first shop jobs (place + 1)) refl c.requires.place c.at.ensures.value in
+    let some = (g.met.B.Bench.within c.args.bench.now).sizes.some_machine in
+    let told = row_told number shop jobs new place _ one
+    (c.fill_tail.ensures.row _ (row_back number shop jobs _ (place + 1) some (below_told g here))) in
+    rw (rest, append-nil, append_assoc) (tails_joined number shop jobs (take start front) _ place
+    (above_long ∙ rw (top, wide) refl) (tails_more number shop jobs new _ place (place + 1) refl width told is.tails))

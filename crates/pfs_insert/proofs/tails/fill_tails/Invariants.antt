@@ -16,6 +16,7 @@ invariant-loop-place g l =
     let shop = g.B.Bench.shop l.fn.bench in
     record {
       same_shop : g.B.Bench.shop l.bench ≡ shop;
-      counted : g.B.Bench.counted l.bench ≡ g.B.Bench.counted l.fn.bench + (length l.seq.jobs - l.place) * shop.machines;
+      counted : g.B.Bench.counted l.bench
+          ≡ g.B.Bench.counted l.fn.bench + (length l.seq.jobs - l.place) * shop.machines;
       tails : HasTails g.B.Span.Length.number shop l.seq.jobs l.rows l.place;
     }

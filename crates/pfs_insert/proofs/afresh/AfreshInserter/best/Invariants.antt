@@ -10,6 +10,7 @@ invariant-loop-place g l =
       same_shop : g.B.Bench.shop l.bench ≡ shop;
       own_jobs : l.self.seq.size ≡ l.fn.self.seq.size;
       own_machines : l.self.machines ≡ l.fn.self.machines;
-      counted : g.B.Bench.counted l.bench ≡ g.B.Bench.counted l.fn.bench + l.place * ((length l.seq.jobs + 1) * shop.machines);
+      counted : g.B.Bench.counted l.bench
+          ≡ g.B.Bench.counted l.fn.bench + l.place * ((length l.seq.jobs + 1) * shop.machines);
       best : 0 < l.place → IsBest g.B.Span.Length.number value l.place l.best.place l.best.span;
     }
