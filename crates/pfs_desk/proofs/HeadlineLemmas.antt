@@ -14,7 +14,8 @@ use Rattle.pfs_desk.specs.declared.fault.DeskFault.{DeskFault}
 use Rattle.pfs_desk.specs.declared.fault.DeskFault.TheVariants as faults
 use Rattle.pfs_desk.specs.declared.fault.Outcome.{Outcome}
 use Rattle.pfs_desk.specs.declared.solve_options.SolveOptions.{SolveOptions}
-use Rattle.pfs_desk.specs.Engine.{JudgesFirst, JudgesTake, ReadsBlock, RefusesNoOrder, Writes, WritesNothing, SolveOutput}
+use Rattle.pfs_desk.specs.Engine.{JudgesFirst, JudgesTake, ReadsBlock, RefusesNoOrder, Writes, WritesNothing}
+use Rattle.pfs_desk.specs.Engine.{SolveOutput}
 use Rattle.pfs_desk.specs.Headline.{PrintsSolution, ReadsOn, RunsOn, Solves}
 use Rattle.pfs_desk.specs.Solve.{take_for}
 

@@ -1,7 +1,8 @@
 use Rattle.std.proofs.Common.{◌≡◌, List, ℕ, sym, ◌∙◌, subst, arith, rules}
 use Rattle.pfs_base.specs.Sends.{Sends, SendsAll, SendsFront}
 use Rattle.pfs_base.proofs.Published.SendsLemmas.{then_all, then_front, then_sends}
-use Rattle.pfs_desk.proofs.TableLemmas.{sizes_line_of, sizes_front, table_to-zero, table_to-more, table_front, table_end}
+use Rattle.pfs_desk.proofs.TableLemmas.{sizes_line_of, sizes_front, table_to-zero, table_to-more, table_front}
+use Rattle.pfs_desk.proofs.TableLemmas.{table_end}
 use Rattle.pfs_desk.proofs.engines.table.put_table.Goals as goal
 
 pub returns-in_err-sent : goal.returns-in_err-sent
