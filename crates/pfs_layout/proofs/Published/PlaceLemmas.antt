@@ -101,8 +101,3 @@ pub not_refused : (layout : Layout) (k : ℕ) (input : List ℕ)
 unfolding refusal
 not_refused layout k input none =
     none_first (fault_at layout k input) (length input + 1) (λ q h. none q (omega arith))
-
-pub no_byte_fault : (layout : Layout) (k : ℕ) (text : List ℕ)
-    → ((place : ℕ) → place < length text → fault_at layout k text place ≡ None) → byte_fault layout k text ≡ None
-unfolding byte_fault
-no_byte_fault layout k text none = none_first (fault_at layout k text) (length text) none

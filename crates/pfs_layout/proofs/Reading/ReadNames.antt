@@ -1,5 +1,5 @@
 -- Which faults a read block can have.
-use Rattle.std.proofs.Common.{◌≡◌, ◌≢◌, ℕ, Bool, true, false, List, [], ◌++◌, Option, Some, sym, ◌∙◌, ap}
+use Rattle.std.proofs.Common.{◌≡◌, ◌≢◌, ℕ, Bool, true, false, List, [], ◌++◌, sym, ◌∙◌, ap}
 use Rattle.std.specs.Prelude.{Result, Err, ◌↔◌}
 use Rattle.std.proofs.lemmas.Bool.{both_ways}
 use Rattle.pfs_base.specs.Problem.{Problem}
@@ -12,9 +12,6 @@ use Rattle.pfs_layout.proofs.Files.EndLemmas.{byte_fault_refuses}
 -- equal answers have the same error
 pub same_error : {T : Type 0} {a b : LayoutFault} → ◌≡◌ {A = Result T LayoutFault} (Err a) (Err b) → a ≡ b
 same_error z = cc
-
-pub same_some : {a b : LayoutFault} → ◌≡◌ {A = Option LayoutFault} (Some a) (Some b) → a ≡ b
-same_some z = cc
 
 -- the end of an input has no fault but those of inputs
 pub finish_named : {r : Fields} {text : List ℕ} {outcome : Result Problem LayoutFault} → FinishMeets r text outcome
