@@ -119,6 +119,7 @@ pub solves : (file left : Option (List ℕ)) (layout : Layout) (block : ℕ) (op
     → IfErr result (JudgesTake layout file block options.take)
     → IfSome file (λ bytes. Solves layout bytes block options old new reader_failed writer_failed result)
 solves None left layout block options old new reader_failed writer_failed result some writes reads no_order take = tt
-solves (Some file) left layout block options old new reader_failed writer_failed result some writes reads no_order take =
+solves (Some file) left layout block options old new reader_failed writer_failed result
+    some writes reads no_order take =
     answers layout file block some options old new reader_failed writer_failed result
     writes reads.refused reads.read.0 no_order take

@@ -36,8 +36,7 @@ fn convert_leads_both_ways(rt: HostRuntime) {
 #[test]
 fn convert_spells_a_file_anew(rt: HostRuntime) {
     let file = b"jobs 5x :\r\n03 2 7 11\t10\r\n 3 2\r\n4\r\nmachine :\r\n2 5 1";
-    let text =
-        b"number of jobs, number of machines, initial seed, upper bound and lower bound :\n\
+    let text = b"number of jobs, number of machines, initial seed, upper bound and lower bound :\n\
           3 2 7 11 10\nprocessing times :\n3 2 4\n2 5 1\n";
     let layout = Layout::Taillard;
     let done = Ok(Outcome::Done);

@@ -12,10 +12,17 @@ round-requires-clause-room g c =
     let same = c.makespan.ensures.shop ∙ c.metered-bench.ensures.shop in
     let jobs = ap (λ (s : FlowShop). s.jobs) same in
     let machines = ap (λ (s : FlowShop). s.machines) same in
-    let more = small_round_of_passes after.jobs after.machines (length c.args.words.now) c.args.passes (omega (arith, c.requires.jobs)) (omega (arith, c.requires.machines))
+    let more = small_round_of_passes after.jobs after.machines (length c.args.words.now) c.args.passes
+    (omega (arith, c.requires.jobs)) (omega (arith, c.requires.machines))
     (omega arith) c.requires.passes in
     let all : length c.seq.result.now.jobs ≤ 3 =
-    omega (arith, ap (λ (s : Sequence). length s.jobs) c.seq.ensures.value, c.in_ok-order.ensures.len, c.jobs-jobs.ensures.value, c.requires.jobs) in
+    omega (
+      arith,
+      ap (λ (s : Sequence). length s.jobs) c.seq.ensures.value,
+      c.in_ok-order.ensures.len,
+      c.jobs-jobs.ensures.value,
+      c.requires.jobs,
+    ) in
     let old_machines = ap (λ (s : FlowShop). s.machines) c.metered-bench.ensures.shop in
     let narrow : bench.machines ≤ 3 = omega (arith, c.requires.machines) in
     let first = mul-le-mul all narrow in

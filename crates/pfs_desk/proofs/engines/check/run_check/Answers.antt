@@ -11,7 +11,8 @@ returns-in_err-put_verdict-clause-written g c =
     let new = g.W.Sink.written c.put_verdict.new.writer in
     let failed = g.W.Sink.has_failed c.put_verdict.new.writer in
     let verdict = c.in_ok-verdict.verdict in
-    let front : WritesFront (CheckOutput c.args.layout file c.args.block order_file) old new failed c.in_err-put_verdict.field-0.0.written =
+    let front : WritesFront (CheckOutput c.args.layout file c.args.block order_file) old new failed
+    c.in_err-put_verdict.field-0.0.written =
     record {
       outcome = outcome_of verdict;
       text = verdict_text verdict;

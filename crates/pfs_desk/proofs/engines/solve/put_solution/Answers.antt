@@ -6,12 +6,14 @@ use Rattle.pfs_desk.proofs.engines.solve.put_solution.Goals as goal
 
 pub returns-in_err-sent : goal.returns-in_err-sent
 returns-in_err-sent g c =
-    let front = solution_front c.args.solution.now.order c.args.machines c.args.solution.now.makespan c.args.with_cells c.args.solution.now.cells c.in_err-sent.ensures in
+    let front = solution_front c.args.solution.now.order c.args.machines c.args.solution.now.makespan c.args.with_cells
+    c.args.solution.now.cells c.in_err-sent.ensures in
     search rules
 
 pub put_named-requires-clause-fits : goal.put_named-requires-clause-fits
 put_named-requires-clause-fits g c =
-    let short = file_short c.args.solution.now.order c.args.machines c.args.solution.now.makespan c.len-jobs.ensures.accepted c.len-jobs.ensures.sequence c.requires.some c.requires.few c.requires.stated in
+    let short = file_short c.args.solution.now.order c.args.machines c.args.solution.now.makespan
+    c.len-jobs.ensures.accepted c.len-jobs.ensures.sequence c.requires.some c.requires.few c.requires.stated in
     omega (arith, short, c.in_ok-sent.ensures.counted)
 
 pub returns-then-with_cells : goal.returns-then-with_cells
@@ -20,7 +22,8 @@ returns-then-with_cells g c =
     let new = g.W.Sink.written c.put_named.new.writer in
     let failed = g.W.Sink.has_failed c.put_named.new.writer in
     let Printed : List ℕ → Type 0 = λ text. Sends old new failed 0 text c.put_named.result in
-    subst Printed (sym (solution_counted c.args.solution.now.order c.args.machines c.args.solution.now.makespan c.args.with_cells c.args.solution.now.cells c.if-with_cells.true))
+    subst Printed (sym (solution_counted c.args.solution.now.order c.args.machines c.args.solution.now.makespan
+    c.args.with_cells c.args.solution.now.cells c.if-with_cells.true))
     (then_sends _ _ _ c.put_named.result c.in_ok-sent.ensures c.put_named.ensures.text)
 
 pub returns-else-with_cells : goal.returns-else-with_cells
@@ -29,4 +32,5 @@ returns-else-with_cells g c =
     let new = g.W.Sink.written c.write_order.new.writer in
     let failed = g.W.Sink.has_failed c.write_order.new.writer in
     let Printed : List ℕ → Type 0 = λ text. SendsAll old new failed 0 text c.in_ok-sent.sent in
-    subst Printed (sym (solution_alone c.args.solution.now.order c.args.machines c.args.solution.now.makespan c.args.with_cells c.args.solution.now.cells c.if-with_cells.false)) c.in_ok-sent.ensures
+    subst Printed (sym (solution_alone c.args.solution.now.order c.args.machines c.args.solution.now.makespan
+    c.args.with_cells c.args.solution.now.cells c.if-with_cells.false)) c.in_ok-sent.ensures

@@ -19,7 +19,8 @@ rounds-requires-clause-room g c =
     omega (
       arith,
       neh_room shop (g.met.B.Bench.within c.args.bench.now),
-      rounds_room then_shop c.args.rounds c.args.take c.args.passes (g.met.B.Bench.within c.neh.new.bench) few c.requires.rounds c.requires.passes,
+      rounds_room then_shop c.args.rounds c.args.take c.args.passes
+          (g.met.B.Bench.within c.neh.new.bench) few c.requires.rounds c.requires.passes,
       c.requires.fresh,
       c.in_ok-neh.ensures.cells.counted,
     )
@@ -37,9 +38,15 @@ returns-clause-found g c =
     let cells = counted c.rounds.new.bench in
     let stream = stream_of (steps_u32 pcg32) c.seed_from_u64-rng.result in
     let neh_done : NehDone shop neh.order neh_span neh_cells =
-    record { is_order = c.in_ok-neh.ensures.order; is_span = c.in_ok-neh.ensures.span; counted = omega (arith, c.requires.fresh, c.in_ok-neh.ensures.cells.counted) } in
-    let rounds_done : RoundsDone shop c.args.rounds c.args.take c.args.passes stream neh.order neh_span neh_cells kept.order span cells =
-    subst (λ s. RoundsDone s c.args.rounds c.args.take c.args.passes stream neh.order neh_span neh_cells kept.order span cells) c.in_ok-neh.ensures.shop
+    record {
+      is_order = c.in_ok-neh.ensures.order;
+      is_span = c.in_ok-neh.ensures.span;
+      counted = omega (arith, c.requires.fresh, c.in_ok-neh.ensures.cells.counted);
+    } in
+    let rounds_done : RoundsDone shop c.args.rounds c.args.take c.args.passes stream neh.order neh_span neh_cells
+    kept.order span cells =
+    subst (λ s. RoundsDone s c.args.rounds c.args.take c.args.passes stream neh.order neh_span neh_cells
+    kept.order span cells) c.in_ok-neh.ensures.shop
     (record {
       is_order = c.in_ok-rounds.ensures.order;
       is_span = c.in_ok-rounds.ensures.span;
@@ -47,13 +54,20 @@ returns-clause-found g c =
       counted = c.in_ok-rounds.ensures.cells.counted;
     }) in
     let all : length kept.order ≡ shop.jobs =
-    c.in_ok-rounds.ensures.still_fit.order_jobs ∙ ap (λ (s : FlowShop). s.jobs) (c.in_ok-rounds.ensures.shop ∙ c.in_ok-neh.ensures.shop) in
+    c.in_ok-rounds.ensures.still_fit.order_jobs
+    ∙ ap (λ (s : FlowShop). s.jobs) (c.in_ok-rounds.ensures.shop ∙ c.in_ok-neh.ensures.shop) in
     let distinct = subst (λ n. IsSequence n kept.order) all c.len-jobs.ensures.sequence in
-    found_is shop c.args.rounds c.args.take c.args.passes c.args.seed c.seed_from_u64-rng.result neh.order neh_span neh_cells kept.order span cells c.requires.few
+    found_is shop c.args.rounds c.args.take c.args.passes c.args.seed c.seed_from_u64-rng.result neh.order neh_span
+    neh_cells kept.order span cells c.requires.few
     c.seed_from_u64-rng.ensures neh_done rounds_done all distinct
 
 pub returns-clause-short : goal.returns-clause-short
 returns-clause-short g c =
     let found = returns-clause-found g c in
     let shop = g.B.Bench.shop c.args.bench.now in
-    omega (arith, makespan_short shop c.rounds.new.kept.order (g.met.B.Bench.within c.args.bench.now) found.all, found.spanned)
+    omega (
+      arith,
+      makespan_short shop c.rounds.new.kept.order
+          (g.met.B.Bench.within c.args.bench.now) found.all,
+      found.spanned,
+    )

@@ -5,6 +5,7 @@ use Rattle.pfs_desk.proofs.engines.table.put_row.Given as goal
 
 abbrev pub invariant-loop-machine : goal.invariant-loop-machine
 invariant-loop-machine g l = record {
-  sends : SendsAll (g.W.Sink.written l.fn.writer) (g.W.Sink.written l.writer) (g.W.Sink.has_failed l.writer) l.fn.start (row_to l.table l.row l.machine) l.sent;
+  sends : SendsAll (g.W.Sink.written l.fn.writer) (g.W.Sink.written l.writer) (g.W.Sink.has_failed l.writer) l.fn.start
+      (row_to l.table l.row l.machine) l.sent;
   short : l.sent ≤ l.fn.start + 40 + 82 * l.machine;
 }

@@ -4,7 +4,8 @@ use Rattle.pfs_desk.proofs.engines.table.put_sizes.Goals as goal
 
 pub returns-in_err-sent-2-clause-text : goal.returns-in_err-sent-2-clause-text
 returns-in_err-sent-2-clause-text g c =
-    let sizes = front_of (32 ∷ decimal c.args.machines) (then_front c.in_ok-sent.ensures c.in_err-sent-2.ensures.text) in
+    let sizes = front_of (32 ∷ decimal c.args.machines)
+    (then_front c.in_ok-sent.ensures c.in_err-sent-2.ensures.text) in
     let front = front_of (10 ∷ []) (rw append_assoc at sizes) in
     search rules
 

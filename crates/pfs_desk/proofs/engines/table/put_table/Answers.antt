@@ -11,7 +11,8 @@ returns-in_err-sent g c =
     let new = g.W.Sink.written c.put_sizes.new.writer in
     let failed = g.W.Sink.has_failed c.put_sizes.new.writer in
     let Front : List ℕ → Type 0 = λ text. SendsFront old new failed 0 text c.in_err-sent.field-0.0.written in
-    let line = sizes_line_of c.args.table.now c.rows.result c.machines.result c.rows.ensures.value c.machines.ensures.value in
+    let line = sizes_line_of c.args.table.now c.rows.result c.machines.result c.rows.ensures.value
+    c.machines.ensures.value in
     let front = sizes_front c.args.table.now (subst Front line c.in_err-sent.ensures.text) in
     search rules
 
@@ -21,7 +22,8 @@ loop-row-init g c =
     let new = g.W.Sink.written c.put_sizes.new.writer in
     let failed = g.W.Sink.has_failed c.put_sizes.new.writer in
     let Printed : List ℕ → Type 0 = λ text. SendsAll old new failed 0 text c.in_ok-sent.sent in
-    let line = sizes_line_of c.args.table.now c.rows.result c.machines.result c.rows.ensures.value c.machines.ensures.value in
+    let line = sizes_line_of c.args.table.now c.rows.result c.machines.result c.rows.ensures.value
+    c.machines.ensures.value in
     record {
       sends = subst Printed (line ∙ sym (table_to-zero c.args.table.now)) c.in_ok-sent.ensures.text;
       short = omega (arith, c.in_ok-sent.ensures.short);
@@ -29,7 +31,8 @@ loop-row-init g c =
 
 pub returns-in_err-sent-2 : goal.returns-in_err-sent-2
 returns-in_err-sent-2 g c =
-    let front = table_front c.args.table.now c.loop-row.row (omega (arith, c.loop-row-test.true, c.rows-row-end.ensures.value))
+    let front = table_front c.args.table.now c.loop-row.row
+    (omega (arith, c.loop-row-test.true, c.rows-row-end.ensures.value))
     (then_front c.loop-row.invariant.sends c.in_err-sent-2.ensures.text) in
     search rules
 
@@ -40,7 +43,8 @@ loop-row-preserved g c =
     let failed = g.W.Sink.has_failed c.put_row.new.writer in
     let Printed : List ℕ → Type 0 = λ text. SendsAll old new failed 0 text c.in_ok-sent-2.sent in
     record {
-      sends = subst Printed (sym (table_to-more c.args.table.now c.loop-row.row)) (then_all c.loop-row.invariant.sends c.in_ok-sent-2.ensures.text);
+      sends = subst Printed (sym (table_to-more c.args.table.now c.loop-row.row))
+          (then_all c.loop-row.invariant.sends c.in_ok-sent-2.ensures.text);
       short = omega (arith, c.in_ok-sent-2.ensures.short, c.loop-row.invariant.short);
     }
 
@@ -51,5 +55,6 @@ returns g c =
     let failed = g.W.Sink.has_failed c.put_named.new.writer in
     let Printed : List ℕ → Type 0 = λ text. Sends old new failed 0 text c.put_named.result in
     let all : c.loop-row.row ≡ c.rows-row-end.result = omega (arith, c.loop-row-test.false, c.loop-row.auto.row-end) in
-    subst Printed (sym (table_end c.args.table.now c.loop-row.row c.makespan.result (all ∙ c.rows-row-end.ensures.value) c.makespan.ensures))
+    subst Printed (sym (table_end c.args.table.now c.loop-row.row c.makespan.result
+    (all ∙ c.rows-row-end.ensures.value) c.makespan.ensures))
     (then_sends _ _ _ c.put_named.result c.loop-row.invariant.sends c.put_named.ensures.text)

@@ -16,7 +16,8 @@ returns-in_err-put_verdict-clause-written g c =
     let failed = g.W.Sink.has_failed c.put_verdict.new.writer in
     let size = c.len-size.result in
     let jobs = c.jobs-jobs.result in
-    let front : WritesFront (TableOutput c.args.layout file c.args.block order_file) old new failed c.in_err-put_verdict.field-0.0.written =
+    let front : WritesFront (TableOutput c.args.layout file c.args.block order_file) old new failed
+    c.in_err-put_verdict.field-0.0.written =
     record {
       outcome = CheckFailed;
       text = wrong_size_text size jobs;
@@ -26,7 +27,8 @@ returns-in_err-put_verdict-clause-written g c =
         holds = c.in_ok-instance.ensures.file;
         states = c.in_ok-file.ensures.accepted;
         prints = wrong_size_prints c.in_ok-instance.instance.shop c.in_ok-file.file size jobs
-            (c.len-size.ensures.value ∙ ap length c.order-order.ensures.value) c.jobs-jobs.ensures.value c.if-size-jobs.true;
+            (c.len-size.ensures.value ∙ ap length c.order-order.ensures.value) c.jobs-jobs.ensures.value
+            c.if-size-jobs.true;
       };
       front = c.in_err-put_verdict.ensures;
     }
@@ -43,8 +45,10 @@ returns-in_err-put_verdict-2-clause-written g c =
     let stated = c.in-Some.order in
     let machines = c.machines-machines.result in
     let size : length c.in_ok-file.file.order ≡ c.in_ok-instance.instance.shop.jobs =
-    ap length (sym c.order-order.ensures.value) ∙ sym c.len-size.ensures.value ∙ c.if-size-jobs.false ∙ c.jobs-jobs.ensures.value in
-    let front : WritesFront (TableOutput c.args.layout file c.args.block order_file) old new failed c.in_err-put_verdict-2.field-0.0.written =
+    ap length (sym c.order-order.ensures.value) ∙ sym c.len-size.ensures.value ∙ c.if-size-jobs.false
+    ∙ c.jobs-jobs.ensures.value in
+    let front : WritesFront (TableOutput c.args.layout file c.args.block order_file) old new failed
+    c.in_err-put_verdict-2.field-0.0.written =
     record {
       outcome = CheckFailed;
       text = wrong_machines_text stated machines;
@@ -80,7 +84,8 @@ returns-in_err-put_table-clause-written g c =
       makespan = c.in_ok-table.ensures.makespan;
     }
     in
-    let front : WritesFront (TableOutput c.args.layout file c.args.block order_file) old new failed c.in_err-put_table.field-0.0.written =
+    let front : WritesFront (TableOutput c.args.layout file c.args.block order_file) old new failed
+    c.in_err-put_table.field-0.0.written =
     record {
       outcome = Done;
       text = table_text timing;
@@ -89,7 +94,8 @@ returns-in_err-put_table-clause-written g c =
         stated = stated;
         holds = c.in_ok-instance.ensures.file;
         states = c.in_ok-file.ensures.accepted;
-        prints = fitting_prints shop stated timing fits (least_of shop c.order-order.result.now stated.order timing c.order-order.ensures.value least);
+        prints = fitting_prints shop stated timing fits
+            (least_of shop c.order-order.result.now stated.order timing c.order-order.ensures.value least);
       };
       front = c.in_err-put_table.ensures;
     }
@@ -117,7 +123,8 @@ returns-2-clause-written g c =
         stated = stated;
         holds = c.in_ok-instance.ensures.file;
         states = c.in_ok-file.ensures.accepted;
-        prints = fitting_prints shop stated timing fits (least_of shop c.order-order.result.now stated.order timing c.order-order.ensures.value least);
+        prints = fitting_prints shop stated timing fits
+            (least_of shop c.order-order.result.now stated.order timing c.order-order.ensures.value least);
       };
       working = c.in_ok-put_table.ensures.working;
       bytes = c.in_ok-put_table.ensures.bytes;
