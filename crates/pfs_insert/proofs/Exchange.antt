@@ -20,6 +20,11 @@ rises weigh zero machine = omega (arith, most_on_last weigh machine 0 0 0 (suc m
 rises weigh (suc row) machine =
     omega (arith, most_last weigh row machine 0 0 (suc row) (suc machine) (omega arith) (omega arith))
 
+-- behind the last row there is no path
+pub back_none : (shop : FlowShop) (jobs : List ℕ) (row machine : ℕ) → length jobs ≤ row
+    → heaviest_back shop jobs row machine ≡ 0
+back_none shop jobs row machine past = rw (le-ltb row (length jobs) past) refl
+
 module _ (shop : FlowShop) (jobs : List ℕ) (job place : ℕ) (within : place ≤ length jobs) where
   abbrev weigh : ℕ → ℕ → ℕ
   weigh = operation shop (insert jobs place job)
@@ -50,17 +55,14 @@ module _ (shop : FlowShop) (jobs : List ℕ) (job place : ℕ) (within : place �
   abbrev sum_at : ℕ → ℕ
   sum_at machine = heaviest_front shop (insert jobs place job) place machine + heaviest_back shop jobs place machine
 
-  back_is : place < length jobs → (machine : ℕ) →
+  back_onward : place < length jobs → (machine : ℕ) →
       heaviest_back shop jobs place machine ≡ onward weigh (length jobs - 1 - place) (suc place) last machine
-  back_is inside machine =
+  back_onward inside machine =
       rw (lt-ltb place (length jobs) inside)
       (sym (most_moved weigh (operation shop jobs) (length jobs - 1 - place) (last - machine) (suc place) place machine
       (λ k m le.
       let e : suc place + k ≡ place + k + 1 = omega arith in
       ap (λ r. weigh r m) e ∙ operation_behind (place + k) m (omega arith))))
-
-  back_none : length jobs ≤ place → (machine : ℕ) → heaviest_back shop jobs place machine ≡ 0
-  back_none behind machine = rw (le-ltb place (length jobs) behind) refl
 
   -- a path leaves the row of the inserted job at one machine
   exchange_to : most weigh (length jobs) last 0 0 ≡ greatest_to sum_at last
@@ -73,13 +75,13 @@ module _ (shop : FlowShop) (jobs : List ℕ) (job place : ℕ) (within : place �
             ap (λ n. most weigh n last 0 0) one_more
             ∙ most_by_exit weigh rest (suc place) last place last 0 0 total (omega arith) (omega arith) (omega arith)
             ∙ greatest_to_same (by_exit weigh rest (suc place) last place 0 0) sum_at last
-            (λ x le. rw zero-add (omega (arith, heaviest_is weigh place x, back_is inside x)))
+            (λ x le. rw zero-add (omega (arith, heaviest_is weigh place x, back_onward inside x)))
         | inr behind ↦
             let all : length jobs ≡ place = omega arith in
             ap (λ n. most weigh n last 0 0) all
             ∙ sym (greatest_to_last (λ x. most weigh place x 0 0) last (rises weigh place))
             ∙ greatest_to_same (λ x. most weigh place x 0 0) sum_at last
-            (λ x le. omega (arith, heaviest_is weigh place x, back_none behind x))
+            (λ x le. omega (arith, heaviest_is weigh place x, back_none shop jobs place x behind))
       ]
 
 pub exchange_law : ExchangeLaw

@@ -25,10 +25,10 @@ module _ {X : Type 0} (number : X → ℕ) (shop : FlowShop) (jobs : List ℕ) w
       }
 
   -- the last row of a front
-  pub head_above : (rows front back : List X) (place width : ℕ) → width ≡ shop.machines → rows ≡ front ++ back
+  pub heads_above : (rows front back : List X) (place width : ℕ) → width ≡ shop.machines → rows ≡ front ++ back
       → length front ≡ (place + 1) * width → HasHead number shop jobs rows place
       → HoldsHeads number shop jobs (take (length front - place * width) (drop (place * width) front)) place
-  head_above rows front back place width wide parts long has =
+  heads_above rows front back place width wide parts long has =
       let kept = rw append-nil at (heads_kept rows front back [] place width wide parts long place (omega arith) has) in
       row_taken number shop.machines (head_of shop jobs place) front place width (length front - place * width) wide
       (omega arith) kept.row_is

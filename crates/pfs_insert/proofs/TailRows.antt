@@ -10,7 +10,7 @@ use Rattle.pfs_base.proofs.Published.Heaviest.{most, most_here, most_on, most_do
 use Rattle.pfs_base.proofs.Published.Heads.{head, head_le, head_step, heaviest_is, time_of-le}
 use Rattle.pfs_insert.specs.Exchange.{heaviest_front, heaviest_back}
 use Rattle.pfs_insert.specs.Rows.{next_row, head_row, tail_row, head_of}
-use Rattle.pfs_insert.proofs.Exchange.{operation_before, operation_at}
+use Rattle.pfs_insert.proofs.Exchange.{back_none, operation_before, operation_at}
 use Rattle.pfs_insert.proofs.RowSteps.{next_row_same}
 
 -- a path has so many cells
@@ -51,10 +51,6 @@ module _ (shop : FlowShop) (jobs : List ℕ) where
       let on : last - machine ≡ ons = omega arith in
       rw (lt-ltb row (length jobs) (omega arith), down, on) refl
 
-  -- behind the last row there is no path
-  pub back_none : (row machine : ℕ) → length jobs ≤ row → heaviest_back shop jobs row machine ≡ 0
-  back_none row machine past = rw (le-ltb row (length jobs) past) refl
-
   -- tails on the last machine
   back_last : (row machine : ℕ) → row < length jobs → machine ≡ last →
       heaviest_back shop jobs row machine ≡ heaviest_back shop jobs (suc row) machine + weigh row machine
@@ -72,7 +68,7 @@ module _ (shop : FlowShop) (jobs : List ℕ) where
             omega (
               arith,
               back_is row machine 0 0 (omega arith) (omega arith),
-              back_none (suc row) machine none,
+              back_none shop jobs (suc row) machine none,
               most_here weigh row machine,
             )
       ]
@@ -96,7 +92,7 @@ module _ (shop : FlowShop) (jobs : List ℕ) where
             omega (
               arith,
               back_is row machine 0 (suc ons) (omega arith) (omega arith),
-              back_none (suc row) machine none,
+              back_none shop jobs (suc row) machine none,
               back_is row (suc machine) 0 ons (omega arith) (omega arith),
               most_on weigh ons row machine,
             )

@@ -60,7 +60,7 @@ fn neh_and_round(
     Ok(())
 }
 
-// The same by heads and tails.
+// The same by heads and tails. One function over any inserter would have to ask its callers for the costs.
 fn neh_and_round_by_rows(
     rt: &impl Abort,
     alloc: Global,
@@ -115,7 +115,7 @@ fn numbers_and_round(
     Ok(())
 }
 
-// The same by heads and tails.
+// The same by heads and tails. One function over any inserter would have to ask its callers for the costs.
 fn numbers_and_round_by_rows(
     rt: &impl Abort,
     alloc: Global,

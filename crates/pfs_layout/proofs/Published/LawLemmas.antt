@@ -50,12 +50,13 @@ one_verdict layout input k some = elim (cases_option (refusal layout input k)) [
 
 -- ---- some file
 
-abbrev EndsLine : List ℕ → Type 0
-EndsLine text = (front : List ℕ) × (text ≡ front ++ 10 ∷ [])
+abbrev EndsWithLineEnd : List ℕ → Type 0
+EndsWithLineEnd text = (front : List ℕ) × (text ≡ front ++ 10 ∷ [])
 
 -- a text whose last line is empty is empty or ends a line
-ends_line : (text : List ℕ) → open_line text ≡ [] → (text ≡ []) ⊎ EndsLine text
-ends_line = by_push (λ text. open_line text ≡ [] → (text ≡ []) ⊎ EndsLine text) (λ e. inl refl) (λ text b earlier h.
+empty_or_ended : (text : List ℕ) → open_line text ≡ [] → (text ≡ []) ⊎ EndsWithLineEnd text
+empty_or_ended = by_push (λ text. open_line text ≡ [] → (text ≡ []) ⊎ EndsWithLineEnd text)
+    (λ e. inl refl) (λ text b earlier h.
     inr (
       text,
       elim (cases_Bool (is_line_end b)) [
@@ -78,7 +79,7 @@ completes_seeks layout input k problem c = record {
   whole = c.whole;
   ended = elim c.ended [
     | inr none ↦ inr none
-    | inl empty ↦ inl (elim (ends_line c.text empty) [
+    | inl empty ↦ inl (elim (empty_or_ended c.text empty) [
       | inr ends ↦ ends
       | inl none ↦ let few = rw (none, none_complete layout) at all in absurd (omega (arith, c.count))
     ])

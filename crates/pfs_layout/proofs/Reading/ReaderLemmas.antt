@@ -28,7 +28,7 @@ use Rattle.pfs_layout.proofs.Files.LineLemmas.{ended_numbers-push}
 use Rattle.pfs_layout.proofs.Published.PlaceLemmas.{byte_fault-push}
 use Rattle.pfs_layout.proofs.Files.SoundLemmas.{GoodNow, stand_of, sound, stand_of-on, stand_of-end}
 use Rattle.pfs_layout.proofs.Files.SoundLemmas.{open_line-on, open_line-end}
-use Rattle.pfs_layout.proofs.Reading.StepLemmas.{live-memory, keeps_last, last_numbers, ends_line}
+use Rattle.pfs_layout.proofs.Reading.StepLemmas.{live-memory, keeps_last, last_numbers, line_end_keeps}
 use Rattle.pfs_layout.proofs.Files.SizeLemmas.{size_within}
 use Rattle.pfs_layout.proofs.Reading.TableLemmas.{length-times_among}
 use Rattle.pfs_layout.proofs.Reading.NumberSteps.{keeping_of}
@@ -50,7 +50,7 @@ pub record Carries (old new : Blocks) (ends : Bool) : Type 0 where
 pub carries : (r : Blocks) (last : Line) (b : ℕ) → is_live r.phase ≡ true → Carries r (judged r last b) (is_line_end b)
 carries r last b live =
     let number = number_of last.digits in
-    let ends = ends_line (last_number_ended r number) (has_numbers_alone last.kinds) in
+    let ends = line_end_keeps (last_number_ended r number) (has_numbers_alone last.kinds) in
     elim (cases_Bool (is_digit b)) [
       | inl digit ↦ rw (judged_digit r last b digit) (grind (arith, digit-no_line_end b digit))
       | inr no_digit ↦ elim (cases_Bool (is_blank b || is_line_end b)) [
@@ -87,14 +87,14 @@ word_on_line text b digit gap =
     grind (arith, open_line-on text b, list_any-append is_word_byte (open_line text) (b ∷ []))
 
 -- the fault, or blocks that follow the text in this layout
-abbrev Outcome : Blocks → Layout → List ℕ → Blocks → Option LayoutFault → Type 0
-Outcome r layout text next fault = ByteOutcome r (list_any is_word_byte (open_line text)) (stand_of layout text)
+abbrev OutcomeBehind : Blocks → Layout → List ℕ → Blocks → Option LayoutFault → Type 0
+OutcomeBehind r layout text next fault = ByteOutcome r (list_any is_word_byte (open_line text)) (stand_of layout text)
     (ended_numbers (open_line text)) next fault
 
 -- a byte more of a live reader, by its kind
 outcome : (r : Fields) (text : List ℕ) (b : ℕ) → Follows r text → is_live r.phase ≡ true
     → GoodNow r.layout (stand_of r.layout text).now (open_line text)
-    → Outcome r.blocks r.layout (text ++ b ∷ []) (judged r.blocks r.last b)
+    → OutcomeBehind r.blocks r.layout (text ++ b ∷ []) (judged r.blocks r.last b)
     (fault_within_limit r.layout (stand_of r.layout text).now text b)
 outcome r text b f live good = elim (cases_Bool (is_digit b)) [
   | inl digit ↦
@@ -145,7 +145,7 @@ module _ {r : Fields} {text : List ℕ} (f : Follows r text) (last : Line) (next
   })
 
   follows_on : length text < LONGEST_INPUT → fault_of_place r.layout r.wanted text (Some b) ≡ None
-      → Carries r.blocks next (is_line_end b) → Outcome r.blocks r.layout (text ++ b ∷ []) next None
+      → Carries r.blocks next (is_line_end b) → OutcomeBehind r.blocks r.layout (text ++ b ∷ []) next None
       → Follows (fields (line_after r.last b) next) (text ++ b ∷ [])
   follows_on short here c blocks =
       let count = length_push text b in
@@ -157,7 +157,7 @@ module _ {r : Fields} {text : List ℕ} (f : Follows r text) (last : Line) (next
         line = rw (c.line, f.line, count_push text b) (omega arith);
         few_numbers = omega (arith, c.few, f.few_numbers);
         five_values = elim c.five [ inl same ↦ same ∙ f.five_values | inr five ↦ five ];
-        blocks = subst (λ l. Outcome r.blocks l (text ++ b ∷ []) next None) (sym c.layout) blocks;
+        blocks = subst (λ l. OutcomeBehind r.blocks l (text ++ b ∷ []) next None) (sym c.layout) blocks;
       }
 
 -- one byte more

@@ -48,12 +48,13 @@ last_numbers r number = grind (arith, common_steps)
 
 -- ---- a line's end
 
-pub record EndsLine (old new : Blocks) : Type 0 where
+-- what a line's end leaves, and what it does beside the block
+pub record KeepsAtLineEnd (old new : Blocks) : Type 0 where
   pub layout : new.layout ≡ old.layout
   pub wanted : new.wanted ≡ old.wanted
   pub line : new.line ≡ old.line + 1
   pub size_line : new.size_line ≡ no_numbers
 
-pub ends_line : (r : Blocks) (numbers : Bool) → EndsLine r (line_ended r numbers)
+pub line_end_keeps : (r : Blocks) (numbers : Bool) → KeepsAtLineEnd r (line_ended r numbers)
 unfolding line_ended
-ends_line r numbers = grind arith
+line_end_keeps r numbers = grind arith

@@ -12,6 +12,7 @@ use Rattle.pfs_layout.specs.declared.layout.Layout.TheVariants.{Taillard, OrLib}
 use Rattle.pfs_layout.specs.Size.{Size}
 use Rattle.pfs_layout.specs.Stand.{begun, times_among, place_of_time, instance_of}
 use Rattle.pfs_layout.specs.Step.{empty_problem, times_in}
+use Rattle.pfs_layout.proofs.Files.RoundLemmas.{stands_at}
 use Rattle.pfs_layout.proofs.Tables.{table, length-table, table_at, same_table}
 
 -- a table in which one place has another number
@@ -38,10 +39,6 @@ index_push_other : (ns : List ℕ) (v p : ℕ) → p ≢ length ns → get_or (n
 index_push_other ns v p other = grind (arith, common_steps)
 
 module _ (layout : Layout) (size : Size) where
-  -- the number at the place of a time
-  abbrev stands_at : List ℕ → ℕ → ℕ → ℕ
-  stands_at ns job machine = get_or ns (place_of_time layout size job machine) 0
-
   -- a time more stands at its place
   pub instance_of-time : (ns : List ℕ) (v job machine : ℕ) → job < size.jobs → machine < size.machines
       → place_of_time layout size job machine ≡ length ns
@@ -50,7 +47,8 @@ module _ (layout : Layout) (size : Size) where
       record problem { shop = with_time problem.shop job machine v })
   unfolding instance_of
   instance_of-time ns v job machine j m at =
-      let times = table_with (stands_at ns) (stands_at (ns ++ v ∷ [])) size.jobs size.machines job machine v j m
+      let times = table_with (stands_at layout size ns) (stands_at layout size (ns ++ v ∷ []))
+      size.jobs size.machines job machine v j m
       (get_or_push ns v 0 _ (sym at)) (λ r c p q other. index_push_other ns v _ (λ last.
       let same = same_time_place layout size r c job machine p q j m (last ∙ sym at) in other same.0 same.1)) in
       cc

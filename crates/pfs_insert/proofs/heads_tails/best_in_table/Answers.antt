@@ -4,7 +4,7 @@ use Rattle.std.proofs.lemmas.List.{append-nil, get_or_append_left, length-drop, 
 use Rattle.pfs_order.proofs.Published.Sequences.{length-lt-size}
 use Rattle.pfs_insert.proofs.FirstLeast.{best_is}
 use Rattle.pfs_insert.proofs.FlatRows.{row_le, row_split, row_behind, put_behind, row_in_front}
-use Rattle.pfs_insert.proofs.TailRows.{back_none}
+use Rattle.pfs_insert.proofs.Exchange.{back_none}
 use Rattle.pfs_insert.proofs.TailTables.{backs_taken}
 use Rattle.pfs_insert.proofs.heads_tails.best_in_table.Given.{Over}
 use Rattle.pfs_insert.proofs.heads_tails.best_in_table.Goals.{After-split_at_mut-tails}

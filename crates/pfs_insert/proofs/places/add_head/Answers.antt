@@ -2,7 +2,7 @@ use Rattle.std.proofs.Common.{◌+◌, ◌≤◌, length, drop, refl, ◌∙◌,
 use Rattle.std.proofs.lemmas.List.{length-take-le}
 use Rattle.pfs_insert.specs.Rows.{head_of}
 use Rattle.pfs_insert.proofs.FlatRows.{row_le}
-use Rattle.pfs_insert.proofs.HeadTables.{head_above, head_behind, heads_kept, short_heads}
+use Rattle.pfs_insert.proofs.HeadTables.{heads_above, head_behind, heads_kept, short_heads}
 use Rattle.pfs_insert.proofs.TailRows.{head_first, head_next}
 use Rattle.pfs_insert.proofs.places.add_head.Goals.{After-at}
 use Rattle.pfs_insert.proofs.places.add_head.Goals as goal
@@ -14,7 +14,7 @@ fill_head-requires-clause-above_short g c =
     let split = c.split_at_mut-front.ensures in
     short_heads g.B.Span.Length.number shop jobs (g.met.B.Bench.within c.args.bench.now)
     (omega (arith, c.requires.partial.few)) c.args.place (omega (arith, c.requires.place)) _
-    (head_above _ shop jobs _ _ _ c.args.place _ c.machines-machines.ensures split.value split.front_len
+    (heads_above _ shop jobs _ _ _ c.args.place _ c.machines-machines.ensures split.value split.front_len
     c.requires.head)
 
 pub returns-clause-head : goal.returns-clause-head
@@ -30,7 +30,7 @@ returns-clause-head g c =
     let long = rw wide at split.front_len in
     let behind : width ≤ length back = omega (arith, rw wide at split.back_len, c.requires.heads) in
     let told = c.fill_head.ensures.row (head_of shop jobs place)
-    (head_above _ shop jobs _ _ _ place _ wide split.value split.front_len c.requires.head) in
+    (heads_above _ shop jobs _ _ _ place _ wide split.value split.front_len c.requires.head) in
     let next = head_next (head_first shop jobs place) refl c.at.ensures.value in
     head_behind _ shop jobs _ c.fill_head.new.row (drop width back) (place + 1) long
     (c.fill_head.auto.row ∙ length-take-le width back behind ∙ wide)

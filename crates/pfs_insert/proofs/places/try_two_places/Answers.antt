@@ -2,7 +2,7 @@ use Rattle.std.proofs.Common.{◌≡◌, ◌+◌, ◌-◌, ◌*◌, ◌≤◌, �
 use Rattle.std.proofs.lemmas.List.{length-take-le, length-append, append_assoc}
 use Rattle.pfs_insert.specs.Insertion.{makespan_with}
 use Rattle.pfs_insert.proofs.FlatRows.{row_fits}
-use Rattle.pfs_insert.proofs.HeadTables.{HoldsHeads, head_above, head_behind, heads_kept, short_heads}
+use Rattle.pfs_insert.proofs.HeadTables.{HoldsHeads, heads_above, head_behind, heads_kept, short_heads}
 use Rattle.pfs_insert.proofs.TailRows.{IsHead, head_first, head_next, put_row}
 use Rattle.pfs_insert.proofs.places.try_two_places.Given.{Over}
 use Rattle.pfs_insert.proofs.places.try_two_places.Goals.{After-at-2, After-fill_two_places}
@@ -38,7 +38,7 @@ above_told : (g : Over) (c : After-at-2 g) →
     c.args.place
 above_told g c =
     let split = c.split_at_mut-front.ensures in
-    head_above _ (g.B.Bench.shop c.args.bench.now) c.args.seq.now.jobs _ _ _ c.args.place _ c.machines-machines.ensures
+    heads_above _ (g.B.Bench.shop c.args.bench.now) c.args.seq.now.jobs _ _ _ c.args.place _ c.machines-machines.ensures
     split.value split.front_len c.requires.head
 
 pub fill_two_places-requires-clause-above_short : goal.fill_two_places-requires-clause-above_short
