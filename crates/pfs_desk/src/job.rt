@@ -21,6 +21,7 @@ impl Model for PathText {
 }
 
 impl PathText {
+    /// The path with this text. Memory for a copy of it is asked for.
     pub(crate) fn new(alloc: Global, text: &str) -> Result<PathText, AllocError>
         ensures { IfOk result (λ path. path ≡ text.now) }
     {

@@ -103,22 +103,22 @@ abbrev pub no_numbers : SizeLine
 no_numbers = record { count = 0; values = replicate 5 0 }
 
 -- the size of these numbers, in the order of Taillard's size lines
-abbrev pub size_of : ℕ → ℕ → ℕ → ℕ → ℕ → Size
-size_of jobs machines seed upper lower =
+abbrev pub size_from : ℕ → ℕ → ℕ → ℕ → ℕ → Size
+size_from jobs machines seed upper lower =
     record { jobs = jobs; machines = machines; notes = record { seed = seed; upper = upper; lower = lower } }
 
-abbrev pub size_of_five : List ℕ → Size
-size_of_five values =
-    size_of (slice_index values 0) (slice_index values 1)
+abbrev pub size_from_five : List ℕ → Size
+size_from_five values =
+    size_from (slice_index values 0) (slice_index values 1)
     (slice_index values 2) (slice_index values 3) (slice_index values 4)
 
-abbrev pub size_of_two : List ℕ → Size
-size_of_two values = size_of (slice_index values 0) (slice_index values 1) 0 0 0
+abbrev pub size_from_two : List ℕ → Size
+size_from_two values = size_from (slice_index values 0) (slice_index values 1) 0 0 0
 
 -- what the numbers state, where they are as many as the layout says
 abbrev pub stated_by : Layout → SizeLine → Option Size
-stated_by Taillard line = if line.count == 5 then Some (size_of_five line.values) else None
-stated_by OrLib line = if line.count == 2 then Some (size_of_two line.values) else None
+stated_by Taillard line = if line.count == 5 then Some (size_from_five line.values) else None
+stated_by OrLib line = if line.count == 2 then Some (size_from_two line.values) else None
 
 -- the size that was given
 abbrev pub size_given : Stated → Size

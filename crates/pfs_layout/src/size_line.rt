@@ -2,7 +2,7 @@
 ghost use Rattle.std.specs.Prelude.{◌≡◌, ◌≤◌, true, Some, IfOk, IfErr, IsTrue};
 ghost use Rattle.pfs_layout.specs.Size.{is_within_limits};
 ghost use Rattle.pfs_layout.specs.Refuse.{size_fault};
-ghost use Rattle.pfs_layout.specs.Step.{no_numbers, with_number, stated_by, size_given, size_of};
+ghost use Rattle.pfs_layout.specs.Step.{no_numbers, with_number, stated_by, size_given, size_from};
 
 use crate::scan::CEILING;
 use crate::{Layout, LayoutFault};
@@ -84,10 +84,10 @@ fn in_range(
     lower: u64,
     line: usize,
 ) -> Result<Stated, LayoutFault>
-    ensures stated { IfOk result (λ stated. size_given stated ≡ size_of jobs machines seed upper lower) }
+    ensures stated { IfOk result (λ stated. size_given stated ≡ size_from jobs machines seed upper lower) }
     ensures within { IfOk result (λ stated. is_within_limits (size_given stated) ≡ true) }
     ensures fault { IfErr result (λ fault.
-        size_fault (Some (size_of jobs machines seed upper lower)) line ≡ Some fault) }
+        size_fault (Some (size_from jobs machines seed upper lower)) line ≡ Some fault) }
 {
     let fits = 1 <= jobs
         && jobs <= MOST_JOBS as u64
