@@ -1,4 +1,4 @@
-# make run    proves and builds pfs, and runs it on the stored instance (crates/pfs/stdin)
+# make run    proves and builds pfs, its crates side by side, and runs it on the stored instance (crates/pfs/stdin)
 # make test   the merge gate: proves everything from nothing, tries the must-fail edits, runs the tests and
 #             programs; then runs the built programs on command lines, on searches that another program has
 #             answered, and with each growth of memory refused in turn, and checks what must not compile; then
@@ -22,7 +22,7 @@ INSTALLED = $(PREFIX)/bin/pfs $(PREFIX)/share/man/man1/pfs.1 $(PREFIX)/share/bas
     $(ZSH_FOLDER)/_pfs $(PREFIX)/share/fish/vendor_completions.d/pfs.fish
 
 run:
-	cd crates/pfs && rt run < stdin
+	tools/build
 
 test:
 	rt ci
@@ -33,7 +33,7 @@ fuzz: run
 
 $(PROGRAM): crates.txt $(shell find crates \( -name out -o -name must-fail -o -name pfs_calls -o -name pfs_tests \) \
     -prune -o -type f -print)
-	cd crates/pfs && rt run < stdin
+	tools/build
 	touch $@  # rt leaves a program that is the same as it is
 
 install: $(PROGRAM)
@@ -50,5 +50,5 @@ uninstall:
 dist: $(PROGRAM)
 	tools/dist "$(DIST)"
 
-taillard: run
+taillard: $(PROGRAM)
 	experiments/taillard experiments/out/taillard

@@ -1,0 +1,103 @@
+"""tools/build over a small repository, with a program in the place of `rt` that notes each call: crates are built
+behind those that they stand on, side by side where they may be, and how it ended is told."""
+import os
+import pathlib
+import re
+import shutil
+import subprocess
+
+import pytest
+
+CRATES = """low: thiserror
+left: low
+right: low   # beside left
+app: left right
+other: low
+"""
+# What stands for rt: it notes its words, says that it has proved the crate, if it isn't built (of a program on standard
+# error, as rt does), and fails where it is told to. Of `left` and `right` each waits until the other has begun.
+RT = """#!/bin/sh
+crate=${PWD##*/}
+echo "begin $crate $1" >> ../../notes
+case $crate in
+left) until grep -q 'begin right' ../../notes; do sleep 0.01; done;;
+right) until grep -q 'begin left' ../../notes; do sleep 0.01; done;;
+esac
+if test $1 = run; then exec 3>&2; else exec 3>&1; fi
+test -e built || echo 'logic=proved functions=3' >&3
+if test -e failing; then echo 'goal left open' >&3; exit 1; fi
+touch built
+echo "end $crate $1" >> ../../notes
+if test $1 = run; then cat; fi
+"""
+
+
+@pytest.fixture
+def repository(folder: pathlib.Path, top: pathlib.Path) -> pathlib.Path:
+    """A repository of five crates, in which tools/build runs a program of its own for `rt`."""
+    for crate in ("low", "left", "right", "app", "other"):
+        (folder / "crates" / crate).mkdir(parents=True)
+    (folder / "crates.txt").write_text(CRATES)
+    (folder / "crates" / "app" / "stdin").write_text("what app reads\n")
+    for name in ("tools", "bin"):
+        (folder / name).mkdir()
+    shutil.copy(top / "tools" / "build", folder / "tools")
+    (folder / "bin" / "rt").write_text(RT)
+    (folder / "bin" / "rt").chmod(0o755)
+    return folder
+
+
+def build(repository: pathlib.Path, *words: str, path: str | None = None) -> subprocess.CompletedProcess[str]:
+    env = dict(os.environ, PATH=f"{repository / 'bin'}:{os.environ['PATH']}" if path is None else path)
+    return subprocess.run([repository / "tools" / "build", *words], env=env, capture_output=True, text=True, timeout=30)
+
+
+def notes(repository: pathlib.Path) -> list[str]:
+    return (repository / "notes").read_text().splitlines()
+
+
+def test_crates_are_built_behind_those_they_stand_on(repository: pathlib.Path) -> None:
+    """A crate begins once those below it have ended, and the two in the middle begin before either has ended."""
+    done = build(repository, "app")
+    assert (done.returncode, done.stdout) == (0, "what app reads\n")
+    noted = notes(repository)
+    assert noted[:2] == ["begin low lib", "end low lib"]
+    assert sorted(noted[2:4]) == ["begin left lib", "begin right lib"]
+    assert sorted(noted[4:6]) == ["end left lib", "end right lib"]
+    assert noted[6:] == ["begin app run", "end app run"]
+
+
+def test_each_crate_is_told_with_its_time_and_how_many_are_left(repository: pathlib.Path) -> None:
+    told = re.sub(r" in \d+:\d\d minutes", "", build(repository, "app").stderr)
+    crates, ended = zip(*(line.split(": ") for line in told.splitlines()))
+    assert (crates[0], {*crates[1:3]}, crates[3]) == ("low", {"left", "right"}, "app")
+    assert ended == tuple(f"proved and built, {left} left" for left in (3, 2, 1, 0))
+
+
+def test_what_was_built_before_is_not_told(repository: pathlib.Path) -> None:
+    build(repository, "app")
+    (repository / "crates" / "app" / "built").unlink()
+    told = build(repository, "app").stderr
+    assert re.fullmatch(r"app: proved and built in \d+:\d\d minutes, 0 left\n", told)
+
+
+def test_a_crate_that_fails_is_told_and_none_above_it_begins(repository: pathlib.Path) -> None:
+    (repository / "crates" / "left" / "failing").touch()
+    done = build(repository, "app")
+    assert done.returncode == 1
+    assert "goal left open" in done.stderr
+    log = repository / "crates" / "left" / "out" / "build.log"
+    assert f"build: left failed with status 1; {log} has the lines above" in done.stderr.splitlines()
+    assert not any("app" in line for line in notes(repository))
+
+
+def test_a_program_that_is_no_crate_is_refused(repository: pathlib.Path) -> None:
+    done = build(repository, "none")
+    assert (done.returncode, done.stdout, done.stderr) == (1, "", "build: crates.txt names no crate none\n")
+
+
+def test_a_machine_without_the_kit_is_told(repository: pathlib.Path) -> None:
+    (repository / "bin" / "rt").unlink()
+    done = build(repository, "app", path="/usr/bin:/bin")
+    assert done.returncode == 1
+    assert done.stderr.startswith("build: rt isn't on the path")
