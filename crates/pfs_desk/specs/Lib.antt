@@ -1,10 +1,7 @@
-pub mod Commands
 pub mod Engine
 pub mod FaultText
 pub mod Headline
-pub mod Jobs
 pub mod MostCells
 pub mod OutputText
-pub mod Parses
 pub mod Printable
 pub mod Solve
