@@ -8,10 +8,10 @@ import shutil
 import signal
 import subprocess
 from collections.abc import Callable
-from typing import Any, NamedTuple
+from typing import IO, Any, NamedTuple
 
 import pytest
-from support.experiments import HEAD, PLAN, Experiment, Gate, planned
+from support.experiments import HEAD, PLAN, Experiment, planned
 from support.needs import need
 from support.program import Program
 from support.slurm import Cluster
@@ -228,7 +228,8 @@ class Started(NamedTuple):
         os.killpg(self.process.pid, signal.SIGHUP)
 
 
-def start(experiment: Experiment, *words: str, name: str = "run", **how: Any) -> Started:
+def start(experiment: Experiment, *words: str, name: str = "run", env: dict[str, str] | None = None,
+          stderr: int | IO[bytes] = subprocess.DEVNULL) -> Started:
     """Starts the plan with the program that waits. A script before GNU parallel notes its process."""
     noted = experiment.folder / "parallel"
     bin_folder = experiment.folder / "bin"
@@ -236,9 +237,8 @@ def start(experiment: Experiment, *words: str, name: str = "run", **how: Any) ->
         bin_folder.mkdir()
         write_script(bin_folder / "parallel", f"#!/bin/sh\necho $$ > {noted}\nexec {need('parallel')} \"$@\"\n")
     line = experiment.words(name, *words, program=experiment.waiting())
-    how = {"env": with_path(bin_folder), "stderr": subprocess.DEVNULL} | how
-    process = subprocess.Popen(line, cwd=experiment.folder, stdin=subprocess.DEVNULL, stdout=subprocess.DEVNULL,
-                               start_new_session=True, **how)
+    process = subprocess.Popen(line, cwd=experiment.folder, env=env or with_path(bin_folder), stdin=subprocess.DEVNULL,
+                               stdout=subprocess.DEVNULL, stderr=stderr, start_new_session=True)
     return Started(process, noted)
 
 

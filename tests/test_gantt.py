@@ -137,7 +137,8 @@ def at_random(number: int) -> Case:
 
 def drawn_by_taillard(jobs: int, machines: int, seed: int) -> Case:
     rows = [[int(word) for word in line.split()] for line in generated(jobs, machines, seed).splitlines()[3:]]
-    return Case(f"{jobs} by {machines}", list(range(jobs, 0, -1)), schedule_of(list(map(list, zip(*rows)))[::-1]))
+    times = [list(job) for job in zip(*rows)]
+    return Case(f"{jobs} by {machines}", list(range(jobs, 0, -1)), schedule_of(times[::-1]))
 
 
 WITH_BOUND = read_table("three jobs", THREE, "--critical", "--bound", "9", "--unit", "min")

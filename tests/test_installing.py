@@ -374,7 +374,7 @@ def test_this_kit_has_built_the_program(pfs: Program, folder: pathlib.Path) -> N
 
 def sums_of(folder: pathlib.Path, sums: pathlib.Path) -> tuple[dict[str, str], dict[str, str]]:
     """What a file of SHA-256 sums lists, and what each other file below the folder has."""
-    listed = dict(reversed(line.split("  ")) for line in sums.read_text().splitlines())
+    listed = {path: digest for digest, path in (line.split("  ") for line in sums.read_text().splitlines())}
     real = {path: hashlib.sha256(text).hexdigest() for path, text in files_below(folder).items()}
     del real[str(sums.relative_to(folder))]
     return listed, real

@@ -201,7 +201,7 @@ def test_readme_tells_all_faults_but_those_of_files() -> None:
     assert sorted(faults_of_readme()) == sorted(set(FAULTS) - of_files - {"pfs: usage"})
 
 
-@pytest.mark.parametrize("row", table(README, "Exit status", "When", "Standard error"), ids=lambda row: row[1][:40])
+@pytest.mark.parametrize("row", table(README, "Exit status", "When", "Standard error"), ids=[row[1][:40] for row in table(README, "Exit status", "When", "Standard error")])
 def test_when_a_status_of_readme_comes(row: list[str], pfs: Program, worked: pathlib.Path) -> None:
     status, when, told = row
     lines = [line for phrase, lines in WHEN.items() if phrase in when for line in lines]

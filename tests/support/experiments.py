@@ -83,7 +83,7 @@ class Experiment(NamedTuple):
         makespan, bound = (int(verdict[line].split()[1]) for line in (1, 2))
         gap = f"{(makespan / bound - 1) * 100:.4f}"
         numbers = map(str, (jobs, machines, rounds, take, 0, seed, 1, makespan, bound))
-        return Row(shop, *numbers, gap, cells.split()[1], "ok")
+        return Row._make([shop, *numbers, gap, cells.split()[1], "ok"])
 
     def rows(self, name: str = "out.csv") -> list[Row]:
         return [row for row, _ in self.rows_and_seconds(name)]
@@ -92,7 +92,7 @@ class Experiment(NamedTuple):
         """The rows of a CSV, the seconds apart."""
         lines = (self.folder / name).read_text().splitlines()
         assert lines[:1] == [HEAD], "columns"
-        return [(Row(*row[:12], *row[13:]), row[12]) for row in csv.reader(lines[1:])]
+        return [(Row._make(row[:12] + row[13:]), row[12]) for row in csv.reader(lines[1:])]
 
     @property
     def runs(self) -> pathlib.Path:

@@ -49,14 +49,14 @@ def in_ci() -> bool:
     return os.environ.get("CI") == "true"
 
 
-@pytest.hookimpl(hookwrapper=True)
+@pytest.hookimpl(hookwrapper=True)  # type: ignore[misc]  # pluggy has no types
 def pytest_runtest_makereport() -> Generator[None, Any, None]:
     """A test that is skipped in CI has failed."""
     outcome = yield
     refuse_skip(outcome.get_result())
 
 
-@pytest.hookimpl(hookwrapper=True)
+@pytest.hookimpl(hookwrapper=True)  # type: ignore[misc]  # pluggy has no types
 def pytest_make_collect_report() -> Generator[None, Any, None]:
     """So has a file that is skipped as a whole."""
     outcome = yield

@@ -1,4 +1,5 @@
 """What an SVG shows that matplotlib has drawn, in the units of its axes."""
+import math
 import pathlib
 import re
 import xml.etree.ElementTree as ET
@@ -6,6 +7,7 @@ from collections.abc import Iterator
 from typing import NamedTuple
 
 SVG = "{http://www.w3.org/2000/svg}"
+LINK = "{http://www.w3.org/1999/xlink}"
 NUMBER = r"-?[0-9]+(?:\.[0-9]+)?"
 
 
@@ -66,7 +68,7 @@ class Picture:
         """Where this text stands."""
         return [letters for letters in self.texts() if letters.text == text]
 
-    def marks(self, kind: str, pattern: str = f"{NUMBER}") -> list[Mark]:
+    def marks(self, kind: str, pattern: str = NUMBER) -> list[Mark]:
         """The marks of an axis (`xtick` or `ytick`) whose text is a number in this pattern. One that isn't drawn is
         where its text stands."""
         found = []
@@ -89,14 +91,18 @@ class Picture:
         return Scale(self.marks("ytick"))
 
     def shapes(self, name: str) -> Iterator[tuple[list[tuple[float, float]], str]]:
-        """The points of each line or area of a group, and its style. A shape may stand elsewhere and be moved here."""
+        """The points of each line or area of a group, and its style, in the order in which they were drawn. Shapes that
+        are defined elsewhere in the group are drawn where they are used; beside others they are but marks on these."""
         group = self.groups.get(name, ET.Element("g"))
-        moved = list(group.iter(f"{SVG}use"))
-        paths = list(group.iter(f"{SVG}path"))
-        for path, shown in zip(paths, moved or paths):
-            x, y = float(shown.get("x", 0)), float(shown.get("y", 0))
-            points = re.findall(r"[ML] (\S+) (\S+)", path.get("d", ""))
-            yield [(float(across) + x, float(down) + y) for across, down in points], shown.get("style", "")
+        defined = {f"#{path.get('id')}": path for defs in group.iter(f"{SVG}defs") for path in defs.iter(f"{SVG}path")}
+        drawn = [path for path in group.iter(f"{SVG}path") if path not in defined.values()]
+        if drawn:
+            yield from ((points_of(path), path.get("style", "")) for path in drawn)
+            return
+        for use in group.iter(f"{SVG}use"):
+            x, y = float(use.get("x", 0)), float(use.get("y", 0))
+            points = points_of(defined[use.get(f"{LINK}href", "")])
+            yield [(across + x, down + y) for across, down in points], use.get("style", "")
 
     def line(self, name: str) -> list[tuple[float, float]]:
         """The points of the one line of a group."""
@@ -112,6 +118,10 @@ class Picture:
             fill = value_of(style, "fill")
             found.append(Bar(time(min(across)), time(max(across)), row(min(down)), row(max(down)), fill))
         return found
+
+
+def points_of(path: ET.Element) -> list[tuple[float, float]]:
+    return [(float(across), float(down)) for across, down in re.findall(r"[ML] (\S+) (\S+)", path.get("d", ""))]
 
 
 def value_of(style: str, name: str) -> str:
@@ -135,7 +145,7 @@ def letters_of(text: ET.Element) -> Letters:
 def luminance(colour: str) -> float:
     """How light a colour is, from 0 to 1, as the guidelines on contrast define it (WCAG)."""
     parts = [int(colour[at:at + 2], 16) / 255 for at in (1, 3, 5)]
-    red, green, blue = (part / 12.92 if part <= 0.04045 else ((part + 0.055) / 1.055) ** 2.4 for part in parts)
+    red, green, blue = (part / 12.92 if part <= 0.04045 else math.pow((part + 0.055) / 1.055, 2.4) for part in parts)
     return 0.2126 * red + 0.7152 * green + 0.0722 * blue
 
 
