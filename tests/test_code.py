@@ -51,8 +51,8 @@ def test_scripts_are_found_by_their_first_lines() -> None:
 @pytest.mark.seconds(20)
 def test_python_is_typed() -> None:
     typed = [path for path in scripts("python") if path.startswith(TYPED)]
-    done = subprocess.run([need("mypy"), "--strict", "--scripts-are-modules", "--no-error-summary", "--cache-dir=/dev/null",
-                           *typed], cwd=TOP, capture_output=True, text=True)
+    words = [need("mypy"), "--strict", "--scripts-are-modules", "--no-error-summary", "--cache-dir=/dev/null"]
+    done = subprocess.run([*words, *typed], cwd=TOP, capture_output=True, text=True)
     assert (done.stdout, done.stderr, done.returncode) == ("", "", 0)
 
 

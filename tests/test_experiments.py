@@ -88,7 +88,8 @@ def test_the_csv_is_what_pfs_gives(experiment: Experiment) -> None:
 
 
 def test_readme_names_the_columns_of_the_csv(top: pathlib.Path) -> None:
-    rows = re.findall(r"^\| (`.*`) \|", (top / "experiments" / "README.md").read_text().partition("## CSV")[2], re.MULTILINE)
+    text = (top / "experiments" / "README.md").read_text().partition("## CSV")[2]
+    rows = re.findall(r"^\| (`.*`) \|", text, re.MULTILINE)
     assert ",".join(name for cell in rows for name in re.findall("`([^`]+)`", cell)) == HEAD
 
 
@@ -243,8 +244,8 @@ def start(experiment: Experiment, *words: str, name: str = "run", env: dict[str,
 
 
 def interrupt(experiment: Experiment, most: int, kill: Callable[[Started], None]) -> set[str]:
-    """Starts the plan, lets so many more runs through and kills it while two wait; answers the runs that are logged then.
-    What the start has left ends by itself."""
+    """Starts the plan, lets so many more runs through and kills it while two wait; answers the runs that are logged
+    then. What the start has left ends by itself."""
     before = len(experiment.logged())
     started_before = len(experiment.started())
     with experiment.gate() as gate:
@@ -265,7 +266,8 @@ def interrupt(experiment: Experiment, most: int, kill: Callable[[Started], None]
     return done
 
 
-KILLS = {
+Kills = list[tuple[int, Callable[[Started], None]]]
+KILLS: dict[str, Kills] = {
     "killed at once": [(0, Started.kill_all)],
     "killed at 3": [(3, Started.kill_all)],
     "interrupted": [(2, Started.interrupt_all)],
@@ -278,7 +280,7 @@ KILLS = {
 
 
 @pytest.mark.parametrize("kills", KILLS.values(), ids=KILLS)
-def test_no_run_is_lost_or_made_again(kills: list[tuple[int, Callable[[Started], None]]], experiment: Experiment) -> None:
+def test_no_run_is_lost_or_made_again(kills: Kills, experiment: Experiment) -> None:
     """Each run is in the CSV once, and none that was logged before a kill is made again."""
     (experiment.folder / "plan.toml").write_text(PLAN.replace("[0, 30]", "[0]"))
     wanted, made = experiment.wanted(rounds=(0,)), {}
@@ -383,7 +385,8 @@ def test_on_slurm_the_csv_is_the_same(made_on_slurm: tuple[Experiment, Told]) ->
 
 
 @on_slurm
-def test_on_slurm_the_runs_are_one_array_of_so_many_tasks(made_on_slurm: tuple[Experiment, Told], slurm: Cluster) -> None:
+def test_on_slurm_the_runs_are_one_array_of_so_many_tasks(made_on_slurm: tuple[Experiment, Told],
+                                                          slurm: Cluster) -> None:
     number = number_of(made_on_slurm[1].stderr)
     assert slurm.tells("scontrol", "-o", "show", "job", number).count(f"ArrayJobId={number} ") == 4
 
@@ -461,7 +464,8 @@ MANY = f"instances = [\"shops/b\"]\nseeds = {list(range(1100))}\n"
 @pytest.mark.parametrize(("plan", "words", "array"), [
     (PLAN, [], "1-12"), (PLAN, ["--tasks", "5"], "1-5"), (MANY, [], "1-1000"), (MANY, ["--tasks", "2000"], "1-1100"),
 ], ids=["fewer runs than tasks", "more runs than tasks", "the usual tasks", "more tasks"])
-def test_slurm_is_asked_for_an_array_of(plan: str, words: list[str], array: str, asked: Callable[..., list[str]]) -> None:
+def test_slurm_is_asked_for_an_array_of(plan: str, words: list[str], array: str,
+                                        asked: Callable[..., list[str]]) -> None:
     assert f"--array={array}" in asked(plan, *words)
 
 

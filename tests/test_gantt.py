@@ -94,7 +94,8 @@ class Case(NamedTuple):
 
     def operations(self, machine: int) -> list[tuple[int, int, int]]:
         """Job, start and end of each operation on a machine that takes time."""
-        return [(job, *row[machine]) for job, row in zip(self.order, self.schedule) if row[machine][0] < row[machine][1]]
+        return [(job, start, end) for job, row in zip(self.order, self.schedule) for start, end in [row[machine]]
+                if start < end]
 
     def machines(self) -> range:
         return range(len(self.schedule[0]))
@@ -376,7 +377,8 @@ def test_the_critical_path_leads_from_0_to_the_makespan_without_idle_time(case: 
             assert is_near(outline.start, at, case.makespan), f"start of the path on machine {machine + 1}"
             assert (outline.top + outline.bottom) / 2 == pytest.approx(machine + 1, abs=0.2), "row of the path"
             start, at = round(outline.start), outline.end
-            busy = sum(last - first for _, first, last in case.operations(machine) if start <= first and last <= round(at))
+            busy = sum(last - first for _, first, last in case.operations(machine)
+                       if start <= first and last <= round(at))
             assert is_near(busy, at - outline.start, case.makespan), f"idle time on the path, machine {machine + 1}"
     assert is_near(at, case.makespan, case.makespan), "end of the path"
 

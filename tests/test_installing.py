@@ -169,9 +169,9 @@ def variables(prefix: str, root: pathlib.Path) -> list[str]:
 
 
 def test_an_installation_has_these_files(installed: Installed, copy: Copy) -> None:
-    wanted = {place: (copy.top / file).read_bytes() for place, file in PLACES.items()}
+    prefix = installed.prefix.relative_to(installed.root)
     assert_same_files(files_below(installed.root),
-                      {str(installed.prefix.relative_to(installed.root) / place): text for place, text in wanted.items()})
+                      {str(prefix / place): (copy.top / file).read_bytes() for place, file in PLACES.items()})
 
 
 @pytest.mark.parametrize("place", PLACES)
@@ -225,8 +225,11 @@ SOURCES = ["crates.txt", "crates/pfs/stdin", "crates/pfs/src/main.rt", "crates/p
 BESIDE = ["share/pfs.1", "README.md", "crates/pfs_tests/src/lib.rt", "crates/pfs_calls/src/main.rt"]
 
 
+Builds = Callable[[str], list[str]]
+
+
 @pytest.fixture
-def builds_with_newer(copy: Copy, folder: pathlib.Path) -> Callable[[str], list[str]]:
+def builds_with_newer(copy: Copy, folder: pathlib.Path) -> Builds:
     """In which folders an installation builds, where this file is newer than the program."""
     def built(name: str) -> list[str]:
         path = copy.top / name
@@ -242,12 +245,12 @@ def builds_with_newer(copy: Copy, folder: pathlib.Path) -> Callable[[str], list[
 
 
 @pytest.mark.parametrize("name", SOURCES)
-def test_a_newer_source_has_the_program_built(name: str, copy: Copy, builds_with_newer: Callable[[str], list[str]]) -> None:
+def test_a_newer_source_has_the_program_built(name: str, copy: Copy, builds_with_newer: Builds) -> None:
     assert builds_with_newer(name) == [str(copy.top / "crates" / "pfs")]
 
 
 @pytest.mark.parametrize("name", BESIDE)
-def test_what_is_no_source_has_nothing_built(name: str, builds_with_newer: Callable[[str], list[str]]) -> None:
+def test_what_is_no_source_has_nothing_built(name: str, builds_with_newer: Builds) -> None:
     assert builds_with_newer(name) == []
 
 
@@ -277,7 +280,8 @@ def test_readme_names_the_c_library_that_the_program_needs(top: pathlib.Path, pf
     assert told and told[1] == newest_libc(pfs.path)
 
 
-def test_readme_names_the_libraries_that_the_program_takes(top: pathlib.Path, pfs: Program, folder: pathlib.Path) -> None:
+def test_readme_names_the_libraries_that_the_program_takes(top: pathlib.Path, pfs: Program,
+                                                           folder: pathlib.Path) -> None:
     libraries = re.findall(r"(\S+) => /", printed_by(["ldd", pfs.path], folder))
     told = re.findall(r"of which it takes `([^`]+)` alone", (top / "README.md").read_text())
     assert libraries == told
@@ -511,8 +515,8 @@ def test_the_packages_version_is_that_of_its_name(made: Made) -> None:
 
 
 def test_all_in_the_package_is_roots_at_the_commits_time(made: Made, copy: Copy) -> None:
-    text = subprocess.run(["dpkg-deb", "--fsys-tarfile", str(made.path(".deb"))], capture_output=True, check=True).stdout
-    with tarfile.open(fileobj=io.BytesIO(text)) as tar:
+    done = subprocess.run(["dpkg-deb", "--fsys-tarfile", str(made.path(".deb"))], capture_output=True, check=True)
+    with tarfile.open(fileobj=io.BytesIO(done.stdout)) as tar:
         members = tar.getmembers()
     assert {(it.uid, it.gid, it.mtime) for it in members} == {(0, 0, commit_time(copy))}
 
@@ -521,8 +525,8 @@ def test_the_packages_program_runs(extracted: pathlib.Path, folder: pathlib.Path
     assert_runs(extracted / "usr" / "bin" / "pfs", folder)
 
 
-def test_the_package_is_installed_into_an_empty_root_and_leaves_nothing(made: Made, extracted: pathlib.Path, pfs: Program,
-                                                                        folder: pathlib.Path) -> None:
+def test_the_package_is_installed_into_an_empty_root_and_leaves_nothing(
+        made: Made, extracted: pathlib.Path, pfs: Program, folder: pathlib.Path) -> None:
     need("dpkg")
     if os.geteuid() != 0:
         missing("only root installs a package")

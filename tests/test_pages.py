@@ -31,9 +31,9 @@ MOST_SECONDS = 120
 
 def tables(text: str) -> list[list[list[str]]]:
     """The cells of each table, row by row, without the rule below its head."""
-    found = re.findall(r"(?:^\|.*\|\n)+", text, re.MULTILINE)
-    return [[[cell.strip() for cell in line.strip("|").split("|")] for at, line in enumerate(table.splitlines()) if at != 1]
-            for table in found]
+    found = [table.splitlines() for table in re.findall(r"(?:^\|.*\|\n)+", text, re.MULTILINE)]
+    return [[[cell.strip() for cell in line.strip("|").split("|")] for line in [head, *rows]]
+            for head, _, *rows in found]
 
 
 def table(text: str, *head: str) -> list[list[str]]:
@@ -49,7 +49,8 @@ def number(text: str) -> int:
 def plain(source: str) -> str:
     """A part of the manual page's source as one line of its words."""
     words = re.sub(r"^\.(?:Cm|Li|Ar|Nm) ", "", source, flags=re.MULTILINE)
-    return " ".join(re.sub(r"^\.(?:Bl|El|Pp).*$", "", words, flags=re.MULTILINE).split()).replace(" ,", ",").replace(" .", ".")
+    line = " ".join(re.sub(r"^\.(?:Bl|El|Pp).*$", "", words, flags=re.MULTILINE).split())
+    return line.replace(" ,", ",").replace(" .", ".")
 
 
 def section(title: str) -> str:
@@ -101,7 +102,7 @@ EXAMPLES = {"README.md": readme_examples(), "pfs.1": manual_examples()}
 
 @pytest.fixture(scope="module")
 def shown(pfs: Program, tmp_path_factory: pytest.TempPathFactory) -> Callable[[Example], str]:
-    """What the commands of a page print, run one after the other, in a folder that has the folders of the repository."""
+    """What the commands of a page print, run one after the other in a folder that has the folders of the repository."""
     printed: dict[str, dict[Example, str]] = {}
 
     def run(example: Example) -> str:
@@ -163,9 +164,11 @@ def faults_of_formats() -> dict[str, int]:
             for _, text, status in table(FORMATS, "Fault", "Text", "Status")}
 
 
+EXITS = table(README, "Exit status", "When", "Standard error")
+
+
 def faults_of_readme() -> dict[str, int]:
-    rows = table(README, "Exit status", "When", "Standard error")
-    return {text: int(status) for status, _, told in rows for text in re.findall("`(pfs: [^`]+)`", told)}
+    return {text: int(status) for status, _, told in EXITS for text in re.findall("`(pfs: [^`]+)`", told)}
 
 
 def faults_of_manual() -> dict[str, int]:
@@ -201,7 +204,7 @@ def test_readme_tells_all_faults_but_those_of_files() -> None:
     assert sorted(faults_of_readme()) == sorted(set(FAULTS) - of_files - {"pfs: usage"})
 
 
-@pytest.mark.parametrize("row", table(README, "Exit status", "When", "Standard error"), ids=[row[1][:40] for row in table(README, "Exit status", "When", "Standard error")])
+@pytest.mark.parametrize("row", EXITS, ids=[when[:40] for _, when, _ in EXITS])
 def test_when_a_status_of_readme_comes(row: list[str], pfs: Program, worked: pathlib.Path) -> None:
     status, when, told = row
     lines = [line for phrase, lines in WHEN.items() if phrase in when for line in lines]
@@ -248,8 +251,7 @@ def verdicts(text: str) -> set[tuple[str, str]]:
 
 
 @pytest.mark.parametrize("text", [
-    pytest.param(next(when for status, when, _ in table(README, "Exit status", "When", "Standard error")
-                      if status == "1").replace("`", ""), id="README.md"),
+    pytest.param(" ".join(when for status, when, _ in EXITS if status == "1").replace("`", ""), id="README.md"),
     pytest.param(plain(items(section("EXIT STATUS"))["1"]), id="pfs.1"),
 ])
 def test_a_page_tells_which_verdicts_end_with_status_1(text: str, pfs: Program, worked: pathlib.Path) -> None:
@@ -383,7 +385,8 @@ def default_of(page: str, option: str) -> int:
 
 @pytest.mark.parametrize("option", RANGED)
 @pytest.mark.parametrize("page", ["README.md", "pfs.1"])
-def test_a_default_is_as_without_and_one_more_is_not(page: str, option: str, pfs: Program, folder: pathlib.Path) -> None:
+def test_a_default_is_as_without_and_one_more_is_not(page: str, option: str, pfs: Program,
+                                                     folder: pathlib.Path) -> None:
     default = default_of(page, option)
     (folder / "shop").write_bytes(generated(20, 5, 1))
     call = "solve --layout taillard --cells shop" + " --rounds=3" * (option != "--rounds")
@@ -399,7 +402,8 @@ def test_the_default_take_of_fewer_jobs_is_their_number(pfs: Program, worked: pa
     assert without == all_jobs != fewer
 
 
-@pytest.mark.parametrize(("script", "told"), [("_pfs", r"--(\w+)=\[([^]]*)\]"), ("pfs.fish", r"-l (\w+) .*-d '([^']*)'")])
+@pytest.mark.parametrize(("script", "told"), [("_pfs", r"--(\w+)=\[([^]]*)\]"),
+                                              ("pfs.fish", r"-l (\w+) .*-d '([^']*)'")])
 def test_a_range_in_a_completion_is_the_manual_pages(script: str, told: str) -> None:
     text = (TOP / "share" / "completions" / script).read_text().replace("\\\n", "")
     found = {f"--{name}": ranges(said)[0] for name, said in re.findall(told, text) if ranges(said)}
@@ -500,7 +504,8 @@ ORDER_LIMITS = {
 
 
 @pytest.mark.parametrize(("text", "pattern"), ORDER_LIMITS.values(), ids=ORDER_LIMITS)
-def test_the_limit_of_an_order_file_is_the_programs(text: str, pattern: str, pfs: Program, worked: pathlib.Path) -> None:
+def test_the_limit_of_an_order_file_is_the_programs(text: str, pattern: str, pfs: Program,
+                                                    worked: pathlib.Path) -> None:
     told = re.search(pattern, text)
     assert told, "no limit of an order file"
     found = []
@@ -526,8 +531,8 @@ def syntax(text: str, pfs: Program, worked: pathlib.Path) -> int | None:
 
 
 def test_the_offsets_of_formats_are_the_programs(pfs: Program, worked: pathlib.Path) -> None:
-    told = re.search(r"So `(.*)` is refused at (\d+), `(.*)` and then the end at (\d+), `(.*)` and a line end at (\d+), "
-                     r"and `(.*)` at (\d+)\.", FORMATS)
+    told = re.search(r"So `(.*)` is refused at (\d+), `(.*)` and then the end at (\d+), "
+                     r"`(.*)` and a line end at (\d+), and `(.*)` at (\d+)\.", FORMATS)
     assert told, "no sentence on offsets"
     ends = ["", "", "\n", "\n"]
     for at, end in enumerate(ends):
@@ -548,7 +553,8 @@ def test_the_numerals_of_order_files_are_as_formats_says(pfs: Program, worked: p
     (r"A job numeral is .* followed by at most (\w+) digits", "order2 3 2\n{} 1 2\nmakespan 0\n"),
     (r"V is .* followed by at most (\w+) digits", "order2 3 2\n1 2 3\nmakespan {}\n"),
 ], ids=["a job", "a makespan"])
-def test_a_numeral_has_as_many_digits_as_formats_says(words: str, text: str, pfs: Program, worked: pathlib.Path) -> None:
+def test_a_numeral_has_as_many_digits_as_formats_says(words: str, text: str, pfs: Program,
+                                                      worked: pathlib.Path) -> None:
     told = re.search(words, FORMATS)
     assert told, "no sentence on the digits"
     most = 1 + {"eight": 8, "seventeen": 17}[told[1]]

@@ -81,7 +81,8 @@ def test_a_report_has_its_table_and_its_plots(ending: str, report: Reported, fol
 
 def test_pictures_are_png_where_nothing_is_said(report: Reported, folder: pathlib.Path) -> None:
     assert report(REPORTED).status == 0
-    assert sorted(path.name for path in (folder / "report").iterdir()) == ["gap.png", "table.csv", "table.md", "time.png"]
+    made = sorted(path.name for path in (folder / "report").iterdir())
+    assert made == ["gap.png", "table.csv", "table.md", "time.png"]
 
 
 @pytest.mark.parametrize("text", BAD.values(), ids=BAD)
@@ -145,7 +146,8 @@ def times(report: Reported, folder: pathlib.Path) -> Picture:
     ("20-5", {"median": [3, 3], "box": [2, 2, 2, 4, 4], "least": [1, 2], "greatest": [4, 10]}),
     ("100-10", {"median": [7, 7], "box": [7, 7, 7, 7, 7], "least": [7, 7], "greatest": [7, 7]}),
 ], ids=["20 by 5", "100 by 10"])
-def test_a_box_has_the_nanoseconds_a_cell_of_most_rounds(size: str, parts: dict[str, list[float]], times: Picture) -> None:
+def test_a_box_has_the_nanoseconds_a_cell_of_most_rounds(size: str, parts: dict[str, list[float]],
+                                                         times: Picture) -> None:
     scale = times.down()
     found = {part: sorted(round(scale(y), 3) for _, y in times.line(f"{part}-{size}")) for part in parts}
     assert found == parts
