@@ -13,6 +13,8 @@ import shutil
 import subprocess
 import sys
 import tomllib
+from collections.abc import Iterator
+from typing import Any, TextIO
 
 HERE = pathlib.Path(__file__).resolve().parent
 # Where the program is looked for.
@@ -31,7 +33,7 @@ class Refused(Exception):
     """Why a plan can't be run, on one line."""
 
 
-def need(program, package):
+def need(program: str, package: str) -> None:
     """Refuses where a program isn't there."""
     if shutil.which(program) is None:
         raise Refused(f"{program} isn't there (Debian: {package})")
@@ -39,7 +41,7 @@ def need(program, package):
 
 # The plan
 
-def read_plan(path):
+def read_plan(path: str) -> dict[str, Any]:
     """The plan with all that it leaves out, and its patterns replaced by the files that they match."""
     try:
         plan = tomllib.loads(pathlib.Path(path).read_text())
@@ -62,15 +64,15 @@ def read_plan(path):
     return full
 
 
-def is_number(value):
+def is_number(value: object) -> bool:
     return type(value) is int and value >= 0
 
 
-def matches(path, patterns):
+def matches(path: str, patterns: object) -> list[str]:
     """The files that the patterns match, each once, by their paths from the plan's folder."""
     if not isinstance(patterns, list) or not all(isinstance(pattern, str) for pattern in patterns) or not patterns:
         raise Refused(f"{path}: instances must be a list of paths")
-    found = {}
+    found: dict[str, None] = {}
     for pattern in patterns:
         names = sorted(glob.glob(pattern, root_dir=os.path.dirname(path) or "."))
         if not names:
@@ -84,7 +86,7 @@ def matches(path, patterns):
 
 # The folder of the runs
 
-def prepare(plan_path, csv_path, program):
+def prepare(plan_path: str, csv_path: str, program: str | None) -> tuple[pathlib.Path, TextIO]:
     """The folder of this plan's runs, and its lock, which is held until all that inherit it have ended. A plan that was
     begun goes on with the program and the instances that it was begun with."""
     plan = read_plan(plan_path)
@@ -108,14 +110,14 @@ def prepare(plan_path, csv_path, program):
     return folder, lock
 
 
-def begin(plan, plan_folder, folder, program):
+def begin(plan: dict[str, Any], plan_folder: str, folder: pathlib.Path, program: str) -> None:
     """Copies what the runs read, and writes their list. The file plan.json comes last, and tells that all is there."""
     for half_done in folder.glob("pfs-experiment-*"):
         shutil.rmtree(half_done)
     stage = folder / f"pfs-experiment-{secrets.token_hex(6)}"
     (stage / "instances").mkdir(parents=True)
     (folder / "results").mkdir(exist_ok=True)
-    for source, name in ((program, "pfs"), (HERE / "one", "one")):
+    for source, name in ((pathlib.Path(program), "pfs"), (HERE / "one", "one")):
         shutil.copy(source, stage / name)
         (stage / name).chmod(0o755)
     for place, name in enumerate(plan["instances"], 1):
@@ -127,7 +129,7 @@ def begin(plan, plan_folder, folder, program):
     os.replace(folder / "plan.new", folder / "plan.json")
 
 
-def each_run(plan, stage):
+def each_run(plan: dict[str, Any], stage: pathlib.Path) -> Iterator[tuple[object, ...]]:
     """The runs in the order of the CSV, instance by instance."""
     numbers = [plan["rounds"], plan["takes"] or [None], plan["passes"], plan["seeds"]]
     numbers += [range(1, plan["repetitions"] + 1)]
@@ -141,36 +143,39 @@ def each_run(plan, stage):
                    label)
 
 
-def size_of(stage, file, layout, block):
+def size_of(stage: pathlib.Path, file: str, layout: str, block: int) -> tuple[str, str]:
     """Jobs and machines of an instance, hyphens where pfs refuses it."""
     words = ["./pfs", "convert", "--from", layout, "--to", "orlib", "--block", str(block), file]
     done = subprocess.run(words, cwd=stage, stdin=subprocess.DEVNULL, capture_output=True, text=True)
-    return done.stdout.splitlines()[1].split() if done.returncode == 0 else ("-", "-")
+    if done.returncode != 0:
+        return "-", "-"
+    jobs, machines = done.stdout.splitlines()[1].split()
+    return jobs, machines
 
 
-def stage_of(folder):
+def stage_of(folder: pathlib.Path) -> str:
     """The name of the folder in which the program, the instances and `one` are."""
     return next(folder.glob("pfs-experiment-*")).name
 
 
-def runs_of(folder):
+def runs_of(folder: pathlib.Path) -> list[dict[str, str]]:
     with open(folder / "runs.tsv", newline="") as file:
         return [dict(zip(RUN, line.rstrip("\n").split("\t"))) for line in file]
 
 
 # What the runs gave
 
-def result_of(folder, number):
+def result_of(folder: pathlib.Path, number: str) -> dict[str, str] | None:
     """What a run printed, or nothing where it hasn't printed all."""
     try:
         text = (folder / "results" / number).read_text()
     except FileNotFoundError:
         return None
-    row = next(csv.reader(io.StringIO(text)), [])
+    row: list[str] = next(csv.reader(io.StringIO(text)), [])
     return dict(zip(RESULT, row)) if text.endswith("\n") and len(row) == len(RESULT) and row[0] == number else None
 
 
-def logged(folder):
+def logged(folder: pathlib.Path) -> dict[str, str]:
     """The lines of GNU parallel's log by the number of the run, the last of each."""
     try:
         lines = (folder / "joblog").read_text().splitlines()[1:]
@@ -179,13 +184,13 @@ def logged(folder):
     return {line.split("\t")[0]: line for line in lines if line.count("\t") >= 8}
 
 
-def ending_of(line):
+def ending_of(line: str) -> dict[str, str]:
     """How a run without a result ended."""
     exit_status, term = line.split("\t")[6:8]
     return {"status": f"lost: exit {exit_status}, signal {term}"}
 
 
-def row_of(run, result):
+def row_of(run: dict[str, str], result: dict[str, str]) -> dict[str, str]:
     """The row of a run; what isn't known is left empty."""
     known = {column: value for column, value in run.items() if value != "-" or column == "instance"}
     row = {column: {**known, **result}.get(column, "") for column in COLUMNS}
@@ -195,7 +200,7 @@ def row_of(run, result):
     return row
 
 
-def gather(folder, csv_path):
+def gather(folder: pathlib.Path, csv_path: str) -> tuple[int, int]:
     """Writes the CSV of the runs that have ended, tells how many failed and are left, and answers these numbers."""
     log = logged(folder)
     rows, left, failed = [], 0, 0

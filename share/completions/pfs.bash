@@ -18,7 +18,7 @@ _pfs_paths() {
 }
 
 _pfs() {
-    local word= value_of= is_ended= paths=0 given=' ' at
+    local word='' value_of='' is_ended='' paths=0 given=' ' at
     COMPREPLY=()
     if [ "$COMP_CWORD" = 1 ]; then
         mapfile -t COMPREPLY < <(compgen -W 'value solve check table convert generate' -- "$2")

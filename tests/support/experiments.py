@@ -1,0 +1,172 @@
+"""Plans of experiments, the CSV that must come of them, and programs in the place of pfs that wait or fail."""
+import csv
+import fcntl
+import itertools
+import os
+import pathlib
+from collections.abc import Iterator, Sequence
+from contextlib import contextmanager
+from typing import Any, NamedTuple
+
+import pytest
+from support.program import Program
+from support.tools import Told, told_by, write_script
+
+PLAN = """instances = ["shops/*"]
+rounds = [0, 30]
+seeds = [1, 2, 3]
+"""
+SHOPS = {"a": (20, 5, 873654221), "b": (3, 2, 7)}
+HEAD = "instance,jobs,machines,rounds,take,passes,seed,repetition,makespan,bound,gap_percent,cells,seconds,status"
+
+# Notes each search, and then waits at the gate, a pipe, as long as there is one.
+WAITING = """#!/bin/sh
+case "$1" in solve)
+    echo "$*" >> {notes}
+    if [ -p {gate} ]; then read -r line < {gate}; fi ;;
+esac
+exec {pfs} "$@"
+"""
+
+
+class Row(NamedTuple):
+    """A row of the CSV but for the seconds."""
+    instance: str
+    jobs: str
+    machines: str
+    rounds: str
+    take: str
+    passes: str
+    seed: str
+    repetition: str
+    makespan: str
+    bound: str
+    gap_percent: str
+    cells: str
+    status: str
+
+
+class Experiment(NamedTuple):
+    """A folder with shops and a plan, and the program that its runs are made with."""
+    top: pathlib.Path
+    folder: pathlib.Path
+    pfs: Program
+
+    def script(self, name: str, *words: str, program: pathlib.Path | None = None, **how: Any) -> Told:
+        """Runs a script of the experiments."""
+        return told_by(self.words(name, *words, program=program), self.folder, **how)
+
+    def words(self, name: str, *words: str, program: pathlib.Path | None = None) -> list[str | pathlib.Path]:
+        return [self.top / "experiments" / name, "--pfs", program or self.pfs.path, *words]
+
+    def run(self, csv_name: str = "out.csv", *words: str, program: pathlib.Path | None = None, **how: Any) -> Told:
+        """Makes the runs of the plan by GNU parallel."""
+        return self.script("run", "plan.toml", csv_name, *words, program=program, **how)
+
+    def printed(self, *words: str) -> str:
+        ran = self.pfs.run(words, self.folder)
+        assert ran.status == 0, ran
+        return ran.stdout.decode()
+
+    def wanted(self, rounds: Sequence[int] = (0, 30), seeds: Sequence[int] = (1, 2, 3)) -> list[Row]:
+        """The rows of the plan, each by its own search and audit."""
+        return [self.wanted_row(f"shops/{name}", SHOPS[name], many, seed)
+                for name, many, seed in itertools.product(SHOPS, rounds, seeds)]
+
+    def wanted_row(self, shop: str, size: tuple[int, int, int], rounds: int, seed: int) -> Row:
+        jobs, machines, _ = size
+        take = min(4, jobs)
+        options = ["--rounds", str(rounds), "--take", str(take), "--seed", str(seed), "--cells"]
+        *order, cells = self.printed("solve", "--layout", "taillard", *options, shop).splitlines(keepends=True)
+        (self.folder / "order").write_text("".join(order))
+        verdict = self.printed("check", "--layout", "taillard", shop, "order").splitlines()
+        makespan, bound = (int(verdict[line].split()[1]) for line in (1, 2))
+        gap = f"{(makespan / bound - 1) * 100:.4f}"
+        numbers = map(str, (jobs, machines, rounds, take, 0, seed, 1, makespan, bound))
+        return Row._make([shop, *numbers, gap, cells.split()[1], "ok"])
+
+    def rows(self, name: str = "out.csv") -> list[Row]:
+        return [row for row, _ in self.rows_and_seconds(name)]
+
+    def rows_and_seconds(self, name: str = "out.csv") -> list[tuple[Row, str]]:
+        """The rows of a CSV, the seconds apart."""
+        lines = (self.folder / name).read_text().splitlines()
+        assert lines[:1] == [HEAD], "columns"
+        return [(Row._make(row[:12] + row[13:]), row[12]) for row in csv.reader(lines[1:])]
+
+    @property
+    def runs(self) -> pathlib.Path:
+        """The folder of the runs."""
+        return self.folder / "out.csv.d"
+
+    # Programs that wait
+
+    def waiting(self) -> pathlib.Path:
+        """The program that waits at the gate."""
+        text = WAITING.format(notes=self.folder / "notes", gate=self.folder / "gate", pfs=self.pfs.path)
+        return write_script(self.folder / "waiting", text)
+
+    @contextmanager
+    def gate(self) -> Iterator["Gate"]:
+        """The gate, which is there, and shut, until the block ends."""
+        path = self.folder / "gate"
+        os.mkfifo(path)
+        gate = Gate(path, os.open(path, os.O_RDWR))
+        try:
+            yield gate
+        finally:
+            gate.open()
+
+    def started(self) -> list[str]:
+        """The searches that were started, by their words."""
+        notes = self.folder / "notes"
+        return notes.read_text().splitlines() if notes.exists() else []
+
+    def searches(self) -> dict[str, int]:
+        """How often each run's search was started."""
+        started = [(*line.split()[2:7:2], line.split()[-1]) for line in self.started()]
+        runs = [line.split("\t") for line in (self.runs / "runs.tsv").read_text().splitlines()]
+        return {run[0]: started.count((run[4], run[6], run[7], run[1])) for run in runs}
+
+    def logged(self) -> set[str]:
+        """The numbers of the runs that GNU parallel has logged as done."""
+        try:
+            lines = (self.runs / "joblog").read_text().splitlines()[1:]
+        except FileNotFoundError:
+            return set()
+        return {line.split("\t")[0] for line in lines if line.split("\t")[6:8] == ["0", "0"]}
+
+    def wait_for_all(self) -> None:
+        """Waits until all that the starts before have begun has ended: they hold the lock."""
+        with open(self.runs / "lock", "w") as lock:
+            fcntl.flock(lock, fcntl.LOCK_EX)
+
+
+class Gate:
+    def __init__(self, path: pathlib.Path, end: int) -> None:
+        self.path, self.end, self.is_open = path, end, False
+
+    def let_through(self, count: int) -> None:
+        os.write(self.end, b"\n" * count)
+
+    def open(self) -> None:
+        """Lets all through, those that wait and those to come."""
+        if not self.is_open:
+            self.is_open = True
+            self.path.unlink()
+            os.close(self.end)
+
+
+@pytest.fixture
+def experiment(top: pathlib.Path, pfs: Program, folder: pathlib.Path) -> Experiment:
+    """The shops and the plan, in a new folder."""
+    return planned(top, pfs, folder)
+
+
+def planned(top: pathlib.Path, pfs: Program, folder: pathlib.Path, text: str = PLAN) -> Experiment:
+    made = Experiment(top, folder, pfs)
+    (folder / "shops").mkdir()
+    for name, size in SHOPS.items():
+        (folder / "shops" / name).write_text(made.printed("generate", *map(str, size)))
+    (folder / "plan.toml").write_text(text)
+    return made

@@ -1,0 +1,59 @@
+"""Programs at a terminal."""
+import errno
+import os
+import pathlib
+import pty
+import select
+import subprocess
+import time
+from collections.abc import Callable, Sequence
+from typing import Any
+
+MOST_SECONDS = 60.0
+
+
+class Terminal:
+    """A terminal with a program at it, which is ended where the block ends."""
+
+    def __init__(self, words: Sequence[str], cwd: pathlib.Path, **how: Any) -> None:
+        self.end, other = pty.openpty()
+        self.seen = b""
+        self.process = subprocess.Popen(words, cwd=cwd, stdin=other, stdout=other, stderr=other, start_new_session=True,
+                                        **how)
+        os.close(other)
+
+    def __enter__(self) -> "Terminal":
+        return self
+
+    def __exit__(self, *_: object) -> None:
+        self.process.kill()
+        self.process.wait()
+        os.close(self.end)
+
+    def write(self, text: str) -> None:
+        os.write(self.end, text.encode())
+
+    def read(self) -> bool:
+        """Reads what is there; answers whether there will be more."""
+        try:
+            text = os.read(self.end, 4096)
+        except OSError as error:
+            if error.errno != errno.EIO:
+                raise
+            text = b""
+        self.seen += text
+        return text != b""
+
+    def read_until(self, has_come: Callable[[], bool], what: str) -> None:
+        """Reads until something has come."""
+        end = time.monotonic() + MOST_SECONDS
+        while not has_come():
+            assert time.monotonic() < end, f"not yet: {what}, after {self.seen[-200:]!r}"
+            if select.select([self.end], [], [], 0.01)[0]:
+                assert self.read(), f"the end came before: {what}, after {self.seen[-200:]!r}"
+
+    def read_all(self) -> int:
+        """Reads until the program ends, and answers its status."""
+        while self.read():
+            pass
+        return self.process.wait(MOST_SECONDS)

@@ -1,0 +1,76 @@
+"""The scripts beside the program, and what they need."""
+import os
+import pathlib
+import subprocess
+import time
+from collections.abc import Callable
+from typing import Any, NamedTuple
+
+import pytest
+from support.needs import not_installed
+
+# A script that takes longer hangs.
+MOST_SECONDS = 120.0
+
+
+class Told(NamedTuple):
+    """The exit status of a script, and what it has written."""
+    status: int
+    stdout: str
+    stderr: str
+
+
+def told_by(words: list[str | pathlib.Path], cwd: pathlib.Path, **how: Any) -> Told:
+    """Runs a script in a folder, where `how`, the arguments of `subprocess.run`, says nothing else on empty input."""
+    how = {"stdin": subprocess.DEVNULL} | how
+    done = subprocess.run([str(word) for word in words], cwd=cwd, capture_output=True, text=True, timeout=MOST_SECONDS,
+                          **how)
+    return Told(done.returncode, done.stdout, done.stderr)
+
+
+def printed_by(words: list[str | pathlib.Path], cwd: pathlib.Path, **how: Any) -> str:
+    """What a script prints that succeeds."""
+    told = told_by(words, cwd, **how)
+    assert told.status == 0, f"{words}: {told}"
+    return told.stdout
+
+
+def write_script(path: pathlib.Path, text: str) -> pathlib.Path:
+    """Writes a script that can be run."""
+    path.write_text(text)
+    path.chmod(0o755)
+    return path
+
+
+def wait_until(has_come: Callable[[], bool], what: str, seconds: float = 60.0) -> None:
+    """Waits for something that another process does. Where it doesn't come the test fails."""
+    end = time.monotonic() + seconds
+    while not has_come():
+        assert time.monotonic() < end, f"after {seconds:g} s not yet: {what}"
+        time.sleep(0.01)
+
+
+def stop(process: subprocess.Popen[Any]) -> None:
+    """Ends a server."""
+    process.terminate()
+    try:
+        process.wait(20)
+    except subprocess.TimeoutExpired:
+        process.kill()
+        process.wait()
+
+
+def with_path(folder: pathlib.Path) -> dict[str, str]:
+    """The environment, in which programs are looked for in this folder first."""
+    return dict(os.environ, PATH=f"{folder}:{os.environ['PATH']}")
+
+
+@pytest.fixture(scope="session")
+def matplotlib() -> None:
+    """Matplotlib of Debian's Python, which the scripts name, and which may not be the Python of the tests."""
+    try:
+        done = subprocess.run(["/usr/bin/python3", "-c", "import matplotlib"], stderr=subprocess.DEVNULL)
+    except FileNotFoundError:
+        not_installed("matplotlib")
+    if done.returncode != 0:
+        not_installed("matplotlib")

@@ -1,0 +1,49 @@
+"""What the usage text says of each command, and which numbers the program takes for an option."""
+import pathlib
+import re
+from typing import NamedTuple
+
+from support.files import USAGE
+from support.program import Program
+
+LAYOUTS = {"taillard", "orlib"}
+LINES = USAGE.decode().splitlines()[1:]
+
+
+class Command(NamedTuple):
+    """The options of a command, each with the letter of its value or nothing, and its paths."""
+    options: dict[str, str]
+    paths: list[str]
+
+
+def commands() -> dict[str, Command]:
+    found = {}
+    for line in LINES:
+        _, name, rest = line.split(" ", 2)
+        options = dict(re.findall(r"(--\w+)(?: ([A-Z])\b)?", rest))
+        found[name] = Command(options, re.findall(r"\b(?:FILE|ORDER)\b", rest))
+    return found
+
+
+def ranges(text: str) -> list[tuple[int, int]]:
+    """The least and the greatest number of each range of a text."""
+    return [(int(least.replace(",", "")), int(most.replace(",", ""))) for least, most
+            in re.findall(r"\b([\d,]+) to ([\d,]*\d)", " ".join(text.split()))]
+
+
+def is_taken(pfs: Program, option: str, number: int, folder: pathlib.Path) -> bool:
+    """Whether a search takes this number: then its file is sought, and there is none."""
+    told = pfs.run(["solve", "--layout", "taillard", f"{option}={number}", "/missing"], folder)
+    answers = {(4, b"pfs: cannot open\n"): True, (3, USAGE): False}
+    assert (told.status, told.stderr) in answers, told
+    return answers[told.status, told.stderr]
+
+
+def ends_taken(pfs: Program, option: str, least: int, most: int, folder: pathlib.Path) -> dict[int, bool]:
+    """Which of a range's ends and of the numbers beside it are taken."""
+    return {number: is_taken(pfs, option, number, folder) for number in (least - 1, least, most, most + 1)}
+
+
+def ends_of(least: int, most: int) -> dict[int, bool]:
+    """What is taken where the range is the program's own."""
+    return {least - 1: False, least: True, most: True, most + 1: False}

@@ -1,0 +1,284 @@
+"""What the completions of bash, zsh and fish offer, each asked in its own shell, against the usage text: commands,
+options that aren't there yet, layouts, and files where a path may stand. What zsh and fish say of an option and of a
+path is compared with what the program takes."""
+import os
+import pathlib
+import re
+import shlex
+import subprocess
+from collections.abc import Callable, Iterator
+from typing import NamedTuple
+
+import pytest
+from support.needs import need
+from support.program import Program, Ran
+from support.terminals import Terminal
+from support.usage import LAYOUTS, commands, ends_of, ends_taken, ranges
+
+FILES = ["best", "three", "two words"]
+SHELLS = ["bash", "zsh", "fish"]
+MOST_SECONDS = 120
+
+# For each line: bash's words, of which the sign of `--layout=orlib` is one, then the function, and what it answers.
+# Where it leaves the word to bash's default, that is a file.
+BASH = """
+source {script}
+compopt() {{ [ "$*" != '-o default' ] || is_file=1; }}
+offer() {{
+    local last=${{@: -1}} is_file=
+    COMP_WORDS=("$@") COMP_CWORD=$(($# - 1))
+    [ "$last" != = ] || last=
+    _pfs pfs "$last" "${{@: -2:1}}"
+    [ -z "$is_file" ] || mapfile -t COMPREPLY < <(compgen -f -- "$last")
+    printf '%s\\n' "${{COMPREPLY[@]}}" '='
+}}
+"""
+
+# Each answer is a word, and perhaps a tab and what is said of it.
+FISH = """
+source {script}
+function offer
+    complete -C $argv[1]
+    echo =
+end
+"""
+
+# Each word that is offered goes to the file `offered`, and the sign to it once all are there. What is said of words
+# goes there behind a tab, and so does the heading above them.
+ZSH = """
+PROMPT=
+fpath=({folder} $fpath)
+autoload -Uz compinit
+compinit -u -D
+zstyle ':completion:*' format '%d'
+compadd() {{
+    if [[ ${{@[1,(i)(-|--)]}} != *-(O|A|D)\\ * ]]; then
+        local -a offered
+        builtin compadd -A offered "$@"
+        print -rl -- $offered >> {offered}
+        local at
+        for ((at = 1; at < $#; ++at)); do
+            case $argv[at] in
+                -(l|)d) print -rl -- $'\\t'${{(P)^argv[at+1]}} >> {offered} ;;
+                -(X|x)) print -rl -- $'\\t'$argv[at+1] >> {offered} ;;
+            esac
+        done
+    fi
+    builtin compadd "$@"
+}}
+offer() {{ zle complete-word; BUFFER=; print = >> {offered} }}
+zle -N offer
+bindkey '^I' offer
+print ready
+"""
+
+
+class Line(NamedTuple):
+    """A line that ends where a word is wanted, and what may be offered there."""
+    text: str
+    offered: set[str]
+
+
+class Answer(NamedTuple):
+    """The words that are offered, and what is said of them."""
+    words: set[str]
+    said: list[str]
+
+
+# What is asked
+
+def option_lines(command: str, options: dict[str, str]) -> Iterator[Line]:
+    yield Line(f"pfs {command} --", set(options))
+    for option, value in options.items():
+        others = set(options) - {option}
+        yield Line(f"pfs {command} {option[:4]}", {other for other in options if other.startswith(option[:4])})
+        if not value:
+            yield Line(f"pfs {command} {option} --", others)
+            continue
+        values = LAYOUTS if value == "L" else set()
+        yield Line(f"pfs {command} {option} ", values)
+        yield Line(f"pfs {command} {option}=", values)
+        yield Line(f"pfs {command} {option} o", {word for word in values if word.startswith("o")})
+        yield Line(f"pfs {command} {option}=t", {word for word in values if word.startswith("t")})
+        yield Line(f"pfs {command} {option} 1 --", others)
+        yield Line(f"pfs {command} {option}=1 --", others)
+        yield Line(f"pfs {command} three {option}=1 --", others)
+    yield Line(f"pfs {command} -- -", set())
+
+
+def path_lines(command: str, options: dict[str, str], most_paths: int) -> Iterator[Line]:
+    needed = "".join(f"{option} orlib " for option, value in options.items() if value == "L")
+    for count in range(most_paths + 1):
+        files = set(FILES) | {"folder"} if count < most_paths else set()
+        yield Line(f"pfs {command} {needed}" + "three " * count, files)
+        yield Line(f"pfs {command} " + "three " * count + needed, files)
+        yield Line(f"pfs {command} -- " + "three " * count, files)
+        yield Line(f"pfs {command} {needed}" + "three " * count + "b", files & {"best"})
+        yield Line(f"pfs {command} " + "a=b " * count + needed, files)
+        yield Line(f"pfs {command} -- " + "a=b " * count, files)
+
+
+def lines() -> Iterator[Line]:
+    listed = commands()
+    yield Line("pfs ", set(listed))
+    yield Line("pfs nothing ", set())
+    for command, (options, paths) in listed.items():
+        yield Line(f"pfs {command[:2]}", {other for other in listed if other.startswith(command[:2])})
+        yield from option_lines(command, options)
+        yield from path_lines(command, options, len(paths))
+
+
+ASKED = list({line.text: line for line in lines()}.values())
+
+
+# How a shell is asked
+
+def answer_of(lines: list[str]) -> Answer:
+    """The words bare: without the folder's sign, the option in front of a value, and the sign before a space."""
+    words = [line.partition("\t")[0].replace("\\ ", " ") for line in lines]
+    said = [line for line in lines if "\t" in line]
+    return Answer({re.sub("^--[a-z]+=", "", word).rstrip("/") for word in words} - {""}, said)
+
+
+def split_answers(text: str) -> list[Answer]:
+    answers = re.split("^=$", text, flags=re.MULTILINE)[:-1]
+    return [answer_of(answer.split("\n")) for answer in answers]
+
+
+def run_all(words: list[str], text: str, folder: pathlib.Path) -> list[Answer]:
+    done = subprocess.run(words, input=text, capture_output=True, text=True, cwd=folder, timeout=MOST_SECONDS)
+    assert done.stderr == "", f"what {words[0]} says"
+    return split_answers(done.stdout)
+
+
+def bash(asked: list[str], folder: pathlib.Path, scripts: pathlib.Path) -> list[Answer]:
+    text = BASH.format(script=shlex.quote(str(scripts / "pfs.bash")))
+    for line in asked:
+        words = [word for part in line.split(" ") for word in re.split("(=)", part) if word or word == part]
+        text += "offer " + shlex.join(words) + "\n"
+    return run_all(["bash", "--norc"], text, folder)
+
+
+def fish(asked: list[str], folder: pathlib.Path, scripts: pathlib.Path) -> list[Answer]:
+    text = FISH.format(script=shlex.quote(str(scripts / "pfs.fish")))
+    return run_all(["fish", "--no-config"], text + "".join(f"offer '{line}'\n" for line in asked), folder)
+
+
+def zsh(asked: list[str], folder: pathlib.Path, scripts: pathlib.Path) -> list[Answer]:
+    """Zsh completes at a terminal only: so it is given one."""
+    offered, start = folder.parent / "offered", folder.parent / "start"
+    offered.touch()
+    start.write_text(ZSH.format(folder=shlex.quote(str(scripts)), offered=shlex.quote(str(offered))))
+    env = dict(os.environ, TERM="dumb", HOME=str(folder.parent))
+    with Terminal(["zsh", "-f", "-i"], folder, env=env) as terminal:
+        terminal.write(f"source {shlex.quote(str(start))}\n")
+        terminal.read_until(lambda: b"\nready" in terminal.seen, "zsh is ready")
+        for number, line in enumerate(asked, 1):
+            terminal.write(line + "\t")
+            terminal.read_until(lambda: offered.read_text().split("\n").count("=") >= number, f"the answer to {line!r}")
+    return split_answers(offered.read_text())
+
+
+ASK: dict[str, Callable[[list[str], pathlib.Path, pathlib.Path], list[Answer]]] = {
+    "bash": bash, "zsh": zsh, "fish": fish}
+Answers = Callable[[str, str], Answer]
+
+
+@pytest.fixture(scope="module")
+def answers(top: pathlib.Path, tmp_path_factory: pytest.TempPathFactory) -> Answers:
+    """What a shell answers to a line. Each shell is started once, and asked all lines."""
+    found: dict[str, dict[str, Answer]] = {}
+
+    def answer(shell: str, line: str) -> Answer:
+        if shell not in found:
+            need(shell)
+            folder = tmp_path_factory.mktemp(shell) / "files"
+            (folder / "folder").mkdir(parents=True)
+            for name in FILES:
+                (folder / name).touch()
+            asked = [line.text for line in ASKED]
+            told = ASK[shell](asked, folder, top / "share" / "completions")
+            assert len(told) == len(asked), f"answers of {shell}"
+            found[shell] = dict(zip(asked, told))
+        return found[shell][line]
+    return answer
+
+
+def in_shells(*shells: str) -> pytest.MarkDecorator:
+    params = [pytest.param(shell, marks=pytest.mark.xdist_group(f"completions of {shell}")) for shell in shells]
+    return pytest.mark.parametrize("shell", params)
+
+
+# What is offered
+
+def test_the_usage_text_has_commands() -> None:
+    assert len(commands()) > 5
+
+
+@pytest.mark.parametrize("line", ASKED, ids=[repr(line.text) for line in ASKED])
+@in_shells(*SHELLS)
+def test_offers(shell: str, line: Line, answers: Answers) -> None:
+    got = answers(shell, line.text).words
+    # where no path may stand, zsh tells the options that may
+    beside = {word for word in got if word.startswith("--")} if line.text.endswith(" ") else set()
+    assert got - beside == line.offered
+
+
+@pytest.mark.parametrize("layout", sorted(LAYOUTS))
+def test_each_layout_that_is_offered_is_taken(layout: str, pfs: Program, folder: pathlib.Path) -> None:
+    assert pfs.run(["value", "--layout", layout, ""], folder) == Ran(b"", b"pfs: cannot open\n", 4)
+
+
+# What is said
+
+def said_of(option: str, answer: Answer) -> str:
+    """What a shell says of an option."""
+    for line in answer.said:
+        word, _, said = line.partition("\t")
+        if word == option:
+            return said
+        told = re.fullmatch(rf"{option}\s+--\s+(.*)", said)
+        if told:
+            return told[1]
+    raise AssertionError(f"nothing is said of {option}: {answer.said}")
+
+
+# A word or two of what each option is for, which what is said of any other option doesn't have.
+MEANT = {"--layout": "layout of the instance file", "--from": "layout of the instance file", "--to": "layout to print",
+         "--block": "which block", "--rounds": "rounds of iterated greedy", "--take": "jobs that a round takes out",
+         "--seed": "seed of the random numbers", "--passes": "passes that a round makes", "--cells": "table cells"}
+OPTIONS = [(command, option) for command, (options, _) in commands().items() for option in options]
+
+
+@pytest.mark.parametrize(("command", "option"), OPTIONS, ids=[" ".join(pair) for pair in OPTIONS])
+@in_shells("zsh", "fish")
+def test_says_of_an_option_what_it_is_for(shell: str, command: str, option: str, answers: Answers) -> None:
+    assert MEANT[option] in said_of(option, answers(shell, f"pfs {command} --")).lower()
+
+
+@pytest.mark.parametrize("option", ["--block", "--rounds", "--take", "--passes"])
+@in_shells("zsh", "fish")
+def test_says_the_range_of_an_option(shell: str, option: str, answers: Answers, pfs: Program,
+                                     folder: pathlib.Path) -> None:
+    said = said_of(option, answers(shell, "pfs solve --"))
+    assert len(ranges(said)) == 1, said
+    (least, most), = ranges(said)
+    assert ends_taken(pfs, option, least, most, folder) == ends_of(least, most), f"what the program takes: {said}"
+
+
+PATHS = [(command, place) for command, (_, paths) in commands().items() for place in range(len(paths))]
+
+
+@pytest.mark.parametrize(("command", "place"), PATHS, ids=[f"{command} {place + 1}" for command, place in PATHS])
+@in_shells("zsh")
+def test_says_which_path_is_wanted(shell: str, command: str, place: int, answers: Answers) -> None:
+    wanted = {"FILE": "instance file", "ORDER": "order file"}[commands()[command].paths[place]]
+    said = [line.strip() for line in answers(shell, f"pfs {command} -- " + "three " * place).said]
+    assert [line for line in said if line in ("instance file", "order file")][:1] == [wanted], said
+
+
+@pytest.mark.parametrize(("option", "wanted"), [("--block", "block"), ("--rounds", "rounds"), ("--take", "jobs"),
+                                                ("--seed", "seed"), ("--passes", "passes")])
+@in_shells("zsh")
+def test_says_which_value_is_wanted(shell: str, option: str, wanted: str, answers: Answers) -> None:
+    assert wanted in [line.strip() for line in answers(shell, f"pfs solve {option}=").said]

@@ -1,0 +1,437 @@
+"""tools/gantt draws each operation that takes time where it is, on its machine's row and in its job's colour, with the
+job's number on it where that fits: read back from its SVG by the axes' own marks. What isn't a time table is refused,
+and no file is left then."""
+import pathlib
+import random
+import re
+import subprocess
+from collections.abc import Callable
+from typing import NamedTuple
+
+import pytest
+from support.files import generated
+from support.pictures import Letters, Picture, contrast, value_of
+from support.program import Program, Ran, ended
+
+THREE = "table 3 2\n2 0 2 2 7\n1 2 5 7 9\n3 5 9 9 10\nmakespan 10\n"
+IDLE = "#d9d9d9"
+# The size of the letters on bars, and in these sizes how far below its middle the base line of a digit is, and how
+# wide a digit is.
+LETTERS, BELOW_MIDDLE, DIGIT = 8, 0.36, 0.636
+BEGINNINGS = {"svg": b"<?xml", "png": b"\x89PNG\r\n", "pdf": b"%PDF-"}
+
+# Start and end of each operation, by place in the order and by machine.
+Schedule = list[list[tuple[int, int]]]
+Gantt = Callable[..., Ran]
+
+BAD = {
+    "nothing": "",
+    "an empty line": "\n",
+    "a verdict": "wrong size\norder 2\njobs 3\n",
+    "a fault": "pfs: cannot open\n",
+    "an empty line behind": THREE + "\n",
+    "another line behind": THREE + "makespan 10\n",
+    "carriage returns": THREE.replace("\n", "\r\n"),
+    "two blanks": THREE.replace(" 9 10", "  9 10"),
+    "no number of machines": THREE.replace("table 3 2", "table 3"),
+    "a third size": THREE.replace("table 3 2", "table 3 2 1"),
+    "a job more in the first line": THREE.replace("table 3 2", "table 4 2"),
+    "a job less in the first line": THREE.replace("table 3 2", "table 2 2"),
+    "a machine less in the first line": THREE.replace("table 3 2", "table 3 1"),
+    "very many machines": THREE.replace("table 3 2", "table 3 99999999999"),
+    "no jobs and no machines": "table 0 0\nmakespan 0\n",
+    "no jobs": "table 0 2\nmakespan 0\n",
+    "a job twice": THREE.replace("\n3 5", "\n2 5"),
+    "a job 4 of 3": THREE.replace("\n3 5", "\n4 5"),
+    "a job 0": THREE.replace("\n3 5", "\n0 5"),
+    "a start before the machine is free": THREE.replace("1 2 5 7 9", "1 1 5 7 9"),
+    "a start before the job is free": THREE.replace("1 2 5 7 9", "1 2 5 6 9"),
+    "a start that waits for nothing": THREE.replace("1 2 5 7 9", "1 3 5 7 9"),
+    "an end before its start": THREE.replace("1 2 5 7 9", "1 2 5 7 6"),
+    "a minus": THREE.replace("1 2 5 7 9", "1 2 5 7 -9"),
+    "a point": THREE.replace("1 2 5 7 9", "1 2 5 7 9.5"),
+    "a digit of another script": THREE.replace("1 2 5 7 9", "1 2 5 7 \u0669"),
+    "no number": THREE.replace("1 2 5 7 9", "1 2 5 7 nan"),
+    "another makespan": THREE.replace("makespan 10", "makespan 11"),
+    "no makespan": THREE.replace("makespan 10", "makespan"),
+}
+BAD_WORDS = {
+    "no words": [],
+    "three paths": ["a", "b", "c.svg"],
+    "a picture without an ending": ["picture"],
+    "an unknown ending": ["picture.gif"],
+    "a folder's name": ["folder.svg"],
+    "a folder that is missing": ["nowhere/picture.svg"],
+    "a bound above the makespan": ["--bound", "11", "picture.svg"],
+    "a bound that is no number": ["--bound", "x", "picture.svg"],
+    "an unknown option": ["--unknown", "picture.svg"],
+    "a table that is missing": ["missing", "picture.svg"],
+}
+
+
+@pytest.fixture(scope="session")
+def gantt(top: pathlib.Path, matplotlib: None) -> Gantt:
+    """Runs tools/gantt in a folder."""
+    def run(folder: pathlib.Path, *words: str, text: str = THREE) -> Ran:
+        child = subprocess.Popen([top / "tools" / "gantt", *words], cwd=folder, stdin=subprocess.PIPE,
+                                 stdout=subprocess.PIPE, stderr=subprocess.PIPE)
+        return ended(child, text.encode())
+    return run
+
+
+# Schedules
+
+class Case(NamedTuple):
+    """What is drawn, and with which options."""
+    name: str
+    order: list[int]
+    schedule: Schedule
+    options: tuple[str, ...] = ("--critical",)
+
+    @property
+    def makespan(self) -> int:
+        return self.schedule[-1][-1][1]
+
+    def operations(self, machine: int) -> list[tuple[int, int, int]]:
+        """Job, start and end of each operation on a machine that takes time."""
+        return [(job, start, end) for job, row in zip(self.order, self.schedule) for start, end in [row[machine]]
+                if start < end]
+
+    def machines(self) -> range:
+        return range(len(self.schedule[0]))
+
+    def text(self) -> str:
+        """What pfs prints of it."""
+        lines = [f"table {len(self.order)} {len(self.schedule[0])}"]
+        lines += [f"{job} " + " ".join(f"{start} {end}" for start, end in row)
+                  for job, row in zip(self.order, self.schedule)]
+        return "\n".join([*lines, f"makespan {self.makespan}"]) + "\n"
+
+
+def schedule_of(times: list[list[int]]) -> Schedule:
+    """Start and end of each operation, jobs in their order, by the recurrence."""
+    free = [0] * len(times[0])
+    rows = []
+    for job in times:
+        row, end = [], 0
+        for machine, time in enumerate(job):
+            start = max(end, free[machine])
+            end = free[machine] = start + time
+            row.append((start, end))
+        rows.append(row)
+    return rows
+
+
+def read_table(name: str, text: str, *options: str) -> Case:
+    rows = [[int(word) for word in line.split()] for line in text.splitlines()[1:-1]]
+    return Case(name, [row[0] for row in rows], [list(zip(row[1::2], row[2::2])) for row in rows], options)
+
+
+def at_random(number: int) -> Case:
+    draws = random.Random(number)
+    jobs, machines, most = draws.randint(1, 12), draws.randint(1, 6), draws.choice([1, 3, 99, 1_000_000])
+    times = [[draws.randint(0, most) for _ in range(machines)] for _ in range(jobs)]
+    times[-1][-1] += not any(map(any, times))
+    order = draws.sample(range(1, jobs + 1), jobs)
+    return Case(f"random {number}, {jobs} by {machines}", order, schedule_of(times))
+
+
+def drawn_by_taillard(jobs: int, machines: int, seed: int) -> Case:
+    rows = [[int(word) for word in line.split()] for line in generated(jobs, machines, seed).splitlines()[3:]]
+    times = [list(job) for job in zip(*rows)]
+    return Case(f"{jobs} by {machines}", list(range(jobs, 0, -1)), schedule_of(times[::-1]))
+
+
+WITH_BOUND = read_table("three jobs", THREE, "--critical", "--bound", "9", "--unit", "min")
+PLAIN = read_table("three jobs, plain", THREE)
+CASES = [
+    WITH_BOUND,
+    PLAIN,
+    Case("nothing takes time, 1 by 1", [1], schedule_of([[0]])),
+    Case("nothing takes time, 2 by 2", [1, 2], schedule_of([[0, 0], [0, 0]])),
+    *map(at_random, range(8)),
+    drawn_by_taillard(20, 5, 873654221),
+    drawn_by_taillard(500, 20, 5),
+]
+
+
+def cases(kept: Callable[[Case], bool] = lambda case: True) -> pytest.MarkDecorator:
+    """The pictures of these cases, each drawn by the process that tests it."""
+    params = [pytest.param(case, id=case.name, marks=pytest.mark.xdist_group(f"gantt, {case.name}"))
+              for case in CASES if kept(case)]
+    return pytest.mark.parametrize("case", params)
+
+
+@pytest.fixture(scope="module")
+def drawn(gantt: Gantt, tmp_path_factory: pytest.TempPathFactory) -> Callable[[Case], Picture]:
+    """The picture of a case, which is drawn once."""
+    pictures: dict[str, Picture] = {}
+
+    def draw(case: Case) -> Picture:
+        if case.name not in pictures:
+            folder = tmp_path_factory.mktemp("picture")
+            assert gantt(folder, *case.options, "picture.svg", text=case.text()) == Ran(b"", b"", 0)
+            pictures[case.name] = Picture(folder / "picture.svg")
+        return pictures[case.name]
+    return draw
+
+
+Drawn = Callable[[Case], Picture]
+
+
+# Bars
+
+def is_near(first: float, second: float, scale: float) -> bool:
+    return abs(first - second) <= 1e-4 * max(1, scale)
+
+
+@cases()
+def test_each_operation_has_its_bar_at_its_time(case: Case, drawn: Drawn) -> None:
+    picture = drawn(case)
+    for machine in case.machines():
+        wanted = case.operations(machine)
+        bars = picture.bars(f"machine-{machine + 1}")
+        assert len(wanted) == len(bars), f"bars of machine {machine + 1}"
+        for (job, start, end), bar in zip(wanted, bars):
+            assert is_near(start, bar.start, case.makespan), f"start of job {job} on machine {machine + 1}"
+            assert is_near(end, bar.end, case.makespan), f"end of job {job} on machine {machine + 1}"
+
+
+@cases()
+def test_each_bar_is_on_its_machines_row(case: Case, drawn: Drawn) -> None:
+    picture = drawn(case)
+    for machine in case.machines():
+        for bar in picture.bars(f"machine-{machine + 1}") + picture.bars(f"strip-{machine + 1}"):
+            assert (bar.top + bar.bottom) / 2 == pytest.approx(machine + 1, abs=0.2), "row of a bar"
+            assert abs(bar.bottom - bar.top) < 1, "height of a bar"
+
+
+@cases()
+def test_each_row_has_a_grey_strip_from_0_to_the_makespan(case: Case, drawn: Drawn) -> None:
+    picture = drawn(case)
+    for machine in case.machines():
+        strip, = picture.bars(f"strip-{machine + 1}")
+        assert strip.fill == IDLE
+        assert is_near(strip.start, 0, case.makespan) and is_near(strip.end, case.makespan, case.makespan), strip
+
+
+def colours_of(case: Case, picture: Picture) -> dict[int, set[str]]:
+    """The colours of each job's bars."""
+    found: dict[int, set[str]] = {}
+    for machine in case.machines():
+        for (job, *_), bar in zip(case.operations(machine), picture.bars(f"machine-{machine + 1}")):
+            found.setdefault(job, set()).add(bar.fill)
+    return found
+
+
+@cases()
+def test_a_job_has_one_colour_and_other_jobs_have_others(case: Case, drawn: Drawn) -> None:
+    colours = colours_of(case, drawn(case))
+    assert [job for job, each in colours.items() if len(each) != 1] == [], "jobs of several colours"
+    assert len(set().union(*colours.values())) >= 0.98 * len(colours), "colours, for so many jobs"
+
+
+def test_a_jobs_colour_is_that_of_its_number_and_not_of_its_place(drawn: Drawn) -> None:
+    times = [[3, 2], [2, 5], [4, 1], [1, 1]]
+    found = []
+    for order in ([1, 2, 3, 4], [3, 1, 4, 2]):
+        case = Case(f"order {order}", order, schedule_of([times[job - 1] for job in order]))
+        found.append(colours_of(case, drawn(case)))
+    assert found[0] == found[1], "colours of the same jobs in another order"
+
+
+# Numbers on bars
+
+def bar_below(case: Case, picture: Picture, letters: Letters) -> tuple[int, int]:
+    """Machine and job of the bar on which a text stands, zeros where there is none."""
+    row = picture.down()(letters.y - BELOW_MIDDLE * letters.size)
+    time = picture.across()(letters.x)
+    for machine in case.machines():
+        for job, start, end in case.operations(machine) if abs(row - machine - 1) < 0.4 else []:
+            if start < time < end:
+                return machine + 1, job
+    return 0, 0
+
+
+def numbers_on(picture: Picture) -> list[Letters]:
+    """The numbers that are no mark's."""
+    marks = {letters for name in picture.groups if re.match("[xy]tick_", name) for letters in picture.texts(name)}
+    return [letters for letters in picture.texts() if letters.text.isdigit() and letters not in marks]
+
+
+@cases()
+def test_each_number_stands_in_the_middle_of_a_bar_of_its_job(case: Case, drawn: Drawn) -> None:
+    picture = drawn(case)
+    for letters in numbers_on(picture):
+        machine, job = bar_below(case, picture, letters)
+        assert int(letters.text) == job, f"number on the bar of job {job} on machine {machine}: {letters}"
+        (start, end), = [(start, end) for each, start, end in case.operations(machine - 1) if each == job]
+        assert is_near(picture.across()(letters.x), (start + end) / 2, case.makespan), f"middle of {letters}"
+
+
+@cases()
+def test_each_bar_has_one_number_where_it_fits(case: Case, drawn: Drawn) -> None:
+    picture = drawn(case)
+    time = picture.across()
+    numbers = [bar_below(case, picture, letters) for letters in numbers_on(picture)]
+    for machine in case.machines():
+        for job, start, end in case.operations(machine):
+            width, wanted = time.on_picture(end - start), DIGIT * LETTERS * len(str(job))
+            count = numbers.count((machine + 1, job))
+            assert count <= (width > wanted), f"numbers on job {job} of machine {machine + 1}, {width} wide"
+            assert count == 1 or width < 1.3 * wanted + 4, f"no number on job {job} of machine {machine + 1}"
+
+
+@cases()
+def test_each_number_can_be_read_on_its_bar(case: Case, drawn: Drawn) -> None:
+    picture = drawn(case)
+    fills = colours_of(case, picture)
+    for letters in numbers_on(picture):
+        (fill,) = fills[int(letters.text)]
+        ink = {"black": "#000000", "white": "#ffffff"}.get(letters.fill, letters.fill)
+        best = max(contrast("#000000", fill), contrast("#ffffff", fill))
+        assert contrast(ink, fill) >= 0.4 * best, f"{letters.fill} letters on {fill}"
+
+
+@cases(lambda case: case.name == "500 by 20")
+def test_narrow_bars_have_no_numbers(case: Case, drawn: Drawn) -> None:
+    assert len(drawn(case).texts()) < 60
+
+
+# Axes
+
+@cases()
+def test_time_goes_to_the_right_and_machines_go_down(case: Case, drawn: Drawn) -> None:
+    picture = drawn(case)
+    for kind, wanted in (("xtick", range(0, max(1, case.makespan) + 1)), ("ytick", range(1, len(case.machines()) + 1))):
+        marks = picture.marks(kind)
+        numbers = [mark.number for mark in marks]
+        assert numbers == sorted(set(numbers)) and set(numbers) <= set(wanted), f"numbers of {kind}"
+        places = [mark.at for mark in marks]
+        assert places == sorted(set(places)), f"where the numbers of {kind} stand: {marks}"
+
+
+@cases()
+def test_each_row_tells_its_machines_idle_share(case: Case, drawn: Drawn) -> None:
+    picture = drawn(case)
+    row = picture.down()
+    told = {round(row(letters.y - BELOW_MIDDLE * letters.size)): letters for letters in picture.texts()
+            if re.fullmatch("[0-9]+ %", letters.text)}
+    shown = [int(mark.number) for mark in picture.marks("ytick")]
+    wanted = {}
+    for machine in shown if case.makespan else []:
+        busy = sum(end - start for _, start, end in case.operations(machine - 1))
+        wanted[machine] = f"{100 - 100 * busy / case.makespan:.0f} %"
+    assert {machine: letters.text for machine, letters in told.items()} == wanted
+    assert all(picture.across()(letters.x) > case.makespan for letters in told.values()), "idle shares at the right"
+
+
+@cases(lambda case: case is WITH_BOUND)
+def test_labels_of_the_axes_stand_beside_them(case: Case, drawn: Drawn) -> None:
+    picture = drawn(case)
+    time, = picture.find("time (min)")
+    machine, = picture.find("machine")
+    idle, = picture.find("idle")
+    assert picture.down()(time.y) > 2.5, "the label of time stands below the machines"
+    assert picture.across()(machine.x) < 0, "the label of the machines stands before time 0"
+    assert picture.across()(idle.x) > 10 and picture.down()(idle.y) < 1, "the label of idle shares stands above them"
+
+
+@cases(lambda case: case is PLAIN)
+def test_the_unit_of_time_is_the_instances_where_none_is_named(case: Case, drawn: Drawn) -> None:
+    picture = drawn(case)
+    assert [letters.text for letters in picture.texts() if letters.text.startswith("time")] \
+        == ["time (units of the instance)"]
+
+
+@cases(lambda case: case in (WITH_BOUND, PLAIN))
+def test_the_title_stands_above_the_rows(case: Case, drawn: Drawn) -> None:
+    picture = drawn(case)
+    beside = ", bound 9 (dashed), critical path outlined" if case is WITH_BOUND else ""
+    letters, = picture.find("3 jobs on 2 machines: makespan 10" + beside)
+    assert picture.down()(letters.y) < 0.5
+
+
+# The bound and the critical path
+
+@cases(lambda case: case is WITH_BOUND)
+def test_the_bound_is_a_dashed_line_at_its_time_through_all_rows(case: Case, drawn: Drawn) -> None:
+    picture = drawn(case)
+    (points, style), = picture.shapes("bound")
+    assert all(is_near(picture.across()(x), 9, 10) for x, _ in points), points
+    rows = [picture.down()(y) for _, y in points]
+    assert min(rows) < 0.7 and max(rows) > 2.3, "rows that the line crosses"
+    assert value_of(style, "stroke-dasharray") != "", f"a line of this style is solid: {style}"
+
+
+@cases(lambda case: case is PLAIN)
+def test_a_plain_picture_has_neither_bound_nor_path(case: Case, drawn: Drawn) -> None:
+    assert not {"bound", "critical-1", "critical-2"} & drawn(case).groups.keys()
+
+
+@cases(lambda case: "--critical" in case.options)
+def test_the_critical_path_leads_from_0_to_the_makespan_without_idle_time(case: Case, drawn: Drawn) -> None:
+    picture, at = drawn(case), 0.0
+    for machine in case.machines():
+        for outline in picture.bars(f"critical-{machine + 1}"):
+            assert is_near(outline.start, at, case.makespan), f"start of the path on machine {machine + 1}"
+            assert (outline.top + outline.bottom) / 2 == pytest.approx(machine + 1, abs=0.2), "row of the path"
+            start, at = round(outline.start), outline.end
+            busy = sum(last - first for _, first, last in case.operations(machine)
+                       if start <= first and last <= round(at))
+            assert is_near(busy, at - outline.start, case.makespan), f"idle time on the path, machine {machine + 1}"
+    assert is_near(at, case.makespan, case.makespan), "end of the path"
+
+
+# Files
+
+def test_what_pfs_prints_is_drawn(pfs: Program, gantt: Gantt, folder: pathlib.Path) -> None:
+    (folder / "shop").write_bytes(generated(60, 5, 5))
+    (folder / "order").write_bytes(pfs.run("solve --layout taillard shop", folder).stdout)
+    table = pfs.run("table --layout taillard shop order", folder).stdout.decode()
+    assert gantt(folder, "--critical", "picture.svg", text=table) == Ran(b"", b"", 0)
+    case = read_table("60 by 5", table)
+    picture = Picture(folder / "picture.svg")
+    assert [len(picture.bars(f"machine-{machine + 1}")) for machine in case.machines()] == [60] * 5
+
+
+@pytest.mark.parametrize("ending", BEGINNINGS)
+def test_a_kind_of_picture_is_the_same_each_time(ending: str, gantt: Gantt, folder: pathlib.Path) -> None:
+    (folder / "table").write_text(THREE)
+    texts = []
+    for _ in range(2):
+        assert gantt(folder, "--critical", "table", f"picture.{ending}") == Ran(b"", b"", 0)
+        texts.append((folder / f"picture.{ending}").read_bytes())
+    assert texts[0].startswith(BEGINNINGS[ending])
+    assert texts[0] == texts[1]
+    assert sorted(path.name for path in folder.iterdir()) == [f"picture.{ending}", "table"]
+
+
+def assert_refused(ran: Ran, folder: pathlib.Path, before: list[pathlib.Path]) -> None:
+    """Nothing but one line on standard error, and no file is left."""
+    assert (ran.status, ran.stdout) == (2, b"")
+    assert re.fullmatch("gantt: [^\n]+\n", ran.stderr.decode()), ran.stderr
+    assert sorted(folder.iterdir()) == before
+
+
+@pytest.mark.parametrize("text", BAD.values(), ids=BAD)
+def test_a_bad_table_is_refused(text: str, gantt: Gantt, folder: pathlib.Path) -> None:
+    assert_refused(gantt(folder, "picture.svg", text=text), folder, [])
+
+
+@pytest.mark.parametrize("end", range(len(THREE)))
+def test_a_table_that_is_cut_is_refused(end: int, gantt: Gantt, folder: pathlib.Path) -> None:
+    assert_refused(gantt(folder, "picture.svg", text=THREE[:end]), folder, [])
+
+
+@pytest.mark.parametrize("words", BAD_WORDS.values(), ids=BAD_WORDS)
+def test_words_are_refused(words: list[str], gantt: Gantt, folder: pathlib.Path) -> None:
+    (folder / "folder.svg").mkdir()
+    assert_refused(gantt(folder, *words), folder, [folder / "folder.svg"])
+
+
+def test_an_old_picture_stays_where_a_table_is_refused(gantt: Gantt, folder: pathlib.Path) -> None:
+    old = folder / "picture.svg"
+    old.write_text("old")
+    assert_refused(gantt(folder, "picture.svg", text=THREE[:-2]), folder, [old])
+    assert old.read_text() == "old"
