@@ -1,0 +1,85 @@
+"""The usage text, and files to run the program on."""
+import pathlib
+
+TITLE = b"number of jobs, number of machines, initial seed, upper bound and lower bound :\n"
+
+USAGE = b"""pfs: usage
+pfs value --layout L [--block K] FILE
+pfs solve --layout L [--block K] [--rounds R] [--take D] [--seed S] [--passes P] [--cells] FILE
+pfs check --layout L [--block K] FILE ORDER
+pfs table --layout L [--block K] FILE ORDER
+pfs convert --from L --to L [--block K] FILE
+pfs generate N M SEED
+"""
+
+
+def taillard(size_line: bytes, *rows: bytes) -> bytes:
+    """The canonical text of an instance in Taillard's layout."""
+    return TITLE + size_line + b"\nprocessing times :\n" + b"".join(row + b"\n" for row in rows)
+
+
+def generated(jobs: int, machines: int, seed: int) -> bytes:
+    """What Taillard's generator draws, by the remainders that define it."""
+    first = seed
+    rows = []
+    for _ in range(machines):
+        times = []
+        for _ in range(jobs):
+            seed = seed * 16807 % 2147483647
+            times.append(b"%d" % (1 + seed * 99 // 2147483647))
+        rows.append(b" ".join(times))
+    return taillard(b"%d %d %d 0 0" % (jobs, machines, first), *rows)
+
+
+THREE_JOBS = taillard(b"3 2 0 0 0", b"3 2 4", b"2 5 1")
+THREE_JOBS_BY_JOB = b"flow shop instance\n3 2\n0 3 1 2\n0 2 1 5\n0 4 1 1\n"
+WITH_NOTES = taillard(b"1 1 7 9 8", b"5")
+
+FILES = {
+    "three": THREE_JOBS,
+    "three.or": THREE_JOBS_BY_JOB,
+    "two_blocks.or": b"+++\ninstance one 1\n+++\nfirst\n1 1\n0 7\n+++\nsecond\n3 2\n0 3 1 2\n0 2 1 5\n0 4 1 1\n+++\n",
+    "notes": WITH_NOTES,
+    "ones": taillard(b"3 2 0 0 0", b"1 1 1", b"1 1 1"),
+    "one": taillard(b"1 1 0 0 0", b"0"),
+    "empty": b"",
+    "mixed": taillard(b"3 2 0 0 0", b"3 2 4", b"2 5x 1"),
+    "extra": taillard(b"3 2 0 0 0", b"3 2 4", b"2 5 1 7"),
+    "longest_time": taillard(b"3 2 0 0 0", b"3 2 4", b"2 5 1000000000"),
+    "too_long_time": taillard(b"3 2 0 0 0", b"3 2 4", b"2 5 1000000001"),
+    "long_time": taillard(b"3 2 0 0 0", b"3 2 4", b"2 5 1000001"),
+    "cut": THREE_JOBS[:118],
+    "count": b"3 2\n",
+    "sizes": b"5001 1 0 0 0\n",
+    "many_jobs": b"2001 1 0 0 0\n",
+    "greatest_sizes": b"5000 200 4294967295 0 0\n",
+    "machine.or": b"d\n1 2\n0 3 2 4\n",
+    "best": b"order 3\n2 1 3\nmakespan 10\n",
+    "best2": b"order2 3 2\n2 1 3\nmakespan 10\n",
+    "numbered2": b"order2 3 2\n1 2 3\nmakespan 11\n",
+    "wrong2": b"order2 3 2\n2 1 3\nmakespan 9\n",
+    "for_three": b"order2 3 3\n2 1 3\nmakespan 9\n",
+    "two_for_three": b"order2 2 3\n1 2\nmakespan 9\n",
+    "repeated_for_three": b"order2 3 3\n2 2 3\nmakespan 9\n",
+    "one_size": b"order2 3\n2 1 3\nmakespan 10\n",
+    "two_sizes": b"order 3 2\n2 1 3\nmakespan 10\n",
+    "leading_zero": b"order2 3 02\n2 1 3\nmakespan 10\n",
+    "machines_201": b"order2 3 201\n2 1 3\nmakespan 10\n",
+    "version_3": b"order3 3\n2 1 3\nmakespan 10\n",
+    "numbered": b"order 3\n1 2 3\nmakespan 11\n",
+    "wrong": b"order 3\n2 1 3\nmakespan 9\n",
+    "two": b"order 2\n1 2\nmakespan 11\n",
+    "repeated": b"order 3\n2 2 3\nmakespan 1\n",
+    "range": b"order 3\n2 1 4\nmakespan 10\n",
+    "short": b"order 3\n2 1\nmakespan 10\n",
+    "too_many": b"order 5001\n",
+    "many": b"order 2001\n",
+    "long": b"o" * 65537,
+}
+
+
+def make_files(folder: pathlib.Path) -> None:
+    """Writes the files into a folder, with a folder beside them."""
+    for name, text in FILES.items():
+        (folder / name).write_bytes(text)
+    (folder / "folder").mkdir()
