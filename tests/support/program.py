@@ -1,5 +1,6 @@
 """Runs of a built program."""
 import dataclasses
+import os
 import pathlib
 import subprocess
 from collections.abc import Sequence
@@ -23,12 +24,12 @@ class Ran(NamedTuple):
 
 @dataclasses.dataclass(frozen=True)
 class Program:
-    """A built program."""
+    """A built program. A path that isn't absolute begins in the folder of the run."""
     path: pathlib.Path
 
     def words(self, words: Words) -> list[str | bytes]:
         """The program and these words."""
-        return [str(self.path), *(words.split(" ") if isinstance(words, str) else words)]
+        return [os.path.join(".", self.path), *(words.split(" ") if isinstance(words, str) else words)]
 
     def start(self, words: Words, cwd: pathlib.Path, **how: Any) -> subprocess.Popen[bytes]:
         """Starts the program in a folder. Standard input is empty, and what is written goes into pipes, as far as
