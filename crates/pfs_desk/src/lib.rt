@@ -8,8 +8,6 @@ mod job;
 pub mod laws;
 mod planning;
 mod solve_options;
-#[cfg(test)]
-mod tests;
 mod usage;
 
 pub use engines::check::run_check;
