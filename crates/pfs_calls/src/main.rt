@@ -1,10 +1,21 @@
-//! Runs the call that its first word names, on a worked example, and prints the answer, or `memory` where a
-//! growth was refused, and then what the refusal has left, if the call has changed something or could have.
-//! `tests/run` runs each call with each growth of memory refused in turn.
+//! Runs the call that its first word names, on the words behind it and standard input or on a worked example, and
+//! prints the answer, or `memory` where a growth was refused, and then what the refusal has left, if the call has
+//! changed something or could have. Tests run each call on a worked example with each growth of memory refused in turn.
 #![tactic(auto)]
 
+mod blocks;
+mod faults;
+mod inserting;
+mod orders;
+mod plans;
+mod rounds;
 mod search;
+mod words;
 
+use blocks::{cuts_call, pieces_call};
+use faults::fault_call;
+use inserting::insertions_call;
+use orders::{order_file_call, write_order_call};
 use pfs_audit::{AuditFault, Verdict, check, makespan, table};
 use pfs_base::{BaseFault, Bench, FromRead, Instance, ToWrite};
 use pfs_desk::{
@@ -15,9 +26,12 @@ use pfs_insert::InsertFault;
 use pfs_layout::{BlockReader, Layout, LayoutFault, generate, read_block};
 use pfs_order::{Order, OrderFault, OrderFile, Seq, read_order};
 use pfs_search::SearchFault;
-use pfs_tests::shops::three_jobs;
+use pfs_tests::shops::{second_and_first, three_jobs};
+use plans::plan_call;
+use rounds::one_round_call;
 use search::{
     afresh_call, heads_tails_call, neh_call, round_call, rounds_call, search_call, turns_call,
+    two_rounds_call,
 };
 use std::alloc::{AllocError, Global};
 use std::{env, io};
@@ -104,8 +118,8 @@ impl From<io::Error> for Stop {
 }
 
 fn main(rt: HostRuntime) -> io::Result<()> {
-    let answer = match name_of(&rt) {
-        Ok(name) => answer_of(&rt, name.as_str()),
+    let answer = match words_of(&rt) {
+        Ok(words) => answer_of(&rt, words.as_slice()),
         Err(stop) => Err(stop),
     };
     match answer {
@@ -115,16 +129,40 @@ fn main(rt: HostRuntime) -> io::Result<()> {
     }
 }
 
-// The first word.
-fn name_of(rt: &HostRuntime) -> Result<String, Stop> {
-    let Ok(words) = env::args(rt) else {
+// The words behind the program's name.
+fn words_of(rt: &HostRuntime) -> Result<Vec<String>, Stop> {
+    let Ok(args) = env::args(rt) else {
         return Err(Stop::Memory);
     };
-    let mut words = words.skip(1);
-    words.next().ok_or(Stop::Other)
+    let mut words = Vec::new(rt.alloc());
+    for word in args.skip(1) {
+        if words.push(word).is_err() {
+            return Err(Stop::Memory);
+        }
+    }
+    Ok(words)
 }
 
-fn answer_of(rt: &HostRuntime, name: &str) -> Result<(), Stop> {
+// The answer of the call that the first word names, on the words behind it.
+fn answer_of(rt: &HostRuntime, words: &[String]) -> Result<(), Stop> {
+    let Some((name, rest)) = words.split_first() else {
+        return Err(Stop::Other);
+    };
+    match name.as_str() {
+        "plan" => plan_call(rt, rest),
+        "fault" => fault_call(rt, rest),
+        "order_file" => order_file_call(rt, rest),
+        "write_order" => write_order_call(rt, rest),
+        "cuts" => cuts_call(rt, rest),
+        "pieces" => pieces_call(rt, rest),
+        "insertions" => insertions_call(rt, rest),
+        "one_round" => one_round_call(rt, rest),
+        name => worked_call(rt, name),
+    }
+}
+
+// A call on a worked example.
+fn worked_call(rt: &HostRuntime, name: &str) -> Result<(), Stop> {
     match name {
         "instance" => instance_call(rt),
         "generate" => generate_call(rt),
@@ -134,6 +172,7 @@ fn answer_of(rt: &HostRuntime, name: &str) -> Result<(), Stop> {
         "identity" => identity_call(rt),
         "read_order" => read_order_call(rt),
         "makespan" => makespan_call(rt),
+        "best_makespan" => best_makespan_call(rt),
         "table" => table_call(rt),
         "check" => check_call(rt, ORDER),
         "check_machines" => check_call(rt, OTHER_MACHINES),
@@ -143,6 +182,7 @@ fn answer_of(rt: &HostRuntime, name: &str) -> Result<(), Stop> {
         "round" => round_call(rt),
         "rounds" => rounds_call(rt),
         "turns" => turns_call(rt),
+        "two_rounds" => two_rounds_call(rt),
         "search" => search_call(rt),
         "run_value" => run_value_call(rt),
         "run_check" => run_check_call(rt),
@@ -269,6 +309,17 @@ fn makespan_call(rt: &HostRuntime) -> Result<(), Stop> {
             makespan(rt.alloc(), &mut bench, order.seq())?
         }
     };
+    println!(rt; "makespan {}, {} cells", bench.reveal(span), bench.cells())?;
+    Ok(())
+}
+
+// The second job, the first and the third.
+fn best_makespan_call(rt: &HostRuntime) -> Result<(), Stop> {
+    let instance = three_jobs(rt.alloc())?;
+    let mut seq = second_and_first(rt.alloc())?;
+    seq.insert_at(2, 2);
+    let mut bench = instance.metered();
+    let span = makespan(rt.alloc(), &mut bench, &seq)?;
     println!(rt; "makespan {}, {} cells", bench.reveal(span), bench.cells())?;
     Ok(())
 }

@@ -32,9 +32,30 @@ fn print_refused(
     Ok(())
 }
 
-fn print_kept(rt: &HostRuntime, bench: &Metered<'_>, kept: &Kept<Span>) -> Result<(), Stop> {
+/// Prints what a search keeps, and how many cells it has counted.
+pub(crate) fn print_kept(
+    rt: &HostRuntime,
+    bench: &Metered<'_>,
+    kept: &Kept<Span>,
+) -> Result<(), Stop> {
     print_order(rt, bench, kept)?;
     println!(rt; ", {} cells", bench.cells())?;
+    Ok(())
+}
+
+// Prints what rounds have kept, and the word that the generator gives behind them.
+fn print_rounds(
+    rt: &HostRuntime,
+    bench: &Metered<'_>,
+    kept: &Kept<Span>,
+    answer: Result<(), SearchFault>,
+    rng: &mut Counting,
+) -> Result<(), Stop> {
+    match answer {
+        Ok(()) => print_kept(rt, bench, kept)?,
+        Err(SearchFault::Memory { done }) => print_refused(rt, bench, kept, done)?,
+    }
+    println!(rt; "next word {}", rng.next_u32())?;
     Ok(())
 }
 
@@ -108,18 +129,8 @@ pub(crate) fn rounds_call(rt: &HostRuntime) -> Result<(), Stop> {
     let mut kept = Kept::new(Order::identity(rt.alloc(), 3)?, bench.zero());
     searcher.neh(rt.alloc(), &mut bench, &mut kept)?;
     let mut rng = Counting::new(1, 2);
-    match searcher.rounds(rt.alloc(), &mut bench, &mut kept, 5, 2, 0, &mut rng) {
-        Ok(()) => {
-            print_kept(rt, &bench, &kept)?;
-            println!(rt; "next word {}", rng.next_u32())?;
-            Ok(())
-        }
-        Err(SearchFault::Memory { done }) => {
-            print_refused(rt, &bench, &kept, done)?;
-            println!(rt; "next word {}", rng.next_u32())?;
-            Ok(())
-        }
-    }
+    let answer = searcher.rounds(rt.alloc(), &mut bench, &mut kept, 5, 2, 0, &mut rng);
+    print_rounds(rt, &bench, &kept, answer, &mut rng)
 }
 
 /// Five rounds behind NEH, of one word each, which is odd, so that each round puts the second job first. Where
@@ -132,18 +143,21 @@ pub(crate) fn turns_call(rt: &HostRuntime) -> Result<(), Stop> {
     let mut kept = Kept::new(Order::identity(rt.alloc(), 2)?, bench.zero());
     searcher.neh(rt.alloc(), &mut bench, &mut kept)?;
     let mut rng = Counting::new(1, 2);
-    match searcher.rounds(rt.alloc(), &mut bench, &mut kept, 5, 1, 0, &mut rng) {
-        Ok(()) => {
-            print_kept(rt, &bench, &kept)?;
-            println!(rt; "next word {}", rng.next_u32())?;
-            Ok(())
-        }
-        Err(SearchFault::Memory { done }) => {
-            print_refused(rt, &bench, &kept, done)?;
-            println!(rt; "next word {}", rng.next_u32())?;
-            Ok(())
-        }
-    }
+    let answer = searcher.rounds(rt.alloc(), &mut bench, &mut kept, 5, 1, 0, &mut rng);
+    print_rounds(rt, &bench, &kept, answer, &mut rng)
+}
+
+/// Two rounds behind NEH, by the words 0 and 1: the first leaves NEH's order, and the second turns it round.
+pub(crate) fn two_rounds_call(rt: &HostRuntime) -> Result<(), Stop> {
+    let instance = two_jobs(rt.alloc())?;
+    let mut bench = instance.metered();
+    let inserter = Afresh::new(rt.alloc(), &bench)?;
+    let mut searcher = Searcher::new(rt.alloc(), 2, inserter)?;
+    let mut kept = Kept::new(Order::identity(rt.alloc(), 2)?, bench.zero());
+    searcher.neh(rt.alloc(), &mut bench, &mut kept)?;
+    let mut rng = Counting::new(0, 1);
+    let answer = searcher.rounds(rt.alloc(), &mut bench, &mut kept, 2, 1, 0, &mut rng);
+    print_rounds(rt, &bench, &kept, answer, &mut rng)
 }
 
 /// NEH and twenty rounds of one pass by heads and tails, where only what is made before them takes memory.

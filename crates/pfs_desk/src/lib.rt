@@ -4,8 +4,6 @@
 mod engines;
 pub mod fault;
 pub mod laws;
-#[cfg(test)]
-mod tests;
 
 pub use engines::check::run_check;
 pub use engines::convert::run_convert;

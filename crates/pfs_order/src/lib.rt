@@ -8,8 +8,6 @@ mod order;
 mod reading;
 mod scan;
 mod seq;
-#[cfg(test)]
-mod tests;
 mod writing;
 
 pub use fault::OrderFault;

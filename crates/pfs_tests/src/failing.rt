@@ -1,11 +1,12 @@
 //! Devices that fail at each call in turn, up to the last that is made and behind it: none is made again, and none
 //! behind a failure or the end.
-use crate::fakes::{Pieces, Taken};
+use crate::fakes::{Broken, Pieces, Taken};
 use crate::texts::{BY_JOB, BY_MACHINE, ORDER, ORDER2};
-use pfs_base::{WriteFault, put};
+use pfs_base::{FromRead, ToWrite, WriteFault, put};
 use pfs_desk::{DeskFault, write_fault};
 use pfs_layout::{Layout, LayoutFault, read_block, write_block};
 use pfs_order::{Order, OrderFault, read_order, write_order};
+use std::io::{ErrorKind, Read};
 use std::process::Abort;
 use std::test::Fail;
 
@@ -39,6 +40,16 @@ fn read_block_reads_up_to_its_answer(rt: HostRuntime) {
             assert_eq!(rt; result.err(), told, "call {call} of {calls}");
             assert_eq!(rt; reader.calls(), call.min(calls));
         }
+    }
+}
+
+#[test]
+fn a_failed_read_is_no_end(rt: HostRuntime) {
+    for kind in [ErrorKind::Interrupted, ErrorKind::Other] {
+        let error = Some(kind);
+        let mut reader = FromRead::new(BY_MACHINE[..120].chain(Broken { error }));
+        let result = read_block(rt.alloc(), &mut reader, Layout::Taillard, 1);
+        assert_eq!(rt; result.err(), Some(LayoutFault::Read));
     }
 }
 
@@ -180,4 +191,16 @@ fn write_fault_writes_up_to_the_end(rt: HostRuntime) {
         Err(WriteFault { written: 3 })
     );
     assert_eq!(rt; writer.bytes(), b"pfs".as_slice());
+}
+
+#[test]
+fn a_fault_text_is_cut_where_a_slice_is_full(rt: HostRuntime) {
+    let mut printed = [0; 3];
+    let mut writer = ToWrite::new(printed.as_mut_slice());
+    let told = DeskFault::Layout(LayoutFault::TooLong);
+    assert_eq!(rt;
+        write_fault(&mut writer, &told),
+        Err(WriteFault { written: 3 })
+    );
+    assert_eq!(rt; printed.as_slice(), b"pfs".as_slice());
 }

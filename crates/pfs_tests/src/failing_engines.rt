@@ -259,6 +259,17 @@ fn each_engine_works_a_byte_a_call(rt: HostRuntime) {
     }
 }
 
+#[test]
+fn convert_works_a_byte_a_call_on_a_later_block(rt: HostRuntime) {
+    let file = b"first\n1 1\n0 7\nsecond\n3 2\n0 3 1 2\n0 2 1 5\n0 4 1 1\nthird\n";
+    let (source, target) = (Layout::OrLib, Layout::Taillard);
+    let mut writer = Taken::new(256, 1);
+    let mut reader = Pieces::new(file, 1, None);
+    let result = run_convert(rt.alloc(), &mut reader, source, target, 2, &mut writer);
+    assert_eq!(rt; result, Ok(Outcome::Done));
+    assert_eq!(rt; writer.bytes(), BY_MACHINE);
+}
+
 // Checks that an engine has written so many bytes of its text, and says how many.
 fn assert_stopped(
     rt: &impl Abort,

@@ -16,8 +16,6 @@ use pfs_layout::Layout;
 use std::alloc::Global;
 
 mod commands;
-#[cfg(test)]
-mod tests;
 mod values;
 
 static LAYOUT_NAMES: [&str; 2] = ["taillard", "orlib"];

@@ -1,5 +1,5 @@
 use Rattle.std.proofs.Common.{◌≡◌}
-use Rattle.pfs_tests.proofs.inserting.same_places.Given as goal
+use Rattle.pfs_calls.proofs.inserting.insert_all.Given as goal
 
 abbrev pub invariant-loop-job : goal.invariant-loop-job
 invariant-loop-job l = record {

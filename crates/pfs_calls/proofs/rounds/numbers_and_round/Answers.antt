@@ -2,8 +2,8 @@ use Rattle.std.proofs.Common.{◌≤◌, length, ap, ◌∙◌, arith}
 use Rattle.std.proofs.Math.Nat.{mul-le-mul}
 use Rattle.pfs_base.specs.FlowShop.{FlowShop}
 use Rattle.pfs_order.specs.Sequence.{Sequence}
-use Rattle.pfs_tests.proofs.SmallCosts.{rows_small, small_round_of_passes}
-use Rattle.pfs_tests.proofs.searching.numbers_and_round_by_rows.Goals as goal
+use Rattle.pfs_calls.proofs.SmallCosts.{afresh_small, small_round_of_passes}
+use Rattle.pfs_calls.proofs.rounds.numbers_and_round.Goals as goal
 
 pub round-requires-clause-room : goal.round-requires-clause-room
 round-requires-clause-room g c =
@@ -12,7 +12,7 @@ round-requires-clause-room g c =
     let same = c.makespan.ensures.shop ∙ c.metered-bench.ensures.shop in
     let jobs = ap (λ (s : FlowShop). s.jobs) same in
     let machines = ap (λ (s : FlowShop). s.machines) same in
-    let more = small_round_of_passes rows_small after.machines (omega (arith, c.requires.machines)) after.jobs
+    let more = small_round_of_passes afresh_small after.machines (omega (arith, c.requires.machines)) after.jobs
     (length c.args.words.now) c.args.passes (omega (arith, c.requires.jobs)) (omega arith) c.requires.passes in
     let all : length c.seq.result.now.jobs ≤ 3 =
     omega (

@@ -1,7 +1,8 @@
+//! Sequences of jobs that are edited, and orders that are made of them.
 ghost use Rattle.std.specs.Prelude.{◌≤◌};
 ghost use Rattle.pfs_base.specs.declared.limits.TheConstants.{MOST_JOBS};
 
-use crate::*;
+use pfs_order::{Order, OrderFault, Seq};
 use std::alloc::Global;
 use std::process::Abort;
 use std::test::Fail;
@@ -60,16 +61,5 @@ fn makes_orders(rt: HostRuntime) -> Result<(), Fail> {
     assert_eq!(rt; full.len(), full.size());
     order.copy_from(&full);
     assert_jobs(&rt, order.seq(), &[1, 0, 2]);
-    Ok(())
-}
-
-#[test]
-fn order_files_hold_what_they_state(rt: HostRuntime) -> Result<(), Fail> {
-    let file = OrderFile::new(Order::identity(rt.alloc(), 2)?, Some(5), 7);
-    assert_jobs(&rt, file.order().seq(), &[0, 1]);
-    assert_eq!(rt; file.order().len(), 2);
-    assert_eq!(rt; file.order().at(1), 1);
-    assert_eq!(rt; file.makespan(), 7);
-    assert_eq!(rt; file.machines(), Some(5));
     Ok(())
 }

@@ -1,0 +1,87 @@
+//! The calls that hand an instance file to a reader piece by piece.
+ghost use Rattle.std.specs.Prelude.{◌≤◌, length};
+
+use crate::Stop;
+use crate::words::{input, layout, number};
+use pfs_base::{Instance, MOST_BLOCKS};
+use pfs_layout::{BlockReader, LayoutFault, Progress};
+
+// A reader of the block that these words say: its layout and its number.
+fn reader_of(rt: &HostRuntime, words: &[String]) -> Result<BlockReader, Stop> {
+    let (layout, block) = (layout(words, 0)?, number(words, 1)?);
+    if 1 <= block && block <= MOST_BLOCKS {
+        Ok(BlockReader::new(rt.alloc(), layout, block))
+    } else {
+        Err(Stop::Other)
+    }
+}
+
+// Prints the times of an instance job by job, or the fault.
+fn print_answer(rt: &HostRuntime, answer: &Result<Instance, LayoutFault>) -> Result<(), Stop> {
+    match answer {
+        Ok(instance) => print_times(rt, instance),
+        Err(fault) => Ok(println!(rt; "{fault:?}")?),
+    }
+}
+
+fn print_times(rt: &HostRuntime, instance: &Instance) -> Result<(), Stop> {
+    print!(rt; "{} jobs, times", instance.jobs())?;
+    for job in 0..instance.jobs() {
+        for machine in 0..instance.machines() {
+            print!(rt; " {}", instance.time(job, machine))?;
+        }
+    }
+    println!(rt; "")?;
+    Ok(())
+}
+
+/// Prints a line for each place where the text on standard input may be cut: what a reader answers that is handed the
+/// text in these two pieces, and last what one answers that is handed it byte by byte.
+pub(crate) fn cuts_call(rt: &HostRuntime, words: &[String]) -> Result<(), Stop> {
+    let text = input(rt)?;
+    for cut in 0..=text.len() {
+        let answer = read_cut(reader_of(rt, words)?, text.as_slice(), cut);
+        print_answer(rt, &answer)?;
+    }
+    let answer = read_bytes(reader_of(rt, words)?, text.as_slice());
+    print_answer(rt, &answer)
+}
+
+// Reads a text in two pieces.
+fn read_cut(mut reader: BlockReader, text: &[u8], cut: usize) -> Result<Instance, LayoutFault>
+    requires cut { cut ≤ length text.now }
+{
+    let (front, rest) = text.split_at(cut);
+    let progress = reader.feed(front)?;
+    if !progress.done {
+        reader.feed(rest)?;
+    }
+    reader.finish()
+}
+
+// Reads a text byte by byte.
+fn read_bytes(mut reader: BlockReader, text: &[u8]) -> Result<Instance, LayoutFault> {
+    for byte in text {
+        reader.feed(&[*byte])?;
+    }
+    reader.finish()
+}
+
+/// Hands the words behind the first two to a reader, one after the other, also behind a refusal. Prints what it
+/// answers to each, with how many times it holds then, and last the answer.
+pub(crate) fn pieces_call(rt: &HostRuntime, words: &[String]) -> Result<(), Stop> {
+    let mut reader = reader_of(rt, words)?;
+    for piece in words.iter().skip(2) {
+        print_fed(rt, reader.feed(piece.as_bytes()))?;
+        println!(rt; ", {} times held", reader.held())?;
+    }
+    print_answer(rt, &reader.finish())
+}
+
+fn print_fed(rt: &HostRuntime, answer: Result<Progress, LayoutFault>) -> Result<(), Stop> {
+    match answer {
+        Ok(progress) => print!(rt; "{} bytes, done: {}", progress.used, progress.done)?,
+        Err(fault) => print!(rt; "{fault:?}")?,
+    }
+    Ok(())
+}

@@ -1,0 +1,149 @@
+"""What a reader of instance files answers, however the text is cut into pieces."""
+import pathlib
+
+import pytest
+from support.files import THREE_JOBS
+from support.printed import shown
+from support.program import Program, Ran
+
+# Two blocks, of which the second has the times of THREE_JOBS.
+TWO_BLOCKS = b"+++\ninstance one 1\n+++\nfirst\n1 1\n0 7\n+++\nsecond\n3 2\n0 3 1 2\n0 2 1 5\n0 4 1 1\n+++\n"
+
+# The times of THREE_JOBS, job by job.
+TIMES = "3 jobs, times 3 2 2 5 4 1"
+
+# Ends of a text, each behind so many bytes of THREE_JOBS, and what the reader answers.
+ENDS = [
+    (115, b"2 5x 1\n", "MixedLine { offset: 118 }"),
+    (115, b"x 2 5 1\n", "MixedLine { offset: 117 }"),
+    (115, b"2 5 1 7x\n", "MixedLine { offset: 122 }"),
+    (120, b"\xff\n", "MixedLine { offset: 120 }"),
+    (115, b"2 5 1 7\n", "ExtraNumber { offset: 121 }"),
+    (115, b"2 5 1000000001\n", "TimeRange { offset: 119 }"),
+    (115, b"2 5 9999999999999999999999999999999999999999\n", "TimeRange { offset: 119 }"),
+    (115, b"2 5 1000001\n", "3 jobs, times 3 2 2 5 4 1000001"),
+    (115, b"2 5 1000000000\n", "3 jobs, times 3 2 2 5 4 1000000000"),
+    (109, b"3 2 4\r\n2 5 1\r\n", TIMES),
+    (109, b"3 2\n4\n2 5 1\n", TIMES),
+    (109, b"03 2 4\n2 5 1", TIMES),
+    (109, b"0000000000000000000000000000000000000000000000000000000000003 2 4\n2 5 1\n", TIMES),
+    (90, b"3 2 4\n2 5 1\n", TIMES),
+]
+
+# Other texts in Taillard's layout.
+OTHERS = [
+    (THREE_JOBS.replace(b"\n", b"\r\n"), TIMES),
+    (b"5x " + THREE_JOBS, TIMES),
+    (b"5001 1 0 0 0", "SizeRange { line: 1 }"),
+    (b"2001 1 0 0 0", "Truncated { have: 0 }"),
+    (b"1 1 4294967296 0 0", "SizeRange { line: 1 }"),
+    (b"3 2", "SizeCount { line: 1 }"),
+    (b"5001 1", "SizeCount { line: 1 }"),
+    (b"5000 200 4294967295 0 0\n", "Truncated { have: 0 }"),
+    (b"3 2 0 0 9999999999999999999999999999999999999999\n", "SizeRange { line: 1 }"),
+]
+
+# Blocks, in OR-Library's layout but for the last.
+BLOCKS = [
+    ("orlib 1", TWO_BLOCKS, "1 jobs, times 7"),
+    ("orlib 3", TWO_BLOCKS, "NoBlock { found: 2 }"),
+    ("orlib 1", b"d\n1 2\n0 3 2 4\n", "MachineNumber { offset: 10 }"),
+    ("taillard 2", THREE_JOBS * 2, TIMES),
+]
+
+
+def of_one_block(length: int) -> str:
+    """What the reader answers to so many bytes of THREE_JOBS."""
+    if length <= 80:
+        return "NoBlock { found: 0 }"
+    if length <= 88:
+        return "SizeCount { line: 2 }"
+    if length <= 109:
+        return "Truncated { have: 0 }"
+    if length <= 119:
+        return f"Truncated {{ have: {(length - 108) // 2} }}"
+    return TIMES
+
+
+def of_two_blocks(length: int) -> str:
+    """What the reader of the second block answers to so many bytes of TWO_BLOCKS."""
+    if length <= 29:
+        return "NoBlock { found: 0 }"
+    if length <= 31:
+        return "SizeCount { line: 5 }"
+    if length <= 35:
+        return "Truncated { have: 0 }"
+    if length <= 48:
+        return "NoBlock { found: 1 }"
+    if length <= 50:
+        return "SizeCount { line: 9 }"
+    if length <= 74:
+        return f"Truncated {{ have: {(length - 51) // 4} }}"
+    return TIMES
+
+
+def assert_cuts(pfs_calls: Program, cwd: pathlib.Path, block: str, text: bytes, answer: str) -> None:
+    """A reader of this block answers so to a text in one piece, in two pieces cut anywhere, and byte by byte."""
+    ran = pfs_calls.run(f"cuts {block}", cwd, text)
+    assert ran == Ran(f"{answer}\n".encode() * (len(text) + 2), b"", 0)
+
+
+def test_how_long_the_texts_are() -> None:
+    assert (len(THREE_JOBS), len(TWO_BLOCKS), len(OTHERS[0][0])) == (121, 80, 126)
+
+
+@pytest.mark.parametrize("length", range(len(THREE_JOBS) + 1))
+def test_a_front_of_one_block_cut_anywhere(pfs_calls: Program, folder: pathlib.Path, length: int) -> None:
+    assert_cuts(pfs_calls, folder, "taillard 1", THREE_JOBS[:length], of_one_block(length))
+
+
+@pytest.mark.parametrize("length", range(len(TWO_BLOCKS) + 1))
+def test_a_front_of_two_blocks_cut_anywhere(pfs_calls: Program, folder: pathlib.Path, length: int) -> None:
+    assert_cuts(pfs_calls, folder, "orlib 2", TWO_BLOCKS[:length], of_two_blocks(length))
+
+
+@pytest.mark.parametrize("front, end, answer", ENDS, ids=[shown(end) for _, end, _ in ENDS])
+def test_another_end_cut_anywhere(pfs_calls: Program, folder: pathlib.Path, front: int, end: bytes,
+                                  answer: str) -> None:
+    assert_cuts(pfs_calls, folder, "taillard 1", THREE_JOBS[:front] + end, answer)
+
+
+@pytest.mark.parametrize("text, answer", OTHERS, ids=[shown(text) for text, _ in OTHERS])
+def test_another_text_cut_anywhere(pfs_calls: Program, folder: pathlib.Path, text: bytes, answer: str) -> None:
+    assert_cuts(pfs_calls, folder, "taillard 1", text, answer)
+
+
+@pytest.mark.parametrize("block, text, answer", BLOCKS, ids=[f"{block}: {answer}" for block, _, answer in BLOCKS])
+def test_another_block_cut_anywhere(pfs_calls: Program, folder: pathlib.Path, block: str, text: bytes,
+                                    answer: str) -> None:
+    assert_cuts(pfs_calls, folder, block, text, answer)
+
+
+def fed(pfs_calls: Program, cwd: pathlib.Path, block: str, pieces: list[bytes]) -> list[str]:
+    """The lines of a run that hands these pieces to a reader of this block."""
+    ran = pfs_calls.run([b"pieces", *block.encode().split(b" "), *pieces], cwd)
+    assert (ran.stderr, ran.status) == (b"", 0)
+    return ran.stdout.decode().splitlines()
+
+
+def held(length: int) -> int:
+    """How many times a reader holds behind so many bytes of THREE_JOBS."""
+    return 0 if length <= 110 else min((length - 109) // 2, 6)
+
+
+def test_each_time_is_held_as_it_ends(pfs_calls: Program, folder: pathlib.Path) -> None:
+    pieces = [THREE_JOBS[at:at + 1] for at in range(len(THREE_JOBS))]
+    wanted = [f"1 bytes, done: false, {held(at + 1)} times held" for at in range(len(THREE_JOBS) - 1)]
+    last = ["1 bytes, done: true, 6 times held", TIMES]
+    assert fed(pfs_calls, folder, "taillard 1", pieces) == wanted + last
+
+
+def test_a_done_reader_takes_nothing_more(pfs_calls: Program, folder: pathlib.Path) -> None:
+    lines = fed(pfs_calls, folder, "taillard 1", [THREE_JOBS * 2, THREE_JOBS * 2])
+    assert lines == ["121 bytes, done: true, 6 times held", "0 bytes, done: true, 6 times held", TIMES]
+
+
+def test_a_refused_reader_repeats_its_refusal(pfs_calls: Program, folder: pathlib.Path) -> None:
+    lines = fed(pfs_calls, folder, "orlib 1", [b"2\n", b"1 1\n"])
+    refused = "SizeCount { line: 1 }"
+    assert lines == [f"{refused}, 0 times held", f"{refused}, 0 times held", refused]

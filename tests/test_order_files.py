@@ -1,0 +1,124 @@
+"""What an order file states, and where another text is refused."""
+import pathlib
+
+import pytest
+from support.printed import printed, shown
+from support.program import Program, Ran
+
+ORDER = b"order 3\n2 1 3\nmakespan 10\n"
+ORDER2 = b"order2 3 2\n2 1 3\nmakespan 10\n"
+
+# Order files, and their jobs, which count from 0, their machines, if they state any, and their makespan.
+STATED: list[tuple[bytes, str, int | None, int]] = [
+    (ORDER, "1 0 2", None, 10),
+    (b"order 3\n1 2 3\nmakespan 0\n", "0 1 2", None, 0),
+    (ORDER2, "1 0 2", 2, 10),
+    (b"order2 3 2\n1 2 3\nmakespan 0\n", "0 1 2", 2, 0),
+    (b"order2 3 1\n1 2 3\nmakespan 9\n", "0 1 2", 1, 9),
+    (b"order2 3 200\n1 2 3\nmakespan 9\n", "0 1 2", 200, 9),
+    (b"order2 2 5\n1 2\nmakespan 7\n", "0 1", 5, 7),
+]
+
+# Texts with a fault of the syntax, and how far such a text can be completed.
+SYNTAX = [
+    (b"", 0),
+    (b"order", 5),
+    (b"order 3", 7),
+    (b"order 0\n", 6),
+    (b"order 03\n2 1 3\nmakespan 10\n", 6),
+    (b"order 5001\n", 9),
+    (b"order 2001\n", 11),
+    (b"order 3\r\n2 1 3\nmakespan 10\n", 7),
+    (b"order 3\n2  1", 10),
+    (b"order 3\n2 1\nmakespan 10\n", 11),
+    (b"order 3\n2 1 3 4\nmakespan 10\n", 13),
+    (b"order 3\n00 1 2\nmakespan 10\n", 9),
+    (b"order 1\n1234567890\nmakespan 1\n", 17),
+    (b"order 1\n1\nmakespan 1234567890123456789\n", 37),
+    (b"order 1\n1\nmakespan 01\n", 20),
+    (b"order 3\n2 1 3\nmakespan 10\n\n", 26),
+    (b"order 3\n1 1 4\nmakespan x\n", 23),
+    (b"order 3 2\n2 1 3\nmakespan 10\n", 7),
+    (b"order2", 6),
+    (b"order3 3\n2 1 3\nmakespan 10\n", 5),
+    (b"order22 3 2\n2 1 3\nmakespan 10\n", 6),
+    (b"order2\n2 1 3\nmakespan 10\n", 6),
+    (b"order2 3\n2 1 3\nmakespan 10\n", 8),
+    (b"order2 03 2\n2 1 3\nmakespan 10\n", 7),
+    (b"order2 0 2\n", 7),
+    (b"order2 5001 2\n", 10),
+    (b"order2 3 02\n2 1 3\nmakespan 10\n", 9),
+    (b"order2 3 0\n2 1 3\nmakespan 10\n", 9),
+    (b"order2 3 201\n2 1 3\nmakespan 10\n", 11),
+    (b"order2 3 2 \n2 1 3\nmakespan 10\n", 10),
+    (b"order2 3  2\n2 1 3\nmakespan 10\n", 9),
+    (b"order2 3 2\n2 1 3\nmakespan 10\n\n", 29),
+]
+
+# Texts of the syntax with a job out of range or repeated, and its place.
+JOBS = [
+    (b"order 3\n2 1 4\nmakespan 10\n", "JobRange", 3),
+    (b"order 3\n2 0 3\nmakespan 1\n", "JobRange", 2),
+    (b"order 1\n999999999\nmakespan 1\n", "JobRange", 1),
+    (b"order 3\n2 2 3\nmakespan 1\n", "Repeated", 2),
+    (b"order 3\n1 1 4\nmakespan 1\n", "Repeated", 2),
+    (b"order 3\n4 1 1\nmakespan 1\n", "JobRange", 1),
+    (b"order 3\n1 0 1\nmakespan 1\n", "JobRange", 2),
+    (b"order2 3 2\n2 1 4\nmakespan 10\n", "JobRange", 3),
+    (b"order2 3 2\n2 2 3\nmakespan 1\n", "Repeated", 2),
+]
+
+# Each front of an order file but the whole of it, by how long it is.
+FRONTS = [text[:length] for text in (ORDER, ORDER2) for length in range(len(text))]
+
+
+def read(pfs_calls: Program, cwd: pathlib.Path, text: bytes, at_once: int) -> Ran:
+    """What the reader answers to a text, of which so many bytes are given at once."""
+    return pfs_calls.run(f"order_file {at_once}", cwd, text)
+
+
+@pytest.mark.parametrize("at_once", [1, 7, 100])
+@pytest.mark.parametrize("text, jobs, machines, makespan", STATED, ids=[shown(text) for text, *_ in STATED])
+def test_an_order_file_is_read(pfs_calls: Program, folder: pathlib.Path, text: bytes, jobs: str, machines: int | None,
+                               makespan: int, at_once: int) -> None:
+    stated = "None" if machines is None else f"Some({machines})"
+    wanted = printed(f"jobs {jobs}, {stated} machines, makespan {makespan}")
+    assert read(pfs_calls, folder, text, at_once) == wanted
+
+
+@pytest.mark.parametrize("at_once", [1, 100])
+@pytest.mark.parametrize("text, offset", SYNTAX, ids=[shown(text) for text, _ in SYNTAX])
+def test_another_syntax_is_refused(pfs_calls: Program, folder: pathlib.Path, text: bytes, offset: int,
+                                   at_once: int) -> None:
+    assert read(pfs_calls, folder, text, at_once) == printed(f"Syntax {{ offset: {offset} }}")
+
+
+@pytest.mark.parametrize("at_once", [1, 100])
+@pytest.mark.parametrize("text, fault, place", JOBS, ids=[shown(text) for text, *_ in JOBS])
+def test_other_jobs_are_refused(pfs_calls: Program, folder: pathlib.Path, text: bytes, fault: str, place: int,
+                                at_once: int) -> None:
+    assert read(pfs_calls, folder, text, at_once) == printed(f"{fault} {{ place: {place} }}")
+
+
+@pytest.mark.parametrize("front", FRONTS, ids=[shown(front) for front in FRONTS])
+def test_a_cut_file_is_refused_where_it_ends(pfs_calls: Program, folder: pathlib.Path, front: bytes) -> None:
+    assert read(pfs_calls, folder, front, 100) == printed(f"Syntax {{ offset: {len(front)} }}")
+
+
+def test_a_byte_too_many_is_too_long(pfs_calls: Program, folder: pathlib.Path) -> None:
+    assert read(pfs_calls, folder, b"x" * 65537, 100_000) == printed("TooLong")
+
+
+def test_the_longest_text_is_judged(pfs_calls: Program, folder: pathlib.Path) -> None:
+    assert read(pfs_calls, folder, b"x" * 65536, 100_000) == printed("Syntax { offset: 0 }")
+
+
+@pytest.mark.parametrize("machines", [None, 1, 2, 200])
+def test_what_is_written_is_read(pfs_calls: Program, folder: pathlib.Path, machines: int | None) -> None:
+    """Three jobs in the order of their numbers, of makespan 0."""
+    first = "order 3" if machines is None else f"order2 3 {machines}"
+    text = f"{first}\n1 2 3\nmakespan 0\n"
+    ran = pfs_calls.run("write_order" if machines is None else f"write_order {machines}", folder)
+    assert ran == printed(*text.splitlines(), f"{len(text)} bytes")
+    stated = "None" if machines is None else f"Some({machines})"
+    assert read(pfs_calls, folder, text.encode(), 100) == printed(f"jobs 0 1 2, {stated} machines, makespan 0")

@@ -1,0 +1,27 @@
+"""Which job a command line asks for, if any."""
+import pathlib
+
+import pytest
+from support.plans import EACH_COMMAND, ODD_FORMS, REFUSED
+from support.printed import printed
+from support.program import Program, Ran
+
+
+def planned(pfs_calls: Program, cwd: pathlib.Path, line: str) -> Ran:
+    """What the call prints that plans the words of this line."""
+    return pfs_calls.run([b"plan", *line.encode().split(b"|")], cwd)
+
+
+def test_no_words_ask_for_the_value_of_standard_input(pfs_calls: Program, folder: pathlib.Path) -> None:
+    assert pfs_calls.run("plan", folder) == printed("value|T|1")
+
+
+@pytest.mark.parametrize("line, job", EACH_COMMAND + ODD_FORMS, ids=[line for line, _ in EACH_COMMAND + ODD_FORMS])
+def test_a_line_is_planned(pfs_calls: Program, folder: pathlib.Path, line: str, job: str) -> None:
+    assert planned(pfs_calls, folder, line) == printed(job)
+
+
+@pytest.mark.parametrize("line", [pytest.param(line, id=f"{wrong}: {line}")
+                                  for wrong, lines in REFUSED.items() for line in lines])
+def test_a_line_is_refused(pfs_calls: Program, folder: pathlib.Path, line: str) -> None:
+    assert planned(pfs_calls, folder, line) == printed("usage")

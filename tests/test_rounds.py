@@ -1,0 +1,88 @@
+"""Rounds by given words, which evaluate each place afresh or work by rows of heads and tails."""
+import pathlib
+
+import pytest
+from support.printed import printed
+from support.program import Program
+
+# Shops: how many jobs and machines there are, and the times job by job.
+THREE_JOBS = "3 2 3 2 2 5 4 1"
+EQUAL_TIMES = "3 2 1 1 1 1 1 1"
+# All orders are as long, so that a job that is taken out goes back first.
+TWO_JOBS = "2 1 5 3"
+ONE_JOB = "1 1 0"
+# One order alone is shortest.
+ONE_BEST = "3 3 3 1 0 3 0 1 0 6 0"
+
+# Rounds behind NEH, each with its shop, its words and its passes; what NEH and the round keep, with the cells that are
+# counted by then. An insertion that makes k jobs on m machines counts k*k*m cells.
+AFRESH = {
+    "the order of three jobs is built again": (
+        THREE_JOBS, "0 0", 0, ("2 1 3", 10, 28), ("2 1 3", 10, 28 + 26)),
+    "ties go to the lower job and the earliest place": (
+        EQUAL_TIMES, "1", 0, ("3 2 1", 4, 28), ("2 3 1", 4, 28 + 18)),
+    "an order of the same makespan is kept": (
+        TWO_JOBS, "1", 0, ("2 1", 8, 5), ("1 2", 8, 5 + 4)),
+    "taken jobs go back in the order of removal": (
+        TWO_JOBS, "0 0", 0, ("2 1", 8, 5), ("1 2", 8, 5 + 5)),
+    "a longer order is not kept": (
+        ONE_BEST, "1 1 0", 0, ("3 2 1", 7, 42), ("3 2 1", 7, 42 + 42)),
+    "one job goes out and back": (
+        ONE_JOB, "7", 0, ("1", 0, 1), ("1", 0, 1 + 1)),
+}
+
+# The same by rows, where it counts (4k-2)*m.
+BY_ROWS = {
+    "the order of three jobs is built again": (
+        THREE_JOBS, "0 0", 0, ("2 1 3", 10, 36), ("2 1 3", 10, 36 + 32)),
+    "an order of the same makespan is kept": (
+        TWO_JOBS, "1", 0, ("2 1", 8, 8), ("1 2", 8, 8 + 6)),
+    "a longer order is not kept": (
+        ONE_BEST, "1 1 0", 0, ("3 2 1", 7, 54), ("3 2 1", 7, 54 + 54)),
+    "an order that a pass makes equal is kept": (
+        ONE_BEST, "1 1 0", 1, ("3 2 1", 7, 54), ("3 2 1", 7, 54 + 144)),
+    "one job goes out and back": (
+        ONE_JOB, "7", 0, ("1", 0, 2), ("1", 0, 2 + 2)),
+}
+
+# Rounds of the jobs in the order of their numbers, with the cells that are counted afresh and by rows. The last two
+# shops have random times, and a program that evaluates whole orders has computed what is kept.
+FROM_NUMBERS = {
+    "without a pass a longer order is not left": (ONE_BEST, "0", 0, "2 3 1", 10, 9 + 27, 9 + 30),
+    "a pass is made before the comparison": (ONE_BEST, "0", 1, "3 2 1", 7, 9 + 108, 9 + 120),
+    "a pass moves jobs by their numbers": (
+        "3 3 0 2 3 1 1 2 0 2 2", "9 9", 1, "3 2 1", 9, 9 + 39 + 81, 9 + 48 + 90),
+    "three passes move jobs by their numbers": (
+        "3 3 3 4 0 4 1 0 5 1 3", "4 2", 3, "3 1 2", 13, 9 + 39 + 3 * 81, 9 + 48 + 3 * 90),
+}
+
+# An order with jobs counted from 1, its makespan, and the cells that are counted.
+Kept = tuple[str, int, int]
+
+
+def told(kept: Kept) -> str:
+    """The line that tells what is kept."""
+    order, makespan, cells = kept
+    return f"order {order}, makespan {makespan}, {cells} cells"
+
+
+@pytest.mark.parametrize("inserter, shop, words, passes, by_neh, by_round", [
+    pytest.param(inserter, *case, id=f"{inserter}: {name}")
+    for inserter, cases in (("afresh", AFRESH), ("rows", BY_ROWS)) for name, case in cases.items()])
+def test_a_round_behind_neh(pfs_calls: Program, folder: pathlib.Path, inserter: str, shop: str, words: str, passes: int,
+                            by_neh: Kept, by_round: Kept) -> None:
+    ran = pfs_calls.run(f"one_round neh {inserter} {passes} {shop} {words}", folder)
+    assert ran == printed(told(by_neh), told(by_round))
+
+
+@pytest.mark.parametrize("inserter", ["afresh", "rows"])
+@pytest.mark.parametrize("shop, words, passes, order, makespan, afresh, by_rows", FROM_NUMBERS.values(),
+                         ids=FROM_NUMBERS)
+def test_a_round_behind_the_numbers(pfs_calls: Program, folder: pathlib.Path, inserter: str, shop: str, words: str,
+                                    passes: int, order: str, makespan: int, afresh: int, by_rows: int) -> None:
+    ran = pfs_calls.run(f"one_round numbers {inserter} {passes} {shop} {words}", folder)
+    assert ran == printed(told((order, makespan, afresh if inserter == "afresh" else by_rows)))
+
+
+def test_each_round_draws_its_own_words(pfs_calls: Program, folder: pathlib.Path) -> None:
+    assert pfs_calls.run("two_rounds", folder) == printed(told(("1 2", 8, 5 + 4 + 4)), "next word 2")
