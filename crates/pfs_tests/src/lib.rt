@@ -8,6 +8,8 @@ mod audits;
 #[cfg(test)]
 mod base;
 #[cfg(test)]
+mod buffers;
+#[cfg(test)]
 mod conversions;
 #[cfg(test)]
 mod engines;

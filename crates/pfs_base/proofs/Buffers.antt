@@ -1,0 +1,43 @@
+-- A buffer's count of what went out, and what it holds once a front of it has gone out.
+use Rattle.std.proofs.Common.{◌≡◌, ℕ, ◌+◌, ◌-◌, ◌<◌, ◌≤◌, ◌^◌, ◌==◌, min, Bool, true, false, List, [], ◌++◌, Option}
+use Rattle.std.proofs.Common.{None, Some, length, take, drop, sym, ap, ◌∙◌, arith, length-append, length-drop, refl, inl, inr}
+use Rattle.std.proofs.lemmas.Bool.{cases_Bool, eqb-true, eq-eqb}
+use Rattle.std.proofs.lemmas.List.{drop-take}
+use Rattle.std.proofs.lemmas.List.Edits.{take-paste}
+use Rattle.std.specs.Io.KnownBytes.{Appends, Keeps}
+use Rattle.std.specs.List.{copy_within}
+use Rattle.pfs_base.specs.Buffer.{counted, count_of}
+
+-- bytes that were written are counted
+pub counted-more : (a b : Option (List ℕ)) (bytes : List ℕ) (sent n total : ℕ) → Appends a b bytes
+    → n ≡ length bytes → total ≡ min (sent + n) (2 ^ 64 - 1) → Appends (counted a sent) (counted b total) bytes
+counted-more None b bytes sent n total p e t = tt
+counted-more (Some x) None bytes sent n total p e t = absurd p
+counted-more (Some x) (Some y) bytes sent n total p e t = elim (cases_Bool (sent == count_of x)) [
+  | inl same ↦
+      let before = eqb-true sent (count_of x) same in
+      let longer : length y ≡ length x + length bytes = ap length p ∙ length-append x bytes in
+      let after : total ≡ count_of y = omega arith in
+      rw (same, eq-eqb total (count_of y) after) p
+  | inr other ↦ rw other tt
+]
+
+-- where none was written, the count stays
+pub counted-kept : (a b : Option (List ℕ)) (sent : ℕ) → Keeps a b → Keeps (counted a sent) (counted b sent)
+counted-kept None b sent p = tt
+counted-kept (Some x) None sent p = absurd p
+counted-kept (Some x) (Some y) sent p = elim (cases_Bool (sent == count_of x)) [
+  | inl same ↦ rw (p, same) refl
+  | inr other ↦ rw other tt
+]
+
+-- what is left of the held bytes moves to the front
+pub held-rest : (bytes : List ℕ) (n count : ℕ) → n ≤ count → count ≤ length bytes
+    → take (count - n) (copy_within bytes n count 0) ≡ drop n (take count bytes)
+held-rest bytes n count few within =
+    let rest : length (drop n bytes) ≡ length bytes - n = length-drop n bytes in
+    let left : count - n ≡ 0 + (count - n) = omega arith in
+    let whole : n + (count - n) ≡ count = omega arith in
+    ap (λ k. take k (copy_within bytes n count 0)) left
+    ∙ take-paste bytes 0 (drop n bytes) (count - n) (omega arith) (omega arith)
+    ∙ sym (drop-take n (count - n) bytes) ∙ ap (λ k. drop n (take k bytes)) whole
