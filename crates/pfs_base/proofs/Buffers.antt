@@ -1,33 +1,25 @@
 -- A buffer's count of what went out, and what it holds once a front of it has gone out.
 use Rattle.std.proofs.Common.{◌≡◌, ℕ, ◌+◌, ◌-◌, ◌<◌, ◌≤◌, ◌^◌, ◌==◌, min, Bool, true, false, List, [], ◌++◌, Option}
-use Rattle.std.proofs.Common.{None, Some, length, take, drop, sym, ap, ◌∙◌, arith, length-append, length-drop, refl, inl, inr}
+use Rattle.std.proofs.Common.{None, Some, length, take, drop, sym, ap, ◌∙◌, arith, length-append, length-drop, inl, inr}
 use Rattle.std.proofs.lemmas.Bool.{cases_Bool, eqb-true, eq-eqb}
 use Rattle.std.proofs.lemmas.List.{drop-take}
 use Rattle.std.proofs.lemmas.List.Edits.{take-paste}
-use Rattle.std.specs.Io.KnownBytes.{Appends, Keeps}
+use Rattle.std.specs.Io.KnownBytes.{Appends}
 use Rattle.std.specs.List.{copy_within}
-use Rattle.pfs_base.specs.Buffer.{counted, count_of}
+use Rattle.pfs_base.specs.Buffer.{bytes_counted, count_of}
 
 -- bytes that were written are counted
-pub counted-more : (a b : Option (List ℕ)) (bytes : List ℕ) (sent n total : ℕ) → Appends a b bytes
-    → n ≡ length bytes → total ≡ min (sent + n) (2 ^ 64 - 1) → Appends (counted a sent) (counted b total) bytes
-counted-more None b bytes sent n total p e t = tt
-counted-more (Some x) None bytes sent n total p e t = absurd p
-counted-more (Some x) (Some y) bytes sent n total p e t = elim (cases_Bool (sent == count_of x)) [
+pub bytes_counted-more : (a b : Option (List ℕ)) (bytes : List ℕ) (sent n total : ℕ) → Appends a b bytes
+    → n ≡ length bytes → total ≡ min (sent + n) (2 ^ 64 - 1)
+    → Appends (bytes_counted a sent) (bytes_counted b total) bytes
+bytes_counted-more None b bytes sent n total p e t = tt
+bytes_counted-more (Some x) None bytes sent n total p e t = absurd p
+bytes_counted-more (Some x) (Some y) bytes sent n total p e t = elim (cases_Bool (sent == count_of x)) [
   | inl same ↦
       let before = eqb-true sent (count_of x) same in
       let longer : length y ≡ length x + length bytes = ap length p ∙ length-append x bytes in
       let after : total ≡ count_of y = omega arith in
       rw (same, eq-eqb total (count_of y) after) p
-  | inr other ↦ rw other tt
-]
-
--- where none was written, the count stays
-pub counted-kept : (a b : Option (List ℕ)) (sent : ℕ) → Keeps a b → Keeps (counted a sent) (counted b sent)
-counted-kept None b sent p = tt
-counted-kept (Some x) None sent p = absurd p
-counted-kept (Some x) (Some y) sent p = elim (cases_Bool (sent == count_of x)) [
-  | inl same ↦ rw (p, same) refl
   | inr other ↦ rw other tt
 ]
 

@@ -15,13 +15,19 @@ abbrev pub count_of : List ℕ → ℕ
 count_of bytes = min (length bytes) (2 ^ 64 - 1)
 
 -- the bytes that a writer was given, where they are told and so many
-abbrev pub counted : Option (List ℕ) → ℕ → Option (List ℕ)
-counted None sent = None
-counted (Some bytes) sent = if sent == count_of bytes then Some bytes else None
+abbrev pub bytes_counted : Option (List ℕ) → ℕ → Option (List ℕ)
+bytes_counted None sent = None
+bytes_counted (Some bytes) sent = if sent == count_of bytes then Some bytes else None
 
 -- what a buffer was given: what went out to its writer, where that is counted, and then what is held
-abbrev pub given : {W : Type 0} → (W → Option (List ℕ)) → Buffering W → Option (List ℕ)
-given written buffer = append_known (counted (written buffer.writer) buffer.sent) buffer.held
+abbrev pub bytes_given : {W : Type 0} → (W → Option (List ℕ)) → Buffering W → Option (List ℕ)
+bytes_given written buffer = append_known (bytes_counted (written buffer.writer) buffer.sent) buffer.held
+
+-- nothing was written yet to a writer that tells its bytes, and its buffer is new
+pub record IsNew {W : Type 0} (written : W → Option (List ℕ)) (buffer : Buffering W) : Type 0 where
+  pub empty : written buffer.writer ≡ Some []
+  pub holds_none : buffer.held ≡ []
+  pub none_sent : buffer.sent ≡ 0
 
 -- all that was held went out, or the writer has failed and the fault says how many bytes went out in all
 abbrev pub LetsOut : {W : Type 0} → (W → Bool) → Buffering W → Result (Unit {0}) WriteFault → Type 0

@@ -1,7 +1,7 @@
 //! A buffer in front of a sink.
 ghost use Rattle.std.specs.Prelude.{◌≡◌, [], false};
 ghost use Rattle.std.specs.Io.KnownBytes.{Keeps};
-ghost use Rattle.pfs_base.specs.Buffer.{LetsOut, given};
+ghost use Rattle.pfs_base.specs.Buffer.{LetsOut, bytes_given};
 
 use crate::device::{Sink, WriteFault, put};
 use std::marker::Model;
@@ -63,7 +63,7 @@ impl<W: Sink> Buffered<W> {
     /// bytes went out in all.
     pub fn flush(&mut self) -> Result<(), WriteFault>
         requires { W.has_failed self.old.writer ≡ false }
-        ensures kept { Keeps (given W.written self.old) (given W.written self.new) }
+        ensures kept { Keeps (bytes_given W.written self.old) (bytes_given W.written self.new) }
         ensures out { LetsOut W.has_failed self.new result }
     {
         match put(&mut self.writer, &self.bytes[..self.count], 0) {
@@ -84,7 +84,7 @@ impl<W: Sink> Buffered<W> {
 }
 
 impl<W: Sink> Sink for Buffered<W> {
-    ghost written = { given W.written };
+    ghost written = { bytes_given W.written };
 
     ghost has_failed = { λ b. W.has_failed b.writer };
 

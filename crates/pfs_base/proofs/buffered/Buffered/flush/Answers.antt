@@ -1,6 +1,6 @@
 use Rattle.std.proofs.Common.{◌≡◌, ◌≤◌, ◌∙◌, ◌-◌, ◌++◌, length, take, drop, sym, ap, arith, length-take, take-append-drop}
 use Rattle.std.proofs.KnownBytes.{append_known-moved}
-use Rattle.pfs_base.proofs.Buffers.{counted-more, held-rest}
+use Rattle.pfs_base.proofs.Buffers.{bytes_counted-more, held-rest}
 use Rattle.pfs_base.proofs.buffered.Buffered.flush.Goals as goal
 
 pub returns-in-Err-clause-kept : goal.returns-in-Err-clause-kept
@@ -18,5 +18,5 @@ returns-in-Err-clause-kept g c =
     let rest = ap (take (count - n)) c.copy_within.ensures.after ∙ held-rest bytes n count few within in
     let joined = sym (take-append-drop n held) ∙ ap (λ k. take k held ++ drop n held) (sym least)
     ∙ ap (λ l. take (n - 0) held ++ l) (sym rest) in
-    rw (← c.self.view_is) (append_known-moved _ _ _ _ _ (counted-more _ _ _ _ n _ front.bytes out
+    rw (← c.self.view_is) (append_known-moved _ _ _ _ _ (bytes_counted-more _ _ _ _ n _ front.bytes out
     c.saturating_add-self-inside-in-Err.ensures) joined)
