@@ -7,4 +7,5 @@ pub mod MostCells
 pub mod OutputText
 pub mod Parses
 pub mod Printable
+pub mod ProgramText
 pub mod Solve

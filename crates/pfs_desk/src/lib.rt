@@ -8,6 +8,7 @@ mod job;
 pub mod laws;
 mod planning;
 mod solve_options;
+mod stop;
 #[cfg(test)]
 mod tests;
 mod usage;
@@ -22,4 +23,5 @@ pub use fault::{DeskFault, Outcome, status, write_fault};
 pub use job::{Job, PathText};
 pub use planning::plan;
 pub use solve_options::{MOST_ROUNDS, SolveOptions};
+pub use stop::{Stop, finish};
 pub use usage::UsageFault;
