@@ -18,5 +18,8 @@ pub const LONGEST_INPUT: usize = 67_108_864;
 /// The greatest number that a block can be asked for by.
 pub const MOST_BLOCKS: usize = 1000;
 
+/// How many passes a round can be asked for.
+pub const MOST_PASSES: u32 = 100;
+
 /// How many bytes an order file has at most.
 pub const LONGEST_ORDER_FILE: usize = 65_536;

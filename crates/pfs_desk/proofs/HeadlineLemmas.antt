@@ -13,7 +13,7 @@ use Rattle.pfs_layout.proofs.Published.PlaceLemmas.{one_fault}
 use Rattle.pfs_desk.specs.declared.fault.DeskFault.{DeskFault}
 use Rattle.pfs_desk.specs.declared.fault.DeskFault.TheVariants as faults
 use Rattle.pfs_desk.specs.declared.fault.Outcome.{Outcome}
-use Rattle.pfs_desk.specs.declared.solve_options.SolveOptions.{SolveOptions}
+use Rattle.pfs_words.specs.declared.solve_options.SolveOptions.{SolveOptions}
 use Rattle.pfs_desk.specs.Engine.{JudgesFirst, JudgesTake, ReadsBlock, RefusesNoOrder, Writes, WritesNothing}
 use Rattle.pfs_desk.specs.Engine.{SolveOutput}
 use Rattle.pfs_desk.specs.Headline.{PrintsSolution, ReadsOn, RunsOn, Solves}

@@ -9,7 +9,7 @@ use Rattle.rand_core.specs.Stream.{Stream}
 use Rattle.rand_core.proofs.StepsLemmas.{next_u32-stream_of}
 use Rattle.rand_pcg.specs.Lcg.{Lcg}
 use Rattle.rand_pcg.specs.Pcg.{pcg32, pcg32_of_seed}
-use Rattle.pfs_base.specs.declared.limits.TheConstants.{MOST_JOBS, MOST_MACHINES, LONGEST_ORDER_FILE}
+use Rattle.pfs_base.specs.declared.limits.TheConstants.{LONGEST_ORDER_FILE, MOST_JOBS, MOST_MACHINES, MOST_PASSES}
 use Rattle.pfs_base.specs.Limits.{limits}
 use Rattle.pfs_base.specs.FlowShop.{FlowShop, IsWithin}
 use Rattle.pfs_base.specs.Paths.{makespan}
@@ -25,8 +25,7 @@ use Rattle.pfs_search.specs.Costs.{neh_cost, round_cost, HasClosedCosts}
 use Rattle.pfs_search.specs.Greedy.{after_rounds, words_of}
 use Rattle.pfs_search.specs.Neh.{neh_order}
 use Rattle.pfs_search.proofs.Published.CostSums.{costs_law}
-use Rattle.pfs_search.specs.declared.passes.TheConstants.{MOST_PASSES}
-use Rattle.pfs_desk.specs.declared.solve_options.TheConstants.{MOST_ROUNDS}
+use Rattle.pfs_words.specs.declared.solve_options.TheConstants.{MOST_ROUNDS}
 use Rattle.pfs_desk.specs.MostCells.{most_neh_cells, most_rounds_cells, FewNehCells, FewRoundsCells}
 use Rattle.pfs_desk.specs.Solve.{words_for, rounds_cells, solution_text, IsFound}
 

@@ -24,7 +24,7 @@ use Rattle.pfs_desk.specs.declared.fault.Outcome.TheVariants.{Done}
 use Rattle.pfs_desk.specs.declared.fault.DeskFault.{DeskFault}
 use Rattle.pfs_desk.specs.declared.fault.DeskFault.TheVariants.{Order, Write}
 use Rattle.pfs_desk.specs.declared.fault.DeskFault.TheVariants as faults
-use Rattle.pfs_desk.specs.declared.solve_options.SolveOptions.{SolveOptions}
+use Rattle.pfs_words.specs.declared.solve_options.SolveOptions.{SolveOptions}
 use Rattle.pfs_desk.specs.Solve.{take_for, IsTakeFault, IsSolution}
 use Rattle.pfs_desk.specs.OutputText.{value_text, verdict_text, outcome_of, TablePrints}
 

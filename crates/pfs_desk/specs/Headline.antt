@@ -12,7 +12,7 @@ use Rattle.pfs_desk.specs.declared.fault.DeskFault.{DeskFault}
 use Rattle.pfs_desk.specs.declared.fault.DeskFault.TheVariants as faults
 use Rattle.pfs_desk.specs.declared.fault.Outcome.{Outcome}
 use Rattle.pfs_desk.specs.declared.fault.Outcome.TheVariants.{Done}
-use Rattle.pfs_desk.specs.declared.solve_options.SolveOptions.{SolveOptions}
+use Rattle.pfs_words.specs.declared.solve_options.SolveOptions.{SolveOptions}
 use Rattle.pfs_desk.specs.Solve.{take_for, IsSolution}
 
 -- no read failed, and the memory for the instance was not refused

@@ -1,11 +1,8 @@
-pub mod Commands
 pub mod Engine
 pub mod FaultText
 pub mod Headline
-pub mod Jobs
 pub mod MostCells
 pub mod OutputText
-pub mod Parses
 pub mod Printable
 pub mod ProgramText
 pub mod Solve

@@ -13,8 +13,8 @@ use Rattle.pfs_search.specs.Greedy.{after_rounds}
 use Rattle.pfs_search.specs.Neh.{neh_order}
 use Rattle.pfs_desk.specs.declared.fault.DeskFault.{DeskFault}
 use Rattle.pfs_desk.specs.declared.fault.DeskFault.TheVariants.{TakeRange}
-use Rattle.pfs_desk.specs.declared.solve_options.SolveOptions.{SolveOptions}
-use Rattle.pfs_desk.specs.declared.solve_options.TheConstants.{DEFAULT_TAKE}
+use Rattle.pfs_words.specs.declared.solve_options.SolveOptions.{SolveOptions}
+use Rattle.pfs_words.specs.declared.solve_options.TheConstants.{DEFAULT_TAKE}
 
 -- how many jobs a round takes out of so many: as asked for, or else the default, but no more than there are
 abbrev pub take_for : Option ℕ → ℕ → ℕ

@@ -14,5 +14,5 @@ mod workspace;
 
 pub use fault::SearchFault;
 pub use kept::Kept;
-pub use passes::MOST_PASSES;
+pub use pfs_base::MOST_PASSES;
 pub use searcher::Searcher;

@@ -10,9 +10,6 @@ use pfs_insert::{InsertFault, Inserter};
 use pfs_order::Seq;
 use std::alloc::Global;
 
-/// How many passes a round can be asked for.
-pub const MOST_PASSES: u32 = 100;
-
 /// Makes so many passes over an order of all jobs, and tells the makespan behind them, where it is told the one
 /// before.
 #[inline(always)]

@@ -4,7 +4,7 @@ use Rattle.std.proofs.Common.{ℕ, zero, suc, ◌+◌, ◌*◌, ◌≤◌, arith
 use Rattle.std.proofs.Math.Nat.{mul-le-mul}
 use Rattle.pfs_insert.specs.Insertion.{afresh_cost, heads_tails_cost}
 use Rattle.pfs_search.specs.Costs.{neh_cost, pass_cost, round_cost}
-use Rattle.pfs_search.specs.declared.passes.TheConstants.{MOST_PASSES}
+use Rattle.pfs_base.specs.declared.limits.TheConstants.{MOST_PASSES}
 
 -- what insertions into sequences that have one, two and three jobs then cost at most
 pub record IsSmall (cost : ℕ → ℕ → ℕ) : Type 0 where

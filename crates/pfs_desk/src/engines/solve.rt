@@ -7,7 +7,6 @@ ghost use Rattle.pfs_desk.specs.Solve.{IsFound, IsTakeFault, solution_text};
 ghost use Rattle.pfs_desk.specs.Solve.{take_for as take_of};
 
 use crate::fault::{DeskFault, Outcome};
-use crate::solve_options::{DEFAULT_TAKE, MOST_ROUNDS, SolveOptions};
 use pfs_base::print::put_named;
 use pfs_base::{
     Bench, Instance, Length, MOST_BLOCKS, MOST_MACHINES, Shop, Sink, Source, WriteFault,
@@ -16,6 +15,7 @@ use pfs_insert::HeadsTails;
 use pfs_layout::{Layout, read_block};
 use pfs_order::{Order, write_order};
 use pfs_search::{Kept, MOST_PASSES, Searcher};
+use pfs_words::{DEFAULT_TAKE, MOST_ROUNDS, SolveOptions};
 use rand_core::SeedableRng;
 use rand_pcg::Pcg32;
 use std::alloc::Global;

@@ -1,0 +1,129 @@
+-- What the readers of a job are given by a parse of a form.
+use Rattle.std.proofs.Common.{◌≡◌, ◌∙◌, ◌⊎◌, ◌≤◌, ◌||◌, ℕ, true, false, ap, codes, inl, inr, List, [], ◌∷◌}
+use Rattle.std.proofs.Common.{Option, Some, None, arith, option_map, refl, subst, sym, unwrap_or}
+use Rattle.std.specs.Prelude.{IfSome, slice_get}
+use Rattle.std.specs.Borrow.{Bor}
+use Rattle.std.specs.List.{list_any}
+use Rattle.std.specs.Str.{bytes_eq}
+use Rattle.std.proofs.lemmas.Bool.{or_cases}
+use Rattle.std.proofs.lemmas.Slice.Eq.{bytes_eq-Decides}
+use Rattle.clap.specs.Words.{App, Rule, Text, app_of, fault_of, first_of, found_of, is_simple_and_free, matches_of}
+use Rattle.clap.specs.Words.{rows_of, takes}
+use Rattle.clap.specs.Faults.{is_free_app}
+use Rattle.clap.specs.Simple.{built, is_simple}
+use Rattle.clap.specs.Values.{IsUnsignedIn, same_text}
+use Rattle.clap.specs.Walk.{texts}
+use Rattle.clap.specs.declared.builder.command.Command.{Command}
+use Rattle.clap.specs.declared.builder.value_parser.ValueParser.TheVariants as parser
+use Rattle.clap.specs.declared.parser.matches.ArgMatches.{ArgMatches}
+use Rattle.clap.proofs.WalkLemmas.{both, list_any-map}
+use Rattle.pfs_words.specs.Commands.{AreLayoutNames, Names, form_of, layout_rule}
+use Rattle.pfs_words.specs.Jobs.{IsFaultlessLine, AsksFor, AsksForJob, AsksForNothing, SaysMaybeNumber, number_of}
+use Rattle.pfs_words.specs.Jobs.{takes_line}
+use Rattle.pfs_words.specs.Parses.{HasLayout, HasNumber, HasText, IsParseOf, MayHaveNumber}
+use Rattle.pfs_words.specs.declared.job.Job.{Job}
+use Rattle.pfs_layout.specs.declared.layout.Layout.TheVariants.{Taillard, OrLib}
+use Rattle.pfs_words.proofs.FormLemmas.{asks_value, form_has_value, form_passes, has_place}
+
+-- names of the layouts, which point nowhere
+abbrev pub some_names : Names
+some_names = record {
+  ref_ptr = (0, 0);
+  now = (record { ref_ptr = (0, 0); now = codes "taillard" }) ∷ (record { ref_ptr = (0, 0); now = codes "orlib" }) ∷ [];
+}
+
+-- ---- the two answers
+
+module _ (names : Names) (word : Text) (words : List Text) (are : AreLayoutNames names) where
+  pub job_for : (job : Job) → AsksForJob names word words job → AsksFor word words job
+  unfolding AsksFor
+  job_for job asks = (names, are, asks)
+
+  pub refused : takes_line names word words ≡ false → (IsFaultlessLine names word words → ⊥) → AsksForNothing word words
+  unfolding AsksForNothing
+  refused denied faulty = (names, are, denied, faulty)
+
+  -- the form of the command that the word names refuses the words
+  pub refused_by_form : {form : App} → form_of names word ≡ Some form → takes form words ≡ false
+      → (fault_of form words ≡ [] → ⊥) → AsksForNothing word words
+  refused_by_form {form} named denied faulty = refused (rw named denied) (λ faultless.
+      let same : faultless.0 ≡ form = ap (λ o. unwrap_or o form) (sym faultless.1 ∙ named) in
+      faulty (subst (λ a. fault_of a words ≡ []) same faultless.2))
+
+  -- and so a command of that form does
+  pub refused_by : {app form : App} → app ≡ form → form_of names word ≡ Some form → is_simple_and_free form ≡ true
+      → takes app words ≡ false → (is_simple_and_free app ≡ true → fault_of app words ≡ [] → ⊥)
+      → AsksForNothing word words
+  refused_by is named simple denied faulty = refused_by_form named (subst (λ a. takes a words ≡ false) is denied)
+      (λ none. faulty (ap is_simple_and_free is ∙ simple) (subst (λ a. fault_of a words ≡ []) (sym is) none))
+
+-- ---- one argument
+
+listed : (names : List (Bor Text)) (a b t : Text) → texts names ≡ a ∷ b ∷ []
+    → list_any (λ name. same_text false name.now t) names ≡ true → (t ≡ a) ⊎ (t ≡ b)
+listed names a b t are any =
+    let among : list_any (λ name. bytes_eq name t) (texts names) ≡ true =
+    sym (list_any-map (λ name. bytes_eq name t) (λ s. s.now) names) ∙ any in
+    let one : (bytes_eq a t || (bytes_eq b t || false)) ≡ true = rw are at among in
+    elim (or_cases _ _ one) [
+      | inl first ↦ inl (sym ((bytes_eq-Decides a t).0 first))
+      | inr others ↦ elim (or_cases _ _ others) [
+        | inl second ↦ inr (sym ((bytes_eq-Decides b t).0 second))
+        | inr none ↦ absurd (cc)
+      ]
+    ]
+
+-- a number of 64 bits, whatever its range
+any_unsigned : (least most : ℕ) (t : Text) → IsUnsignedIn least most t → IsUnsignedIn 0 18446744073709551615 t
+any_unsigned least most t passed = let fits = passed.1 in (passed.0, fits, omega arith, omega arith)
+
+within_range : (least most : ℕ) (said : Option Text) → ((t : Text) → said ≡ Some t → IsUnsignedIn least most t)
+    → IfSome (option_map number_of said) (λ n. (least ≤ n) × (n ≤ most))
+within_range least most None passes = tt
+within_range least most (Some t) passes = let passed = passes t refl in (passed.2, passed.3)
+
+-- by the place of the argument's rule in the form that the words were parsed by
+module _ {command : Command} {form : App} {words : List Text} {m : ArgMatches} (parse : IsParseOf command words m)
+    (is : app_of command ≡ form) where
+  pub text_given : (k : ℕ) (r : Rule) → slice_get form.top.rules k ≡ Some r → has_place form k r ≡ true
+      → asks_value r ≡ true → HasText m r.id
+  text_given k r = form_has_value command m form k r is parse.facts
+
+  pub layout_given : (k : ℕ) (id : Text) (names : Names) → AreLayoutNames names
+      → slice_get form.top.rules k ≡ Some (layout_rule names id) → has_place form k (layout_rule names id) ≡ true
+      → HasLayout m id
+  layout_given k id names are at place =
+      let rule = layout_rule names id in
+      let (t, said) = text_given k rule at place refl in
+      let passed = form_passes command m form k rule is parse.facts at place t said (parser.Names names) refl in
+      elim (listed names.now (codes "taillard") (codes "orlib") t are passed) [
+        | inl taillard ↦ (Taillard, said ∙ ap Some taillard)
+        | inr orlib ↦ (OrLib, said ∙ ap Some orlib)
+      ]
+
+  module _ (k : ℕ) (r : Rule) {least most : ℕ} (at : slice_get form.top.rules k ≡ Some r)
+      (parsed : r.parser ≡ Some (parser.Unsigned least most)) (place : has_place form k r ≡ true) where
+    number_passes : (t : Text) → first_of r.id (rows_of (found_of m)) ≡ Some t → IsUnsignedIn least most t
+    number_passes t said =
+        form_passes command m form k r is parse.facts at place t said (parser.Unsigned least most) parsed
+
+    pub number_if_given : MayHaveNumber m r.id
+    number_if_given t said = any_unsigned least most t (number_passes t said)
+
+    pub some_number_given : asks_value r ≡ true → HasNumber m r.id
+    some_number_given asks =
+        let (t, said) = text_given k r at place asks in
+        (t, said, number_if_given t said)
+
+    pub number_in_range : {o : Option ℕ} → SaysMaybeNumber (rows_of (found_of m)) r.id o
+        → IfSome o (λ n. (least ≤ n) × (n ≤ most))
+    number_in_range says =
+        subst (λ o. IfSome o (λ n. (least ≤ n) × (n ≤ most))) says (within_range least most _ number_passes)
+
+  pub faultless : is_simple_and_free form ≡ true → fault_of form words ≡ []
+  faultless simple = subst (λ a. fault_of a words ≡ []) is (parse.faultless (ap is_simple_and_free is ∙ simple))
+
+  pub rows_are : is_simple_and_free form ≡ true → rows_of (found_of m) ≡ matches_of form words
+  rows_are simple =
+      let simple_form = (both (is_simple form) (is_free_app (built form)) simple).0 in
+      (parse.rows (ap is_simple is ∙ simple_form)).0 ∙ ap (λ a. matches_of a words) is

@@ -1,0 +1,29 @@
+use Rattle.std.proofs.Common.{◌≡◌, ◌∙◌, None, Some, ap, codes, false, map, refl, string_bytes, sym}
+use Rattle.std.specs.Option.{option_map_or}
+use Rattle.std.specs.Str.{bytes_eq}
+use Rattle.std.proofs.lemmas.Bool.{false_from_ne_true}
+use Rattle.std.proofs.lemmas.Slice.Eq.{bytes_eq-Decides}
+use Rattle.clap.specs.Words.{Text, takes}
+use Rattle.pfs_words.specs.Commands.{Names, form_of}
+use Rattle.pfs_words.proofs.JobLemmas.{refused, some_names}
+use Rattle.pfs_words.proofs.planning.plan.Goals as goal
+
+is_other : {word name : Text} → (word ≡ name → ⊥) → bytes_eq word name ≡ false
+is_other {word} {name} other = false_from_ne_true _ (λ same. other ((bytes_eq-Decides word name).0 same))
+
+-- a word that names no command
+none_named : (names : Names) (word : Text) → (word ≡ codes "value" → ⊥) → (word ≡ codes "solve" → ⊥)
+    → (word ≡ codes "check" → ⊥) → (word ≡ codes "table" → ⊥) → (word ≡ codes "convert" → ⊥)
+    → (word ≡ codes "generate" → ⊥) → form_of names word ≡ None
+none_named names word a b c d e f = rw (is_other a, is_other b, is_other c, is_other d, is_other e, is_other f)
+
+pub returns-in_default-as_str-clause-usage : goal.returns-in_default-as_str-clause-usage
+returns-in_default-as_str-clause-usage c word others are failed =
+    let heads = sym (ap (map string_bytes) c.in-Some.ensures.cases.0) ∙ are in
+    let named = c.as_str.ensures.value in
+    let is : c.as_str.result.now ≡ word = cc in
+    let other = c.in_default-as_str in
+    let none : form_of some_names word ≡ None = rw (← is) (none_named some_names c.as_str.result.now other.not-value
+    other.not-solve other.not-check other.not-table other.not-convert other.not-generate) in
+    refused some_names word others refl (ap (λ o. option_map_or (λ form. takes form others) o false) none)
+    (λ found. let bad : None ≡ Some found.0 = sym none ∙ found.1 in cc)

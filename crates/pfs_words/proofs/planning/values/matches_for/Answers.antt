@@ -1,0 +1,23 @@
+use Rattle.std.proofs.Common.{◌≡◌, Bool, true, false, Result, Ok, Err}
+use Rattle.std.specs.Prelude.{◌≢◌, IsErrAnd}
+use Rattle.std.proofs.lemmas.Bool.{false_from_ne_true}
+use Rattle.clap.specs.Words.{kind_of}
+use Rattle.clap.specs.declared.error.Error.{Error}
+use Rattle.clap.specs.declared.error.kind.ErrorKind.TheVariants.{OutOfMemory}
+use Rattle.clap.specs.declared.parser.matches.ArgMatches.{ArgMatches}
+use Rattle.pfs_words.specs.declared.usage.UsageFault.{UsageFault}
+use Rattle.pfs_words.specs.declared.usage.UsageFault.TheVariants.{Memory, Usage}
+use Rattle.pfs_words.proofs.planning.values.matches_for.Goals as goal
+
+-- an error is no usage fault where the words are taken
+not_taken : (e : Error) (r : Result ArgMatches UsageFault) (taken : Bool)
+    → IsErrAnd r (λ f. (kind_of e ≡ OutOfMemory → f ≡ Memory) × (kind_of e ≢ OutOfMemory → f ≡ Usage))
+    → (taken ≡ true → kind_of e ≡ OutOfMemory) → r ≡ Err Usage → taken ≡ false
+not_taken e (Ok x) taken gives passes is = cc
+not_taken e (Err f) taken gives passes is = false_from_ne_true taken (λ yes.
+    let memory : f ≡ Memory = gives.0 (passes yes) in cc)
+
+pub returns-in_err-try_get_matches_from-clause-usage : goal.returns-in_err-try_get_matches_from-clause-usage
+returns-in_err-try_get_matches_from-clause-usage c =
+    not_taken c.in_err-try_get_matches_from.field-0.0 c.from_residual.result _ c.from_residual.ensures.1
+    c.in_err-try_get_matches_from.ensures.passes

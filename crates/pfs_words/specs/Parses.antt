@@ -1,0 +1,42 @@
+-- What clap's reading of a command's words is known to hold; contracts of private functions cite it.
+use Rattle.std.specs.Prelude.{◌≡◌, ℕ, true, List, [], Some}
+use Rattle.clap.specs.Words.{Text, app_of, fault_of, first_of, found_of, is_simple_and_free, rows_of}
+use Rattle.clap.specs.Built.{IsParsedFrom}
+use Rattle.clap.specs.Simple.{HasMatchesOf}
+use Rattle.clap.specs.Values.{IsUnsignedIn}
+use Rattle.clap.specs.declared.builder.command.Command.{Command}
+use Rattle.clap.specs.declared.parser.matches.ArgMatches.{ArgMatches}
+use Rattle.pfs_layout.specs.declared.layout.Layout.{Layout}
+use Rattle.pfs_words.specs.Commands.{AreLayoutNames, Names, audit_form, form_of}
+use Rattle.pfs_words.specs.Jobs.{AsksForAudit, SaysLayout, SaysText}
+
+-- what a parse of the command made of the words
+pub record IsParseOf (command : Command) (words : List Text) (matches : ArgMatches) : Type 0 where
+  pub facts : IsParsedFrom command matches
+  pub rows : HasMatchesOf (app_of command) words matches
+  pub faultless : is_simple_and_free (app_of command) ≡ true → fault_of (app_of command) words ≡ []
+
+-- a text, a layout, or a number of 64 bits stands under the id
+abbrev pub HasText : ArgMatches → Text → Type 0
+HasText matches id = (text : Text) × SaysText (rows_of (found_of matches)) id text
+
+abbrev pub HasLayout : ArgMatches → Text → Type 0
+HasLayout matches id = (layout : Layout) × SaysLayout (rows_of (found_of matches)) id layout
+
+abbrev pub HasNumber : ArgMatches → Text → Type 0
+HasNumber matches id = (text : Text) × (first_of id (rows_of (found_of matches)) ≡ Some text)
+    × IsUnsignedIn 0 18446744073709551615 text
+
+-- a number of 64 bits, if anything stands under the id
+abbrev pub MayHaveNumber : ArgMatches → Text → Type 0
+MayHaveNumber matches id = (text : Text) → first_of id (rows_of (found_of matches)) ≡ Some text
+    → IsUnsignedIn 0 18446744073709551615 text
+
+-- the word names a command with an order file
+abbrev pub IsAudit : Text → Type 0
+IsAudit word = (names : Names) → form_of names word ≡ Some (audit_form word names)
+
+-- the words behind that name ask for these values
+abbrev pub AsksToAudit : Text → List Text → Layout → ℕ → Text → Text → Type 0
+AsksToAudit word words layout block file order_file =
+    (names : Names) × AreLayoutNames names × AsksForAudit word names words layout block file order_file

@@ -1,0 +1,13 @@
+//! Command lines: what their words ask for, or that they ask for nothing.
+#![tactic(auto)]
+
+mod examples;
+mod job;
+mod planning;
+mod solve_options;
+mod usage;
+
+pub use job::{Job, PathText};
+pub use planning::plan;
+pub use solve_options::{DEFAULT_TAKE, MOST_ROUNDS, SolveOptions};
+pub use usage::UsageFault;

@@ -1,0 +1,175 @@
+//! From the words of a command line to what they ask for.
+ghost use Rattle.std.specs.Prelude.{◌≡◌, [], ◌∷◌, None, List, IfOk, codes, map, string_bytes};
+ghost use Rattle.clap.specs.Words.{Text};
+ghost use Rattle.pfs_words.specs.Jobs.{AsksFor, AsksForNothing, IsFrom1To, IsWithinLimits};
+ghost use Rattle.pfs_words.specs.Parses.{AsksToAudit, IsAudit};
+
+use self::commands::{
+    audit_command, convert_command, generate_command, solve_command, value_command,
+};
+use self::values::{flag_in, layout_in, matches_for, number_in, number_in_if, path_in};
+use crate::job::{Job, PathText};
+use crate::solve_options::SolveOptions;
+use crate::usage::UsageFault;
+use pfs_base::MOST_BLOCKS;
+use pfs_layout::Layout;
+use std::alloc::Global;
+
+mod commands;
+#[cfg(test)]
+mod tests;
+mod values;
+
+static LAYOUT_NAMES: [&str; 2] = ["taillard", "orlib"];
+
+/// What the words of a command line ask for, without the program's name. The first word names the command,
+/// and clap reads the others. Without words it is `value` of block 1 in Taillard's layout, on standard
+/// input.
+pub fn plan(alloc: Global, words: &[String]) -> Result<Job, UsageFault>
+    ensures no_words { words.now ≡ [] → result ≡ Ok (Job.Value Layout.Taillard 1 None) }
+    ensures job { (word : Text) (others : List Text) → map string_bytes words.now ≡ word ∷ others
+        → IfOk result (AsksFor word others) }
+    ensures within { IfOk result IsWithinLimits }
+    ensures usage { (word : Text) (others : List Text) → map string_bytes words.now ≡ word ∷ others
+        → result ≡ Err UsageFault.Usage → AsksForNothing word others }
+{
+    let Some((name, rest)) = words.split_first() else {
+        return Ok(Job::Value {
+            layout: Layout::Taillard,
+            block: 1,
+            file: None,
+        });
+    };
+    match name.as_str() {
+        "value" => plan_value(alloc, rest),
+        "solve" => plan_solve(alloc, rest),
+        "check" => plan_check(alloc, rest),
+        "table" => plan_table(alloc, rest),
+        "convert" => plan_convert(alloc, rest),
+        "generate" => plan_generate(alloc, rest),
+        _ => Err(UsageFault::Usage),
+    }
+}
+
+fn plan_value(alloc: Global, words: &[String]) -> Result<Job, UsageFault>
+    ensures ok { IfOk result (AsksFor (codes "value") (map string_bytes words.now)) }
+    ensures within { IfOk result IsWithinLimits }
+    ensures usage { result ≡ Err UsageFault.Usage
+        → AsksForNothing (codes "value") (map string_bytes words.now) }
+{
+    let matches = matches_for(value_command(alloc, LAYOUT_NAMES.as_slice())?, words)?;
+    Ok(Job::Value {
+        layout: layout_in(&matches, "layout"),
+        block: number_in(&matches, "block") as usize,
+        file: Some(path_in(alloc, &matches, "file")?),
+    })
+}
+
+fn plan_solve(alloc: Global, words: &[String]) -> Result<Job, UsageFault>
+    ensures ok { IfOk result (AsksFor (codes "solve") (map string_bytes words.now)) }
+    ensures within { IfOk result IsWithinLimits }
+    ensures usage { result ≡ Err UsageFault.Usage
+        → AsksForNothing (codes "solve") (map string_bytes words.now) }
+{
+    let matches = matches_for(solve_command(alloc, LAYOUT_NAMES.as_slice())?, words)?;
+    let options = SolveOptions {
+        rounds: number_in(&matches, "rounds") as u32,
+        take: number_in_if(&matches, "take"),
+        seed: number_in(&matches, "seed"),
+        passes: number_in(&matches, "passes") as u32,
+        cells: flag_in(&matches, "cells"),
+    };
+    Ok(Job::Solve {
+        layout: layout_in(&matches, "layout"),
+        block: number_in(&matches, "block") as usize,
+        options,
+        file: path_in(alloc, &matches, "file")?,
+    })
+}
+
+fn plan_check(alloc: Global, words: &[String]) -> Result<Job, UsageFault>
+    ensures ok { IfOk result (AsksFor (codes "check") (map string_bytes words.now)) }
+    ensures within { IfOk result IsWithinLimits }
+    ensures usage { result ≡ Err UsageFault.Usage
+        → AsksForNothing (codes "check") (map string_bytes words.now) }
+{
+    let audit = plan_audit(alloc, "check", words)?;
+    Ok(Job::Check {
+        layout: audit.layout,
+        block: audit.block,
+        file: audit.file,
+        order_file: audit.order_file,
+    })
+}
+
+fn plan_table(alloc: Global, words: &[String]) -> Result<Job, UsageFault>
+    ensures ok { IfOk result (AsksFor (codes "table") (map string_bytes words.now)) }
+    ensures within { IfOk result IsWithinLimits }
+    ensures usage { result ≡ Err UsageFault.Usage
+        → AsksForNothing (codes "table") (map string_bytes words.now) }
+{
+    let audit = plan_audit(alloc, "table", words)?;
+    Ok(Job::Table {
+        layout: audit.layout,
+        block: audit.block,
+        file: audit.file,
+        order_file: audit.order_file,
+    })
+}
+
+// What a command with an order file is asked for.
+#[derive(Drop)]
+struct Audit {
+    layout: Layout,
+    block: usize,
+    file: PathText,
+    order_file: PathText,
+}
+
+// What the words behind the name of a command with an order file ask for.
+fn plan_audit(alloc: Global, name: &str, words: &[String]) -> Result<Audit, UsageFault>
+    requires { IsAudit name.now }
+    ensures ok { IfOk result (λ audit. AsksToAudit name.now (map string_bytes words.now)
+        audit.layout audit.block audit.file audit.order_file) }
+    ensures within { IfOk result (λ audit. IsFrom1To MOST_BLOCKS audit.block) }
+    ensures usage { result ≡ Err UsageFault.Usage
+        → AsksForNothing name.now (map string_bytes words.now) }
+{
+    let command = audit_command(alloc, name, LAYOUT_NAMES.as_slice())?;
+    let matches = matches_for(command, words)?;
+    Ok(Audit {
+        layout: layout_in(&matches, "layout"),
+        block: number_in(&matches, "block") as usize,
+        file: path_in(alloc, &matches, "file")?,
+        order_file: path_in(alloc, &matches, "order")?,
+    })
+}
+
+fn plan_convert(alloc: Global, words: &[String]) -> Result<Job, UsageFault>
+    ensures ok { IfOk result (AsksFor (codes "convert") (map string_bytes words.now)) }
+    ensures within { IfOk result IsWithinLimits }
+    ensures usage { result ≡ Err UsageFault.Usage
+        → AsksForNothing (codes "convert") (map string_bytes words.now) }
+{
+    let matches = matches_for(convert_command(alloc, LAYOUT_NAMES.as_slice())?, words)?;
+    Ok(Job::Convert {
+        source: layout_in(&matches, "from"),
+        target: layout_in(&matches, "to"),
+        block: number_in(&matches, "block") as usize,
+        file: path_in(alloc, &matches, "file")?,
+    })
+}
+
+fn plan_generate(alloc: Global, words: &[String]) -> Result<Job, UsageFault>
+    ensures ok { IfOk result (AsksFor (codes "generate") (map string_bytes words.now)) }
+    ensures within { IfOk result IsWithinLimits }
+    ensures usage { result ≡ Err UsageFault.Usage
+        → AsksForNothing (codes "generate") (map string_bytes words.now) }
+{
+    let matches = matches_for(generate_command(alloc)?, words)?;
+    Ok(Job::Generate {
+        jobs: number_in(&matches, "jobs") as usize,
+        machines: number_in(&matches, "machines") as usize,
+        seed: number_in(&matches, "seed"),
+    })
+}

@@ -1,0 +1,170 @@
+//! The forms that clap reads the words of each command by.
+ghost use Rattle.std.specs.Prelude.{◌≡◌, [], ◌∷◌, IfOk, codes, false};
+ghost use Rattle.clap.specs.Words.{app_of, rule_of};
+ghost use Rattle.pfs_words.specs.Commands.{flat_form, layout_rule, option_rule, block_rule, path_rule, number_rule};
+ghost use Rattle.pfs_words.specs.Commands.{flag_rule, rounds_rule, take_rule, search_seed_rule, passes_rule, solve_form};
+ghost use Rattle.pfs_words.specs.Commands.{value_form, audit_form, convert_form, generate_form};
+
+use crate::solve_options::MOST_ROUNDS;
+use clap::builder::ValueParser;
+use clap::{Arg, ArgAction, Command};
+use pfs_base::{MOST_BLOCKS, MOST_JOBS, MOST_MACHINES, MOST_PASSES};
+use std::alloc::{AllocError, Global};
+
+fn flat_command<'a>(alloc: Global, name: &'a str) -> Command<'a>
+    ensures { app_of result ≡ flat_form name.entry.now [] }
+{
+    Command::new(alloc, name).no_binary_name(true)
+}
+
+// `--ID L`, where `names` are those of the layouts.
+fn layout_arg<'a>(alloc: Global, id: &'a str, names: &'a [&'a str]) -> Arg<'a>
+    ensures rule { rule_of result ≡ layout_rule names.entry id.entry.now }
+    ensures local { result.global ≡ false }
+{
+    Arg::new(alloc, id)
+        .long(id)
+        .action(ArgAction::Set)
+        .required(true)
+        .value_parser(names)
+}
+
+// `--ID N`.
+fn option_arg<'a>(alloc: Global, id: &'a str, least: u64, most: u64) -> Arg<'a>
+    ensures rule { rule_of result ≡ option_rule id.entry.now least most [] }
+    ensures local { result.global ≡ false }
+{
+    Arg::new(alloc, id)
+        .long(id)
+        .action(ArgAction::Set)
+        .value_parser(ValueParser::unsigned(least, most))
+}
+
+// The same, with the number that it has where it is left out.
+fn default_arg<'a>(alloc: Global, id: &'a str, least: u64, most: u64, value: &'a str) -> Arg<'a>
+    ensures rule { rule_of result ≡ option_rule id.entry.now least most (value.entry.now ∷ []) }
+    ensures local { result.global ≡ false }
+{
+    option_arg(alloc, id, least, most).default_value(value)
+}
+
+// `--block K`.
+fn block_arg<'a>(alloc: Global) -> Arg<'a>
+    ensures rule { rule_of result ≡ block_rule }
+    ensures local { result.global ≡ false }
+{
+    default_arg(alloc, "block", 1, MOST_BLOCKS as u64, "1")
+}
+
+// `--ID`.
+fn flag_arg<'a>(alloc: Global, id: &'a str) -> Arg<'a>
+    ensures rule { rule_of result ≡ flag_rule id.entry.now }
+    ensures local { result.global ≡ false }
+{
+    Arg::new(alloc, id).long(id).action(ArgAction::SetTrue)
+}
+
+// A path, by its place.
+fn path_arg<'a>(alloc: Global, id: &'a str) -> Arg<'a>
+    ensures rule { rule_of result ≡ path_rule id.entry.now }
+    ensures local { result.global ≡ false }
+{
+    Arg::new(alloc, id).action(ArgAction::Set).required(true)
+}
+
+// A number, by its place.
+fn number_arg<'a>(alloc: Global, id: &'a str, least: u64, most: u64) -> Arg<'a>
+    ensures rule { rule_of result ≡ number_rule id.entry.now least most }
+    ensures local { result.global ≡ false }
+{
+    Arg::new(alloc, id)
+        .action(ArgAction::Set)
+        .required(true)
+        .value_parser(ValueParser::unsigned(least, most))
+}
+
+// A command that begins with `--layout L [--block K]`.
+fn layout_command<'a>(
+    alloc: Global,
+    name: &'a str,
+    names: &'a [&'a str],
+) -> Result<Command<'a>, AllocError>
+    ensures { IfOk result (λ command. app_of command ≡ flat_form name.entry.now
+        (layout_rule names.entry (codes "layout") ∷ block_rule ∷ [])) }
+{
+    flat_command(alloc, name)
+        .arg(layout_arg(alloc, "layout", names))?
+        .arg(block_arg(alloc))
+}
+
+/// The form of `value`, where `names` are those of the layouts.
+pub(super) fn value_command<'a>(
+    alloc: Global,
+    names: &'a [&'a str],
+) -> Result<Command<'a>, AllocError>
+    ensures { IfOk result (λ command. app_of command ≡ value_form names.entry) }
+{
+    layout_command(alloc, "value", names)?.arg(path_arg(alloc, "file"))
+}
+
+// What stands before the flag of `solve`.
+fn search_command<'a>(alloc: Global, names: &'a [&'a str]) -> Result<Command<'a>, AllocError>
+    ensures { IfOk result (λ command. app_of command ≡ flat_form (codes "solve")
+        (layout_rule names.entry (codes "layout") ∷ block_rule ∷ rounds_rule ∷ take_rule
+        ∷ search_seed_rule ∷ passes_rule ∷ [])) }
+{
+    layout_command(alloc, "solve", names)?
+        .arg(default_arg(alloc, "rounds", 0, MOST_ROUNDS as u64, "0"))?
+        .arg(option_arg(alloc, "take", 1, MOST_JOBS as u64))?
+        .arg(default_arg(alloc, "seed", 0, u64::MAX, "0"))?
+        .arg(default_arg(alloc, "passes", 0, MOST_PASSES as u64, "0"))
+}
+
+/// The form of `solve`.
+pub(super) fn solve_command<'a>(
+    alloc: Global,
+    names: &'a [&'a str],
+) -> Result<Command<'a>, AllocError>
+    ensures { IfOk result (λ command. app_of command ≡ solve_form names.entry) }
+{
+    search_command(alloc, names)?
+        .arg(flag_arg(alloc, "cells"))?
+        .arg(path_arg(alloc, "file"))
+}
+
+/// The form of a command with an order file, which has this name.
+pub(super) fn audit_command<'a>(
+    alloc: Global,
+    name: &'a str,
+    names: &'a [&'a str],
+) -> Result<Command<'a>, AllocError>
+    ensures { IfOk result (λ command. app_of command ≡ audit_form name.entry.now names.entry) }
+{
+    layout_command(alloc, name, names)?
+        .arg(path_arg(alloc, "file"))?
+        .arg(path_arg(alloc, "order"))
+}
+
+/// The form of `convert`.
+pub(super) fn convert_command<'a>(
+    alloc: Global,
+    names: &'a [&'a str],
+) -> Result<Command<'a>, AllocError>
+    ensures { IfOk result (λ command. app_of command ≡ convert_form names.entry) }
+{
+    flat_command(alloc, "convert")
+        .arg(layout_arg(alloc, "from", names))?
+        .arg(layout_arg(alloc, "to", names))?
+        .arg(block_arg(alloc))?
+        .arg(path_arg(alloc, "file"))
+}
+
+/// The form of `generate`.
+pub(super) fn generate_command<'a>(alloc: Global) -> Result<Command<'a>, AllocError>
+    ensures { IfOk result (λ command. app_of command ≡ generate_form) }
+{
+    flat_command(alloc, "generate")
+        .arg(number_arg(alloc, "jobs", 1, MOST_JOBS as u64))?
+        .arg(number_arg(alloc, "machines", 1, MOST_MACHINES as u64))?
+        .arg(number_arg(alloc, "seed", 0, u64::MAX))
+}
