@@ -2,3 +2,4 @@ pub mod HeadlineLemmas
 pub mod OutputLemmas
 pub mod SolveLemmas
 pub mod TableLemmas
+mod ProgramLemmas

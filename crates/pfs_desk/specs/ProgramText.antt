@@ -6,8 +6,13 @@ use Rattle.pfs_base.specs.Sends.{Prints}
 use Rattle.pfs_base.specs.Text.{with_line_end}
 use Rattle.pfs_desk.specs.declared.fault.Outcome.{Outcome}
 use Rattle.pfs_desk.specs.declared.fault.Outcome.TheVariants.{Done, CheckFailed}
+use Rattle.pfs_desk.specs.declared.fault.DeskFault.TheVariants as faults
+use Rattle.pfs_desk.specs.declared.files.OpenFault.{OpenFault}
+use Rattle.pfs_desk.specs.declared.files.OpenFault.TheVariants as open_faults
 use Rattle.pfs_desk.specs.declared.stop.Stop.{Stop}
 use Rattle.pfs_desk.specs.declared.stop.Stop.TheVariants as stops
+use Rattle.pfs_words.specs.declared.usage.UsageFault.{UsageFault}
+use Rattle.pfs_words.specs.declared.usage.UsageFault.TheVariants as usage_faults
 use Rattle.pfs_desk.specs.FaultText.{fault_text, status_of}
 
 -- the line of each command, behind a first line
@@ -21,6 +26,16 @@ usage_text = flat_map with_line_end (
     ∷ codes "pfs convert --from L --to L [--block K] FILE"
     ∷ codes "pfs generate N M SEED"
     ∷ [])
+
+-- the words ask for nothing, or memory was refused
+abbrev pub usage_stop : UsageFault → Stop
+usage_stop usage_faults.Usage = stops.Usage
+usage_stop usage_faults.Memory = stops.Fault faults.Memory
+
+-- a file can't be opened, or memory was refused
+abbrev pub open_stop : OpenFault → Stop
+open_stop open_faults.Closed = stops.Open
+open_stop open_faults.Memory = stops.Fault faults.Memory
 
 -- what the error output is told
 abbrev pub stop_text : Stop → List ℕ

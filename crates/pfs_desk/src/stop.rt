@@ -1,10 +1,12 @@
 //! How the program ends: what it tells on the error output, and its exit status.
 ghost use Rattle.std.specs.Prelude.{◌≡◌, ◌<◌, false, length};
 ghost use Rattle.pfs_base.specs.Sends.{Prints};
-ghost use Rattle.pfs_desk.specs.ProgramText.{Tells, exit_status_of, stop_status_of, stop_text};
+ghost use Rattle.pfs_desk.specs.ProgramText.{Tells, exit_status_of, open_stop, stop_status_of, stop_text, usage_stop};
 
 use crate::fault::{DeskFault, Outcome, status, write_fault};
+use crate::files::OpenFault;
 use pfs_base::{Sink, WriteFault, put};
+use pfs_words::UsageFault;
 
 const USAGE: &[u8] = b"pfs: usage
 pfs value --layout L [--block K] FILE
@@ -24,6 +26,28 @@ pub enum Stop {
     Open,
     /// The fault of what was asked for, or want of memory before it ran.
     Fault(DeskFault),
+}
+
+impl From<UsageFault> for Stop {
+    ghost from_gives = { λ fault made. made ≡ usage_stop fault };
+
+    fn from(fault: UsageFault) -> Stop {
+        match fault {
+            UsageFault::Usage => Stop::Usage,
+            UsageFault::Memory => Stop::Fault(DeskFault::Memory),
+        }
+    }
+}
+
+impl From<OpenFault> for Stop {
+    ghost from_gives = { λ fault made. made ≡ open_stop fault };
+
+    fn from(fault: OpenFault) -> Stop {
+        match fault {
+            OpenFault::Closed => Stop::Open,
+            OpenFault::Memory => Stop::Fault(DeskFault::Memory),
+        }
+    }
 }
 
 /// Tells on the error output why the program stopped, if it did, and answers its exit status. Where the error
