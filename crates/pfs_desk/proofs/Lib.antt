@@ -3,3 +3,4 @@ pub mod OutputLemmas
 pub mod SolveLemmas
 pub mod TableLemmas
 mod ProgramLemmas
+mod RunLemmas
