@@ -37,41 +37,47 @@ ReadingTwo = Option (List ℕ) → Option (List ℕ) → Bool → Option (List �
 module _ (result : Result Outcome Stop) (U U' : Type 0) (V V' : Writing)
     (stop : (standing : Standing) → CannotOpen standing result → U → U')
     (write : (output : Outcome → List ℕ → Type 0) (answer : Result Outcome DeskFault) → result ≡ ending answer
-      → V output answer → V' output answer)
-    (standing : List ℕ → Standing) (asked asked' : List (List ℕ)) where
-  stops-map : (before : List (List ℕ)) (path : List ℕ) → StopsAtOpening standing asked asked' before path U result
-      → StopsAtOpening standing asked asked' before path U' result
-  stops-map before path p = record {
+    → V output answer → V' output answer)
+    (standing : List ℕ → Standing) (asked asked' : Option (List (List ℕ))) where
+  stops-map : (path : List ℕ) (between : Option (List (List ℕ))) → StopsAtOpening standing between asked' path U result
+      → StopsAtOpening standing between asked' path U' result
+  stops-map path between p = record {
     closed = p.closed;
-    in_order = p.in_order;
+    asks = p.asks;
     nothing = stop (standing path) p.closed p.nothing;
   }
 
   file-map : (path : List ℕ) (runs runs' : Reading)
       → ((file left : Option (List ℕ)) (failed : Bool) (answer : Result Outcome DeskFault) → result ≡ ending answer
-        → runs file left failed answer → runs' file left failed answer)
+      → runs file left failed answer → runs' file left failed answer)
       → WithFile standing asked asked' path U runs result → WithFile standing asked asked' path U' runs' result
-  file-map path runs runs' f (inl p) = inl (stops-map [] path p)
+  file-map path runs runs' f (inl p) = inl (stops-map path asked p)
   file-map path runs runs' f (inr p) = inr (record {
     file = p.file;
     left = p.left;
     failed = p.failed;
     answer = p.answer;
     opened = p.opened;
-    in_order = p.in_order;
+    asks = p.asks;
     ran = f p.file p.left p.failed p.answer p.ends p.ran;
     ends = p.ends;
   })
 
   files-map : (path order_path : List ℕ) (runs runs' : ReadingTwo)
       → ((file left : Option (List ℕ)) (failed : Bool) (orders orders_left : Option (List ℕ)) (orders_failed : Bool)
-        (answer : Result Outcome DeskFault) → result ≡ ending answer
-        → runs file left failed orders orders_left orders_failed answer
-        → runs' file left failed orders orders_left orders_failed answer)
+      (answer : Result Outcome DeskFault) → result ≡ ending answer
+      → runs file left failed orders orders_left orders_failed answer
+      → runs' file left failed orders orders_left orders_failed answer)
       → WithFiles standing asked asked' path order_path U runs result
       → WithFiles standing asked asked' path order_path U' runs' result
-  files-map path order_path runs runs' f (inl p) = inl (stops-map [] path p)
-  files-map path order_path runs runs' f (inr (inl p)) = inr (inl (stops-map (path ∷ []) order_path p))
+  files-map path order_path runs runs' f (inl p) = inl (stops-map path asked p)
+  files-map path order_path runs runs' f (inr (inl p)) = inr (inl (record {
+    file = p.file;
+    between = p.between;
+    opened = p.opened;
+    asks = p.asks;
+    stops = stops-map order_path p.between p.stops;
+  }))
   files-map path order_path runs runs' f (inr (inr p)) = inr (inr (record {
     file = p.file;
     left = p.left;
@@ -79,10 +85,12 @@ module _ (result : Result Outcome Stop) (U U' : Type 0) (V V' : Writing)
     orders = p.orders;
     orders_left = p.orders_left;
     orders_failed = p.orders_failed;
+    between = p.between;
     answer = p.answer;
     opened = p.opened;
     opened_orders = p.opened_orders;
-    in_order = p.in_order;
+    asks = p.asks;
+    asks_next = p.asks_next;
     ran = f p.file p.left p.failed p.orders p.orders_left p.orders_failed p.answer p.ends p.ran;
     ends = p.ends;
   }))
@@ -174,22 +182,22 @@ module _ (result : Result Outcome Stop) (U U' : Type 0) (V V' : Writing)
 module _ (result : Result Outcome Stop) (U : Type 0) (V : Writing) (P : Type 0)
     (stop : (standing : Standing) → CannotOpen standing result → P)
     (write : (output : Outcome → List ℕ → Type 0) (answer : Result Outcome DeskFault) → result ≡ ending answer
-      → V output answer → P)
-    (standing : List ℕ → Standing) (asked asked' : List (List ℕ)) where
+    → V output answer → P)
+    (standing : List ℕ → Standing) (asked asked' : Option (List (List ℕ))) where
   file-shows : (path : List ℕ) (runs : Reading)
       → ((file left : Option (List ℕ)) (failed : Bool) (answer : Result Outcome DeskFault) → result ≡ ending answer
-        → runs file left failed answer → P)
+      → runs file left failed answer → P)
       → WithFile standing asked asked' path U runs result → P
   file-shows path runs f (inl p) = stop (standing path) p.closed
   file-shows path runs f (inr p) = f p.file p.left p.failed p.answer p.ends p.ran
 
   files-show : (path order_path : List ℕ) (runs : ReadingTwo)
       → ((file left : Option (List ℕ)) (failed : Bool) (orders orders_left : Option (List ℕ)) (orders_failed : Bool)
-        (answer : Result Outcome DeskFault) → result ≡ ending answer
-        → runs file left failed orders orders_left orders_failed answer → P)
+      (answer : Result Outcome DeskFault) → result ≡ ending answer
+      → runs file left failed orders orders_left orders_failed answer → P)
       → WithFiles standing asked asked' path order_path U runs result → P
   files-show path order_path runs f (inl p) = stop (standing path) p.closed
-  files-show path order_path runs f (inr (inl p)) = stop (standing order_path) p.closed
+  files-show path order_path runs f (inr (inl p)) = stop (standing order_path) p.stops.closed
   files-show path order_path runs f (inr (inr p)) =
       f p.file p.left p.failed p.orders p.orders_left p.orders_failed p.answer p.ends p.ran
 
@@ -203,10 +211,10 @@ module _ (result : Result Outcome Stop) (U : Type 0) (V : Writing) (P : Type 0)
       (λ file left failed answer e r. write (SolveOutput layout file block options) answer e r.written) p.1
   job-shows (job.Check layout block path order_path) input input' failed p = files-show path order_path _
       (λ file left failed orders orders_left orders_failed answer e r.
-        write (CheckOutput layout file block orders) answer e r.written) p.1
+      write (CheckOutput layout file block orders) answer e r.written) p.1
   job-shows (job.Table layout block path order_path) input input' failed p = files-show path order_path _
       (λ file left failed orders orders_left orders_failed answer e r.
-        write (TableOutput layout file block orders) answer e r.written) p.1
+      write (TableOutput layout file block orders) answer e r.written) p.1
   job-shows (job.Convert source target block path) input input' failed p = file-shows path _
       (λ file left failed answer e r. write (ConvertOutput source target file block) answer e r.written) p.1
   job-shows (job.Generate jobs machines seed) input input' failed p =
@@ -228,11 +236,11 @@ works_written old new failed result output (Ok outcome) e p =
     subst (λ ended. Works ended failed) (sym e) p.working
 works_written old new failed result output (Err fault) e p = subst (λ ended. Works ended failed) (sym e) tt
 
-pub job-works : (asks : Job) (standing : List ℕ → Standing) (asked asked' : List (List ℕ))
+pub job-works : (asks : Job) (standing : List ℕ → Standing) (asked asked' : Option (List (List ℕ)))
     (input input' : Option (List ℕ)) (read_failed : Bool) (U : Type 0) (old new : Option (List ℕ)) (failed : Bool)
     (result : Result Outcome Stop)
     → RunsJob asks standing asked asked' input input' read_failed U (writing_of old new failed) result
     → IfOk result (λ outcome. failed ≡ false)
 job-works asks standing asked asked' input input' read_failed U old new failed result p =
     job-shows result U (writing_of old new failed) (Works result failed) (works_stopped failed result)
-        (works_written old new failed result) standing asked asked' asks input input' read_failed p
+    (works_written old new failed result) standing asked asked' asks input input' read_failed p

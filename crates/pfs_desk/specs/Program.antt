@@ -17,7 +17,7 @@ use Rattle.pfs_desk.specs.declared.stop.Stop.TheVariants as stops
 use Rattle.pfs_desk.specs.Engine.{ValueOutput, SolveOutput, CheckOutput, TableOutput, ConvertOutput, GenerateOutput}
 use Rattle.pfs_desk.specs.Engine.{ReadsBlock, ReadsOrder, RefusesNoOrder, RefusesNoTake, JudgesTake, IsGenerateFault}
 use Rattle.pfs_desk.specs.Engine.{Writes, WantsBehindFirst, WantsBehindSecond}
-use Rattle.pfs_desk.specs.Standing.{Standing, MayOpen, MayRefuse}
+use Rattle.pfs_desk.specs.Standing.{Standing, Asks, MayOpen, MayRefuse}
 
 -- how an engine that answers this has written its output
 abbrev pub Writing : Type 1
@@ -38,15 +38,24 @@ CannotOpen standing (Err stops.Open) = MayRefuse standing Closed
 CannotOpen standing (Err (stops.Fault faults.Memory)) = ⊤
 CannotOpen standing others = ⊥
 
--- behind these paths one was asked for that could not be opened, and no other, and nothing was written
-pub record StopsAtOpening (standing : List ℕ → Standing) (asked asked' : List (List ℕ)) (before : List (List ℕ))
-    (path : List ℕ) (unwritten : Type 0) (result : Result Outcome Stop) : Type 0 where
+-- a path was asked for that could not be opened, and nothing was written
+pub record StopsAtOpening (standing : List ℕ → Standing) (asked asked' : Option (List (List ℕ))) (path : List ℕ)
+    (unwritten : Type 0) (result : Result Outcome Stop) : Type 0 where
   pub closed : CannotOpen (standing path) result
-  pub in_order : asked' ≡ asked ++ (before ++ path ∷ [])
+  pub asks : Asks asked asked' path
   pub nothing : unwritten
 
+-- the same of a second path, where the first was opened
+pub record StopsAtSecond (standing : List ℕ → Standing) (asked asked' : Option (List (List ℕ)))
+    (path order_path : List ℕ) (unwritten : Type 0) (result : Result Outcome Stop) : Type 0 where
+  pub file : Option (List ℕ)
+  pub between : Option (List (List ℕ))
+  pub opened : MayOpen (standing path) file
+  pub asks : Asks asked between path
+  pub stops : StopsAtOpening standing between asked' order_path unwritten result
+
 -- no file was opened, and an engine ran
-pub record RunsAlone (asked asked' : List (List ℕ)) (runs : Result Outcome DeskFault → Type 0)
+pub record RunsAlone (asked asked' : Option (List (List ℕ))) (runs : Result Outcome DeskFault → Type 0)
     (result : Result Outcome Stop) : Type 0 where
   pub answer : Result Outcome DeskFault
   pub none_asked : asked' ≡ asked
@@ -54,7 +63,7 @@ pub record RunsAlone (asked asked' : List (List ℕ)) (runs : Result Outcome Des
   pub ends : result ≡ ending answer
 
 -- one file was opened, and an engine ran on it
-pub record RunsOnFile (standing : List ℕ → Standing) (asked asked' : List (List ℕ)) (path : List ℕ)
+pub record RunsOnFile (standing : List ℕ → Standing) (asked asked' : Option (List (List ℕ))) (path : List ℕ)
     (runs : Option (List ℕ) → Option (List ℕ) → Bool → Result Outcome DeskFault → Type 0)
     (result : Result Outcome Stop) : Type 0 where
   pub file : Option (List ℕ)
@@ -62,12 +71,12 @@ pub record RunsOnFile (standing : List ℕ → Standing) (asked asked' : List (L
   pub failed : Bool
   pub answer : Result Outcome DeskFault
   pub opened : MayOpen (standing path) file
-  pub in_order : asked' ≡ asked ++ path ∷ []
+  pub asks : Asks asked asked' path
   pub ran : runs file left failed answer
   pub ends : result ≡ ending answer
 
 -- two files were opened, one after the other, and then an engine ran on them
-pub record RunsOnFiles (standing : List ℕ → Standing) (asked asked' : List (List ℕ)) (path order_path : List ℕ)
+pub record RunsOnFiles (standing : List ℕ → Standing) (asked asked' : Option (List (List ℕ))) (path order_path : List ℕ)
     (runs : Option (List ℕ) → Option (List ℕ) → Bool → Option (List ℕ) → Option (List ℕ) → Bool
     → Result Outcome DeskFault → Type 0)
     (result : Result Outcome Stop) : Type 0 where
@@ -77,26 +86,28 @@ pub record RunsOnFiles (standing : List ℕ → Standing) (asked asked' : List (
   pub orders : Option (List ℕ)
   pub orders_left : Option (List ℕ)
   pub orders_failed : Bool
+  pub between : Option (List (List ℕ))
   pub answer : Result Outcome DeskFault
   pub opened : MayOpen (standing path) file
   pub opened_orders : MayOpen (standing order_path) orders
-  pub in_order : asked' ≡ asked ++ path ∷ order_path ∷ []
+  pub asks : Asks asked between path
+  pub asks_next : Asks between asked' order_path
   pub ran : runs file left failed orders orders_left orders_failed answer
   pub ends : result ≡ ending answer
 
-abbrev pub WithFile : (List ℕ → Standing) → List (List ℕ) → List (List ℕ) → List ℕ → Type 0
+abbrev pub WithFile : (List ℕ → Standing) → Option (List (List ℕ)) → Option (List (List ℕ)) → List ℕ → Type 0
     → (Option (List ℕ) → Option (List ℕ) → Bool → Result Outcome DeskFault → Type 0) → Result Outcome Stop → Type 0
 WithFile standing asked asked' path unwritten runs result =
-    StopsAtOpening standing asked asked' [] path unwritten result
+    StopsAtOpening standing asked asked' path unwritten result
     ⊎ RunsOnFile standing asked asked' path runs result
 
-abbrev pub WithFiles : (List ℕ → Standing) → List (List ℕ) → List (List ℕ) → List ℕ → List ℕ → Type 0
+abbrev pub WithFiles : (List ℕ → Standing) → Option (List (List ℕ)) → Option (List (List ℕ)) → List ℕ → List ℕ → Type 0
     → (Option (List ℕ) → Option (List ℕ) → Bool → Option (List ℕ) → Option (List ℕ) → Bool
     → Result Outcome DeskFault → Type 0)
     → Result Outcome Stop → Type 0
 WithFiles standing asked asked' path order_path unwritten runs result =
-    StopsAtOpening standing asked asked' [] path unwritten result
-    ⊎ (StopsAtOpening standing asked asked' (path ∷ []) order_path unwritten result
+    StopsAtOpening standing asked asked' path unwritten result
+    ⊎ (StopsAtSecond standing asked asked' path order_path unwritten result
     ⊎ RunsOnFiles standing asked asked' path order_path runs result)
 
 -- what each engine owes, as its contract says it
@@ -153,7 +164,7 @@ Unread input input' failed = (input' ≡ input) × (failed ≡ false)
 
 -- what the program does for a job, where `asked` are the paths that were asked for before and `input` is what standard
 -- input gives, and both have a dash behind them as they are afterwards
-abbrev pub RunsJob : Job → (List ℕ → Standing) → List (List ℕ) → List (List ℕ) → Option (List ℕ) → Option (List ℕ)
+abbrev pub RunsJob : Job → (List ℕ → Standing) → Option (List (List ℕ)) → Option (List (List ℕ)) → Option (List ℕ) → Option (List ℕ)
     → Bool → Type 0 → Writing → Result Outcome Stop → Type 0
 RunsJob (job.Value layout block None) standing asked asked' input input' failed unwritten writing result =
     RunsAlone asked asked' (RunsValue layout block writing input input' failed) result

@@ -1,5 +1,5 @@
--- What stands at a path, as far as that is told.
-use Rattle.std.specs.Prelude.{⊤, ◌≡◌, ℕ, List, Option, Some}
+-- What stands at a path, as far as that is told, and which paths were asked for.
+use Rattle.std.specs.Prelude.{⊤, ◌≡◌, ℕ, List, [], ◌∷◌, ◌++◌, Option, None, Some}
 use Rattle.pfs_desk.specs.declared.files.OpenFault.{OpenFault}
 use Rattle.pfs_desk.specs.declared.files.OpenFault.TheVariants.{Closed, Memory}
 
@@ -20,3 +20,8 @@ MayRefuse standing Memory = ⊤
 MayRefuse untold Closed = ⊤
 MayRefuse nothing Closed = ⊤
 MayRefuse (bytes text) Closed = ⊥
+
+-- behind the paths that were asked for, where these are told, this one was
+abbrev pub Asks : Option (List (List ℕ)) → Option (List (List ℕ)) → List ℕ → Type 0
+Asks None asked' path = ⊤
+Asks (Some asked) asked' path = asked' ≡ Some (asked ++ path ∷ [])

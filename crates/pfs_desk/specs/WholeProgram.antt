@@ -64,7 +64,7 @@ abbrev pub printing_on : Type 0 → Option (List ℕ) → Result Outcome Stop �
 printing_on fresh out ended = λ output answer. PrintsOn output fresh out answer ended
 
 -- the words ask for a job, which is done as `RunsJob` says
-pub record RunsFor (words : List (List ℕ)) (standing : List ℕ → Standing) (asked asked' : List (List ℕ))
+pub record RunsFor (words : List (List ℕ)) (standing : List ℕ → Standing) (asked asked' : Option (List (List ℕ)))
     (input input' : Option (List ℕ)) (failed : Bool) (fresh : Type 0) (out : Option (List ℕ))
     (ended : Result Outcome Stop) : Type 0 where
   pub job : Job
@@ -74,7 +74,7 @@ pub record RunsFor (words : List (List ℕ)) (standing : List ℕ → Standing) 
       (printing_on fresh out ended) reached
 
 -- they ask for nothing: no file is opened, and nothing is read or printed
-pub record RunsNothing (words : List (List ℕ)) (asked asked' : List (List ℕ)) (input input' : Option (List ℕ))
+pub record RunsNothing (words : List (List ℕ)) (asked asked' : Option (List (List ℕ))) (input input' : Option (List ℕ))
     (failed : Bool) (fresh : Type 0) (out : Option (List ℕ)) (ended : Result Outcome Stop) : Type 0 where
   pub refused : RefusesWords words ended
   pub none_asked : asked' ≡ asked
@@ -83,14 +83,15 @@ pub record RunsNothing (words : List (List ℕ)) (asked asked' : List (List ℕ)
 
 -- how the program goes up to its end, where `fresh` says that nothing stood on the output before, and a dash stands
 -- behind what is afterwards
-abbrev pub Runs : List (List ℕ) → (List ℕ → Standing) → List (List ℕ) → List (List ℕ) → Option (List ℕ)
+abbrev pub Runs : List (List ℕ) → (List ℕ → Standing) → Option (List (List ℕ)) → Option (List (List ℕ))
+    → Option (List ℕ)
     → Option (List ℕ) → Bool → Type 0 → Option (List ℕ) → Result Outcome Stop → Type 0
 Runs words standing asked asked' input input' failed fresh out ended =
     RunsNothing words asked asked' input input' failed fresh out ended
     ⊎ RunsFor words standing asked asked' input input' failed fresh out ended
 
 -- how it ends, for any of the reasons: what it tells on the error output does not change its status
-pub record Ends (words : List (List ℕ)) (standing : List ℕ → Standing) (asked asked' : List (List ℕ))
+pub record Ends (words : List (List ℕ)) (standing : List ℕ → Standing) (asked asked' : Option (List (List ℕ)))
     (input input' : Option (List ℕ)) (failed : Bool) (fresh : Type 0) (out : Option (List ℕ))
     (errors errors' : Option (List ℕ)) (errors_failed : Bool) (status : ℕ) : Type 0 where
   pub ended : Result Outcome Stop

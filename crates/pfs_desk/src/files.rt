@@ -1,6 +1,6 @@
 //! Files that are opened for reading.
-ghost use Rattle.std.specs.Prelude.{◌≡◌, ℕ, List, [], ◌∷◌, ◌++◌, false, IfOk, IfErr};
-ghost use Rattle.pfs_desk.specs.Standing.{Standing, MayOpen, MayRefuse};
+ghost use Rattle.std.specs.Prelude.{◌≡◌, ℕ, List, Option, false, IfOk, IfErr};
+ghost use Rattle.pfs_desk.specs.Standing.{Standing, Asks, MayOpen, MayRefuse};
 
 use pfs_base::Source;
 use pfs_words::PathText;
@@ -14,7 +14,7 @@ pub enum OpenFault {
     Memory,
 }
 
-/// What opens files for reading. Contracts see what stands at each path, where that is told, and which paths
+/// What opens files for reading. Contracts see, where that is told, what stands at each path, and which paths
 /// were asked for, in their order.
 pub trait Files {
     /// A file that is open.
@@ -22,11 +22,11 @@ pub trait Files {
 
     ghost standing: { Self → List ℕ → Standing };
 
-    ghost asked: { Self → List (List ℕ) };
+    ghost asked: { Self → Option (List (List ℕ)) };
 
     /// Opens the file at a path.
     fn open(&mut self, path: &PathText) -> Result<Self::File, OpenFault>
-        ensures asked { asked self.new ≡ asked self.old ++ path.now ∷ [] }
+        ensures asked { Asks (asked self.old) (asked self.new) path.now }
         ensures kept { standing self.new ≡ standing self.old }
         ensures opened { IfOk result (λ file. MayOpen (standing self.old path.now) (Self.File.left file)) }
         ensures working { IfOk result (λ file. Self.File.has_failed file ≡ false) }

@@ -29,6 +29,6 @@ returns g c =
       runs = job-map reached _ _ _ _
           (λ standing closed p. stops-on written old mid new kept standing failed reached ended closed p ends)
           (λ output answer e p. writes-on written old mid new kept output failed answer ended p
-            (subst (λ r. EndsOutput r new.held new.sent ended) e ends))
+          (subst (λ r. EndsOutput r new.held new.sent ended) e ends))
           _ _ _ _ _ _ _ c.run_job-answer.ensures;
     })
