@@ -1,4 +1,5 @@
 -- Lemmas that the proofs of crates above may cite.
+pub mod BufferLemmas
 pub mod Heads
 pub mod Heaviest
 pub mod Lists

@@ -1,3 +1,4 @@
+pub mod Buffer
 pub mod Device
 pub mod FlowShop
 pub mod Joins

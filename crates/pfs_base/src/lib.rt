@@ -3,6 +3,7 @@
 #![tactic(auto)]
 
 mod bench;
+mod buffered;
 mod device;
 mod from_read;
 mod instance;
@@ -14,6 +15,7 @@ pub mod print;
 mod to_write;
 
 pub use bench::{Bench, Length, SPAN_MAX, Shop};
+pub use buffered::Buffered;
 pub use device::{Sink, Source, WriteFault, put};
 pub use from_read::FromRead;
 pub use instance::{BaseFault, Instance};

@@ -2,6 +2,11 @@ pub mod Engine
 pub mod FaultText
 pub mod Headline
 pub mod MostCells
+pub mod LetsOut
 pub mod OutputText
 pub mod Printable
+pub mod Program
+pub mod ProgramText
 pub mod Solve
+pub mod Standing
+pub mod WholeProgram

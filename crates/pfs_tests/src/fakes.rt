@@ -186,6 +186,48 @@ impl Sink for Taken {
     }
 }
 
+/// A sink that takes all that it is given, and keeps how many bytes these were, for its first four calls.
+#[derive(Drop)]
+pub struct Lengths {
+    given: [usize; 4],
+    calls: usize,
+}
+
+impl Lengths {
+    /// A sink that was given nothing.
+    pub fn new() -> Lengths
+        ensures { ⟦<Lengths as Sink>⟧.has_failed result ≡ false }
+    {
+        Lengths {
+            given: [0; 4],
+            calls: 0,
+        }
+    }
+
+    /// How many bytes each of the first four calls gave it, and 0 for those that were not made.
+    pub fn given(&self) -> [usize; 4] {
+        self.given
+    }
+}
+
+impl Sink for Lengths {
+    ghost written = { λ _. None };
+
+    ghost has_failed = { λ _. false };
+
+    fn write(&mut self, bytes: &[u8]) -> Option<usize> {
+        if let Some(place) = self.given.get_mut(self.calls) {
+            *place = bytes.len();
+        }
+        self.calls = self.calls.saturating_add(1);
+        Some(bytes.len())
+    }
+
+    fn failed(&self) -> bool {
+        false
+    }
+}
+
 /// A reader and writer of std whose calls answer this error, or take and give no byte where there is none.
 #[derive(Drop)]
 pub struct Broken {

@@ -6,6 +6,8 @@ pub mod any_bench;
 #[cfg(test)]
 mod base;
 #[cfg(test)]
+mod buffers;
+#[cfg(test)]
 mod failing;
 #[cfg(test)]
 mod failing_engines;

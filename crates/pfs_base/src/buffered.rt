@@ -1,0 +1,110 @@
+//! A buffer in front of a sink.
+ghost use Rattle.std.specs.Prelude.{◌≡◌, [], false};
+ghost use Rattle.std.specs.Io.KnownBytes.{Keeps};
+ghost use Rattle.pfs_base.specs.Buffer.{LetsOut, bytes_given};
+
+use crate::device::{Sink, WriteFault, put};
+use std::marker::Model;
+
+/// How many bytes a buffer holds at most.
+const ROOM: usize = 8192;
+
+/// A sink that gathers short writes for the sink behind it, without memory, and counts the bytes that went
+/// out. Contracts see what it was given: what went out, followed by what is held.
+#[derive(Drop)]
+pub struct Buffered<W: Sink> {
+    writer: W,
+    bytes: [u8; ROOM],
+    count: usize,
+    sent: u64,
+}
+
+impl<W: Sink> Model for Buffered<W> {
+    ghost use Rattle.std.specs.Prelude.{◌≤◌, take};
+    ghost use Rattle.pfs_base.specs.Buffer.{Buffering};
+
+    ghost Value = { Buffering W };
+
+    ghost view = { λ b. record { writer = b.writer; held = take b.count b.bytes; sent = b.sent } };
+
+    ghost invariant = { λ b. b.count ≤ 8192 };
+}
+
+impl<W: Sink> Buffered<W> {
+    /// A buffer in front of this sink, which holds nothing and has let nothing out.
+    pub fn new(writer: W) -> Buffered<W>
+        ensures writer { result.writer ≡ writer }
+        ensures empty { result.held ≡ [] }
+        ensures none { result.sent ≡ 0 }
+    {
+        Buffered {
+            writer,
+            bytes: [0; ROOM],
+            count: 0,
+            sent: 0,
+        }
+    }
+
+    /// The sink behind it.
+    pub fn writer(&self) -> &W
+        ensures { result.now ≡ self.now.writer }
+    {
+        &self.writer
+    }
+
+    /// How many bytes went out in all.
+    pub fn sent(&self) -> u64
+        ensures { result ≡ self.now.sent }
+    {
+        self.sent
+    }
+
+    /// Lets out what is held. Where a write fails, what didn't go out stays held, and the fault says how many
+    /// bytes went out in all.
+    pub fn flush(&mut self) -> Result<(), WriteFault>
+        requires { W.has_failed self.old.writer ≡ false }
+        ensures kept { Keeps (bytes_given W.written self.old) (bytes_given W.written self.new) }
+        ensures out { LetsOut W.has_failed self.new result }
+    {
+        match put(&mut self.writer, &self.bytes[..self.count], 0) {
+            Ok(_) => {
+                self.sent = self.sent.saturating_add(self.count as u64);
+                self.count = 0;
+                Ok(())
+            }
+            Err(fault) => {
+                let out = fault.written as usize;
+                self.bytes.copy_within(out..self.count, 0);
+                self.count -= out;
+                self.sent = self.sent.saturating_add(fault.written);
+                Err(WriteFault { written: self.sent })
+            }
+        }
+    }
+}
+
+impl<W: Sink> Sink for Buffered<W> {
+    ghost written = { bytes_given W.written };
+
+    ghost has_failed = { λ b. W.has_failed b.writer };
+
+    /// Holds the bytes, and lets out first what is held where there is no room for them. As many bytes as a
+    /// buffer holds, or more, go straight on.
+    fn write(&mut self, bytes: &[u8]) -> Option<usize> {
+        if bytes.len() > ROOM - self.count && self.flush().is_err() {
+            return None;
+        }
+        if bytes.len() < ROOM {
+            self.bytes[self.count..self.count + bytes.len()].copy_from_slice(bytes);
+            self.count += bytes.len();
+            return Some(bytes.len());
+        }
+        let count = self.writer.write(bytes)?;
+        self.sent = self.sent.saturating_add(count as u64);
+        Some(count)
+    }
+
+    fn failed(&self) -> bool {
+        self.writer.failed()
+    }
+}

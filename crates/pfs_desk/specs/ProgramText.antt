@@ -1,0 +1,66 @@
+-- How the program ends: what it tells, and its exit status.
+use Rattle.std.specs.Prelude.{◌≡◌, ℕ, Bool, false, List, [], ◌∷◌, Option, Result, Ok, Err, codes}
+use Rattle.std.specs.List.{flat_map}
+use Rattle.pfs_base.specs.declared.device.WriteFault.{WriteFault}
+use Rattle.pfs_base.specs.Sends.{Prints}
+use Rattle.pfs_base.specs.Text.{with_line_end}
+use Rattle.pfs_desk.specs.declared.fault.Outcome.{Outcome}
+use Rattle.pfs_desk.specs.declared.fault.Outcome.TheVariants.{Done, CheckFailed}
+use Rattle.pfs_desk.specs.declared.fault.DeskFault.TheVariants as faults
+use Rattle.pfs_desk.specs.declared.files.OpenFault.{OpenFault}
+use Rattle.pfs_desk.specs.declared.files.OpenFault.TheVariants as open_faults
+use Rattle.pfs_desk.specs.declared.stop.Stop.{Stop}
+use Rattle.pfs_desk.specs.declared.stop.Stop.TheVariants as stops
+use Rattle.pfs_words.specs.declared.usage.UsageFault.{UsageFault}
+use Rattle.pfs_words.specs.declared.usage.UsageFault.TheVariants as usage_faults
+use Rattle.pfs_desk.specs.FaultText.{fault_text, status_of}
+
+-- the line of each command, behind a first line
+unfoldable pub usage_text : List ℕ
+usage_text = flat_map with_line_end (
+    codes "pfs: usage"
+    ∷ codes "pfs value --layout L [--block K] FILE"
+    ∷ codes "pfs solve --layout L [--block K] [--rounds R] [--take D] [--seed S] [--passes P] [--cells] FILE"
+    ∷ codes "pfs check --layout L [--block K] FILE ORDER"
+    ∷ codes "pfs table --layout L [--block K] FILE ORDER"
+    ∷ codes "pfs convert --from L --to L [--block K] FILE"
+    ∷ codes "pfs generate N M SEED"
+    ∷ [])
+
+-- the words ask for nothing, or memory was refused
+abbrev pub usage_stop : UsageFault → Stop
+usage_stop usage_faults.Usage = stops.Usage
+usage_stop usage_faults.Memory = stops.Fault faults.Memory
+
+-- a file can't be opened, or memory was refused
+abbrev pub open_stop : OpenFault → Stop
+open_stop open_faults.Closed = stops.Open
+open_stop open_faults.Memory = stops.Fault faults.Memory
+
+-- what the error output is told
+abbrev pub stop_text : Stop → List ℕ
+stop_text stops.Usage = usage_text
+stop_text stops.Open = with_line_end (codes "pfs: cannot open")
+stop_text (stops.Fault fault) = fault_text fault
+
+-- 3 where the words ask for nothing, and 4 where a file can't be opened
+abbrev pub stop_status_of : Stop → ℕ
+stop_status_of stops.Usage = 3
+stop_status_of stops.Open = 4
+stop_status_of (stops.Fault fault) = status_of fault
+
+-- 0 where all was printed that was asked for, and 1 where a check failed
+abbrev pub exit_status_of : Result Outcome Stop → ℕ
+exit_status_of (Ok Done) = 0
+exit_status_of (Ok CheckFailed) = 1
+exit_status_of (Err stop) = stop_status_of stop
+
+-- a text was written, or a front of it where a write failed
+pub record TellsText (text : List ℕ) (old new : Option (List ℕ)) (failed : Bool) : Type 0 where
+  pub answer : Result (Unit {0}) WriteFault
+  pub printed : Prints old new failed text answer
+
+-- the error output is told why the program stopped, and else nothing
+abbrev pub Tells : Result Outcome Stop → Option (List ℕ) → Option (List ℕ) → Bool → Type 0
+Tells (Ok outcome) old new failed = (failed ≡ false) × (new ≡ old)
+Tells (Err stop) old new failed = TellsText (stop_text stop) old new failed

@@ -1,0 +1,77 @@
+//! The whole program, from the words of its command line to its exit status.
+ghost use Rattle.std.specs.Prelude.{◌≡◌, false, IfOk, map, string_bytes};
+ghost use Rattle.std.specs.Io.KnownBytes.{Keeps};
+ghost use Rattle.pfs_base.specs.Buffer.{IsNew, bytes_given};
+ghost use Rattle.pfs_desk.specs.WholeProgram.{Ends, Runs};
+ghost use Rattle.pfs_desk.specs.LetsOut.{EndsOutput};
+
+use crate::dispatch::run_job;
+use crate::fault::{DeskFault, Outcome};
+use crate::files::Files;
+use crate::stop::{Stop, finish};
+use pfs_base::{Buffered, Sink, Source, WriteFault};
+use pfs_words::plan;
+use std::alloc::Global;
+
+/// Runs the program on the words of its command line, without its name, and answers its exit status. What it prints
+/// goes to the output, through a buffer, and why it stops to the error output.
+pub fn run_program<F: Files, R: Source, W: Sink, E: Sink>(
+    alloc: Global,
+    words: &[String],
+    files: &mut F,
+    input: &mut R,
+    output: &mut Buffered<W>,
+    errors: &mut E,
+) -> u8
+    requires reading { R.has_failed input.old ≡ false }
+    requires writing { W.has_failed output.old.writer ≡ false }
+    requires telling { E.has_failed errors.old ≡ false }
+    ensures { Ends (map string_bytes words.now) (F.standing files.old) (F.asked files.old) (F.asked files.new)
+        (R.left input.old) (R.left input.new) (R.has_failed input.new)
+        (IsNew W.written output.old) (W.written output.new.writer)
+        (E.written errors.old) (E.written errors.new) (E.has_failed errors.new) result }
+{
+    let ended = run(alloc, words, files, input, output);
+    finish(errors, &ended)
+}
+
+// Runs the program up to its end.
+fn run<F: Files, R: Source, W: Sink>(
+    alloc: Global,
+    words: &[String],
+    files: &mut F,
+    input: &mut R,
+    output: &mut Buffered<W>,
+) -> Result<Outcome, Stop>
+    requires reading { R.has_failed input.old ≡ false }
+    requires writing { W.has_failed output.old.writer ≡ false }
+    ensures { Runs (map string_bytes words.now) (F.standing files.old) (F.asked files.old) (F.asked files.new)
+        (R.left input.old) (R.left input.new) (R.has_failed input.new)
+        (IsNew W.written output.old) (W.written output.new.writer) result }
+{
+    let job = plan(alloc, words)?;
+    let answer = run_job(alloc, &job, files, input, output);
+    let_out(output, answer)
+}
+
+// The answer, once the rest of the output has gone out. Where a write failed none is tried again, and the
+// fault says how many bytes went out.
+fn let_out<W: Sink>(
+    output: &mut Buffered<W>,
+    answer: Result<Outcome, Stop>,
+) -> Result<Outcome, Stop>
+    requires { IfOk answer (λ _. W.has_failed output.old.writer ≡ false) }
+    ensures kept { Keeps (bytes_given W.written output.old) (bytes_given W.written output.new) }
+    ensures ends { EndsOutput answer output.new.held output.new.sent result }
+{
+    match answer {
+        Ok(outcome) => match output.flush() {
+            Ok(()) => Ok(outcome),
+            Err(fault) => Err(Stop::Fault(DeskFault::Write(fault))),
+        },
+        Err(Stop::Fault(DeskFault::Write(_))) => Err(Stop::Fault(DeskFault::Write(WriteFault {
+            written: output.sent(),
+        }))),
+        Err(stop) => Err(stop),
+    }
+}

@@ -1,0 +1,102 @@
+//! How the program ends: what it tells on the error output, and its exit status.
+ghost use Rattle.std.specs.Prelude.{◌≡◌, ◌<◌, false, length};
+ghost use Rattle.pfs_base.specs.Sends.{Prints};
+ghost use Rattle.pfs_desk.specs.ProgramText.{Tells, exit_status_of, open_stop, stop_status_of, stop_text, usage_stop};
+
+use crate::fault::{DeskFault, Outcome, status, write_fault};
+use crate::files::OpenFault;
+use pfs_base::{Sink, WriteFault, put};
+use pfs_words::UsageFault;
+
+const USAGE: &[u8] = b"pfs: usage
+pfs value --layout L [--block K] FILE
+pfs solve --layout L [--block K] [--rounds R] [--take D] [--seed S] [--passes P] [--cells] FILE
+pfs check --layout L [--block K] FILE ORDER
+pfs table --layout L [--block K] FILE ORDER
+pfs convert --from L --to L [--block K] FILE
+pfs generate N M SEED
+";
+
+/// Why the program ends without what was asked for.
+#[derive(Clone, Copy, Debug, PartialEq, Eq)]
+pub enum Stop {
+    /// Its words ask for nothing.
+    Usage,
+    /// A file can't be opened.
+    Open,
+    /// The fault of what was asked for, or want of memory before it ran.
+    Fault(DeskFault),
+}
+
+impl From<UsageFault> for Stop {
+    ghost from_gives = { λ fault made. made ≡ usage_stop fault };
+
+    fn from(fault: UsageFault) -> Stop {
+        match fault {
+            UsageFault::Usage => Stop::Usage,
+            UsageFault::Memory => Stop::Fault(DeskFault::Memory),
+        }
+    }
+}
+
+impl From<OpenFault> for Stop {
+    ghost from_gives = { λ fault made. made ≡ open_stop fault };
+
+    fn from(fault: OpenFault) -> Stop {
+        match fault {
+            OpenFault::Closed => Stop::Open,
+            OpenFault::Memory => Stop::Fault(DeskFault::Memory),
+        }
+    }
+}
+
+/// Tells on the error output why the program stopped, if it did, and answers its exit status. Where the error
+/// output fails, nothing more is told, and the status is the same.
+pub fn finish<E: Sink>(errors: &mut E, answer: &Result<Outcome, Stop>) -> u8
+    requires { E.has_failed errors.old ≡ false }
+    ensures told { Tells answer.now (E.written errors.old) (E.written errors.new) (E.has_failed errors.new) }
+    ensures status { result ≡ exit_status_of answer.now }
+{
+    match answer {
+        Ok(Outcome::Done) => 0,
+        Ok(Outcome::CheckFailed) => 1,
+        Err(stop) => {
+            let _ = tell(errors, stop);
+            stop_status(stop)
+        }
+    }
+}
+
+// Writes why the program stopped.
+#[tactic(auto, unfolding(crate::specs::ProgramText::usage_text))]
+fn tell<E: Sink>(errors: &mut E, stop: &Stop) -> Result<(), WriteFault>
+    requires { E.has_failed errors.old ≡ false }
+    ensures { Prints (E.written errors.old) (E.written errors.new) (E.has_failed errors.new)
+        (stop_text stop.now) result }
+{
+    match stop {
+        Stop::Usage => put_text(errors, USAGE),
+        Stop::Open => put_text(errors, b"pfs: cannot open\n"),
+        Stop::Fault(fault) => write_fault(errors, fault),
+    }
+}
+
+// Writes a text.
+fn put_text<E: Sink>(errors: &mut E, text: &[u8]) -> Result<(), WriteFault>
+    requires working { E.has_failed errors.old ≡ false }
+    requires short { length text.now < 1000 }
+    ensures { Prints (E.written errors.old) (E.written errors.new) (E.has_failed errors.new) text.now result }
+{
+    put(errors, text, 0)?;
+    Ok(())
+}
+
+fn stop_status(stop: &Stop) -> u8
+    ensures { result ≡ stop_status_of stop.now }
+{
+    match stop {
+        Stop::Usage => 3,
+        Stop::Open => 4,
+        Stop::Fault(fault) => status(fault),
+    }
+}
