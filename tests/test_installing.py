@@ -89,7 +89,8 @@ def environment(folder: pathlib.Path, pfs: Program) -> dict[str, str]:
 @pytest.fixture(scope="module")
 def copy(top: pathlib.Path, pfs: Program, tmp_path_factory: pytest.TempPathFactory) -> Copy:
     """The copy, whose program is newer than its sources."""
-    need("git"), need("make")
+    for command in ("git", "make"):
+        need(command)
     folder = tmp_path_factory.mktemp("copy")
     made = Copy(folder / "repository", environment(folder, pfs))
     made.top.mkdir()

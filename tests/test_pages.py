@@ -151,7 +151,7 @@ def test_the_pages_to_which_a_page_links_are_there(page: pathlib.Path) -> None:
     assert [name for name in named if not (page.parent / name).exists()] == []
 
 
-def test_the_unit_of_pictures_that_readme_names_is_an_option() -> None:
+def test_readme_shows_the_usage_of_gantt() -> None:
     told = re.search(r"^`(tools/gantt [^`]*)` draws", README, re.MULTILINE)
     assert told and f"usage: {told[1]}\n" in (TOP / "tools" / "gantt").read_text().replace('"""', "\n")
 
