@@ -191,7 +191,9 @@ def test_a_fault_of_a_page_is_the_programs(page: str, text: str, status: int, pf
     assert text in FAULTS, f"no fault of the program is {text!r}"
     fault = FAULTS[text]
     told = USAGE if text == "pfs: usage" else with_numbers(text, fault.numbers).encode() + b"\n"
-    assert met(pfs, fault, worked)[1:] == (told, status)
+    ran = met(pfs, fault, worked)
+    assert ran.stderr == told, f"the text of the fault that {page} tells as {text!r}"
+    assert ran.status == status, f"the status that {page} tells of {text!r}"
 
 
 @pytest.mark.parametrize("told", [faults_of_formats(), faults_of_manual()], ids=["FORMATS.md", "pfs.1"])
@@ -211,9 +213,9 @@ def test_when_a_status_of_readme_comes(row: list[str], pfs: Program, worked: pat
     assert lines, f"no command line is known for {when!r}"
     for line in lines:
         ran = line_met(line, pfs, worked)
-        assert ran.status == int(status), line
-        assert (ran.stderr == b"") == (told == ""), line
-        assert ran.stderr == USAGE or told != "the usage text", line
+        assert ran.status == int(status), f"the status of `{line}`, where README says {when!r}"
+        assert (ran.stderr == b"") == (told == ""), f"standard error of `{line}`"
+        assert ran.stderr == USAGE or told != "the usage text", f"standard error of `{line}`"
 
 
 # Command lines over the worked files, or faults, by what a page says of them.
@@ -278,8 +280,8 @@ STATUSES = {
 def test_an_exit_status_of_the_manual_page_is_the_programs(status: int, pfs: Program, worked: pathlib.Path) -> None:
     text = plain(items(section("EXIT STATUS"))[str(status)])
     assert text in STATUSES, f"no status is known for {text!r}"
-    assert {line: line_met(line, pfs, worked).status for line in STATUSES[text]} \
-        == dict.fromkeys(STATUSES[text], status)
+    found = {line: line_met(line, pfs, worked).status for line in STATUSES[text]}
+    assert found == dict.fromkeys(STATUSES[text], status), f"statuses where the page says {text!r}"
 
 
 def test_the_manual_page_tells_five_exit_statuses() -> None:
@@ -321,7 +323,7 @@ def opened(pfs: Program, folder: pathlib.Path) -> list[str]:
 def test_a_page_tells_the_order_of_opening(text: str, pfs: Program, folder: pathlib.Path) -> None:
     told = re.search(r"(FILE|ORDER) and then (FILE|ORDER) are opened before anything is read\.", text)
     assert told, "no sentence says which file is opened first"
-    assert list(told.groups()) == opened(pfs, folder)
+    assert list(told.groups()) == opened(pfs, folder), "the order in which the program opens them"
 
 
 def test_readme_tells_the_size_of_the_buffer(pfs: Program, folder: pathlib.Path) -> None:
@@ -512,7 +514,7 @@ def test_the_limit_of_an_order_file_is_the_programs(text: str, pattern: str, pfs
     for count in (number(told[1]), number(told[1]) + 1):
         (worked / "order").write_bytes(b"o" * count)
         found.append(pfs.run("check --layout taillard three order", worked).stderr)
-    assert found == [b"pfs: order file syntax at 1\n", b"pfs: order file too long\n"]
+    assert found == [b"pfs: order file syntax at 1\n", b"pfs: order file too long\n"], "at the limit and beyond it"
 
 
 def test_the_byte_that_formats_refuses_in_an_order_file_is_the_next_one() -> None:
