@@ -1,5 +1,5 @@
 #!/usr/bin/env python3
-"""Runs the built program and the second program of tests/second_program.py on random files, command lines and
+"""Runs the built program and the second program of tests/support/second_program.py on random files, command lines and
 cuttings, and compares standard output, standard error and exit status byte for byte. The files are instance files and
 order files as the layouts allow them, and such files with bytes changed; the program reads them whole, or through a
 pipe that gets its next piece once the last one has been read. Ends at the first case on which the two differ, which it
@@ -9,23 +9,24 @@ usage: tests/fuzz.py [--seconds N] [--seed N] [--program PATH] [--case FILE]"""
 import argparse
 import collections
 import dataclasses
-import fcntl
+import itertools
 import json
 import os
 import pathlib
-import random
 import re
 import shlex
-import struct
 import subprocess
 import sys
 import tempfile
-import termios
 import time
+from collections.abc import Iterable, Iterator, Sequence
+from random import Random
+from typing import Any
 
 sys.dont_write_bytecode = True
-import second_program
-from second_program import MOST_BYTES, UNREADABLE, Stop
+from support import second_program
+from support.pipes import unread
+from support.second_program import MOST_BYTES, UNREADABLE, Contents, Instance, Stop
 
 TOP = pathlib.Path(__file__).resolve().parent.parent
 PROGRAM = TOP / "crates" / "pfs" / "out" / "pfs"
@@ -52,39 +53,44 @@ KINDS = [
 ]
 
 
+# Standard output, standard error and exit status; no status is that of a program that hangs.
+Answer = tuple[bytes, bytes, int | None]
+
+
 @dataclasses.dataclass
 class Case:
     """Words, files by their names, and standard input. `pieces` has for a file (standard input is `-`) the lengths
     of the pieces in which the program gets it through a pipe; the others lie there whole. `is_full`: standard output
     takes no byte."""
-    words: list
-    files: dict
+    words: list[bytes]
+    files: dict[bytes, Contents]
     stdin: bytes = b""
-    pieces: dict = dataclasses.field(default_factory=dict)
+    pieces: dict[bytes, list[int]] = dataclasses.field(default_factory=dict)
     is_full: bool = False
 
-    def changed(self, **changes):
+    def changed(self, **changes: Any) -> "Case":
         return dataclasses.replace(self, **changes)
 
-    def wanted(self):
+    def wanted(self) -> Answer:
         text, told, status = second_program.answer(self.words, self.stdin, self.files)
         if self.is_full and text:
             return b"", b"pfs: write failed after 0 bytes\n", 4
         return text, told, status
 
-    def is_quick(self):
+    def is_quick(self) -> bool:
         """Whether the second program answers soon."""
         try:
             command, options, others = second_program.asked_for(self.words) if self.words else (b"value", {}, [])
         except Stop:
             return True
         if command == b"generate":
-            return others[0] * others[1] <= 4_000
-        rounds = options.get(b"--rounds", 0)
-        return rounds <= MOST_ROUNDS and rounds * options.get(b"--passes", 0) <= MOST_PASSES
+            times: int = others[0] * others[1]
+            return times <= 4_000
+        rounds, passes = [int(options.get(name, 0)) for name in (b"--rounds", b"--passes")]
+        return rounds <= MOST_ROUNDS and rounds * passes <= MOST_PASSES
 
-    def has_great_files(self):
-        return any(text is not UNREADABLE and len(text) > MIB for text in self.files.values())
+    def has_great_files(self) -> bool:
+        return any(text is not None and len(text) > MIB for text in self.files.values())
 
 
 # Running a case
@@ -92,11 +98,11 @@ class Case:
 class Feeder:
     """Writes pieces into a pipe, the next once the last has been read, and then closes it."""
 
-    def __init__(self, descriptor, text, lengths):
-        self.descriptor = descriptor
+    def __init__(self, descriptor: int, text: bytes, lengths: list[int]) -> None:
+        self.descriptor: int | None = descriptor
         self.pieces = cut(text, lengths)
 
-    def step(self):
+    def step(self) -> bool:
         """Does what can be done now, and tells whether that was something."""
         if self.descriptor is None or unread(self.descriptor):
             return False
@@ -106,18 +112,13 @@ class Feeder:
             self.close()
         return True
 
-    def close(self):
+    def close(self) -> None:
         if self.descriptor is not None:
             os.close(self.descriptor)
             self.descriptor = None
 
 
-def unread(descriptor):
-    """How many bytes of a pipe haven't been read."""
-    return struct.unpack("i", fcntl.ioctl(descriptor, termios.FIONREAD, b"\0" * 4))[0]
-
-
-def cut(text, lengths):
+def cut(text: bytes, lengths: list[int]) -> list[bytes]:
     """Pieces of these lengths, and the rest in pieces that any pipe holds, so that no write waits."""
     pieces, start = [], 0
     for length in lengths:
@@ -127,25 +128,25 @@ def cut(text, lengths):
     return [piece for piece in pieces if piece]
 
 
-def lay_files(case, folder):
+def lay_files(case: Case, folder: pathlib.Path) -> list[Feeder]:
     """Makes the files of a case, and feeders for those that are pipes."""
     feeders = []
     for name, text in case.files.items():
         if name.startswith(b"/"):
             continue
-        path = os.path.join(os.fsencode(folder), name)
-        if text is UNREADABLE:
+        path = folder / os.fsdecode(name)
+        if text is None:
             os.mkdir(path)
         elif name in case.pieces:
             os.mkfifo(path)
             # Open for reading too, so that neither this nor the program's opening waits.
             feeders.append(Feeder(os.open(path, os.O_RDWR), text, case.pieces[name]))
         else:
-            pathlib.Path(os.fsdecode(path)).write_bytes(text)
+            path.write_bytes(text)
     return feeders
 
 
-def given_input(case, feeders):
+def given_input(case: Case, feeders: list[Feeder]) -> int:
     """The descriptor of standard input."""
     read_end, write_end = os.pipe()
     if b"-" in case.pieces:
@@ -159,15 +160,16 @@ def given_input(case, feeders):
     return file
 
 
-def run(program, case):
+def run(program: pathlib.Path, case: Case) -> Answer:
     """What the program writes to standard output and to standard error, and its status."""
-    with tempfile.TemporaryDirectory(prefix="fuzz-") as folder:
+    with tempfile.TemporaryDirectory(prefix="fuzz-") as name:
+        folder = pathlib.Path(name)
         feeders = lay_files(case, folder)
         stdin = given_input(case, feeders)
         stdout = os.open("/dev/full", os.O_WRONLY) if case.is_full else os.memfd_create("output")
         stderr = os.memfd_create("errors")
         try:
-            status = run_fed([program] + case.words, folder, stdin, stdout, stderr, feeders)
+            status = run_fed([os.fsencode(program)] + case.words, folder, stdin, stdout, stderr, feeders)
             return b"" if case.is_full else contents(stdout), contents(stderr), status
         finally:
             for feeder in feeders:
@@ -176,7 +178,9 @@ def run(program, case):
                 os.close(descriptor)
 
 
-def run_fed(words, folder, stdin, stdout, stderr, feeders):
+def run_fed(words: list[bytes], folder: pathlib.Path, stdin: int, stdout: int, stderr: int,
+            feeders: list[Feeder]) -> int | None:
+    """The status of a program that is fed, or None where it doesn't end."""
     end = time.monotonic() + MOST_SECONDS
     child = subprocess.Popen(words, cwd=folder, stdin=stdin, stdout=stdout, stderr=stderr)
     while feeders and child.poll() is None and time.monotonic() < end:
@@ -189,10 +193,10 @@ def run_fed(words, folder, stdin, stdout, stderr, feeders):
     except subprocess.TimeoutExpired:
         child.kill()
         child.wait()
-        return "no answer"
+        return None
 
 
-def contents(descriptor):
+def contents(descriptor: int) -> bytes:
     os.lseek(descriptor, 0, os.SEEK_SET)
     text = b""
     while piece := os.read(descriptor, 1 << 20):
@@ -213,38 +217,41 @@ NOTES = [0, 1, 7, 4_294_967_295]
 class Writer:
     """Makes random files of a random shop."""
 
-    def __init__(self, random):
+    def __init__(self, random: Random) -> None:
         self.random = random
         self.is_great = self.chance(0.03)
         self.layout = random.choice([b"taillard", b"orlib"])
 
-    def chance(self, part):
+    def chance(self, part: float) -> bool:
         return self.random.random() < part
 
-    def number(self, value):
+    def number(self, value: int) -> bytes:
         return b"0" * self.random.choice([0] * 12 + [1, 2, 30]) + b"%d" % value
 
-    def spaced(self, numbers):
+    def spaced(self, numbers: Iterable[bytes]) -> bytes:
         """The numbers as a line, with blanks between, and perhaps before and behind."""
-        blank = lambda: self.random.choice(BLANKS) if self.chance(0.2) else b" "
-        text = b"".join(blank() + number for number in numbers)
+        text = b"".join(self.blank() + number for number in numbers)
         text = text if self.chance(0.1) else text[1:] if text[:1] == b" " else text
-        return text + (blank() if self.chance(0.1) else b"")
+        return text + (self.blank() if self.chance(0.1) else b"")
 
-    def skipped(self, titles):
+    def blank(self) -> bytes:
+        """What parts numbers, or stands before or behind them."""
+        return self.random.choice(BLANKS) if self.chance(0.2) else b" "
+
+    def skipped(self, titles: list[bytes]) -> list[bytes]:
         return [self.random.choice(titles) for _ in range(self.random.choice([0, 0, 1, 1, 2, 3]))]
 
-    def shop(self):
+    def shop(self) -> Instance:
         most_jobs, most_machines = self.random.choice([(300, 20), (5_000, 2), (4, 200)]) if self.is_great else (9, 5)
         jobs, machines = self.random.randint(1, most_jobs), self.random.randint(1, most_machines)
-        shop = second_program.Instance(jobs, machines, [self.random.choice(NOTES) for _ in range(3)])
+        shop = Instance(jobs, machines, [self.random.choice(NOTES) for _ in range(3)])
         most = self.random.choice([1, 9, 99, 1_000_000_000])
         for row in shop.times:
             for job in range(jobs):
                 row[job] = self.random.choice(TIMES) if self.chance(0.05) else self.random.randint(0, most)
         return shop
 
-    def block(self, shop):
+    def block(self, shop: Instance) -> list[bytes]:
         """The lines of a block."""
         taillard = self.layout == b"taillard"
         sizes = [shop.jobs, shop.machines] + (shop.notes if taillard else [])
@@ -264,7 +271,7 @@ class Writer:
                 lines += self.skipped(TITLES)
         return lines
 
-    def file(self, shops):
+    def file(self, shops: list[Instance]) -> bytes:
         """A file of blocks of these shops, and perhaps something behind."""
         end = self.random.choice([b"\n", b"\n", b"\n", b"\r\n"])
         lines = [line for shop in shops for line in self.block(shop)]
@@ -273,7 +280,7 @@ class Writer:
             text += self.random.choice([b"7\n", b"x 1", b"+++\n", b"3 2\n", b"\xff" * 5_000])
         return text
 
-    def order(self, shop):
+    def order(self, shop: Instance) -> bytes:
         """An order file of either version that may fit the shop."""
         jobs = list(range(1, shop.jobs + 1))
         self.random.shuffle(jobs)
@@ -295,7 +302,7 @@ INSERTED = BYTES + [b"9" * 40, b"0" * 60, b" " * 5_000, b"x" * 4_096, b"0" * 9_0
                     b" 7", b"\n\n", b"order ", b"order2 ", b"makespan 0\n"]
 
 
-def mutated(random, text):
+def mutated(random: Random, text: bytes) -> bytes:
     """The text with some bytes changed."""
     for _ in range(random.choice([1, 1, 1, 2, 3, 8])):
         start = random.randint(0, len(text))
@@ -316,7 +323,7 @@ def mutated(random, text):
     return text
 
 
-def with_number_changed(random, text, start):
+def with_number_changed(random: Random, text: bytes, start: int) -> bytes:
     match = re.compile(rb"[0-9]+").search(text, start)
     if match is None:
         return text
@@ -325,7 +332,7 @@ def with_number_changed(random, text, start):
     return text[:match.start()] + b"%d" % value + text[match.end():]
 
 
-def near_the_limit(random, text):
+def near_the_limit(random: Random, text: bytes) -> bytes:
     """The text with plain bytes or zeros put in, so that it ends near the greatest number of bytes."""
     missing = MOST_BYTES - len(text) + random.choice([-1, 0, 1, 1, 2])
     place = random.choice([0] + [match.end() for match in re.finditer(rb"\n", text)])
@@ -350,30 +357,30 @@ DRAWN_SEEDS = [0, 1, 873_654_221, 2_147_483_646, 2_147_483_647, 2**64 - 1]
 class Line:
     """Makes random command lines over an instance file and an order file of these names."""
 
-    def __init__(self, random, names):
+    def __init__(self, random: Random, names: list[bytes]) -> None:
         self.random = random
         self.names = names
 
-    def number(self, value):
+    def number(self, value: int) -> bytes:
         """A number as a command line may write it, rarely a word that is none."""
         if self.random.random() < 0.03:
             return self.random.choice(NO_NUMBERS)
         return self.random.choice([b""] * 9 + [b"+", b"0", b"+00", b"0" * 40]) + b"%d" % value
 
-    def option(self, name, value):
+    def option(self, name: bytes, value: bytes) -> list[bytes]:
         return [name + b"=" + value] if self.random.random() < 0.4 else [name, value]
 
-    def block(self):
+    def block(self) -> list[list[bytes]]:
         if self.random.random() < 0.5:
             return []
         block = self.random.choice([1, 1, 1, 2, 2, 3, 4, 1_000, 1_001, 0])
         return [self.option(b"--block", self.number(block))]
 
-    def layout(self, layout):
+    def layout(self, layout: bytes) -> bytes:
         chance = self.random.random()
         return layout if chance < 0.93 else b"x" if chance < 0.94 else self.random.choice([b"taillard", b"orlib"])
 
-    def search(self, jobs):
+    def search(self, jobs: int) -> list[list[bytes]]:
         """Options of a search of this many jobs."""
         options = []
         if self.random.random() < 0.6:
@@ -390,7 +397,7 @@ class Line:
             options.append(self.option(b"--passes", self.number(passes)))
         return options + ([[b"--cells"]] if self.random.random() < 0.6 else [])
 
-    def mixed(self, command, options, paths):
+    def mixed(self, command: bytes, options: list[list[bytes]], paths: list[bytes]) -> list[bytes]:
         """The options in any order before, between and behind the paths, which may be behind `--`, and are if they
         look like options."""
         random = self.random
@@ -403,7 +410,7 @@ class Line:
         parts = [[paths[places.index(at)]] if at in places else next(rest) for at in range(len(parts))]
         return [command] + sum(parts, [])
 
-    def generate(self):
+    def generate(self) -> list[bytes]:
         sizes = [self.random.randint(1, 60), self.random.randint(1, 20)]
         if self.random.random() < 0.1:
             sizes[self.random.randrange(2)] = self.random.choice([0, 200, 201, 5_000, 5_001])
@@ -411,7 +418,7 @@ class Line:
         words = [self.number(value) for value in sizes + [seed]]
         return [b"generate"] + ([b"--"] if self.random.random() < 0.05 else []) + words
 
-    def words(self, layout, jobs, is_great):
+    def words(self, layout: bytes, jobs: int, is_great: bool) -> list[bytes]:
         commands = [b"value", b"check", b"check", b"table", b"convert"]
         command = self.random.choice(commands + [b"generate", b"solve", b"solve"] * (not is_great))
         if command == b"generate":
@@ -424,7 +431,7 @@ class Line:
         options += self.block() + (self.search(jobs) if command == b"solve" else [])
         return self.mixed(command, options, self.names[:2 if command in (b"check", b"table") else 1])
 
-    def mutated(self, words):
+    def mutated(self, words: Sequence[bytes]) -> list[bytes]:
         words = list(words)
         for _ in range(self.random.choice([1, 1, 2])):
             place = self.random.randint(0, len(words))
@@ -442,10 +449,10 @@ class Line:
 
 # Random cases
 
-def lengths_of_pieces(random, text):
+def lengths_of_pieces(random: Random, text: bytes) -> list[int]:
     """Lengths of at most some sixty pieces."""
     most = random.choice([1, 2, 3, 10, 100, 5_000])
-    lengths = []
+    lengths: list[int] = []
     left = len(text)
     while left > 0 and len(lengths) < 60:
         lengths.append(random.randint(1, most))
@@ -453,7 +460,7 @@ def lengths_of_pieces(random, text):
     return lengths
 
 
-def instance_text(random, text):
+def instance_text(random: Random, text: bytes) -> bytes:
     """The text of an instance file, or what may become of it."""
     kind = random.random()
     if kind < 0.4:
@@ -463,7 +470,7 @@ def instance_text(random, text):
     return near_the_limit(random, text) if kind < 0.435 else text
 
 
-def order_text(random, text):
+def order_text(random: Random, text: bytes) -> bytes:
     """The text of an order file, or what may become of it."""
     kind = random.random()
     if kind < 0.3:
@@ -471,7 +478,7 @@ def order_text(random, text):
     return (text + b"0" * 70_000)[:random.choice([65_536, 65_537, 70_000])] if kind < 0.31 else text
 
 
-def random_case(random):
+def random_case(random: Random) -> Case:
     writer = Writer(random)
     shops = [writer.shop() for _ in range(random.choice([1, 1, 1, 2, 3]))]
     text = instance_text(random, writer.file(shops))
@@ -481,7 +488,7 @@ def random_case(random):
     words = [] if random.random() < 0.08 else line.words(writer.layout, shops[0].jobs, writer.is_great)
     if words and random.random() < 0.08:
         words = line.mutated(words)
-    files = dict(zip(names, [text, order]))
+    files: dict[bytes, Contents] = dict(zip(names, [text, order]))
     for name in names:
         if random.random() < 0.02:
             files[name] = UNREADABLE
@@ -492,24 +499,24 @@ def random_case(random):
     return case if case.has_great_files() else in_pieces(random, case)
 
 
-def in_pieces(random, case):
+def in_pieces(random: Random, case: Case) -> Case:
     """The case with some of its files in pieces. A file that is named twice, and an empty one, lies there whole."""
-    texts = {b"-": case.stdin} | case.files
+    texts: dict[bytes, Contents] = {b"-": case.stdin, **case.files}
     pieces = {}
     for name, text in texts.items():
         is_read = case.words.count(name) == 1 if name != b"-" else not case.words
-        if is_read and text is not UNREADABLE and text and random.random() < 0.5:
+        if is_read and text and random.random() < 0.5:
             pieces[name] = lengths_of_pieces(random, text)
     return case.changed(pieces=pieces)
 
 
 # Making a failing case small
 
-def differs(program, case):
+def differs(program: pathlib.Path, case: Case) -> bool:
     return case.is_quick() and run(program, case) != case.wanted()
 
 
-def smaller(program, case, end):
+def smaller(program: pathlib.Path, case: Case, end: float) -> Case:
     """A case that is no greater, and on which the two programs still differ."""
     has_changed = True
     while has_changed and time.monotonic() < end:
@@ -523,7 +530,7 @@ def smaller(program, case, end):
     return case
 
 
-def simpler_cases(case):
+def simpler_cases(case: Case) -> Iterator[Case]:
     """Cases that are a little simpler, the simplest first."""
     if case.pieces:
         yield case.changed(pieces={})
@@ -537,7 +544,7 @@ def simpler_cases(case):
     for name in list(case.files):
         yield case.changed(files={other: text for other, text in case.files.items() if other != name})
     for name, text in case.files.items():
-        for shorter in () if text is UNREADABLE else shorter_texts(text):
+        for shorter in () if text is None else shorter_texts(text):
             yield case.changed(files=case.files | {name: shorter})
     for shorter in shorter_texts(case.stdin):
         yield case.changed(stdin=shorter)
@@ -547,7 +554,7 @@ def simpler_cases(case):
             yield case.changed(pieces=case.pieces | {name: joined})
 
 
-def shorter_texts(text):
+def shorter_texts(text: bytes) -> Iterator[bytes]:
     length = len(text)
     while length > 1:
         length = (length + 1) // 2
@@ -561,31 +568,38 @@ def shorter_texts(text):
 
 # Telling of a failing case
 
-def as_json(case):
-    """The case with its bytes as characters below 256, and None for what can't be read."""
-    known = lambda text: None if text is UNREADABLE else text.decode("latin-1")
+def as_json(case: Case) -> str:
+    """The case with its bytes as characters below 256, and null for what can't be read."""
     return json.dumps({
-        "words": [known(word) for word in case.words],
-        "files": {known(name): known(text) for name, text in case.files.items()},
-        "stdin": known(case.stdin),
-        "pieces": {known(name): lengths for name, lengths in case.pieces.items()},
+        "words": [as_characters(word) for word in case.words],
+        "files": {as_characters(name): text if text is None else as_characters(text)
+                  for name, text in case.files.items()},
+        "stdin": as_characters(case.stdin),
+        "pieces": {as_characters(name): lengths for name, lengths in case.pieces.items()},
         "is_full": case.is_full,
     })
 
 
-def from_json(text):
+def as_characters(text: bytes) -> str:
+    return text.decode("latin-1")
+
+
+def as_bytes(text: str) -> bytes:
+    return text.encode("latin-1")
+
+
+def from_json(text: str) -> Case:
     values = json.loads(text)
-    known = lambda text: UNREADABLE if text is None else text.encode("latin-1")
     return Case(
-        [known(word) for word in values["words"]],
-        {known(name): known(text) for name, text in values["files"].items()},
-        known(values["stdin"]),
-        {known(name): lengths for name, lengths in values["pieces"].items()},
+        [as_bytes(word) for word in values["words"]],
+        {as_bytes(name): text if text is None else as_bytes(text) for name, text in values["files"].items()},
+        as_bytes(values["stdin"]),
+        {as_bytes(name): lengths for name, lengths in values["pieces"].items()},
         values["is_full"],
     )
 
 
-def tell(program, case):
+def tell(program: pathlib.Path, case: Case) -> None:
     """Keeps the case in a folder and prints how to run it."""
     folder = pathlib.Path(tempfile.mkdtemp(prefix="pfs-differs-"))
     (folder / "case.json").write_text(as_json(case))
@@ -598,30 +612,31 @@ def tell(program, case):
     for name, text in ({b"stdin": case.stdin} | case.files).items():
         if name in case.words or (name == b"stdin" and not case.words):
             pieces = case.pieces.get(b"-" if name == b"stdin" else name, "whole")
-            print(f"{name.decode()}: {'a folder' if text is UNREADABLE else repr(text[:600])}, {pieces}")
+            print(f"{name.decode()}: {'a folder' if text is None else repr(text[:600])}, {pieces}")
     print(f"wanted {shown(case.wanted())}\ngot    {shown(run(program, case))}", flush=True)
 
 
-def shown(answer):
+def shown(answer: Answer) -> str:
     text, told, status = answer
     return f"{text[:600]!r}, {told[:600]!r}, {status}"
 
 
-def kind_of(answer):
+def kind_of(answer: Answer) -> str:
     text, told, _ = answer
     first = (told or text).split(b"\n")[0].decode("latin-1")
     return re.sub("[0-9]+", "X", first)
 
 
-def search(program, seed, seconds, has_great_files=True):
-    """Runs random cases for so long, or until the two programs differ. A case is made from the seed and its number,
-    so a machine's speed changes how many there are, and no case."""
+def search(program: pathlib.Path, seed: int, seconds: float, numbers: Iterable[int], has_great_files: bool) -> bool:
+    """Runs the cases of these numbers for so long, or until the two programs differ. Tells whether they agree, on one
+    case at least. A case is made from the seed and its number, so a machine's speed changes how many there are, and no
+    case."""
     start = time.monotonic()
-    kinds = collections.Counter()
-    number = 0
-    while time.monotonic() < start + seconds:
-        number += 1
-        case = random_case(random.Random(f"{seed} {number}"))
+    kinds: collections.Counter[str] = collections.Counter()
+    for number in numbers:
+        if time.monotonic() >= start + seconds:
+            break
+        case = random_case(Random(f"{seed} {number}"))
         if not case.is_quick() or (case.has_great_files() and not has_great_files):
             continue
         wanted = case.wanted()
@@ -631,7 +646,12 @@ def search(program, seed, seconds, has_great_files=True):
             print(f"seed {seed}, case {number}, after {spent:.1f} s: the programs differ", flush=True)
             tell(program, smaller(program, case, time.monotonic() + 60))
             return False
-    print(f"seed {seed}: {number} cases in {seconds:g} s, on which both programs agree")
+    print(f"seed {seed}: {kinds.total()} cases in {seconds:g} s, on which both programs agree")
+    return kinds.total() > 0 and are_known(kinds)
+
+
+def are_known(kinds: collections.Counter[str]) -> bool:
+    """Whether these kinds of answers are known. Tells those that aren't, and those that weren't met."""
     missing = [kind for kind in KINDS if not kinds[kind]]
     if missing:
         print(f"kinds of answers that were not met: {missing}")
@@ -641,19 +661,20 @@ def search(program, seed, seconds, has_great_files=True):
     return not unknown
 
 
-def main():
+def main() -> int:
     parser = argparse.ArgumentParser()
     parser.add_argument("--seconds", type=float, default=30)
     parser.add_argument("--seed", type=int, default=time.time_ns() % 10**9)
-    parser.add_argument("--program", type=os.path.abspath, default=str(PROGRAM))
+    parser.add_argument("--program", type=pathlib.Path, default=PROGRAM)
     parser.add_argument("--case", type=pathlib.Path)
     given = parser.parse_args()
+    program = given.program.resolve()
     if given.case is not None:
         case = from_json(given.case.read_text())
-        wanted, got = case.wanted(), run(given.program, case)
+        wanted, got = case.wanted(), run(program, case)
         print(f"wanted {shown(wanted)}\ngot    {shown(got)}")
         return 0 if wanted == got else 1
-    return 0 if search(given.program, given.seed, given.seconds) else 1
+    return 0 if search(program, given.seed, given.seconds, itertools.count(1), True) else 1
 
 
 if __name__ == "__main__":

@@ -5,36 +5,37 @@ tells after how many seconds the two programs differed. The copies are slow, so 
 
 usage: tests/planted.py [--seconds N] [--seed N]"""
 import argparse
+import itertools
 import pathlib
 import sys
 import tempfile
 
 sys.dont_write_bytecode = True
 import fuzz
-from unproved import build
+from support.unproved import Edit, build
 
 BUGS = [
     ("a number that two pieces share loses the digits of the first",
-     ("pfs_layout/src/blocks.rt", "        let mut line = *last;",
-      "        let offset = last.digits.offset; let digits = crate::scan::Digits { offset, first: offset, value: 0 };"
-      " let mut line = Line { digits, kinds: last.kinds };")),
+     Edit("pfs_layout/src/blocks.rt", "        let mut line = *last;",
+          "        let offset = last.digits.offset; let digits = crate::scan::Digits { offset, first: offset, value: 0 };"
+          " let mut line = Line { digits, kinds: last.kinds };")),
     ("of equal places the last is taken",
-     ("pfs_insert/src/inserter.rt", "    if place == 0 || span < best.span {",
-      "    if place == 0 || span <= best.span {")),
+     Edit("pfs_insert/src/inserter.rt", "    if place == 0 || span < best.span {",
+          "    if place == 0 || span <= best.span {")),
     ("a round keeps only shorter orders",
-     ("pfs_search/src/greedy.rt", "    if span <= kept.span {", "    if span < kept.span {")),
+     Edit("pfs_search/src/greedy.rt", "    if span <= kept.span {", "    if span < kept.span {")),
     ("the bound leaves out the times behind a machine",
-     ("pfs_audit/src/bounds.rt", "        sums.after[machine] = sums.after[machine].min(total - through);",
-      "        sums.after[machine] = sums.after[machine].min(0);")),
+     Edit("pfs_audit/src/bounds.rt", "        sums.after[machine] = sums.after[machine].min(total - through);",
+          "        sums.after[machine] = sums.after[machine].min(0);")),
     ("an order file may state more machines than there are",
-     ("pfs_audit/src/verdicts.rt", "        && order != machines", "        && order < machines")),
+     Edit("pfs_audit/src/verdicts.rt", "        && order != machines", "        && order < machines")),
     ("an order file may state a makespan of nineteen digits",
-     ("pfs_order/src/reading.rt", "const GREATEST_MAKESPAN: u64 = 999_999_999_999_999_999;",
-      "const GREATEST_MAKESPAN: u64 = 9_999_999_999_999_999_999;")),
+     Edit("pfs_order/src/reading.rt", "const GREATEST_MAKESPAN: u64 = 999_999_999_999_999_999;",
+          "const GREATEST_MAKESPAN: u64 = 9_999_999_999_999_999_999;")),
 ]
 
 
-def main():
+def main() -> int:
     parser = argparse.ArgumentParser()
     parser.add_argument("--seconds", type=float, default=300)
     parser.add_argument("--seed", type=int, default=1)
@@ -42,9 +43,9 @@ def main():
     unseen = 0
     for bug, edit in BUGS:
         with tempfile.TemporaryDirectory(prefix="pfs-planted-") as folder:
-            program = build(pathlib.Path(folder), edit)
+            program = build(pathlib.Path(folder), [edit])
             print(f"planted: {bug}", flush=True)
-            unseen += fuzz.search(str(program), given.seed, given.seconds, False)
+            unseen += fuzz.search(program, given.seed, given.seconds, itertools.count(1), False)
     print(f"{len(BUGS)} bugs planted, {unseen} not found")
     return 1 if unseen else 0
 

@@ -7,6 +7,8 @@ as a program it takes the words of `pfs`."""
 import os
 import re
 import sys
+from collections.abc import Callable, Iterable, Iterator, Mapping, Sequence
+from typing import Any, Protocol
 
 MOST_BYTES = 67_108_864
 MOST_ORDER_BYTES = 65_536
@@ -24,8 +26,9 @@ pfs convert --from L --to L [--block K] FILE
 pfs generate N M SEED
 """
 
-# What stands for the bytes of a file that can be opened, but not be read.
-UNREADABLE = object()
+# The bytes of a file, and what stands for those of one that can be opened, but not be read.
+Contents = bytes | None
+UNREADABLE = None
 
 DIGITS = re.compile(rb"[0-9]+")
 DIGIT = re.compile(rb"[0-9]")
@@ -39,13 +42,13 @@ MAKESPAN = re.compile(rb"0|[1-9][0-9]{0,17}")
 class Stop(Exception):
     """Nothing more is done: what is told on standard error, and the exit status."""
 
-    def __init__(self, told, status):
+    def __init__(self, told: bytes, status: int) -> None:
         super().__init__(told)
         self.told = told
         self.status = status
 
 
-def refused(line, *numbers):
+def refused(line: bytes, *numbers: int) -> Stop:
     return Stop(b"pfs: " + line % numbers + b"\n", 2)
 
 
@@ -54,10 +57,10 @@ def refused(line, *numbers):
 LAYOUT = {b"taillard": b"taillard", b"orlib": b"orlib"}.get
 
 
-def number_between(least, most):
+def number_between(least: int, most: int) -> Callable[[bytes], int | None]:
     """Reads a number of these: digits, perhaps with leading zeros, or a plus in front."""
 
-    def read(word):
+    def read(word: bytes) -> int | None:
         if not re.fullmatch(rb"\+?[0-9]+", word):
             return None
         value = value_of(word.lstrip(b"+"))
@@ -66,13 +69,16 @@ def number_between(least, most):
     return read
 
 
-BLOCK = (number_between(1, 1_000), 1)
-NEEDED = object()
-ON_ONE = {b"--layout": (LAYOUT, NEEDED), b"--block": BLOCK}
+# The options of a command by their names, each with how its value is read and what stands for it where it is left out.
+# A flag has no value.
+Options = Mapping[bytes, tuple[Callable[[bytes], Any] | None, Any]]
 
-# For each command its options, each with how its value is read and what stands for it where it is left out, and how
-# its other words are read. A flag has no value.
-COMMANDS = {
+NEEDED = object()
+BLOCK = (number_between(1, 1_000), 1)
+ON_ONE: Options = {b"--layout": (LAYOUT, NEEDED), b"--block": BLOCK}
+
+# For each command its options, and how its other words are read.
+COMMANDS: dict[bytes, tuple[Options, list[Callable[[bytes], Any]]]] = {
     b"value": (ON_ONE, [bytes]),
     b"solve": (dict(ON_ONE) | {
         b"--rounds": (number_between(0, 1_000_000), 0),
@@ -88,7 +94,7 @@ COMMANDS = {
 }
 
 
-def asked_for(words):
+def asked_for(words: Sequence[bytes]) -> tuple[bytes, dict[bytes, Any], list[Any]]:
     """The command that takes these words, its options by name, and its other words."""
     usage = Stop(USAGE, 3)
     if words[0] not in COMMANDS or not all(is_text(word) for word in words):
@@ -105,9 +111,10 @@ def asked_for(words):
     return words[0], given, values
 
 
-def sorted_out(options, words, usage):
+def sorted_out(options: Options, words: Sequence[bytes], usage: Stop) -> tuple[dict[bytes, Any], list[bytes]]:
     """The values of the options that are given, and the other words."""
-    given, rest = {}, []
+    given: dict[bytes, Any] = {}
+    rest: list[bytes] = []
     words = list(words)
     while words:
         word = words.pop(0)
@@ -128,7 +135,7 @@ def sorted_out(options, words, usage):
     return given, rest
 
 
-def is_text(word):
+def is_text(word: bytes) -> bool:
     try:
         word.decode("utf-8")
     except UnicodeDecodeError:
@@ -141,33 +148,33 @@ def is_text(word):
 class Instance:
     """A shop: `times[machine][job]`, both counted from 0, and the notes of its size line."""
 
-    def __init__(self, jobs, machines, notes):
+    def __init__(self, jobs: int, machines: int, notes: list[int]) -> None:
         self.jobs = jobs
         self.machines = machines
         self.notes = notes
         self.times = [[0] * jobs for _ in range(machines)]
 
-    def total(self, job):
+    def total(self, job: int) -> int:
         return sum(row[job] for row in self.times)
 
 
 class Body:
     """The numbers of a block that have been read, of those that are due."""
 
-    def __init__(self, layout, shop):
+    def __init__(self, layout: bytes, shop: Instance) -> None:
         self.layout = layout
         self.shop = shop
         self.size = shop.jobs * shop.machines
         self.count = 0
 
-    def due(self):
+    def due(self) -> int:
         return self.size * (2 if self.layout == b"orlib" else 1)
 
-    def times(self):
+    def times(self) -> int:
         """How many of the numbers that have been read are times."""
         return self.count // 2 if self.layout == b"orlib" else self.count
 
-    def take(self, value, offset):
+    def take(self, value: int, offset: int) -> None:
         """Judges the next number, whose first digit is at this offset."""
         if self.count == self.due():
             raise refused(b"extra number at %d", offset)
@@ -185,13 +192,13 @@ class Body:
         self.count += 1
 
 
-def value_of(digits):
+def value_of(digits: bytes) -> int:
     """The number that digits write; one of more than twenty digits is any that is above all limits."""
     digits = digits.lstrip(b"0") or b"0"
     return int(digits) if len(digits) <= 20 else 10**20
 
 
-def lines_of(text):
+def lines_of(text: bytes) -> Iterator[tuple[int, bytes]]:
     """Each line with its offset. A text that ends with byte 10 has no further line."""
     start = 0
     while start < len(text):
@@ -201,13 +208,14 @@ def lines_of(text):
         start = end + 1
 
 
-def read_instance(text, layout, wanted):
+def read_instance(text: Contents, layout: bytes, wanted: int) -> Instance:
     """The instance of the wanted block, whose bytes end within the limit."""
-    if text is UNREADABLE:
+    if text is None:
         raise Stop(b"pfs: read failed\n", 4)
     head = text[:MOST_BYTES]
     cut = len(text) > MOST_BYTES
-    body, found = None, 0
+    body: Body | None = None
+    found = 0
     for number, (offset, line) in enumerate(lines_of(head), 1):
         # Where the limit stands inside a line, nothing ends there.
         ends = not (cut and offset + len(line) == len(head))
@@ -225,7 +233,7 @@ def read_instance(text, layout, wanted):
     raise refused(b"no block, found %d", found)
 
 
-def sizes(line, number, layout):
+def sizes(line: bytes, number: int, layout: bytes) -> Instance:
     """The instance of a size line, with all times 0."""
     values = [value_of(match.group()) for match in DIGITS.finditer(line)]
     if len(values) != (2 if layout == b"orlib" else 5):
@@ -237,7 +245,7 @@ def sizes(line, number, layout):
     return Instance(jobs, machines, notes or [0, 0, 0])
 
 
-def read_line(body, line, offset, ends):
+def read_line(body: Body, line: bytes, offset: int, ends: bool) -> bool:
     """Takes the numbers of a line inside a block, and tells whether the block ends with it."""
     digit, word_byte = DIGIT.search(line), WORD_BYTE.search(line)
     mixed = max(digit.start(), word_byte.start()) if digit and word_byte else None
@@ -253,9 +261,9 @@ def read_line(body, line, offset, ends):
 
 # Order files
 
-def read_order(text):
+def read_order(text: Contents) -> tuple[list[int], int | None, int]:
     """The jobs of an order file, counted from 1, the machines, if it states them, and the makespan that it states."""
-    if text is UNREADABLE:
+    if text is None:
         raise Stop(b"pfs: order file read failed\n", 4)
     if len(text) > MOST_ORDER_BYTES:
         raise refused(b"order file too long")
@@ -272,7 +280,7 @@ def read_order(text):
     return jobs, machines[0] if machines else None, int(parts[2].removeprefix(b"makespan "))
 
 
-def longest_front(text):
+def longest_front(text: bytes) -> int:
     """The length of the longest front with which a text of the grammar begins. Each shorter front is one too."""
     least, most = 0, len(text)
     while least < most:
@@ -284,7 +292,7 @@ def longest_front(text):
     return least
 
 
-def can_be_completed(front):
+def can_be_completed(front: bytes) -> bool:
     """Whether a text of the grammar begins with these bytes."""
     *ended, last = front.split(b"\n")
     if len(ended) > 3 or (len(ended) == 3 and last != b""):
@@ -306,12 +314,12 @@ def can_be_completed(front):
     return ended[2].startswith(b"makespan ") and bool(MAKESPAN.fullmatch(ended[2][9:]))
 
 
-def begins_named(line, name, is_numeral):
+def begins_named(line: bytes, name: bytes, is_numeral: Callable[[bytes], object]) -> bool:
     """Whether a line of this name and a numeral begins so."""
     return name.startswith(line) or (line.startswith(name) and bool(is_numeral(line[len(name):])))
 
 
-def first_line(line):
+def first_line(line: bytes) -> list[int]:
     """The numbers of a whole first line; a line that is none has none."""
     name, *words = line.split(b" ")
     limits = FIRST_LINES.get(name, [])
@@ -319,7 +327,7 @@ def first_line(line):
     return list(map(int, words)) if is_one else []
 
 
-def begins_first_line(line, name, limits):
+def begins_first_line(line: bytes, name: bytes, limits: list[int]) -> bool:
     """Whether a line of this name and of as many numbers as there are limits begins so."""
     if name.startswith(line):
         return True
@@ -328,13 +336,13 @@ def begins_first_line(line, name, limits):
             and (last == b"" or is_size(last, limits[len(ended)])))
 
 
-def is_size(digits, most):
+def is_size(digits: bytes, most: int) -> bool:
     return bool(re.fullmatch(rb"[1-9][0-9]{0,3}", digits)) and int(digits) <= most
 
 
 # Orders, whose jobs count from 0
 
-def ends_of(shop, order):
+def ends_of(shop: Instance, order: Sequence[int]) -> list[list[int]]:
     """For each place the ends on all machines, each as early as can be."""
     rows = []
     free = [0] * shop.machines
@@ -347,11 +355,11 @@ def ends_of(shop, order):
     return rows
 
 
-def makespan(shop, order):
+def makespan(shop: Instance, order: Sequence[int]) -> int:
     return ends_of(shop, order)[-1][-1] if order else 0
 
 
-def lower_bound(shop):
+def lower_bound(shop: Instance) -> int:
     jobs = range(shop.jobs)
     columns = [[row[job] for row in shop.times] for job in jobs]
     by_machine = [
@@ -362,23 +370,23 @@ def lower_bound(shop):
     return max(by_machine + [sum(column) for column in columns])
 
 
-def inserted(shop, order, job):
+def inserted(shop: Instance, order: list[int], job: int) -> list[int]:
     """The order with the job at the first of its places that give the least makespan."""
     orders = [order[:place] + [job] + order[place:] for place in range(len(order) + 1)]
     return min(orders, key=lambda whole: makespan(shop, whole))
 
 
-def by_totals(shop):
-    order = []
+def by_totals(shop: Instance) -> list[int]:
+    order: list[int] = []
     for job in sorted(range(shop.jobs), key=lambda job: (-shop.total(job), job)):
         order = inserted(shop, order, job)
     return order
 
 
-def after_round(shop, kept, words, passes):
+def after_round(shop: Instance, kept: list[int], words: list[int], passes: int) -> list[int]:
     """Takes a job out for each word, puts each back at its best place, then moves every job, by its number, to its
     best place in each pass, and keeps the order if it isn't longer."""
-    order, taken = list(kept), []
+    order, taken = list(kept), list[int]()
     for word in words:
         taken.append(order.pop(word % len(order)))
     for job in taken + list(range(shop.jobs)) * passes:
@@ -393,7 +401,7 @@ class Pcg32:
     MULTIPLIER = 6364136223846793005
     MASK = 2**64 - 1
 
-    def __init__(self, seed):
+    def __init__(self, seed: int) -> None:
         words = []
         for _ in range(4):
             seed = (seed * self.MULTIPLIER + 0xA17654E46FBE17F3) & self.MASK
@@ -402,22 +410,22 @@ class Pcg32:
         self.state = (words[0] | words[1] << 32) + self.increment
         self.step()
 
-    def step(self):
+    def step(self) -> None:
         self.state = (self.state * self.MULTIPLIER + self.increment) & self.MASK
 
     @staticmethod
-    def output(state):
+    def output(state: int) -> int:
         shifted = ((state >> 18 ^ state) >> 27) & (2**32 - 1)
         turn = state >> 59
         return (shifted >> turn | shifted << (32 - turn)) & (2**32 - 1)
 
-    def next_word(self):
+    def next_word(self) -> int:
         word = self.output(self.state)
         self.step()
         return word
 
 
-def generated(jobs, machines, seed):
+def generated(jobs: int, machines: int, seed: int) -> Instance:
     if not 1 <= seed <= 2_147_483_646:
         raise refused(b"seed out of range")
     shop = Instance(jobs, machines, [seed, 0, 0])
@@ -430,17 +438,17 @@ def generated(jobs, machines, seed):
 
 # What is printed
 
-def numbers(values):
+def numbers(values: Iterable[int]) -> bytes:
     return b" ".join(b"%d" % value for value in values) + b"\n"
 
 
-def order_text(order, machines, length):
+def order_text(order: Sequence[int], machines: int | None, length: int) -> bytes:
     """An order file of version 1, or of version 2 where the machines are stated."""
     first = b"order %d\n" % len(order) if machines is None else b"order2 %d %d\n" % (len(order), machines)
     return first + numbers(job + 1 for job in order) + b"makespan %d\n" % length
 
 
-def canonical(shop, layout):
+def canonical(shop: Instance, layout: bytes) -> bytes:
     if layout == b"taillard":
         title = b"number of jobs, number of machines, initial seed, upper bound and lower bound :\n"
         rows = b"".join(map(numbers, shop.times))
@@ -450,7 +458,7 @@ def canonical(shop, layout):
     return b"flow shop instance\n" + numbers([shop.jobs, shop.machines]) + b"".join(map(numbers, pairs))
 
 
-def solved(shop, options):
+def solved(shop: Instance, options: dict[bytes, Any]) -> bytes:
     take = options[b"--take"]
     if take is not None and take > shop.jobs:
         raise Stop(b"pfs: take %d exceeds %d jobs\n" % (take, shop.jobs), 3)
@@ -469,7 +477,7 @@ def solved(shop, options):
     return text + b"cells %d\n" % cells
 
 
-def checked(shop, jobs, machines, stated):
+def checked(shop: Instance, jobs: list[int], machines: int | None, stated: int) -> tuple[bytes, int]:
     """The verdict on an order file, and the exit status."""
     if wrong := misfit(shop, jobs, machines):
         return wrong, 1
@@ -481,16 +489,16 @@ def checked(shop, jobs, machines, stated):
     return text + (b"optimal\n" if computed == bound else b""), 0
 
 
-def misfit(shop, jobs, machines):
+def misfit(shop: Instance, jobs: list[int], machines: int | None) -> bytes:
     """What is told where an order doesn't fit: its size before the machines that are stated for it."""
     if len(jobs) != shop.jobs:
         return b"wrong size\norder %d\njobs %d\n" % (len(jobs), shop.jobs)
-    if machines not in (None, shop.machines):
+    if machines is not None and machines != shop.machines:
         return b"wrong machines\norder %d\nmachines %d\n" % (machines, shop.machines)
     return b""
 
 
-def tabled(shop, jobs, machines):
+def tabled(shop: Instance, jobs: list[int], machines: int | None) -> tuple[bytes, int]:
     if wrong := misfit(shop, jobs, machines):
         return wrong, 1
     order = [job - 1 for job in jobs]
@@ -503,13 +511,21 @@ def tabled(shop, jobs, machines):
 
 # The program
 
-def opened(files, path):
+class Files(Protocol):
+    """Files by their paths."""
+
+    def __contains__(self, path: bytes, /) -> bool: ...
+
+    def __getitem__(self, path: bytes, /) -> Contents: ...
+
+
+def opened(files: Files, path: bytes) -> Contents:
     if path not in files:
         raise Stop(b"pfs: cannot open\n", 4)
     return files[path]
 
 
-def run(words, stdin, files):
+def run(words: Sequence[bytes], stdin: bytes, files: Files) -> tuple[bytes, int]:
     if not words:
         shop = read_instance(stdin, b"taillard", 1)
         return b"makespan %d\n" % makespan(shop, list(range(shop.jobs))), 0
@@ -529,7 +545,7 @@ def run(words, stdin, files):
     return checked(shop, jobs, machines, stated) if command == b"check" else tabled(shop, jobs, machines)
 
 
-def answer(words, stdin, files):
+def answer(words: Sequence[bytes], stdin: bytes, files: Files) -> tuple[bytes, bytes, int]:
     """Standard output, standard error and exit status for these words, with `files` by their paths."""
     try:
         text, status = run(words, stdin, files)
@@ -541,14 +557,14 @@ def answer(words, stdin, files):
 class Folder:
     """The files that can be opened from here, by their paths."""
 
-    def __contains__(self, path):
+    def __contains__(self, path: bytes) -> bool:
         try:
             os.close(os.open(path, os.O_RDONLY))
         except OSError:
             return False
         return True
 
-    def __getitem__(self, path):
+    def __getitem__(self, path: bytes) -> Contents:
         try:
             with open(path, "rb") as file:
                 return file.read()
@@ -556,7 +572,7 @@ class Folder:
             return UNREADABLE
 
 
-def main():
+def main() -> int:
     words = [os.fsencode(word) for word in sys.argv[1:]]
     stdin = b"" if words else sys.stdin.buffer.read()
     text, told, status = answer(words, stdin, Folder())

@@ -1,0 +1,30 @@
+#!/usr/bin/env python3
+"""Runs a program with so many bytes of address space and processor seconds, and tells its exit status, its processor
+seconds and its greatest resident memory in bytes. What the kernel says of that counts what the program's starter had,
+so this is a program of its own, which has little.
+
+usage: tests/support/within.py BYTES SECONDS STDIN STDOUT STDERR WORD.."""
+import os
+import signal
+import sys
+
+
+def main() -> None:
+    memory, seconds, stdin, stdout, stderr = sys.argv[1:6]
+    made = os.O_WRONLY | os.O_CREAT | os.O_TRUNC
+    actions = [
+        (os.POSIX_SPAWN_OPEN, 0, stdin, os.O_RDONLY, 0),
+        (os.POSIX_SPAWN_OPEN, 1, stdout, made, 0o600),
+        (os.POSIX_SPAWN_OPEN, 2, stderr, made, 0o600),
+    ]
+    limits = f"ulimit -v {int(memory) // 1024} && ulimit -t {seconds}"
+    words = ["sh", "-c", f'{limits} && exec "$@"', "sh", *sys.argv[6:]]
+    child = os.posix_spawnp("sh", words, os.environ, file_actions=actions)
+    signal.signal(signal.SIGALRM, lambda *_: os.kill(child, signal.SIGKILL))
+    signal.alarm(10 * int(seconds))
+    _, ended, usage = os.wait4(child, 0)
+    print(os.waitstatus_to_exitcode(ended), usage.ru_utime + usage.ru_stime, usage.ru_maxrss * 1024)
+
+
+if __name__ == "__main__":
+    main()

@@ -1,0 +1,106 @@
+"""Functions over any bench that must not compile, and why. What a function over any bench computes with times it can
+only have from the bench that it was handed, so that it is counted there: it can't add lengths, take a length or a
+time for a number, or copy the bench. One that has its sum from the bench stands in `crates/pfs_tests`, where it is
+proved."""
+import pathlib
+import re
+import shutil
+import subprocess
+from typing import NamedTuple
+
+import pytest
+
+# The functions, each with its error.
+REFUSED = {
+    "adds_lengths": ("""/// The sum of two lengths.
+pub fn sum<B: Bench>(_bench: &mut B, a: B::Span, b: B::Span) -> B::Span {
+    a + b
+}
+""", "error[invalid-operand-type]: `+` cannot be applied to `<B as Bench>::Span`"),
+    "takes_a_length_for_a_number": ("""/// A length as a number.
+pub fn number<B: Bench>(_bench: &B, a: B::Span) -> u64 {
+    u64::from(a)
+}
+""", "error[unsatisfied-bound]: the trait bound `u64: From<<B as Bench>::Span>` is not satisfied"),
+    "reveals_a_length": ("""/// A length as a number.
+pub fn number<B: Bench>(bench: &B, a: B::Span) -> u64 {
+    bench.reveal(a)
+}
+""", "error[unknown-method]: no method named `reveal` found for type `B`"),
+    "reads_a_time": ("""/// The time of the first job on the first machine.
+pub fn time<B: Bench>(bench: &B) -> u32 {
+    bench.times[0]
+}
+""", "error[unknown-field]: no field `times` on type `&B`"),
+    "copies_the_bench": ("""/// A copy of the bench.
+pub fn copy<B: Bench>(bench: &B) -> B {
+    *bench
+}
+""", "error[move-out-of-place]: cannot move out of `*bench` which is behind a shared reference"),
+    "clones_the_bench": ("""/// A copy of the bench.
+pub fn copy<B: Bench>(bench: &B) -> Result<B, std::alloc::AllocError> {
+    Clone::clone(bench)
+}
+""", "error[unsatisfied-bound]: the trait bound `B: Clone` is not satisfied"),
+}
+
+# The root file of a crate that has such functions, and a test, so that `rt try` compiles it.
+ROOT = """//! Functions over any bench.
+#![tactic(auto)]
+
+%s
+#[test]
+fn compiles(_rt: HostRuntime) {}
+"""
+
+# A compilation that takes longer hangs.
+MOST_SECONDS = 600
+
+
+class Compiled(NamedTuple):
+    """The errors of a crate, each with its file and without the help behind it, and whether the crate's test was
+    compiled and has run."""
+    errors: list[tuple[str, str]]
+    has_run: bool
+
+
+def compiled(top: pathlib.Path, folder: pathlib.Path, modules: dict[str, str]) -> Compiled:
+    """What comes of a crate with modules of these names and texts, which stands on pfs_base."""
+    shutil.copytree(top / "crates" / "pfs_base", folder / "crates" / "pfs_base",
+                    ignore=shutil.ignore_patterns("out", "must-fail"))
+    base = [line for line in (top / "crates.txt").read_text().splitlines() if line.startswith("pfs_base:")]
+    (folder / "crates.txt").write_text("\n".join([*base, "any_bench: pfs_base"]))
+    crate = folder / "crates" / "any_bench"
+    (crate / "src").mkdir(parents=True)
+    (crate / "src" / "lib.rt").write_text(ROOT % "".join(f"pub mod {name};\n" for name in modules))
+    for name, text in modules.items():
+        (crate / "src" / f"{name}.rt").write_text(text)
+    done = subprocess.run(["rt", "try", "--test"], cwd=crate, stdin=subprocess.DEVNULL, stdout=subprocess.PIPE,
+                          stderr=subprocess.STDOUT, text=True, timeout=MOST_SECONDS)
+    errors = re.findall(r"^src/(\w+)\.rt:[0-9:]* (error\[.*?)(?=: help: |$)", done.stdout, re.MULTILINE)
+    return Compiled(errors, "test compiles ... ok" in done.stdout)
+
+
+@pytest.fixture(scope="session")
+def proved(top: pathlib.Path) -> str:
+    """The function that has its sum from the bench, where it is proved."""
+    return (top / "crates" / "pfs_tests" / "src" / "any_bench.rt").read_text()
+
+
+@pytest.fixture(scope="session")
+def refused(top: pathlib.Path, proved: str, tmp_path_factory: pytest.TempPathFactory) -> Compiled:
+    """What comes of a crate in which all functions stand that must not compile, each in a module of its own."""
+    head = proved[:proved.index("\n/// ") + 1]
+    return compiled(top, tmp_path_factory.mktemp("refused"), {name: head + text for name, (text, _) in REFUSED.items()})
+
+
+@pytest.mark.seconds(10)
+def test_a_sum_by_the_bench_compiles(top: pathlib.Path, folder: pathlib.Path, proved: str) -> None:
+    assert compiled(top, folder, {"any_bench": proved}) == Compiled([], True)
+
+
+@pytest.mark.seconds(10)
+@pytest.mark.xdist_group("bench")
+@pytest.mark.parametrize("name", REFUSED)
+def test_no_compilation(refused: Compiled, name: str) -> None:
+    assert [error for module, error in refused.errors if module == name] == [REFUSED[name][1]]

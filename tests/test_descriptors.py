@@ -1,0 +1,456 @@
+"""What a filter meets around its files: closed descriptors, pipes whose other end is gone or waits, folders, devices,
+files that may not be read or that shrink, signals, and the longest command lines that Linux passes on. Each run has
+its exact output, errors and status."""
+import os
+import pathlib
+import resource
+import shutil
+import signal
+import socket
+import subprocess
+from collections.abc import Callable, Iterator
+
+import pytest
+from support.files import FILES, THREE_JOBS, USAGE
+from support.lines import ANSWERS, CHECK, CONVERT, GENERATE, SOLVE, TABLE, VALUE, refused, unwritten
+from support.pipes import PAGE, first_opened, opened_for_writing, page_pipe, unread, wait_for
+from support.program import Program, Ran, Words, ended
+
+NOBODY = 65_534
+# The longest word that Linux passes on, without its end, and how many words are many.
+LONGEST_WORD = 131_071
+MANY = 100_000
+
+ELEVEN = Ran(b"makespan 11\n", b"", 0)
+VALID = Ran(b"valid\nmakespan 10\nbound 10\noptimal\n", b"", 0)
+WITH_INSTANCE = [VALUE, SOLVE, CHECK, TABLE, CONVERT]
+WITH_ORDER = [CHECK, TABLE]
+# The signals that end a program that doesn't ask for them.
+ENDING = [signal.SIGHUP, signal.SIGINT, signal.SIGTERM, signal.SIGQUIT]
+
+
+# Standard streams that are closed
+
+STREAMS = ["stdin", "stdout", "stderr"]
+CLOSED = [["stdin"], ["stdout"], ["stderr"], ["stdin", "stdout"], ["stdout", "stderr"], STREAMS]
+# Those that are quick.
+LINES = [line for line in ANSWERS if "/dev/zero" not in line and "500" not in line]
+
+
+def closing(streams: list[str]) -> Callable[[], None]:
+    """Closes these streams, before the program starts."""
+
+    def close() -> None:
+        for stream in streams:
+            os.close(STREAMS.index(stream))
+
+    return close
+
+
+@pytest.mark.parametrize("streams", CLOSED, ids=" ".join)
+@pytest.mark.parametrize("line", LINES)
+def test_closed(pfs: Program, worked: pathlib.Path, line: str, streams: list[str]) -> None:
+    """The files that are opened then take the numbers of the streams, and aren't written to."""
+    answer = ANSWERS[line]
+    if "stdout" in streams and answer.stdout:
+        answer = unwritten(0)
+    if "stderr" in streams:
+        answer = answer._replace(stderr=b"")
+    assert pfs.run(line, worked, preexec_fn=closing(streams)) == answer
+    assert {name: (worked / name).read_bytes() for name in FILES} == FILES
+
+
+def test_no_words_and_a_closed_input(pfs: Program, folder: pathlib.Path) -> None:
+    assert pfs.run([], folder, preexec_fn=closing(["stdin"])) == refused("read failed")
+
+
+# Standard input that is no usual file
+
+def test_an_input_for_writing(pfs: Program, folder: pathlib.Path) -> None:
+    with open(folder / "written", "wb") as written:
+        assert pfs.run([], folder, written) == refused("read failed")
+
+
+def test_a_folder_as_input(pfs: Program, folder: pathlib.Path) -> None:
+    descriptor = os.open(folder, os.O_RDONLY)
+    assert pfs.run([], folder, descriptor) == refused("read failed")
+    os.close(descriptor)
+
+
+@pytest.mark.parametrize("device, told", [
+    ("/dev/null", "no block, found 0"), ("/dev/zero", "input too long"), ("/dev/full", "input too long"),
+])
+def test_a_device_as_input(pfs: Program, folder: pathlib.Path, device: str, told: str) -> None:
+    with open(device, "rb") as file:
+        assert pfs.run([], folder, file) == refused(told, 2)
+
+
+@pytest.fixture
+def pipe() -> Iterator[tuple[int, int]]:
+    """The ends of a pipe, which are closed behind the test."""
+    ends = os.pipe()
+    yield ends
+    for end in ends:
+        os.close(end)
+
+
+def test_a_pipe_that_has_nothing_yet(pfs: Program, folder: pathlib.Path, pipe: tuple[int, int]) -> None:
+    """A read that would have to wait and doesn't fails."""
+    os.set_blocking(pipe[0], False)
+    assert pfs.run([], folder, pipe[0]) == refused("read failed")
+
+
+def test_a_pipe_that_stays_open(pfs: Program, folder: pathlib.Path, pipe: tuple[int, int]) -> None:
+    os.write(pipe[1], THREE_JOBS)
+    assert pfs.run([], folder, pipe[0]) == ELEVEN
+
+
+# Files that are named by the descriptors that the program was started with
+
+@pytest.mark.parametrize("path", ["/dev/stdin", "/dev/fd/0", "/proc/self/fd/0"])
+@pytest.mark.parametrize("line, name", [(VALUE, "three"), (CHECK, "best")])
+def test_a_path_of_the_input(pfs: Program, worked: pathlib.Path, line: str, name: str, path: str) -> None:
+    with open(worked / name, "rb") as file:
+        assert pfs.run(line.replace(name, path), worked, file) == ANSWERS[line]
+
+
+def test_a_pipe_by_its_number(pfs: Program, folder: pathlib.Path, pipe: tuple[int, int]) -> None:
+    os.write(pipe[1], THREE_JOBS)
+    line = VALUE.replace("three", f"/dev/fd/{pipe[0]}")
+    assert pfs.run(line, folder, pass_fds=(pipe[0],)) == ELEVEN
+
+
+def test_a_number_that_is_not_open(pfs: Program, folder: pathlib.Path) -> None:
+    assert pfs.run(VALUE.replace("three", "/dev/fd/99"), folder) == refused("cannot open")
+
+
+# Paths of what is no usual file
+
+@pytest.fixture
+def odd(worked: pathlib.Path) -> Iterator[pathlib.Path]:
+    """The worked files, a socket, a sparse file of more than 8 GiB, and a link that leads to itself."""
+    with socket.socket(socket.AF_UNIX) as listening:
+        # The path of a socket is short.
+        before = os.getcwd()
+        os.chdir(worked)
+        listening.bind("socket")
+        os.chdir(before)
+        (worked / "sparse").touch()
+        os.truncate(worked / "sparse", 2**33 + 5)
+        (worked / "circle").symlink_to("circle")
+        yield worked
+
+
+ODD_INSTANCES = {
+    "folder": refused("read failed"),
+    "/dev/null": refused("no block, found 0", 2),
+    "/dev/full": refused("input too long", 2),
+    "sparse": refused("input too long", 2),
+    "/proc/self/mem": refused("read failed"),
+    "socket": refused("cannot open"),
+    "circle": refused("cannot open"),
+    "three/": refused("cannot open"),
+    "three/x": refused("cannot open"),
+}
+ODD_ORDER_FILES = {
+    "folder": refused("order file read failed"),
+    "/dev/null": refused("order file syntax at 0", 2),
+    "/dev/zero": refused("order file too long", 2),
+    "/dev/full": refused("order file too long", 2),
+    "sparse": refused("order file too long", 2),
+    "/proc/self/mem": refused("order file read failed"),
+    "socket": refused("cannot open"),
+}
+
+
+@pytest.mark.parametrize("name", ODD_INSTANCES)
+@pytest.mark.parametrize("line", WITH_INSTANCE)
+def test_an_odd_instance(pfs: Program, odd: pathlib.Path, line: str, name: str) -> None:
+    assert pfs.run(line.replace("three", name), odd) == ODD_INSTANCES[name]
+
+
+@pytest.mark.parametrize("name", ODD_ORDER_FILES)
+@pytest.mark.parametrize("line", WITH_ORDER)
+def test_an_odd_order_file(pfs: Program, odd: pathlib.Path, line: str, name: str) -> None:
+    assert pfs.run(line.replace("best", name), odd) == ODD_ORDER_FILES[name]
+
+
+# Outputs that nobody reads, or that would have to wait
+
+@pytest.fixture
+def unread_end() -> Iterator[int]:
+    """The end of a pipe that nobody reads."""
+    read_end, write_end = os.pipe()
+    os.close(read_end)
+    yield write_end
+    os.close(write_end)
+
+
+BOTH_WAYS = pytest.mark.parametrize("restores", [True, False], ids=["signal as usual", "signal ignored"])
+
+
+@BOTH_WAYS
+@pytest.mark.parametrize("line", [*WITH_INSTANCE, GENERATE])
+def test_no_reader(pfs: Program, worked: pathlib.Path, unread_end: int, line: str, restores: bool) -> None:
+    """A failed write, and no signal, whatever the program's starter did with the signal for it."""
+    assert pfs.run(line, worked, stdout=unread_end, restore_signals=restores) == unwritten(0)
+
+
+def test_no_reader_of_errors(pfs: Program, worked: pathlib.Path, unread_end: int) -> None:
+    assert pfs.run("value --layout taillard mixed", worked, stderr=unread_end) == Ran(b"", b"", 2)
+
+
+@BOTH_WAYS
+def test_a_reader_that_leaves(pfs: Program, folder: pathlib.Path, restores: bool) -> None:
+    """The reader leaves once the pipe is full: what the pipe holds went out."""
+    read_end, write_end = page_pipe()
+    child = pfs.start("generate 500 20 1", folder, stdout=write_end, restore_signals=restores)
+    os.close(write_end)
+    wait_for("the pipe is full", lambda: unread(read_end) == PAGE)
+    os.close(read_end)
+    assert ended(child) == unwritten(PAGE)
+
+
+def test_a_pipe_that_does_not_wait(pfs: Program, folder: pathlib.Path) -> None:
+    """No write is tried again."""
+    read_end, write_end = page_pipe()
+    os.set_blocking(write_end, False)
+    assert pfs.run("generate 500 20 1", folder, stdout=write_end) == unwritten(PAGE)
+    os.close(read_end)
+    os.close(write_end)
+
+
+# Named pipes
+
+@pytest.fixture
+def piped(worked: pathlib.Path) -> pathlib.Path:
+    """The worked files and two named pipes."""
+    for name in ("pipe", "second"):
+        os.mkfifo(worked / name)
+    return worked
+
+
+def test_a_named_pipe_that_stays_open(pfs: Program, piped: pathlib.Path) -> None:
+    """A block is answered at its end."""
+    child = pfs.start("value --layout taillard pipe", piped)
+    writer = opened_for_writing(piped / "pipe")
+    os.write(writer, THREE_JOBS + b"what follows isn't looked at")
+    assert ended(child) == ELEVEN
+    os.close(writer)
+
+
+@pytest.mark.parametrize("line", WITH_ORDER)
+def test_two_named_pipes(pfs: Program, piped: pathlib.Path, line: str) -> None:
+    """The files are opened one after the other, the instance first, before anything is read. An order file is read to
+    its own end."""
+    child = pfs.start(line.replace("three", "pipe").replace("best", "second"), piped)
+    name, instance = first_opened(piped / "pipe", piped / "second")
+    assert name == "pipe", "what is opened first"
+    order = opened_for_writing(piped / "second")
+    os.write(order, FILES["best"][:9])
+    os.write(instance, THREE_JOBS)
+    os.write(order, FILES["best"][9:])
+    os.close(order)
+    assert ended(child) == ANSWERS[line]
+    os.close(instance)
+
+
+def test_a_named_pipe_with_nothing(pfs: Program, piped: pathlib.Path) -> None:
+    child = pfs.start("value --layout taillard pipe", piped)
+    os.close(opened_for_writing(piped / "pipe"))
+    assert ended(child) == refused("no block, found 0", 2)
+
+
+# Signals
+
+def as_usual() -> None:
+    """Signals end the program, also where its starter ignores them, and it leaves no core file."""
+    no_core()
+    for number in ENDING:
+        signal.signal(number, signal.SIG_DFL)
+
+
+def no_core() -> None:
+    resource.setrlimit(resource.RLIMIT_CORE, (0, 0))
+
+
+@pytest.mark.parametrize("number", [*ENDING, signal.SIGKILL], ids=lambda number: str(number.name))
+def test_a_signal(pfs: Program, piped: pathlib.Path, number: signal.Signals) -> None:
+    """A program that waits is ended, and says nothing then."""
+    child = pfs.start("value --layout taillard pipe", piped, preexec_fn=as_usual)
+    writer = opened_for_writing(piped / "pipe")
+    os.write(writer, THREE_JOBS[:100])
+    wait_for("the pipe is read", lambda: unread(writer) == 0)
+    child.send_signal(number)
+    assert ended(child) == Ran(b"", b"", -number)
+    os.close(writer)
+
+
+def test_stopped_and_going_on(pfs: Program, piped: pathlib.Path) -> None:
+    child = pfs.start("value --layout taillard pipe", piped)
+    writer = opened_for_writing(piped / "pipe")
+    os.write(writer, THREE_JOBS[:100])
+    stop(child)
+    os.write(writer, THREE_JOBS[100:])
+    child.send_signal(signal.SIGCONT)
+    assert ended(child) == ELEVEN
+    os.close(writer)
+
+
+@pytest.mark.parametrize("restores, answer", [(False, unwritten(5)), (True, Ran(b"", b"", -signal.SIGXFSZ))],
+                         ids=["signal ignored", "signal as usual"])
+def test_a_file_of_five_bytes(pfs: Program, worked: pathlib.Path, restores: bool, answer: Ran) -> None:
+    """Where an output passes the limit on a file's size, the signal for that ends the program, unless its starter
+    ignores the signal."""
+
+    def limit() -> None:
+        no_core()
+        resource.setrlimit(resource.RLIMIT_FSIZE, (5, 5))
+
+    with open(worked / "limited", "wb") as output:
+        assert pfs.run(VALUE, worked, stdout=output, preexec_fn=limit, restore_signals=restores) == answer
+    assert (worked / "limited").read_bytes() == b"makes"
+
+
+def stop(child: subprocess.Popen[bytes]) -> None:
+    """Stops a program, and waits until it stands."""
+
+    def stands() -> bool:
+        state = pathlib.Path(f"/proc/{child.pid}/stat").read_text().rpartition(")")[2].split()[0]
+        return state in ("T", "Z")
+
+    child.send_signal(signal.SIGSTOP)
+    wait_for("the program stands", lambda: child.returncode is not None or stands())
+
+
+# Files that shrink
+
+def test_a_file_that_shrinks_before_it_is_read(pfs: Program, piped: pathlib.Path) -> None:
+    child = pfs.start("check --layout taillard three pipe", piped)
+    wait_for("the instance is open", lambda: opened_position(child.pid, "three") == 0)
+    os.truncate(piped / "three", 118)
+    os.close(opened_for_writing(piped / "pipe"))
+    assert ended(child) == refused("truncated after 5 times", 2)
+
+
+@pytest.mark.parametrize("size_behind", [lambda position: position // 2, lambda position: position + 128],
+                         ids=["before the place", "behind the place"])
+def test_a_file_that_shrinks_while_it_is_read(pfs: Program, folder: pathlib.Path,
+                                              size_behind: Callable[[int], int]) -> None:
+    """A file of lines of 128 bytes, each with a time, gets another size where it is being read. A size before the place
+    that is read ends the file there."""
+    head, line = b"2000 200 0 0 0\n", b"0" * 127 + b"\n"
+    (folder / "shrinks").write_bytes(head + line * 399_000)
+    child, position = stopped_while_reading(pfs, folder / "shrinks")
+    end = size_behind(position)
+    os.truncate(folder / "shrinks", end)
+    child.send_signal(signal.SIGCONT)
+    begun = -(-(max(position, end) - len(head)) // len(line))
+    assert ended(child) == refused(f"truncated after {begun} times", 2), f"{end} bytes behind {position}"
+
+
+def stopped_while_reading(pfs: Program, file: pathlib.Path) -> tuple[subprocess.Popen[bytes], int]:
+    """The program, which stands somewhere in the first half of a file, and how far it has read. It is started again
+    where it was further before it stood."""
+    half = file.stat().st_size // 2
+    while True:
+        child = pfs.start(f"value --layout taillard {file.name}", file.parent)
+        while child.poll() is None:
+            if opened_position(child.pid, file.name):
+                stop(child)
+                position = opened_position(child.pid, file.name)
+                if position and position < half:
+                    return child, position
+                child.send_signal(signal.SIGCONT)
+                break
+        ended(child)
+
+
+def opened_position(process: int, name: str) -> int | None:
+    """How far a program has read a file, or None where it hasn't opened it."""
+    descriptors = pathlib.Path(f"/proc/{process}/fd")
+    try:
+        for descriptor in os.listdir(descriptors):
+            if os.readlink(descriptors / descriptor).endswith("/" + name):
+                info = pathlib.Path(f"/proc/{process}/fdinfo/{descriptor}").read_text()
+                return int(info.split()[1])
+    except OSError:
+        pass
+    return None
+
+
+# Files that the program's user may not read, and no descriptor for one
+
+def as_nobody() -> None:
+    if os.getuid() == 0:
+        os.setgroups([])
+        os.setgid(NOBODY)
+        os.setuid(NOBODY)
+
+
+@pytest.fixture
+def guarded(pfs: Program, worked: pathlib.Path) -> Iterator[tuple[Program, pathlib.Path]]:
+    """The program as anybody may run it, in a folder with files that only some may read."""
+    shutil.copy(pfs.path, worked / "pfs")
+    (worked / "pfs").chmod(0o755)
+    (worked / "secret").write_bytes(THREE_JOBS)
+    (worked / "secret").chmod(0)
+    (worked / "closed").mkdir()
+    (worked / "closed" / "three").write_bytes(THREE_JOBS)
+    (worked / "closed").chmod(0)
+    worked.chmod(0o755)
+    yield Program(pathlib.Path("pfs")), worked
+    (worked / "closed").chmod(0o700)
+
+
+@pytest.mark.parametrize("line, name", [*[(line, "three") for line in WITH_INSTANCE],
+                                        *[(line, "best") for line in WITH_ORDER]])
+@pytest.mark.parametrize("path", ["secret", "closed/three", "closed"])
+def test_no_permission(guarded: tuple[Program, pathlib.Path], line: str, name: str, path: str) -> None:
+    program, folder = guarded
+    assert program.run(line.replace(name, path), folder, preexec_fn=as_nobody) == refused("cannot open")
+
+
+def test_another_user(guarded: tuple[Program, pathlib.Path]) -> None:
+    program, folder = guarded
+    assert program.run(VALUE, folder, preexec_fn=as_nobody) == ELEVEN
+
+
+@pytest.mark.parametrize("line, most, answer", [
+    pytest.param(VALUE, 4, ELEVEN, id="one for one file"),
+    pytest.param(CHECK, 4, refused("cannot open"), id="one for two files"),
+    pytest.param(CHECK, 5, VALID, id="two for two files"),
+])
+def test_few_descriptors(pfs: Program, worked: pathlib.Path, line: str, most: int, answer: Ran) -> None:
+    """Descriptors are left for so many files, standard streams included."""
+    limit = lambda: resource.setrlimit(resource.RLIMIT_NOFILE, (most, most))
+    assert pfs.run(line, worked, preexec_fn=limit) == answer
+
+
+# As many words as Linux passes on, and as long ones
+
+LONG = "x" * LONGEST_WORD
+NO_COMMAND = Ran(b"", USAGE, 3)
+LONG_LINES: dict[str, tuple[Words, Ran]] = {
+    "many words": (["x"] * MANY, NO_COMMAND),
+    "many paths": (VALUE.split(" ") + ["three"] * MANY, NO_COMMAND),
+    "many options": (VALUE.split(" ") + ["--block=1"] * MANY, NO_COMMAND),
+    "many numbers": (["generate"] + ["1"] * MANY, NO_COMMAND),
+    "many paths behind --": (VALUE.split(" ") + ["--"] + ["-"] * MANY, NO_COMMAND),
+    "a long command": ([LONG], NO_COMMAND),
+    "a long path": (["value", "--layout", "taillard", LONG], refused("cannot open")),
+    "a long order path": (CHECK.split(" ")[:-1] + [LONG], refused("cannot open")),
+    "a long layout": (["value", "--layout", LONG, "three"], NO_COMMAND),
+    "a long option": (["value", "--" + LONG[2:], "three"], NO_COMMAND),
+    "long paths": (["value"] + [LONG] * 12, NO_COMMAND),
+    "a long number": (VALUE.split(" ") + ["--block", "0" * (LONGEST_WORD - 1) + "1"], ELEVEN),
+    "a long number that is too great": (VALUE.split(" ") + ["--block", "9" * LONGEST_WORD], NO_COMMAND),
+    "a long seed": (SOLVE.split(" ") + ["--seed=" + "0" * (LONGEST_WORD - 7)], ANSWERS[SOLVE]),
+    "the longest path": (["value", "--layout", "taillard", "./" * ((4_095 - 5) // 2) + "three"], ELEVEN),
+}
+
+
+@pytest.mark.parametrize("name", LONG_LINES)
+def test_a_long_line(pfs: Program, worked: pathlib.Path, name: str) -> None:
+    words, answer = LONG_LINES[name]
+    assert pfs.run(words, worked) == answer

@@ -1,0 +1,57 @@
+"""Random files and command lines, on which the program and the second program must agree (fuzz.py): for half a minute
+in all, in shares that run side by side. And that the fuzzer finds a program that answers otherwise."""
+import itertools
+import pathlib
+import re
+import subprocess
+import sys
+
+import fuzz
+import pytest
+from support.program import Program, Ran
+
+SHARES = 6
+SECONDS = 5
+FUZZ = pathlib.Path(fuzz.__file__)
+
+
+@pytest.mark.seconds(SECONDS)
+@pytest.mark.parametrize("share", range(SHARES), ids=lambda share: f"share {share}")
+def test_random_cases(pfs: Program, share: int, capsys: pytest.CaptureFixture[str]) -> None:
+    numbers = itertools.count(1 + share, SHARES)
+    agree = fuzz.search(pfs.path, 1, SECONDS, numbers, True)
+    assert agree, capsys.readouterr().out
+
+
+def run_fuzzer(folder: pathlib.Path, *words: str) -> Ran:
+    done = subprocess.run([sys.executable, FUZZ, *words], cwd=folder, capture_output=True, timeout=300)
+    return Ran(done.stdout, done.stderr, done.returncode)
+
+
+def test_some_cases(pfs: Program, folder: pathlib.Path) -> None:
+    ran = run_fuzzer(folder, "--program", str(pfs.path), "--seconds", "1", "--seed", "2")
+    assert ran.status == 0 and re.match(rb"seed 2: [1-9][0-9]* cases in 1 s, ", ran.stdout), ran
+
+
+def test_no_case_is_no_agreement(pfs: Program, folder: pathlib.Path) -> None:
+    ran = run_fuzzer(folder, "--program", str(pfs.path), "--seconds", "0", "--seed", "1")
+    assert ran == Ran(b"seed 1: 0 cases in 0 s, on which both programs agree\n", b"", 1)
+
+
+@pytest.fixture
+def other(pfs: Program, folder: pathlib.Path) -> pathlib.Path:
+    """A program that does what pfs does, but ends with another status where that is 3."""
+    script = folder / "other"
+    script.write_text(f'#!/bin/sh\n{pfs.path} "$@"\nstatus=$?\n[ $status = 3 ] && exit 2\nexit $status\n')
+    script.chmod(0o755)
+    return script
+
+
+def test_a_program_that_differs(other: pathlib.Path, folder: pathlib.Path, monkeypatch: pytest.MonkeyPatch) -> None:
+    """It is found, with a small case that can be run again."""
+    monkeypatch.setenv("TMPDIR", str(folder))
+    ran = run_fuzzer(folder, "--program", str(other), "--seed", "1")
+    assert ran.status == 1 and b"the programs differ" in ran.stdout, ran
+    [case] = folder.glob("pfs-differs-*/case.json")
+    again = run_fuzzer(folder, "--program", str(other), "--case", str(case))
+    assert again.status == 1 and re.search(rb"wanted .*, 3\ngot    .*, 2\n", again.stdout), again

@@ -1,0 +1,146 @@
+"""Runs with each growth of memory refused in turn: those of the program end in want of memory and print nothing; the
+calls of pfs_calls answer it, and leave what they must. And calls that ask for none."""
+import pathlib
+from itertools import groupby
+
+import pytest
+from support.files import FILES, THREE_JOBS, THREE_JOBS_BY_JOB
+from support.growths import Shim
+from support.lines import ANSWERS, refused
+from support.program import Program, Ran, Words
+
+# No call takes more growths.
+MOST_GROWTHS = 1_000
+
+# The lines that take memory.
+GROWING = [
+    "solve --layout taillard --rounds 5 --take 2 --seed 7 --passes 1 --cells three",
+    "value --layout orlib --block 2 two_blocks.or",
+    "check --layout taillard three best",
+    "table --layout taillard three best",
+    "table --layout taillard three for_three",
+    "convert --from taillard --to orlib three",
+    "generate 5 1 873654221",
+    "value three",
+]
+
+# What each call of pfs_calls answers with ample memory.
+CALLS: dict[str, bytes] = {
+    "instance": b"3 jobs, 2 machines\n",
+    "generate": b"seed 2147483646\n",
+    "feed": b"49 bytes, done: true, 6 times, 3 jobs\n",
+    "read_block": b"3 jobs, 2 machines\n",
+    "seq": b"1 of 3\n",
+    "identity": b"3 jobs\n",
+    "read_order": b"3 jobs, Some(2) machines, makespan 10\n",
+    "makespan": b"makespan 11, 6 cells\n",
+    "table": b"3 rows, makespan 11\n",
+    "check": b"valid 10 10\n",
+    "check_machines": b"wrong machines 3 2\n",
+    "afresh": b"place 2, makespan 10, 18 cells\n",
+    "heads_tails": b"place 2, makespan 10, 20 cells\n",
+    "neh": b"order 2 1 3, makespan 10, 28 cells\n",
+    "round": b"order 2 1 3, makespan 10, 108 cells\n",
+    "rounds": b"order 2 1 3, makespan 10, 158 cells\nnext word 21\n",
+    "turns": b"order 1 2, makespan 8, 25 cells\nnext word 11\n",
+    "search": b"order 3 2 1, makespan 7, 54 cells\norder 3 2 1, makespan 7, 2934 cells\n",
+    "run_value": b"makespan 11\n",
+    "run_check": b"valid\nmakespan 10\nbound 10\noptimal\n",
+    "run_solve": b"order2 3 2\n2 1 3\nmakespan 10\ncells 196\n",
+    "run_convert": b"flow shop instance\n3 2\n0 3 1 2\n0 2 1 5\n0 4 1 1\n",
+    "run_generate": b"number of jobs, number of machines, initial seed, upper bound and lower bound :\n"
+                    b"5 1 873654221 0 0\nprocessing times :\n54 83 15 71 77\n",
+    "run_table": b"table 3 2\n2 0 2 2 7\n1 2 5 7 9\n3 5 9 9 10\nmakespan 10\n",
+    "run_table_machines": b"wrong machines\norder 3\nmachines 2\n",
+}
+
+UNCHANGED = b"memory, 3 jobs, 2 machines, times 3 2 2 5 4 1\n"
+
+# What a call of pfs_calls prints where growths of its own are refused, in turn, behind `memory` for those before it:
+# - the instance and the bench are unchanged, nothing is held and no round but those done is kept;
+# - a call that may be made again gives its answer, and a refused reader its refusal;
+# - an inserter that makes each order afresh has counted the places before, of six cells each;
+# - the generator, which gives the odd numbers, is behind the words of the rounds done and of the refused one;
+# - an engine writes nothing, and tells whose growth it was: the instance's, the order's, or one behind both, which is
+#   asked for only where the order fits the instance.
+LEFT: dict[str, list[bytes]] = {
+    "feed": [b"Memory, 0 times held\nMemory when fed again\nMemory at the end\n"],
+    "makespan": [UNCHANGED + b"bench of 3 jobs, 2 machines, 0 cells\nmakespan 11, 6 cells\n"],
+    "table": [UNCHANGED + b"3 rows, makespan 11\n"],
+    "check": [UNCHANGED + b"valid 10 10\n"],
+    "afresh": [b"memory after %d cells\nplace 2, makespan 10, %d cells\n" % (cells, cells + 18)
+               for cells in (0, 6, 12)],
+    "neh": [b"memory after 0 rounds, order 1 2 3, makespan 0\n"],
+    "round": [b"memory after 0 rounds, order 2 1 3, makespan 10\n"],
+    "rounds": [b"memory after %d rounds, order 2 1 3, makespan 10\nnext word %d\n" % (done, 4 * done + 5)
+               for done in range(5)],
+    "turns": [b"memory after %d rounds, order %s, makespan 8\nnext word %d\n"
+              % (done, b"1 2" if done % 2 else b"2 1", 2 * done + 3) for done in range(5)],
+    "run_value": [b"Layout(Memory)\n", b"Memory\n"],
+    "run_check": [b"Layout(Memory)\n", b"Order(Memory)\n", b"Memory\n"],
+    "run_solve": [b"Layout(Memory)\n", b"Memory\n"],
+    "run_convert": [b"Layout(Memory)\n"],
+    "run_generate": [b"Layout(Memory)\n"],
+    "run_table": [b"Layout(Memory)\n", b"Order(Memory)\n", b"Memory\n"],
+    "run_table_machines": [b"Layout(Memory)\n", b"Order(Memory)\n"],
+}
+
+
+# What a call of pfs_calls prints that takes no memory once it has said `ready`.
+STILL: dict[str, bytes] = {
+    "still_audit": b"bound 8\nwrong size 3 2\n",
+    "still_best": b"place 2\n",
+    "still_feed": b"49 bytes, done: false, 0 times\nNoBlock { found: 1 }\n",
+    "still_generate": b"SeedRange\nSeedRange\n",
+    "still_put": b"8 bytes by 1 writes\n8 bytes by 3 writes\n0 bytes by 0 writes\n",
+    "still_read_block": b"Read\nNoBlock { found: 0 }\nSizeCount { line: 1 }\n",
+    "still_read_order": b"Read\nSyntax { offset: 0 }\nSyntax { offset: 11 }\nTooLong\n",
+    "still_search": b"makespan 7\nmakespan 7\n",
+    "still_write": b"%d bytes, %d bytes\n" % (len(THREE_JOBS_BY_JOB), len(FILES["numbered2"])),
+}
+
+
+@pytest.fixture(scope="session")
+def shim(tmp_path_factory: pytest.TempPathFactory) -> Shim:
+    """The library that refuses and counts growths."""
+    return Shim(tmp_path_factory.mktemp("shim"))
+
+
+def refuse_each(shim: Shim, program: Program, words: Words, folder: pathlib.Path, answer: Ran, refusals: list[Ran],
+                stdin: bytes = b"") -> None:
+    """Every run in which a growth is refused ends in a refusal, and the run that meets none in the answer. Each of the
+    refusals is met, in this order, and perhaps more than once."""
+    told: list[Ran] = []
+    for growth in range(1, MOST_GROWTHS):
+        ran, is_refused = shim.run_refused(program, words, folder, stdin, growth)
+        if not is_refused:
+            assert ran == answer, "no growth refused"
+            assert [refusal for refusal, _ in groupby(told)] == refusals, "growths refused"
+            return
+        assert ran in refusals, f"growth {growth} refused"
+        told.append(ran)
+    pytest.fail(f"{MOST_GROWTHS} growths and more")
+
+
+def test_no_words(pfs: Program, shim: Shim, folder: pathlib.Path) -> None:
+    refuse_each(shim, pfs, [], folder, Ran(b"makespan 11\n", b"", 0), [refused("no memory")], THREE_JOBS)
+
+
+@pytest.mark.parametrize("line", GROWING)
+def test_line(pfs: Program, shim: Shim, worked: pathlib.Path, line: str) -> None:
+    refuse_each(shim, pfs, line, worked, ANSWERS[line], [refused("no memory")])
+
+
+@pytest.mark.parametrize("call", CALLS)
+def test_call(pfs_calls: Program, shim: Shim, folder: pathlib.Path, call: str) -> None:
+    # The first growths are for the words of the command line.
+    refusals = [b"memory\n", *LEFT.get(call, [])]
+    refuse_each(shim, pfs_calls, [call], folder, Ran(CALLS[call], b"", 0), [Ran(text, b"", 0) for text in refusals])
+
+
+@pytest.mark.parametrize("call", STILL)
+def test_a_call_that_takes_no_memory(pfs_calls: Program, shim: Shim, folder: pathlib.Path, call: str) -> None:
+    ran, growths = shim.run_counted(pfs_calls, [call], folder)
+    assert ran == Ran(b"ready\n" + STILL[call], b"", 0)
+    assert growths[0] > 0, "growths for the words of the command line"
+    assert growths == growths[:1] * len(growths), "growths in front of each write"

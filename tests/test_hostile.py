@@ -1,0 +1,321 @@
+"""Files of 64 MiB through each command that reads: the exact answer, in time linear in the file, with no more memory
+than the instance and 16 MiB. The files are of one byte, of digits and blanks, of one line, and of a million lines.
+Then the greatest instance, with the longest times: the exact answer, with what a search or a time table keeps of it
+beside that memory. The program gets no more address space than that, and its resident memory is compared too."""
+import pathlib
+from collections.abc import Callable, Iterable, Iterator
+
+import pytest
+from support.files import FILES
+from support.large import LargeRun, run_within, write_equal_times, write_many_lines, write_one_line, write_repeated
+from support.lines import ANSWERS, CHECK, CONVERT, SOLVE, TABLE, VALUE
+from support.program import Program
+
+MIB = 1 << 20
+SIZE = 64 * MIB
+MOST_RESIDENT = 16 * MIB
+
+# The limits, and how long the longest texts within them are.
+MOST_JOBS, MOST_MACHINES, LONGEST_TIME, GREATEST_NOTE = 5_000, 200, 1_000_000_000, 2**32 - 1
+LONGEST_TEXT = 14_450_028
+LONGEST_ORDER_TEXT = 50_044
+
+COUNT = b"pfs: size line 1 has a wrong count\n"
+NONE = b"pfs: no block, found 0\n"
+TOO_LONG = b"pfs: input too long\n"
+ORDER_TOO_LONG = b"pfs: order file too long\n"
+
+# The repeated bytes, and the fault of a file of them.
+FILLS = {b"7": COUNT, b" ": NONE, b"\n": NONE, b"x": NONE, b"\0": NONE, b"\xff": NONE, b"7 ": COUNT}
+# Each command over the three jobs.
+COMMANDS = {line.split(" ")[0]: line for line in (VALUE, SOLVE, CHECK, TABLE, CONVERT)}
+
+
+def words_of(command: str, file: pathlib.Path, order: pathlib.Path | None = None) -> list[str]:
+    """The words of a command on an instance file, and perhaps on an order file."""
+    paths = {"three": str(file), "best": str(order)}
+    return [paths.get(word, word) for word in COMMANDS[command].split(" ")]
+
+
+def run_large(pfs: Program, words: list[str], folder: pathlib.Path, parts: Iterable[bytes], told: bytes, status: int,
+              kept: int = 0, stdin: pathlib.Path = pathlib.Path("/dev/null")) -> LargeRun:
+    """The run of a program that keeps so many bytes, with what it must print and tell."""
+    most = kept + MOST_RESIDENT
+    ran = run_within(pfs, words, folder, most, stdin)
+    assert (ran.stderr[:200], ran.status) == (told, status)
+    assert ran.prints(parts), "it printed something else"
+    assert ran.resident <= most, "it had more memory"
+    return ran
+
+
+def is_linear(seconds: float, eighth: float) -> bool:
+    """Whether an eighth of the file takes no less than a twenty-seventh of the time: twice the file takes at most three
+    times as long. A file that took time by the square of its length would take 64 times as long as its eighth."""
+    return seconds <= 27 * eighth + 0.1
+
+
+@pytest.fixture
+def small(folder: pathlib.Path) -> pathlib.Path:
+    """A folder with the three jobs and their best order."""
+    for name in ("three", "best"):
+        (folder / name).write_bytes(FILES[name])
+    return folder
+
+
+def test_a_small_file(pfs: Program, small: pathlib.Path) -> None:
+    """The limits of memory are no smaller than a run needs."""
+    run_large(pfs, words_of("value", small / "three"), small, [b"makespan 11\n"], b"", 0)
+
+
+# Files that hold no instance
+
+class Fill:
+    """A file of equal parts, and its fault."""
+
+    def __init__(self, folder: pathlib.Path, part: bytes) -> None:
+        self.path = folder / "great"
+        self.part = part
+        self.told = FILLS[part]
+        write_repeated(self.path, part, SIZE)
+
+
+@pytest.fixture(scope="module", params=[
+    pytest.param(part, id=f"64 MiB of {part!r}", marks=pytest.mark.xdist_group(f"64 MiB of {part!r}")) for part in FILLS
+])
+def fill(request: pytest.FixtureRequest, tmp_path_factory: pytest.TempPathFactory) -> Iterator[Fill]:
+    made = Fill(tmp_path_factory.mktemp("fill"), request.param)
+    yield made
+    made.path.unlink()
+
+
+@pytest.mark.seconds(3)
+def test_a_fill_in_linear_time(pfs: Program, folder: pathlib.Path, fill: Fill) -> None:
+    write_repeated(folder / "eighth", fill.part, SIZE // 8)
+    eighth = run_large(pfs, words_of("value", folder / "eighth"), folder, [], fill.told, 2).seconds
+    whole = run_large(pfs, words_of("value", fill.path), folder, [], fill.told, 2).seconds
+    assert is_linear(whole, eighth), f"{whole} s, and {eighth} s for an eighth of the file"
+
+
+@pytest.mark.seconds(3)
+@pytest.mark.parametrize("command", COMMANDS)
+def test_a_fill(pfs: Program, small: pathlib.Path, fill: Fill, command: str) -> None:
+    run_large(pfs, words_of(command, fill.path, small / "best"), small, [], fill.told, 2)
+
+
+@pytest.mark.seconds(3)
+def test_a_fill_by_job(pfs: Program, folder: pathlib.Path, fill: Fill) -> None:
+    run_large(pfs, ["value", "--layout", "orlib", str(fill.path)], folder, [], fill.told, 2)
+
+
+@pytest.mark.seconds(3)
+def test_a_fill_as_input(pfs: Program, folder: pathlib.Path, fill: Fill) -> None:
+    run_large(pfs, [], folder, [], fill.told, 2, stdin=fill.path)
+
+
+@pytest.mark.seconds(3)
+@pytest.mark.parametrize("command", ["check", "table"])
+def test_a_fill_as_order_file(pfs: Program, small: pathlib.Path, fill: Fill, command: str) -> None:
+    run_large(pfs, words_of(command, small / "three", fill.path), small, [], ORDER_TOO_LONG, 2)
+
+
+@pytest.mark.seconds(3)
+def test_a_fill_and_a_byte(pfs: Program, folder: pathlib.Path, fill: Fill) -> None:
+    write_repeated(folder / "longer", fill.part, SIZE + 1)
+    run_large(pfs, words_of("value", folder / "longer"), folder, [], TOO_LONG, 2)
+    (folder / "longer").unlink()
+
+
+# The three jobs on one line
+
+@pytest.fixture(scope="module")
+def one_line(tmp_path_factory: pytest.TempPathFactory) -> Iterator[pathlib.Path]:
+    path = tmp_path_factory.mktemp("line") / "great"
+    write_one_line(path, SIZE)
+    yield path
+    path.unlink()
+
+
+@pytest.fixture(scope="module")
+def longer_line(tmp_path_factory: pytest.TempPathFactory) -> Iterator[pathlib.Path]:
+    path = tmp_path_factory.mktemp("line") / "great"
+    write_one_line(path, SIZE + 1)
+    yield path
+    path.unlink()
+
+
+ONE_LINE = pytest.mark.xdist_group("one line")
+
+
+@ONE_LINE
+@pytest.mark.seconds(3)
+def test_a_line_in_linear_time(pfs: Program, folder: pathlib.Path, one_line: pathlib.Path) -> None:
+    write_one_line(folder / "eighth", SIZE // 8)
+    eighth = run_large(pfs, words_of("value", folder / "eighth"), folder, [b"makespan 11\n"], b"", 0).seconds
+    whole = run_large(pfs, words_of("value", one_line), folder, [b"makespan 11\n"], b"", 0).seconds
+    assert is_linear(whole, eighth), f"{whole} s, and {eighth} s for an eighth of the file"
+
+
+@ONE_LINE
+@pytest.mark.seconds(3)
+@pytest.mark.parametrize("command", COMMANDS)
+def test_a_line(pfs: Program, small: pathlib.Path, one_line: pathlib.Path, command: str) -> None:
+    answer = ANSWERS[COMMANDS[command]]
+    run_large(pfs, words_of(command, one_line, small / "best"), small, [answer.stdout], b"", 0)
+
+
+@ONE_LINE
+@pytest.mark.seconds(3)
+def test_a_line_as_input(pfs: Program, folder: pathlib.Path, one_line: pathlib.Path) -> None:
+    run_large(pfs, [], folder, [b"makespan 11\n"], b"", 0, stdin=one_line)
+
+
+@ONE_LINE
+@pytest.mark.seconds(3)
+@pytest.mark.parametrize("command", COMMANDS)
+def test_a_longer_line(pfs: Program, small: pathlib.Path, longer_line: pathlib.Path, command: str) -> None:
+    run_large(pfs, words_of(command, longer_line, small / "best"), small, [], TOO_LONG, 2)
+
+
+@ONE_LINE
+@pytest.mark.seconds(3)
+def test_a_longer_line_as_input(pfs: Program, folder: pathlib.Path, longer_line: pathlib.Path) -> None:
+    run_large(pfs, [], folder, [], TOO_LONG, 2, stdin=longer_line)
+
+
+@ONE_LINE
+@pytest.mark.seconds(3)
+@pytest.mark.parametrize("command", ["check", "table"])
+def test_a_longer_line_as_order_file(pfs: Program, small: pathlib.Path, longer_line: pathlib.Path,
+                                     command: str) -> None:
+    run_large(pfs, words_of(command, small / "three", longer_line), small, [], ORDER_TOO_LONG, 2)
+
+
+# What the commands print of jobs that all take as long on each machine
+
+Printed = Callable[[int, int, int], Iterator[bytes]]
+
+
+def equal_value(jobs: int, machines: int, time: int) -> Iterator[bytes]:
+    yield b"makespan %d\n" % (time * (jobs + machines - 1))
+
+
+def equal_solve(jobs: int, machines: int, time: int) -> Iterator[bytes]:
+    """Each place is as good as the others, so each job, the lowest numbers first, is put before all others."""
+    yield b"order2 %d %d\n" % (jobs, machines)
+    yield b" ".join(b"%d" % job for job in range(jobs, 0, -1)) + b"\n"
+    yield b"makespan %d\n" % (time * (jobs + machines - 1))
+
+
+def equal_check(jobs: int, machines: int, time: int) -> Iterator[bytes]:
+    """On each machine all jobs take `jobs` times, and what comes before and behind takes one on each of the others."""
+    length = time * (jobs + machines - 1)
+    yield b"valid\nmakespan %d\nbound %d\noptimal\n" % (length, length)
+
+
+def equal_table(jobs: int, machines: int, time: int) -> Iterator[bytes]:
+    yield b"table %d %d\n" % (jobs, machines)
+    for row in range(jobs):
+        spans = b"".join(b" %d %d" % (time * (row + at), time * (row + at + 1)) for at in range(machines))
+        yield b"%d" % (jobs - row) + spans + b"\n"
+    yield b"makespan %d\n" % (time * (jobs + machines - 1))
+
+
+def equal_convert(jobs: int, machines: int, time: int) -> Iterator[bytes]:
+    yield b"flow shop instance\n%d %d\n" % (jobs, machines)
+    row = b" ".join(b"%d %d" % (machine, time) for machine in range(machines)) + b"\n"
+    for _ in range(jobs):
+        yield row
+
+
+EQUAL: dict[str, Printed] = {
+    "value": equal_value, "solve": equal_solve, "check": equal_check, "table": equal_table, "convert": equal_convert,
+}
+
+
+# A million lines
+
+MANY_JOBS, MANY_MACHINES = 2_000, 200
+MANY_LINES = pytest.mark.xdist_group("many lines")
+
+
+@pytest.fixture(scope="module")
+def many_lines(tmp_path_factory: pytest.TempPathFactory) -> Iterator[pathlib.Path]:
+    """A folder with the file and its order file."""
+    made = tmp_path_factory.mktemp("lines")
+    write_many_lines(made / "great", MANY_JOBS, MANY_MACHINES, 1_000_000)
+    (made / "order").write_bytes(b"".join(equal_solve(MANY_JOBS, MANY_MACHINES, 1)))
+    yield made
+    (made / "great").unlink()
+
+
+@MANY_LINES
+@pytest.mark.seconds(3)
+def test_many_lines_in_linear_time(pfs: Program, folder: pathlib.Path, many_lines: pathlib.Path) -> None:
+    jobs = MANY_JOBS // 8
+    write_many_lines(folder / "eighth", jobs, MANY_MACHINES, 125_000)
+    eighth = run_large(pfs, words_of("value", folder / "eighth"), folder, equal_value(jobs, MANY_MACHINES, 1), b"", 0,
+                       4 * jobs * MANY_MACHINES).seconds
+    whole = run_large(pfs, words_of("value", many_lines / "great"), folder, equal_value(MANY_JOBS, MANY_MACHINES, 1),
+                      b"", 0, 4 * MANY_JOBS * MANY_MACHINES).seconds
+    assert is_linear(whole, eighth), f"{whole} s, and {eighth} s for an eighth of the file"
+
+
+@MANY_LINES
+@pytest.mark.seconds(3)
+@pytest.mark.parametrize("command", COMMANDS)
+def test_many_lines(pfs: Program, folder: pathlib.Path, many_lines: pathlib.Path, command: str) -> None:
+    run_large(pfs, words_of(command, many_lines / "great", many_lines / "order"), folder,
+              EQUAL[command](MANY_JOBS, MANY_MACHINES, 1), b"", 0, 4 * MANY_JOBS * MANY_MACHINES)
+
+
+@MANY_LINES
+@pytest.mark.seconds(3)
+def test_many_lines_as_input(pfs: Program, folder: pathlib.Path, many_lines: pathlib.Path) -> None:
+    run_large(pfs, [], folder, equal_value(MANY_JOBS, MANY_MACHINES, 1), b"", 0, 4 * MANY_JOBS * MANY_MACHINES,
+              many_lines / "great")
+
+
+# The greatest instance
+
+GREATEST = MOST_JOBS, MOST_MACHINES, LONGEST_TIME
+TIMES = MOST_JOBS * MOST_MACHINES
+# A search keeps two lengths for each time and a row more, a time table a start and an end for each.
+KEPT = {"solve": 8 * (2 * TIMES + MOST_MACHINES), "table": 16 * TIMES}
+GREATEST_GROUP = pytest.mark.xdist_group("the greatest instance")
+
+
+@pytest.fixture(scope="module")
+def greatest(tmp_path_factory: pytest.TempPathFactory) -> pathlib.Path:
+    """A folder with the greatest instance and its order file."""
+    made = tmp_path_factory.mktemp("greatest")
+    write_equal_times(made / "great", *GREATEST, GREATEST_NOTE)
+    (made / "order").write_bytes(b"".join(equal_solve(*GREATEST)))
+    return made
+
+
+@GREATEST_GROUP
+@pytest.mark.seconds(12)
+@pytest.mark.parametrize("command", COMMANDS)
+def test_the_greatest_instance(pfs: Program, folder: pathlib.Path, greatest: pathlib.Path, command: str) -> None:
+    run_large(pfs, words_of(command, greatest / "great", greatest / "order"), folder, EQUAL[command](*GREATEST), b"", 0,
+              4 * TIMES + KEPT.get(command, 0))
+
+
+@GREATEST_GROUP
+@pytest.mark.seconds(3)
+def test_the_longest_text(pfs: Program, folder: pathlib.Path) -> None:
+    (folder / "longest").write_bytes(b"".join(equal_convert(*GREATEST)))
+    assert (folder / "longest").stat().st_size == LONGEST_TEXT
+    run_large(pfs, ["value", "--layout", "orlib", str(folder / "longest")], folder, equal_value(*GREATEST), b"", 0,
+              4 * TIMES)
+
+
+@GREATEST_GROUP
+@pytest.mark.seconds(3)
+def test_the_longest_order_text(pfs: Program, folder: pathlib.Path, greatest: pathlib.Path) -> None:
+    jobs = b" ".join([b"9" * 9] * MOST_JOBS)
+    text = b"order2 %d %d\n%s\nmakespan %s\n" % (MOST_JOBS, MOST_MACHINES, jobs, b"9" * 18)
+    assert len(text) == LONGEST_ORDER_TEXT
+    (folder / "longest").write_bytes(text)
+    run_large(pfs, words_of("check", greatest / "great", folder / "longest"), folder, [],
+              b"pfs: order file job out of range at place 1\n", 2, 4 * TIMES)

@@ -1,0 +1,146 @@
+"""What the program asks of the system, seen by strace: in which order it opens files, how long its writes are, and that
+it tries nothing again that has failed; strace puts errors in the place of calls."""
+import pathlib
+import re
+import subprocess
+from typing import NamedTuple
+
+import pytest
+from support.files import TITLE, generated
+from support.lines import ANSWERS, CHECK, CONVERT, GENERATE, PRINTING, SOLVE, TABLE, VALUE, refused, unwritten
+from support.needs import missing, need
+from support.program import Program, Ran
+
+# README: "Standard output goes through a buffer of 8,192 bytes". The longest part of a text that goes into it at once
+# is the title of a file in Taillard's layout.
+BUFFER = 8_192
+LONGEST_PART = len(TITLE)
+LONG_OUTPUTS = {"generate 500 20 873654221": generated(500, 20, 873654221), "generate 5000 2 1": generated(5000, 2, 1)}
+
+
+class Call(NamedTuple):
+    """A call of the system, with its arguments as strace tells them."""
+    name: str
+    arguments: str
+    result: int
+
+
+class Tracer:
+    """Runs the program under strace."""
+
+    def __init__(self, strace: str, pfs: Program) -> None:
+        self.strace = Program(pathlib.Path(strace))
+        self.pfs = pfs
+
+    def run(self, line: str, folder: pathlib.Path, *options: str) -> tuple[Ran, list[Call]]:
+        """A run, with the calls that these options of strace choose."""
+        told = folder / "trace"
+        ran = self.strace.run(["--quiet=all", "-o", str(told), *options, *self.pfs.words(line)], folder)
+        found = re.findall(r"^(\w+)\((.*)\) += (-?\d+)", told.read_text(), re.MULTILINE)
+        return ran, [Call(name, arguments, int(result)) for name, arguments, result in found]
+
+    def calls(self, line: str, folder: pathlib.Path, names: str, *files: str) -> list[str]:
+        """The calls of these names on these files, each with the name of its file, as it is told."""
+        paths = [it for file in files for it in ("-P", file)]
+        ran, calls = self.run(line, folder, "-y", "-e", f"trace={names}", *paths)
+        assert ran == ANSWERS[line]
+        return [f"{call.name} {file}" for call in calls for file in files
+                if re.search(rf'["/]{file}[">]', call.arguments)]
+
+    def writes(self, line: str, folder: pathlib.Path, inject: str = "") -> tuple[Ran, list[int]]:
+        """A run, and what came of each of its writes to standard output, where strace perhaps puts something in the
+        place of a write."""
+        options = ["-e", "trace=write", *(["-e", f"inject=write:{inject}"] if inject else [])]
+        ran, calls = self.run(line, folder, *options)
+        return ran, [call.result for call in calls if call.arguments.startswith("1, ")]
+
+
+@pytest.fixture(scope="session")
+def tracer(pfs: Program) -> Tracer:
+    strace = need("strace")
+    if subprocess.run([strace, "-o", "/dev/null", "true"], stderr=subprocess.DEVNULL).returncode != 0:
+        missing("strace may not trace a program here")
+    return Tracer(strace, pfs)
+
+
+# Opening
+
+@pytest.mark.parametrize("line", [CHECK, TABLE])
+def test_files_are_opened_in_order(tracer: Tracer, worked: pathlib.Path, line: str) -> None:
+    """FILE and then ORDER, before anything is read."""
+    calls = tracer.calls(line, worked, "openat,read", "three", "best")
+    assert calls[:3] == ["openat three", "openat best", "read three"]
+    assert sorted(calls[3:]) == sorted(call for call in calls[3:] if call.startswith("read "))
+
+
+@pytest.mark.parametrize("line, file", [
+    (VALUE, "three"), (SOLVE, "three"), (CONVERT, "three"), (CHECK, "three"), (TABLE, "three"), (CHECK, "best"),
+    (TABLE, "best"),
+])
+@pytest.mark.parametrize("error, told", [
+    ("ENOMEM", "no memory"), ("EACCES", "cannot open"), ("EMFILE", "cannot open"), ("ENFILE", "cannot open"),
+    ("EIO", "cannot open"),
+])
+def test_an_error_of_opening(tracer: Tracer, worked: pathlib.Path, line: str, file: str, error: str, told: str) -> None:
+    """Want of memory is told as that, and all else as a file that can't be opened."""
+    ran, calls = tracer.run(line, worked, "-P", file, "-e", "trace=openat", "-e", f"inject=openat:error={error}")
+    assert (ran, [call.result for call in calls]) == (refused(told), [-1])
+
+
+# Reading
+
+@pytest.mark.parametrize("line, file, told", [
+    (VALUE, "three", "read failed"), (SOLVE, "three", "read failed"), (CONVERT, "three", "read failed"),
+    (CHECK, "three", "read failed"), (TABLE, "three", "read failed"), (CHECK, "best", "order file read failed"),
+    (TABLE, "best", "order file read failed"),
+])
+@pytest.mark.parametrize("error", ["EINTR", "EIO", "EAGAIN", "ENOMEM"])
+def test_an_error_of_reading(tracer: Tracer, worked: pathlib.Path, line: str, file: str, told: str, error: str) -> None:
+    """No read is tried again, nor one that was interrupted."""
+    ran, calls = tracer.run(line, worked, "-P", file, "-e", "trace=read", "-e", f"inject=read:error={error}")
+    assert (ran, [call.result for call in calls]) == (refused(told), [-1])
+
+
+# Writing
+
+@pytest.mark.parametrize("line", [line for line in PRINTING if len(ANSWERS[line].stdout) <= BUFFER])
+def test_a_short_text_goes_out_in_one_write(tracer: Tracer, worked: pathlib.Path, line: str) -> None:
+    assert tracer.writes(line, worked) == (ANSWERS[line], [len(ANSWERS[line].stdout)])
+
+
+@pytest.mark.parametrize("line", LONG_OUTPUTS)
+def test_a_long_text_goes_out_by_the_buffer(tracer: Tracer, folder: pathlib.Path, line: str) -> None:
+    """Each write but the last is of a full buffer, but for a part that would no longer fit."""
+    ran, sizes = tracer.writes(line, folder)
+    assert ran == Ran(LONG_OUTPUTS[line], b"", 0)
+    assert [size for size in sizes[:-1] if not BUFFER - LONGEST_PART < size <= BUFFER] == [], sizes
+    assert sizes[-1] <= BUFFER, sizes
+
+
+@pytest.mark.parametrize("line", [VALUE, SOLVE, CHECK, TABLE, CONVERT, GENERATE])
+@pytest.mark.parametrize("error", ["EINTR", "EAGAIN", "EIO", "ENOSPC", "EPIPE", "EBADF"])
+def test_an_error_of_writing(tracer: Tracer, worked: pathlib.Path, line: str, error: str) -> None:
+    """No write is tried again, nor one that was interrupted."""
+    assert tracer.writes(line, worked, f"error={error}:when=1") == (unwritten(0), [-1])
+
+
+@pytest.mark.parametrize("line", LONG_OUTPUTS)
+@pytest.mark.parametrize("error", ["EINTR", "EIO"])
+def test_an_error_of_the_second_write(tracer: Tracer, folder: pathlib.Path, line: str, error: str) -> None:
+    ran, results = tracer.writes(line, folder, f"error={error}:when=2")
+    first = len(ran.stdout)
+    assert ran == unwritten(first)._replace(stdout=LONG_OUTPUTS[line][:first])
+    assert results == [first, -1]
+
+
+@pytest.mark.parametrize("line", [VALUE, SOLVE, CHECK, TABLE, CONVERT, GENERATE])
+def test_a_write_that_takes_nothing(tracer: Tracer, worked: pathlib.Path, line: str) -> None:
+    assert tracer.writes(line, worked, "retval=0:when=1") == (unwritten(0), [0])
+
+
+@pytest.mark.parametrize("line", [VALUE, SOLVE, CHECK, TABLE, CONVERT, GENERATE])
+def test_a_write_that_takes_some_bytes(tracer: Tracer, worked: pathlib.Path, line: str) -> None:
+    """The rest goes out behind them."""
+    text = ANSWERS[line].stdout
+    ran, results = tracer.writes(line, worked, "retval=5:when=1")
+    assert (ran, results) == (Ran(text[5:], b"", 0), [5, len(text) - 5])
