@@ -1,10 +1,6 @@
 # make run    proves and builds pfs, its crates side by side, and runs it on the stored instance (crates/pfs/stdin)
 # make test   the merge gate: proves everything from nothing, tries the must-fail edits, runs the tests and
-#             programs; then runs the built programs on command lines, on searches that another program has
-#             answered, and with each growth of memory refused in turn, and checks what must not compile; then
-#             closed descriptors and signals, files of 64 MiB, random input, and copies that refuse memory; then
-#             completions, installation, the examples of README and of the manual page, pictures, Taillard's
-#             instances, and experiments
+#             programs; then pytest runs the tests of the built programs, one on each processor
 # make fuzz   compares the built program with a second program on random input, for so many MINUTES
 # make install    puts the program, the manual page and the completions below PREFIX, an absolute path (and that
 #                 below DESTDIR); it proves and builds first where the program isn't there or a source is newer
@@ -26,7 +22,7 @@ run:
 
 test:
 	rt ci
-	tests/run
+	pytest -n auto
 
 fuzz: run
 	tests/fuzz.py --seconds $$((60 * $(MINUTES)))

@@ -28,13 +28,6 @@ def pytest_configure(config: pytest.Config) -> None:
         raise pytest.UsageError(f"no program {path}: `make run` proves and builds it, or --pfs PATH names another one")
 
 
-@pytest.hookimpl(tryfirst=True)  # type: ignore[misc]  # pluggy has no types
-def pytest_cmdline_main(config: pytest.Config) -> None:
-    """Where tests run side by side (-n), those of one group do so one after the other."""
-    if getattr(config.option, "numprocesses", None) and config.option.dist == "no":
-        config.option.dist = "loadgroup"
-
-
 def pytest_collection_modifyitems(items: list[pytest.Item]) -> None:
     """The longest tests begin first."""
     items.sort(key=seconds_of, reverse=True)

@@ -39,7 +39,8 @@ def kind_of(path: pathlib.Path) -> str:
 def assert_silent(words: list[str]) -> None:
     """This finds nothing wrong."""
     done = subprocess.run(words, cwd=TOP, stdout=subprocess.PIPE, stderr=subprocess.STDOUT, text=True)
-    assert (done.stdout, done.returncode) == ("", 0), " ".join(words)
+    assert done.stdout == "", f"what {' '.join(words)} says"
+    assert done.returncode == 0
 
 
 def test_scripts_are_found_by_their_first_lines() -> None:
@@ -53,7 +54,8 @@ def test_python_is_typed() -> None:
     typed = [path for path in scripts("python") if path.startswith(TYPED)]
     words = [need("mypy"), "--strict", "--scripts-are-modules", "--no-error-summary", "--cache-dir=/dev/null"]
     done = subprocess.run([*words, *typed], cwd=TOP, capture_output=True, text=True)
-    assert (done.stdout, done.stderr, done.returncode) == ("", "", 0)
+    assert done.stdout + done.stderr == ""
+    assert done.returncode == 0
 
 
 @pytest.mark.parametrize("path", scripts("python"))

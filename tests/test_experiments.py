@@ -374,7 +374,9 @@ def made_on_slurm(slurm: Cluster, top: pathlib.Path, pfs: Program,
 
 
 def submit(experiment: Experiment, slurm: Cluster) -> Told:
-    return experiment.script("slurm", "--tasks", "4", "plan.toml", "out.csv", "--time=5", env=slurm.env)
+    """The program that notes its searches has no gate to wait at here."""
+    return experiment.script("slurm", "--tasks", "4", "plan.toml", "out.csv", "--time=5", env=slurm.env,
+                             program=experiment.waiting())
 
 
 @on_slurm
@@ -382,6 +384,11 @@ def test_on_slurm_the_csv_is_the_same(made_on_slurm: tuple[Experiment, Told]) ->
     experiment, told = made_on_slurm
     assert (told.status, told.stderr.splitlines()[-1]) == (0, TWELVE.removesuffix("\n"))
     assert experiment.rows() == experiment.wanted()
+
+
+@on_slurm
+def test_on_slurm_each_run_is_made_by_one_task(made_on_slurm: tuple[Experiment, Told]) -> None:
+    assert set(made_on_slurm[0].searches().values()) == {1}, "how often each run was made"
 
 
 @on_slurm
@@ -422,9 +429,10 @@ def test_on_slurm_a_second_start_waits_for_the_array_of_the_first(experiment: Ex
         second = start(experiment, *words, name="slurm", env=slurm.env, stderr=told)
         why = waiting_for(experiment, slurm)
         gate.open()
-        assert second.process.wait(120) == 0
+        status = second.process.wait(120)
     assert begun == [], "results of runs that have not ended"
     assert why == "Dependency", "why the second array waits"
+    assert status == 0, "the second start, which waits for the first array and makes what is left"
     assert set(experiment.searches().values()) == {1}, "how often each run was made"
     assert experiment.rows() == experiment.wanted(rounds=(0,))
 

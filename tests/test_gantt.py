@@ -322,7 +322,7 @@ def test_each_row_tells_its_machines_idle_share(case: Case, drawn: Drawn) -> Non
     for machine in shown if case.makespan else []:
         busy = sum(end - start for _, start, end in case.operations(machine - 1))
         wanted[machine] = f"{100 - 100 * busy / case.makespan:.0f} %"
-    assert {machine: letters.text for machine, letters in told.items()} == wanted
+    assert {machine: letters.text for machine, letters in told.items()} == wanted, "idle shares by machine"
     assert all(picture.across()(letters.x) > case.makespan for letters in told.values()), "idle shares at the right"
 
 

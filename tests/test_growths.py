@@ -1,17 +1,14 @@
-"""Runs with each growth of memory refused in turn, by support/refuse.c, which is preloaded: those of the program end in
-want of memory and print nothing; the calls of pfs_calls answer it, and leave what they must."""
-import os
+"""Runs with each growth of memory refused in turn: those of the program end in want of memory and print nothing; the
+calls of pfs_calls answer it, and leave what they must. And calls that ask for none."""
 import pathlib
-import subprocess
 from itertools import groupby
 
 import pytest
-from support.files import THREE_JOBS
+from support.files import FILES, THREE_JOBS, THREE_JOBS_BY_JOB
+from support.growths import Shim
 from support.lines import ANSWERS, refused
-from support.needs import need
 from support.program import Program, Ran, Words
 
-REFUSE = pathlib.Path(__file__).with_name("support") / "refuse.c"
 # No call takes more growths.
 MOST_GROWTHS = 1_000
 
@@ -89,33 +86,33 @@ LEFT: dict[str, list[bytes]] = {
 }
 
 
+# What a call of pfs_calls prints that takes no memory once it has said `ready`.
+STILL: dict[str, bytes] = {
+    "still_audit": b"bound 8\nwrong size 3 2\n",
+    "still_best": b"place 2\n",
+    "still_feed": b"49 bytes, done: false, 0 times\nNoBlock { found: 1 }\n",
+    "still_generate": b"SeedRange\nSeedRange\n",
+    "still_put": b"8 bytes by 1 writes\n8 bytes by 3 writes\n0 bytes by 0 writes\n",
+    "still_read_block": b"Read\nNoBlock { found: 0 }\nSizeCount { line: 1 }\n",
+    "still_read_order": b"Read\nSyntax { offset: 0 }\nSyntax { offset: 11 }\nTooLong\n",
+    "still_search": b"makespan 7\nmakespan 7\n",
+    "still_write": b"%d bytes, %d bytes\n" % (len(THREE_JOBS_BY_JOB), len(FILES["numbered2"])),
+}
+
+
 @pytest.fixture(scope="session")
-def shim(tmp_path_factory: pytest.TempPathFactory) -> pathlib.Path:
-    """The library that refuses a growth."""
-    library = tmp_path_factory.mktemp("refuse") / "refuse.so"
-    subprocess.run([need("cc"), "-O1", "-shared", "-fPIC", "-o", library, REFUSE], check=True)
-    return library
+def shim(tmp_path_factory: pytest.TempPathFactory) -> Shim:
+    """The library that refuses and counts growths."""
+    return Shim(tmp_path_factory.mktemp("shim"))
 
 
-def run_refused(shim: pathlib.Path, program: Program, words: Words, folder: pathlib.Path, stdin: bytes,
-                growth: int) -> tuple[Ran, bool]:
-    """The run with this growth refused, and whether it was asked for."""
-    read_end, write_end = os.pipe()
-    env = os.environ | {"LD_PRELOAD": str(shim), "REFUSE_GROWTH": str(growth), "REFUSE_TELL": str(write_end)}
-    ran = program.run(words, folder, stdin, env=env, pass_fds=(write_end,))
-    os.close(write_end)
-    is_refused = os.read(read_end, 1) == b"x"
-    os.close(read_end)
-    return ran, is_refused
-
-
-def refuse_each(shim: pathlib.Path, program: Program, words: Words, folder: pathlib.Path, answer: Ran,
-                refusals: list[Ran], stdin: bytes = b"") -> None:
+def refuse_each(shim: Shim, program: Program, words: Words, folder: pathlib.Path, answer: Ran, refusals: list[Ran],
+                stdin: bytes = b"") -> None:
     """Every run in which a growth is refused ends in a refusal, and the run that meets none in the answer. Each of the
     refusals is met, in this order, and perhaps more than once."""
     told: list[Ran] = []
     for growth in range(1, MOST_GROWTHS):
-        ran, is_refused = run_refused(shim, program, words, folder, stdin, growth)
+        ran, is_refused = shim.run_refused(program, words, folder, stdin, growth)
         if not is_refused:
             assert ran == answer, "no growth refused"
             assert [refusal for refusal, _ in groupby(told)] == refusals, "growths refused"
@@ -125,17 +122,25 @@ def refuse_each(shim: pathlib.Path, program: Program, words: Words, folder: path
     pytest.fail(f"{MOST_GROWTHS} growths and more")
 
 
-def test_no_words(pfs: Program, shim: pathlib.Path, folder: pathlib.Path) -> None:
+def test_no_words(pfs: Program, shim: Shim, folder: pathlib.Path) -> None:
     refuse_each(shim, pfs, [], folder, Ran(b"makespan 11\n", b"", 0), [refused("no memory")], THREE_JOBS)
 
 
 @pytest.mark.parametrize("line", GROWING)
-def test_line(pfs: Program, shim: pathlib.Path, worked: pathlib.Path, line: str) -> None:
+def test_line(pfs: Program, shim: Shim, worked: pathlib.Path, line: str) -> None:
     refuse_each(shim, pfs, line, worked, ANSWERS[line], [refused("no memory")])
 
 
 @pytest.mark.parametrize("call", CALLS)
-def test_call(pfs_calls: Program, shim: pathlib.Path, folder: pathlib.Path, call: str) -> None:
+def test_call(pfs_calls: Program, shim: Shim, folder: pathlib.Path, call: str) -> None:
     # The first growths are for the words of the command line.
     refusals = [b"memory\n", *LEFT.get(call, [])]
     refuse_each(shim, pfs_calls, [call], folder, Ran(CALLS[call], b"", 0), [Ran(text, b"", 0) for text in refusals])
+
+
+@pytest.mark.parametrize("call", STILL)
+def test_a_call_that_takes_no_memory(pfs_calls: Program, shim: Shim, folder: pathlib.Path, call: str) -> None:
+    ran, growths = shim.run_counted(pfs_calls, [call], folder)
+    assert ran == Ran(b"ready\n" + STILL[call], b"", 0)
+    assert growths[0] > 0, "growths for the words of the command line"
+    assert growths == growths[:1] * len(growths), "growths in front of each write"

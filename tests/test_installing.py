@@ -89,7 +89,8 @@ def environment(folder: pathlib.Path, pfs: Program) -> dict[str, str]:
 @pytest.fixture(scope="module")
 def copy(top: pathlib.Path, pfs: Program, tmp_path_factory: pytest.TempPathFactory) -> Copy:
     """The copy, whose program is newer than its sources."""
-    need("git"), need("make")
+    for command in ("git", "make"):
+        need(command)
     folder = tmp_path_factory.mktemp("copy")
     made = Copy(folder / "repository", environment(folder, pfs))
     made.top.mkdir()
@@ -116,7 +117,7 @@ def files_below(folder: pathlib.Path) -> dict[str, bytes]:
 
 
 def assert_same_files(found: dict[str, bytes], wanted: dict[str, bytes]) -> None:
-    assert sorted(found) == sorted(wanted)
+    assert "\n".join(sorted(found)) == "\n".join(sorted(wanted))
     assert [path for path in wanted if found[path] != wanted[path]] == [], "files with other bytes"
 
 
@@ -246,7 +247,7 @@ def builds_with_newer(copy: Copy, folder: pathlib.Path) -> Builds:
 
 @pytest.mark.parametrize("name", SOURCES)
 def test_a_newer_source_has_the_program_built(name: str, copy: Copy, builds_with_newer: Builds) -> None:
-    assert builds_with_newer(name) == [str(copy.top / "crates" / "pfs")]
+    assert builds_with_newer(name) == [str(copy.top / "crates" / "pfs")], f"where {name} has the program built"
 
 
 @pytest.mark.parametrize("name", BESIDE)
@@ -422,7 +423,7 @@ def test_what_is_made_tells_that_changes_are_not_committed(name: str, copy: Copy
     printed_by(["dpkg-deb", "--extract", package, "extracted"], folder)
     told = (folder / "extracted" / "usr" / "share" / "doc" / "pfs" / "PROVED").read_text()
     commit = copy.git("rev-parse", "HEAD").strip()
-    assert told.splitlines()[1] == f"proved at the commit {commit}, with changes that are not committed"
+    assert told.splitlines()[1] == f"proved at the commit {commit}, with changes that are not committed", "PROVED"
 
 
 # The tarball
@@ -437,7 +438,9 @@ def test_the_tarball_is_sorted_and_owned_by_root_at_the_commits_time(made: Made,
 
 @pytest.mark.parametrize("path", [".tar.gz", "usr/share/man/man1/pfs.1.gz"])
 def test_what_is_packed_tells_neither_time_nor_name(path: str, made: Made, extracted: pathlib.Path) -> None:
-    head = (made.path(path) if path == ".tar.gz" else extracted / path).read_bytes()[:10]
+    packed = made.path(path) if path == ".tar.gz" else extracted / path
+    assert packed.exists(), f"no {packed}"
+    head = packed.read_bytes()[:10]
     assert (head[3], head[4:8]) == (0, bytes(4)), "flags and time of gzip"
 
 
@@ -480,7 +483,9 @@ def test_the_package_has_its_files_where_debian_looks(extracted: pathlib.Path, c
     wanted["usr/share/zsh/vendor-completions/_pfs"] = wanted.pop("usr/share/zsh/site-functions/_pfs")
     page = wanted.pop("usr/share/man/man1/pfs.1")
     found = without_notes(files_below(extracted), "usr/")
-    assert gzip.decompress(found.pop("usr/share/man/man1/pfs.1.gz", gzip.compress(b"no page"))) == page
+    packed = "usr/share/man/man1/pfs.1.gz"
+    assert [path for path in found if "/man/" in path] == [packed], "where the manual page is"
+    assert gzip.decompress(found.pop(packed)) == page
     assert_same_files(found, wanted | {f"usr/{place}": text for place, text in docs_below(copy).items()})
 
 
@@ -497,7 +502,7 @@ def field(made: Made, name: str) -> str:
 def test_the_package_tells_its_installed_size(made: Made, extracted: pathlib.Path) -> None:
     """In kibibytes, each file by itself."""
     sizes = [-(-len(text) // 1024) for text in files_below(extracted).values()]
-    assert field(made, "Installed-Size") == str(sum(sizes))
+    assert field(made, "Installed-Size") == str(sum(sizes)), "kibibytes that the package tells"
 
 
 @pytest.mark.parametrize(("name", "wanted"), [("Package", "pfs"), ("Architecture", "amd64"),

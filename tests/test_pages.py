@@ -37,9 +37,8 @@ def tables(text: str) -> list[list[list[str]]]:
 
 
 def table(text: str, *head: str) -> list[list[str]]:
-    """The rows of the table with this head."""
-    (rows,) = [rows for rows in tables(text) if rows[0] == list(head)]
-    return rows[1:]
+    """The rows of the tables with this head."""
+    return [row for rows in tables(text) if rows[0] == list(head) for row in rows[1:]]
 
 
 def number(text: str) -> int:
@@ -62,6 +61,16 @@ def items(source: str) -> dict[str, str]:
     """What stands behind each item of the lists."""
     parts = re.split(r"^\.It (.*)$", source, flags=re.MULTILINE)
     return dict(zip(parts[1::2], parts[2::2]))
+
+
+def item(source: str, name: str) -> str:
+    """What stands behind an item, and nothing where there is no such item."""
+    return items(source).get(name, "")
+
+
+def first_range(text: str) -> tuple[int, int]:
+    assert ranges(text), f"no range is told: {text!r}"
+    return ranges(text)[0]
 
 
 # Examples
@@ -151,7 +160,7 @@ def test_the_pages_to_which_a_page_links_are_there(page: pathlib.Path) -> None:
     assert [name for name in named if not (page.parent / name).exists()] == []
 
 
-def test_the_unit_of_pictures_that_readme_names_is_an_option() -> None:
+def test_readme_shows_the_usage_of_gantt() -> None:
     told = re.search(r"^`(tools/gantt [^`]*)` draws", README, re.MULTILINE)
     assert told and f"usage: {told[1]}\n" in (TOP / "tools" / "gantt").read_text().replace('"""', "\n")
 
@@ -160,8 +169,8 @@ def test_the_unit_of_pictures_that_readme_names_is_an_option() -> None:
 
 def faults_of_formats() -> dict[str, int]:
     """The texts of the table of faults, each with its status."""
-    return {re.findall("`([^`]+)`", text)[0]: int(status)
-            for _, text, status in table(FORMATS, "Fault", "Text", "Status")}
+    return {told: int(status) for _, text, status in table(FORMATS, "Fault", "Text", "Status")
+            for told in re.findall("`([^`]+)`", text)[:1]}
 
 
 EXITS = table(README, "Exit status", "When", "Standard error")
@@ -191,17 +200,19 @@ def test_a_fault_of_a_page_is_the_programs(page: str, text: str, status: int, pf
     assert text in FAULTS, f"no fault of the program is {text!r}"
     fault = FAULTS[text]
     told = USAGE if text == "pfs: usage" else with_numbers(text, fault.numbers).encode() + b"\n"
-    assert met(pfs, fault, worked)[1:] == (told, status)
+    ran = met(pfs, fault, worked)
+    assert ran.stderr == told, f"the text of the fault that {page} tells as {text!r}"
+    assert ran.status == status, f"the status that {page} tells of {text!r}"
 
 
 @pytest.mark.parametrize("told", [faults_of_formats(), faults_of_manual()], ids=["FORMATS.md", "pfs.1"])
 def test_a_page_tells_all_faults(told: dict[str, int]) -> None:
-    assert sorted(told) == sorted(FAULTS)
+    assert "\n".join(sorted(told)) == "\n".join(sorted(FAULTS))
 
 
 def test_readme_tells_all_faults_but_those_of_files() -> None:
     of_files = {text for text, status in faults_of_formats().items() if status == 2}
-    assert sorted(faults_of_readme()) == sorted(set(FAULTS) - of_files - {"pfs: usage"})
+    assert "\n".join(sorted(faults_of_readme())) == "\n".join(sorted(set(FAULTS) - of_files - {"pfs: usage"}))
 
 
 @pytest.mark.parametrize("row", EXITS, ids=[when[:40] for _, when, _ in EXITS])
@@ -211,9 +222,9 @@ def test_when_a_status_of_readme_comes(row: list[str], pfs: Program, worked: pat
     assert lines, f"no command line is known for {when!r}"
     for line in lines:
         ran = line_met(line, pfs, worked)
-        assert ran.status == int(status), line
-        assert (ran.stderr == b"") == (told == ""), line
-        assert ran.stderr == USAGE or told != "the usage text", line
+        assert ran.status == int(status), f"the status of `{line}`, where README says {when!r}"
+        assert (ran.stderr == b"") == (told == ""), f"standard error of `{line}`"
+        assert ran.stderr == USAGE or told != "the usage text", f"standard error of `{line}`"
 
 
 # Command lines over the worked files, or faults, by what a page says of them.
@@ -252,7 +263,7 @@ def verdicts(text: str) -> set[tuple[str, str]]:
 
 @pytest.mark.parametrize("text", [
     pytest.param(" ".join(when for status, when, _ in EXITS if status == "1").replace("`", ""), id="README.md"),
-    pytest.param(plain(items(section("EXIT STATUS"))["1"]), id="pfs.1"),
+    pytest.param(plain(item(section("EXIT STATUS"), "1")), id="pfs.1"),
 ])
 def test_a_page_tells_which_verdicts_end_with_status_1(text: str, pfs: Program, worked: pathlib.Path) -> None:
     ran = {pair: pfs.run(f"{pair[0]} --layout taillard three {order}", worked) for pair, order in VERDICTS.items()}
@@ -276,10 +287,10 @@ STATUSES = {
 
 @pytest.mark.parametrize("status", range(5))
 def test_an_exit_status_of_the_manual_page_is_the_programs(status: int, pfs: Program, worked: pathlib.Path) -> None:
-    text = plain(items(section("EXIT STATUS"))[str(status)])
+    text = plain(item(section("EXIT STATUS"), str(status)))
     assert text in STATUSES, f"no status is known for {text!r}"
-    assert {line: line_met(line, pfs, worked).status for line in STATUSES[text]} \
-        == dict.fromkeys(STATUSES[text], status)
+    found = {line: line_met(line, pfs, worked).status for line in STATUSES[text]}
+    assert found == dict.fromkeys(STATUSES[text], status), f"statuses where the page says {text!r}"
 
 
 def test_the_manual_page_tells_five_exit_statuses() -> None:
@@ -321,7 +332,7 @@ def opened(pfs: Program, folder: pathlib.Path) -> list[str]:
 def test_a_page_tells_the_order_of_opening(text: str, pfs: Program, folder: pathlib.Path) -> None:
     told = re.search(r"(FILE|ORDER) and then (FILE|ORDER) are opened before anything is read\.", text)
     assert told, "no sentence says which file is opened first"
-    assert list(told.groups()) == opened(pfs, folder)
+    assert list(told.groups()) == opened(pfs, folder), "the order in which the program opens them"
 
 
 def test_readme_tells_the_size_of_the_buffer(pfs: Program, folder: pathlib.Path) -> None:
@@ -360,7 +371,7 @@ def test_the_manual_page_has_the_range_of_each_option_with_a_number() -> None:
 @pytest.mark.parametrize("option", RANGED)
 def test_the_range_of_an_option_in_the_manual_page_is_the_programs(option: str, pfs: Program,
                                                                    folder: pathlib.Path) -> None:
-    least, most = ranges(option_items()[option])[0]
+    least, most = first_range(option_items()[option])
     assert ends_taken(pfs, option, least, most, folder) == ends_of(least, most)
 
 
@@ -372,7 +383,7 @@ def test_the_range_of_an_option_in_readme_is_the_programs(option: str, pfs: Prog
         taken = {take: pfs.run(f"solve --layout taillard --take {take} three", worked).status for take in (0, 1, 3, 4)}
         assert taken == {0: 3, 1: 0, 3: 0, 4: 3}
     else:
-        least, most = (0, (1 << 64) - 1) if told[1] == "any 64-bit number" else ranges(told[1])[0]
+        least, most = (0, (1 << 64) - 1) if told[1] == "any 64-bit number" else first_range(told[1])
         assert ends_taken(pfs, option, least, most, worked) == ends_of(least, most)
 
 
@@ -412,21 +423,21 @@ def test_a_range_in_a_completion_is_the_manual_pages(script: str, told: str) -> 
 
 SEED_RANGES = {
     "README.md": README.partition("A generator's seed is ")[2].partition(".")[0],
-    "pfs.1, generate": items(MANUAL)["Cm generate"].partition("SEED")[2],
-    "pfs.1, seed out of range": items(section("DIAGNOSTICS"))['"pfs: seed out of range"'],
+    "pfs.1, generate": item(MANUAL, "Cm generate").partition("SEED")[2],
+    "pfs.1, seed out of range": item(section("DIAGNOSTICS"), '"pfs: seed out of range"'),
     "FORMATS.md": FORMATS.partition("the generator's seed out of ")[2].partition("|")[0],
 }
 
 
 @pytest.mark.parametrize("text", SEED_RANGES.values(), ids=SEED_RANGES)
 def test_the_range_of_a_generators_seed_is_the_programs(text: str, pfs: Program, folder: pathlib.Path) -> None:
-    least, most = ranges(text)[0]
+    least, most = first_range(text)
     assert {seed: pfs.run(f"generate 1 1 {seed}", folder).status for seed in (least - 1, least, most, most + 1)} \
         == {least - 1: 2, least: 0, most: 0, most + 1: 2}
 
 
 def test_the_sizes_of_generate_in_the_manual_page_are_the_programs(pfs: Program, folder: pathlib.Path) -> None:
-    (_, jobs), (_, machines), _ = ranges(items(MANUAL)["Cm generate"])
+    (_, jobs), (_, machines), _ = ranges(item(MANUAL, "Cm generate"))
     assert {size: pfs.run(f"generate {size} 1", folder).status for size in
             (f"{jobs} 1", f"{jobs + 1} 1", f"1 {machines}", f"1 {machines + 1}", "0 1", "1 0")} \
         == {f"{jobs} 1": 0, f"{jobs + 1} 1": 3, f"1 {machines}": 0, f"1 {machines + 1}": 3, "0 1": 3, "1 0": 3}
@@ -443,6 +454,7 @@ each_page_with_limits = pytest.mark.parametrize("text", LIMITS.values(), ids=LIM
 @each_page_with_limits
 def test_the_limits_of_an_instance_are_the_programs(text: str, pfs: Program, folder: pathlib.Path) -> None:
     """Where a size is within its limit the times are missing."""
+    assert len(ranges(text)) >= 3, "ranges of jobs, machines and times"
     (few, jobs), (fewer, machines), (least, time) = ranges(text)[:3]
     assert (few, fewer, least) == (1, 1, 0), "least sizes and time"
     wanted = {
@@ -473,7 +485,7 @@ def fault_in(shop: str, pfs: Program, folder: pathlib.Path) -> str:
 INPUT_LIMITS = {
     **LIMITS,
     "FORMATS.md, faults": FORMATS.partition("\n| byte ")[2].partition("\n")[0],
-    "pfs.1, input too long": plain(items(section("DIAGNOSTICS"))['"pfs: input too long"']),
+    "pfs.1, input too long": plain(item(section("DIAGNOSTICS"), '"pfs: input too long"')),
 }
 
 
@@ -498,7 +510,7 @@ ORDER_LIMITS = {
     "FORMATS.md, order files": (FORMATS, r"An order file has at most ([\d,]+) bytes"),
     "FORMATS.md, faults": (FORMATS, r"\| more than ([\d,]+) bytes \| `pfs: order file too long`"),
     "pfs.1, limits": (plain(section("LIMITS")), r"An order file has at most ([\d,]+) bytes"),
-    "pfs.1, order file too long": (plain(items(section("DIAGNOSTICS"))['"pfs: order file too long"']),
+    "pfs.1, order file too long": (plain(item(section("DIAGNOSTICS"), '"pfs: order file too long"')),
                                    r"more than ([\d,]+) bytes"),
 }
 
@@ -512,7 +524,7 @@ def test_the_limit_of_an_order_file_is_the_programs(text: str, pattern: str, pfs
     for count in (number(told[1]), number(told[1]) + 1):
         (worked / "order").write_bytes(b"o" * count)
         found.append(pfs.run("check --layout taillard three order", worked).stderr)
-    assert found == [b"pfs: order file syntax at 1\n", b"pfs: order file too long\n"]
+    assert found == [b"pfs: order file syntax at 1\n", b"pfs: order file too long\n"], "at the limit and beyond it"
 
 
 def test_the_byte_that_formats_refuses_in_an_order_file_is_the_next_one() -> None:
@@ -578,7 +590,7 @@ PRINTED = {
 @pytest.mark.parametrize(("what", "line"), PRINTED.items(), ids=PRINTED)
 def test_a_printed_text_of_formats_is_the_programs(what: str, line: str, pfs: Program, worked: pathlib.Path) -> None:
     """Each line of the page is a line that the program prints, in this order; a letter stands for a number."""
-    (text,) = [text for each, text in table(FORMATS, "What", "Text") if each == what]
+    text = dict(table(FORMATS, "What", "Text"))[what]
     patterns = [re.sub(r"\b[A-Z]\b", r"\\d+", told) for told in re.findall("`([^`]+)`", text)]
     lines = pfs.run(line, worked).stdout.decode().splitlines()
     found = [next((at for at, each in enumerate(lines) if re.fullmatch(pattern, each)), -1) for pattern in patterns]

@@ -125,7 +125,8 @@ def test_a_panel_shows_the_gaps_of_the_take_and_the_passes_in_its_title(take: in
     path = folder / "report" / "gap.svg"
     panels = [Picture(path, f"axes_{number}") for number in range(1, 5)]
     titles = [next(letters for letters in panel.texts() if letters.text.startswith("take")) for panel in panels]
-    assert sorted(title.text for title in titles) == sorted(f"take {take}, passes {passes}" for take, passes in GAPS)
+    wanted = sorted(f"take {take}, passes {passes}" for take, passes in GAPS)
+    assert sorted(title.text for title in titles) == wanted, "titles of the panels"
     at = next(at for at, title in enumerate(titles) if title.text == f"take {take}, passes {passes}")
     # gaps are marked at the first panel of a row
     scale = next(panel.down() for panel, title in zip(panels, titles)
@@ -150,7 +151,7 @@ def test_a_box_has_the_nanoseconds_a_cell_of_most_rounds(size: str, parts: dict[
                                                          times: Picture) -> None:
     scale = times.down()
     found = {part: sorted(round(scale(y), 3) for _, y in times.line(f"{part}-{size}")) for part in parts}
-    assert found == parts
+    assert found == parts, f"nanoseconds a cell in the box of {size}"
 
 
 def test_a_box_stands_above_its_size(times: Picture) -> None:

@@ -1,9 +1,12 @@
 /* Preloaded into a program: refuses the growth of memory whose number REFUSE_GROWTH names, counted from 1,
-   and writes a byte to the descriptor REFUSE_TELL when it does. Every growth of a Rattle program goes
+   and writes a byte to the descriptor REFUSE_TELL when it does. In front of each write to standard output it tells
+   the descriptor COUNT_TELL how many growths were asked for so far, on a line. Every growth of a Rattle program goes
    through one of these calls. */
 #define _GNU_SOURCE
 #include <errno.h>
+#include <stdio.h>
 #include <stdlib.h>
+#include <sys/syscall.h>
 #include <unistd.h>
 
 extern void *__libc_malloc(size_t);
@@ -11,13 +14,15 @@ extern void *__libc_calloc(size_t, size_t);
 extern void *__libc_realloc(void *, size_t);
 extern void *__libc_memalign(size_t, size_t);
 
+static long growths;
+
 static int is_refused(void) {
-    static long growths;
     const char *refused = getenv("REFUSE_GROWTH");
     const char *tell = getenv("REFUSE_TELL");
-    if (refused == NULL || ++growths != atol(refused))
+    ++growths;
+    if (refused == NULL || growths != atol(refused))
         return 0;
-    if (tell != NULL && write(atoi(tell), "x", 1) != 1)
+    if (tell != NULL && syscall(SYS_write, atoi(tell), "x", 1) != 1)
         _exit(99);
     errno = ENOMEM;
     return 1;
@@ -40,3 +45,16 @@ int posix_memalign(void **made, size_t align, size_t size) {
     *made = memory;
     return 0;
 }
+
+ssize_t write(int descriptor, const void *bytes, size_t size) {
+    const char *tell = getenv("COUNT_TELL");
+    if (tell != NULL && descriptor == STDOUT_FILENO) {
+        char line[32];
+        int length = snprintf(line, sizeof line, "%ld\n", growths);
+        if (syscall(SYS_write, atoi(tell), line, (size_t)length) != length)
+            _exit(99);
+    }
+    return syscall(SYS_write, descriptor, bytes, size);
+}
+
+ssize_t __write(int descriptor, const void *bytes, size_t size) { return write(descriptor, bytes, size); }

@@ -1,0 +1,38 @@
+"""Growths of memory that are refused or counted, by refuse.c, which is preloaded into a program."""
+import os
+import pathlib
+import subprocess
+
+from support.needs import need
+from support.program import Program, Ran, Words
+
+SOURCE = pathlib.Path(__file__).with_name("refuse.c")
+
+
+class Shim:
+    """The library that is preloaded."""
+
+    def __init__(self, folder: pathlib.Path) -> None:
+        self.path = folder / "refuse.so"
+        subprocess.run([need("cc"), "-O1", "-Wall", "-Werror", "-shared", "-fPIC", "-o", self.path, SOURCE], check=True)
+
+    def run_refused(self, program: Program, words: Words, folder: pathlib.Path, stdin: bytes,
+                    growth: int) -> tuple[Ran, bool]:
+        """The run with this growth refused, and whether it was asked for."""
+        ran, told = self.run(program, words, folder, stdin, "REFUSE_TELL", {"REFUSE_GROWTH": str(growth)})
+        return ran, told == b"x"
+
+    def run_counted(self, program: Program, words: Words, folder: pathlib.Path) -> tuple[Ran, list[int]]:
+        """The run, and how many growths were asked for in front of each of its writes to standard output."""
+        ran, told = self.run(program, words, folder, b"", "COUNT_TELL", {})
+        return ran, [int(line) for line in told.splitlines()]
+
+    def run(self, program: Program, words: Words, folder: pathlib.Path, stdin: bytes, tell: str,
+            variables: dict[str, str]) -> tuple[Ran, bytes]:
+        """The run, and what the library has written to the descriptor that this variable names."""
+        read_end, write_end = os.pipe()
+        env = os.environ | {"LD_PRELOAD": str(self.path), tell: str(write_end)} | variables
+        ran = program.run(words, folder, stdin, env=env, pass_fds=(write_end,))
+        os.close(write_end)
+        with open(read_end, "rb") as file:
+            return ran, file.read()

@@ -1,0 +1,56 @@
+"""That a skip says why, and is a failure in CI."""
+import os
+import pathlib
+import subprocess
+import sys
+
+import pytest
+
+LACKING = "nonesuch isn't installed (Debian: nonesuch)"
+# Tests that are skipped in each of these ways, and the reasons.
+SKIPPING = {
+    "a command": ("def test_it() -> None:\n    need('nonesuch')\n", LACKING),
+    "a module": ("def test_it() -> None:\n    need_module('nonesuch')\n", LACKING),
+    "a fixture": ("@pytest.fixture\ndef it() -> None:\n    need('nonesuch')\n\n"
+                  "def test_it(it: None) -> None:\n    pass\n", LACKING),
+    "a mark": ("@pytest.mark.skipif(True, reason='as it is')\ndef test_it() -> None:\n    pass\n", "as it is"),
+    "a whole file": ("pytest.skip('as it is', allow_module_level=True)\n", "as it is"),
+}
+HEAD = "import pytest\nfrom support.needs import need, need_module\n\n"
+
+
+def run_pytest(top: pathlib.Path, folder: pathlib.Path, text: str, variable: str) -> tuple[int, str]:
+    """The exit status of pytest and what it prints for a file with this text, where the variable CI has this value."""
+    (folder / "test_skipping.py").write_text(HEAD + text)
+    words = ["-m", "pytest", "-p", "no:cacheprovider", "-p", "support.needs", "-rsfE", "--rootdir", str(folder), "."]
+    env = os.environ | {"PYTHONPATH": str(top / "tests"), "CI": variable}
+    done = subprocess.run([sys.executable, *words], cwd=folder, env=env, capture_output=True, text=True, timeout=60)
+    return done.returncode, done.stdout + done.stderr
+
+
+@pytest.mark.parametrize("way", SKIPPING)
+def test_a_skip_says_why(top: pathlib.Path, folder: pathlib.Path, way: str) -> None:
+    text, why = SKIPPING[way]
+    status, told = run_pytest(top, folder, text, "")
+    assert status in (pytest.ExitCode.OK, pytest.ExitCode.NO_TESTS_COLLECTED), told
+    assert why in told and "1 skipped" in told
+
+
+@pytest.mark.parametrize("way", SKIPPING)
+def test_a_skip_is_a_failure_in_ci(top: pathlib.Path, folder: pathlib.Path, way: str) -> None:
+    text, why = SKIPPING[way]
+    status, told = run_pytest(top, folder, text, "true")
+    assert status in (pytest.ExitCode.TESTS_FAILED, pytest.ExitCode.INTERRUPTED), told
+    assert f"no test is skipped in CI: {why}" in told and "skipped" not in told.splitlines()[-1]
+
+
+def test_a_test_that_passes_in_ci(top: pathlib.Path, folder: pathlib.Path) -> None:
+    status, told = run_pytest(top, folder, "def test_it() -> None:\n    need('sh')\n    need_module('json')\n", "true")
+    assert status == pytest.ExitCode.OK and "1 passed" in told, told
+
+
+def test_no_program_is_a_usage_error(top: pathlib.Path, folder: pathlib.Path) -> None:
+    words = [sys.executable, "-m", "pytest", "--pfs", str(folder / "none"), "tests/test_searches.py"]
+    done = subprocess.run(words, cwd=top, capture_output=True, text=True, timeout=60)
+    assert done.returncode == pytest.ExitCode.USAGE_ERROR
+    assert done.stderr.startswith(f"ERROR: no program {folder / 'none'}: `make run` proves and builds it"), done.stderr
