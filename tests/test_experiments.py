@@ -40,7 +40,7 @@ on_slurm = pytest.mark.xdist_group("slurm")
 over_ssh = pytest.mark.xdist_group("ssh")
 
 
-@pytest.fixture(autouse=True)
+@pytest.fixture(scope="module", autouse=True)
 def parallel() -> None:
     need("parallel")
 
