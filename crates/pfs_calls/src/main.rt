@@ -1,9 +1,10 @@
 //! Runs the call that its first word names, on a worked example, and prints the answer, or `memory` where a
 //! growth was refused, and then what the refusal has left, if the call has changed something or could have.
-//! `tests/run` runs each call with each growth of memory refused in turn.
+//! `tests/test_growths.py` runs each call with each growth of memory refused in turn.
 #![tactic(auto)]
 
 mod search;
+mod still;
 
 use pfs_audit::{AuditFault, Verdict, check, makespan, table};
 use pfs_base::{BaseFault, Bench, FromRead, Instance, ToWrite};
@@ -21,6 +22,10 @@ use search::{
 };
 use std::alloc::{AllocError, Global};
 use std::{env, io};
+use still::{
+    still_audit, still_best, still_feed, still_generate, still_put, still_read_block,
+    still_read_order, still_search, still_write,
+};
 
 const FILE: &[u8] = b"title :\n3 2 0 0 0\nprocessing times :\n3 2 4\n2 5 1\n";
 
@@ -144,6 +149,15 @@ fn answer_of(rt: &HostRuntime, name: &str) -> Result<(), Stop> {
         "rounds" => rounds_call(rt),
         "turns" => turns_call(rt),
         "search" => search_call(rt),
+        "still_audit" => still_audit(rt),
+        "still_best" => still_best(rt),
+        "still_feed" => still_feed(rt),
+        "still_generate" => still_generate(rt),
+        "still_put" => still_put(rt),
+        "still_read_block" => still_read_block(rt),
+        "still_read_order" => still_read_order(rt),
+        "still_search" => still_search(rt),
+        "still_write" => still_write(rt),
         "run_value" => run_value_call(rt),
         "run_check" => run_check_call(rt),
         "run_table" => run_table_call(rt, ORDER),
