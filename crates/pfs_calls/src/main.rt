@@ -1,6 +1,7 @@
 //! Runs the call that its first word names, on the words behind it and standard input or on a worked example, and
 //! prints the answer, or `memory` where a growth was refused, and then what the refusal has left, if the call has
-//! changed something or could have. Tests run each call on a worked example with each growth of memory refused in turn.
+//! changed something or could have. `tests/test_growths.py` runs each call on a
+//! worked example with each growth of memory refused in turn.
 #![tactic(auto)]
 
 mod blocks;
@@ -10,6 +11,7 @@ mod orders;
 mod plans;
 mod rounds;
 mod search;
+mod still;
 mod words;
 
 use blocks::{cuts_call, pieces_call};
@@ -35,6 +37,10 @@ use search::{
 };
 use std::alloc::{AllocError, Global};
 use std::{env, io};
+use still::{
+    still_audit, still_best, still_feed, still_generate, still_put, still_read_block,
+    still_read_order, still_search, still_write,
+};
 
 const FILE: &[u8] = b"title :\n3 2 0 0 0\nprocessing times :\n3 2 4\n2 5 1\n";
 
@@ -184,6 +190,15 @@ fn worked_call(rt: &HostRuntime, name: &str) -> Result<(), Stop> {
         "turns" => turns_call(rt),
         "two_rounds" => two_rounds_call(rt),
         "search" => search_call(rt),
+        "still_audit" => still_audit(rt),
+        "still_best" => still_best(rt),
+        "still_feed" => still_feed(rt),
+        "still_generate" => still_generate(rt),
+        "still_put" => still_put(rt),
+        "still_read_block" => still_read_block(rt),
+        "still_read_order" => still_read_order(rt),
+        "still_search" => still_search(rt),
+        "still_write" => still_write(rt),
         "run_value" => run_value_call(rt),
         "run_check" => run_check_call(rt),
         "run_table" => run_table_call(rt, ORDER),
