@@ -1,7 +1,7 @@
 //! Runs the call that its first word names, on the words behind it and standard input or on a worked example, and
 //! prints the answer, or `memory` where a growth was refused, and then what the refusal has left, if the call has
-//! changed something or could have. `tests/test_growths.py` runs each call on a
-//! worked example with each growth of memory refused in turn.
+//! changed something or could have. `tests/test_growths.py` runs each call on a worked example with each growth
+//! of memory refused in turn.
 #![tactic(auto)]
 
 mod blocks;
