@@ -12,6 +12,7 @@ use std::process::ExitCode;
 use std::{env, io};
 
 /// The files of the system. Contracts see nothing of them.
+#[derive(Drop)]
 struct SystemFiles<'a> {
     rt: &'a HostRuntime,
 }
@@ -61,7 +62,9 @@ fn words_of(rt: &HostRuntime) -> Result<Vec<String>, UsageFault> {
     };
     let mut words = Vec::new(rt.alloc());
     for word in args.skip(1) {
-        words.push(word)?;
+        if words.push(word).is_err() {
+            return Err(UsageFault::Memory);
+        }
     }
     Ok(words)
 }
