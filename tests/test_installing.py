@@ -36,6 +36,7 @@ KIT = "rattle-kit-7x logic {logic}"
 RT = """#!/bin/sh
 case $1 in
 version) echo "$RT_VERSION" ;;
+lib) ;;
 run) echo "$PWD" >> "$RT_NOTES"; test -e out/pfs || cp "$RT_PROGRAM" out/pfs ;;
 *) exit 9 ;;
 esac
