@@ -17,7 +17,8 @@ from support.unproved import Edit, build
 BUGS = [
     ("a number that two pieces share loses the digits of the first",
      Edit("pfs_layout/src/blocks.rt", "        let mut line = *last;",
-          "        let offset = last.digits.offset; let digits = crate::scan::Digits { offset, first: offset, value: 0 };"
+          "        let offset = last.digits.offset;"
+          " let digits = crate::scan::Digits { offset, first: offset, value: 0 };"
           " let mut line = Line { digits, kinds: last.kinds };")),
     ("of equal places the last is taken",
      Edit("pfs_insert/src/inserter.rt", "    if place == 0 || span < best.span {",

@@ -1,5 +1,5 @@
-//! A function over any bench. `tests/run` puts others in its place, which compute with times beside the bench
-//! and must not compile.
+//! A function over any bench. `tests/test_bench.py` has others, which compute with times beside the bench and
+//! must not compile.
 ghost use Rattle.std.specs.Prelude.{◌≡◌, ◌+◌, ◌<◌, ◌≤◌, ◌^◌, max};
 ghost use Rattle.pfs_base.specs.FlowShop.{time_of};
 
