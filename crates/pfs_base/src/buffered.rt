@@ -2,6 +2,7 @@
 ghost use Rattle.std.specs.Prelude.{◌≡◌, [], false};
 ghost use Rattle.std.specs.Io.KnownBytes.{Keeps};
 ghost use Rattle.pfs_base.specs.Buffer.{LetsOut, bytes_given};
+ghost use Rattle.pfs_base.specs.Device.{Writes, fails_after};
 
 use crate::device::{Sink, WriteFault, put};
 use std::marker::Model;
@@ -81,6 +82,29 @@ impl<W: Sink> Buffered<W> {
             }
         }
     }
+
+    // Writes bytes that fill the buffer, or for which it has no room. It stands apart, so that the test for
+    // room is inlined.
+    #[cold]
+    #[inline(never)]
+    fn write_full(&mut self, bytes: &[u8]) -> Option<usize>
+        requires { W.has_failed self.old.writer ≡ false }
+        ensures bytes { Writes (bytes_given W.written self.old) (bytes_given W.written self.new) result bytes.now }
+        ensures failed { W.has_failed self.new.writer ≡ fails_after (W.has_failed self.old.writer) result }
+    {
+        if bytes.len() > ROOM - self.count && self.flush().is_err() {
+            return None;
+        }
+        if bytes.len() < ROOM {
+            let end = self.count + bytes.len();
+            self.bytes[self.count..end].copy_from_slice(bytes);
+            self.count = end;
+            return Some(bytes.len());
+        }
+        let count = self.writer.write(bytes)?;
+        self.sent = self.sent.saturating_add(count as u64);
+        Some(count)
+    }
 }
 
 impl<W: Sink> Sink for Buffered<W> {
@@ -90,18 +114,14 @@ impl<W: Sink> Sink for Buffered<W> {
 
     /// Holds the bytes, and lets out first what is held where there is no room for them. As many bytes as a
     /// buffer holds, or more, go straight on.
+    #[inline(always)]
     fn write(&mut self, bytes: &[u8]) -> Option<usize> {
-        if bytes.len() > ROOM - self.count && self.flush().is_err() {
-            return None;
-        }
-        if bytes.len() < ROOM {
+        if bytes.len() < ROOM - self.count {
             self.bytes[self.count..self.count + bytes.len()].copy_from_slice(bytes);
             self.count += bytes.len();
             return Some(bytes.len());
         }
-        let count = self.writer.write(bytes)?;
-        self.sent = self.sent.saturating_add(count as u64);
-        Some(count)
+        self.write_full(bytes)
     }
 
     fn failed(&self) -> bool {
