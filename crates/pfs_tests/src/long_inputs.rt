@@ -32,10 +32,10 @@ fn an_order_file_is_read_no_further_than_a_byte_behind_the_longest(
     rt: HostRuntime,
 ) -> Result<(), Fail> {
     let long = vec![in rt.alloc(); 120; LONGEST_ORDER_FILE + 1000]?;
-    for (calls, fault) in [(2, OrderFault::Read), (3, OrderFault::TooLong)] {
-        let mut reader = Pieces::new(&long, 30_000, Some(calls + 1));
+    for (call, fault) in [(3, OrderFault::Read), (4, OrderFault::TooLong)] {
+        let mut reader = Pieces::new(&long, 30_000, Some(call));
         let result = read_order(rt.alloc(), &mut reader);
-        assert_eq!(rt; result.err(), Some(fault), "after {calls} calls");
+        assert_eq!(rt; result.err(), Some(fault), "call {call}");
     }
     Ok(())
 }
