@@ -1,6 +1,6 @@
 -- What searches over shops of at most three jobs and machines cost at most, where each place is evaluated afresh, and
 -- by rows of heads and tails.
-use Rattle.std.proofs.Common.{ℕ, zero, suc, ◌+◌, ◌*◌, ◌≤◌, arith}
+use Rattle.std.proofs.Common.{ℕ, zero, suc, ◌*◌, ◌≤◌, arith}
 use Rattle.std.proofs.Math.Nat.{mul-le-mul}
 use Rattle.pfs_insert.specs.Insertion.{afresh_cost, heads_tails_cost}
 use Rattle.pfs_search.specs.Costs.{neh_cost, pass_cost, round_cost}

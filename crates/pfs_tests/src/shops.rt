@@ -50,14 +50,6 @@ pub fn three_jobs(alloc: Global) -> Result<Instance, BaseFault>
     shop(alloc, 3, 2, &[3, 2, 2, 5, 4, 1])
 }
 
-/// Three jobs on two machines, each of time 1.
-pub fn unit_times(alloc: Global) -> Result<Instance, BaseFault>
-    ensures jobs { IfOk result (λ made. made.shop.jobs ≡ 3) }
-    ensures machines { IfOk result (λ made. made.shop.machines ≡ 2) }
-{
-    shop(alloc, 3, 2, &[1, 1, 1, 1, 1, 1])
-}
-
 /// Two jobs on one machine. All orders are as long, so that a job that is taken out goes back first.
 pub fn two_jobs(alloc: Global) -> Result<Instance, BaseFault>
     ensures jobs { IfOk result (λ made. made.shop.jobs ≡ 2) }

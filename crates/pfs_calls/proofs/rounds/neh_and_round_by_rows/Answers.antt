@@ -4,7 +4,7 @@ use Rattle.pfs_calls.proofs.SmallCosts.{rows_small, small_neh, small_round_of_pa
 use Rattle.pfs_calls.proofs.rounds.neh_and_round_by_rows.Goals as goal
 
 pub neh-requires-clause-room : goal.neh-requires-clause-room
-neh-requires-clause-room g c =
+neh-requires-clause-room c =
     let bench = c.metered-bench.result in
     let jobs = ap (λ (s : FlowShop). s.jobs) c.metered-bench.ensures.shop in
     let machines = ap (λ (s : FlowShop). s.machines) c.metered-bench.ensures.shop in
@@ -13,7 +13,7 @@ neh-requires-clause-room g c =
     omega (arith, c.metered-bench.ensures.counted)
 
 pub round-requires-clause-room : goal.round-requires-clause-room
-round-requires-clause-room g c =
+round-requires-clause-room c =
     let bench = c.metered-bench.result in
     let after = c.neh.new.bench in
     let same = c.neh.ensures.shop ∙ c.metered-bench.ensures.shop in

@@ -6,7 +6,7 @@ use Rattle.pfs_calls.proofs.SmallCosts.{afresh_small, small_round_of_passes}
 use Rattle.pfs_calls.proofs.rounds.numbers_and_round.Goals as goal
 
 pub round-requires-clause-room : goal.round-requires-clause-room
-round-requires-clause-room g c =
+round-requires-clause-room c =
     let bench = c.metered-bench.result in
     let after = c.makespan.new.bench in
     let same = c.makespan.ensures.shop ∙ c.metered-bench.ensures.shop in
