@@ -1,6 +1,6 @@
 -- What a job's run says of its output, said of another one: each engine's other clauses stay as they are.
-use Rattle.std.proofs.Common.{◌≡◌, ℕ, Bool, false, List, [], ◌∷◌, Option, None, Some, Result, Ok, Err, IfOk, sym, subst, refl}
-use Rattle.std.proofs.Common.{map, inl, inr}
+use Rattle.std.proofs.Common.{◌≡◌, ℕ, Bool, false, List, [], ◌∷◌, Option, None, Some, Result, Ok, Err, IfOk}
+use Rattle.std.proofs.Common.{map, inl, inr, sym, subst, refl}
 use Rattle.pfs_layout.specs.declared.layout.Layout.{Layout}
 use Rattle.pfs_layout.specs.declared.layout.Layout.TheVariants.{Taillard}
 use Rattle.pfs_words.specs.declared.job.Job.{Job}
@@ -164,15 +164,22 @@ module _ (result : Result Outcome Stop) (U U' : Type 0) (V V' : Writing)
   pub job-map : (asks : Job) (input input' : Option (List ℕ)) (failed : Bool)
       → RunsJob asks standing asked asked' input input' failed U V result
       → RunsJob asks standing asked asked' input input' failed U' V' result
-  job-map (job.Value layout block None) input input' failed p = alone-map _ _ (value-map layout block input input' failed) p
+  job-map (job.Value layout block None) input input' failed p =
+      alone-map _ _ (value-map layout block input input' failed) p
   job-map (job.Value layout block (Some path)) input input' failed p =
       (p.0, file-map path _ _ (value-map layout block) p.1)
   job-map (job.Solve layout block options path) input input' failed p =
       (p.0, file-map path _ _ (solve-map layout block options) p.1)
-  job-map (job.Check layout block path order_path) input input' failed p =
-      (p.0, files-map path order_path _ _ (audit-map layout block (λ file orders. CheckOutput layout file block orders)) p.1)
-  job-map (job.Table layout block path order_path) input input' failed p =
-      (p.0, files-map path order_path _ _ (audit-map layout block (λ file orders. TableOutput layout file block orders)) p.1)
+  job-map (job.Check layout block path order_path) input input' failed p = (
+    p.0,
+    files-map path order_path _ _
+        (audit-map layout block (λ file orders. CheckOutput layout file block orders)) p.1,
+  )
+  job-map (job.Table layout block path order_path) input input' failed p = (
+    p.0,
+    files-map path order_path _ _
+        (audit-map layout block (λ file orders. TableOutput layout file block orders)) p.1,
+  )
   job-map (job.Convert source target block path) input input' failed p =
       (p.0, file-map path _ _ (convert-map source target block) p.1)
   job-map (job.Generate jobs machines seed) input input' failed p =

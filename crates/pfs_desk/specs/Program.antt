@@ -164,8 +164,8 @@ Unread input input' failed = (input' ≡ input) × (failed ≡ false)
 
 -- what the program does for a job, where `asked` are the paths that were asked for before and `input` is what standard
 -- input gives, and both have a dash behind them as they are afterwards
-abbrev pub RunsJob : Job → (List ℕ → Standing) → Option (List (List ℕ)) → Option (List (List ℕ)) → Option (List ℕ) → Option (List ℕ)
-    → Bool → Type 0 → Writing → Result Outcome Stop → Type 0
+abbrev pub RunsJob : Job → (List ℕ → Standing) → Option (List (List ℕ)) → Option (List (List ℕ)) → Option (List ℕ)
+    → Option (List ℕ) → Bool → Type 0 → Writing → Result Outcome Stop → Type 0
 RunsJob (job.Value layout block None) standing asked asked' input input' failed unwritten writing result =
     RunsAlone asked asked' (RunsValue layout block writing input input' failed) result
 RunsJob (job.Value layout block (Some path)) standing asked asked' input input' failed unwritten writing result =

@@ -103,7 +103,8 @@ fn print_value<F: Files, W: Sink>(
     requires writing { W.has_failed writer.old ≡ false }
     ensures { WithFile (F.standing files.old) (F.asked files.old) (F.asked files.new) path.now
         (WritesNothing (W.written writer.old) (W.written writer.new) (W.has_failed writer.new))
-        (RunsValue layout block (writing_of (W.written writer.old) (W.written writer.new) (W.has_failed writer.new))) result }
+        (RunsValue layout block
+        (writing_of (W.written writer.old) (W.written writer.new) (W.has_failed writer.new))) result }
 {
     let mut file = files.open(path)?;
     ending(run_value(alloc, &mut file, layout, block, writer))
@@ -124,7 +125,8 @@ fn print_order<F: Files, W: Sink>(
     requires writing { W.has_failed writer.old ≡ false }
     ensures { WithFile (F.standing files.old) (F.asked files.old) (F.asked files.new) path.now
         (WritesNothing (W.written writer.old) (W.written writer.new) (W.has_failed writer.new))
-        (RunsSolve layout block options.now (writing_of (W.written writer.old) (W.written writer.new) (W.has_failed writer.new))) result }
+        (RunsSolve layout block options.now
+        (writing_of (W.written writer.old) (W.written writer.new) (W.has_failed writer.new))) result }
 {
     let mut file = files.open(path)?;
     ending(run_solve(alloc, &mut file, layout, block, options, writer))
@@ -144,7 +146,8 @@ fn print_verdict<F: Files, W: Sink>(
     requires writing { W.has_failed writer.old ≡ false }
     ensures { WithFiles (F.standing files.old) (F.asked files.old) (F.asked files.new) path.now order_path.now
         (WritesNothing (W.written writer.old) (W.written writer.new) (W.has_failed writer.new))
-        (RunsCheck layout block (writing_of (W.written writer.old) (W.written writer.new) (W.has_failed writer.new))) result }
+        (RunsCheck layout block
+        (writing_of (W.written writer.old) (W.written writer.new) (W.has_failed writer.new))) result }
 {
     let mut file = files.open(path)?;
     let mut orders = files.open(order_path)?;
@@ -165,7 +168,8 @@ fn print_table<F: Files, W: Sink>(
     requires writing { W.has_failed writer.old ≡ false }
     ensures { WithFiles (F.standing files.old) (F.asked files.old) (F.asked files.new) path.now order_path.now
         (WritesNothing (W.written writer.old) (W.written writer.new) (W.has_failed writer.new))
-        (RunsTable layout block (writing_of (W.written writer.old) (W.written writer.new) (W.has_failed writer.new))) result }
+        (RunsTable layout block
+        (writing_of (W.written writer.old) (W.written writer.new) (W.has_failed writer.new))) result }
 {
     let mut file = files.open(path)?;
     let mut orders = files.open(order_path)?;
@@ -186,7 +190,8 @@ fn print_converted<F: Files, W: Sink>(
     requires writing { W.has_failed writer.old ≡ false }
     ensures { WithFile (F.standing files.old) (F.asked files.old) (F.asked files.new) path.now
         (WritesNothing (W.written writer.old) (W.written writer.new) (W.has_failed writer.new))
-        (RunsConvert source target block (writing_of (W.written writer.old) (W.written writer.new) (W.has_failed writer.new))) result }
+        (RunsConvert source target block
+        (writing_of (W.written writer.old) (W.written writer.new) (W.has_failed writer.new))) result }
 {
     let mut file = files.open(path)?;
     ending(run_convert(alloc, &mut file, source, target, block, writer))

@@ -2,7 +2,8 @@
 ghost use Rattle.std.specs.Prelude.{◌≡◌, [], ◌∷◌, IfOk, codes, false};
 ghost use Rattle.clap.specs.Words.{app_of, rule_of};
 ghost use Rattle.pfs_words.specs.Commands.{flat_form, layout_rule, option_rule, block_rule, path_rule, number_rule};
-ghost use Rattle.pfs_words.specs.Commands.{flag_rule, rounds_rule, take_rule, search_seed_rule, passes_rule, solve_form};
+ghost use Rattle.pfs_words.specs.Commands.{flag_rule, rounds_rule, take_rule, search_seed_rule, passes_rule};
+ghost use Rattle.pfs_words.specs.Commands.{solve_form};
 ghost use Rattle.pfs_words.specs.Commands.{value_form, audit_form, convert_form, generate_form};
 
 use crate::solve_options::MOST_ROUNDS;

@@ -1,4 +1,5 @@
-use Rattle.std.proofs.Common.{◌≡◌, ◌≤◌, ◌∙◌, ◌-◌, ◌++◌, length, take, drop, sym, ap, arith, length-take, take-append-drop}
+use Rattle.std.proofs.Common.{◌≡◌, ◌≤◌, ◌∙◌, ◌-◌, ◌++◌, length, take, drop, sym, ap, arith}
+use Rattle.std.proofs.Common.{length-take, take-append-drop}
 use Rattle.std.proofs.KnownBytes.{append_known-moved}
 use Rattle.pfs_base.proofs.Buffers.{bytes_counted-more, held-rest}
 use Rattle.pfs_base.proofs.buffered.Buffered.flush.Goals as goal
