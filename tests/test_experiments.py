@@ -504,14 +504,14 @@ def test_both_pages_tell_the_same_way(top: pathlib.Path) -> None:
 @pytest.mark.seconds(30)
 def test_the_lines_of_the_way_lead_to_the_reports_plots(top: pathlib.Path, pfs: Program, folder: pathlib.Path,
                                                         matplotlib: None) -> None:
-    """In a copy that has the built program."""
+    """In a copy that has the built program, which is taken as it is."""
     shutil.copytree(top / "experiments", folder / "experiments", ignore=shutil.ignore_patterns("out", "__pycache__"))
-    shutil.copy(top / "Makefile", folder)
+    for name in ("Makefile", "crates.txt"):
+        shutil.copy(top / name, folder)
     (folder / "crates" / "pfs" / "out").mkdir(parents=True)
     shutil.copy(pfs.path, folder / "crates" / "pfs" / "out" / "pfs")
     for line in lines_of_way(top / "README.md")[1:]:
-        words: list[str | pathlib.Path] = [*line.replace("make ", "make -o run ").split(" ")]
-        assert told_by(words, folder).status == 0, line
+        assert told_by([*line.split(" ")], folder).status == 0, line
     assert sorted(os.listdir(folder / "report")) == ["gap.png", "table.csv", "table.md", "time.png"]
     with open(folder / "report" / "table.csv", newline="") as file:
         assert sum(int(row["runs"]) for row in csv.DictReader(file)) == 108
