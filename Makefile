@@ -1,4 +1,4 @@
-# make run    proves and builds pfs, its crates side by side, and runs it on the stored instance (crates/pfs/stdin)
+# make run    proves and builds pfs, and runs it on the stored instance (crates/pfs/stdin)
 # make test   the merge gate: proves everything from nothing, tries the must-fail edits, runs the tests and
 #             programs; then pytest runs the tests of the built programs, one on each processor
 # make fuzz   compares the built program with a second program on random input, for so many MINUTES
