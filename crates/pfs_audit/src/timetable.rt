@@ -84,6 +84,22 @@ impl TimeTable {
         self.ends[row * self.machines + machine]
     }
 
+    /// All starts: those of row 0 on each machine, then those of row 1, and so on.
+    pub fn starts(&self) -> &[u64]
+        ensures value { result.now ≡ self.now.starts }
+        ensures whole { IsWhole self.now }
+    {
+        &self.starts
+    }
+
+    /// All ends: those of row 0 on each machine, then those of row 1, and so on.
+    pub fn ends(&self) -> &[u64]
+        ensures value { result.now ≡ self.now.ends }
+        ensures whole { IsWhole self.now }
+    {
+        &self.ends
+    }
+
     /// When the last job ends on the last machine.
     pub fn makespan(&self) -> u64
         ensures { result ≡ last_end self.now }

@@ -82,6 +82,30 @@ impl Instance {
         })
     }
 
+    /// An instance of these sizes and notes with these times: those of job 0 on each machine, then those of
+    /// job 1, and so on. It asks for memory once, and copies the times.
+    pub fn of_times(
+        alloc: Global,
+        jobs: usize,
+        machines: usize,
+        times: &[u32],
+        notes: Notes,
+    ) -> Result<Instance, AllocError>
+        requires { IsWithin limits (record { jobs = jobs; machines = machines; times = times.now }) }
+        ensures { IfOk result (λ made. made ≡ record {
+          shop = record { jobs = jobs; machines = machines; times = times.now };
+          notes = notes;
+        }) }
+    {
+        let times = Vec::from_slice(alloc, times)?;
+        Ok(Instance {
+            jobs,
+            machines,
+            times,
+            notes,
+        })
+    }
+
     /// How many jobs there are.
     pub fn jobs(&self) -> usize
         ensures value { result ≡ self.now.shop.jobs }
@@ -103,6 +127,14 @@ impl Instance {
         ensures { result ≡ self.now.notes }
     {
         self.notes
+    }
+
+    /// All times: those of job 0 on each machine, then those of job 1, and so on.
+    pub fn times(&self) -> &[u32]
+        ensures value { result.now ≡ self.now.shop.times }
+        ensures within { IsWithin limits self.now.shop }
+    {
+        self.times.as_slice()
     }
 
     /// How long a job takes on a machine, in the instance's own unit of time.

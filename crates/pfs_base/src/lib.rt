@@ -21,7 +21,7 @@ pub use from_read::FromRead;
 pub use instance::{BaseFault, Instance};
 pub use limits::{
     GREATEST_NOTE, LONGEST_INPUT, LONGEST_ORDER_FILE, LONGEST_TIME, MOST_BLOCKS, MOST_JOBS,
-    MOST_MACHINES, MOST_PASSES,
+    MOST_MACHINES, MOST_PASSES, MOST_ROUNDS,
 };
 pub use metered::{Metered, Span};
 pub use notes::Notes;

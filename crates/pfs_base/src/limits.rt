@@ -21,5 +21,8 @@ pub const MOST_BLOCKS: usize = 1000;
 /// How many passes a round can be asked for.
 pub const MOST_PASSES: u32 = 100;
 
+/// How many rounds a search can be asked for.
+pub const MOST_ROUNDS: u32 = 1_000_000;
+
 /// How many bytes an order file has at most.
 pub const LONGEST_ORDER_FILE: usize = 65_536;

@@ -171,6 +171,7 @@ fn answer_of(rt: &HostRuntime, words: &[String]) -> Result<(), Stop> {
 fn worked_call(rt: &HostRuntime, name: &str) -> Result<(), Stop> {
     match name {
         "instance" => instance_call(rt),
+        "of_times" => of_times_call(rt),
         "generate" => generate_call(rt),
         "feed" => feed_call(rt),
         "read_block" => read_block_call(rt),
@@ -220,6 +221,24 @@ fn instance_call(rt: &HostRuntime) -> Result<(), Stop> {
         "{} jobs, {} machines",
         instance.jobs(),
         instance.machines()
+    )?;
+    Ok(())
+}
+
+fn of_times_call(rt: &HostRuntime) -> Result<(), Stop> {
+    let shop = three_jobs(rt.alloc())?;
+    let copy = Instance::of_times(
+        rt.alloc(),
+        shop.jobs(),
+        shop.machines(),
+        shop.times(),
+        shop.notes(),
+    )?;
+    println!(rt;
+        "{} jobs, {} machines, {} times",
+        copy.jobs(),
+        copy.machines(),
+        copy.times().len()
     )?;
     Ok(())
 }

@@ -1,7 +1,6 @@
 pub mod Engine
 pub mod FaultText
 pub mod Headline
-pub mod MostCells
 pub mod LetsOut
 pub mod OutputText
 pub mod Printable

@@ -9,7 +9,6 @@ ghost use Rattle.pfs_desk.specs.FaultText.{layout_status_of, order_status_of};
 use pfs_audit::AuditFault;
 use pfs_base::print::{put_between, put_line, put_named, put_number};
 use pfs_base::{Sink, WriteFault, put};
-use pfs_insert::InsertFault;
 use pfs_layout::LayoutFault;
 use pfs_order::OrderFault;
 use pfs_search::SearchFault;
@@ -65,14 +64,6 @@ impl From<OrderFault> for DeskFault {
 
     fn from(fault: OrderFault) -> DeskFault {
         DeskFault::Order(fault)
-    }
-}
-
-impl From<InsertFault> for DeskFault {
-    ghost from_gives = { λ fault made. made ≡ Memory };
-
-    fn from(_fault: InsertFault) -> DeskFault {
-        DeskFault::Memory
     }
 }
 

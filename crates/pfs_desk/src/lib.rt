@@ -5,7 +5,6 @@ mod dispatch;
 mod engines;
 pub mod fault;
 mod files;
-pub mod laws;
 mod program;
 mod stop;
 

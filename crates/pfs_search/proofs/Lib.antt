@@ -1,8 +1,10 @@
 pub mod Published
+pub mod Found
 pub mod InTurn
 pub mod Moves
 pub mod NoLonger
 pub mod OneRanking
+pub mod Parts
 pub mod SortedJobs
 pub mod Taking
 pub mod Words

@@ -1,7 +1,9 @@
 pub mod Costs
 pub mod Examples
 pub mod Greedy
+pub mod MostCells
 pub mod Neh
 pub mod Ranking
 pub mod RoundsStop
 pub mod SearcherView
+pub mod Solution

@@ -10,9 +10,11 @@ pub mod laws;
 mod passes;
 mod rankings;
 mod searcher;
+mod solution;
 mod workspace;
 
 pub use fault::SearchFault;
 pub use kept::Kept;
 pub use pfs_base::MOST_PASSES;
 pub use searcher::Searcher;
+pub use solution::{Solution, improve, solve};

@@ -1,5 +1,5 @@
 //! Instances, benches and devices.
-use crate::fakes::{Broken, Taken};
+use crate::fakes::{Broken, FailsOnce, Taken};
 use pfs_base::{
     BaseFault, Bench, FromRead, Instance, Notes, Shop, Sink, Source, ToWrite, WriteFault, put,
 };
@@ -82,5 +82,20 @@ fn a_sink_fails_where_std_answers_an_error_or_takes_nothing(rt: HostRuntime) {
         let mut broken = ToWrite::new(Broken { error });
         assert_eq!(rt; broken.write(b"text"), None);
         assert!(rt; broken.failed());
+    }
+}
+
+#[test]
+fn a_call_of_std_that_fails_is_not_made_again(rt: HostRuntime) {
+    let mut buf = [0u8; 4];
+    for error in [Some(ErrorKind::Interrupted), Some(ErrorKind::Other)] {
+        let mut reader = FailsOnce::new(error);
+        assert_eq!(rt; FromRead::new(&mut reader).read(&mut buf), None);
+        assert_eq!(rt; reader.calls(), 1);
+    }
+    for error in [Some(ErrorKind::Interrupted), Some(ErrorKind::Other), None] {
+        let mut writer = FailsOnce::new(error);
+        assert_eq!(rt; ToWrite::new(&mut writer).write(b"text"), None);
+        assert_eq!(rt; writer.calls(), 1);
     }
 }

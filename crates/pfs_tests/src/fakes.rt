@@ -1,5 +1,5 @@
 //! Readers and writers that are short, or fail at a chosen call, and count their calls.
-ghost use Rattle.std.specs.Prelude.{◌≡◌, ◌+◌, ◌<◌, ◌≤◌, false, None, Some};
+ghost use Rattle.std.specs.Prelude.{◌≡◌, ◌+◌, ◌<◌, ◌≤◌, false, None, Some, IfOk};
 
 use pfs_base::{Sink, Source};
 use std::io;
@@ -225,6 +225,56 @@ impl Sink for Lengths {
 
     fn failed(&self) -> bool {
         false
+    }
+}
+
+/// A reader and writer of std whose first call answers this error, or takes and gives no byte where there is none. All
+/// further calls work. It counts them.
+#[derive(Drop)]
+pub struct FailsOnce {
+    error: Option<ErrorKind>,
+    calls: u64,
+}
+
+impl FailsOnce {
+    /// A reader and writer whose first call answers this error, if there is one.
+    pub fn new(error: Option<ErrorKind>) -> FailsOnce {
+        FailsOnce { error, calls: 0 }
+    }
+
+    /// How often it was called.
+    pub fn calls(&self) -> u64 {
+        self.calls
+    }
+
+    // What a call for so many bytes answers.
+    fn answer(&mut self, bytes: usize) -> io::Result<usize>
+        ensures { IfOk result (λ count. count ≤ bytes) }
+    {
+        self.calls = self.calls.saturating_add(1);
+        if self.calls > 1 {
+            return Ok(bytes);
+        }
+        match self.error {
+            Some(kind) => Err(io::Error::from(kind)),
+            None => Ok(0),
+        }
+    }
+}
+
+impl Read for FailsOnce {
+    fn read(&mut self, buf: &mut [u8]) -> io::Result<usize> {
+        self.answer(buf.len())
+    }
+}
+
+impl Write for FailsOnce {
+    fn write(&mut self, buf: &[u8]) -> io::Result<usize> {
+        self.answer(buf.len())
+    }
+
+    fn flush(&mut self) -> io::Result<()> {
+        Ok(())
     }
 }
 

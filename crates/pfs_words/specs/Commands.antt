@@ -7,7 +7,7 @@ use Rattle.clap.specs.Walk.{texts}
 use Rattle.clap.specs.declared.builder.action.ArgAction.TheVariants.{Set, SetTrue}
 use Rattle.clap.specs.declared.builder.value_parser.ValueParser.TheVariants as parser
 use Rattle.pfs_base.specs.declared.limits.TheConstants.{MOST_BLOCKS, MOST_JOBS, MOST_MACHINES, MOST_PASSES}
-use Rattle.pfs_words.specs.declared.solve_options.TheConstants.{MOST_ROUNDS}
+use Rattle.pfs_base.specs.declared.limits.TheConstants.{MOST_ROUNDS}
 
 -- these arguments, and no program's name before them; no subcommands, and no groups
 abbrev pub flat_form : Text → List Rule → App

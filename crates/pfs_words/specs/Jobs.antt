@@ -5,9 +5,9 @@ use Rattle.std.specs.Option.{option_map_or}
 use Rattle.std.specs.Str.Parse.{digits_value, without_leading_plus}
 use Rattle.clap.specs.Words.{App, Row, Text, fault_of, first_of, matches_of, takes}
 use Rattle.pfs_base.specs.declared.limits.TheConstants.{MOST_BLOCKS, MOST_JOBS, MOST_MACHINES, MOST_PASSES}
+use Rattle.pfs_base.specs.declared.limits.TheConstants.{MOST_ROUNDS}
 use Rattle.pfs_layout.specs.declared.layout.Layout.{Layout}
 use Rattle.pfs_layout.specs.declared.layout.Layout.TheVariants.{Taillard, OrLib}
-use Rattle.pfs_words.specs.declared.solve_options.TheConstants.{MOST_ROUNDS}
 use Rattle.pfs_words.specs.declared.solve_options.SolveOptions.{SolveOptions}
 use Rattle.pfs_words.specs.declared.job.Job.{Job}
 use Rattle.pfs_words.specs.declared.job.Job.TheVariants as job

@@ -8,6 +8,7 @@ mod solve_options;
 mod usage;
 
 pub use job::{Job, PathText};
+pub use pfs_base::MOST_ROUNDS;
 pub use planning::plan;
-pub use solve_options::{DEFAULT_TAKE, MOST_ROUNDS, SolveOptions};
+pub use solve_options::{DEFAULT_TAKE, SolveOptions};
 pub use usage::UsageFault;

@@ -17,8 +17,5 @@ pub struct SolveOptions {
     pub cells: bool,
 }
 
-/// How many rounds can be asked for.
-pub const MOST_ROUNDS: u32 = 1_000_000;
-
 /// How many jobs a round takes out, if there are so many, where none are asked for.
 pub const DEFAULT_TAKE: usize = 4;

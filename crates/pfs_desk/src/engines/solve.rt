@@ -1,23 +1,18 @@
 //! The order that a search finds.
-ghost use Rattle.std.specs.Prelude.{◌≡◌, ◌<◌, ◌≤◌, ◌^◌, false, Some, IfSome, IfOk, IfErr};
+ghost use Rattle.std.specs.Prelude.{◌≡◌, ◌<◌, ◌≤◌, ◌^◌, false, IfSome, IfOk, IfErr};
 ghost use Rattle.pfs_base.specs.Sends.{Sends};
 ghost use Rattle.pfs_desk.specs.Engine.{Writes, SolveOutput, ReadsBlock, RefusesNoOrder, JudgesTake};
 ghost use Rattle.pfs_desk.specs.Headline.{Solves};
-ghost use Rattle.pfs_desk.specs.Solve.{IsFound, IsTakeFault, solution_text};
+ghost use Rattle.pfs_desk.specs.Solve.{IsTakeFault, solution_text};
 ghost use Rattle.pfs_desk.specs.Solve.{take_for as take_of};
 
 use crate::fault::{DeskFault, Outcome};
 use pfs_base::print::put_named;
-use pfs_base::{
-    Bench, Instance, Length, MOST_BLOCKS, MOST_MACHINES, Shop, Sink, Source, WriteFault,
-};
-use pfs_insert::HeadsTails;
+use pfs_base::{MOST_BLOCKS, MOST_MACHINES, MOST_PASSES, MOST_ROUNDS, Sink, Source, WriteFault};
 use pfs_layout::{Layout, read_block};
-use pfs_order::{Order, write_order};
-use pfs_search::{Kept, MOST_PASSES, Searcher};
-use pfs_words::{DEFAULT_TAKE, MOST_ROUNDS, SolveOptions};
-use rand_core::SeedableRng;
-use rand_pcg::Pcg32;
+use pfs_order::write_order;
+use pfs_search::{Solution, solve};
+use pfs_words::{DEFAULT_TAKE, SolveOptions};
 use std::alloc::Global;
 
 /// Reads a block of an instance file, and prints as an order file of version 2 what a search finds: NEH's order (Nawaz,
@@ -51,7 +46,7 @@ pub fn run_solve<R: Source, W: Sink>(
     let instance = read_block(alloc, reader, layout, block)?;
     let take = take_for(options.take, instance.jobs())?;
     let (rounds, passes) = (options.rounds, options.passes);
-    let solution = solution_of(alloc, &instance, rounds, take, passes, options.seed)?;
+    let solution = solve(alloc, &instance, rounds, take, passes, options.seed)?;
     put_solution(writer, instance.machines(), &solution, options.cells)?;
     Ok(Outcome::Done)
 }
@@ -67,76 +62,6 @@ fn take_for(asked: Option<usize>, jobs: usize) -> Result<usize, DeskFault>
         Some(take) if take <= jobs => Ok(take),
         Some(take) => Err(DeskFault::TakeRange { take, jobs }),
     }
-}
-
-/// What a search finds.
-#[derive(Drop)]
-struct Solution {
-    order: Order,
-    makespan: u64,
-    cells: u64,
-}
-
-// What a search finds on a new bench over an instance.
-fn solution_of(
-    alloc: Global,
-    instance: &Instance,
-    rounds: u32,
-    take: usize,
-    passes: u32,
-    seed: u64,
-) -> Result<Solution, DeskFault>
-    requires some { 1 ≤ take }
-    requires few { take ≤ instance.now.shop.jobs }
-    requires rounds { rounds ≤ MOST_ROUNDS }
-    requires passes { passes ≤ MOST_PASSES }
-    ensures found { IfOk result (λ found.
-        IsFound instance.now.shop rounds take passes seed found.order found.makespan found.cells) }
-    ensures short { IfOk result (λ found. found.makespan < 10 ^ 18) }
-    ensures memory { IfErr result (λ fault. fault ≡ DeskFault.Memory) }
-{
-    let mut bench = instance.metered();
-    let kept = search(alloc, &mut bench, rounds, take, passes, seed)?;
-    Ok(Solution {
-        order: kept.order,
-        makespan: bench.reveal(kept.span),
-        cells: bench.cells(),
-    })
-}
-
-// NEH's order, and then so many rounds, each of which takes so many jobs out and makes so many passes, on a bench
-// that has counted nothing.
-#[inline(always)]
-fn search<B: Shop>(
-    alloc: Global,
-    bench: &mut B,
-    rounds: u32,
-    take: usize,
-    passes: u32,
-    seed: u64,
-) -> Result<Kept<B::Span>, DeskFault>
-    requires fresh { B.counted bench.old ≡ 0 }
-    requires some { 1 ≤ take }
-    requires few { take ≤ (B.shop bench.old).jobs }
-    requires rounds { rounds ≤ MOST_ROUNDS }
-    requires passes { passes ≤ MOST_PASSES }
-    ensures found { IfOk result (λ kept.
-        IsFound (B.shop bench.old) rounds take passes seed kept.order (B.Span.number kept.span) (B.counted bench.new)) }
-    ensures short { IfOk result (λ kept. B.Span.number kept.span < 10 ^ 18) }
-    ensures memory { IfErr result (λ fault. fault ≡ DeskFault.Memory) }
-{
-    let Ok(order) = Order::identity(alloc, bench.jobs()) else {
-        return Err(DeskFault::Memory);
-    };
-    let inserter = HeadsTails::new(alloc, bench)?;
-    let mut searcher = Searcher::new(alloc, bench.jobs(), inserter)?;
-    let mut kept = Kept::new(order, bench.zero());
-    searcher.neh(alloc, bench, &mut kept)?;
-    let mut rng = Pcg32::seed_from_u64(seed);
-    searcher.rounds(alloc, bench, &mut kept, rounds, take, passes, &mut rng)?;
-    // Called for what it says of an order: that it has each job once.
-    let _jobs = kept.order.len();
-    Ok(kept)
 }
 
 // Writes an order and its makespan as an order file that states the machines too, and behind it, where that is

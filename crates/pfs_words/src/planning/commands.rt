@@ -6,10 +6,9 @@ ghost use Rattle.pfs_words.specs.Commands.{flag_rule, rounds_rule, take_rule, se
 ghost use Rattle.pfs_words.specs.Commands.{solve_form};
 ghost use Rattle.pfs_words.specs.Commands.{value_form, audit_form, convert_form, generate_form};
 
-use crate::solve_options::MOST_ROUNDS;
 use clap::builder::ValueParser;
 use clap::{Arg, ArgAction, Command};
-use pfs_base::{MOST_BLOCKS, MOST_JOBS, MOST_MACHINES, MOST_PASSES};
+use pfs_base::{MOST_BLOCKS, MOST_JOBS, MOST_MACHINES, MOST_PASSES, MOST_ROUNDS};
 use std::alloc::{AllocError, Global};
 
 fn flat_command<'a>(alloc: Global, name: &'a str) -> Command<'a>

@@ -3,8 +3,8 @@ use Rattle.rand_core.specs.Steps.{stream_of, steps_u32}
 use Rattle.rand_pcg.specs.Pcg.{pcg32}
 use Rattle.pfs_base.specs.FlowShop.{FlowShop}
 use Rattle.pfs_order.specs.Sequence.{IsSequence}
-use Rattle.pfs_desk.proofs.SolveLemmas.{neh_room, rounds_room, makespan_short, NehDone, RoundsDone, found_is}
-use Rattle.pfs_desk.proofs.engines.solve.search.Goals as goal
+use Rattle.pfs_search.proofs.Found.{neh_room, rounds_room, makespan_short, NehDone, RoundsDone, found_is}
+use Rattle.pfs_search.proofs.solution.search.Goals as goal
 
 pub neh-requires-clause-room : goal.neh-requires-clause-room
 neh-requires-clause-room g c =

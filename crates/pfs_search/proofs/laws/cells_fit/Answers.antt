@@ -1,5 +1,5 @@
-use Rattle.pfs_desk.proofs.SolveLemmas.{few_neh_cells, few_rounds_cells}
-use Rattle.pfs_desk.proofs.laws.cells_fit.Goals as goal
+use Rattle.pfs_search.proofs.Found.{few_neh_cells, few_rounds_cells}
+use Rattle.pfs_search.proofs.laws.cells_fit.Goals as goal
 
 pub returns-clause-neh : goal.returns-clause-neh
 returns-clause-neh c = few_neh_cells

@@ -2,9 +2,8 @@
 use Rattle.std.specs.Prelude.{ℕ, ◌+◌, ◌-◌, ◌*◌, ◌≤◌}
 use Rattle.pfs_base.specs.Limits.{limits}
 use Rattle.pfs_base.specs.FlowShop.{FlowShop, IsWithin}
-use Rattle.pfs_base.specs.declared.limits.TheConstants.{MOST_PASSES}
-use Rattle.pfs_words.specs.declared.solve_options.TheConstants.{MOST_ROUNDS}
-use Rattle.pfs_desk.specs.Solve.{neh_cells, rounds_cells}
+use Rattle.pfs_base.specs.declared.limits.TheConstants.{MOST_PASSES, MOST_ROUNDS}
+use Rattle.pfs_search.specs.Solution.{neh_cells, rounds_cells}
 
 -- NEH: 2mn² at the greatest n and m
 abbrev pub most_neh_cells : ℕ
