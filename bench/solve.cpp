@@ -347,14 +347,48 @@ static int search(const Instance& shop, uint64_t rounds, uint64_t take, uint64_t
     return 0;
 }
 
+// Puts each job in turn, so many times in all, into the others in the order of their numbers, as pfs_insert is called.
+// The sum of the places and the makespans on standard output.
+template <typename Inserter>
+static int insertions(const Instance& shop, uint64_t count) {
+    Inserter inserter(shop);
+    uint64_t sum = 0;
+    for (uint64_t made = 0; made < count; ++made) {
+        uint32_t job = (uint32_t)(made % shop.jobs);
+        Jobs order(shop.jobs);
+        std::iota(order.begin(), order.end(), 0);
+        order.erase(order.begin() + job);
+        sum += inserter.insert(order, job);
+        sum += (uint64_t)(std::find(order.begin(), order.end(), job) - order.begin());
+    }
+    std::printf("%llu insertions, sum %llu\n", (unsigned long long)count, (unsigned long long)sum);
+    return 0;
+}
+
 // Whether every path of the shop fits into 32 bits, also with a sign.
 static bool is_short(const Instance& shop) {
     uint64_t longest = *std::max_element(shop.times.begin(), shop.times.end());
     return (shop.jobs + shop.machines - 1) * longest <= INT32_MAX;
 }
 
+// The insertions into the shop of a file in Taillard's layout.
+static int insert_only(const std::string& form, const char* count, const char* path) {
+    int file = open(path, O_RDONLY);
+    Instance shop;
+    if (file < 0 || read_block(file, Layout::Taillard, 1, shop).status != 0) {
+        std::fprintf(stderr, "solve: no instance\n");
+        return 4;
+    }
+    uint64_t number = std::strtoull(count, nullptr, 10);
+    return form == "insert32" ? insertions<PlainInserter<uint32_t>>(shop, number)
+                              : insertions<PlainInserter<int64_t>>(shop, number);
+}
+
 int main(int count, char** words) {
     std::string form = count > 1 ? words[1] : "";
+    if (count == 4 && (form == "insert32" || form == "insert64")) {
+        return insert_only(form, words[2], words[3]);
+    }
     if (form == "plain64" || form == "plain32" || form == "rows64" || form == "rows32") {
         --count;
         ++words;

@@ -1,0 +1,78 @@
+/* The library for C on a shop of a file in Taillard's layout.
+ *
+ * usage: library rounds ROUNDS FILE PART    NEH and so many rounds of seed 1 in parts of PART rounds; prints what
+ *                                           `pfs solve --cells` does
+ *        library insert COUNT FILE          puts each job in turn, COUNT times in all, into the others in the order of
+ *                                           their numbers; prints the sum of the places and the makespans */
+#include <inttypes.h>
+#include <stdio.h>
+#include <stdlib.h>
+#include <string.h>
+
+#include "pfs.h"
+
+static uint8_t bytes[1 << 24];
+static uint32_t times[PFS_MOST_JOBS * PFS_MOST_MACHINES], order[PFS_MOST_JOBS];
+static size_t jobs, machines;
+
+static void check(int number) {
+    if (number != PFS_OK) {
+        fprintf(stderr, "library: %s\n", pfs_message(number));
+        exit(2);
+    }
+}
+
+static void read_shop(const char *path) {
+    FILE *file = fopen(path, "rb");
+    struct pfs_notes notes;
+    uint64_t place;
+    if (file == NULL) {
+        fprintf(stderr, "library: cannot open\n");
+        exit(4);
+    }
+    check(pfs_read(bytes, fread(bytes, 1, sizeof bytes, file), PFS_TAILLARD, 1, &jobs, &machines, &notes, times,
+                   sizeof times / sizeof *times, &place));
+    fclose(file);
+}
+
+static void search(uint32_t rounds, uint32_t part) {
+    uint64_t makespan, some, cells;
+    size_t length, size = jobs * machines;
+    check(pfs_neh(times, size, jobs, machines, order, jobs, &makespan, &cells));
+    for (uint32_t first = 0; first < rounds; first += part) {
+        uint32_t count = rounds - first < part ? rounds - first : part;
+        check(pfs_rounds(times, size, jobs, machines, order, jobs, first, count, jobs < 4 ? jobs : 4, 0, 1, &makespan,
+                         &some));
+        cells += some;
+    }
+    check(pfs_write_order(order, jobs, machines, makespan, bytes, sizeof bytes, &length));
+    fwrite(bytes, 1, length, stdout);
+    printf("cells %" PRIu64 "\n", cells);
+}
+
+static void insert(uint64_t count) {
+    uint64_t sum = 0, makespan;
+    size_t place;
+    for (uint64_t made = 0; made < count; ++made) {
+        uint32_t job = (uint32_t)(made % jobs);
+        for (uint32_t other = 0, at = 0; other < jobs; ++other)
+            if (other != job)
+                order[at++] = other;
+        check(pfs_insert(times, jobs * machines, jobs, machines, order, jobs - 1, job, &place, &makespan));
+        sum += makespan + place;
+    }
+    printf("%" PRIu64 " insertions, sum %" PRIu64 "\n", count, sum);
+}
+
+int main(int count, char **words) {
+    if (count == 5 && strcmp(words[1], "rounds") == 0) {
+        read_shop(words[3]);
+        search((uint32_t)strtoul(words[2], NULL, 10), (uint32_t)strtoul(words[4], NULL, 10));
+    } else if (count == 4 && strcmp(words[1], "insert") == 0) {
+        read_shop(words[3]);
+        insert(strtoull(words[2], NULL, 10));
+    } else {
+        return 3;
+    }
+    return 0;
+}

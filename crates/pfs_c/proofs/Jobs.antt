@@ -1,0 +1,236 @@
+-- Lists of jobs that are judged from the left.
+use Rattle.std.proofs.Common.{◌≡◌, ◌↔◌, ℕ, zero, suc, ◌+◌, ◌<◌, ◌≤◌, refl, Bool, true, false, List, [], ◌∷◌}
+use Rattle.std.proofs.Common.{length, take, map, get_or, set, nat_eq, nat_lt, All, Contains, insert, sym, ◌∙◌, inl, inr, arith}
+use Rattle.std.proofs.Common.{Option, Some, None, add-zero, add-one, zero-add, ◌||◌, length-set, Result, IsOk}
+use Rattle.std.specs.List.{list_any, range_with_len}
+use Rattle.std.specs.Cmp.{nat_eq_equiv}
+use Rattle.std.proofs.lemmas.Bool.{cases_Bool, ne_eqb, eqb-true, eqb-false}
+use Rattle.std.proofs.lemmas.Bool.Decides.{nat_tests}
+use Rattle.std.proofs.lemmas.List.{get_or_default, get_or-set_other, take_more, take_all, length-take-le}
+use Rattle.std.proofs.lemmas.Grind.{get_or-set_at}
+use Rattle.std.proofs.lemmas.List.Edits.{insert_end}
+use Rattle.std.proofs.lemmas.List.Elements.{All-tail}
+use Rattle.std.proofs.lemmas.List.Folds.{list_any-append}
+use Rattle.std.proofs.lemmas.Map.Keys.{IsDistinct-tail}
+use Rattle.std.proofs.lemmas.Map.Views.{list_any-from_Contains}
+use Rattle.pfs_base.specs.Lists.{below, first_some}
+use Rattle.pfs_order.specs.Sequence.{IsSequence}
+use Rattle.pfs_order.proofs.Published.Sequences.{IsSequence-nil, IsSequence-head, IsSequence-insert}
+use Rattle.pfs_c.specs.declared.numbers.Refusal.{Refusal}
+use Rattle.pfs_c.specs.declared.numbers.Refusal.TheVariants.{Job, Repeated}
+use Rattle.pfs_c.specs.Numbers.{Judges}
+use Rattle.pfs_c.specs.Judgements.{job_refusal, place_refusal, jobs_refusal}
+
+-- ---- the first of several judgements
+
+pub first_none : (x : Option Refusal) (xs : List (Option Refusal)) → first_some (x ∷ xs) ≡ None
+    → (x ≡ None) × (first_some xs ≡ None)
+first_none None xs h = (refl, h)
+first_none (Some why) xs h = absurd (cc)
+
+-- nothing before a place, and this there
+first_there : (f : ℕ → Option Refusal) (count from k : ℕ) (why : Refusal) → k < count
+    → ((j : ℕ) → j < k → f (from + j) ≡ None) → f (from + k) ≡ Some why
+    → first_some (map f (range_with_len from count)) ≡ Some why
+first_there f zero from k why within none there = absurd (omega arith)
+first_there f (suc count) from zero why within none there = rw (rw (add-zero from) at there)
+first_there f (suc count) from (suc k) why within none there =
+    let here : f from ≡ None = rw (add-zero from) at (none 0 (omega arith)) in
+    let same : (j : ℕ) → from + 1 + j ≡ from + suc j = λ j. omega arith in
+    rw here (first_there f count (from + 1) k why (omega arith)
+    (λ j h. rw (same j) (none (suc j) (omega arith))) (rw (same k) there))
+
+none_there : (f : ℕ → Option Refusal) (count from : ℕ) → ((j : ℕ) → j < count → f (from + j) ≡ None)
+    → first_some (map f (range_with_len from count)) ≡ None
+none_there f zero from none = refl
+none_there f (suc count) from none =
+    let here : f from ≡ None = rw (add-zero from) at (none 0 (omega arith)) in
+    let same : (j : ℕ) → from + 1 + j ≡ from + suc j = λ j. omega arith in
+    rw here (none_there f count (from + 1) (λ j h. rw (same j) (none (suc j) (omega arith))))
+
+each_none : (f : ℕ → Option Refusal) (count from j : ℕ) → first_some (map f (range_with_len from count)) ≡ None
+    → j < count → f (from + j) ≡ None
+each_none f zero from j none within = absurd (omega arith)
+each_none f (suc count) from zero none within =
+    let parts = first_none (f from) (map f (range_with_len (from + 1) count)) none in rw (add-zero from) parts.0
+each_none f (suc count) from (suc j) none within =
+    let parts = first_none (f from) (map f (range_with_len (from + 1) count)) none in
+    let same : from + suc j ≡ from + 1 + j = omega arith in
+    rw same (each_none f count (from + 1) j parts.1 (omega arith))
+
+-- the same of the numbers below a count
+
+first_below : (f : ℕ → Option Refusal) (count k : ℕ) (why : Refusal) → k < count
+    → ((j : ℕ) → j < k → f j ≡ None) → f k ≡ Some why → first_some (map f (below count)) ≡ Some why
+first_below f count k why within none there =
+    first_there f count 0 k why within (λ j h. rw (zero-add j) (none j h)) (rw (zero-add k) there)
+
+none_below : (f : ℕ → Option Refusal) (count : ℕ) → ((j : ℕ) → j < count → f j ≡ None)
+    → first_some (map f (below count)) ≡ None
+none_below f count none = none_there f count 0 (λ j h. rw (zero-add j) (none j h))
+
+each_below : (f : ℕ → Option Refusal) (count j : ℕ) → first_some (map f (below count)) ≡ None
+    → j < count → f j ≡ None
+each_below f count j none within = rw (zero-add j) at (each_none f count 0 j none within)
+
+-- ---- a job among others
+
+job_out : (size job : ℕ) (others : List ℕ) → size ≤ job → job_refusal size others job ≡ Some Job
+job_out size job others h = let test : nat_lt job size ≡ false = grind (arith, nat_tests) in rw test
+
+job_twice : (size job : ℕ) (others : List ℕ) → job < size → list_any (nat_eq job) others ≡ true
+    → job_refusal size others job ≡ Some Repeated
+job_twice size job others small found = let test : nat_lt job size ≡ true = grind (arith, nat_tests) in rw (test, found)
+
+job_right : (size job : ℕ) (others : List ℕ) → job < size → list_any (nat_eq job) others ≡ false
+    → job_refusal size others job ≡ None
+job_right size job others small none = let test : nat_lt job size ≡ true = grind (arith, nat_tests) in rw (test, none)
+
+pub job_small : (size job : ℕ) (others : List ℕ) → job_refusal size others job ≡ None → job < size
+job_small size job others h = elim (cases_Bool (nat_lt job size)) [
+  | inl small ↦ grind (arith, nat_tests)
+  | inr great ↦ absurd (let out = job_out size job others (grind (arith, nat_tests)) in cc)
+]
+
+pub job_absent : (size job : ℕ) (others : List ℕ) → job_refusal size others job ≡ None → Contains others job → ⊥
+job_absent size job others h among =
+    let twice = job_twice size job others (job_small size job others h) (list_any-from_Contains nat_eq_equiv job others among) in
+    absurd (cc)
+
+-- ---- jobs up to a place, which were judged and marked
+
+pub record AreJudged (size : ℕ) (jobs : List ℕ) (marks : List Bool) (place : ℕ) : Type 0 where
+  pub enough : size ≤ length marks
+  pub right : (k : ℕ) → k < place → place_refusal size jobs k ≡ None
+  pub marked : (job : ℕ) (d : Bool) → job < length marks → get_or marks job d ≡ list_any (nat_eq job) (take place jobs)
+
+pub judged_start : (size : ℕ) (jobs : List ℕ) (marks : List Bool) → size ≤ length marks
+    → All (λ mark. mark ≡ false) marks → AreJudged size jobs marks 0
+judged_start size jobs marks enough none = record {
+  enough = enough;
+  right = λ k h. absurd (omega arith);
+  marked = λ job d within. none job d within;
+}
+
+pub judged_out : (size : ℕ) (jobs : List ℕ) (marks : List Bool) (place : ℕ) → AreJudged size jobs marks place
+    → place < length jobs → size ≤ get_or jobs place 0 → jobs_refusal size jobs ≡ Some Job
+judged_out size jobs marks place h within great =
+    first_below (place_refusal size jobs) (length jobs) place Job within h.right
+    (job_out size (get_or jobs place 0) (take place jobs) great)
+
+pub judged_twice : (size : ℕ) (jobs : List ℕ) (marks : List Bool) (place : ℕ) (d : Bool) → AreJudged size jobs marks place
+    → place < length jobs → get_or jobs place 0 < size → get_or marks (get_or jobs place 0) d ≡ true
+    → jobs_refusal size jobs ≡ Some Repeated
+judged_twice size jobs marks place d h within small mark =
+    let enough = h.enough in
+    let is = h.marked (get_or jobs place 0) d (omega arith) in
+    first_below (place_refusal size jobs) (length jobs) place Repeated within h.right
+    (job_twice size (get_or jobs place 0) (take place jobs) small (sym is ∙ mark))
+
+or_true : (b : Bool) → (b || true) ≡ true
+or_true true = refl
+or_true false = refl
+
+or_false : (b : Bool) → (b || false) ≡ b
+or_false true = refl
+or_false false = refl
+
+-- one job more, which is marked
+pub judged_more : (size : ℕ) (jobs : List ℕ) (marks : List Bool) (place : ℕ) (d : Bool) → AreJudged size jobs marks place
+    → place < length jobs → get_or jobs place 0 < size → get_or marks (get_or jobs place 0) d ≡ false
+    → AreJudged size jobs (set marks (get_or jobs place 0) true) (place + 1)
+judged_more size jobs marks place d h within small mark =
+    let job = get_or jobs place 0 in
+    let enough = h.enough in
+    let long : length (set marks job true) ≡ length marks = length-set marks job true in
+    let is = h.marked job d (omega arith) in
+    let right = job_right size job (take place jobs) small (sym is ∙ mark) in
+    let more : (other : ℕ) → list_any (nat_eq other) (take (place + 1) jobs)
+    ≡ (list_any (nat_eq other) (take place jobs) || (nat_eq other job || false)) =
+    λ other. rw (take_more jobs place 0 within) (list_any-append (nat_eq other) (take place jobs) (job ∷ [])) in
+    record {
+      enough = rw long enough;
+      right = λ k lt. elim (cases_Bool (nat_eq k place)) [
+        | inl same ↦ rw (eqb-true k place same) right
+        | inr other ↦ h.right k (let apart = eqb-false k place other in omega arith)
+      ];
+      marked = λ other e lt. elim (cases_Bool (nat_eq other job)) [
+        | inl same ↦ rw (more other, same, or_true (list_any (nat_eq other) (take place jobs)))
+            (get_or-set_at marks job other true e (eqb-true other job same) (omega arith))
+        | inr apart ↦ rw (more other, apart, or_false (list_any (nat_eq other) (take place jobs)))
+            (get_or-set_other marks job other true e (eqb-false other job apart) ∙ h.marked other e (omega (arith, long)))
+      ];
+    }
+
+pub judged_all : (size : ℕ) (jobs : List ℕ) (marks : List Bool) (place : ℕ) → AreJudged size jobs marks place
+    → length jobs ≤ place → jobs_refusal size jobs ≡ None
+judged_all size jobs marks place h all =
+    none_below (place_refusal size jobs) (length jobs) (λ j lt. h.right j (omega arith))
+
+-- ---- a list is right exactly where it is a sequence
+
+sequence_to : (size : ℕ) (jobs : List ℕ) (count : ℕ) → jobs_refusal size jobs ≡ None → count ≤ length jobs
+    → IsSequence size (take count jobs)
+sequence_to size jobs zero h within = IsSequence-nil size
+sequence_to size jobs (suc count) h within =
+    let job = get_or jobs count 0 in
+    let right = each_below (place_refusal size jobs) (length jobs) count h (omega arith) in
+    let short : count < length jobs = omega arith in
+    let before = sequence_to size jobs count h (omega arith) in
+    let put = IsSequence-insert size (length (take count jobs)) job (take count jobs)
+    (job_small size job (take count jobs) right) (job_absent size job (take count jobs) right) before in
+    let same = rw (add-one count) at (take_more jobs count 0 short) in
+    rw same (rw (insert_end (take count jobs) job) at put)
+
+pub sequence_of_right : (size : ℕ) (jobs : List ℕ) → jobs_refusal size jobs ≡ None → IsSequence size jobs
+sequence_of_right size jobs h = rw (take_all (length jobs) jobs (omega arith)) at (sequence_to size jobs (length jobs) h (omega arith))
+
+IsSequence-rest : (size job : ℕ) (jobs : List ℕ) → IsSequence size (job ∷ jobs) → IsSequence size jobs
+IsSequence-rest size job jobs h = record {
+  in_range = All-tail (λ j. j < size) job jobs h.in_range;
+  distinct = IsDistinct-tail nat_eq job jobs h.distinct;
+}
+
+-- the job at a place is in range, and stands nowhere before
+absent_before : (size : ℕ) (jobs : List ℕ) (place : ℕ) → IsSequence size jobs → place < length jobs
+    → list_any (nat_eq (get_or jobs place 0)) (take place jobs) ≡ false
+absent_before size [] place h within = absurd (omega arith)
+absent_before size (first ∷ rest) zero h within = refl
+absent_before size (first ∷ rest) (suc place) h within =
+    let short : place < length rest = omega arith in
+    let job = get_or rest place 0 in
+    let apart = ne_eqb job first (λ same. IsSequence-head size first rest h
+    (place, short, get_or_default rest place first 0 short ∙ same)) in
+    rw (apart, absent_before size rest place (IsSequence-rest size first rest h) short)
+
+pub right_of_sequence : (size : ℕ) (jobs : List ℕ) → IsSequence size jobs → jobs_refusal size jobs ≡ None
+right_of_sequence size jobs h = none_below (place_refusal size jobs) (length jobs) (λ place within.
+    job_right size (get_or jobs place 0) (take place jobs) (h.in_range place 0 within)
+    (absent_before size jobs place h within))
+
+-- ---- a sequence that grows job by job
+
+pub none_before : (size : ℕ) (jobs : List ℕ) (place : ℕ) → IsSequence size jobs → place < length jobs
+    → Contains (take place jobs) (get_or jobs place 0) → ⊥
+none_before size jobs place h within among =
+    let found = list_any-from_Contains nat_eq_equiv (get_or jobs place 0) (take place jobs) among in
+    let none = absent_before size jobs place h within in
+    absurd (cc)
+
+pub grown : (jobs : List ℕ) (place : ℕ) → place < length jobs
+    → insert (take place jobs) place (get_or jobs place 0) ≡ take (place + 1) jobs
+grown jobs place within =
+    let long = length-take-le place jobs (omega arith) in
+    sym (take_more jobs place 0 within ∙ sym (rw long at (insert_end (take place jobs) (get_or jobs place 0))))
+
+-- ---- what a judgement says
+
+judged_by : (result : Result (Unit {0}) Refusal) (found : Option Refusal) (size : ℕ) (jobs : List ℕ) → Judges result found
+    → jobs_refusal size jobs ≡ found → IsOk result ↔ IsSequence size jobs
+judged_by result None size jobs h is = (λ _. sequence_of_right size jobs is, λ _. h)
+judged_by result (Some why) size jobs h is =
+    (λ ok. absurd (let e = rw h at ok in cc), λ sequence. absurd (let right = right_of_sequence size jobs sequence in cc))
+
+pub judged_is : (result : Result (Unit {0}) Refusal) (size : ℕ) (jobs : List ℕ) → Judges result (jobs_refusal size jobs)
+    → IsOk result ↔ IsSequence size jobs
+judged_is result size jobs h = judged_by result (jobs_refusal size jobs) size jobs h refl

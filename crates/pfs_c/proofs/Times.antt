@@ -1,0 +1,43 @@
+-- Lists of times that are judged.
+use Rattle.std.proofs.Common.{◌≡◌, ℕ, ◌+◌, ◌<◌, ◌≤◌, refl, Bool, true, false, List, [], ◌∷◌, length, take, max, get_or, ◌&&◌, nat_le}
+use Rattle.std.proofs.Common.{inl, inr, sym, arith}
+use Rattle.std.specs.List.{list_all}
+use Rattle.std.proofs.lemmas.Bool.{cases_Bool}
+use Rattle.std.proofs.lemmas.Bool.Decides.{nat_tests}
+use Rattle.std.proofs.lemmas.List.{take_more, take_all}
+use Rattle.std.proofs.lemmas.List.Folds.{list_all-append}
+
+-- the longest of some times is short exactly where each is
+abbrev pub AreShortTo : ℕ → List ℕ → ℕ → ℕ → Type 0
+AreShortTo limit times index longest =
+    nat_le longest limit ≡ list_all (λ time. nat_le time limit) (take index times)
+
+max_short : (a b limit : ℕ) → nat_le (max a b) limit ≡ (nat_le a limit && nat_le b limit)
+max_short a b limit = elim (cases_Bool (nat_le a limit)) [
+  | inl short ↦ elim (cases_Bool (nat_le b limit)) [
+    | inl also ↦ rw (short, also) (grind (arith, nat_tests))
+    | inr long ↦ rw (short, long) (grind (arith, nat_tests))
+  ]
+  | inr long ↦ rw long (grind (arith, nat_tests))
+]
+
+and_true : (a b : Bool) → (a && (b && true)) ≡ (a && b)
+and_true true true = refl
+and_true true false = refl
+and_true false b = refl
+
+pub short_more : (limit : ℕ) (times : List ℕ) (index longest : ℕ) → index < length times
+    → AreShortTo limit times index longest → AreShortTo limit times (index + 1) (max longest (get_or times index 0))
+short_more limit times index longest within h =
+    let time = get_or times index 0 in
+    rw (
+      max_short longest time limit,
+      take_more times index 0 within,
+      list_all-append (λ time. nat_le time limit) (take index times) (time ∷ []),
+      h,
+    )
+    (sym (and_true (list_all (λ time. nat_le time limit) (take index times)) (nat_le time limit)))
+
+pub short_all : (limit : ℕ) (times : List ℕ) (index longest : ℕ) → length times ≤ index
+    → AreShortTo limit times index longest → list_all (λ time. nat_le time limit) times ≡ nat_le longest limit
+short_all limit times index longest all h = sym (rw (take_all index times all) at h)

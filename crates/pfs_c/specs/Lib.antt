@@ -1,0 +1,5 @@
+pub mod Judgements
+pub mod Numbers
+pub mod Searching
+pub mod Tables
+pub mod Texts

@@ -1,0 +1,202 @@
+//! What C hands in: it is judged, and copied into the types of the crates below.
+ghost use Rattle.std.specs.Prelude.{◌≡◌, ◌≤◌, ◌<◌, ◌*◌, ◌↔◌, length, false, All, Contains, IsOk, IfOk, IfErr};
+ghost use Rattle.pfs_base.specs.FlowShop.{AreSizes, IsWithin};
+ghost use Rattle.pfs_base.specs.Limits.{limits};
+ghost use Rattle.pfs_order.specs.Sequence.{IsSequence};
+ghost use Rattle.pfs_c.specs.Judgements.{shop_of, sizes_refusal, length_refusal, times_refusal, shop_refusal};
+ghost use Rattle.pfs_c.specs.Judgements.{jobs_refusal, job_refusal};
+ghost use Rattle.pfs_c.specs.Numbers.{Judges};
+
+use crate::numbers::Refusal;
+use pfs_base::{Instance, LONGEST_TIME, MOST_JOBS, MOST_MACHINES, Notes};
+use pfs_order::{Order, Seq};
+use std::alloc::{AllocError, Global};
+
+/// The notes of an instance that needs none.
+pub(crate) const NO_NOTES: Notes = Notes {
+    seed: 0,
+    upper: 0,
+    lower: 0,
+};
+
+// Sequences of jobs below this number are judged with few marks, since clearing many takes longer than
+// judging a few jobs.
+const FEW_JOBS: usize = 512;
+
+/// Judges the numbers of jobs and of machines: `Size` where one is out of its limit.
+pub(crate) fn judge_sizes(jobs: usize, machines: usize) -> Result<(), Refusal>
+    ensures judged { Judges result (sizes_refusal jobs machines) }
+    ensures within { IfOk result (λ done. AreSizes limits jobs machines) }
+{
+    if jobs >= 1 && jobs <= MOST_JOBS && machines >= 1 && machines <= MOST_MACHINES {
+        Ok(())
+    } else {
+        Err(Refusal::Size)
+    }
+}
+
+/// Judges how many entries a list has: `Length` where they aren't as many as are wanted.
+pub(crate) fn judge_length(length: usize, wanted: usize) -> Result<(), Refusal>
+    ensures judged { Judges result (length_refusal length wanted) }
+    ensures equal { IfOk result (λ done. length ≡ wanted) }
+{
+    if length == wanted {
+        Ok(())
+    } else {
+        Err(Refusal::Length)
+    }
+}
+
+/// Judges times: `Time` where one is too long.
+pub(crate) fn judge_times(times: &[u32]) -> Result<(), Refusal>
+    ensures judged { Judges result (times_refusal times.now) }
+    ensures short { IfOk result (λ done. All (λ time. time ≤ LONGEST_TIME) times.now) }
+{
+    // The greatest is compared once, since no lanes are made of a loop that may end early.
+    let mut longest = 0;
+    for time in times {
+        longest = longest.max(*time);
+    }
+    if longest <= LONGEST_TIME {
+        Ok(())
+    } else {
+        Err(Refusal::Time)
+    }
+}
+
+/// Judges the sizes, then how many times there are, then the times.
+pub(crate) fn judge_shop(times: &[u32], jobs: usize, machines: usize) -> Result<(), Refusal>
+    ensures judged { Judges result (shop_refusal times.now jobs machines) }
+    ensures within { IfOk result (λ done. IsWithin limits (shop_of times.now jobs machines)) }
+{
+    judge_sizes(jobs, machines)?;
+    judge_length(times.len(), jobs * machines)?;
+    judge_times(times)
+}
+
+/// Judges a list of jobs from the left: `Job` where one isn't below the size, `Repeated` where one stands at an
+/// earlier place too, whichever place comes first. It asks for no memory, and looks at each job once.
+pub(crate) fn judge_jobs(size: usize, jobs: &[u32]) -> Result<(), Refusal>
+    requires { size ≤ MOST_JOBS }
+    ensures judged { Judges result (jobs_refusal size jobs.now) }
+    ensures sequence { IsOk result ↔ IsSequence size jobs.now }
+{
+    if size <= FEW_JOBS {
+        judge_few_jobs(size, jobs)
+    } else {
+        judge_many_jobs(size, jobs)
+    }
+}
+
+// The same with few marks and with many, each in a frame of its own.
+#[inline(never)]
+fn judge_few_jobs(size: usize, jobs: &[u32]) -> Result<(), Refusal>
+    requires { size ≤ FEW_JOBS }
+    ensures { Judges result (jobs_refusal size jobs.now) }
+{
+    judge_with_marks(size, jobs, &mut [false; FEW_JOBS])
+}
+
+#[inline(never)]
+fn judge_many_jobs(size: usize, jobs: &[u32]) -> Result<(), Refusal>
+    requires { size ≤ MOST_JOBS }
+    ensures { Judges result (jobs_refusal size jobs.now) }
+{
+    judge_with_marks(size, jobs, &mut [false; MOST_JOBS])
+}
+
+// The same with a mark for each job, of which none is set.
+#[inline(always)]
+fn judge_with_marks(size: usize, jobs: &[u32], marks: &mut [bool]) -> Result<(), Refusal>
+    requires enough { size ≤ length marks.old }
+    requires none { All (λ mark. mark ≡ false) marks.old }
+    ensures { Judges result (jobs_refusal size jobs.now) }
+{
+    for job in jobs {
+        let job = *job as usize;
+        if job >= size {
+            return Err(Refusal::Job);
+        }
+        if marks[job] {
+            return Err(Refusal::Repeated);
+        }
+        marks[job] = true;
+    }
+    Ok(())
+}
+
+/// Judges a job that is to be inserted into a sequence: `Job` where it isn't below the size, and then `Repeated`
+/// where it stands there already. It looks at each place.
+pub(crate) fn judge_job(size: usize, sequence: &[u32], job: u32) -> Result<(), Refusal>
+    ensures judged { Judges result (job_refusal size sequence.now job) }
+    ensures in_range { IfOk result (λ done. job < size) }
+    ensures absent { IfOk result (λ done. Contains sequence.now job → ⊥) }
+{
+    if job as usize >= size {
+        return Err(Refusal::Job);
+    }
+    if sequence.contains(&job) {
+        return Err(Refusal::Repeated);
+    }
+    Ok(())
+}
+
+/// An instance of times that were judged. It fails only where its memory is refused, which it asks for once.
+pub(crate) fn instance_of(
+    alloc: Global,
+    times: &[u32],
+    jobs: usize,
+    machines: usize,
+    notes: Notes,
+) -> Result<Instance, Refusal>
+    requires { IsWithin limits (shop_of times.now jobs machines) }
+    ensures made { IfOk result (λ made. made ≡ record { shop = shop_of times.now jobs machines; notes = notes }) }
+    ensures memory { IfErr result (λ why. why ≡ Refusal.Memory) }
+{
+    match Instance::of_times(alloc, jobs, machines, times, notes) {
+        Ok(instance) => Ok(instance),
+        Err(AllocError) => Err(Refusal::Memory),
+    }
+}
+
+/// A sequence of jobs that were judged. It fails only where its memory is refused, which it asks for once.
+pub(crate) fn sequence_of(alloc: Global, size: usize, jobs: &[u32]) -> Result<Seq, Refusal>
+    requires some { 1 ≤ size }
+    requires few { size ≤ MOST_JOBS }
+    requires sequence { IsSequence size jobs.now }
+    ensures made { IfOk result (λ made. made ≡ record { size = size; jobs = jobs.now }) }
+    ensures memory { IfErr result (λ why. why ≡ Refusal.Memory) }
+{
+    let mut sequence = match Seq::new(alloc, size) {
+        Ok(sequence) => sequence,
+        Err(_) => return Err(Refusal::Memory),
+    };
+    for (place, job) in jobs.iter().enumerate() {
+        sequence.insert_at(place, *job as usize);
+    }
+    Ok(sequence)
+}
+
+/// An order of all jobs, which were judged. It fails only where its memory is refused, which it asks for once.
+pub(crate) fn order_of(alloc: Global, jobs: &[u32]) -> Result<Order, Refusal>
+    requires some { 1 ≤ length jobs.now }
+    requires few { length jobs.now ≤ MOST_JOBS }
+    requires sequence { IsSequence (length jobs.now) jobs.now }
+    ensures made { IfOk result (λ made. made ≡ jobs.now) }
+    ensures memory { IfErr result (λ why. why ≡ Refusal.Memory) }
+{
+    match Order::from_seq(sequence_of(alloc, jobs.len(), jobs)?) {
+        Ok(order) => Ok(order),
+        Err(_) => unreachable!(),
+    }
+}
+
+/// Copies an order out to C.
+pub(crate) fn copy_order(order: &Order, out: &mut [u32])
+    requires { length order.now ≡ length out.old }
+    ensures { out.new ≡ order.now }
+{
+    for place in 0..order.len() {
+        out[place] = order.at(place) as u32;
+    }
+}

@@ -1,0 +1,170 @@
+//! NEH and rounds of a search for C.
+ghost use Rattle.std.specs.Prelude.{◌≡◌, ◌≢◌, ◌+◌, ◌≤◌, length, IfOk};
+ghost use Rattle.pfs_search.specs.Solution.{IsImproved};
+ghost use Rattle.pfs_c.specs.Judgements.{shop_of};
+ghost use Rattle.pfs_c.specs.Numbers.{Answers, Judges, Refuses};
+ghost use Rattle.pfs_c.specs.Searching.{neh_refusal, rounds_refusal, take_refusal, passes_refusal, count_refusal};
+ghost use Rattle.pfs_c.specs.Searching.{IsNeh};
+
+use crate::given::{
+    NO_NOTES, copy_order, instance_of, judge_jobs, judge_length, judge_sizes, judge_times, order_of,
+};
+use crate::numbers::{PFS_OK, Refusal};
+use pfs_base::{MOST_PASSES, MOST_ROUNDS};
+use pfs_search::{Solution, improve, solve};
+use std::alloc::Global;
+
+/// NEH's order (Nawaz, Enscore, Ham 1983) by heads and tails (Taillard 1990), its makespan, and how many cells were
+/// counted.
+#[unsafe(no_mangle)]
+pub extern "C" fn pfs_neh(
+    alloc: Global,
+    times: &[u32],
+    jobs: usize,
+    machines: usize,
+    order: &mut [u32],
+    span: &mut u64,
+    cells: &mut u64,
+) -> i32
+    ensures number { Answers result (neh_refusal times.now jobs machines (length order.old)) }
+    ensures done { result ≡ PFS_OK → IsNeh (shop_of times.now jobs machines) order.new span.new cells.new }
+    ensures kept_order { result ≢ PFS_OK → order.new ≡ order.old }
+    ensures kept_span { result ≢ PFS_OK → span.new ≡ span.old }
+    ensures kept_cells { result ≢ PFS_OK → cells.new ≡ cells.old }
+{
+    match neh_of(alloc, times, jobs, machines, order.len()) {
+        Ok(found) => {
+            copy_order(&found.order, order);
+            *span = found.makespan;
+            *cells = found.cells;
+            PFS_OK
+        }
+        Err(why) => why.number(),
+    }
+}
+
+// NEH's order, for a list with room for so many jobs.
+fn neh_of(
+    alloc: Global,
+    times: &[u32],
+    jobs: usize,
+    machines: usize,
+    room: usize,
+) -> Result<Solution, Refusal>
+    ensures refused { Refuses result (neh_refusal times.now jobs machines room) }
+    ensures found { IfOk result (λ found.
+        IsNeh (shop_of times.now jobs machines) found.order found.makespan found.cells) }
+    ensures long { IfOk result (λ found. length found.order ≡ room) }
+{
+    judge_sizes(jobs, machines)?;
+    judge_length(times.len(), jobs * machines)?;
+    judge_length(room, jobs)?;
+    judge_times(times)?;
+    let instance = instance_of(alloc, times, jobs, machines, NO_NOTES)?;
+    match solve(alloc, &instance, 0, 1, 0, 0) {
+        Ok(found) => Ok(found),
+        Err(_) => Err(Refusal::Memory),
+    }
+}
+
+/// Rounds `first` to `first + count - 1` of the search of a seed, counted from 0, over an order of all jobs that is
+/// handed in. It is written over with the order behind these rounds; beside it stand that order's makespan, and how
+/// many cells these rounds counted.
+#[unsafe(no_mangle)]
+pub extern "C" fn pfs_rounds(
+    alloc: Global,
+    times: &[u32],
+    jobs: usize,
+    machines: usize,
+    order: &mut [u32],
+    first: u32,
+    count: u32,
+    take: usize,
+    passes: u32,
+    seed: u64,
+    span: &mut u64,
+    cells: &mut u64,
+) -> i32
+    ensures number { Answers result (rounds_refusal times.now jobs machines order.old first count take passes) }
+    ensures done { result ≡ PFS_OK → IsImproved (shop_of times.now jobs machines) order.old first count take passes seed
+        order.new span.new cells.new }
+    ensures kept_order { result ≢ PFS_OK → order.new ≡ order.old }
+    ensures kept_span { result ≢ PFS_OK → span.new ≡ span.old }
+    ensures kept_cells { result ≢ PFS_OK → cells.new ≡ cells.old }
+{
+    match rounds_of(
+        alloc, times, jobs, machines, order, first, count, take, passes, seed,
+    ) {
+        Ok(found) => {
+            copy_order(&found.order, order);
+            *span = found.makespan;
+            *cells = found.cells;
+            PFS_OK
+        }
+        Err(why) => why.number(),
+    }
+}
+
+// What so many rounds make of an order.
+fn rounds_of(
+    alloc: Global,
+    times: &[u32],
+    jobs: usize,
+    machines: usize,
+    start: &[u32],
+    first: u32,
+    count: u32,
+    take: usize,
+    passes: u32,
+    seed: u64,
+) -> Result<Solution, Refusal>
+    ensures refused { Refuses result (rounds_refusal times.now jobs machines start.now first count take passes) }
+    ensures found { IfOk result (λ found. IsImproved (shop_of times.now jobs machines) start.now first count take passes
+        seed found.order found.makespan found.cells) }
+    ensures long { IfOk result (λ found. length found.order ≡ length start.now) }
+{
+    judge_sizes(jobs, machines)?;
+    judge_length(times.len(), jobs * machines)?;
+    judge_length(start.len(), jobs)?;
+    judge_times(times)?;
+    judge_jobs(jobs, start)?;
+    judge_take(take, jobs)?;
+    judge_passes(passes)?;
+    judge_count(first, count)?;
+    let instance = instance_of(alloc, times, jobs, machines, NO_NOTES)?;
+    let order = order_of(alloc, start)?;
+    match improve(alloc, &instance, order, first, count, take, passes, seed) {
+        Ok(found) => Ok(found),
+        Err(_) => Err(Refusal::Memory),
+    }
+}
+
+fn judge_take(take: usize, jobs: usize) -> Result<(), Refusal>
+    ensures { Judges result (take_refusal take jobs) }
+{
+    if take >= 1 && take <= jobs {
+        Ok(())
+    } else {
+        Err(Refusal::Take)
+    }
+}
+
+fn judge_passes(passes: u32) -> Result<(), Refusal>
+    ensures { Judges result (passes_refusal passes) }
+{
+    if passes <= MOST_PASSES {
+        Ok(())
+    } else {
+        Err(Refusal::Passes)
+    }
+}
+
+fn judge_count(first: u32, count: u32) -> Result<(), Refusal>
+    ensures { Judges result (count_refusal first count) }
+{
+    if first as u64 + count as u64 <= MOST_ROUNDS as u64 {
+        Ok(())
+    } else {
+        Err(Refusal::Rounds)
+    }
+}

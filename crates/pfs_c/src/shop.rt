@@ -1,0 +1,288 @@
+//! Makespans, bounds, time tables, insertions and generated instances for C.
+ghost use Rattle.std.specs.Prelude.{◌≡◌, ◌≢◌, length, IfOk};
+ghost use Rattle.pfs_base.specs.Paths.{makespan};
+ghost use Rattle.pfs_audit.specs.Bound.{bound_of};
+ghost use Rattle.pfs_audit.specs.Schedule.{IsLeastSchedule};
+ghost use Rattle.pfs_insert.specs.Inserter.{IsBestPlace};
+ghost use Rattle.pfs_layout.specs.Generator.{generated};
+ghost use Rattle.pfs_c.specs.Judgements.{shop_of, shop_refusal, makespan_refusal, table_refusal, insert_refusal};
+ghost use Rattle.pfs_c.specs.Judgements.{generate_refusal, seed_refusal};
+ghost use Rattle.pfs_c.specs.Numbers.{Answers, Judges, Refuses};
+ghost use Rattle.pfs_c.specs.Tables.{AreEnds, entry};
+
+use crate::given::{
+    NO_NOTES, instance_of, judge_job, judge_jobs, judge_length, judge_shop, judge_sizes,
+    judge_times, order_of, sequence_of,
+};
+use crate::numbers::{PFS_OK, Refusal};
+use pfs_audit::{TimeTable, bound, makespan, table};
+use pfs_base::Instance;
+use pfs_insert::{HeadsTails, Inserter, Placed};
+use pfs_layout::generate;
+use std::alloc::Global;
+
+/// The makespan of a sequence of distinct jobs, which need not be all; of no job it is 0.
+#[unsafe(no_mangle)]
+pub extern "C" fn pfs_makespan(
+    alloc: Global,
+    times: &[u32],
+    jobs: usize,
+    machines: usize,
+    sequence: &[u32],
+    span: &mut u64,
+) -> i32
+    ensures number { Answers result (makespan_refusal times.now jobs machines sequence.now) }
+    ensures done { result ≡ PFS_OK → span.new ≡ makespan (shop_of times.now jobs machines) sequence.now }
+    ensures kept { result ≢ PFS_OK → span.new ≡ span.old }
+{
+    match makespan_of(alloc, times, jobs, machines, sequence) {
+        Ok(value) => {
+            *span = value;
+            PFS_OK
+        }
+        Err(why) => why.number(),
+    }
+}
+
+fn makespan_of(
+    alloc: Global,
+    times: &[u32],
+    jobs: usize,
+    machines: usize,
+    sequence: &[u32],
+) -> Result<u64, Refusal>
+    ensures refused { Refuses result (makespan_refusal times.now jobs machines sequence.now) }
+    ensures value { IfOk result (λ value. value ≡ makespan (shop_of times.now jobs machines) sequence.now) }
+{
+    judge_shop(times, jobs, machines)?;
+    judge_jobs(jobs, sequence)?;
+    let instance = instance_of(alloc, times, jobs, machines, NO_NOTES)?;
+    let sequence = sequence_of(alloc, jobs, sequence)?;
+    let mut bench = instance.metered();
+    match makespan(alloc, &mut bench, &sequence) {
+        Ok(span) => Ok(bench.reveal(span)),
+        Err(_) => Err(Refusal::Memory),
+    }
+}
+
+/// A length of time below which no order's makespan goes (Taillard 1993).
+#[unsafe(no_mangle)]
+pub extern "C" fn pfs_bound(
+    alloc: Global,
+    times: &[u32],
+    jobs: usize,
+    machines: usize,
+    least: &mut u64,
+) -> i32
+    ensures number { Answers result (shop_refusal times.now jobs machines) }
+    ensures done { result ≡ PFS_OK → least.new ≡ bound_of (shop_of times.now jobs machines) }
+    ensures kept { result ≢ PFS_OK → least.new ≡ least.old }
+{
+    match judged_instance(alloc, times, jobs, machines) {
+        Ok(instance) => {
+            *least = bound(&instance);
+            PFS_OK
+        }
+        Err(why) => why.number(),
+    }
+}
+
+fn judged_instance(
+    alloc: Global,
+    times: &[u32],
+    jobs: usize,
+    machines: usize,
+) -> Result<Instance, Refusal>
+    ensures refused { Refuses result (shop_refusal times.now jobs machines) }
+    ensures made { IfOk result (λ made. made.shop ≡ shop_of times.now jobs machines) }
+{
+    judge_shop(times, jobs, machines)?;
+    instance_of(alloc, times, jobs, machines, NO_NOTES)
+}
+
+/// When each operation of an order of all jobs starts and ends, each as early as it can, row by row: row r is
+/// the job at place r of the order, and has an entry for each machine.
+#[unsafe(no_mangle)]
+pub extern "C" fn pfs_table(
+    alloc: Global,
+    times: &[u32],
+    jobs: usize,
+    machines: usize,
+    order: &[u32],
+    starts: &mut [u64],
+    ends: &mut [u64],
+) -> i32
+    ensures number { Answers result
+        (table_refusal times.now jobs machines order.now (length starts.old) (length ends.old)) }
+    ensures starts { result ≡ PFS_OK →
+        IsLeastSchedule (shop_of times.now jobs machines) order.now (entry machines starts.new) }
+    ensures ends { result ≡ PFS_OK → AreEnds (shop_of times.now jobs machines) order.now starts.new ends.new }
+    ensures kept_starts { result ≢ PFS_OK → starts.new ≡ starts.old }
+    ensures kept_ends { result ≢ PFS_OK → ends.new ≡ ends.old }
+{
+    match table_of(
+        alloc,
+        times,
+        jobs,
+        machines,
+        order,
+        starts.len(),
+        ends.len(),
+    ) {
+        Ok(table) => {
+            starts.copy_from_slice(table.starts());
+            ends.copy_from_slice(table.ends());
+            PFS_OK
+        }
+        Err(why) => why.number(),
+    }
+}
+
+// The time table, for lists of so many starts and ends.
+fn table_of(
+    alloc: Global,
+    times: &[u32],
+    jobs: usize,
+    machines: usize,
+    order: &[u32],
+    starts: usize,
+    ends: usize,
+) -> Result<TimeTable, Refusal>
+    ensures refused { Refuses result (table_refusal times.now jobs machines order.now starts ends) }
+    ensures starts { IfOk result (λ table. length table.starts ≡ starts) }
+    ensures ends { IfOk result (λ table. length table.ends ≡ ends) }
+    ensures least { IfOk result (λ table.
+        IsLeastSchedule (shop_of times.now jobs machines) order.now (entry machines table.starts)) }
+    ensures timed { IfOk result (λ table.
+        AreEnds (shop_of times.now jobs machines) order.now table.starts table.ends) }
+{
+    judge_sizes(jobs, machines)?;
+    judge_length(times.len(), jobs * machines)?;
+    judge_length(order.len(), jobs)?;
+    judge_length(starts, jobs * machines)?;
+    judge_length(ends, jobs * machines)?;
+    judge_times(times)?;
+    judge_jobs(jobs, order)?;
+    let instance = instance_of(alloc, times, jobs, machines, NO_NOTES)?;
+    let order = order_of(alloc, order)?;
+    match table(alloc, &instance, &order) {
+        Ok(table) => Ok(table),
+        Err(_) => Err(Refusal::Memory),
+    }
+}
+
+/// The first best place of a job in a sequence of others, and the makespan with the job there.
+#[unsafe(no_mangle)]
+pub extern "C" fn pfs_insert(
+    alloc: Global,
+    times: &[u32],
+    jobs: usize,
+    machines: usize,
+    sequence: &[u32],
+    job: u32,
+    place: &mut usize,
+    span: &mut u64,
+) -> i32
+    ensures number { Answers result (insert_refusal times.now jobs machines sequence.now job) }
+    ensures done { result ≡ PFS_OK →
+        IsBestPlace (shop_of times.now jobs machines) sequence.now job place.new span.new }
+    ensures kept_place { result ≢ PFS_OK → place.new ≡ place.old }
+    ensures kept_span { result ≢ PFS_OK → span.new ≡ span.old }
+{
+    match best_of(alloc, times, jobs, machines, sequence, job) {
+        Ok(best) => {
+            *place = best.place;
+            *span = best.span;
+            PFS_OK
+        }
+        Err(why) => why.number(),
+    }
+}
+
+fn best_of(
+    alloc: Global,
+    times: &[u32],
+    jobs: usize,
+    machines: usize,
+    sequence: &[u32],
+    job: u32,
+) -> Result<Placed<u64>, Refusal>
+    ensures refused { Refuses result (insert_refusal times.now jobs machines sequence.now job) }
+    ensures best { IfOk result (λ best.
+        IsBestPlace (shop_of times.now jobs machines) sequence.now job best.place best.span) }
+{
+    judge_shop(times, jobs, machines)?;
+    judge_jobs(jobs, sequence)?;
+    judge_job(jobs, sequence, job)?;
+    let instance = instance_of(alloc, times, jobs, machines, NO_NOTES)?;
+    let sequence = sequence_of(alloc, jobs, sequence)?;
+    let mut bench = instance.metered();
+    let mut inserter = match HeadsTails::new(alloc, &bench) {
+        Ok(inserter) => inserter,
+        Err(_) => return Err(Refusal::Memory),
+    };
+    match inserter.best(alloc, &mut bench, &sequence, job as usize) {
+        Ok(best) => Ok(Placed {
+            place: best.place,
+            span: bench.reveal(best.span),
+        }),
+        Err(_) => Err(Refusal::Memory),
+    }
+}
+
+/// Draws times from 1 to 99 from a seed, as Taillard (1993) does for his benchmark.
+#[unsafe(no_mangle)]
+pub extern "C" fn pfs_generate(
+    alloc: Global,
+    jobs: usize,
+    machines: usize,
+    seed: u64,
+    times: &mut [u32],
+) -> i32
+    ensures number { Answers result (generate_refusal jobs machines seed (length times.old)) }
+    ensures done { result ≡ PFS_OK → times.new ≡ (generated jobs machines seed).shop.times }
+    ensures kept { result ≢ PFS_OK → times.new ≡ times.old }
+{
+    match generated_of(alloc, jobs, machines, seed, times.len()) {
+        Ok(instance) => {
+            times.copy_from_slice(instance.times());
+            PFS_OK
+        }
+        Err(why) => why.number(),
+    }
+}
+
+// The instance of a seed, for a list of so many times.
+fn generated_of(
+    alloc: Global,
+    jobs: usize,
+    machines: usize,
+    seed: u64,
+    long: usize,
+) -> Result<Instance, Refusal>
+    ensures refused { Refuses result (generate_refusal jobs machines seed long) }
+    ensures drawn { IfOk result (λ made. made ≡ generated jobs machines seed) }
+    ensures long { IfOk result (λ made. length made.shop.times ≡ long) }
+{
+    judge_sizes(jobs, machines)?;
+    judge_seed(seed)?;
+    judge_length(long, jobs * machines)?;
+    match generate(alloc, jobs, machines, seed) {
+        Ok(instance) => {
+            // Called for what it ensures of every instance.
+            let _ = instance.jobs();
+            Ok(instance)
+        }
+        Err(_) => Err(Refusal::Memory),
+    }
+}
+
+fn judge_seed(seed: u64) -> Result<(), Refusal>
+    ensures { Judges result (seed_refusal seed) }
+{
+    if seed >= 1 && seed <= 2_147_483_646 {
+        Ok(())
+    } else {
+        Err(Refusal::Seed)
+    }
+}

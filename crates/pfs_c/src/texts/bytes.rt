@@ -1,0 +1,103 @@
+//! Bytes in memory, as something that is read from and written to.
+ghost use Rattle.std.specs.Prelude.{◌≡◌, ◌≢◌, length, Some, [], false};
+ghost use Rattle.pfs_c.specs.Texts.{put_in_front, room_refusal, answer_of};
+
+use crate::numbers::{PFS_OK, Refusal};
+use pfs_base::{Sink, Source};
+use std::alloc::{AllocError, Global};
+
+/// A source of bytes that stand in memory, which never fails.
+#[derive(Drop)]
+pub(super) struct Bytes<'a> {
+    rest: &'a [u8],
+}
+
+impl<'a> Bytes<'a> {
+    /// A source of these bytes.
+    pub(super) fn new(bytes: &'a [u8]) -> Bytes<'a>
+        ensures left { ⟦<Bytes<'a> as Source>⟧.left result ≡ Some bytes.now }
+        ensures working { ⟦<Bytes<'a> as Source>⟧.has_failed result ≡ false }
+    {
+        Bytes { rest: bytes }
+    }
+}
+
+impl Source for Bytes<'_> {
+    ghost left = { λ s. Some s.rest.now };
+
+    ghost has_failed = { λ _. false };
+
+    fn read(&mut self, buf: &mut [u8]) -> Option<usize> {
+        let count = buf.len().min(self.rest.len());
+        let (front, rest) = self.rest.split_at(count);
+        buf[..count].copy_from_slice(front);
+        self.rest = rest;
+        Some(count)
+    }
+
+    fn failed(&self) -> bool {
+        false
+    }
+}
+
+/// A sink that gathers a text in memory of its own. It fails where memory for more is refused.
+#[derive(Drop)]
+pub(super) struct Text {
+    bytes: Vec<u8>,
+    failed: bool,
+}
+
+impl Text {
+    /// A sink that was given nothing.
+    pub(super) fn new(alloc: Global) -> Text
+        ensures written { ⟦<Text as Sink>⟧.written result ≡ Some [] }
+        ensures working { ⟦<Text as Sink>⟧.has_failed result ≡ false }
+    {
+        Text {
+            bytes: Vec::new(alloc),
+            failed: false,
+        }
+    }
+
+    /// What it was given.
+    pub(super) fn into_bytes(self) -> Vec<u8>
+        ensures { Some result.items ≡ ⟦<Text as Sink>⟧.written self }
+    {
+        self.bytes
+    }
+}
+
+impl Sink for Text {
+    ghost written = { λ t. Some t.bytes.items };
+
+    ghost has_failed = { λ t. t.failed };
+
+    fn write(&mut self, bytes: &[u8]) -> Option<usize> {
+        match self.bytes.extend_from_slice(bytes) {
+            Ok(()) => Some(bytes.len()),
+            Err(AllocError) => {
+                self.failed = true;
+                None
+            }
+        }
+    }
+
+    fn failed(&self) -> bool {
+        self.failed
+    }
+}
+
+/// Tells how long a text is, and puts it into the front of another where it has room there.
+pub(super) fn hand_out(bytes: &[u8], text: &mut [u8], len: &mut usize) -> i32
+    ensures number { result ≡ answer_of (room_refusal (length text.old) (length bytes.now)) }
+    ensures told { len.new ≡ length bytes.now }
+    ensures done { result ≡ PFS_OK → text.new ≡ put_in_front bytes.now text.old }
+    ensures kept { result ≢ PFS_OK → text.new ≡ text.old }
+{
+    *len = bytes.len();
+    if text.len() < bytes.len() {
+        return Refusal::Room.number();
+    }
+    text[..bytes.len()].copy_from_slice(bytes);
+    PFS_OK
+}

@@ -1,0 +1,142 @@
+//! Reading instance files that stand in memory.
+ghost use Rattle.std.specs.Prelude.{◌≡◌, ◌≢◌, ℕ, ◌*◌, ◌<◌, ◌≤◌, ◌<ℤ◌, ◌≤ℤ◌, List, ◌++◌, length, take, drop};
+ghost use Rattle.std.specs.Prelude.{IfOk, IfErr};
+ghost use Rattle.pfs_base.specs.Limits.{limits};
+ghost use Rattle.pfs_layout.specs.File.{IsInstanceFile};
+ghost use Rattle.pfs_layout.specs.Refuse.{RefusesInstance};
+ghost use Rattle.pfs_layout.specs.declared.fault.LayoutFault.{LayoutFault};
+ghost use Rattle.pfs_c.specs.Numbers.{number_of};
+ghost use Rattle.pfs_c.specs.Texts.{file_refusal, file_place, problem_of, put_in_front};
+ghost use Rattle.pfs_c.specs.Texts.{HoldsProblem, HasFault, WantsMemory, AnswersRead};
+
+use crate::numbers::{PFS_NO_BLOCK, PFS_OK, PFS_ROOM, Refusal};
+use crate::texts::bytes::Bytes;
+use crate::texts::{PfsNotes, layout_of};
+use pfs_base::{Instance, MOST_BLOCKS};
+use pfs_layout::{Layout, LayoutFault, read_block};
+use std::alloc::Global;
+
+/// Reads a block, counted from 1, of an instance file that stands in memory, in the layout of a number. Its
+/// times go into the front of `times`, job by job. Where they have no room there, jobs, machines and notes are
+/// told all the same.
+///
+/// It is refused where no layout has the number, where no block can be asked for by its number, and where the
+/// file has a fault, of which `place` is told the count, line or offset. The memory for the times is asked
+/// for at the end of the block's size line, so that want of it says nothing of what follows there.
+#[unsafe(no_mangle)]
+pub extern "C" fn pfs_read(
+    alloc: Global,
+    bytes: &[u8],
+    layout: u32,
+    block: usize,
+    jobs: &mut usize,
+    machines: &mut usize,
+    notes: &mut PfsNotes,
+    times: &mut [u32],
+    place: &mut u64,
+) -> i32
+    ensures number { AnswersRead result bytes.now layout block (length times.old) }
+    ensures done { result ≡ PFS_OK → HoldsProblem bytes.now layout block
+        (problem_of jobs.new machines.new notes.new (take (jobs.new * machines.new) times.new)) }
+    ensures behind { result ≡ PFS_OK
+        → drop (jobs.new * machines.new) times.new ≡ drop (jobs.new * machines.new) times.old }
+    ensures room { result ≡ PFS_ROOM → length times.old < jobs.new * machines.new }
+    ensures told { result ≡ PFS_ROOM → (all : List ℕ)
+        × HoldsProblem bytes.now layout block (problem_of jobs.new machines.new notes.new all) }
+    ensures fault { PFS_NO_BLOCK ≤ℤ result → (fault : LayoutFault) × (HasFault bytes.now layout block fault
+        × (result ≡ number_of (file_refusal fault)) × (place.new ≡ file_place fault)) }
+    ensures times_kept { result ≢ PFS_OK → times.new ≡ times.old }
+    ensures sizes_kept { result ≢ PFS_OK → result ≢ PFS_ROOM
+        → (jobs.new ≡ jobs.old) × (machines.new ≡ machines.old) × (notes.new ≡ notes.old) }
+    ensures place_kept { result <ℤ PFS_NO_BLOCK → place.new ≡ place.old }
+{
+    let Some(named) = layout_of(layout) else {
+        return Refusal::Layout.number();
+    };
+    if block < 1 || block > MOST_BLOCKS {
+        return Refusal::Block.number();
+    }
+    let instance = match read_file(alloc, bytes, named, block) {
+        Ok(instance) => instance,
+        Err(LayoutFault::Memory) => return Refusal::Memory.number(),
+        Err(fault) => {
+            *place = place_of(fault);
+            return refusal_of(fault).number();
+        }
+    };
+    *jobs = instance.jobs();
+    *machines = instance.machines();
+    *notes = PfsNotes::from_notes(instance.notes());
+    if times.len() < instance.jobs() * instance.machines() {
+        return Refusal::Room.number();
+    }
+    copy_times(&instance, times);
+    PFS_OK
+}
+
+// The block of this number, counted from 1, of an instance file.
+fn read_file(
+    alloc: Global,
+    bytes: &[u8],
+    layout: Layout,
+    block: usize,
+) -> Result<Instance, LayoutFault>
+    requires some { 1 ≤ block }
+    requires few { block ≤ MOST_BLOCKS }
+    ensures file { IfOk result (λ instance. IsInstanceFile limits layout bytes.now block instance) }
+    ensures refused { IfErr result (λ fault. fault ≢ LayoutFault.Memory
+        → RefusesInstance layout bytes.now block fault) }
+    ensures memory { result ≡ Err LayoutFault.Memory → WantsMemory bytes.now layout block }
+    ensures read { result ≢ Err LayoutFault.Read }
+    ensures seed { result ≢ Err LayoutFault.SeedRange }
+{
+    let mut source = Bytes::new(bytes);
+    read_block(alloc, &mut source, layout, block)
+}
+
+// How a fault of an instance file is told.
+fn refusal_of(fault: LayoutFault) -> Refusal
+    ensures { result ≡ file_refusal fault }
+{
+    match fault {
+        LayoutFault::NoBlock { .. } => Refusal::NoBlock,
+        LayoutFault::SizeCount { .. } => Refusal::SizeCount,
+        LayoutFault::SizeRange { .. } => Refusal::SizeRange,
+        LayoutFault::MixedLine { .. } => Refusal::MixedLine,
+        LayoutFault::TimeRange { .. } => Refusal::TimeRange,
+        LayoutFault::MachineNumber { .. } => Refusal::MachineNumber,
+        LayoutFault::ExtraNumber { .. } => Refusal::ExtraNumber,
+        LayoutFault::Truncated { .. } => Refusal::Truncated,
+        LayoutFault::TooLong => Refusal::InputTooLong,
+        LayoutFault::SeedRange => Refusal::Seed,
+        LayoutFault::Read | LayoutFault::Memory => Refusal::Memory,
+    }
+}
+
+// The count, line or offset of a fault of an instance file, and 0 where it has none.
+fn place_of(fault: LayoutFault) -> u64
+    ensures { result ≡ file_place fault }
+{
+    match fault {
+        LayoutFault::NoBlock { found } => found as u64,
+        LayoutFault::SizeCount { line } | LayoutFault::SizeRange { line } => line as u64,
+        LayoutFault::MixedLine { offset }
+        | LayoutFault::TimeRange { offset }
+        | LayoutFault::MachineNumber { offset }
+        | LayoutFault::ExtraNumber { offset } => offset as u64,
+        LayoutFault::Truncated { have } => have as u64,
+        LayoutFault::TooLong | LayoutFault::SeedRange | LayoutFault::Read | LayoutFault::Memory =>
+            0,
+    }
+}
+
+// Writes the times of an instance, job by job, into the front of a list that has room for them.
+fn copy_times(instance: &Instance, times: &mut [u32])
+    requires { instance.now.shop.jobs * instance.now.shop.machines ≤ length times.old }
+    ensures { times.new ≡ put_in_front instance.now.shop.times times.old }
+{
+    let machines = instance.machines();
+    for place in 0..instance.jobs() * machines {
+        times[place] = instance.time(place / machines, place % machines);
+    }
+}

@@ -1,0 +1,107 @@
+//! Reading order files that stand in memory.
+ghost use Rattle.std.specs.Prelude.{◌≡◌, ◌≢◌, ℕ, ◌<◌, ◌≤◌, ◌<ℤ◌, ◌≤ℤ◌, List, length, take, drop, IfOk, IfErr};
+ghost use Rattle.pfs_order.specs.OrderFile.{IsText, IsOrderFile, RefusesOrder};
+ghost use Rattle.pfs_order.specs.declared.fault.OrderFault.{OrderFault};
+ghost use Rattle.pfs_c.specs.Numbers.{number_of};
+ghost use Rattle.pfs_c.specs.Texts.{order_refusal, order_place, order_file_of, put_in_front};
+ghost use Rattle.pfs_c.specs.Texts.{AnswersReadOrder};
+
+use crate::numbers::{PFS_OK, PFS_ROOM, PFS_SYNTAX, Refusal};
+use crate::texts::bytes::Bytes;
+use pfs_order::{Order, OrderFault, OrderFile, read_order};
+use std::alloc::Global;
+
+/// Reads an order file, of version 1 or 2, that stands in memory. Its order goes into the front of `order`, in
+/// which jobs count from 0, and `machines` is 0 where the file states none. The makespan is as the file states
+/// it, right or wrong. Where the order has no room, jobs, machines and makespan are told all the same.
+///
+/// It is refused where the file has a fault, of which `place` is told the offset, or the place, counted from 1.
+/// The memory for the order is asked for once the text is known to be one of the grammar, before its jobs are
+/// judged.
+#[unsafe(no_mangle)]
+pub extern "C" fn pfs_read_order(
+    alloc: Global,
+    bytes: &[u8],
+    order: &mut [u32],
+    jobs: &mut usize,
+    machines: &mut usize,
+    makespan: &mut u64,
+    place: &mut u64,
+) -> i32
+    ensures number { AnswersReadOrder result bytes.now (length order.old) }
+    ensures done { result ≡ PFS_OK
+        → IsOrderFile bytes.now (order_file_of (take jobs.new order.new) machines.new makespan.new) }
+    ensures fits { result ≡ PFS_OK → jobs.new ≤ length order.old }
+    ensures behind { result ≡ PFS_OK → drop jobs.new order.new ≡ drop jobs.new order.old }
+    ensures room { result ≡ PFS_ROOM → length order.old < jobs.new }
+    ensures told { result ≡ PFS_ROOM → (all : List ℕ) × ((length all ≡ jobs.new)
+        × IsOrderFile bytes.now (order_file_of all machines.new makespan.new)) }
+    ensures fault { PFS_SYNTAX ≤ℤ result → (fault : OrderFault) × (RefusesOrder bytes.now fault
+        × (result ≡ number_of (order_refusal fault)) × (place.new ≡ order_place fault)) }
+    ensures order_kept { result ≢ PFS_OK → order.new ≡ order.old }
+    ensures sizes_kept { result ≢ PFS_OK → result ≢ PFS_ROOM
+        → (jobs.new ≡ jobs.old) × (machines.new ≡ machines.old) × (makespan.new ≡ makespan.old) }
+    ensures place_kept { result <ℤ PFS_SYNTAX → place.new ≡ place.old }
+{
+    let file = match read_text(alloc, bytes) {
+        Ok(file) => file,
+        Err(OrderFault::Memory) => return Refusal::Memory.number(),
+        Err(fault) => {
+            *place = place_of(fault);
+            return refusal_of(fault).number();
+        }
+    };
+    *jobs = file.order().len();
+    *machines = file.machines().unwrap_or(0);
+    *makespan = file.makespan();
+    if order.len() < file.order().len() {
+        return Refusal::Room.number();
+    }
+    copy_jobs(file.order(), order);
+    PFS_OK
+}
+
+// What an order file states.
+fn read_text(alloc: Global, bytes: &[u8]) -> Result<OrderFile, OrderFault>
+    ensures file { IfOk result (λ file. IsOrderFile bytes.now file) }
+    ensures refused { IfErr result (λ fault. fault ≢ OrderFault.Memory → RefusesOrder bytes.now fault) }
+    ensures memory { result ≡ Err OrderFault.Memory → IsText bytes.now }
+    ensures read { result ≢ Err OrderFault.Read }
+{
+    let mut source = Bytes::new(bytes);
+    read_order(alloc, &mut source)
+}
+
+// How a fault of an order file is told.
+fn refusal_of(fault: OrderFault) -> Refusal
+    ensures { result ≡ order_refusal fault }
+{
+    match fault {
+        OrderFault::Syntax { .. } => Refusal::Syntax,
+        OrderFault::JobRange { .. } => Refusal::JobRange,
+        OrderFault::Repeated { .. } => Refusal::JobTwice,
+        OrderFault::TooLong => Refusal::FileTooLong,
+        OrderFault::Read | OrderFault::Memory => Refusal::Memory,
+    }
+}
+
+// The offset or place of a fault of an order file, and 0 where it has none.
+fn place_of(fault: OrderFault) -> u64
+    ensures { result ≡ order_place fault }
+{
+    match fault {
+        OrderFault::Syntax { offset } => offset as u64,
+        OrderFault::JobRange { place } | OrderFault::Repeated { place } => place as u64,
+        OrderFault::TooLong | OrderFault::Read | OrderFault::Memory => 0,
+    }
+}
+
+// Writes the jobs of an order into the front of a list that has room for them.
+fn copy_jobs(order: &Order, jobs: &mut [u32])
+    requires { length order.now ≤ length jobs.old }
+    ensures { jobs.new ≡ put_in_front order.now jobs.old }
+{
+    for place in 0..order.len() {
+        jobs[place] = order.at(place) as u32;
+    }
+}

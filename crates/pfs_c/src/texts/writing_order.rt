@@ -1,0 +1,85 @@
+//! Writing order files into memory.
+ghost use Rattle.std.specs.Prelude.{◌≡◌, ◌≢◌, ◌<◌, ◌^◌, length, IfOk};
+ghost use Rattle.pfs_order.specs.OrderText.{file_text};
+ghost use Rattle.pfs_order.specs.Sequence.{AreMachines};
+ghost use Rattle.pfs_c.specs.Numbers.{Refuses};
+ghost use Rattle.pfs_c.specs.Texts.{write_order_refusal, machines_stated, put_in_front, AnswersWrite};
+
+use crate::given::{judge_jobs, order_of};
+use crate::numbers::{PFS_OK, PFS_ROOM, Refusal};
+use crate::texts::bytes::{Text, hand_out};
+use pfs_base::{MOST_JOBS, MOST_MACHINES};
+use pfs_order::{Order, write_order};
+use std::alloc::{AllocError, Global};
+
+/// The greatest makespan that an order file can state.
+const MOST_MAKESPAN: u64 = 999_999_999_999_999_999;
+
+/// Writes an order of all jobs and a makespan as an order file into the front of `text`: of version 2, or where
+/// `machines` is 0 of version 1. Jobs count from 0 in `order`, and from 1 in the file. `len` is told how many
+/// bytes the file has, also where `text` has no room for them.
+///
+/// The text is made in memory of its own first, so that want of memory comes before want of room.
+#[unsafe(no_mangle)]
+pub extern "C" fn pfs_write_order(
+    alloc: Global,
+    order: &[u32],
+    machines: usize,
+    makespan: u64,
+    text: &mut [u8],
+    len: &mut usize,
+) -> i32
+    ensures number { AnswersWrite result (write_order_refusal order.now machines makespan) (length text.old)
+        (length (file_text order.now (machines_stated machines) makespan)) }
+    ensures done { result ≡ PFS_OK
+        → text.new ≡ put_in_front (file_text order.now (machines_stated machines) makespan) text.old }
+    ensures told { result ≡ PFS_OK → len.new ≡ length (file_text order.now (machines_stated machines) makespan) }
+    ensures wanted { result ≡ PFS_ROOM → len.new ≡ length (file_text order.now (machines_stated machines) makespan) }
+    ensures text_kept { result ≢ PFS_OK → text.new ≡ text.old }
+    ensures len_kept { result ≢ PFS_OK → result ≢ PFS_ROOM → len.new ≡ len.old }
+{
+    match file_of(alloc, order, machines, makespan) {
+        Ok(file) => hand_out(&file, text, len),
+        Err(why) => why.number(),
+    }
+}
+
+// The order file of an order that C hands in.
+#[tactic(auto, using(crate::proofs::TextLemmas::jobs_have_room))]
+fn file_of(alloc: Global, order: &[u32], machines: usize, makespan: u64) -> Result<Vec<u8>, Refusal>
+    ensures refused { Refuses result (write_order_refusal order.now machines makespan) }
+    ensures text { IfOk result (λ file. file.items ≡ file_text order.now (machines_stated machines) makespan) }
+    ensures room { result ≢ Err Refusal.Room }
+{
+    if order.len() < 1 || order.len() > MOST_JOBS || machines > MOST_MACHINES {
+        return Err(Refusal::Size);
+    }
+    judge_jobs(order.len(), order)?;
+    if makespan > MOST_MAKESPAN {
+        return Err(Refusal::Makespan);
+    }
+    let order = order_of(alloc, order)?;
+    let stated = if machines == 0 { None } else { Some(machines) };
+    match text_of(alloc, &order, stated, makespan) {
+        Ok(file) => Ok(file),
+        Err(AllocError) => Err(Refusal::Memory),
+    }
+}
+
+// The text of an order. It fails only where memory for it is refused.
+fn text_of(
+    alloc: Global,
+    order: &Order,
+    machines: Option<usize>,
+    makespan: u64,
+) -> Result<Vec<u8>, AllocError>
+    requires machines { AreMachines machines }
+    requires stated { makespan < 10 ^ 18 }
+    ensures { IfOk result (λ text. text.items ≡ file_text order.now machines makespan) }
+{
+    let mut text = Text::new(alloc);
+    match write_order(&mut text, order, machines, makespan) {
+        Ok(_) => Ok(text.into_bytes()),
+        Err(_) => Err(AllocError),
+    }
+}

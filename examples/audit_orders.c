@@ -1,0 +1,55 @@
+/* Audits order files against one instance: whether each is an order of all its jobs and states the right makespan, and
+ * what the lower bound is. Ends with status 1 where one of them is wrong.
+ * usage: audit_orders INSTANCE ORDER ..    (Taillard's layout) */
+#include <inttypes.h>
+#include <pfs.h>
+#include <stdio.h>
+#include <stdlib.h>
+
+static uint8_t bytes[PFS_LONGEST_INPUT + 1];
+static uint32_t times[PFS_MOST_JOBS * PFS_MOST_MACHINES], order[PFS_MOST_JOBS];
+
+/* What a file has, or nothing of one that can't be read. */
+static size_t bytes_of(const char *path) {
+    FILE *file = fopen(path, "rb");
+    size_t length = file ? fread(bytes, 1, sizeof bytes, file) : 0;
+    if (file)
+        fclose(file);
+    return length;
+}
+
+/* Tells of an order file what it is, and whether it is right. */
+static int audit(const char *path, size_t jobs, size_t machines, uint64_t bound) {
+    size_t of_jobs, of_machines;
+    uint64_t stated, makespan, place;
+    int number = pfs_read_order(bytes, bytes_of(path), order, PFS_MOST_JOBS, &of_jobs, &of_machines, &stated, &place);
+    if (number != PFS_OK)
+        return printf("%s: %s (%" PRIu64 ")\n", path, pfs_message(number), place), 0;
+    if (of_jobs != jobs || (of_machines != 0 && of_machines != machines))
+        return printf("%s: of another instance\n", path), 0;
+    number = pfs_makespan(times, jobs * machines, jobs, machines, order, jobs, &makespan);
+    if (number != PFS_OK)
+        return printf("%s: %s\n", path, pfs_message(number)), 0;
+    if (stated != makespan)
+        return printf("%s: states %" PRIu64 ", takes %" PRIu64 "\n", path, stated, makespan), 0;
+    printf("%s: valid, makespan %" PRIu64 ", bound %" PRIu64 "\n", path, makespan, bound);
+    return 1;
+}
+
+int main(int count, char **words) {
+    size_t jobs, machines;
+    struct pfs_notes notes;
+    uint64_t place, bound;
+    int wrong = 0;
+    if (count < 3)
+        return fputs("usage: audit_orders INSTANCE ORDER ..\n", stderr), 3;
+    int number = pfs_read(bytes, bytes_of(words[1]), PFS_TAILLARD, 1, &jobs, &machines, &notes, times,
+                          sizeof times / sizeof *times, &place);
+    if (number == PFS_OK)
+        number = pfs_bound(times, jobs * machines, jobs, machines, &bound);
+    if (number != PFS_OK)
+        return fprintf(stderr, "audit_orders: %s: %s\n", words[1], pfs_message(number)), 2;
+    for (int word = 2; word < count; ++word)
+        wrong |= !audit(words[word], jobs, machines, bound);
+    return wrong;
+}

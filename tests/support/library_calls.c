@@ -1,0 +1,577 @@
+/* Calls each function of lib/pfs.h rightly and with each wrong argument. Everything that a function may write stands in
+ * `out`, which is filled with a pattern before a call; after it `out` has to be as `want`, byte for byte. The shop and
+ * its numbers are those of README.md, the drawn times those of Taillard's first instance.
+ *
+ * usage: library_calls all      every call, and how many there were
+ *        library_calls long     calls on files that are too long
+ *        library_calls threads  the same shop in four threads at once
+ *        library_calls NAME     one right call, which may be refused memory, twice: `right` or `memory` of each */
+#define _POSIX_C_SOURCE 200809L
+#include <limits.h>
+#include <pthread.h>
+#include <stdio.h>
+#include <stdlib.h>
+#include <string.h>
+
+#include "pfs.h"
+
+#define COUNT(list) (sizeof(list) / sizeof *(list))
+#define PATTERN 0xA5
+
+struct outputs {
+    uint64_t makespan, bound, cells, fault;
+    size_t jobs, machines, place, length;
+    struct pfs_notes notes;
+    uint32_t list[44];
+    uint64_t starts[8], ends[8];
+    uint8_t text[200];
+};
+
+static struct outputs out, want;
+static int calls, failures;
+static int seen[64];
+
+static void fresh(void) {
+    memset(&out, PATTERN, sizeof out);
+    memset(&want, PATTERN, sizeof want);
+}
+
+/* Judges a call that has answered `number`, and makes the outputs fresh. */
+static void judge(int line, int number, int answer) {
+    ++calls;
+    if (answer >= 0 && answer < (int)COUNT(seen))
+        seen[answer] = 1;
+    if (answer != number || memcmp(&out, &want, sizeof out) != 0) {
+        ++failures;
+        printf("line %d: wanted %d, answered %d, outputs %s\n", line, number, answer,
+               memcmp(&out, &want, sizeof out) == 0 ? "right" : "wrong");
+    }
+    fresh();
+}
+
+#define CALL(number, call) judge(__LINE__, number, call)
+
+/* Jobs that a function reads or changes in place: the same in `out` and in what is wanted. */
+static void put_list(const uint32_t *jobs, size_t count) {
+    memcpy(out.list, jobs, count * sizeof *jobs);
+    memcpy(want.list, jobs, count * sizeof *jobs);
+}
+
+static void want_list(const uint32_t *jobs, size_t count) {
+    memcpy(want.list, jobs, count * sizeof *jobs);
+}
+
+/* Three jobs on two machines, also with a time too long in front. They stand in memory of just their length. */
+static const uint32_t TIMES[6] = {3, 2, 2, 5, 4, 1};
+static uint32_t *times, *long_times;
+static const uint32_t BEST[3] = {1, 0, 2}, NUMBERED[3] = {0, 1, 2}, OUTSIDE[3] = {9, 9, 9}, TWICE[3] = {1, 1, 9};
+
+static uint32_t *copied(const uint32_t *numbers, size_t count) {
+    uint32_t *copy = malloc(count * sizeof *copy);
+    if (copy == NULL)
+        exit(2);
+    return memcpy(copy, numbers, count * sizeof *copy);
+}
+
+/* Sizes, the number of times and the times are judged first and in this order, whatever is wrong behind them. */
+typedef int on_shop(const uint32_t *shop, size_t length, size_t jobs, size_t machines);
+
+static int makespan_on(const uint32_t *shop, size_t length, size_t jobs, size_t machines) {
+    return pfs_makespan(shop, length, jobs, machines, OUTSIDE, 3, &out.makespan);
+}
+
+static int bound_on(const uint32_t *shop, size_t length, size_t jobs, size_t machines) {
+    return pfs_bound(shop, length, jobs, machines, &out.bound);
+}
+
+static int table_on(const uint32_t *shop, size_t length, size_t jobs, size_t machines) {
+    return pfs_table(shop, length, jobs, machines, OUTSIDE, 3, out.starts, 6, out.ends, 6);
+}
+
+static int neh_on(const uint32_t *shop, size_t length, size_t jobs, size_t machines) {
+    return pfs_neh(shop, length, jobs, machines, out.list, 3, &out.makespan, &out.cells);
+}
+
+static int rounds_on(const uint32_t *shop, size_t length, size_t jobs, size_t machines) {
+    put_list(OUTSIDE, 3);
+    return pfs_rounds(shop, length, jobs, machines, out.list, 3, UINT32_MAX, UINT32_MAX, 0, UINT32_MAX, 7,
+                      &out.makespan, &out.cells);
+}
+
+static int insert_on(const uint32_t *shop, size_t length, size_t jobs, size_t machines) {
+    return pfs_insert(shop, length, jobs, machines, OUTSIDE, 3, 9, &out.place, &out.makespan);
+}
+
+static int write_on(const uint32_t *shop, size_t length, size_t jobs, size_t machines) {
+    static const struct pfs_notes notes = {7, 9, 8};
+    return pfs_write(shop, length, jobs, machines, &notes, 2, out.text, 0, &out.length);
+}
+
+static void wrong_shops(on_shop *call) {
+    CALL(PFS_SIZE, call(long_times, 6, 0, 2));
+    CALL(PFS_SIZE, call(long_times, 5, PFS_MOST_JOBS + 1, 2));
+    CALL(PFS_SIZE, call(long_times, 0, SIZE_MAX, 2));
+    CALL(PFS_SIZE, call(long_times, 6, 3, 0));
+    CALL(PFS_SIZE, call(long_times, 5, 3, PFS_MOST_MACHINES + 1));
+    CALL(PFS_SIZE, call(long_times, 0, 3, SIZE_MAX));
+    CALL(PFS_SIZE, call(long_times, 0, SIZE_MAX / 2 + 1, 2));
+    CALL(PFS_LENGTH, call(long_times, 5, 3, 2));
+    CALL(PFS_LENGTH, call(long_times, 0, 3, 2));
+    CALL(PFS_LENGTH, call(long_times, 6, 3, 1));
+    CALL(PFS_TIME, call(long_times, 6, 3, 2));
+}
+
+static void makespans(void) {
+    wrong_shops(makespan_on);
+    CALL(PFS_JOB, pfs_makespan(times, 6, 3, 2, OUTSIDE, 3, &out.makespan));
+    CALL(PFS_JOB, pfs_makespan(times, 6, 3, 2, (uint32_t[]){1, 3, 1}, 3, &out.makespan));
+    CALL(PFS_REPEATED, pfs_makespan(times, 6, 3, 2, TWICE, 3, &out.makespan));
+    CALL(PFS_REPEATED, pfs_makespan(times, 6, 3, 2, (uint32_t[]){0, 1, 2, 0}, 4, &out.makespan));
+    want.makespan = 11;
+    CALL(PFS_OK, pfs_makespan(times, 6, 3, 2, NUMBERED, 3, &out.makespan));
+    want.makespan = 10;
+    CALL(PFS_OK, pfs_makespan(times, 6, 3, 2, BEST, 3, &out.makespan));
+    want.makespan = 9;
+    CALL(PFS_OK, pfs_makespan(times, 6, 3, 2, (uint32_t[]){2, 0}, 2, &out.makespan));
+    want.makespan = 0;
+    CALL(PFS_OK, pfs_makespan(times, 6, 3, 2, OUTSIDE, 0, &out.makespan));
+}
+
+static void bounds(void) {
+    wrong_shops(bound_on);
+    want.bound = 10;
+    CALL(PFS_OK, pfs_bound(times, 6, 3, 2, &out.bound));
+    want.bound = PFS_LONGEST_TIME;
+    CALL(PFS_OK, pfs_bound((uint32_t[]){PFS_LONGEST_TIME}, 1, 1, 1, &out.bound));
+}
+
+static void tables(void) {
+    static const uint64_t starts[] = {0, 2, 2, 7, 5, 9}, ends[] = {2, 7, 5, 9, 9, 10};
+    CALL(PFS_LENGTH, pfs_table(long_times, 6, 3, 2, OUTSIDE, 2, out.starts, 6, out.ends, 6));
+    CALL(PFS_LENGTH, pfs_table(long_times, 6, 3, 2, OUTSIDE, 3, out.starts, 5, out.ends, 6));
+    CALL(PFS_LENGTH, pfs_table(long_times, 6, 3, 2, OUTSIDE, 3, out.starts, 6, out.ends, 7));
+    CALL(PFS_LENGTH, pfs_table(long_times, 6, 3, 2, OUTSIDE, 3, out.starts, 0, out.ends, 0));
+    wrong_shops(table_on);
+    CALL(PFS_JOB, pfs_table(times, 6, 3, 2, OUTSIDE, 3, out.starts, 6, out.ends, 6));
+    CALL(PFS_REPEATED, pfs_table(times, 6, 3, 2, TWICE, 3, out.starts, 6, out.ends, 6));
+    memcpy(want.starts, starts, sizeof starts);
+    memcpy(want.ends, ends, sizeof ends);
+    CALL(PFS_OK, pfs_table(times, 6, 3, 2, BEST, 3, out.starts, 6, out.ends, 6));
+}
+
+static void nehs(void) {
+    CALL(PFS_LENGTH, pfs_neh(long_times, 6, 3, 2, out.list, 2, &out.makespan, &out.cells));
+    CALL(PFS_LENGTH, pfs_neh(long_times, 6, 3, 2, out.list, 4, &out.makespan, &out.cells));
+    wrong_shops(neh_on);
+    want_list(BEST, 3);
+    want.makespan = 10;
+    want.cells = 2 * 2 * 3 * 3;
+    CALL(PFS_OK, pfs_neh(times, 6, 3, 2, out.list, 3, &out.makespan, &out.cells));
+    /* Where all is equal, the lower number and the first place count: each job goes before those that are there. */
+    want_list((uint32_t[]){2, 1, 0}, 3);
+    want.makespan = 3;
+    want.cells = 2 * 1 * 3 * 3;
+    CALL(PFS_OK, pfs_neh((uint32_t[]){1, 1, 1}, 3, 3, 1, out.list, 3, &out.makespan, &out.cells));
+}
+
+/* Rounds of one seed from an order of this shop. */
+static int rounds_from(const uint32_t *order, uint32_t first, uint32_t count, size_t take, uint32_t passes) {
+    put_list(order, 3);
+    return pfs_rounds(times, 6, 3, 2, out.list, 3, first, count, take, passes, 7, &out.makespan, &out.cells);
+}
+
+static int right_rounds(const uint32_t *order, uint32_t first, uint32_t count, size_t take, uint32_t passes,
+                        const uint32_t *left, uint64_t makespan, uint64_t cells) {
+    int answer = rounds_from(order, first, count, take, passes);
+    want_list(left, 3);
+    want.makespan = makespan;
+    want.cells = cells;
+    return answer;
+}
+
+/* With this seed round 2 is the first of one job that finds the best order, and with two jobs round 0 is. */
+static void rounds(void) {
+    CALL(PFS_LENGTH, pfs_rounds(long_times, 6, 3, 2, out.list, 2, UINT32_MAX, 1, 0, 101, 7, &out.makespan, &out.cells));
+    CALL(PFS_LENGTH, pfs_rounds(long_times, 6, 3, 2, out.list, 4, UINT32_MAX, 1, 0, 101, 7, &out.makespan, &out.cells));
+    wrong_shops(rounds_on);
+    CALL(PFS_JOB, rounds_from(OUTSIDE, UINT32_MAX, UINT32_MAX, 0, 101));
+    CALL(PFS_REPEATED, rounds_from(TWICE, UINT32_MAX, UINT32_MAX, 0, 101));
+    CALL(PFS_TAKE, rounds_from(NUMBERED, UINT32_MAX, UINT32_MAX, 0, 101));
+    CALL(PFS_TAKE, rounds_from(NUMBERED, UINT32_MAX, UINT32_MAX, 4, 101));
+    CALL(PFS_TAKE, rounds_from(NUMBERED, UINT32_MAX, UINT32_MAX, SIZE_MAX, 101));
+    CALL(PFS_PASSES, rounds_from(NUMBERED, UINT32_MAX, UINT32_MAX, 3, 101));
+    CALL(PFS_ROUNDS, rounds_from(NUMBERED, UINT32_MAX, 1, 3, 100));
+    CALL(PFS_ROUNDS, rounds_from(NUMBERED, PFS_MOST_ROUNDS, 1, 3, 100));
+    CALL(PFS_ROUNDS, rounds_from(NUMBERED, 0, PFS_MOST_ROUNDS + 1, 3, 100));
+    CALL(PFS_OK, right_rounds(NUMBERED, 0, 0, 1, 0, NUMBERED, 11, 0));
+    CALL(PFS_OK, right_rounds(NUMBERED, PFS_MOST_ROUNDS, 0, 1, 0, NUMBERED, 11, 0));
+    CALL(PFS_OK, right_rounds(NUMBERED, 0, 2, 1, 0, NUMBERED, 11, 2 * 20));
+    CALL(PFS_OK, right_rounds(NUMBERED, 2, 1, 1, 0, BEST, 10, 20));
+    CALL(PFS_OK, right_rounds(NUMBERED, 0, 3, 1, 0, BEST, 10, 3 * 20));
+    CALL(PFS_OK, right_rounds(NUMBERED, 0, 1, 1, 1, BEST, 10, 20 + 60));
+    CALL(PFS_OK, right_rounds(NUMBERED, 0, 1, 2, 0, BEST, 10, 32));
+    CALL(PFS_OK, right_rounds(BEST, PFS_MOST_ROUNDS - 1, 1, 3, 100, BEST, 10, 36 + 100 * 60));
+}
+
+static void insertions(void) {
+    wrong_shops(insert_on);
+    CALL(PFS_JOB, pfs_insert(times, 6, 3, 2, OUTSIDE, 3, 9, &out.place, &out.makespan));
+    CALL(PFS_REPEATED, pfs_insert(times, 6, 3, 2, TWICE, 3, 9, &out.place, &out.makespan));
+    CALL(PFS_JOB, pfs_insert(times, 6, 3, 2, BEST, 2, 3, &out.place, &out.makespan));
+    CALL(PFS_JOB, pfs_insert(times, 6, 3, 2, BEST, 3, 3, &out.place, &out.makespan));
+    CALL(PFS_REPEATED, pfs_insert(times, 6, 3, 2, BEST, 2, 0, &out.place, &out.makespan));
+    CALL(PFS_REPEATED, pfs_insert(times, 6, 3, 2, BEST, 3, 2, &out.place, &out.makespan));
+    want.place = 2;
+    want.makespan = 10;
+    CALL(PFS_OK, pfs_insert(times, 6, 3, 2, BEST, 2, 2, &out.place, &out.makespan));
+    want.place = 0;
+    want.makespan = 5;
+    CALL(PFS_OK, pfs_insert(times, 6, 3, 2, OUTSIDE, 0, 0, &out.place, &out.makespan));
+    want.place = 0;
+    want.makespan = 3;
+    CALL(PFS_OK, pfs_insert((uint32_t[]){1, 1, 1}, 3, 3, 1, BEST, 2, 2, &out.place, &out.makespan));
+}
+
+static void drawings(void) {
+    static const uint32_t drawn[2][20] = {
+        {54, 83, 15, 71, 77, 36, 53, 38, 27, 87, 76, 91, 14, 29, 12, 77, 32, 87, 68, 94},
+        {79, 3, 11, 99, 56, 70, 99, 60, 5, 56, 3, 61, 73, 75, 47, 14, 21, 86, 5, 77},
+    };
+    CALL(PFS_SIZE, pfs_generate(0, 1, 0, out.list, 44));
+    CALL(PFS_SIZE, pfs_generate(PFS_MOST_JOBS + 1, 1, 0, out.list, 44));
+    CALL(PFS_SIZE, pfs_generate(1, 0, 0, out.list, 44));
+    CALL(PFS_SIZE, pfs_generate(1, PFS_MOST_MACHINES + 1, 0, out.list, 44));
+    CALL(PFS_SEED, pfs_generate(20, 2, 0, out.list, 44));
+    CALL(PFS_SEED, pfs_generate(20, 2, 2147483647, out.list, 44));
+    CALL(PFS_SEED, pfs_generate(20, 2, UINT64_MAX, out.list, 44));
+    CALL(PFS_LENGTH, pfs_generate(20, 2, 873654221, out.list, 44));
+    CALL(PFS_LENGTH, pfs_generate(20, 2, 873654221, out.list, 39));
+    for (size_t job = 0; job < 20; ++job) {
+        want.list[2 * job] = drawn[0][job];
+        want.list[2 * job + 1] = drawn[1][job];
+    }
+    CALL(PFS_OK, pfs_generate(20, 2, 873654221, out.list, 40));
+}
+
+/* Reads a block of a text that stands in memory of just its length. */
+static int read_text(const char *text, uint32_t layout, size_t block, size_t room) {
+    size_t length = strlen(text);
+    uint8_t *bytes = malloc(length + (length == 0));
+    if (bytes == NULL)
+        exit(2);
+    memcpy(bytes, text, length);
+    int answer = pfs_read(bytes, length, layout, block, &out.jobs, &out.machines, &out.notes, out.list, room,
+                          &out.fault);
+    free(bytes);
+    return answer;
+}
+
+static int faulty(uint64_t fault, const char *text, uint32_t layout, size_t block) {
+    want.fault = fault;
+    return read_text(text, layout, block, 44);
+}
+
+#define TITLE "number of jobs, number of machines, initial seed, upper bound and lower bound :\n"
+#define THREE_JOBS TITLE "3 2 7 9 8\nprocessing times :\n3 2 4\n2 5 1\n"
+#define BY_JOB "flow shop instance\n3 2\n0 3 1 2\n0 2 1 5\n0 4 1 1\n"
+
+static void want_sizes(const struct pfs_notes *notes) {
+    want.jobs = 3;
+    want.machines = 2;
+    want.notes = *notes;
+}
+
+static void readings(void) {
+    static const struct pfs_notes notes = {7, 9, 8}, none = {0, 0, 0};
+    CALL(PFS_LAYOUT, read_text("", 2, 0, 0));
+    CALL(PFS_LAYOUT, read_text("", UINT32_MAX, 0, 0));
+    CALL(PFS_BLOCK, read_text("", PFS_TAILLARD, 0, 0));
+    CALL(PFS_BLOCK, read_text("", PFS_ORLIB, PFS_MOST_BLOCKS + 1, 0));
+    CALL(PFS_BLOCK, read_text("", PFS_ORLIB, SIZE_MAX, 0));
+    CALL(PFS_NO_BLOCK, faulty(0, "", PFS_TAILLARD, 1));
+    CALL(PFS_NO_BLOCK, faulty(1, BY_JOB, PFS_ORLIB, PFS_MOST_BLOCKS));
+    CALL(PFS_SIZE_COUNT, faulty(2, "x\n3 2\n", PFS_TAILLARD, 1));
+    CALL(PFS_SIZE_RANGE, faulty(1, "5001 1 0 0 0\n", PFS_TAILLARD, 1));
+    CALL(PFS_MIXED_LINE, faulty(7, "1 1\n0 7x\n", PFS_ORLIB, 1));
+    CALL(PFS_TIME_RANGE, faulty(6, "1 1\n0 1000000001\n", PFS_ORLIB, 1));
+    CALL(PFS_MACHINE_NUMBER, faulty(4, "1 1\n1 7\n", PFS_ORLIB, 1));
+    CALL(PFS_EXTRA_NUMBER, faulty(8, "1 1\n0 7 9\n", PFS_ORLIB, 1));
+    CALL(PFS_TRUNCATED, faulty(2, "3 2\n0 3 1 2\n", PFS_ORLIB, 1));
+    for (size_t room = 0; room < 6; ++room) {
+        want_sizes(&notes);
+        CALL(PFS_ROOM, read_text(THREE_JOBS, PFS_TAILLARD, 1, room));
+    }
+    for (size_t room = 6; room < 8; ++room) {
+        want_sizes(&notes);
+        want_list(TIMES, 6);
+        CALL(PFS_OK, read_text(THREE_JOBS, PFS_TAILLARD, 1, room));
+    }
+    want_sizes(&none);
+    want_list(TIMES, 6);
+    CALL(PFS_OK, read_text("1 1\n0 7\n" BY_JOB "x 1\n", PFS_ORLIB, 2, 6));
+}
+
+static int write_times(uint32_t layout, size_t room) {
+    static const struct pfs_notes notes = {7, 9, 8};
+    return pfs_write(times, 6, 3, 2, &notes, layout, out.text, room, &out.length);
+}
+
+static void want_text(const char *text) {
+    want.length = strlen(text);
+    memcpy(want.text, text, want.length);
+}
+
+static void writings(void) {
+    wrong_shops(write_on);
+    CALL(PFS_LAYOUT, write_times(2, 0));
+    CALL(PFS_LAYOUT, write_times(UINT32_MAX, 200));
+    want.length = sizeof THREE_JOBS - 1;
+    CALL(PFS_ROOM, write_times(PFS_TAILLARD, 0));
+    want.length = sizeof BY_JOB - 1;
+    CALL(PFS_ROOM, write_times(PFS_ORLIB, sizeof BY_JOB - 2));
+    want_text(THREE_JOBS);
+    CALL(PFS_OK, write_times(PFS_TAILLARD, sizeof THREE_JOBS - 1));
+    want_text(BY_JOB);
+    CALL(PFS_OK, write_times(PFS_ORLIB, sizeof out.text));
+}
+
+static int read_order(const char *text, size_t room) {
+    return pfs_read_order((const uint8_t *)text, strlen(text), out.list, room, &out.jobs, &out.machines, &out.makespan,
+                          &out.fault);
+}
+
+static void want_order(size_t machines) {
+    want.jobs = 3;
+    want.machines = machines;
+    want.makespan = 10;
+}
+
+static void order_readings(void) {
+    want.fault = 5;
+    CALL(PFS_SYNTAX, read_order("order3 3", 0));
+    want.fault = 0;
+    CALL(PFS_SYNTAX, read_order("", 3));
+    want.fault = 2;
+    CALL(PFS_JOB_RANGE, read_order("order 3\n2 4 2\nmakespan 10\n", 3));
+    want.fault = 2;
+    CALL(PFS_JOB_TWICE, read_order("order 3\n2 2 4\nmakespan 10\n", 0));
+    for (size_t room = 0; room < 3; ++room) {
+        want_order(2);
+        CALL(PFS_ROOM, read_order("order2 3 2\n2 1 3\nmakespan 10\n", room));
+    }
+    for (size_t room = 3; room < 5; ++room) {
+        want_order(2);
+        want_list(BEST, 3);
+        CALL(PFS_OK, read_order("order2 3 2\n2 1 3\nmakespan 10\n", room));
+    }
+    want_order(0);
+    want_list(BEST, 3);
+    CALL(PFS_OK, read_order("order 3\n2 1 3\nmakespan 10\n", 3));
+}
+
+static int write_order(const uint32_t *order, size_t length, size_t machines, uint64_t makespan, size_t room) {
+    return pfs_write_order(order, length, machines, makespan, out.text, room, &out.length);
+}
+
+static void order_writings(void) {
+    static const uint32_t many[PFS_MOST_JOBS + 1];
+    static const char *most = "order2 1 200\n1\nmakespan 999999999999999999\n";
+    CALL(PFS_SIZE, write_order(OUTSIDE, 0, 2, UINT64_MAX, 0));
+    CALL(PFS_SIZE, write_order(many, PFS_MOST_JOBS + 1, 2, UINT64_MAX, 0));
+    CALL(PFS_SIZE, write_order(OUTSIDE, 3, PFS_MOST_MACHINES + 1, UINT64_MAX, 0));
+    CALL(PFS_JOB, write_order(OUTSIDE, 3, PFS_MOST_MACHINES, UINT64_MAX, 0));
+    CALL(PFS_REPEATED, write_order(TWICE, 3, 0, UINT64_MAX, 0));
+    CALL(PFS_REPEATED, write_order(many, PFS_MOST_JOBS, 0, UINT64_MAX, 0));
+    CALL(PFS_MAKESPAN, write_order(BEST, 3, 2, UINT64_MAX, 0));
+    CALL(PFS_MAKESPAN, write_order(BEST, 3, 0, PFS_MOST_MAKESPAN + 1, sizeof out.text));
+    want.length = 29;
+    CALL(PFS_ROOM, write_order(BEST, 3, 2, 10, 28));
+    want_text("order2 3 2\n2 1 3\nmakespan 10\n");
+    CALL(PFS_OK, write_order(BEST, 3, 2, 10, 29));
+    want_text("order 3\n2 1 3\nmakespan 10\n");
+    CALL(PFS_OK, write_order(BEST, 3, 0, 10, sizeof out.text));
+    want_text(most);
+    CALL(PFS_OK, write_order(NUMBERED, 1, PFS_MOST_MACHINES, PFS_MOST_MAKESPAN, strlen(most)));
+}
+
+static void fail(const char *what, int number) {
+    ++failures;
+    printf("%s %d\n", what, number);
+}
+
+/* Each number of pfs.h but PFS_MEMORY and those of files that are too long was answered. */
+static void numbers(void) {
+    for (int number = 0; number < (int)COUNT(seen); ++number) {
+        int is_known = number <= PFS_ROOM || (number >= PFS_NO_BLOCK && number <= PFS_INPUT_TOO_LONG)
+                       || (number >= PFS_SYNTAX && number <= PFS_FILE_TOO_LONG);
+        int is_due = is_known && number != PFS_MEMORY && number != PFS_INPUT_TOO_LONG && number != PFS_FILE_TOO_LONG;
+        if (seen[number] != is_due)
+            fail(is_due ? "never answered:" : "answered:", number);
+        if ((strcmp(pfs_message(number), "unknown number") != 0) != is_known)
+            fail("the message of", number);
+        for (int other = 0; is_known && other < number; ++other)
+            if (strcmp(pfs_message(number), pfs_message(other)) == 0)
+                fail("not its own message:", number);
+    }
+    for (int number = -1000; number < 1000; ++number)
+        if ((number < 0 || number >= (int)COUNT(seen)) && strcmp(pfs_message(number), "unknown number") != 0)
+            fail("a message of", number);
+    if (strcmp(pfs_message(INT_MIN), pfs_message(INT_MAX)) != 0 || strcmp(pfs_version(), PFS_VERSION) != 0)
+        fail("the texts", 0);
+}
+
+/* A text of so many bytes x. */
+static uint8_t *filled(size_t length) {
+    uint8_t *bytes = malloc(length);
+    if (bytes == NULL)
+        exit(2);
+    return memset(bytes, 'x', length);
+}
+
+static void long_files(void) {
+    uint8_t *bytes = filled(PFS_LONGEST_INPUT + 1);
+    for (size_t more = 0; more < 2; ++more) {
+        want.fault = 0;
+        CALL(more ? PFS_INPUT_TOO_LONG : PFS_NO_BLOCK,
+             pfs_read(bytes, PFS_LONGEST_INPUT + more, PFS_ORLIB, 1, &out.jobs, &out.machines, &out.notes, out.list, 44,
+                      &out.fault));
+        want.fault = 0;
+        CALL(more ? PFS_FILE_TOO_LONG : PFS_SYNTAX,
+             pfs_read_order(bytes, PFS_LONGEST_ORDER_FILE + more, out.list, 44, &out.jobs, &out.machines, &out.makespan,
+                            &out.fault));
+    }
+    free(bytes);
+}
+
+/* Threads: each searches on the same times, and finds the same. */
+enum { JOBS = 12, MACHINES = 5, TURNS = 40 };
+
+struct found {
+    const uint32_t *shop;
+    uint32_t order[JOBS];
+    uint64_t sums[TURNS];
+};
+
+static void *search(void *given) {
+    struct found *found = given;
+    uint64_t cells, makespan;
+    int wrong = pfs_neh(found->shop, JOBS * MACHINES, JOBS, MACHINES, found->order, JOBS, &makespan, &cells);
+    for (uint32_t turn = 0; turn < TURNS; ++turn) {
+        wrong |= pfs_rounds(found->shop, JOBS * MACHINES, JOBS, MACHINES, found->order, JOBS, turn, 1, 4, turn % 2, 7,
+                            &makespan, &cells);
+        found->sums[turn] = makespan + cells;
+    }
+    return wrong ? NULL : found;
+}
+
+static void threads(void) {
+    uint32_t *shop = malloc(JOBS * MACHINES * sizeof *shop);
+    struct found found[5];
+    pthread_t thread[4];
+    memset(found, 0, sizeof found);
+    if (shop == NULL || pfs_generate(JOBS, MACHINES, 873654221, shop, JOBS * MACHINES) != PFS_OK)
+        exit(2);
+    for (int place = 0; place < 5; ++place)
+        found[place].shop = shop;
+    for (int place = 0; place < 4; ++place)
+        if (pthread_create(&thread[place], NULL, search, &found[place]) != 0)
+            exit(2);
+    if (search(&found[4]) == NULL)
+        fail("refused", 4);
+    for (int place = 0; place < 4; ++place) {
+        void *ended;
+        if (pthread_join(thread[place], &ended) != 0 || ended == NULL)
+            fail("refused", place);
+        if (memcmp(&found[place], &found[4], sizeof found[4]) != 0)
+            fail("something else was found by thread", place);
+        ++calls;
+    }
+    free(shop);
+}
+
+/* One right call of a function that takes a shop, by its name. */
+static int call_on_shop(const char *name) {
+    if (strcmp(name, "makespan") == 0)
+        return want.makespan = 10, pfs_makespan(times, 6, 3, 2, BEST, 3, &out.makespan);
+    if (strcmp(name, "bound") == 0)
+        return want.bound = 10, pfs_bound(times, 6, 3, 2, &out.bound);
+    if (strcmp(name, "insert") == 0)
+        return want.place = 2, want.makespan = 10, pfs_insert(times, 6, 3, 2, BEST, 2, 2, &out.place, &out.makespan);
+    if (strcmp(name, "rounds") == 0)
+        return right_rounds(NUMBERED, 0, 1, 1, 1, BEST, 10, 80);
+    if (strcmp(name, "write") == 0)
+        return want_text(BY_JOB), write_times(PFS_ORLIB, sizeof out.text);
+    if (strcmp(name, "table") == 0)
+        return want.starts[0] = 0, want.ends[0] = 7,
+               pfs_table((uint32_t[]){7}, 1, 1, 1, NUMBERED, 1, out.starts, 1, out.ends, 1);
+    if (strcmp(name, "neh") != 0)
+        exit(3);
+    want_list(BEST, 3);
+    want.makespan = 10;
+    want.cells = 36;
+    return pfs_neh(times, 6, 3, 2, out.list, 3, &out.makespan, &out.cells);
+}
+
+/* The same of every function. */
+static int call_named(const char *name) {
+    if (strcmp(name, "generate") == 0)
+        return want.list[0] = 54, want.list[1] = 83, pfs_generate(2, 1, 873654221, out.list, 2);
+    if (strcmp(name, "read_order") == 0)
+        return want_order(2), want_list(BEST, 3), read_order("order2 3 2\n2 1 3\nmakespan 10\n", 3);
+    if (strcmp(name, "write_order") == 0)
+        return want_text("order 3\n2 1 3\nmakespan 10\n"), write_order(BEST, 3, 0, 10, sizeof out.text);
+    if (strcmp(name, "read") == 0) {
+        static const struct pfs_notes notes = {7, 9, 8};
+        want_sizes(&notes);
+        want_list(TIMES, 6);
+        return pfs_read((const uint8_t *)THREE_JOBS, sizeof THREE_JOBS - 1, PFS_TAILLARD, 1, &out.jobs, &out.machines,
+                        &out.notes, out.list, 6, &out.fault);
+    }
+    return call_on_shop(name);
+}
+
+/* The call has answered rightly, or was refused memory and has left every output as it was; else it fails. */
+static void tell(const char *name) {
+    int answer;
+    fresh();
+    answer = call_named(name);
+    if (answer == PFS_MEMORY) {
+        memset(&want, PATTERN, sizeof want);
+        if (strcmp(name, "rounds") == 0)
+            want_list(NUMBERED, 3);
+    }
+    if ((answer != PFS_OK && answer != PFS_MEMORY) || memcmp(&out, &want, sizeof out) != 0)
+        fail("wrong:", answer);
+    else
+        puts(answer == PFS_OK ? "right" : "memory");
+}
+
+int main(int count, char **words) {
+    static char buffer[BUFSIZ];
+    const char *word = count == 2 ? words[1] : "";
+    setvbuf(stdout, buffer, _IOFBF, sizeof buffer);
+    times = copied(TIMES, 6);
+    long_times = copied(TIMES, 6);
+    long_times[0] = PFS_LONGEST_TIME + 1;
+    fresh();
+    if (strcmp(word, "all") == 0) {
+        void (*const parts[])(void) = {makespans, bounds, tables, nehs, rounds, insertions, drawings, readings,
+                                       writings, order_readings, order_writings, numbers};
+        for (size_t part = 0; part < COUNT(parts); ++part)
+            parts[part]();
+    } else if (strcmp(word, "long") == 0) {
+        long_files();
+    } else if (strcmp(word, "threads") == 0) {
+        threads();
+    } else {
+        tell(word);
+        tell(word);
+    }
+    if (memcmp(times, TIMES, sizeof TIMES) != 0)
+        fail("times were changed", 0);
+    free(times);
+    free(long_times);
+    if (calls > 0)
+        printf("%d calls, %d failures\n", calls, failures);
+    return failures != 0;
+}

@@ -1,0 +1,135 @@
+"""The examples of the library for C: each compiles without a warning by the line of their page, with pkg-config over a
+folder like an installed one, prints what the page shows, and what the program or the second program computes."""
+import pathlib
+import re
+import shlex
+import shutil
+
+import pytest
+from support import second_program
+from support.library import HEADER, Library, compile_quietly
+from support.needs import need
+from support.program import Program
+from support.second_program import Instance
+from support.tools import Told, printed_by, told_by, with_path
+
+EXAMPLES = HEADER.parent.parent / "examples"
+PAGE = (EXAMPLES / "README.md").read_text()
+SOURCES = sorted(path for path in EXAMPLES.iterdir() if path.suffix in (".c", ".cpp"))
+STRICT = {"cc": "-std=c99", "c++": "-std=c++17"}
+SEED = 873654221
+
+pytestmark = [pytest.mark.xdist_group("examples"), pytest.mark.seconds(5)]
+
+
+@pytest.fixture(scope="session")
+def installed(libpfs: Library, tmp_path_factory: pytest.TempPathFactory) -> pathlib.Path:
+    """A prefix with the library, as far as compiling needs it."""
+    prefix = tmp_path_factory.mktemp("installed")
+    for folder in ("include", "lib/pkgconfig"):
+        (prefix / folder).mkdir(parents=True)
+    shutil.copy(HEADER, prefix / "include")
+    shutil.copy(libpfs.path, prefix / "lib" / "libpfs.so.0")
+    (prefix / "lib" / "libpfs.so").symlink_to("libpfs.so.0")
+    lines = {"prefix=.*": f"prefix={prefix}", "libdir=.*": "libdir=${prefix}/lib", "Version:.*": "Version: 1.0.0"}
+    text = HEADER.with_name("pfs.pc.in").read_text()
+    for line, filled in lines.items():
+        text = re.sub(f"^{line}$", filled, text, flags=re.MULTILINE)
+    (prefix / "lib" / "pkgconfig" / "pfs.pc").write_text(text)
+    return prefix
+
+
+@pytest.fixture(scope="session")
+def built(installed: pathlib.Path, tmp_path_factory: pytest.TempPathFactory) -> pathlib.Path:
+    """A folder with the examples, compiled as the page says, and with warnings as errors."""
+    folder = tmp_path_factory.mktemp("examples")
+    lines = {compiler: line for line, compiler in re.findall(r"^((cc|c\+\+) .*)$", PAGE, re.MULTILINE)}
+    env = {"PKG_CONFIG_PATH": str(installed / "lib" / "pkgconfig"), "PATH": "/usr/bin:/bin"}
+    flags = shlex.split(printed_by([need("pkg-config"), "--cflags", "--libs", "pfs"], folder, env=env))
+    for source in SOURCES:
+        compiler = "cc" if source.suffix == ".c" else "c++"
+        assert lines[compiler].endswith("$(pkg-config --cflags --libs pfs)") and STRICT[compiler] in lines[compiler]
+        rpath = f"-Wl,-rpath,{installed / 'lib'}"
+        compile_quietly([need(compiler), STRICT[compiler], "-O2", "-Wall", "-Wextra", "-pedantic", "-Werror", "-o",
+                         folder / source.stem, source, *flags, rpath])
+    return folder
+
+
+def run(built: pathlib.Path, name: str, *words: str | pathlib.Path, cwd: pathlib.Path) -> Told:
+    return told_by([built / name, *words], cwd)
+
+
+def test_the_page_tells_each_example() -> None:
+    assert [path.name for path in SOURCES] == ["audit_orders.c", "gaps.cpp", "neh_ties.c", "timed_search.c"]
+    assert set(re.findall(r"^`(\w+) ", PAGE, re.MULTILINE)) == {path.stem for path in SOURCES}
+    assert all(len(path.read_text().splitlines()) <= 60 for path in SOURCES)
+
+
+def test_the_page_shows_what_is_printed(built: pathlib.Path, pfs: Program, folder: pathlib.Path) -> None:
+    """One after the other, in one folder, as a reader would."""
+    for path in (*(built / source.stem for source in SOURCES), pfs.path):
+        (folder / path.name).symlink_to(path)
+    shown = re.findall(r"^\$ (.*)\n((?:(?!\$|```).*\n)*)", PAGE, re.MULTILINE)
+    assert len(shown) == 6
+    for line, text in shown:
+        told = told_by(["sh", "-c", line], folder, env=with_path(folder))
+        assert (told.stdout, told.stderr) == (text, ""), line
+
+
+def last_places(shop: Instance) -> int:
+    """The makespan of NEH that takes the last of equal places, evaluated order by order."""
+    order: list[int] = []
+    for job in sorted(range(shop.jobs), key=lambda job: (-shop.total(job), job)):
+        orders = [order[:place] + [job] + order[place:] for place in range(len(order), -1, -1)]
+        order = min(orders, key=lambda whole: second_program.makespan(shop, whole))
+    return second_program.makespan(shop, order)
+
+
+@pytest.mark.parametrize(("jobs", "machines", "seed"), [(20, 5, SEED), (9, 3, 5), (12, 1, 77), (1, 4, 1), (7, 20, 9)])
+def test_ties(built: pathlib.Path, folder: pathlib.Path, jobs: int, machines: int, seed: int) -> None:
+    shop = second_program.generated(jobs, machines, seed)
+    first = second_program.makespan(shop, second_program.by_totals(shop))
+    told = run(built, "neh_ties", str(jobs), str(machines), str(seed), cwd=folder)
+    assert told == Told(0, f"first places {first}\nlast places {last_places(shop)}\n", "")
+
+
+def test_a_search_in_parts(built: pathlib.Path, pfs: Program, folder: pathlib.Path) -> None:
+    (folder / "shop").write_bytes(second_program.canonical(second_program.generated(20, 5, SEED), b"taillard"))
+    for rounds in (7, 20, 0, 13):
+        assert run(built, "timed_search", "shop", "found", "7", "1000", str(rounds), cwd=folder).status == 0
+    whole = pfs.run("solve --layout taillard --rounds 40 --seed 7 shop", folder).stdout
+    assert (folder / "found").read_bytes() == whole
+    assert (folder / "found.rounds").read_text() == "40\n"
+
+
+def test_a_search_ends_in_time(built: pathlib.Path, folder: pathlib.Path) -> None:
+    (folder / "shop").write_bytes(second_program.canonical(second_program.generated(20, 5, SEED), b"taillard"))
+    told = run(built, "timed_search", "shop", "found", "7", "0", cwd=folder)
+    assert told.stdout.startswith("10 rounds, ")
+
+
+def test_audits(built: pathlib.Path, folder: pathlib.Path) -> None:
+    (folder / "shop").write_bytes(second_program.canonical(second_program.generated(3, 2, SEED), b"taillard"))
+    shop = second_program.generated(3, 2, SEED)
+    makespan, bound = second_program.makespan(shop, [0, 1, 2]), second_program.lower_bound(shop)
+    texts = {
+        "right": second_program.order_text([0, 1, 2], 2, makespan),
+        "one": second_program.order_text([0, 1, 2], None, makespan),
+        "wrong": second_program.order_text([0, 1, 2], 2, 7),
+        "other": second_program.order_text([0, 1, 2], 3, makespan),
+        "shorter": second_program.order_text([0, 1], 2, makespan),
+        "twice": second_program.order_text([0, 1, 1], 2, makespan),
+    }
+    for name, text in texts.items():
+        (folder / name).write_bytes(text)
+    valid = f"valid, makespan {makespan}, bound {bound}\n"
+    assert run(built, "audit_orders", "shop", "right", "one", cwd=folder) == Told(0, f"right: {valid}one: {valid}", "")
+    told = run(built, "audit_orders", "shop", *texts, cwd=folder)
+    assert told == Told(1, f"right: {valid}one: {valid}wrong: states 7, takes {makespan}\nother: of another instance\n"
+                           "shorter: of another instance\ntwice: a job of the order file stands twice (3)\n", "")
+
+
+@pytest.mark.parametrize("name", [path.stem for path in SOURCES])
+def test_no_words(built: pathlib.Path, folder: pathlib.Path, name: str) -> None:
+    told = run(built, name, cwd=folder)
+    assert (told.status, told.stdout) == (3, "") and told.stderr.startswith(f"usage: {name} ")

@@ -1,0 +1,372 @@
+"""The library for C: its header and what the files of it show; each function on each wrong argument
+(support/library_calls.c), also with memory refused, under valgrind and with gcc's sanitizers; and on random shops and
+files against the program and a second implementation (support/second_library.cpp)."""
+import pathlib
+import re
+from random import Random
+
+import fuzz
+import pytest
+from support import second_program
+from support.growths import Shim
+from support.library import (HEADER, SUPPORT, Answer, Library, Memory, Number, compile_quietly, compiled, list32,
+                             list64, read32, read64, second_library, text, u32s, u64s)
+from support.needs import need
+from support.program import Program, Ran
+from support.second_program import Instance
+from support.tools import printed_by
+
+CALLS = SUPPORT / "library_calls.c"
+# Each function that is proved, and whether each call of it asks for memory.
+FUNCTIONS = {
+    "makespan": True, "bound": False, "table": True, "neh": True, "rounds": True, "insert": True, "generate": False,
+    "read": False, "write": False, "read_order": False, "write_order": False,
+}
+TEXTS = {"pfs_message", "pfs_version"}
+NAMES = {f"pfs_{name}" for name in FUNCTIONS} | TEXTS
+ALL_CALLS = Ran(b"187 calls, 0 failures\n", b"", 0)
+LONG_CALLS = Ran(b"4 calls, 0 failures\n", b"", 0)
+# The number of the first growth of a call, behind those of the program that calls; no call takes more than so many.
+FIRST_GROWTH = 3
+MOST_GROWTHS = 200
+SHOPS = 200
+FILES = 1_000
+PATTERN = 0xA5A5A5A5
+
+
+# The header
+
+@pytest.mark.parametrize("compiler, standard", [("gcc", "c99"), ("clang", "c99"), ("gcc", "c11"), ("g++", "c++17")])
+def test_the_header_compiles(folder: pathlib.Path, compiler: str, standard: str) -> None:
+    source = folder / ("header.cpp" if standard == "c++17" else "header.c")
+    source.write_text('#include "pfs.h"\n#include "pfs.h"\nextern int nothing;\n')
+    compile_quietly([need(compiler), f"-std={standard}", "-Wall", "-Wextra", "-pedantic", "-Werror", "-fsyntax-only",
+                     f"-I{HEADER.parent}", source])
+
+
+def defined() -> dict[str, int]:
+    """The numbers that pfs.h names."""
+    found = re.findall(r"^#define (PFS_\w+) (?:UINT64_C\()?(\d+)\b", HEADER.read_text(), re.MULTILINE)
+    return {name: int(value) for name, value in found}
+
+
+def constants(path: pathlib.Path, kind: str) -> dict[str, int]:
+    """The constants of a source in Rattle."""
+    found = re.findall(rf"^(?:pub )?const (\w+): {kind} = ([0-9_]+);", path.read_text(), re.MULTILINE)
+    return {name: int(value.replace("_", "")) for name, value in found}
+
+
+def test_the_limits_are_those_of_the_crates(top: pathlib.Path) -> None:
+    limits = constants(top / "crates" / "pfs_base" / "src" / "limits.rt", r"\w+")
+    makespan = constants(top / "crates" / "pfs_order" / "src" / "reading.rt", "u64")["GREATEST_MAKESPAN"]
+    wanted = {f"PFS_{name}": value for name, value in limits.items() if name != "GREATEST_NOTE"}
+    stated = {name: value for name, value in defined().items() if re.match("PFS_(MOST|LONGEST)_", name)}
+    assert stated == wanted | {"PFS_MOST_MAKESPAN": makespan}
+
+
+def test_the_numbers_are_those_of_the_crate(top: pathlib.Path) -> None:
+    numbers = constants(top / "crates" / "pfs_c" / "src" / "numbers.rt", "i32")
+    answered = {name: value for name, value in defined().items()
+                if not re.match("PFS_(MOST|LONGEST)_|PFS_(TAILLARD|ORLIB|VERSION)$", name)}
+    assert answered == numbers
+    assert sorted(answered.values()) == [*range(15), *range(20, 29), *range(30, 34)]
+
+
+# The files
+
+def test_only_its_names_can_be_seen(libpfs: Library) -> None:
+    static = libpfs.path.with_name("libpfs.a")
+    for path, how in ((libpfs.path, "--dynamic"), (static, "--extern-only")):
+        printed = printed_by([need("nm"), how, "--defined-only", "--format=posix", path], path.parent)
+        names = {line.split()[0] for line in printed.splitlines() if not line.endswith(":")}
+        assert names == NAMES, path
+    header = set(re.findall(r"^(?:int|const char \*)\s*(pfs_\w+)\(", HEADER.read_text(), re.MULTILINE))
+    assert header == NAMES
+
+
+def test_it_asks_for_the_c_library_alone(libpfs: Library) -> None:
+    told = printed_by([need("readelf"), "--dynamic", "--wide", libpfs.path], libpfs.path.parent)
+    assert re.findall(r"\(NEEDED\).*\[(.*)\]", told) == ["libc.so.6"]
+    assert re.findall(r"\(SONAME\).*\[(.*)\]", told) == ["libpfs.so.0"]
+    assert "TEXTREL" not in told
+    wanted = printed_by([need("nm"), "--dynamic", "--undefined-only", libpfs.path], libpfs.path.parent)
+    names = {line.split()[1].split("@")[0] for line in wanted.splitlines() if line.split()[0] == "U"}
+    assert names <= {"malloc", "realloc", "free", "memcpy", "memmove", "memset", "memcmp", "bcmp"}
+
+
+# Each function on each wrong argument
+
+@pytest.fixture(scope="session")
+def calls(libpfs: Library, tmp_path_factory: pytest.TempPathFactory) -> Program:
+    """The program that calls each function."""
+    return compiled(tmp_path_factory.mktemp("calls") / "library_calls", [CALLS], libpfs)
+
+
+@pytest.mark.parametrize("compiler", ["gcc", "clang"])
+@pytest.mark.parametrize("is_static", [False, True], ids=["shared", "static"])
+def test_each_call(libpfs: Library, folder: pathlib.Path, compiler: str, is_static: bool) -> None:
+    program = compiled(folder / "calls", [CALLS], libpfs, compiler=compiler, is_static=is_static)
+    assert program.run("all", folder) == ALL_CALLS
+    assert program.run("long", folder) == LONG_CALLS
+
+
+def test_each_call_with_sanitizers(libpfs: Library, folder: pathlib.Path) -> None:
+    checks = ["-fsanitize=address,undefined", "-fno-sanitize-recover=all"]
+    program = compiled(folder / "calls", [CALLS], libpfs, *checks, is_static=True)
+    assert program.run("all", folder) == ALL_CALLS
+    assert program.run("threads", folder).status == 0
+
+
+@pytest.mark.seconds(15)
+@pytest.mark.parametrize("word", ["all", "threads", *FUNCTIONS])
+def test_each_call_under_valgrind(calls: Program, folder: pathlib.Path, word: str) -> None:
+    valgrind = ["-q", "--error-exitcode=9", "--leak-check=full", "--show-leak-kinds=all", "--errors-for-leak-kinds=all"]
+    ran = Program(pathlib.Path(need("valgrind"))).run([*valgrind, str(calls.path), word], folder)
+    assert (ran.stderr, ran.status) == (b"", 0)
+
+
+def test_four_threads(calls: Program, folder: pathlib.Path) -> None:
+    for _ in range(20):
+        assert calls.run("threads", folder) == Ran(b"4 calls, 0 failures\n", b"", 0)
+
+
+@pytest.fixture(scope="session")
+def shim(tmp_path_factory: pytest.TempPathFactory) -> Shim:
+    """The library that refuses growths."""
+    return Shim(tmp_path_factory.mktemp("shim"))
+
+
+@pytest.mark.parametrize("name", FUNCTIONS)
+def test_each_growth_refused(calls: Program, shim: Shim, folder: pathlib.Path, name: str) -> None:
+    """Of two calls the one that is refused a growth answers so and leaves each output, and the other one is right."""
+    told = []
+    for growth in range(FIRST_GROWTH, MOST_GROWTHS):
+        ran, is_refused = shim.run_refused(calls, [name], folder, b"", growth)
+        if not is_refused:
+            break
+        assert (ran.stderr, ran.status) == (b"", 0), f"growth {growth} refused: {ran}"
+        told.append(ran.stdout)
+    assert ran == Ran(b"right\nright\n", b"", 0), "no growth refused"
+    half = len(told) // 2
+    assert told == [b"memory\nright\n"] * half + [b"right\nmemory\n"] * half
+    assert half > 0 or not FUNCTIONS[name]
+
+
+# Against the program and the second implementation
+
+@pytest.fixture(scope="session")
+def second(tmp_path_factory: pytest.TempPathFactory) -> Library:
+    """The second implementation."""
+    return second_library(tmp_path_factory.mktemp("second"))
+
+
+Arguments = list[Number | Memory]
+Call = tuple[str, Arguments]
+
+
+def by_job(shop: Instance) -> list[int]:
+    return [shop.times[machine][job] for job in range(shop.jobs) for machine in range(shop.machines)]
+
+
+def shop_of(random: Random) -> Instance:
+    """A random shop, often one with many equal sums."""
+    shop = Instance(random.randint(1, 9), random.randint(1, 5), [random.choice(fuzz.NOTES) for _ in range(3)])
+    most = random.choice([0, 1, 3, 9, 99, 1_000_000_000])
+    shop.times = [[random.randint(0, most) for _ in range(shop.jobs)] for _ in range(shop.machines)]
+    return shop
+
+
+def given(shop: Instance) -> Arguments:
+    return [*list32(by_job(shop)), Number(shop.jobs), Number(shop.machines)]
+
+
+def out32(count: int) -> Memory:
+    return u32s([PATTERN] * count)
+
+
+def out64() -> Memory:
+    return u64s([PATTERN << 32 | PATTERN])
+
+
+def searches(random: Random, shop: Instance) -> list[Call]:
+    """Right calls that search, and the one that judges what a search finds."""
+    jobs = list(range(shop.jobs))
+    random.shuffle(jobs)
+    some = jobs[:random.randint(0, shop.jobs - 1)]
+    size = shop.jobs * shop.machines
+    first = random.choice([0, 0, 1, 7, second_program.MOST_JOBS])
+    return [
+        ("pfs_makespan", [*given(shop), *list32(some), out64()]),
+        ("pfs_bound", [*given(shop), out64()]),
+        ("pfs_table", [*given(shop), *list32(jobs), *list64([PATTERN] * size), *list64([PATTERN] * size)]),
+        ("pfs_neh", [*given(shop), out32(shop.jobs), Number(shop.jobs, is_length=True), out64(), out64()]),
+        ("pfs_rounds", [*given(shop), *list32(jobs), Number(first, 32), Number(random.randint(0, 4), 32),
+                        Number(random.randint(1, shop.jobs)), Number(random.randint(0, 2), 32),
+                        Number(random.choice(fuzz.SEEDS[:-1])), out64(), out64()]),
+        ("pfs_insert", [*given(shop), *list32(some), Number(jobs[-1], 32), out64(), out64()]),
+    ]
+
+
+def files(random: Random, shop: Instance) -> list[Call]:
+    """Right calls that draw, read and write, of files that may be wrong."""
+    writer = fuzz.Writer(random)
+    file, order = writer.file([shop_of(random), shop]), writer.order(shop)
+    if random.random() < 0.5:
+        file, order = fuzz.mutated(random, file), fuzz.mutated(random, order)
+    size, layout = shop.jobs * shop.machines, 0 if writer.layout == b"taillard" else 1
+    notes = u32s(shop.notes)
+    jobs = list(range(shop.jobs))
+    random.shuffle(jobs)
+    return [
+        ("pfs_generate", [Number(shop.jobs), Number(shop.machines), Number(random.randint(1, 2_147_483_646)),
+                          *list32([PATTERN] * size)]),
+        ("pfs_read", [*text(file), Number(layout, 32), Number(random.randint(1, 2)), out64(), out64(), out32(3),
+                      *list32([PATTERN] * 50), out64()]),
+        ("pfs_write", [*given(shop), notes, Number(random.randint(0, 1), 32), *text(b"\xa5" * 1_500), out64()]),
+        ("pfs_read_order", [*text(order), *list32([PATTERN] * 12), out64(), out64(), out64(), out64()]),
+        ("pfs_write_order", [*list32(jobs), Number(random.choice([0, shop.machines])), Number(random.getrandbits(62)),
+                             *text(b"\xa5" * 100), out64()]),
+    ]
+
+
+def spoilt(random: Random, arguments: Arguments) -> Arguments:
+    """The arguments with one or two numbers changed, or a number in a list that is read."""
+    arguments = list(arguments)
+    for _ in range(random.randint(1, 2)):
+        place = random.randrange(len(arguments))
+        argument = arguments[place]
+        if isinstance(argument, Memory):
+            if len(argument.content) % 4 == 0 and len(argument.content) >= 12:
+                numbers = read32(argument.content)
+                changed = random.choice([0, 1, 9, 1_000_000_000, 1_000_000_001, 2**32 - 1])
+                numbers[random.randrange(len(numbers))] = changed
+                arguments[place] = u32s(numbers)
+        elif argument.is_length:
+            arguments[place] = argument._replace(value=random.randint(0, argument.value))
+        else:
+            most = 2**argument.bits
+            value = random.choice([0, 1, 2, 100, 101, 200, 201, 5_000, 5_001, 1_000_000, most - 1, most // 2,
+                                   argument.value + 1, max(0, argument.value - 1)])
+            arguments[place] = argument._replace(value=value % most)
+    return arguments
+
+
+def is_quick(name: str, arguments: Arguments) -> bool:
+    """Whether the second implementation answers soon, which draws all words before the first round."""
+    numbers = [argument.value for argument in arguments if isinstance(argument, Number)]
+    return name != "pfs_rounds" or numbers[5] <= 20 or numbers[5] > 1_000_000
+
+
+def assert_same(libpfs: Library, second: Library, name: str, arguments: Arguments) -> int:
+    """Both libraries answer the same and leave the same in all memory. The number."""
+    answer = libpfs.call(name, *arguments)
+    assert answer == second.call(name, *arguments), (name, arguments)
+    return answer.number
+
+
+@pytest.mark.seconds(10)
+def test_random_shops_by_two_libraries(libpfs: Library, second: Library) -> None:
+    random = Random(1)
+    numbers = set[int]()
+    for _ in range(SHOPS):
+        for name, arguments in searches(random, shop_of(random)):
+            assert assert_same(libpfs, second, name, arguments) == 0, (name, arguments)
+            for wrong in [spoilt(random, arguments) for _ in range(6)]:
+                if is_quick(name, wrong):
+                    numbers.add(assert_same(libpfs, second, name, wrong))
+    assert numbers == {0, 2, 3, 4, 5, 6, 7, 8, 9}
+
+
+@pytest.mark.seconds(10)
+def test_random_files_by_two_libraries(libpfs: Library, second: Library) -> None:
+    random = Random(2)
+    numbers = set[int]()
+    for _ in range(FILES):
+        for name, arguments in files(random, shop_of(random)):
+            numbers.add(assert_same(libpfs, second, name, arguments))
+            numbers.add(assert_same(libpfs, second, name, spoilt(random, arguments)))
+    assert numbers == {0, 2, 3, 4, 5, 6, *range(10, 15), *range(20, 28), 30, 31, 32}
+
+
+class Desk:
+    """The program in a folder, and the library, on one shop."""
+
+    def __init__(self, pfs: Program, libpfs: Library, folder: pathlib.Path, shop: Instance) -> None:
+        self.pfs, self.libpfs, self.folder, self.shop = pfs, libpfs, folder, shop
+        (folder / "shop").write_bytes(second_program.canonical(shop, b"taillard"))
+
+    def call(self, name: str, *arguments: Number | Memory) -> Answer:
+        answer = self.libpfs.call(name, *arguments)
+        assert answer.number == 0, name
+        return answer
+
+    def print(self, line: str) -> bytes:
+        ran = self.pfs.run(line, self.folder)
+        assert (ran.stderr, ran.status) == (b"", 0), line
+        return ran.stdout
+
+    def searched(self, random: Random) -> None:
+        """NEH and rounds in two parts against one search, and the audit of what they leave."""
+        first, second = random.randint(0, 5), random.randint(0, 5)
+        take, passes, seed = random.randint(1, self.shop.jobs), random.randint(0, 2), random.getrandbits(64)
+        size = Number(self.shop.jobs, is_length=True)
+        neh = self.call("pfs_neh", *given(self.shop), out32(self.shop.jobs), size, out64(), out64()).memory
+        order, makespan, cells = neh[1], read64(neh[2]), read64(neh[3])
+        for start, count in ((0, first), (first, second)):
+            left = self.call("pfs_rounds", *given(self.shop), Memory(order), size, Number(start, 32), Number(count, 32),
+                             Number(take), Number(passes, 32), Number(seed), out64(), out64()).memory
+            order, makespan, cells = left[1], read64(left[2]), [*cells, *read64(left[3])]
+        file = self.written(order, makespan[0])
+        options = f"--rounds {first + second} --take {take} --passes {passes} --seed {seed}"
+        assert self.print(f"solve --layout taillard {options} --cells shop") == file + b"cells %d\n" % sum(cells)
+        self.audited(order, makespan[0], file)
+
+    def written(self, order: bytes, makespan: int) -> bytes:
+        """The order file."""
+        size = Number(self.shop.jobs)
+        text, length = self.call("pfs_write_order", Memory(order), size, Number(self.shop.machines), Number(makespan),
+                                 Memory(bytes(300)), Number(300), out64()).memory[1:]
+        return text[:read64(length)[0]]
+
+    def audited(self, order: bytes, makespan: int, file: bytes) -> None:
+        """The makespan of an order, the bound and the table."""
+        size = self.shop.jobs * self.shop.machines
+        (self.folder / "order").write_bytes(file)
+        bound = read64(self.call("pfs_bound", *given(self.shop), out64()).memory[1])[0]
+        optimal = b"optimal\n" if bound == makespan else b""
+        wanted = b"valid\nmakespan %d\nbound %d\n" % (makespan, bound) + optimal
+        assert self.print("check --layout taillard shop order") == wanted
+        made = self.call("pfs_table", *given(self.shop), Memory(order), Number(self.shop.jobs), *list64([0] * size),
+                         *list64([0] * size)).memory
+        spans = [time for span in zip(read64(made[2]), read64(made[3])) for time in span]
+        rows = [spans[at:at + 2 * self.shop.machines] for at in range(0, 2 * size, 2 * self.shop.machines)]
+        lines = [second_program.numbers([job + 1, *row]) for job, row in zip(read32(order), rows)]
+        head = b"table %d %d\n" % (self.shop.jobs, self.shop.machines)
+        assert self.print("table --layout taillard shop order") == head + b"".join(lines) + b"makespan %d\n" % makespan
+
+    def converted(self) -> None:
+        """The text in the other layout, read and written again, and drawn times."""
+        by_jobs = self.print("convert --from taillard --to orlib shop")
+        size = self.shop.jobs * self.shop.machines
+        read = self.call("pfs_read", *text(by_jobs), Number(1, 32), Number(1), out64(), out64(), out32(3),
+                         *list32([0] * size), out64()).memory
+        assert read32(read[4]) == by_job(self.shop)
+        wrote = self.call("pfs_write", *given(self.shop), u32s(self.shop.notes), Number(1, 32), Memory(bytes(2_000)),
+                          Number(2_000), out64()).memory
+        assert wrote[2][:read64(wrote[3])[0]] == by_jobs
+        drawn = self.call("pfs_generate", Number(self.shop.jobs), Number(self.shop.machines), Number(77),
+                          *list32([0] * size)).memory
+        notes = u32s([77, 0, 0])
+        wrote = self.call("pfs_write", Memory(drawn[0]), Number(size), Number(self.shop.jobs),
+                          Number(self.shop.machines), notes, Number(0, 32), Memory(bytes(2_000)), Number(2_000),
+                          out64()).memory
+        assert wrote[2][:read64(wrote[3])[0]] == self.print(f"generate {self.shop.jobs} {self.shop.machines} 77")
+
+
+@pytest.mark.seconds(10)
+def test_random_shops_by_the_program(pfs: Program, libpfs: Library, folder: pathlib.Path) -> None:
+    random = Random(3)
+    for _ in range(SHOPS):
+        desk = Desk(pfs, libpfs, folder, shop_of(random))
+        desk.searched(random)
+        desk.converted()
