@@ -1,6 +1,7 @@
 """tools/gantt draws each operation that takes time where it is, on its machine's row and in its job's colour, with the
 job's number on it where that fits: read back from its SVG by the axes' own marks. What isn't a time table is refused,
 and no file is left then."""
+import os
 import pathlib
 import random
 import re
@@ -9,6 +10,7 @@ from collections.abc import Callable
 from typing import NamedTuple
 
 import pytest
+from support.colours import Lab, difference, least_difference
 from support.files import generated
 from support.pictures import Letters, Picture, contrast, value_of
 from support.program import Program, Ran, ended
@@ -65,6 +67,15 @@ BAD_WORDS = {
     "a bound above the makespan": ["--bound", "11", "picture.svg"],
     "a bound that is no number": ["--bound", "x", "picture.svg"],
     "an unknown option": ["--unknown", "picture.svg"],
+    "a width of nothing": ["--width", "0", "picture.svg"],
+    "a width that is no number": ["--width", "nan", "picture.svg"],
+    "a width with a minus": ["--width=-3", "picture.svg"],
+    "a width of a mile": ["--width", "63360", "picture.svg"],
+    "no dots": ["--dpi", "0", "picture.svg"],
+    "half a dot": ["--dpi", "99.5", "picture.svg"],
+    "more pixels than memory has room for": ["--width", "50", "--dpi", "2400", "picture.svg"],
+    "a unit with a line end": ["--unit", "a\nb", "picture.svg"],
+    "a unit with a byte that XML doesn't have": ["--unit", "a\x01b", "picture.svg"],
     "a table that is missing": ["missing", "picture.svg"],
 }
 
@@ -144,6 +155,8 @@ def drawn_by_taillard(jobs: int, machines: int, seed: int) -> Case:
 
 WITH_BOUND = read_table("three jobs", THREE, "--critical", "--bound", "9", "--unit", "min")
 PLAIN = read_table("three jobs, plain", THREE)
+PAPER = drawn_by_taillard(20, 5, 873654221)._replace(
+    name="3.5 inches", options=("--critical", "--bound", "1232", "--width", "3.5", "--unit", "s"))
 CASES = [
     WITH_BOUND,
     PLAIN,
@@ -151,6 +164,7 @@ CASES = [
     Case("nothing takes time, 2 by 2", [1, 2], schedule_of([[0, 0], [0, 0]])),
     *map(at_random, range(8)),
     drawn_by_taillard(20, 5, 873654221),
+    PAPER,
     drawn_by_taillard(500, 20, 5),
 ]
 
@@ -240,6 +254,71 @@ def test_a_jobs_colour_is_that_of_its_number_and_not_of_its_place(drawn: Drawn) 
     assert found[0] == found[1], "colours of the same jobs in another order"
 
 
+# Published pairs of colours, and how far apart they are (Sharma, Wu and Dalal, 2005, table 1).
+PAIRS: list[tuple[Lab, Lab, float]] = [
+    ((50, 2.6772, -79.7751), (50, 0, -82.7485), 2.0425), ((50, 3.1571, -77.2803), (50, 0, -82.7485), 2.8615),
+    ((50, -1.3802, -84.2814), (50, 0, -82.7485), 1.0), ((50, 2.5, 0), (50, 0, -2.5), 4.3065),
+    ((50, 2.5, 0), (73, 25, -18), 27.1492), ((50, 2.5, 0), (61, -5, 29), 22.8977),
+    ((50, 2.5, 0), (56, -27, -3), 31.9030), ((50, 2.5, 0), (58, 24, 15), 19.4535),
+    ((60.2574, -34.0099, 36.2677), (60.4626, -34.1751, 39.4387), 1.2644),
+]
+
+
+@pytest.mark.parametrize(("first", "second", "wanted"), PAIRS)
+def test_the_difference_of_two_colours_is_the_published_one(first: Lab, second: Lab, wanted: float) -> None:
+    assert difference(first, second) == pytest.approx(wanted, abs=0.00005)
+
+
+def colours_in_turn(case: Case, picture: Picture) -> list[str]:
+    """The colours of the jobs, in their order, of those that are seen."""
+    found = colours_of(case, picture)
+    return [fill for job in case.order for fill in found.get(job, ())]
+
+
+@pytest.mark.parametrize(("jobs", "least"), [(8, 14.3), (20, 8.9), (60, 4.6)])
+def test_any_two_of_few_jobs_can_be_told_apart(jobs: int, least: float, drawn: Drawn) -> None:
+    """By all eyes, and each of them from idle time."""
+    case = Case(f"colours of {jobs}", list(range(1, jobs + 1)), schedule_of([[1]] * jobs), ())
+    fills = [*colours_in_turn(case, drawn(case)), IDLE]
+    assert len(fills) == jobs + 1
+    pairs = {(one, other): least_difference(one, other) for at, one in enumerate(fills) for other in fills[:at]}
+    assert {pair: told for pair, told in pairs.items() if told < least} == {}
+
+
+@pytest.mark.parametrize("jobs", [61, 62, 63, 500])
+def test_neighbours_of_many_jobs_can_be_told_apart(jobs: int, drawn: Drawn) -> None:
+    """Also where one that takes no time stands between them; and each of them from idle time."""
+    case = Case(f"colours of {jobs}", list(range(jobs, 0, -1)), schedule_of([[1]] * jobs), ())
+    fills = colours_in_turn(case, drawn(case))
+    assert len(fills) == jobs
+    for apart in (1, 2):
+        assert min(map(least_difference, fills, fills[apart:])) >= 12, f"colours of jobs that are {apart} apart"
+    assert min(least_difference(fill, IDLE) for fill in fills) >= 5
+
+
+@cases()
+def test_the_edges_of_bars_leave_an_operation_of_one_unit_to_be_seen(case: Case, drawn: Drawn) -> None:
+    """They are white lines, half of which lies on each of the bars beside it."""
+    picture = drawn(case)
+    for machine in case.machines():
+        unit = picture.across().on_picture(min((end - start for _, start, end in case.operations(machine)), default=0))
+        for _, style in picture.shapes(f"machine-{machine + 1}"):
+            edge = float(value_of(style, "stroke-width") or 1) if value_of(style, "stroke") not in ("", "none") else 0
+            assert edge <= unit / 4 + 1e-6, f"an edge of {edge} on machine {machine + 1}, whose shortest bar is {unit}"
+
+
+@pytest.mark.parametrize("width", ["12", "50"])
+def test_the_outline_of_the_path_leaves_an_operation_of_one_unit_to_be_seen(width: str, gantt: Gantt,
+                                                                            folder: pathlib.Path) -> None:
+    """Half of its line lies on the first operation that it surrounds."""
+    case = Case("one unit", [1, 2], schedule_of([[1, 300], [2, 1]]), ("--critical", "--width", width))
+    assert gantt(folder, *case.options, "picture.svg", text=case.text()) == Ran(b"", b"", 0)
+    picture = Picture(folder / "picture.svg")
+    (_, style), = picture.shapes("critical-1")
+    line, unit = float(value_of(style, "stroke-width")), picture.across().on_picture(1)
+    assert 0.7 < line < max(0.9, 0.55 * unit), (line, unit)
+
+
 # Numbers on bars
 
 def bar_below(case: Case, picture: Picture, letters: Letters) -> tuple[int, int]:
@@ -269,17 +348,28 @@ def test_each_number_stands_in_the_middle_of_a_bar_of_its_job(case: Case, drawn:
         assert is_near(picture.across()(letters.x), (start + end) / 2, case.makespan), f"middle of {letters}"
 
 
-@cases()
-def test_each_bar_has_one_number_where_it_fits(case: Case, drawn: Drawn) -> None:
-    picture = drawn(case)
+def room(case: Case, picture: Picture, machine: int) -> list[tuple[int, float, float]]:
+    """The jobs on a machine, how wide their bars are, and how wide their numbers."""
     time = picture.across()
+    return [(job, time.on_picture(end - start), DIGIT * LETTERS * len(str(job)))
+            for job, start, end in case.operations(machine)]
+
+
+@cases()
+def test_a_row_has_a_number_on_each_bar_where_it_fits_or_none_where_few_fit(case: Case, drawn: Drawn) -> None:
+    """Few are less than half of them."""
+    picture = drawn(case)
     numbers = [bar_below(case, picture, letters) for letters in numbers_on(picture)]
     for machine in case.machines():
-        for job, start, end in case.operations(machine):
-            width, wanted = time.on_picture(end - start), DIGIT * LETTERS * len(str(job))
-            count = numbers.count((machine + 1, job))
-            assert count <= (width > wanted), f"numbers on job {job} of machine {machine + 1}, {width} wide"
-            assert count == 1 or width < 1.3 * wanted + 4, f"no number on job {job} of machine {machine + 1}"
+        bars = room(case, picture, machine)
+        told = {job for job, *_ in bars if (machine + 1, job) in numbers}
+        assert len(told) == sum(row == machine + 1 for row, _ in numbers), f"numbers twice on machine {machine + 1}"
+        fit = {job for job, width, wanted in bars if width > wanted}
+        surely = {job for job, width, wanted in bars if width > 1.3 * wanted + 4}
+        assert told <= fit, f"numbers on narrow bars of machine {machine + 1}"
+        assert surely <= told or not told, f"numbers on some bars of machine {machine + 1}"
+        assert told or 2 * len(surely) <= len(bars), f"no numbers on machine {machine + 1}, where {len(surely)} fit"
+        assert not told or 2 * len(fit) >= len(bars), f"numbers on machine {machine + 1}, where {len(fit)} fit"
 
 
 @cases()
@@ -289,8 +379,8 @@ def test_each_number_can_be_read_on_its_bar(case: Case, drawn: Drawn) -> None:
     for letters in numbers_on(picture):
         (fill,) = fills[int(letters.text)]
         ink = {"black": "#000000", "white": "#ffffff"}.get(letters.fill, letters.fill)
-        best = max(contrast("#000000", fill), contrast("#ffffff", fill))
-        assert contrast(ink, fill) >= 0.4 * best, f"{letters.fill} letters on {fill}"
+        assert contrast(ink, fill) >= 4.5, f"{letters.fill} letters on {fill}"
+        assert letters.size == LETTERS
 
 
 @cases(lambda case: case.name == "500 by 20")
@@ -364,6 +454,23 @@ def test_the_bound_is_a_dashed_line_at_its_time_through_all_rows(case: Case, dra
     assert value_of(style, "stroke-dasharray") != "", f"a line of this style is solid: {style}"
 
 
+AT_THE_END = read_table("the bound is the makespan", THREE, "--bound", "10", "--critical")
+
+
+@pytest.mark.parametrize("case", [WITH_BOUND, AT_THE_END], ids=["before the end", "at the end"])
+def test_nothing_cuts_or_hides_the_bounds_line(case: Case, drawn: Drawn) -> None:
+    """White stands beside it, below it, and over the bars and the path."""
+    picture = drawn(case)
+    names = list(picture.groups)
+    assert names.index("bound") > names.index("beside-bound") > names.index("critical-2"), names
+    for name in ("bound", "beside-bound"):
+        assert not [path for path in picture.groups[name].iter() if path.get("clip-path")], f"{name} is cut"
+    (_, style), = picture.shapes("beside-bound")
+    (_, line), = picture.shapes("bound")
+    assert value_of(style, "stroke") == "#ffffff"
+    assert float(value_of(style, "stroke-width")) > float(value_of(line, "stroke-width"))
+
+
 @cases(lambda case: case is PLAIN)
 def test_a_plain_picture_has_neither_bound_nor_path(case: Case, drawn: Drawn) -> None:
     assert not {"bound", "critical-1", "critical-2"} & drawn(case).groups.keys()
@@ -381,6 +488,143 @@ def test_the_critical_path_leads_from_0_to_the_makespan_without_idle_time(case: 
                        if start <= first and last <= round(at))
             assert is_near(busy, at - outline.start, case.makespan), f"idle time on the path, machine {machine + 1}"
     assert is_near(at, case.makespan, case.makespan), "end of the path"
+
+
+# Papers
+
+def size_of(picture: Picture) -> tuple[float, float]:
+    """Width and height in points, from the shape that lies behind all."""
+    (points, _), = picture.shapes("patch_1")
+    return max(x for x, _ in points), max(y for _, y in points)
+
+
+def test_letters_can_be_read_at_the_width_of_a_column(drawn: Drawn) -> None:
+    """They have 8 points or more, and none stands beyond the picture; a letter is at most 0.65 of its height wide."""
+    picture = drawn(PAPER)
+    width, _ = size_of(picture)
+    assert width == pytest.approx(3.5 * 72, abs=0.1)
+    for letters in picture.texts():
+        assert letters.size >= 8, letters
+        reach = 0.65 * letters.size * len(letters.text)
+        ends = {"middle": (-0.5, 0.5), "end": (-1.0, 0.0)}.get(letters.anchor, (0.0, 1.0))
+        if letters.text not in ("machine",):
+            assert letters.x + ends[0] * reach > -2 and letters.x + ends[1] * reach < width + 10, letters
+
+
+def test_marks_of_time_dont_touch_each_other(drawn: Drawn) -> None:
+    picture = drawn(PAPER)
+    texts = [letters for name in picture.groups if name.startswith("xtick_") for letters in picture.texts(name)]
+    assert len(texts) > 2
+    for one, other in zip(texts, texts[1:]):
+        assert other.x - one.x > 0.6 * one.size * max(len(one.text), len(other.text)), (one, other)
+
+
+def test_no_title_is_none(gantt: Gantt, folder: pathlib.Path) -> None:
+    assert gantt(folder, "--no-title", "picture.svg") == Ran(b"", b"", 0)
+    assert [letters for letters in Picture(folder / "picture.svg").texts() if "jobs" in letters.text] == []
+
+
+@pytest.mark.parametrize("unit", ["$x_{$", "$x$", "\\$", "a < b & c", "\u00b5s"])
+def test_a_unit_is_text(unit: str, gantt: Gantt, folder: pathlib.Path) -> None:
+    assert gantt(folder, "--unit", unit, "picture.svg") == Ran(b"", b"", 0)
+    assert len(Picture(folder / "picture.svg").find(f"time ({unit})")) == 1
+    assert gantt(folder, "--unit", unit, "picture.png") == Ran(b"", b"", 0)
+
+
+@pytest.mark.parametrize(("words", "size"), [((), (1320, 235)), (("--width", "3.5"), (385, 235)),
+                                             (("--dpi", "300"), (3600, 642))], ids=["usual", "narrow", "fine"])
+def test_a_png_has_so_many_pixels(words: tuple[str, ...], size: tuple[int, int], gantt: Gantt,
+                                  folder: pathlib.Path) -> None:
+    """Inches by dots an inch; two rows of 0.42 inches stand on 1.3."""
+    assert gantt(folder, *words, "picture.png") == Ran(b"", b"", 0)
+    png = (folder / "picture.png").read_bytes()
+    found = int.from_bytes(png[16:20], "big"), int.from_bytes(png[20:24], "big")
+    assert found == pytest.approx(size, abs=1)
+
+
+def test_the_fonts_of_a_pdf_are_truetype(gantt: Gantt, folder: pathlib.Path) -> None:
+    assert gantt(folder, "picture.pdf") == Ran(b"", b"", 0)
+    pdf = (folder / "picture.pdf").read_bytes()
+    assert b"/FontFile2" in pdf and b"/Type3" not in pdf
+
+
+# Rows that are an image
+
+def steps(jobs: int) -> Case:
+    """Jobs of one unit on each of two machines, but for one of 600 on the first one, for which the second one waits."""
+    times = [[600, 1] if job == jobs // 2 else [1, 1] for job in range(jobs)]
+    return Case(f"an image of {jobs}", list(range(1, jobs + 1)), schedule_of(times), ())
+
+
+@pytest.fixture
+def image(gantt: Gantt, folder: pathlib.Path) -> Picture:
+    case = steps(2000)
+    ran = gantt(folder, "--dpi", "100", "picture.svg", text=case.text())
+    assert (ran.status, ran.stdout) == (0, b"")
+    assert re.fullmatch("gantt: 4,000 operations, [^\n]* image, 100 dots an inch\n", ran.stderr.decode())
+    return Picture(folder / "picture.svg")
+
+
+def test_an_image_lies_on_the_rows_from_0_to_the_makespan(image: Picture) -> None:
+    place, pixels = image.image()
+    assert place[:4] == pytest.approx((0, 2600, 0.5, 2.5), abs=2)
+    assert len(pixels[0]) == 1050, "pixels from left to right: 12 inches but for 1.5, at 100 an inch"
+
+
+def test_a_pixel_of_an_image_has_the_mean_of_the_colours_at_its_time(image: Picture) -> None:
+    """Grey where no operation is, one colour where one is, and none of these where there are several."""
+    place, pixels = image.image()
+    case, each = steps(2000), len(pixels) // 2
+    for machine in case.machines():
+        line = pixels[each * machine + each // 2]
+        for at, fill in enumerate(line):
+            start, end = (2600 * edge / len(line) for edge in (at, at + 1))
+            here = [(max(first, start), min(last, end)) for _, first, last in case.operations(machine)
+                    if first < end and start < last]
+            busy = sum(last - first for first, last in here) / (end - start)
+            assert (fill == IDLE) == (busy < 1e-9), f"pixel {at} of machine {machine + 1}: {fill}, {busy:.3f} busy"
+    long = {fill for at, fill in enumerate(pixels[each // 2]) if 1000 < 2600 * at / 1050 < 1595}
+    assert len(long) == 1, "colours of the one long operation"
+    assert {fill for line in (pixels[0], pixels[each - 1], pixels[-1]) for fill in line} == {"#ffffff"}, "between rows"
+
+
+@pytest.mark.parametrize("case", [steps(10_000), Case("many", list(range(1, 1051)), schedule_of([[1] * 20] * 1050))],
+                         ids=["20,000 of 10,000 jobs", "21,000 of 1,050 jobs"])
+def test_very_many_operations_are_an_image(case: Case, gantt: Gantt, folder: pathlib.Path) -> None:
+    assert b"are an image" in gantt(folder, "picture.svg", text=case.text()).stderr
+    assert len(list(Picture(folder / "picture.svg").root.iter("{http://www.w3.org/2000/svg}image"))) == 1
+
+
+@pytest.fixture(scope="module")
+def greatest(pfs: Program, tmp_path_factory: pytest.TempPathFactory) -> pathlib.Path:
+    """A folder with the greatest time table, 5,000 by 200."""
+    folder = tmp_path_factory.mktemp("greatest")
+    (folder / "shop").write_bytes(pfs.run("generate 5000 200 7", folder).stdout)
+    jobs = " ".join(map(str, range(1, 5001)))
+    (folder / "order").write_text(f"order2 5000 200\n{jobs}\nmakespan 0\n")
+    (folder / "table").write_bytes(pfs.run("table --layout taillard shop order", folder).stdout)
+    return folder
+
+
+def measured(words: list[str | pathlib.Path], folder: pathlib.Path) -> tuple[float, int]:
+    """Processor seconds and bytes of memory that a script takes which succeeds."""
+    child = subprocess.Popen(words, cwd=folder, stderr=subprocess.DEVNULL)
+    _, status, used = os.wait4(child.pid, 0)
+    child.returncode = os.waitstatus_to_exitcode(status)
+    assert child.returncode == 0
+    return used.ru_utime + used.ru_stime, 1024 * used.ru_maxrss
+
+
+@pytest.mark.seconds(10)
+@pytest.mark.xdist_group("gantt, greatest")
+@pytest.mark.parametrize("ending", BEGINNINGS)
+def test_the_greatest_table_is_drawn_soon_and_small(ending: str, top: pathlib.Path, matplotlib: None,
+                                                    greatest: pathlib.Path) -> None:
+    """Within 20 seconds, 300 MB of memory and 20 MB of file."""
+    picture = greatest / f"picture.{ending}"
+    seconds, memory = measured([top / "tools" / "gantt", "--critical", "table", picture.name], greatest)
+    assert picture.read_bytes().startswith(BEGINNINGS[ending])
+    assert (seconds < 20, memory < 300e6, picture.stat().st_size < 20e6) == (True,) * 3, (seconds, memory)
 
 
 # Files

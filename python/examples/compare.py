@@ -1,0 +1,92 @@
+#!/usr/bin/env python3
+"""Compares a method of one's own with NEH and iterated greedy, on ten instances of Taillard: a place to begin a study.
+Writes compare.csv and compare.png into a folder.
+
+usage: compare.py [FOLDER]"""
+import pathlib
+import random
+import sys
+from collections.abc import Callable
+
+import matplotlib.figure
+import pandas
+
+import pfs
+
+ROUNDS = 1_000
+
+
+def neh(shop: pfs.Instance) -> pfs.Solution:
+    """NEH's order."""
+    return shop.neh()
+
+
+def iterated_greedy(shop: pfs.Instance) -> pfs.Solution:
+    """NEH's order after 1,000 rounds of iterated greedy."""
+    return shop.solve(ROUNDS, seed=1)
+
+
+def random_insertions(shop: pfs.Instance) -> pfs.Solution:
+    """A method of one's own: one job after the other, drawn at random, leaves its place in NEH's order for its best
+    one, as often as four jobs are in 1,000 rounds."""
+    chance = random.Random(1)
+    best = shop.neh()
+    order, makespan = best.order.tolist(), best.makespan
+    for _ in range(4 * ROUNDS):
+        job = chance.choice(order)
+        others = [other for other in order if other != job]
+        place, found = shop.best_place(others, job)
+        if found <= makespan:
+            others.insert(place, job)
+            order, makespan = others, found
+    return pfs.Solution(order, makespan, machines=shop.machines)
+
+
+METHODS: dict[str, Callable[[pfs.Instance], pfs.Solution]] = {
+    "NEH": neh,
+    "random insertions": random_insertions,
+    "iterated greedy": iterated_greedy,
+}
+
+
+def compare() -> pandas.DataFrame:
+    """For each instance and method the makespan, and by how many percent it is above the published bound."""
+    rows = []
+    for number in range(1, 11):
+        shop = pfs.taillard(number)
+        for name, method in METHODS.items():
+            found = method(shop)
+            # What a method says of itself is looked at once more.
+            assert shop.makespan(found.order) == found.makespan
+            rows.append((shop.name, name, found.makespan, 100 * (found.makespan / shop.lower - 1)))
+    return pandas.DataFrame(rows, columns=["instance", "method", "makespan", "gap"])
+
+
+def draw(results: pandas.DataFrame, path: pathlib.Path) -> None:
+    """The gaps, a group of bars for each instance."""
+    figure = matplotlib.figure.Figure(figsize=(9, 3.6), layout="constrained")
+    axis = figure.subplots()
+    results.pivot(index="instance", columns="method", values="gap")[list(METHODS)].plot.bar(
+        ax=axis, rot=0, width=0.8, color=["#b0b0b0", "#e69f00", "#0072b2"])
+    axis.set_xlabel("")
+    axis.set_ylabel("% above the published bound")
+    axis.spines[["top", "right"]].set_visible(False)
+    axis.legend(frameon=False, title="")
+    figure.savefig(path, dpi=150)
+
+
+def main() -> None:
+    """Compares, prints and writes."""
+    folder = pathlib.Path(sys.argv[1] if len(sys.argv) > 1 else ".")
+    folder.mkdir(parents=True, exist_ok=True)
+    results = compare()
+    results.to_csv(folder / "compare.csv", index=False, float_format="%.3f")
+    draw(results, folder / "compare.png")
+    print(results.pivot(index="instance", columns="method", values="makespan")[list(METHODS)].to_string())
+    print()
+    gaps = results.groupby("method")["gap"].mean()[list(METHODS)]
+    print(gaps.map("mean gap {:.2f} %".format).to_string(header=False))
+
+
+if __name__ == "__main__":
+    main()

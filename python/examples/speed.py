@@ -1,0 +1,129 @@
+#!/usr/bin/env python3
+"""What calls cost: each line is the least of several runs. Searches are told in processor time, since they are long
+enough for other programs to come between.
+
+usage: speed.py [PROGRAM], where PROGRAM is the built program pfs"""
+import pathlib
+import resource
+import subprocess
+import sys
+import tempfile
+import timeit
+from collections.abc import Callable
+from typing import Any
+
+import numpy as np
+import numpy.typing as npt
+
+import pfs
+
+Order = npt.NDArray[np.int64]
+Times = npt.NDArray[np.int64]
+
+
+def numpy_place(times: Times, sequence: Order, job: int) -> tuple[int, int]:
+    """The best place by NumPy: all places at once, job by job and machine by machine."""
+    count = len(sequence) + 1
+    orders = np.array([np.insert(sequence, place, job) for place in range(count)])
+    free = np.zeros((count, times.shape[1]), dtype=np.int64)
+    for at in range(count):
+        lengths = times[orders[:, at]]
+        free[:, 0] += lengths[:, 0]
+        for machine in range(1, times.shape[1]):
+            free[:, machine] = np.maximum(free[:, machine], free[:, machine - 1]) + lengths[:, machine]
+    place = int(free[:, -1].argmin())
+    return place, int(free[place, -1])
+
+
+def plain_place(times: Times, sequence: Order, job: int) -> tuple[int, int]:
+    """The best place by loops, each order afresh: for numba."""
+    jobs, machines = len(sequence) + 1, times.shape[1]
+    best_place, best = 0, 1 << 62
+    for place in range(jobs):
+        free = np.zeros(machines, dtype=np.int64)
+        for at in range(jobs):
+            current = job if at == place else sequence[at - (at > place)]
+            done = 0
+            for machine in range(machines):
+                done = max(done, free[machine]) + times[current, machine]
+                free[machine] = done
+        if free[machines - 1] < best:
+            best_place, best = place, free[machines - 1]
+    return best_place, best
+
+
+def seconds(call: Callable[[], Any], number: int, repeat: int = 7) -> float:
+    """The least time of a call."""
+    return min(timeit.repeat(call, number=number, repeat=repeat)) / number
+
+
+def spent_by(whom: int) -> float:
+    """Processor time."""
+    usage = resource.getrusage(whom)
+    return usage.ru_utime + usage.ru_stime
+
+
+def told(what: str, time: float, beside: float | None = None) -> None:
+    """A line of the table."""
+    ratio = "" if beside is None else f"{time / beside:,.2f}"
+    print(f"| {what} | {1e6 * time:,.1f} | {ratio} |")
+
+
+def makespans(program: str, folder: pathlib.Path) -> None:
+    """The makespan of 20 jobs on 5 machines."""
+    shop = pfs.taillard(1)
+    best = shop.neh()
+    shop.write(folder / "shop")
+    best.write(folder / "order")
+    words = [program, "check", "--layout", "taillard", str(folder / "shop"), str(folder / "order")]
+    call = seconds(lambda: shop.makespan(best.order), 1000, 20)
+    told("`makespan`, 20 jobs on 5 machines", call)
+    told("a process of `pfs check` for the same", seconds(lambda: subprocess.run(words, capture_output=True), 20), call)
+
+
+def places() -> None:
+    """The best place of a job among 99 others on 20 machines."""
+    shop = pfs.taillard(81)
+    times, sequence = shop.times.astype(np.int64), np.arange(99)
+    call = seconds(lambda: shop.best_place(sequence, 99), 200)
+    told("`best_place`, 99 jobs on 20 machines", call)
+    assert shop.best_place(sequence, 99) == numpy_place(times, sequence, 99)
+    told("NumPy, all places at once", seconds(lambda: numpy_place(times, sequence, 99), 3), call)
+    try:
+        import numba
+    except ImportError:
+        return
+    compiled = numba.njit(plain_place)
+    assert shop.best_place(sequence, 99) == compiled(times, sequence, 99)
+    told("numba, each place afresh", seconds(lambda: compiled(times, sequence, 99), 20), call)
+
+
+def searches(program: str, folder: pathlib.Path) -> None:
+    """2,000 rounds on 500 jobs and 20 machines, in turns, by the processor's time."""
+    shop = pfs.taillard(111)
+    shop.write(folder / "shop")
+    words = [program, "solve", "--layout", "taillard", "--rounds", "2000", str(folder / "shop")]
+    ours, theirs = [], []
+    for _ in range(9):
+        begun = spent_by(resource.RUSAGE_CHILDREN)
+        subprocess.run(words, capture_output=True, check=True)
+        theirs.append(spent_by(resource.RUSAGE_CHILDREN) - begun)
+        begun = spent_by(resource.RUSAGE_SELF)
+        shop.solve(2000)
+        ours.append(spent_by(resource.RUSAGE_SELF) - begun)
+    told("`pfs solve`, 2,000 rounds, 500 jobs on 20 machines", min(theirs))
+    told("`solve` for the same", min(ours), min(theirs))
+
+
+def main() -> None:
+    """Prints the table."""
+    program = sys.argv[1] if len(sys.argv) > 1 else "pfs"
+    print("| What | Microseconds | Beside the line of its kind |\n|---|---|---|")
+    with tempfile.TemporaryDirectory() as folder:
+        makespans(program, pathlib.Path(folder))
+        places()
+        searches(program, pathlib.Path(folder))
+
+
+if __name__ == "__main__":
+    main()

@@ -1,0 +1,26 @@
+"""Permutation flow shops: makespans, bounds, NEH and iterated greedy.
+
+Each job runs on machine 0, then on machine 1, and so on to the last; all machines run the jobs in the same order. The
+makespan of an order is when its last job leaves the last machine.
+
+Jobs, machines and places count from 0, as arrays do; in files jobs count from 1.
+
+>>> import pfs
+>>> shop = pfs.taillard(1)                      # or pfs.Instance(array), pfs.read("ta001", layout="taillard")
+>>> best = shop.solve(1000)
+>>> best.makespan, shop.bound()
+(1278, 1232)
+
+What the functions compute is done by the library ``libpfs``, whose answers are proved for each input.
+"""
+from pfs._faults import Fault, FileFault, Interrupted, OrderFault, TableFault
+from pfs._files import generate, read, read_all, read_csv, read_order, taillard
+from pfs._instance import Instance, Place
+from pfs._schedule import Schedule
+from pfs._solution import Solution
+from pfs._version import VERSION as __version__
+
+__all__ = [
+    "Fault", "FileFault", "Instance", "Interrupted", "OrderFault", "Place", "Schedule", "Solution", "TableFault",
+    "__version__", "generate", "read", "read_all", "read_csv", "read_order", "taillard",
+]

@@ -1,0 +1,115 @@
+"""The chart of a schedule: a picture, by the code that tools/gantt draws with, or a page."""
+from __future__ import annotations
+
+import html
+import importlib.resources
+import importlib.util
+import json
+import logging
+import os
+import pathlib
+import sys
+from typing import TYPE_CHECKING, Any
+
+from pfs._names import amount
+
+if TYPE_CHECKING:
+    from pfs._schedule import Schedule
+
+
+def _drawing() -> Any:
+    """What tools/gantt draws with: a wheel has it as a module of the package, a checkout in tools/."""
+    try:
+        return importlib.import_module("pfs._gantt")
+    except ModuleNotFoundError:
+        path = pathlib.Path(__file__).resolve().parents[3] / "tools" / "chart.py"
+        spec = importlib.util.spec_from_file_location("pfs._gantt", path)
+        if spec is None or spec.loader is None or not path.exists():
+            raise
+        sys.modules[spec.name] = module = importlib.util.module_from_spec(spec)
+        spec.loader.exec_module(module)
+        return module
+
+
+if TYPE_CHECKING:
+    import chart as _gantt
+else:
+    _gantt = _drawing()
+
+ENDINGS = ("svg", "png", "pdf", "html")
+UNIT = "units of the instance"
+
+
+def plot(schedule: Schedule, path: str | os.PathLike[str] | None, critical: bool, bound: bool, unit: str | None) -> Any:
+    """The figure, or, where the path is that of a page, none."""
+    shop = schedule.instance
+    ending = None if path is None else ending_of(path)
+    look = _gantt.Look(critical=critical, bound=shop.bound() if bound else None, unit=unit or shop.unit or UNIT,
+                       decimals=shop.decimals)
+    table = _gantt.Table([job + 1 for job in schedule.order.tolist()], schedule.starts, schedule.ends,
+                         shop.job_names or counted(shop.jobs), shop.machine_names or counted(shop.machines))
+    if ending == "html":
+        assert path is not None
+        with open(path, "w", encoding="utf-8", newline="") as file:
+            file.write(page_of(table, look, shop.name))
+        return None
+    return drawn(table, look, path, ending)
+
+
+def ending_of(path: str | os.PathLike[str]) -> str:
+    """What a chart's name ends with."""
+    ending = os.path.splitext(os.fspath(path))[1][1:].lower()
+    if ending not in ENDINGS:
+        raise ValueError(f"{os.fspath(path)}: the name of a chart ends with .svg, .png, .pdf or .html")
+    return ending
+
+
+def counted(count: int) -> list[str]:
+    """The numbers of jobs or machines, from 0 as they are counted here."""
+    return [str(number) for number in range(count)]
+
+
+def drawn(table: _gantt.Table, look: _gantt.Look, path: str | os.PathLike[str] | None, ending: str | None) -> Any:
+    """The figure, which is saved where there is a path. The settings of matplotlib stay as they are."""
+    try:
+        import matplotlib
+    except ImportError:
+        raise ImportError("plot wants matplotlib (Debian: python3-matplotlib)") from None
+    logger = logging.getLogger("matplotlib")
+    level = logger.level
+    try:
+        with matplotlib.rc_context():
+            figure = _gantt.new_figure(table, look)
+            _gantt.draw(figure, table, look)
+            if path is not None:
+                _gantt.save(figure, os.fspath(path), str(ending), look)
+            return figure
+    finally:
+        logger.setLevel(level)
+
+
+def page_of(table: _gantt.Table, look: _gantt.Look, name: str) -> str:
+    """The page: one file, that asks for nothing else."""
+    title = f"{table.jobs} jobs on {table.machines} machines: makespan {amount(table.makespan, look.decimals)}"
+    title += f" {look.unit}" if look.unit != UNIT else ""
+    title += f", bound {amount(look.bound, look.decimals)} (dashed)" if look.bound is not None else ""
+    title += ", critical path outlined" if look.critical else ""
+    fills = _gantt.colours(table.order)
+    data = {
+        "jobs": [table.label(job) for job in table.order],
+        "machines": list(table.machine_names),
+        "starts": table.starts.T.tolist(),
+        "ends": table.ends.T.tolist(),
+        "fills": ["#" + "".join(f"{round(255 * part):02x}" for part in fill) for fill in fills],
+        "inks": [_gantt.ink(fill) for fill in fills],
+        "idle": _gantt.IDLE,
+        "makespan": table.makespan,
+        "bound": look.bound,
+        "critical": _gantt.critical_path(table) if look.critical else [],
+        "decimals": look.decimals,
+        "unit": look.unit,
+    }
+    template = importlib.resources.files("pfs").joinpath("chart.html").read_text("utf-8")
+    shown = html.escape(f"{name}: {title}" if name else title)
+    text = json.dumps(data, ensure_ascii=False, separators=(",", ":")).replace("<", "\\u003c")
+    return template.replace("{{title}}", shown).replace("{{data}}", text)

@@ -1,0 +1,248 @@
+"""Searches and plans from the command line. What is asked for goes to standard output; progress goes to standard error
+where that is a terminal."""
+from __future__ import annotations
+
+import argparse
+import os
+import signal
+import sys
+import time
+from collections.abc import Callable
+from typing import Any, NoReturn
+
+from pfs import _library as c
+from pfs._chart import ending_of
+from pfs._faults import Fault, TableFault
+from pfs._files import read, read_order, table_of
+from pfs._instance import Instance
+from pfs._names import amount
+from pfs._search import ROUNDS, Pace, Search, limit_of
+from pfs._solution import Solution
+from pfs._state import StateFault, asked_for, read_state, text_of, write_whole
+
+# Exit statuses, as those of the program.
+REFUSED, USAGE, SYSTEM = 2, 3, 4
+SIGNALS = (signal.SIGINT, signal.SIGTERM)
+
+
+class Words(argparse.ArgumentParser):
+    """A command line; wrong words end with the status that the program has for them."""
+
+    def error(self, message: str) -> NoReturn:
+        self.print_usage(sys.stderr)
+        self.exit(USAGE, f"pfs: {message}\n")
+
+
+class Stop:
+    """Remembers the first signal that asks for an end. It comes between two parts."""
+
+    def __init__(self) -> None:
+        self.signal = 0
+
+    def __enter__(self) -> Stop:
+        self.before = [signal.signal(number, self.note) for number in SIGNALS]
+        return self
+
+    def __exit__(self, *_: object) -> None:
+        for number, before in zip(SIGNALS, self.before):
+            signal.signal(number, before)
+
+    def note(self, number: int, _: object) -> None:
+        self.signal = self.signal or number
+
+    def status(self) -> int:
+        """The exit status that a shell gives to a program which the signal ended."""
+        return 128 + self.signal if self.signal else 0
+
+
+class Told:
+    """The line about the progress of a search, on a terminal."""
+
+    def __init__(self, shop: Instance, rounds: int, pace: Pace) -> None:
+        self.shown = sys.stderr.isatty()
+        self.shop, self.rounds, self.pace = shop, rounds, pace
+        self.bound = shop.bound() if self.shown else 0
+        self.begun, self.first = time.monotonic(), -1
+
+    def tell(self, rounds: int, makespan: int) -> None:
+        """Where the search is now."""
+        if not self.shown:
+            return
+        self.first = rounds if self.first < 0 else self.first
+        made, seconds = rounds - self.first, time.monotonic() - self.begun
+        left = min(self.pace.left(), (self.rounds - rounds) * seconds / made if made else float("inf"))
+        spans = [amount(span, self.shop.decimals) for span in (makespan, self.bound)]
+        line = f"round {rounds:,} of {self.rounds:,}, makespan {spans[0]}, bound {spans[1]}"
+        line += f", {clock(left)} left" if left < 10**7 else ""
+        print(f"\r{line}\x1b[K", end="", file=sys.stderr, flush=True)
+
+    def end(self) -> None:
+        """Takes the line away."""
+        if self.shown:
+            print("\r\x1b[K", end="", file=sys.stderr, flush=True)
+
+
+def clock(seconds: float) -> str:
+    """Hours, minutes and seconds.
+
+    Examples
+    --------
+    >>> clock(0.2), clock(3725)
+    ('0:00:01', '1:02:05')
+    """
+    whole = max(0, -int(-seconds // 1))
+    return f"{whole // 3600}:{whole // 60 % 60:02}:{whole % 60:02}"
+
+
+def searched(search: Search, rounds: int, seconds: float | None, stop: Stop,
+             keep: Callable[[Solution], None]) -> Solution:
+    """The rounds up to this one, made in parts: what is found behind each of them is kept."""
+    pace = Pace(seconds)
+    told = Told(search.shop, rounds, pace)
+    try:
+        search.begin()
+        best = search.solution()
+        while True:
+            keep(best)
+            told.tell(best.rounds, best.makespan)
+            count = 0 if stop.signal or best.rounds >= rounds else pace.next(rounds - best.rounds)
+            if count == 0:
+                return best
+            begun = time.perf_counter()
+            search.go_on(count)
+            pace.took(count, time.perf_counter() - begun)
+            best = search.solution()
+    finally:
+        told.end()
+
+
+def search_command(given: argparse.Namespace) -> int:
+    """Searches an instance file, and prints an order file."""
+    shop = read(given.file, given.layout, given.block)
+    start = None if given.start is None else read_order(given.start)
+    if start is not None and start.machines not in (0, shop.machines):
+        raise ValueError(f"{given.start}: an order for {start.machines} machines, and the instance has {shop.machines}")
+    search = Search(shop, start, 0, given.take, given.passes, given.seed)
+    asked = asked_for(shop, search)
+    before = None if given.state is None else read_state(given.state, shop, asked)
+    cells = before.cells if before else 0
+    if before is not None:
+        search = Search(shop, before, before.rounds, given.take, given.passes, given.seed)
+
+    def keep(best: Solution) -> None:
+        if given.state is not None:
+            write_whole(given.state, text_of(asked, best, cells + best.cells))
+
+    with Stop() as stop:
+        best = searched(search, given.rounds, given.seconds, stop, keep)
+        printed(best.to_text())
+    return stop.status()
+
+
+def plan_command(given: argparse.Namespace) -> int:
+    """Finds an order for a table with names, and prints it."""
+    shop, delimiter = table_of(given.table, given.unit)
+    if given.chart is not None:
+        ending_of(given.chart)
+    search = Search(shop, None, 0, given.take, given.passes, given.seed)
+    with Stop() as stop:
+        best = searched(search, given.rounds, given.seconds, stop, lambda _: None)
+        schedule, bound = shop.schedule(best), shop.bound()
+        if given.schedule is not None:
+            schedule.to_csv(given.schedule, delimiter)
+        if given.chart is not None:
+            schedule.plot(given.chart, critical=True, bound=True)
+        unit = f" {shop.unit}" if shop.unit else ""
+        told = {"makespan": best.makespan, "bound": bound}
+        lines = [f"{name} {amount(span, shop.decimals)}{unit}" for name, span in told.items()]
+        lines += ["optimal"] if best.makespan == bound else []
+        lines += [f"{place} {shop.job_name(job)}" for place, job in enumerate(best.order.tolist(), 1)]
+        printed("\n".join(lines) + "\n")
+    return stop.status()
+
+
+def printed(text: str) -> None:
+    """Writes all of a text to standard output."""
+    sys.stdout.write(text)
+    sys.stdout.flush()
+
+
+def seconds_of(text: str) -> float:
+    """A time limit."""
+    try:
+        seconds = limit_of(float(text))
+    except ValueError:
+        raise argparse.ArgumentTypeError(f"{text!r} is no number of seconds") from None
+    assert seconds is not None
+    return seconds
+
+
+def number(least: int, most: int) -> Callable[[str], int]:
+    """Reads a number of these."""
+
+    def read_number(text: str) -> int:
+        if not (text.isascii() and text.isdigit() and len(text) <= 30 and least <= int(text) <= most):
+            raise argparse.ArgumentTypeError(f"{text!r} is no number of {least:,} to {most:,}")
+        return int(text)
+
+    return read_number
+
+
+def words() -> argparse.ArgumentParser:
+    """The command lines."""
+    parser = Words(prog="python3 -m pfs", description="Searches of permutation flow shops that can be interrupted.")
+    commands = parser.add_subparsers(required=True, metavar="COMMAND")
+    options = Words(add_help=False)
+    options.add_argument("--rounds", type=number(0, c.MOST_ROUNDS), metavar="R",
+                         help="up to which round; else 1,000,000, and of a plan without a time limit 1,000")
+    options.add_argument("--seconds", type=seconds_of, metavar="S", help="a time limit")
+    options.add_argument("--take", type=number(1, c.MOST_JOBS), metavar="D", help="the destruction size, else 4")
+    options.add_argument("--passes", type=number(0, c.MOST_PASSES), default=0, metavar="P", help="0 to 100, else 0")
+    options.add_argument("--seed", type=number(0, c.MOST_SEED), default=0, metavar="S", help="of 64 bits, else 0")
+    search = commands.add_parser("search", parents=[options], help="searches an instance file, prints an order file")
+    search.add_argument("file", metavar="FILE")
+    search.add_argument("--layout", choices=tuple(c.LAYOUTS), required=True)
+    search.add_argument("--block", type=number(1, c.MOST_BLOCKS), default=1, metavar="K", help="counted from 1")
+    search.add_argument("--start", metavar="ORDER", help="an order file to begin with, else NEH's order")
+    search.add_argument("--state", metavar="STATE", help="a file that keeps what is needed to go on")
+    search.set_defaults(run=search_command)
+    plan = commands.add_parser("plan", parents=[options], help="an order and a schedule for a table with names")
+    plan.add_argument("table", metavar="TIMES.csv", help="a row for each job, a column for each machine, with names")
+    plan.add_argument("--unit", default="", help="of the times; else what stands in brackets in the first cell")
+    plan.add_argument("--schedule", metavar="OUT.csv", help="when each operation starts and ends")
+    plan.add_argument("--chart", metavar="OUT.svg", help="the chart, as .svg, .png, .pdf or a page .html")
+    plan.set_defaults(run=plan_command)
+    return parser
+
+
+def main(line: list[str]) -> int:
+    """Runs a command line, and tells its exit status."""
+    given = words().parse_args(line)
+    if given.rounds is None:
+        given.rounds = ROUNDS if given.run is plan_command and given.seconds is None else c.MOST_ROUNDS
+    try:
+        status: Any = given.run(given)
+        return int(status)
+    except Fault as fault:
+        return told(f"{fault.text}", REFUSED)
+    except (TableFault, StateFault) as fault:
+        return told(f"pfs: {fault}", REFUSED)
+    except ValueError as fault:
+        return told(f"pfs: {fault}", USAGE)
+    except (OSError, MemoryError, ImportError) as fault:
+        return told(f"pfs: {fault}", SYSTEM)
+
+
+def told(line: str, status: int) -> int:
+    """Says what is wrong."""
+    if sys.stderr is not None:
+        try:
+            print(line, file=sys.stderr, flush=True)
+        except OSError:
+            """Nobody hears it."""
+    if status == SYSTEM and sys.stdout is not None:
+        try:
+            sys.stdout.flush()
+        except OSError:
+            os.dup2(os.open(os.devnull, os.O_WRONLY), 1)
+    return status

@@ -1,0 +1,105 @@
+"""What is wrong with a file, and an interrupted search."""
+from __future__ import annotations
+
+from typing import TYPE_CHECKING
+
+if TYPE_CHECKING:
+    from pfs._solution import Solution
+
+# For each number of a fault its name, and the program's text, in which the place stands.
+INSTANCE_FAULTS = {
+    20: ("no block", "no block, found {}"),
+    21: ("size count", "size line {} has a wrong count"),
+    22: ("size range", "size line {} is out of range"),
+    23: ("mixed line", "mixed line at {}"),
+    24: ("time range", "time out of range at {}"),
+    25: ("machine number", "wrong machine number at {}"),
+    26: ("extra number", "extra number at {}"),
+    27: ("truncated", "truncated after {} times"),
+    28: ("input too long", "input too long"),
+}
+ORDER_FAULTS = {
+    30: ("syntax", "order file syntax at {}"),
+    31: ("job range", "order file job out of range at place {}"),
+    32: ("job repeated", "order file job repeated at place {}"),
+    33: ("order file too long", "order file too long"),
+}
+
+
+class Fault(ValueError):
+    """What is wrong with a file, and where.
+
+    Attributes
+    ----------
+    path : str
+        The file.
+    number : int
+        The fault's number in ``pfs.h``.
+    name : str
+        The fault's name, such as ``"truncated"``.
+    place : int
+        The number that the fault holds: an offset counts bytes from 0, lines and places count from 1; 0 where the
+        fault holds none.
+    text : str
+        What the program ``pfs`` prints for it.
+    """
+
+    def __init__(self, path: str, number: int, place: int) -> None:
+        self.name, text = (INSTANCE_FAULTS | ORDER_FAULTS)[number]
+        self.path = path
+        self.number = number
+        self.place = place
+        self.text = "pfs: " + text.format(place)
+        super().__init__(f"{path}: {text.format(place)}" if path else text.format(place))
+
+    def __reduce__(self) -> tuple[type[Fault], tuple[str, int, int]]:
+        return type(self), (self.path, self.number, self.place)
+
+
+class FileFault(Fault):
+    """An instance file isn't as its layout says."""
+
+
+class OrderFault(Fault):
+    """A file isn't an order file, or its order isn't one of all jobs."""
+
+
+class TableFault(ValueError):
+    """A table of times (:func:`pfs.read_csv`) can't be read.
+
+    Attributes
+    ----------
+    path : str
+        The file.
+    line, column : int
+        Where, counted from 1; the column counts cells, and is 0 where the whole line is wrong.
+    text : str
+        What is wrong.
+    """
+
+    def __init__(self, path: str, line: int, column: int, text: str) -> None:
+        self.path = path
+        self.line = line
+        self.column = column
+        self.text = text
+        super().__init__(f"{path}: line {line}, " + (f"column {column}: " if column else "") + text)
+
+    def __reduce__(self) -> tuple[type[TableFault], tuple[str, int, int, str]]:
+        return type(self), (self.path, self.line, self.column, self.text)
+
+
+class Interrupted(KeyboardInterrupt):
+    """A search was interrupted. It is a ``KeyboardInterrupt``, and caught as one.
+
+    Attributes
+    ----------
+    solution : Solution
+        The best order so far. ``solve(.., start=solution.order, first=solution.rounds)`` goes on from it.
+    """
+
+    def __init__(self, solution: Solution) -> None:
+        super().__init__(f"interrupted after round {solution.rounds}, makespan {solution.makespan}")
+        self.solution = solution
+
+    def __reduce__(self) -> tuple[type[Interrupted], tuple[Solution]]:
+        return type(self), (self.solution,)

@@ -1,0 +1,358 @@
+"""Instances from files, generators and tables, and order files."""
+from __future__ import annotations
+
+import csv
+import functools
+import importlib.resources
+import io
+import os
+import re
+from ctypes import byref, c_size_t, c_uint64
+from typing import IO, TypeAlias
+
+import numpy as np
+
+from pfs import _library as c
+from pfs._faults import INSTANCE_FAULTS, ORDER_FAULTS, FileFault, OrderFault, TableFault
+from pfs._given import layout_of, whole
+from pfs._instance import Instance
+from pfs._solution import Solution
+
+Source: TypeAlias = "str | os.PathLike[str] | IO[bytes]"
+
+
+def bytes_of(source: Source, most: int) -> tuple[bytes, str]:
+    """What a file has, but no more than one byte above `most`, and its name."""
+    if hasattr(source, "read"):
+        text = source.read(most + 1)
+        if not isinstance(text, bytes):
+            raise TypeError("the file should be opened in binary mode")
+        return text, str(getattr(source, "name", ""))
+    with open(source, "rb") as file:
+        return file.read(most + 1), os.fspath(source)
+
+
+def block_of(text: bytes, path: str, layout: int, block: int) -> Instance:
+    """A block of a file."""
+    jobs, machines, place, notes = c_size_t(), c_size_t(), c_uint64(), c.Notes()
+    # Each time has a digit, and but for the last a byte behind it.
+    times = np.empty(min(len(text) // 2 + 1, c.MOST_JOBS * c.MOST_MACHINES), dtype=np.uint32)
+    number = c.library.pfs_read(text, len(text), layout, block, byref(jobs), byref(machines), byref(notes),
+                                times.ctypes.data, times.size, byref(place))
+    if number in INSTANCE_FAULTS:
+        raise FileFault(path, number, place.value)
+    c.done(number)
+    table = times[:jobs.value * machines.value].reshape(jobs.value, machines.value)
+    return Instance(table, name=os.path.basename(path), seed=notes.seed, upper=notes.upper, lower=notes.lower)
+
+
+def read(source: Source, layout: str, block: int = 1) -> Instance:
+    """Reads an instance file.
+
+    Parameters
+    ----------
+    source : str, os.PathLike or binary file
+        The file.
+    layout : str
+        ``"taillard"`` or ``"orlib"``.
+    block : int
+        Which of its instances, counted from 1.
+
+    Returns
+    -------
+    Instance
+
+    Raises
+    ------
+    FileFault
+        The file isn't as its layout says.
+    OSError
+        It can't be read.
+
+    Examples
+    --------
+    >>> import io, pfs
+    >>> shop = pfs.read(io.BytesIO(b"3 2\\n0 3 1 2\\n0 2 1 5\\n0 4 1 1\\n"), "orlib")
+    >>> shop.times
+    array([[3, 2],
+           [2, 5],
+           [4, 1]], dtype=uint32)
+    >>> pfs.read(io.BytesIO(b"3 2\\n0 3 1 2\\n0 2 2 5\\n"), "orlib")
+    Traceback (most recent call last):
+    pfs._faults.FileFault: wrong machine number at 16
+    """
+    number, block = layout_of(layout), whole(block, "block", 1, c.MOST_BLOCKS)
+    text, path = bytes_of(source, c.LONGEST_INPUT)
+    return block_of(text, path, number, block)
+
+
+def read_all(source: Source, layout: str) -> list[Instance]:
+    """Reads each instance of a file, to its end.
+
+    Parameters
+    ----------
+    source : str, os.PathLike or binary file
+        The file.
+    layout : str
+        ``"taillard"`` or ``"orlib"``.
+
+    Returns
+    -------
+    list of Instance
+        One at least, and 1,000 at most.
+
+    Raises
+    ------
+    FileFault
+        The file isn't as its layout says, or has no instance.
+
+    Examples
+    --------
+    >>> import io, pfs
+    >>> pfs.read_all(io.BytesIO(b"1 1\\n0 7\\n2 1\\n0 3 0 4\\n"), "orlib")
+    [<Instance 1: 1 jobs, 1 machines>, <Instance 2: 2 jobs, 1 machines>]
+    """
+    number = layout_of(layout)
+    text, path = bytes_of(source, c.LONGEST_INPUT)
+    shops: list[Instance] = []
+    while len(shops) < c.MOST_BLOCKS:
+        try:
+            shop = block_of(text, path, number, len(shops) + 1)
+        except FileFault as fault:
+            if fault.number == c.NO_BLOCK and shops:
+                break
+            raise
+        shops.append(shop)
+    for block, shop in enumerate(shops, 1):
+        shop.name = f"{shop.name} {block}".strip()
+    return shops
+
+
+def read_order(source: Source) -> Solution:
+    """Reads an order file, of version 1 or 2.
+
+    Parameters
+    ----------
+    source : str, os.PathLike or binary file
+        The file, in which jobs count from 1.
+
+    Returns
+    -------
+    Solution
+        The order, in which jobs count from 0, and the makespan that the file states, right or wrong.
+
+    Raises
+    ------
+    OrderFault
+        It isn't an order file, or its order isn't one of all jobs.
+
+    Examples
+    --------
+    >>> import io, pfs
+    >>> pfs.read_order(io.BytesIO(b"order2 3 2\\n2 1 3\\nmakespan 10\\n"))
+    Solution(order=[1, 0, 2], makespan=10)
+    """
+    text, path = bytes_of(source, c.LONGEST_ORDER_FILE)
+    jobs, machines, makespan, place = c_size_t(), c_size_t(), c_uint64(), c_uint64()
+    order = np.empty(c.MOST_JOBS, dtype=np.uint32)
+    number = c.library.pfs_read_order(text, len(text), order.ctypes.data, order.size, byref(jobs), byref(machines),
+                                      byref(makespan), byref(place))
+    if number in ORDER_FAULTS:
+        raise OrderFault(path, number, place.value)
+    c.done(number)
+    return Solution(order[:jobs.value], makespan.value, 0, machines.value)
+
+
+def generate(jobs: int, machines: int, seed: int) -> Instance:
+    """Draws times from 1 to 99, as Taillard (1993) does for his benchmark.
+
+    Parameters
+    ----------
+    jobs, machines : int
+        How many there are.
+    seed : int
+        1 to 2,147,483,646.
+
+    Returns
+    -------
+    Instance
+
+    Examples
+    --------
+    >>> import pfs
+    >>> pfs.generate(5, 1, 873654221).times.ravel().tolist()
+    [54, 83, 15, 71, 77]
+    """
+    jobs = whole(jobs, "jobs", 1, c.MOST_JOBS)
+    machines = whole(machines, "machines", 1, c.MOST_MACHINES)
+    seed = whole(seed, "seed", 1, c.MOST_GENERATOR_SEED)
+    times = np.empty((jobs, machines), dtype=np.uint32)
+    c.done(c.library.pfs_generate(jobs, machines, seed, times.ctypes.data, times.size))
+    return Instance(times, seed=seed)
+
+
+@functools.cache
+def taillard_rows() -> tuple[tuple[str, int, int, int, int], ...]:
+    """Taillard's instances: name, jobs, machines, seed and published lower bound of each."""
+    text = importlib.resources.files("pfs").joinpath("taillard.csv").read_text("ascii")
+    rows = list(csv.reader(io.StringIO(text)))[1:]
+    return tuple((name, int(jobs), int(machines), int(seed), int(lower)) for name, jobs, machines, seed, lower in rows)
+
+
+def taillard(number: int) -> Instance:
+    """One of the 120 permutation flow shops of Taillard's benchmark (1993).
+
+    Parameters
+    ----------
+    number : int
+        1 to 120, as in ``ta001`` to ``ta120``.
+
+    Returns
+    -------
+    Instance
+        With its seed, and in ``lower`` the published lower bound.
+
+    Examples
+    --------
+    >>> import pfs
+    >>> shop = pfs.taillard(1)
+    >>> shop, shop.lower
+    (<Instance ta001: 20 jobs, 5 machines>, 1232)
+    """
+    name, jobs, machines, seed, lower = taillard_rows()[whole(number, "number", 1, 120) - 1]
+    return Instance(generate(jobs, machines, seed).times, name=name, seed=seed, lower=lower)
+
+
+# Tables
+
+# The unit of the times, in brackets at the end of the first cell.
+UNIT = re.compile(r"[\[(]([^\[\]()]+)[\])]\s*\Z")
+TIME = re.compile(r"([0-9]{1,20})(?:([.,])([0-9]{1,20}))?\Z", re.ASCII)
+
+
+def read_csv(source: str | os.PathLike[str], unit: str = "") -> Instance:
+    """Reads a table of times, as spreadsheets export them: a row for each job, a column for each machine.
+
+    Parameters
+    ----------
+    source : str or os.PathLike
+        The file, in UTF-8. The first row names the machines and the first column the jobs. Commas or semicolons stand
+        between the columns; behind semicolons a decimal comma is as good as a point. Empty rows are passed over.
+    unit : str
+        The unit of all times. The table can name it in its first cell, in brackets: ``job [min]``.
+
+    Returns
+    -------
+    Instance
+        With names. Decimal times are counted in the last decimal that occurs: ``times`` are 10 to the power of
+        ``decimals`` times those of the table.
+
+    Raises
+    ------
+    TableFault
+        A cell is no time, a row has too many or too few cells, or a name is missing or stands there twice.
+
+    Examples
+    --------
+    >>> import pathlib, tempfile, pfs
+    >>> path = pathlib.Path(tempfile.mkdtemp(), "plan.csv")
+    >>> _ = path.write_text("job [h];saw;drill\\ntable;3;2,5\\nchair;2;5\\n")
+    >>> shop = pfs.read_csv(path)
+    >>> shop.job_names, shop.machine_names, shop.unit
+    (('table', 'chair'), ('saw', 'drill'), 'h')
+    >>> shop.times.tolist(), shop.decimals
+    ([[30, 25], [20, 50]], 1)
+    >>> print(shop.schedule([1, 0]).to_csv(), end="")
+    job,machine,start,end
+    chair,saw,0.0,2.0
+    chair,drill,2.0,7.0
+    table,saw,2.0,5.0
+    table,drill,7.0,9.5
+    """
+    return table_of(source, unit)[0]
+
+
+def table_of(source: str | os.PathLike[str], unit: str) -> tuple[Instance, str]:
+    """The instance of a table, and what stands between its columns."""
+    path = os.fspath(source)
+    with open(path, "rb") as file:
+        text = text_of(file.read(), path)
+    rows, delimiter = rows_of(text, path)
+    head_line, head = rows[0]
+    machines = names_in(path, [(head_line, at, cell) for at, cell in enumerate(head[1:], 2)], "machine")
+    jobs = names_in(path, [(line, 1, row[0]) for line, row in rows[1:]], "job")
+    if not machines or len(machines) > c.MOST_MACHINES:
+        raise TableFault(path, head_line, 0, f"{len(machines)} machines: there may be 1 to {c.MOST_MACHINES}")
+    if not jobs or len(jobs) > c.MOST_JOBS:
+        raise TableFault(path, rows[-1][0], 0, f"{len(jobs)} jobs: there may be 1 to {c.MOST_JOBS:,}")
+    cells = [cells_of(path, line, row, len(machines), delimiter) for line, row in rows[1:]]
+    decimals = max(len(part) for row in cells for _, part in row)
+    times = [[int(number + part.ljust(decimals, "0")) for number, part in row] for row in cells]
+    for (line, _), row_of_times in zip(rows[1:], times):
+        for at, time in enumerate(row_of_times, 2):
+            if time > c.LONGEST_TIME:
+                counted = f", counted in {decimals} decimals" if decimals else ""
+                raise TableFault(path, line, at, f"the time is above {c.LONGEST_TIME:,}{counted}")
+    found = UNIT.search(head[0])
+    return Instance(times, name=os.path.basename(path), job_names=jobs, machine_names=machines,
+                    unit=unit or (found[1].strip() if found else ""), decimals=decimals), delimiter
+
+
+def text_of(text: bytes, path: str) -> str:
+    """The text of a table."""
+    try:
+        return text.decode("utf-8-sig")
+    except UnicodeDecodeError as error:
+        line = text[:error.start].count(b"\n") + 1
+        raise TableFault(path, line, 0, "isn't text in UTF-8") from None
+
+
+def rows_of(text: str, path: str) -> tuple[list[tuple[int, list[str]]], str]:
+    """The rows of a table that aren't empty, each with its line, and what stands between columns."""
+    lines = list(io.StringIO(text, newline=""))
+    first = next((line for line in lines if line.strip()), "")
+    named = re.match(r"sep=(.)\s*\Z", first)
+    delimiter = named[1] if named else ";" if ";" in first else ","
+    reader = csv.reader(lines, delimiter=delimiter, strict=True, skipinitialspace=True)
+    rows: list[tuple[int, list[str]]] = []
+    try:
+        line = 1
+        for row in reader:
+            cells = [cell.strip() for cell in row]
+            if any(cells) and not (named and not rows and cells[0].startswith("sep=")):
+                rows.append((line, cells))
+            line = reader.line_num + 1
+    except csv.Error as error:
+        raise TableFault(path, reader.line_num, 0, f"isn't a row of a table: {error}") from None
+    if not rows:
+        raise TableFault(path, 1, 0, "the table is empty")
+    return rows, delimiter
+
+
+def names_in(path: str, cells: list[tuple[int, int, str]], what: str) -> list[str]:
+    """The names in these cells, given by line and column."""
+    stood: dict[str, tuple[int, int]] = {}
+    for line, column, name in cells:
+        if not name:
+            raise TableFault(path, line, column, f"the {what} has no name")
+        if name in stood:
+            raise TableFault(path, line, column, f"the {what} {name!r} stands in line {stood[name][0]}, column "
+                                                 f"{stood[name][1]} too")
+        stood[name] = line, column
+    return list(stood)
+
+
+def cells_of(path: str, line: int, row: list[str], machines: int, delimiter: str) -> list[tuple[str, str]]:
+    """The times of a row: the digits before and behind the point of each, without zeros at the end."""
+    if len(row) != machines + 1:
+        raise TableFault(path, line, 0, f"{len(row) - 1} times for {machines} machines")
+    cells = []
+    for column, cell in enumerate(row[1:], 2):
+        match = TIME.match(cell)
+        if not match or (match[2] == "," and delimiter == ","):
+            raise TableFault(path, line, column, f"{cell!r} is no time" if cell else "the time is missing")
+        part = (match[3] or "").rstrip("0")
+        if len(part) > 9:
+            raise TableFault(path, line, column, f"{cell!r} has more than 9 decimals")
+        cells.append((match[1], part))
+    return cells

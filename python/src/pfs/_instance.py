@@ -1,0 +1,335 @@
+"""Instances, and what is asked of them."""
+from __future__ import annotations
+
+import os
+from collections.abc import Iterable
+from ctypes import byref, c_size_t, c_uint64, create_string_buffer
+from typing import Any, NamedTuple
+
+import numpy as np
+import numpy.typing as npt
+
+from pfs import _library as c
+from pfs import _search
+from pfs._given import Jobs, Times, layout_of, order_of, packed, refused_jobs, times_of, whole
+from pfs._library import library
+from pfs._names import names_of
+from pfs._schedule import Schedule
+from pfs._search import Progress, Search
+from pfs._solution import Solution, order_given
+
+_pfs_makespan = library.pfs_makespan
+
+
+class Place(NamedTuple):
+    """A place for a job, and the makespan that it comes to there."""
+
+    place: int
+    makespan: int
+
+
+class Instance:
+    """A permutation flow shop: each job runs on machine 0, then on machine 1 and so on, and all machines run the jobs
+    in the same order.
+
+    Parameters
+    ----------
+    times : array_like
+        The processing times, a row for each of 1 to 5,000 jobs and a column for each of 1 to 200 machines: whole
+        numbers of 0 to 1,000,000,000. They are copied.
+    name : str
+        What it is called.
+    job_names, machine_names : list of str, optional
+        Names for schedules and charts.
+    unit : str
+        The unit of the times, such as ``"min"``.
+    decimals : int
+        How many digits of each time stand behind the decimal point in that unit, 0 to 9: with 1 a time 25 is 2.5.
+    seed, upper, lower : int
+        The notes of a size line in Taillard's layout. Nothing is computed from them.
+
+    Attributes
+    ----------
+    times : numpy.ndarray
+        The times, as an array that nothing writes to.
+    jobs, machines : int
+        How many there are.
+
+    Raises
+    ------
+    TypeError, ValueError
+        The times are of another kind or shape, or one of them is out of its limits; the text says which.
+
+    Examples
+    --------
+    Jobs, machines and places count from 0.
+
+    >>> import pfs
+    >>> shop = pfs.Instance([[3, 2], [2, 5], [4, 1]])
+    >>> shop.makespan([0, 1, 2])
+    11
+    >>> shop.neh()
+    Solution(order=[1, 0, 2], makespan=10)
+    >>> shop.bound()
+    10
+    """
+
+    __slots__ = ("name", "job_names", "machine_names", "unit", "decimals", "seed", "upper", "lower", "_times", "_given")
+
+    def __init__(self, times: npt.ArrayLike, *, name: str = "", job_names: Iterable[str] | None = None,
+                 machine_names: Iterable[str] | None = None, unit: str = "", decimals: int = 0, seed: int = 0,
+                 upper: int = 0, lower: int = 0) -> None:
+        own = times_of(times)
+        # Nobody can write to `bytes`.
+        text = own.tobytes()
+        self._times: Times = np.frombuffer(text, dtype=np.uint32).reshape(own.shape)
+        self._given = (text, own.size, *own.shape)
+        self.name = str(name)
+        self.job_names = names_of(job_names, self.jobs, "job_names")
+        self.machine_names = names_of(machine_names, self.machines, "machine_names")
+        self.unit = str(unit)
+        self.decimals = whole(decimals, "decimals", 0, 9)
+        self.seed = whole(seed, "seed", 0, c.MOST_NOTE)
+        self.upper = whole(upper, "upper", 0, c.MOST_NOTE)
+        self.lower = whole(lower, "lower", 0, c.MOST_NOTE)
+
+    @property
+    def times(self) -> Times:
+        """The times, as an array that nothing writes to."""
+        return self._times
+
+    @property
+    def jobs(self) -> int:
+        """How many jobs there are."""
+        return self._times.shape[0]
+
+    @property
+    def machines(self) -> int:
+        """How many machines there are."""
+        return self._times.shape[1]
+
+    def __repr__(self) -> str:
+        return f"<Instance {self.name + ': ' if self.name else ''}{self.jobs} jobs, {self.machines} machines>"
+
+    def _described(self) -> dict[str, Any]:
+        names = ("name", "job_names", "machine_names", "unit", "decimals", "seed", "upper", "lower")
+        return {name: getattr(self, name) for name in names}
+
+    def __eq__(self, other: object) -> bool:
+        if not isinstance(other, Instance):
+            return NotImplemented
+        return self._given == other._given and self._described() == other._described()
+
+    def __hash__(self) -> int:
+        return hash(self._given)
+
+    def __reduce__(self) -> tuple[Any, ...]:
+        return _instance_of, (np.array(self.times), self._described())
+
+    def job_name(self, job: int) -> str:
+        """The name of a job; where it has none its number, counted from 0."""
+        return str(job) if self.job_names is None else self.job_names[job]
+
+    def machine_name(self, machine: int) -> str:
+        """The name of a machine; where it has none its number, counted from 0."""
+        return str(machine) if self.machine_names is None else self.machine_names[machine]
+
+    def makespan(self, order: Jobs) -> int:
+        """When the last job of a sequence leaves the last machine.
+
+        Parameters
+        ----------
+        order : array_like
+            Distinct jobs, counted from 0: all of them or some; of none the makespan is 0.
+
+        Returns
+        -------
+        int
+
+        Raises
+        ------
+        TypeError, ValueError
+            It isn't a list of distinct jobs; the text says which and where.
+        """
+        jobs, count = packed(order)
+        makespan = c_uint64()
+        number = _pfs_makespan(*self._given, jobs, count, byref(makespan))
+        if number:
+            raise refused_jobs(number, self.jobs, jobs)
+        return makespan.value
+
+    def bound(self) -> int:
+        """A length of time below which no order's makespan goes (Taillard 1993).
+
+        Returns
+        -------
+        int
+            The greatest over the jobs of their totals, and over the machines of their loads with the least times
+            before and after them.
+        """
+        bound = c_uint64()
+        c.done(library.pfs_bound(*self._given, byref(bound)))
+        return bound.value
+
+    def neh(self) -> Solution:
+        """The order of NEH (Nawaz, Enscore and Ham 1983): the jobs by decreasing total time, each put at its best
+        place, of equal ones the first.
+
+        Returns
+        -------
+        Solution
+            What ``pfs solve`` prints for no rounds.
+        """
+        search = Search(self, None, 0, None, 0, 0)
+        search.begin()
+        return search.solution()
+
+    def best_place(self, sequence: Jobs, job: int) -> Place:
+        """The best place of a job in a sequence of others.
+
+        Parameters
+        ----------
+        sequence : array_like
+            Distinct jobs, counted from 0.
+        job : int
+            Another job.
+
+        Returns
+        -------
+        Place
+            ``place``, the first that gives the least makespan, and that ``makespan``. The job goes before the one that
+            stands at the place, or behind the last: ``sequence.insert(place, job)``.
+
+        Examples
+        --------
+        >>> import pfs
+        >>> pfs.Instance([[3, 2], [2, 5], [4, 1]]).best_place([0, 2], 1)
+        Place(place=0, makespan=10)
+        """
+        jobs, count = packed(sequence, "sequence")
+        job = whole(job, "job", 0, self.jobs - 1)
+        place, makespan = c_size_t(), c_uint64()
+        number = library.pfs_insert(*self._given, jobs, count, job, byref(place), byref(makespan))
+        if number:
+            fault = refused_jobs(number, self.jobs, jobs, "sequence")
+            if number == c.REPEATED and fault.args == (c.message(number),):
+                raise ValueError(f"job {job} stands in the sequence already")
+            raise fault
+        return Place(place.value, makespan.value)
+
+    def solve(self, rounds: int | None = None, *, take: int | None = None, passes: int = 0, seed: int = 0,
+              start: Jobs | None = None, first: int = 0, progress: Progress | None = None,
+              time_limit: float | None = None) -> Solution:
+        """NEH's order, or another one, after rounds of iterated greedy (Ruiz and Stützle 2007).
+
+        A round takes ``take`` jobs out, puts each back at its best place, makes ``passes`` passes, in each of which
+        every job leaves its place for its best one, and keeps the new order unless it is longer. The same options give
+        the same order, and the one that ``pfs solve`` prints.
+
+        Parameters
+        ----------
+        rounds : int, optional
+            How many rounds are made; ``first + rounds`` is at most 1,000,000. Where it is left out: 1,000, or with a
+            time limit as many as there is time for.
+        take : int, optional
+            The destruction size, 1 to the number of jobs; where it is left out 4, or all jobs of fewer.
+        passes : int
+            0 to 100.
+        seed : int
+            Any of 64 bits.
+        start : array_like or Solution, optional
+            The order to begin with; where it is left out NEH's.
+        first : int
+            The number of the first round, counted from 0: a search that was made up to there goes on.
+        progress : callable or tqdm, optional
+            Called after each part of about a tenth of a second with the rounds made so far and the makespan; or a
+            progress bar, or its class, whose ``update`` is called with the rounds of the part.
+        time_limit : float, optional
+            Seconds; the search ends between two parts.
+
+        Returns
+        -------
+        Solution
+            ``cells`` are those of this call, and ``rounds`` is the round that would be next.
+
+        Raises
+        ------
+        Interrupted
+            A ``KeyboardInterrupt`` whose ``solution`` is the best so far. A search in parts ends where one at once
+            does: ``solve(.., start=stop.solution, first=stop.solution.rounds)`` with the rounds that are left.
+
+        Examples
+        --------
+        >>> import pfs
+        >>> shop = pfs.taillard(1)
+        >>> shop.solve(1000).makespan
+        1278
+        >>> half = shop.solve(500)
+        >>> shop.solve(500, start=half, first=half.rounds).to_text() == shop.solve(1000).to_text()
+        True
+        """
+        search = Search(self, start, first, take, passes, seed)
+        return _search.solve(search, rounds, progress, time_limit)
+
+    def schedule(self, order: Jobs) -> Schedule:
+        """When each operation of an order starts and ends, each as early as it can.
+
+        Parameters
+        ----------
+        order : array_like or Solution
+            All jobs, counted from 0.
+
+        Returns
+        -------
+        Schedule
+        """
+        jobs = order_of(order_given(order), self.jobs)
+        starts = np.empty((self.jobs, self.machines), dtype=np.int64)
+        ends = np.empty_like(starts)
+        number = library.pfs_table(*self._given, jobs, self.jobs, starts.ctypes.data, starts.size, ends.ctypes.data,
+                                   ends.size)
+        if number:
+            raise refused_jobs(number, self.jobs, jobs)
+        own = np.frombuffer(jobs, dtype=np.uint32).astype(np.int64)
+        for made in (own, starts, ends):
+            made.setflags(write=False)
+        return Schedule(self, own, starts, ends)
+
+    def to_text(self, layout: str = "taillard") -> str:
+        """The instance as a file of one block.
+
+        Parameters
+        ----------
+        layout : str
+            ``"taillard"``, or ``"orlib"``, which leaves the notes out.
+
+        Returns
+        -------
+        str
+            What ``pfs convert`` prints.
+        """
+        number = layout_of(layout)
+        notes = c.Notes(self.seed, self.upper, self.lower)
+        length = c_size_t()
+        text = create_string_buffer(256 + 16 * self.times.size + 8 * self.jobs)
+        c.done(library.pfs_write(*self._given, byref(notes), number, text, len(text), byref(length)))
+        return text.raw[:length.value].decode("ascii")
+
+    def write(self, path: str | os.PathLike[str], layout: str = "taillard") -> None:
+        """Writes the instance as a file of one block.
+
+        Parameters
+        ----------
+        path : str or os.PathLike
+            The file, which is written anew.
+        layout : str
+            ``"taillard"``, or ``"orlib"``, which leaves the notes out.
+        """
+        text = self.to_text(layout)
+        with open(path, "w", encoding="ascii", newline="") as file:
+            file.write(text)
+
+
+def _instance_of(times: npt.NDArray[np.uint32], described: dict[str, Any]) -> Instance:
+    """An instance that was pickled."""
+    return Instance(times, **described)

@@ -1,0 +1,105 @@
+"""The shared library, loaded by ctypes: its functions and its numbers, as `pfs.h` has them.
+
+A call through ctypes frees the interpreter's lock. So what it is handed has to be nobody else's: lists go in as
+`bytes`, which nothing changes, and come back in arrays that were made for the call.
+"""
+from __future__ import annotations
+
+import ctypes
+import os
+import pathlib
+from ctypes import c_char_p, c_int, c_size_t, c_uint32, c_uint64, c_void_p
+from typing import Final
+
+from pfs._version import VERSION
+
+FILE = "libpfs.so.0"
+
+# Limits of what is accepted.
+MOST_JOBS: Final = 5_000
+MOST_MACHINES: Final = 200
+LONGEST_TIME: Final = 1_000_000_000
+MOST_ROUNDS: Final = 1_000_000
+MOST_PASSES: Final = 100
+MOST_BLOCKS: Final = 1_000
+LONGEST_INPUT: Final = 67_108_864
+LONGEST_ORDER_FILE: Final = 65_536
+MOST_MAKESPAN: Final = 999_999_999_999_999_999
+MOST_GENERATOR_SEED: Final = 2_147_483_646
+MOST_NOTE: Final = 2**32 - 1
+MOST_SEED: Final = 2**64 - 1
+
+LAYOUTS: Final = {"taillard": 0, "orlib": 1}
+
+# What a function answers.
+OK: Final = 0
+MEMORY: Final = 1
+JOB: Final = 5
+REPEATED: Final = 6
+ROOM: Final = 14
+NO_BLOCK: Final = 20
+
+
+class Notes(ctypes.Structure):
+    """What a size line of Taillard's layout says beside the sizes."""
+    _fields_ = [("seed", c_uint32), ("upper", c_uint32), ("lower", c_uint32)]
+
+
+# Each function's parameters.
+SHOP = [c_void_p, c_size_t, c_size_t, c_size_t]
+LIST = [c_void_p, c_size_t]
+PROTOTYPES = {
+    "pfs_makespan": [*SHOP, *LIST, c_void_p],
+    "pfs_bound": [*SHOP, c_void_p],
+    "pfs_table": [*SHOP, *LIST, *LIST, *LIST],
+    "pfs_neh": [*SHOP, *LIST, c_void_p, c_void_p],
+    "pfs_rounds": [*SHOP, *LIST, c_uint32, c_uint32, c_size_t, c_uint32, c_uint64, c_void_p, c_void_p],
+    "pfs_insert": [*SHOP, *LIST, c_uint32, c_void_p, c_void_p],
+    "pfs_generate": [c_size_t, c_size_t, c_uint64, *LIST],
+    "pfs_read": [*LIST, c_uint32, c_size_t, c_void_p, c_void_p, c_void_p, *LIST, c_void_p],
+    "pfs_write": [*SHOP, c_void_p, c_uint32, *LIST, c_void_p],
+    "pfs_read_order": [*LIST, *LIST, c_void_p, c_void_p, c_void_p, c_void_p],
+    "pfs_write_order": [*LIST, c_size_t, c_uint64, *LIST, c_void_p],
+}
+
+
+def path_of_library() -> str:
+    """The library that the variable PFS_LIBRARY names, else the one inside the package, else the system's."""
+    inside = pathlib.Path(__file__).parent / FILE
+    return os.environ.get("PFS_LIBRARY") or (str(inside) if inside.exists() else FILE)
+
+
+def load(path: str) -> ctypes.CDLL:
+    """The library at a path, with the types of its functions."""
+    try:
+        loaded = ctypes.CDLL(path)
+        for name, parameters in PROTOTYPES.items():
+            function = getattr(loaded, name)
+            function.argtypes, function.restype = parameters, c_int
+        loaded.pfs_version.argtypes, loaded.pfs_version.restype = [], c_char_p
+        loaded.pfs_message.argtypes, loaded.pfs_message.restype = [c_int], c_char_p
+    except (OSError, AttributeError) as error:
+        raise ImportError(f"pfs can't load its library {path} ({error}): the variable PFS_LIBRARY can name "
+                          f"another {FILE}") from None
+    version: str = loaded.pfs_version().decode()
+    if version.split(".")[0] != VERSION.split(".")[0]:
+        raise ImportError(f"the library {path} is of version {version}, and this package needs {VERSION}")
+    return loaded
+
+
+PATH = path_of_library()
+library = load(PATH)
+
+
+def message(number: int) -> str:
+    """What an answer means."""
+    text: bytes = library.pfs_message(number)
+    return text.decode()
+
+
+def done(number: int) -> None:
+    """Raises what an answer means that is about neither a file nor an order."""
+    if number == MEMORY:
+        raise MemoryError("pfs: memory was refused")
+    if number != OK:
+        raise ValueError(message(number))

@@ -1,0 +1,36 @@
+"""Names of jobs and machines, and times as they are written in a table."""
+from __future__ import annotations
+
+from collections.abc import Iterable
+
+
+def amount(time: int, decimals: int) -> str:
+    """A time with its decimals.
+
+    Examples
+    --------
+    >>> amount(125, 1), amount(5, 2), amount(-5, 2), amount(7, 0)
+    ('12.5', '0.05', '-0.05', '7')
+    """
+    if decimals == 0:
+        return str(time)
+    whole, part = divmod(abs(time), 10**decimals)
+    return f"{'-' if time < 0 else ''}{whole}.{part:0{decimals}d}"
+
+
+def names_of(names: Iterable[str] | None, count: int, what: str) -> tuple[str, ...] | None:
+    """So many names, each another one."""
+    if names is None:
+        return None
+    if isinstance(names, str):
+        raise TypeError(f"{what} should be a list of names, not {names!r}")
+    own = tuple(names)
+    for at, name in enumerate(own):
+        if not isinstance(name, str):
+            raise TypeError(f"{what}: {name!r} at place {at} isn't a text")
+    if len(own) != count:
+        raise ValueError(f"{what}: {len(own)} names for {count}")
+    if len(set(own)) != count:
+        twice = next(name for name in own if own.count(name) > 1)
+        raise ValueError(f"{what}: {twice!r} stands there twice")
+    return own

@@ -1,0 +1,174 @@
+"""When each operation of an order starts and ends."""
+from __future__ import annotations
+
+import csv
+import io
+import os
+from collections.abc import Iterator
+from typing import TYPE_CHECKING, Any
+
+import numpy as np
+
+from pfs._given import Order
+from pfs._names import amount
+
+if TYPE_CHECKING:
+    from pfs._instance import Instance
+
+
+class Schedule:
+    """When each operation of an order starts and ends, each as early as it can.
+
+    Made by :meth:`pfs.Instance.schedule`.
+
+    Attributes
+    ----------
+    instance : Instance
+        The instance.
+    order : numpy.ndarray
+        The jobs, counted from 0, in the order in which they run.
+    starts, ends : numpy.ndarray
+        Of the shape (jobs, machines): ``starts[place, machine]`` is when the job ``order[place]`` starts on a machine.
+
+    Examples
+    --------
+    >>> import pfs
+    >>> schedule = pfs.Instance([[3, 2], [2, 5], [4, 1]]).schedule([1, 0, 2])
+    >>> schedule.makespan
+    10
+    >>> schedule.starts
+    array([[0, 2],
+           [2, 7],
+           [5, 9]])
+    >>> print(schedule.to_csv(), end="")
+    job,machine,start,end
+    1,0,0,2
+    1,1,2,7
+    0,0,2,5
+    0,1,7,9
+    2,0,5,9
+    2,1,9,10
+    """
+
+    __slots__ = ("instance", "order", "starts", "ends")
+
+    def __init__(self, instance: Instance, order: Order, starts: Order, ends: Order) -> None:
+        self.instance = instance
+        self.order = order
+        self.starts = starts
+        self.ends = ends
+
+    def __repr__(self) -> str:
+        return f"Schedule({self.instance.jobs} jobs, {self.instance.machines} machines, makespan={self.makespan})"
+
+    @property
+    def makespan(self) -> int:
+        """When the last job leaves the last machine."""
+        return int(self.ends[-1, -1])
+
+    def _operations(self) -> Iterator[tuple[int, int, int, int]]:
+        """Job, machine, start and end, place by place and machine by machine."""
+        for job, starts, ends in zip(self.order.tolist(), self.starts.tolist(), self.ends.tolist()):
+            for machine, (start, end) in enumerate(zip(starts, ends)):
+                yield job, machine, start, end
+
+    def to_frame(self) -> Any:
+        """The operations as a table of pandas.
+
+        Returns
+        -------
+        pandas.DataFrame
+            The columns ``job``, ``machine``, ``start`` and ``end``, a row for each operation, in the sequence of the
+            order and of the machines. Jobs and machines are named where the instance names them, and else counted from
+            0; times are in the unit of the table that the instance comes from.
+
+        Raises
+        ------
+        ImportError
+            pandas isn't installed.
+
+        Examples
+        --------
+        >>> import pfs
+        >>> frame = pfs.Instance([[3, 2], [2, 5]]).schedule([1, 0]).to_frame()
+        >>> print(frame.to_string(index=False))
+         job  machine  start  end
+           1        0      0    2
+           1        1      2    7
+           0        0      2    5
+           0        1      7    9
+        """
+        try:
+            import pandas
+        except ImportError:
+            raise ImportError("to_frame wants pandas (Debian: python3-pandas)") from None
+        jobs, machines = self.starts.shape
+        job_of, machine_of = self.order.repeat(machines), np.tile(np.arange(machines), jobs)
+        shop = self.instance
+        scale = 10**shop.decimals
+        return pandas.DataFrame({
+            "job": job_of if shop.job_names is None else np.array(shop.job_names, dtype=object)[job_of],
+            "machine": machine_of if shop.machine_names is None else np.array(shop.machine_names, object)[machine_of],
+            "start": self.starts.ravel() if scale == 1 else self.starts.ravel() / scale,
+            "end": self.ends.ravel() if scale == 1 else self.ends.ravel() / scale,
+        })
+
+    def to_csv(self, path: str | os.PathLike[str] | None = None, delimiter: str = ",") -> str | None:
+        """The operations as a table for spreadsheets.
+
+        Parameters
+        ----------
+        path : str or os.PathLike, optional
+            The file, which is written anew.
+        delimiter : str
+            What stands between the columns; behind ``;`` decimals have a comma.
+
+        Returns
+        -------
+        str or None
+            The text, where there is no path.
+        """
+        shop = self.instance
+        text = io.StringIO()
+        rows = csv.writer(text, delimiter=delimiter, lineterminator="\n")
+        rows.writerow(["job", "machine", "start", "end"])
+        for job, machine, start, end in self._operations():
+            times = (amount(time, shop.decimals) for time in (start, end))
+            shown = (time.replace(".", ",") if delimiter == ";" else time for time in times)
+            rows.writerow([shop.job_name(job), shop.machine_name(machine), *shown])
+        if path is None:
+            return text.getvalue()
+        with open(path, "w", encoding="utf-8", newline="") as file:
+            file.write(text.getvalue())
+        return None
+
+    def plot(self, path: str | os.PathLike[str] | None = None, *, critical: bool = False, bound: bool = False,
+             unit: str | None = None) -> Any:
+        """The Gantt chart: a row for each machine, a colour for each job, idle time in grey.
+
+        Parameters
+        ----------
+        path : str or os.PathLike, optional
+            Where the picture goes, which its ending makes SVG, PNG, PDF, or a page (``.html``) that needs nothing else:
+            there pointing at an operation says its job, machine, start and end, and the wheel zooms.
+        critical : bool
+            Outline a critical path.
+        bound : bool
+            Draw the instance's bound as a dashed line.
+        unit : str, optional
+            The unit of the times; that of the instance, where it has one.
+
+        Returns
+        -------
+        matplotlib.figure.Figure or None
+            The figure; None of a page, which doesn't want matplotlib.
+
+        Raises
+        ------
+        ImportError
+            matplotlib isn't installed.
+        ValueError
+            The path has another ending.
+        """
+        from pfs._chart import plot
+        return plot(self, path, critical=critical, bound=bound, unit=unit)

@@ -1,0 +1,62 @@
+"""The library and the program that the package is tested with."""
+import importlib.util
+import os
+import pathlib
+import shutil
+
+import pytest
+from hypothesis import HealthCheck, settings
+
+TOP = pathlib.Path(__file__).resolve().parents[2]
+SOURCES = TOP / "python" / "src"
+
+# Examples are the same in each run, and none is too slow for a machine that does other things beside.
+settings.register_profile("pfs", deadline=None, derandomize=True, max_examples=60, database=None,
+                          suppress_health_check=[HealthCheck.function_scoped_fixture, HealthCheck.too_slow])
+settings.load_profile("pfs")
+
+
+def pytest_addoption(parser: pytest.Parser) -> None:
+    built = TOP / "crates" / "pfs" / "out" / "pfs"
+    try:
+        parser.addoption("--pfs", type=pathlib.Path, default=built, metavar="PATH",
+                         help=f"the built program pfs (default: {built})")
+    except ValueError:
+        """The tests of the program have the same option."""
+
+
+def pytest_configure(config: pytest.Config) -> None:
+    """In a checkout the library is the one that was built there, where no variable names another one."""
+    found = importlib.util.find_spec("pfs")
+    built = pathlib.Path(config.getoption("libpfs", TOP / "lib" / "out" / "libpfs.so.0"))
+    if found and found.origin and pathlib.Path(found.origin).is_relative_to(SOURCES) and built.exists():
+        os.environ.setdefault("PFS_LIBRARY", str(built.resolve()))
+    try:
+        importlib.import_module("pfs")
+    except ImportError as error:
+        raise pytest.UsageError(f"{error}; `make lib` proves and builds {built}") from None
+
+
+def missing(why: str) -> None:
+    """Skips the test, for this reason; in CI it fails."""
+    if os.environ.get("CI") == "true":
+        pytest.fail(f"no test is skipped in CI: {why}")
+    pytest.skip(why)
+
+
+@pytest.fixture(scope="session")
+def program(pytestconfig: pytest.Config) -> str:
+    """The built program."""
+    path = pathlib.Path(pytestconfig.getoption("pfs")).resolve()
+    if not path.is_file():
+        missing(f"no program {path}: `make run` proves and builds it, or --pfs PATH names another one")
+    return str(path)
+
+
+@pytest.fixture(scope="session")
+def chromium() -> str:
+    """A browser."""
+    path = shutil.which("chromium")
+    if path is None:
+        missing("chromium isn't installed (Debian: chromium)")
+    return str(path)

@@ -1,0 +1,276 @@
+"""What callers hand in: arrays of any make are read as they are meant, or refused with what is wrong and where. Nothing
+is read out of bounds."""
+import ctypes
+import io
+import threading
+from collections.abc import Callable
+from typing import Any
+
+import numpy as np
+import numpy.typing as npt
+import pfs
+import plainly
+import pytest
+from hypothesis import given
+from hypothesis import strategies as st
+from hypothesis.extra import numpy as arrays
+
+TIMES = [[3, 2], [2, 5], [4, 1]]
+KINDS = ["<u1", "<i1", "<u2", ">u2", "<i4", ">i4", "<u4", ">u4", "<i8", ">i8", "<u8", ">u8", "<f2", ">f4", "<f8", ">f8"]
+
+
+def makes(values: npt.ArrayLike, kind: str) -> list[npt.NDArray[Any]]:
+    """The same array with strides, in both directions, by columns, and read-only."""
+    plain = np.array(values, dtype=kind)
+    wide = np.zeros(tuple(2 * size for size in plain.shape), dtype=kind)
+    wide[tuple(slice(None, None, 2) for _ in plain.shape)] = plain
+    turned = np.array(plain[tuple(slice(None, None, -1) for _ in plain.shape)])
+    fixed = plain.copy()
+    fixed.flags.writeable = False
+    return [plain, wide[tuple(slice(None, None, 2) for _ in plain.shape)],
+            turned[tuple(slice(None, None, -1) for _ in plain.shape)], np.asfortranarray(plain), fixed]
+
+
+@pytest.mark.parametrize("kind", KINDS)
+def test_arrays_of_each_make(kind: str) -> None:
+    for times in makes(TIMES, kind):
+        assert pfs.Instance(times).times.tolist() == TIMES
+    shop = pfs.Instance(TIMES)
+    for order in makes([1, 0, 2], kind):
+        assert shop.makespan(order) == plainly.makespan(TIMES, [1, 0, 2])
+        assert shop.schedule(order).order.tolist() == [1, 0, 2]
+        assert shop.solve(0, start=order).order.tolist() == [1, 0, 2]
+        assert shop.best_place(order[:2], 2) == plainly.best_place(TIMES, [1, 0], 2)
+        assert pfs.Solution(order, 1).order.tolist() == [1, 0, 2]
+
+
+def test_lists_of_each_make() -> None:
+    shop = pfs.Instance(tuple(tuple(row) for row in TIMES))
+    assert shop == pfs.Instance(np.array(TIMES, dtype=object))
+    span = plainly.makespan(TIMES, [1, 0, 2])
+    orders: list[Any] = [
+        (1, 0, 2), [np.uint8(1), 0, np.int64(2)], np.array([1, 0, 2], dtype=object), [1.0, 0.0, 2.0],
+        pfs.Solution([1, 0, 2], 0)]
+    for order in orders:
+        assert shop.makespan(order) == span
+    assert shop.makespan(range(3)) == plainly.makespan(TIMES, [0, 1, 2])
+    assert shop.makespan([]) == shop.makespan(np.array([])) == shop.makespan(()) == 0
+    large = pfs.generate(400, 2, 3)
+    for kind in ("<i8", "<u4", ">u2", "<f8"):
+        falling = np.arange(400, dtype=kind)[::-1]
+        assert large.makespan(falling) == plainly.makespan(large.times.tolist(), list(range(399, -1, -1)))
+
+
+@pytest.mark.parametrize(("times", "kind", "why"), [
+    ([3, 2], ValueError, r"a row for each job and a column for each machine, not the shape \(2,\)"),
+    (7, ValueError, r"not the shape \(\)"),
+    ([[[1]]], ValueError, r"not the shape \(1, 1, 1\)"),
+    ([[1, 2], [3]], ValueError, "times can't be made an array"),
+    (np.zeros((0, 2)), ValueError, "times of 0 jobs on 2 machines"),
+    (np.zeros((2, 0)), ValueError, "times of 2 jobs on 0 machines"),
+    (np.zeros((5001, 1)), ValueError, "times of 5,001 jobs on 1 machines"),
+    (np.zeros((1, 201)), ValueError, "times of 1 jobs on 201 machines"),
+    ([[1, 2], [3, 2.5]], ValueError, "times: 2.5 at job 1, machine 1 isn't a whole number"),
+    ([[1, float("nan")]], ValueError, "times: nan at job 0, machine 1 isn't a whole number"),
+    ([[1, float("inf")]], ValueError, "times: inf at job 0, machine 1 isn't a whole number"),
+    ([[1, 2], [-3, 2]], ValueError, "times: -3 at job 1, machine 0 isn't 0 to 1,000,000,000"),
+    ([[1, 1_000_000_001]], ValueError, "times: 1000000001 at job 0, machine 1 isn't 0 to 1,000,000,000"),
+    ([[1, 2**40 + 1.0]], ValueError, "job 0, machine 1 isn't 0 to"),
+    ([[1, 2**70]], ValueError, "times: 1180591620717411303424 at job 0, machine 1 isn't 0 to"),
+    ([[1, None]], TypeError, "times: None at job 0, machine 1 isn't a whole number"),
+    ([["1", "2"]], TypeError, "times should be whole numbers, not of the kind <U1"),
+    ([[True, False]], TypeError, "not of the kind bool"),
+    ([[1j]], TypeError, "not of the kind complex"),
+    (np.array([[1]], dtype="M8[s]"), TypeError, "not of the kind datetime"),
+    (np.array([[(1,)]], dtype=[("a", int)]), TypeError, "times should be whole numbers"),
+    (np.ma.masked_array([[1, 2]], mask=[[False, True]]),  # type: ignore[no-untyped-call]
+     TypeError, "masked"),
+    (None, ValueError, r"not the shape \(\)"),
+    ({"a": 1}, ValueError, r"not the shape \(\)"),
+])
+def test_times_that_are_refused(times: Any, kind: type[Exception], why: str) -> None:
+    with pytest.raises(kind, match=why):
+        pfs.Instance(times)
+
+
+@pytest.mark.parametrize(("order", "kind", "why"), [
+    ([0, 3], ValueError, "order: 3 at place 1 isn't a job: they are 0 to 2"),
+    ([1, 0, 1], ValueError, "order: job 1 stands at place 0 and again at place 2"),
+    ([3, 3], ValueError, "order: 3 at place 0 isn't a job"),
+    ([0, -1], ValueError, "order: -1 at place 1 isn't a job"),
+    (np.array([0, -1]), ValueError, "order: -1 at place 1 isn't a job"),
+    (np.array([0, 2**32], dtype=np.int64), ValueError, "order: 4294967296 at place 1 isn't a job"),
+    (np.array([0, 2**63], dtype=np.uint64), ValueError, "order: 9223372036854775808 at place 1 isn't a job"),
+    ([0, 2**32], ValueError, "order: 4294967296 at place 1 isn't a job"),
+    ([0, 2**80], ValueError, "at place 1 isn't a job"),
+    ([0, 0.5], ValueError, "order: 0.5 at place 1 isn't a whole number"),
+    ([0, "1"], TypeError, "order should be whole numbers"),
+    ([0, None], TypeError, "order: None at place 1 isn't a whole number"),
+    (np.array([True, False]), TypeError, "order should be whole numbers, not of the kind bool"),
+    ([[0, 1, 2]], ValueError, r"order should be a list of jobs, not of the shape \(1, 3\)"),
+    (0, ValueError, r"not of the shape \(\)"),
+    (None, ValueError, r"not of the shape \(\)"),
+    ("012", ValueError, r"not of the shape \(\)"),
+    ([0, [1]], ValueError, "order can't be made an array"),
+    (list(range(5000)), ValueError, "order: 3 at place 3 isn't a job"),
+    (np.zeros(100_000, dtype=np.uint32), ValueError, "order: job 0 stands at place 0 and again at place 1"),
+])
+def test_orders_that_are_refused(order: Any, kind: type[Exception], why: str) -> None:
+    with pytest.raises(kind, match=why):
+        pfs.Instance(TIMES).makespan(order)
+
+
+def test_orders_of_some_jobs_are_refused_where_all_are_due() -> None:
+    shop = pfs.Instance(TIMES)
+    orders: list[list[int]] = [[0, 1], [0, 1, 2, 0], []]
+    for order in orders:
+        with pytest.raises(ValueError, match=f"order has {len(order)} jobs, and the instance 3"):
+            shop.schedule(order)
+    with pytest.raises(ValueError, match="order: job 0 stands at place 0 and again at place 2"):
+        shop.schedule([0, 1, 0])
+
+
+@pytest.mark.parametrize(("sequence", "job", "kind", "why"), [
+    ([0, 1], 3, ValueError, "job is 3, and should be 0 to 2"),
+    ([0, 1], -1, ValueError, "job is -1"),
+    ([0, 1], 1, ValueError, "job 1 stands in the sequence already"),
+    ([0, 0], 1, ValueError, "sequence: job 0 stands at place 0 and again at place 1"),
+    ([0, 7], 1, ValueError, "sequence: 7 at place 1 isn't a job"),
+    ([0, 1], 2.0, TypeError, "job should be a whole number, not 2.0"),
+    ([0, 1], 2**64 + 2, ValueError, "job is 18446744073709551618"),
+])
+def test_insertions_that_are_refused(sequence: list[int], job: Any, kind: type[Exception], why: str) -> None:
+    with pytest.raises(kind, match=why):
+        pfs.Instance(TIMES).best_place(sequence, job)
+
+
+@pytest.mark.parametrize(("words", "kind", "why"), [
+    ((0, 1, 1), ValueError, "jobs is 0, and should be 1 to 5,000"),
+    ((5001, 1, 1), ValueError, "jobs is 5001"),
+    ((1, 201, 1), ValueError, "machines is 201, and should be 1 to 200"),
+    ((1, 1, 0), ValueError, "seed is 0, and should be 1 to 2,147,483,646"),
+    ((1, 1, 2**31 - 1), ValueError, "seed is 2147483647"),
+    ((1, 1, 2**64 + 1), ValueError, "seed is 18446744073709551617"),
+    ((1.0, 1, 1), TypeError, "jobs should be a whole number, not 1.0"),
+])
+def test_instances_that_are_not_generated(words: Any, kind: type[Exception], why: str) -> None:
+    with pytest.raises(kind, match=why):
+        pfs.generate(*words)
+
+
+def test_other_words_that_are_refused() -> None:
+    shop = pfs.Instance(TIMES)
+    with pytest.raises(ValueError, match="layout is 'csv', and should be 'taillard' or 'orlib'"):
+        shop.to_text("csv")
+    with pytest.raises(TypeError, match="layout should be 'taillard' or 'orlib', not 0"):
+        pfs.read("x", 0)  # type: ignore[arg-type]
+    for block in (0, 1001):
+        with pytest.raises(ValueError, match=f"block is {block}, and should be 1 to 1,000"):
+            pfs.read("x", "orlib", block)
+    for number in (0, 121):
+        with pytest.raises(ValueError, match=f"number is {number}, and should be 1 to 120"):
+            pfs.taillard(number)
+    refused: list[tuple[dict[str, Any], str]] = [
+        ({"job_names": ["a"]}, "1 names for 3"), ({"machine_names": ["a", "a"]}, "'a' stands there twice"),
+        ({"decimals": 10}, "decimals is 10"), ({"seed": 2**32}, "seed is 4294967296")]
+    for words, why in refused:
+        with pytest.raises(ValueError, match=why):
+            pfs.Instance(TIMES, **words)
+    for names in ("abc", [1, 2, 3]):
+        with pytest.raises(TypeError, match="job_names"):
+            pfs.Instance(TIMES, job_names=names)  # type: ignore[arg-type]
+
+
+SCALARS = (arrays.integer_dtypes() | arrays.unsigned_integer_dtypes() | arrays.floating_dtypes()
+           | arrays.boolean_dtypes() | arrays.complex_number_dtypes() | arrays.unicode_string_dtypes()
+           | arrays.byte_string_dtypes() | arrays.datetime64_dtypes())
+ANYTHING = st.recursive(st.none() | st.booleans() | st.integers() | st.floats() | st.text() | st.binary(),
+                        lambda some: st.lists(some) | st.dictionaries(st.text(), some) | st.tuples(some), max_leaves=8)
+ARRAYS = arrays.arrays(SCALARS, arrays.array_shapes(min_dims=0, max_dims=3, min_side=0, max_side=4))
+
+
+@given(ANYTHING | ARRAYS)
+def test_anything_as_times(times: Any) -> None:
+    """It is an instance of what numpy says that it is, or refused."""
+    try:
+        shop = pfs.Instance(times)
+    except (TypeError, ValueError):
+        return
+    assert np.array_equal(shop.times, np.array(times))
+    assert shop.neh().makespan >= shop.bound()
+
+
+@given(ANYTHING | ARRAYS | arrays.arrays(np.int64, st.integers(0, 6), elements=st.integers(-1, 5)))
+def test_anything_as_an_order(order: Any) -> None:
+    shop = pfs.generate(5, 3, 1)
+    calls: list[Callable[[], int]] = [
+        lambda: shop.makespan(order), lambda: shop.schedule(order).makespan, lambda: shop.best_place(order, 4).place,
+        lambda: shop.solve(1, start=order).makespan if order is not None else 0]
+    for call in calls:
+        try:
+            assert call() >= 0
+        except (TypeError, ValueError):
+            pass
+
+
+@given(st.binary(max_size=300) | st.text(alphabet="0123456789 \n", max_size=60).map(str.encode)
+       | st.text(alphabet="order2 13\nmakespn", max_size=60).map(str.encode))
+def test_anything_as_a_file(text: bytes) -> None:
+    for layout in ("taillard", "orlib"):
+        for block in (1, 2):
+            try:
+                assert pfs.read(io.BytesIO(text), layout, block).jobs >= 1
+            except pfs.FileFault as fault:
+                assert 0 <= fault.place <= len(text) + 1
+    try:
+        pfs.read_order(io.BytesIO(text))
+    except pfs.OrderFault as fault:
+        assert 0 <= fault.place <= len(text)
+
+
+def test_arrays_that_another_thread_changes() -> None:
+    """The order is copied before it is judged: the answer is that of some order, or a refusal."""
+    shop = pfs.generate(200, 5, 1)
+    order = np.arange(200, dtype=np.uint32)
+    ended = threading.Event()
+
+    def spoil() -> None:
+        while not ended.is_set():
+            ctypes.memset(order.ctypes.data, 255, order.nbytes)
+            order[:] = np.arange(200)
+
+    thread = threading.Thread(target=spoil)
+    thread.start()
+    try:
+        for _ in range(3000):
+            try:
+                assert shop.makespan(order) > 0
+            except ValueError:
+                pass
+    finally:
+        ended.set()
+        thread.join()
+
+
+def test_objects_that_change_their_minds() -> None:
+    """A number that is another one each time it is asked."""
+    class Fickle(int):
+        asked = 0
+
+        def __index__(self) -> int:
+            Fickle.asked += 1
+            return 2**31 if Fickle.asked % 2 else 0
+
+        def __gt__(self, other: object) -> bool:
+            return False
+
+    shop = pfs.generate(5, 3, 1)
+    calls: list[Callable[[], Any]] = [
+        lambda: shop.makespan(np.array([Fickle(2**31), 1], dtype=object)),
+        lambda: pfs.Instance(np.array([[Fickle(2**31)]], dtype=object)).bound(),
+        lambda: shop.best_place([0], Fickle(3))]
+    for call in calls:
+        try:
+            assert call()
+        except (TypeError, ValueError):
+            pass

@@ -1,0 +1,326 @@
+"""Searches: the same end however they are cut into parts, progress, limits, interruptions, threads."""
+import io
+import os
+import pathlib
+import pickle
+import signal
+import threading
+import time
+from collections.abc import Callable
+from typing import Any
+
+import numpy as np
+import pfs
+import plainly
+import pytest
+from hypothesis import given
+from hypothesis import strategies as st
+from pfs import _library, _search
+
+
+class Cut:
+    """In the place of the pace of a search: parts of given lengths, again and again."""
+
+    def __init__(self, counts: list[int]) -> None:
+        self.counts = list(counts)
+        self.at = -1
+
+    def __call__(self, time_limit: float | None) -> "Cut":
+        return self
+
+    def next(self, most: int) -> int:
+        self.at += 1
+        return min(most, self.counts[self.at % len(self.counts)])
+
+    def took(self, count: int, seconds: float) -> None:
+        """No part is longer for it."""
+
+
+@pytest.fixture
+def cut(monkeypatch: pytest.MonkeyPatch) -> Callable[[list[int]], None]:
+    """Cuts searches into parts of these lengths."""
+    return lambda counts: monkeypatch.setattr(_search, "Pace", Cut(counts))
+
+
+@given(times=plainly.shops(), counts=st.lists(st.integers(1, 9), min_size=1, max_size=5), rounds=st.integers(0, 30),
+       seed=st.integers(0, 2**64 - 1), passes=st.integers(0, 2), chance=st.randoms(use_true_random=False))
+def test_any_cutting_ends_where_one_part_does(cut: Callable[[list[int]], None], times: plainly.Table, counts: list[int],
+                                              rounds: int, seed: int, passes: int, chance: Any) -> None:
+    shop = pfs.Instance(times)
+    take = chance.randint(1, shop.jobs)
+    cut([1_000_000])
+    whole = shop.solve(rounds, take=take, passes=passes, seed=seed)
+    cut(counts)
+    told: list[tuple[int, int]] = []
+    parts = shop.solve(rounds, take=take, passes=passes, seed=seed, progress=lambda *line: told.append(line))
+    assert parts == whole
+    assert whole.makespan == plainly.makespan(times, whole.order.tolist()) <= shop.neh().makespan
+    assert whole.rounds == rounds and sorted(whole.order) == list(range(shop.jobs))
+    assert [made for made, _ in told] == sorted({made for made, _ in told}) and (not told or told[-1][0] == rounds)
+    spans = [span for _, span in told]
+    assert spans == sorted(spans, reverse=True) and (not told or spans[-1] == whole.makespan)
+    # In calls of one's own.
+    stop = chance.randint(0, rounds)
+    half = shop.solve(stop, take=take, passes=passes, seed=seed)
+    rest = shop.solve(rounds - stop, take=take, passes=passes, seed=seed, start=half.order, first=half.rounds)
+    assert rest.to_text() == whole.to_text() and rest.rounds == rounds
+    assert half.cells + rest.cells == whole.cells
+
+
+@pytest.mark.parametrize(("number", "words"), [
+    (1, {}), (1, {"rounds": 200}), (2, {"rounds": 57, "take": 3, "seed": 7}), (31, {"rounds": 20, "passes": 1}),
+    (3, {"rounds": 40, "take": 20, "seed": 2**64 - 1, "passes": 2}), (91, {"rounds": 3})])
+@pytest.mark.parametrize("counts", [[1], [7, 2], [1000]])
+def test_the_program_prints_the_same_order(tmp_path: pathlib.Path, program: str, cut: Callable[[list[int]], None],
+                                           number: int, words: dict[str, int], counts: list[int]) -> None:
+    shop = pfs.taillard(number)
+    shop.write(tmp_path / "shop")
+    options = [word for name, value in words.items() for word in (f"--{name}", str(value))]
+    printed = plainly.run([program, "solve", "--layout", "taillard", "--cells", *options, str(tmp_path / "shop")])
+    cut(counts)
+    found = shop.solve(**({"rounds": 0} | words))  # type: ignore[arg-type]
+    assert found.to_text() + f"cells {found.cells}\n" == printed
+
+
+def test_the_defaults() -> None:
+    shop = pfs.taillard(4)
+    assert shop.solve() == shop.solve(1000, take=4, passes=0, seed=0, first=0)
+    assert shop.solve(10, first=999_990, start=range(20)).rounds == 1_000_000
+    assert pfs.Instance([[1], [2]]).solve(3) == pfs.Instance([[1], [2]]).solve(3, take=2)
+
+
+@given(plainly.shops_and_orders())
+def test_a_start_of_ones_own(case: tuple[plainly.Table, list[int]]) -> None:
+    times, order = case
+    shop = pfs.Instance(times)
+    kept = shop.solve(0, start=order)
+    assert (kept.order.tolist(), kept.makespan, kept.cells) == (order, plainly.makespan(times, order), 0)
+    assert shop.solve(5, start=order) == shop.solve(5, start=kept) == shop.solve(5, start=np.array(order, dtype=">i2"))
+    assert shop.solve(5, start=order).makespan <= kept.makespan
+
+
+def test_first_is_another_part_of_the_seed() -> None:
+    shop = pfs.taillard(11)
+    found = {shop.solve(5, start=range(20), first=first).order.tobytes() for first in (0, 5, 10, 15)}
+    assert len(found) == 4
+
+
+def test_a_bar_is_moved() -> None:
+    class Bar:
+        total = made = closed = 0
+        makespan = 0
+
+        def __init__(self, total: int) -> None:
+            self.total = total
+
+        def update(self, n: int = 1) -> None:
+            self.made += n
+
+        def set_postfix(self, makespan: int, refresh: bool) -> None:
+            self.makespan = makespan
+
+        def close(self) -> None:
+            self.closed += 1
+
+    bar = Bar(total=300)
+    found = pfs.taillard(1).solve(300, progress=bar)
+    assert (bar.made, bar.makespan, bar.closed) == (300, found.makespan, 0)
+    made: list[Bar] = []
+
+    class Kept(Bar):
+        def __init__(self, total: int) -> None:
+            super().__init__(total)
+            made.append(self)
+
+    pfs.taillard(1).solve(300, progress=Kept)
+    assert (made[0].total, made[0].made, made[0].closed) == (300, 300, 1)
+
+
+def test_tqdm() -> None:
+    tqdm = pytest.importorskip("tqdm").tqdm
+    told = io.StringIO()
+    with tqdm(total=500, file=told) as bar:
+        found = pfs.taillard(1).solve(500, progress=bar)
+    assert bar.n == 500
+    assert f"makespan={found.makespan}" in told.getvalue() and "500/500" in told.getvalue()
+
+
+def test_what_progress_raises_is_raised() -> None:
+    def refuse(made: int, makespan: int) -> None:
+        raise KeyError("enough")
+
+    with pytest.raises(KeyError, match="enough"):
+        pfs.taillard(1).solve(10, progress=refuse)
+
+
+def test_parts_take_about_a_tenth_of_a_second() -> None:
+    shop = pfs.generate(100, 20, 5)
+    ends: list[float] = []
+    shop.solve(time_limit=1.5, progress=lambda made, makespan: ends.append(time.monotonic()))
+    gaps = np.diff(ends[4:])
+    assert 0.02 < np.median(gaps) < 0.4, gaps
+    assert len(ends) < 60
+
+
+def test_a_time_limit_ends_between_two_parts() -> None:
+    shop = pfs.generate(100, 20, 5)
+    begun = time.monotonic()
+    found = shop.solve(time_limit=0.5)
+    assert 0.4 < time.monotonic() - begun < 2
+    assert 0 < found.rounds < 1_000_000
+    assert found.to_text() == shop.solve(found.rounds).to_text()
+    assert shop.solve(time_limit=0) == shop.neh()
+    assert shop.solve(3, time_limit=60) == shop.solve(3)
+    assert shop.solve(time_limit=float("inf"), rounds=2).rounds == 2
+
+
+@pytest.mark.parametrize("at", range(0, 4))
+def test_an_interruption_between_two_parts(cut: Callable[[list[int]], None], at: int) -> None:
+    cut([10])
+    shop = pfs.taillard(12)
+    whole = shop.solve(50)
+
+    def interrupt(made: int, makespan: int) -> None:
+        if made == 10 * (at + 1):
+            signal.raise_signal(signal.SIGINT)
+
+    with pytest.raises(KeyboardInterrupt) as stop:
+        shop.solve(50, progress=interrupt)
+    assert isinstance(stop.value, pfs.Interrupted)
+    best = stop.value.solution
+    assert best.rounds == 10 * (at + 1) and best.makespan == shop.makespan(best)
+    assert shop.solve(50 - best.rounds, start=best, first=best.rounds).to_text() == whole.to_text()
+    assert pickle.loads(pickle.dumps(stop.value)).solution == best
+
+
+def interrupt_after(seconds: float) -> threading.Timer:
+    """Sends SIGINT to this process."""
+    timer = threading.Timer(seconds, os.kill, (os.getpid(), signal.SIGINT))
+    timer.start()
+    return timer
+
+
+@pytest.mark.parametrize("seconds", [0.02, 0.05, 0.11, 0.23, 0.34, 0.55])
+def test_a_signal_loses_nothing(seconds: float) -> None:
+    """It comes wherever it does: in a call of the library, or around one."""
+    shop = pfs.generate(60, 10, 9)
+    left, done, cells = 3000, pfs.Solution([], 0), 0
+    timer = interrupt_after(seconds)
+    try:
+        done = shop.solve(time_limit=20)
+        pytest.fail("the signal was lost")
+    except KeyboardInterrupt as stop:
+        assert isinstance(stop, pfs.Interrupted), "no solution"
+        done, cells = stop.solution, stop.solution.cells
+    finally:
+        timer.join()
+    assert done.makespan == shop.makespan(done)
+    assert done == shop.solve(done.rounds), "not where so many rounds end"
+    left = 200
+    on = shop.solve(left, start=done, first=done.rounds)
+    whole = shop.solve(done.rounds + left)
+    assert on.to_text() == whole.to_text() and cells + on.cells == whole.cells
+
+
+@pytest.mark.parametrize("call", ["pfs_neh", "pfs_rounds"])
+@pytest.mark.parametrize("when", ["before", "behind"])
+def test_a_signal_right_around_a_call(monkeypatch: pytest.MonkeyPatch, call: str, when: str) -> None:
+    """What a call has answered counts, also where the signal comes before anything is made of it."""
+    shop = pfs.taillard(12)
+    library = _library.library
+    real = getattr(library, call)
+    calls = 0
+
+    class Library:
+        def __getattr__(self, name: str) -> Any:
+            return around if name == call else getattr(library, name)
+
+    def around(*given: Any) -> int:
+        nonlocal calls
+        calls += 1
+        if calls == 1 and when == "before":
+            raise KeyboardInterrupt
+        number: int = real(*given)
+        if calls == 1:
+            raise KeyboardInterrupt
+        return number
+
+    monkeypatch.setattr(_library, "library", Library())
+    with pytest.raises(pfs.Interrupted) as stop:
+        shop.solve(50)
+    assert stop.value.solution.rounds == (1 if (call, when) == ("pfs_rounds", "behind") else 0)
+    best = stop.value.solution
+    assert best == shop.solve(best.rounds)
+    assert shop.solve(50 - best.rounds, start=best, first=best.rounds).to_text() == shop.solve(50).to_text()
+    assert calls > 1
+
+
+@pytest.mark.seconds(8)
+def test_four_threads_search_side_by_side() -> None:
+    """The interpreter's lock is free meanwhile: the threads' processor time is more than the time that passes."""
+    shops = [pfs.generate(60, 10, seed) for seed in range(1, 5)]
+    alone = [shop.solve(300, passes=1) for shop in shops]
+    found: list[pfs.Solution | None] = [None] * 4
+
+    def search(at: int) -> None:
+        found[at] = shops[at].solve(300, passes=1)
+
+    threads = [threading.Thread(target=search, args=(at,)) for at in range(4)]
+    begun, worked = time.monotonic(), time.process_time()
+    for thread in threads:
+        thread.start()
+    for thread in threads:
+        thread.join()
+    assert found == alone
+    seconds, worked = time.monotonic() - begun, time.process_time() - worked
+    share = min(4, len(os.sched_getaffinity(0)))
+    if share > 1 and os.getloadavg()[0] < share / 2:
+        assert worked > 1.5 * seconds, "the threads wait for each other"
+
+
+def test_a_call_frees_the_lock() -> None:
+    """While one thread is in a call of some seconds, another one goes on."""
+    shop = pfs.generate(1000, 20, 1)
+    beats: list[float] = []
+    ended = threading.Event()
+
+    def beat() -> None:
+        while not ended.is_set():
+            beats.append(time.monotonic())
+            time.sleep(0.001)
+
+    thread = threading.Thread(target=beat)
+    thread.start()
+    begun = time.monotonic()
+    shop.neh()
+    end = time.monotonic()
+    ended.set()
+    thread.join()
+    during = [at for at in beats if begun < at < end]
+    assert len(during) > 5, f"{len(during)} beats in {end - begun:.3f} s"
+
+
+@pytest.mark.parametrize(("words", "kind", "why"), [
+    ({"rounds": -1}, ValueError, "rounds is -1, and should be 0 to 1,000,000"),
+    ({"rounds": 1_000_001}, ValueError, "rounds is 1000001"),
+    ({"rounds": 2, "first": 999_999}, ValueError, "rounds is 2, and should be 0 to 1$"),
+    ({"first": 1_000_001}, ValueError, "first is 1000001"),
+    ({"rounds": 1.5}, TypeError, "rounds should be a whole number, not 1.5"),
+    ({"rounds": True}, TypeError, "rounds should be a whole number, not True"),
+    ({"take": 0}, ValueError, "take is 0, and should be 1 to 20"),
+    ({"take": 21}, ValueError, "take is 21, and should be 1 to 20"),
+    ({"take": 2**64 + 1}, ValueError, "take is 18446744073709551617"),
+    ({"passes": 101}, ValueError, "passes is 101, and should be 0 to 100"),
+    ({"seed": -1}, ValueError, "seed is -1"),
+    ({"seed": 2**64}, ValueError, "seed is 18446744073709551616"),
+    ({"seed": "1"}, TypeError, "seed should be a whole number, not '1'"),
+    ({"start": [0, 1]}, ValueError, "start has 2 jobs, and the instance 20"),
+    ({"start": [0] * 20}, ValueError, "start: job 0 stands at place 0 and again at place 1"),
+    ({"time_limit": -1}, ValueError, "time_limit is -1.0"),
+    ({"time_limit": float("nan")}, ValueError, "time_limit is nan"),
+    ({"time_limit": "1"}, TypeError, "time_limit should be seconds, not '1'"),
+    ({"progress": 3}, TypeError, "progress should be called"),
+])
+def test_options_that_are_refused(words: dict[str, Any], kind: type[Exception], why: str) -> None:
+    with pytest.raises(kind, match=why):
+        pfs.taillard(1).solve(**words)

@@ -1,0 +1,74 @@
+"""How far apart two colours are for the eye: CIEDE2000 (Sharma, Wu and Dalal, 2005), for eyes with all cones and for
+those without the red ones (protanopia) or the green ones (deuteranopia), as Machado, Oliveira and Fernandes (2009)
+compute what these see."""
+import math
+
+# Lightness, and how far from grey towards red and towards yellow (CIELAB).
+Lab = tuple[float, float, float]
+Matrix = tuple[Lab, Lab, Lab]
+
+# On linear parts of red, green and blue.
+EYES: dict[str, Matrix] = {
+    "all cones": ((1, 0, 0), (0, 1, 0), (0, 0, 1)),
+    "protanopia": ((0.152286, 1.052583, -0.204868), (0.114503, 0.786281, 0.099216), (-0.003882, -0.048116, 1.051998)),
+    "deuteranopia": ((0.367322, 0.860646, -0.227968), (0.280085, 0.672501, 0.047413), (-0.011820, 0.042940, 0.968881)),
+}
+# From linear sRGB to XYZ.
+XYZ: Matrix = ((0.4124564, 0.3575761, 0.1804375), (0.2126729, 0.7151522, 0.0721750), (0.0193339, 0.1191920, 0.9503041))
+
+
+def times(matrix: Matrix, parts: Lab) -> Lab:
+    first, second, third = (sum(one * other for one, other in zip(row, parts)) for row in matrix)
+    return first, second, third
+
+
+def seen(colour: str, eyes: str) -> Lab:
+    """What these eyes see of a colour, which is written as #rrggbb."""
+    red, green, blue = (int(colour[at:at + 2], 16) / 255 for at in (1, 3, 5))
+    linear = times(EYES[eyes], (from_srgb(red), from_srgb(green), from_srgb(blue)))
+    x, y, z = times(XYZ, (clipped(linear[0]), clipped(linear[1]), clipped(linear[2])))
+    white = times(XYZ, (1, 1, 1))
+    f, g, h = (bent(part / full) for part, full in zip((x, y, z), white))
+    return 116 * g - 16, 500 * (f - g), 200 * (g - h)
+
+
+def from_srgb(part: float) -> float:
+    return part / 12.92 if part <= 0.04045 else float(((part + 0.055) / 1.055) ** 2.4)
+
+
+def clipped(part: float) -> float:
+    return min(1.0, max(0.0, part))
+
+
+def bent(part: float) -> float:
+    return float(part ** (1 / 3)) if part > 216 / 24389 else (24389 / 27 * part + 16) / 116
+
+
+def turn(first: float, second: float) -> float:
+    """From one hue to another, in degrees, by the shorter way."""
+    return (second - first + 180) % 360 - 180
+
+
+def difference(first: Lab, second: Lab) -> float:
+    """CIEDE2000."""
+    mean = (math.hypot(*first[1:]) + math.hypot(*second[1:])) / 2
+    stretch = 1.5 - 0.5 * math.sqrt(mean ** 7 / (mean ** 7 + 25.0 ** 7))
+    one, other = (stretch * first[1], first[2]), (stretch * second[1], second[2])
+    chromas = math.hypot(*one), math.hypot(*other)
+    hues = [math.degrees(math.atan2(along, across)) % 360 for across, along in (one, other)]
+    across = turn(*hues) if chromas[0] * chromas[1] else 0.0
+    hue = hues[0] + across / 2 if chromas[0] * chromas[1] else sum(hues)
+    lightness, chroma = (first[0] + second[0]) / 2, sum(chromas) / 2
+    cosines = ((-0.17, 1, -30), (0.24, 2, 0), (0.32, 3, 6), (-0.20, 4, -63))
+    weight = 1 + sum(factor * math.cos(math.radians(many * hue + by)) for factor, many, by in cosines)
+    turned = -2 * math.sqrt(chroma ** 7 / (chroma ** 7 + 25.0 ** 7))
+    turned *= math.sin(math.radians(60 * math.exp(-(((hue % 360) - 275) / 25) ** 2)))
+    by_lightness = (second[0] - first[0]) / (1 + 0.015 * (lightness - 50) ** 2 / math.sqrt(20 + (lightness - 50) ** 2))
+    by_chroma = (chromas[1] - chromas[0]) / (1 + 0.045 * chroma)
+    by_hue = 2 * math.sqrt(chromas[0] * chromas[1]) * math.sin(math.radians(across / 2)) / (1 + 0.015 * chroma * weight)
+    return math.sqrt(by_lightness ** 2 + by_chroma ** 2 + by_hue ** 2 + turned * by_chroma * by_hue)
+
+
+def least_difference(first: str, second: str) -> float:
+    """Of two colours, for those eyes which see the least one."""
+    return min(difference(seen(first, eyes), seen(second, eyes)) for eyes in EYES)

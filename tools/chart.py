@@ -1,0 +1,283 @@
+"""Draws a time table as a Gantt chart: a row for each machine, a colour for each job, idle time in grey. tools/gantt is
+its command line. Who imports it makes a Table, and draws it on a figure of matplotlib. Needs matplotlib (Debian:
+python3-matplotlib), with which numpy comes."""
+from __future__ import annotations
+
+import importlib
+import itertools
+import logging
+import math
+import textwrap
+from collections.abc import Sequence
+from typing import Any, NamedTuple
+
+# Sizes in inches, of letters in points.
+LETTERS = 8
+DIGIT = 0.66 * LETTERS / 72
+HIGHEST_ROWS = 12
+NARROW = 6
+# What stands beside the rows: marks of the machines at the left, idle shares at the right.
+BESIDE = 1.5
+IDLE = "#d9d9d9"
+# From so many operations on, or where there are more jobs than pixels from left to right, the rows are one image.
+MANY = 20_000
+# Any two of the colours of so few jobs differ by 4.6 (CIEDE2000) or more, also for eyes without the red or the green
+# cones (as Machado et al., 2009, compute what these see); the first ones differ more, 20 of them by 9.0. So do they
+# from the grey of idle time. Each was taken as far from those before it as could be.
+FEW = 60
+PALETTE = """
+    326ebe 5a7800 f0c81e 508c82 8cb4fa 82b482 8c4650 963278 78a000 c896b4 5a8c5a 96e696 8282fa a0dcfa 4682a0
+    645a28 c8b45a d282c8 e63282 007864 f0aab4 e61446 96a05a 50bea0 faaadc 1e5aa0 009696 6e6e46 148c6e 1edcbe
+    14aa96 3c82c8 a0e66e 1e8282 aa0096 c84600 8cc882 bedcb4 beb400 f03c6e 00d2d2 3250d2 50aaaa 78783c c81e64
+    f0783c 9696f0 326ef0 96c8fa 00aac8 3296aa 64aa8c b41e32 32788c 32a06e aac8a0 3c78aa 509682 465a82 a0d278""".split()
+
+# A colour's parts of red, green and blue.
+Colour = tuple[float, float, float]
+# A figure and an axis of matplotlib, and an array of numpy, which have no types here.
+Figure = Any
+Axis = Any
+Array = Any
+
+
+class Table(NamedTuple):
+    """The jobs in their order, and when each of them starts and ends: whole numbers, by place in the order and by
+    machine. Names of jobs 1 and so on, and of the machines, where they have any."""
+    order: list[int]
+    starts: Array
+    ends: Array
+    job_names: Sequence[str] = ()
+    machine_names: Sequence[str] = ()
+
+    @property
+    def jobs(self) -> int:
+        return len(self.order)
+
+    @property
+    def machines(self) -> int:
+        return int(self.starts.shape[1])
+
+    @property
+    def makespan(self) -> int:
+        return int(self.ends[-1, -1])
+
+    def label(self, job: int) -> str:
+        return self.job_names[job - 1] if self.job_names else str(job)
+
+
+class Look(NamedTuple):
+    """How a table is drawn: inches from left to right, dots an inch, whether there are a title and a critical path, a
+    lower bound, the unit of the times, and how many of their digits stand behind the point."""
+    width: float = 12.0
+    dpi: int = 110
+    title: bool = True
+    critical: bool = False
+    bound: int | None = None
+    unit: str = "units of the instance"
+    decimals: int = 0
+
+    def told(self, time: float) -> str:
+        return f"{time:,.0f}" if self.decimals == 0 else f"{time / 10**self.decimals:,.{self.decimals}f}"
+
+
+def table_of(order: list[int], starts: Any, ends: Any) -> Table:
+    """A table of lists, job by job."""
+    numpy = importlib.import_module("numpy")
+    return Table(order, numpy.asarray(starts, dtype="int64"), numpy.asarray(ends, dtype="int64"))
+
+
+def critical_path(table: Table) -> list[tuple[int, int]]:
+    """Places and machines of operations without a wait between them, from time 0 to the makespan."""
+    place, machine = table.jobs - 1, table.machines - 1
+    path = [(place, machine)]
+    while place or machine:
+        if place and (not machine or table.ends[place - 1, machine] == table.starts[place, machine]):
+            place -= 1
+        else:
+            machine -= 1
+        path.append((place, machine))
+    return path[::-1]
+
+
+# Colours
+
+def colours(order: list[int]) -> list[Colour]:
+    """The colour of each job: of few jobs by their numbers, of many by their places, the rainbow along the order, in
+    which the neighbours differ by their lightness."""
+    if len(order) <= FEW:
+        return [rgb_of(PALETTE[job - 1]) for job in order]
+    return [of_lightness((40, 75, 57)[place % 3], 320 * place / len(order)) for place in range(len(order))]
+
+
+def rgb_of(digits: str) -> Colour:
+    red, green, blue = (int(digits[at:at + 2], 16) / 255 for at in (0, 2, 4))
+    return red, green, blue
+
+
+def of_lightness(lightness: float, hue: float) -> Colour:
+    """The colour of this lightness (L* of CIELAB, 0 to 100) and hue, in degrees."""
+    along, chroma = math.radians(hue), 45
+    y = (lightness + 16) / 116
+    x, z = y + chroma * math.cos(along) / 500, y - chroma * math.sin(along) / 200
+    x, y, z = (white * (part ** 3 if part > 6 / 29 else (part - 4 / 29) * 108 / 841)
+               for white, part in zip((0.9505, 1, 1.089), (x, y, z)))
+    linear = (3.2406 * x - 1.5372 * y - 0.4986 * z, -0.9689 * x + 1.8758 * y + 0.0415 * z,
+              0.0557 * x - 0.2040 * y + 1.0570 * z)
+    red, green, blue = (12.92 * part if part <= 0.0031308 else 1.055 * part ** (1 / 2.4) - 0.055
+                        for part in (min(1, max(0, part)) for part in linear))
+    return red, green, blue
+
+
+def ink(background: Colour) -> str:
+    """Black or white, whichever can be read better: the contrast (WCAG) of the better one is 4.58 or more."""
+    red, green, blue = (part / 12.92 if part <= 0.04045 else ((part + 0.055) / 1.055) ** 2.4 for part in background)
+    return "black" if (0.2126 * red + 0.7152 * green + 0.0722 * blue + 0.05) ** 2 > 0.05 * 1.05 else "white"
+
+
+# The picture
+
+def new_figure(table: Table, look: Look) -> Figure:
+    """An empty figure that is large enough for the rows."""
+    logging.getLogger("matplotlib").setLevel(logging.ERROR)
+    matplotlib = importlib.import_module("matplotlib")
+    matplotlib.rcParams.update({"svg.fonttype": "none", "svg.hashsalt": "pfs", "pdf.fonttype": 42, "font.size": 9})
+    figure = importlib.import_module("matplotlib.figure").Figure
+    return figure(figsize=(look.width, 1.3 + row_height(table) * table.machines), layout="constrained")
+
+
+def row_height(table: Table) -> float:
+    return min(0.42, max(0.05, HIGHEST_ROWS / table.machines))
+
+
+def inches(table: Table, look: Look) -> float:
+    """How long a unit of time is on the picture."""
+    return max(0.5, look.width - BESIDE) / max(1, table.makespan)
+
+
+def is_image(table: Table, look: Look) -> bool:
+    """Whether the rows are drawn as an image: there are very many operations, or they are thinner than a pixel."""
+    return table.jobs * table.machines > MANY or table.jobs > max(0.5, look.width - BESIDE) * look.dpi
+
+
+def draw(figure: Figure, table: Table, look: Look) -> None:
+    """The whole picture, on an empty figure."""
+    axis = figure.subplots()
+    fills = colours(table.order)
+    if is_image(table, look):
+        draw_image(axis, table, look, fills)
+    for machine in range(0 if is_image(table, look) else table.machines):
+        draw_machine(axis, table, look, machine, fills)
+        draw_numbers(axis, table, look, machine, fills)
+    if look.bound is not None:
+        draw_bound(axis, look.bound)
+    if look.critical:
+        draw_path(axis, table, look)
+    if look.title:
+        size = 11 if look.width > NARROW else 9
+        axis.set_title(title_of(table, look, size), fontsize=size, linespacing=1.3)
+    scales(axis, table, look)
+
+
+def title_of(table: Table, look: Look, size: int) -> str:
+    """The title, in as many lines as its letters of this size need."""
+    title = f"{table.jobs} jobs on {table.machines} machines: makespan {look.told(table.makespan)}"
+    title += f", bound {look.told(look.bound)} (dashed)" if look.bound is not None else ""
+    title += ", critical path outlined" if look.critical else ""
+    return textwrap.fill(title, max(20, int(72 * (look.width - 0.9) / (0.56 * size))))
+
+
+def draw_image(axis: Axis, table: Table, look: Look, fills: list[Colour]) -> None:
+    """All rows as one image: the colour of a pixel is the mean of all that is at its time, idle time too."""
+    numpy = importlib.import_module("numpy")
+    width = max(1, int(max(0.5, look.width - BESIDE) * look.dpi))
+    edges = numpy.linspace(0, table.makespan, width + 1)
+    idle, shades = numpy.array(rgb_of(IDLE[1:])), numpy.array(fills)
+    # ten lines a machine, of which the first and the last are the white between the rows
+    image = numpy.full((10 * table.machines, width, 3), 255, dtype="uint8")
+    for machine in range(table.machines):
+        starts, ends = table.starts[:, machine], table.ends[:, machine]
+        times = numpy.concatenate(([0], numpy.stack((starts, ends), axis=1).ravel(), [table.makespan]))
+        spans = numpy.diff(times)[:, None] * numpy.where(numpy.arange(len(times) - 1)[:, None] % 2, 0.0, idle)
+        spans[1::2] = numpy.diff(times)[1::2, None] * shades
+        sums = numpy.concatenate(([[0, 0, 0]], numpy.cumsum(spans, axis=0)))
+        for part in range(3):
+            means = numpy.diff(numpy.interp(edges, times, sums[:, part])) * width / max(1, table.makespan)
+            image[10 * machine + 1:10 * machine + 9, :, part] = numpy.rint(255 * means.clip(0, 1))
+    axis.imshow(image, extent=(0, table.makespan, table.machines + 0.5, 0.5), aspect="auto", interpolation="none",
+                gid="rows")
+
+
+def draw_machine(axis: Axis, table: Table, look: Look, machine: int, fills: list[Colour]) -> None:
+    """A grey strip, and on it the operations that take time, in the order of the jobs. The white edges between them
+    take at most a quarter of the shortest one."""
+    starts, ends = table.starts[:, machine].tolist(), table.ends[:, machine].tolist()
+    bars = [(start, end - start, fill) for start, end, fill in zip(starts, ends, fills) if end > start]
+    shortest = 72 * inches(table, look) * min((length for _, length, _ in bars), default=0)
+    row = (machine + 0.6, 0.8)
+    axis.broken_barh([(0, table.makespan)], row, facecolor=IDLE, linewidth=0, gid=f"strip-{machine + 1}")
+    axis.broken_barh([bar[:2] for bar in bars], row, facecolors=[bar[2] for bar in bars], edgecolor="white",
+                     linewidth=min(0.5, shortest / 4), gid=f"machine-{machine + 1}")
+
+
+def draw_numbers(axis: Axis, table: Table, look: Look, machine: int, fills: list[Colour]) -> None:
+    """A job's number where it fits into its bar; none in a row where fewer than half of them fit."""
+    if row_height(table) <= 0.2:
+        return
+    starts, ends = table.starts[:, machine].tolist(), table.ends[:, machine].tolist()
+    bars = [bar for bar in zip(table.order, starts, ends, fills) if bar[2] > bar[1]]
+    fit = [bar for bar in bars if inches(table, look) * (bar[2] - bar[1]) > DIGIT * len(table.label(bar[0])) + 0.03]
+    for job, start, end, fill in fit if 2 * len(fit) >= len(bars) else []:
+        axis.text((start + end) / 2, machine + 1, table.label(job), ha="center", va="center", fontsize=LETTERS,
+                  zorder=4, color=ink(fill), clip_on=True, parse_math=False)
+
+
+def draw_bound(axis: Axis, bound: int) -> None:
+    """A dashed line with white beside it, whole also where it stands at the end of the axis."""
+    axis.axvline(bound, color="white", linewidth=2.4, zorder=3.5, clip_on=False, gid="beside-bound")
+    axis.axvline(bound, color="black", linestyle=(0, (4, 3)), linewidth=1.2, zorder=3.6, clip_on=False, gid="bound")
+
+
+def draw_path(axis: Axis, table: Table, look: Look) -> None:
+    """An outline around the critical operations of each machine, which follow each other without a wait. Of few
+    jobs it takes at most a quarter of the first and of the last of them, where that can be seen."""
+    for machine, group in itertools.groupby(critical_path(table), lambda operation: operation[1]):
+        places = [place for place, _ in group]
+        start, end = int(table.starts[places[0], machine]), int(table.ends[places[-1], machine])
+        lengths = [int(table.ends[place, machine] - table.starts[place, machine]) for place in places]
+        ends = [next((length for length in each if length), 0) for each in (lengths, lengths[::-1])]
+        thin = max(0.8, 72 * inches(table, look) * min(ends) / 2) if table.jobs <= FEW else 2
+        if end > start:
+            axis.broken_barh([(start, end - start)], (machine + 0.6, 0.8), facecolor="none", edgecolor="black",
+                             linewidth=min(2, 20 * row_height(table), thin), zorder=3, clip_on=False,
+                             gid=f"critical-{machine + 1}")
+
+
+def scales(axis: Axis, table: Table, look: Look) -> None:
+    """Time from left to right, machines downwards, and what of the makespan each of them is idle."""
+    step = next(step for step in (1, 2, 5, 10, 20, 50) if step * row_height(table) > 0.18)
+    shown = range(step, table.machines + 1, step)
+    axis.set_xlim(0, max(1, table.makespan))
+    axis.set_ylim(table.machines + 0.5, 0.5)
+    axis.set_yticks(shown, [table.machine_names[machine - 1] for machine in shown] if table.machine_names else None)
+    for label in axis.get_yticklabels():
+        label.set_parse_math(False)
+    # as it is, also where it looks like a formula
+    axis.set_xlabel(f"time ({look.unit})", parse_math=False)
+    axis.set_ylabel("machine")
+    axis.xaxis.set_major_formatter(lambda value, _: look.told(value))
+    axis.xaxis.get_major_locator().set_params(integer=True, **({} if look.width > NARROW else {"nbins": 5}))
+    axis.spines[["top", "right", "left"]].set_visible(False)
+    axis.tick_params(axis="y", length=0)
+    right = axis.secondary_yaxis("right")
+    busy = (table.ends - table.starts).sum(axis=0).tolist()
+    shares = [f"{100 - 100 * busy[machine - 1] / table.makespan:.0f} %" if table.makespan else "" for machine in shown]
+    right.set_yticks(shown, shares)
+    right.tick_params(length=0)
+    right.spines["right"].set_visible(False)
+    box = {"facecolor": IDLE, "pad": 1.5, "linewidth": 0}
+    axis.text(1.005, 1, "idle", transform=axis.transAxes, va="bottom", bbox=box)
+
+
+def save(figure: Figure, path: str, ending: str, look: Look) -> None:
+    """Writes a figure as svg, png or pdf. No dates, so that the same picture has the same bytes."""
+    dates = {"svg": {"Date": None}, "pdf": {"CreationDate": None}}
+    figure.savefig(path, format=ending, dpi=look.dpi, metadata=dates.get(ending))
