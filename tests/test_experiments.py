@@ -11,8 +11,8 @@ from collections.abc import Callable
 from typing import IO, Any, NamedTuple
 
 import pytest
-from support.experiments import HEAD, PLAN, Experiment, planned
-from support.needs import need
+from support.experiments import HEAD, OLD_HEAD, PLAN, Experiment, planned
+from support.needs import missing, need
 from support.program import Program
 from support.slurm import Cluster
 from support.ssh import Server
@@ -60,6 +60,17 @@ REFUSED = {
     "no instances": ("", "instances"),
     "instances that are no list": ("instances = \"shops/a\"", "instances"),
     "a pattern that no file matches": ("instances = [\"none*\"]", "none*"),
+    "a folder among the instances": ("instances = [\"sh*\"]", "shops"),
+    "more rounds than pfs takes": ("instances = [\"shops/*\"]\nrounds = [1000001]\n", "rounds"),
+    "more passes than pfs takes": ("instances = [\"shops/*\"]\npasses = [101]\n", "passes"),
+    "a greater seed than pfs takes": ("instances = [\"shops/*\"]\nseeds = [18446744073709551616]\n", "seeds"),
+    "no job to be taken out": ("instances = [\"shops/*\"]\ntakes = [0]\n", "takes"),
+    "more jobs to be taken out than there are": ("instances = [\"shops/*\"]\ntakes = [2, 4]\n", "shops/b"),
+    "a block 0": ("instances = [\"shops/*\"]\nblocks = [0]\n", "blocks"),
+    "a block 1,001": ("instances = [\"shops/*\"]\nblocks = [1001]\n", "blocks"),
+    "a reference that is a number": ("instances = [\"shops/*\"]\nreference = 1\n", "reference"),
+    "a reference that is missing": ("instances = [\"shops/*\"]\nreference = \"none.csv\"\n", "none.csv"),
+    "a reference without makespans": ("instances = [\"shops/*\"]\nreference = \"plan.toml\"\n", "instance, makespan"),
 }
 
 
@@ -77,6 +88,69 @@ def test_a_missing_plan_is_refused(experiment: Experiment) -> None:
     told = experiment.run()
     assert (told.status, told.stdout, told.stderr.count("\n")) == (2, "", 1)
     assert os.listdir(experiment.folder) == ["shops"]
+
+
+def test_the_greatest_values_that_pfs_takes_are_planned(experiment: Experiment) -> None:
+    (experiment.folder / "plan.toml").write_text(
+        "instances = [\"shops/b\"]\nrounds = [0]\ntakes = [1, 3]\npasses = [100]\nseeds = [18446744073709551615]\n")
+    assert experiment.run() == Told(0, "", "out.csv: 2 runs, 0 of them failed, 0 still to be made\n")
+
+
+PATHS = {"a folder": "shops", "below a file": "plan.toml/out.csv", "a name that is too long": "x" * 255}
+
+
+@pytest.mark.parametrize("path", PATHS.values(), ids=PATHS)
+def test_a_csv_that_cant_be_is_refused_before_the_first_run(path: str, experiment: Experiment) -> None:
+    told = experiment.run(path, program=experiment.waiting())
+    assert (told.status, told.stdout, told.stderr.count("\n")) == (2, "", 1), told.stderr
+    assert experiment.started() == [] and sorted(os.listdir(experiment.folder)) == ["plan.toml", "shops", "waiting"]
+
+
+def test_an_older_python_is_told(experiment: Experiment) -> None:
+    """One that has neither tomllib nor tomli."""
+    for name in ("tomllib", "tomli"):
+        (experiment.folder / f"{name}.py").write_text("raise ImportError\n")
+    told = experiment.run(env=dict(os.environ, PYTHONPATH=str(experiment.folder)))
+    assert (told.status, told.stdout, told.stderr.count("\n"), "3.11" in told.stderr) == (2, "", 1, True), told.stderr
+
+
+@pytest.mark.parametrize("many", ["0", "-1", "x", "1.5"])
+def test_tasks_that_are_none_are_refused(many: str, experiment: Experiment) -> None:
+    told = experiment.script("slurm", f"--tasks={many}", "plan.toml", "out.csv")
+    assert (told.status, told.stdout, told.stderr.count("\n")) == (2, "", 1), told.stderr
+
+
+# So many KiB; the experiment needs some 150.
+DISKS = (4, 16, 24, 32, 48, 64, 96, 112, 128, 144, 160)
+
+
+@pytest.mark.parametrize("kib", DISKS)
+def test_where_the_disk_is_full_that_is_told(kib: int, experiment: Experiment) -> None:
+    """On one line, and once there is room the same line ends the work."""
+    if subprocess.run([need("unshare"), "-m", "true"], capture_output=True).returncode != 0:
+        missing("nobody but root mounts a small disk here")
+    small = experiment.folder / "small"
+    small.mkdir()
+    run = " ".join(map(str, experiment.words("run", "plan.toml", "small/out.csv", "--jobs", "1",
+                                            program=small_program(experiment))))
+    script = (f"mount -t tmpfs -o size={kib}k none small && {run} 2> told; echo $? > status; "
+              "find small -name '*.new' > halves; "
+              f"mount -o remount,size=9m small && {run} 2> again; echo $? > status2; cp small/out.csv all.csv")
+    done = subprocess.run(["unshare", "-m", "sh", "-c", script], cwd=experiment.folder, capture_output=True, text=True)
+    assert done.returncode == 0, done.stderr
+    told = (experiment.folder / "told").read_text()
+    status = int((experiment.folder / "status").read_text())
+    refused = re.fullmatch("experiments/run: [^\n]*: No space left on device\n", told)
+    assert status == 0 or (status == 2 and refused), told
+    assert status == 2 or kib >= 128, "room for all"
+    assert (experiment.folder / "halves").read_text() == "", "what is left of files that had no room"
+    assert ((experiment.folder / "status2").read_text(), (experiment.folder / "again").read_text()) \
+        == ("0\n", "small/out.csv: 12 runs, 0 of them failed, 0 still to be made\n")
+    assert experiment.rows("all.csv") == experiment.wanted()
+
+
+def small_program(experiment: Experiment) -> pathlib.Path:
+    return write_script(experiment.folder / "program", f"#!/bin/sh\nexec {experiment.pfs.path} \"$@\"\n")
 
 
 # Whole experiments
@@ -100,10 +174,12 @@ def test_a_second_start_makes_nothing_again(experiment: Experiment) -> None:
     (experiment.folder / "out.csv").unlink()
     assert experiment.run().status == 0
     assert (experiment.folder / "out.csv").read_text() == first
-    (experiment.folder / "plan.toml").write_text(PLAN + "repetitions = 2\n")
-    told = experiment.run()
-    assert (told.status, told.stderr.count("\n"), "another plan" in told.stderr) == (2, 1, True)
-    assert (experiment.folder / "out.csv").read_text() == first
+    for other in (PLAN.replace("[0, 30]", "[30]"), PLAN.replace("1, 2, 3", "1, 2"), PLAN.replace("*", "a"),
+                  PLAN + "layout = \"orlib\"\n"):
+        (experiment.folder / "plan.toml").write_text(other)
+        told = experiment.run()
+        assert (told.status, told.stderr.count("\n"), "another plan" in told.stderr) == (2, 1, True), other
+        assert (experiment.folder / "out.csv").read_text() == first
 
 
 def test_what_a_plan_leaves_out_is_as_readme_says(experiment: Experiment) -> None:
@@ -142,6 +218,83 @@ def test_layouts_blocks_takes_passes_and_repetitions(experiment: Experiment) -> 
     *_, makespan, cells = experiment.printed(*line.split(" ")).splitlines()
     assert [makespan.split()[1], cells.split()[1]] == [rows[4].makespan, rows[4].cells]
     assert rows[4][8:12] == rows[5][8:12], "repetitions of a run"
+
+
+def test_each_order_is_kept_as_pfs_prints_it(experiment: Experiment) -> None:
+    """The CSV says where, and a person finds it by its name."""
+    assert experiment.run().status == 0
+    found = experiment.columns("instance", "rounds", "seed", "order")
+    assert len({order for *_, order in found}) == 12
+    for shop, rounds, seed, order in found:
+        assert order.startswith(f"out.csv.d/orders/{shop.partition('/')[2]}-rounds-{rounds}-take-"), order
+        assert f"-seed-{seed}-" in order
+        wanted = experiment.printed("solve", "--layout", "taillard", "--rounds", rounds, "--seed", seed, shop)
+        assert (experiment.folder / order).read_text() == wanted
+    assert len(os.listdir(experiment.runs / "orders")) == 12
+
+
+def test_check_audits_the_orders_again(experiment: Experiment) -> None:
+    assert experiment.run().status == 0
+    assert experiment.script("check", "out.csv") == Told(0, "out.csv: 12 orders audited, 0 of them wrong\n", "")
+    text = (experiment.folder / "out.csv").read_text()
+    orders = [order for order, in experiment.columns("order")]
+    (experiment.folder / orders[0]).unlink()
+    (experiment.folder / orders[3]).write_text((experiment.folder / orders[4]).read_text())
+    (experiment.folder / orders[8]).write_text("order2 3 2\n1 2 3\nmakespan 1\n")
+    lines = text.splitlines(keepends=True)
+    lines[12] = re.sub(r",(\d+),(\d+),(\d+\.\d{4})", r",\1,1,\3", lines[12])
+    (experiment.folder / "out.csv").write_text("".join(lines))
+    told = experiment.script("check", "out.csv")
+    *wrong, last = told.stdout.splitlines()
+    assert (told.status, told.stderr) == (1, "")
+    names = [re.search(r"run-(\d+)", line) for line in wrong]
+    numbers = [int(name[1]) for name in names if name]
+    assert (numbers, last) in [([1, 4, 9, 12], "out.csv: 12 orders audited, 4 of them wrong")], told.stdout
+
+
+def test_check_refuses_a_csv_without_orders(experiment: Experiment) -> None:
+    (experiment.folder / "old.csv").write_text(f"{OLD_HEAD}\na,20,5,0,4,0,1,1,110,100,10.0000,1000,0.001000,ok\n")
+    told = experiment.script("check", "old.csv")
+    assert told == Told(2, "", "experiments/check: old.csv: no column order\n")
+
+
+def test_the_reference_of_a_plan_stands_in_the_csv(experiment: Experiment) -> None:
+    """Also one that is named once all runs are made."""
+    assert experiment.run().status == 0
+    (experiment.folder / "best.csv").write_text("instance,makespan,source\nb,12.0,a paper\nc,1,no paper\n")
+    (experiment.folder / "plan.toml").write_text(PLAN + "reference = \"best.csv\"\n")
+    assert experiment.run() == Told(0, "", TWELVE)
+    assert experiment.columns("instance", "reference", "source") \
+        == [("shops/a", "", "")] * 6 + [("shops/b", "12", "a paper")] * 6
+    assert experiment.rows() == experiment.wanted()
+
+
+GROWN = {
+    "rounds": PLAN.replace("[0, 30]", "[0, 30, 50]"),
+    "seeds": PLAN.replace("[1, 2, 3]", "[4, 3, 2, 1]"),
+    "takes": PLAN + "takes = [1, 3, 4]\n",
+    "repetitions": PLAN + "repetitions = 2\n",
+    "instances": PLAN,
+}
+
+
+@pytest.mark.parametrize("what", GROWN)
+def test_a_plan_may_grow(what: str, experiment: Experiment) -> None:
+    """What is done is kept, and the CSV is in the order of the plan that has grown."""
+    first = PLAN.replace("*", "a") if what in ("instances", "takes") else PLAN
+    grown = GROWN[what].replace("*", "a") if what == "takes" else GROWN[what]
+    (experiment.folder / "plan.toml").write_text(first)
+    assert experiment.run(program=experiment.waiting()).status == 0
+    before, made = experiment.rows(), len(experiment.started())
+    (experiment.folder / "plan.toml").write_text(grown)
+    assert experiment.run(program=experiment.waiting()).status == 0
+    after = experiment.rows()
+    assert (len(before), made) == ((12, 12) if first == PLAN else (6, 6))
+    assert [row for row in before if row not in after] == [], "runs that are gone"
+    assert len(after) == len(experiment.started()) == len(set(after)) > len(before), "each is made once"
+    assert experiment.run("other.csv").status == 0
+    assert after == experiment.rows("other.csv"), "the same plan from nothing"
+    assert experiment.script("check", "out.csv").status == 0
 
 
 # Runs that fail
@@ -190,6 +343,46 @@ def test_a_run_that_is_killed_is_told_and_made_by_the_next_start(experiment: Exp
     assert {row[8:] for row in experiment.rows() if row.seed == "2"} == {("", "", "", "", "lost: exit 137, signal 0")}
     (experiment.folder / "fixed").touch()
     assert experiment.run().status == 0
+    assert experiment.rows() == experiment.wanted()
+
+
+MEMORY = """#!/bin/sh
+test -e {folder}/fixed && exec {pfs} "$@"
+case "$*" in
+"solve "*"--seed 1 "*) kill -9 $$;;
+"solve "*"--seed 2 "*) echo "pfs: no memory" >&2; exit 4;;
+"check "*) kill -15 $$;;
+esac
+exec {pfs} "$@"
+"""
+
+
+def test_a_run_whose_program_was_killed_is_made_by_the_next_start(experiment: Experiment) -> None:
+    """By a signal, or for want of memory, in the search or in the audit."""
+    program = write_script(experiment.folder / "program",
+                           MEMORY.format(folder=experiment.folder, pfs=experiment.pfs.path))
+    assert experiment.run(program=program).status == 1
+    assert [row.status for row in experiment.rows()] \
+        == ["solve: signal 9", "solve: exit 4, pfs: no memory", "check: signal 15"] * 4
+    (experiment.folder / "fixed").touch()
+    assert experiment.run(program=program) == Told(0, "", TWELVE)
+    assert experiment.rows() == experiment.wanted()
+
+
+def test_runs_that_failed_are_made_again_where_that_is_asked_for(experiment: Experiment) -> None:
+    program = write_script(experiment.folder / "program", f"""#!/bin/sh
+echo "$*" >> {experiment.folder}/notes
+test -e {experiment.folder}/fixed && exec {experiment.pfs.path} "$@"
+case "$*" in "solve "*"--seed 1 "*) echo "some fault" >&2; exit 2;; esac
+exec {experiment.pfs.path} "$@"
+""")
+    assert experiment.run(program=program).status == 1
+    (experiment.folder / "fixed").touch()
+    (experiment.folder / "notes").unlink()
+    assert experiment.run(program=program).status == 1
+    assert experiment.started() == [], "without --retry"
+    assert experiment.run("out.csv", "--retry", program=program) == Told(0, "", TWELVE)
+    assert sum(line.startswith("solve ") for line in experiment.started()) == 4
     assert experiment.rows() == experiment.wanted()
 
 
@@ -290,9 +483,11 @@ def test_no_run_is_lost_or_made_again(kills: Kills, experiment: Experiment) -> N
         done = interrupt(experiment, most, kill)
         counts = experiment.searches()
         made.update({number: counts[number] for number in done})
-        if kill is Started.interrupt_all:
+        if kill in (Started.interrupt_all, Started.terminate):
             so_far = experiment.rows()
             assert len(so_far) >= most and [row for row in so_far if row not in wanted] == [], "the CSV so far"
+            assert len(os.listdir(experiment.runs / "orders")) == len(so_far), "the orders so far"
+            assert experiment.script("check", "out.csv").status == 0, "the orders so far, each whole"
         if kill in (Started.terminate, Started.kill_starter):
             assert len(experiment.started()) <= most + 2, "runs that GNU parallel begins without its starter"
     assert experiment.run(program=experiment.waiting()).status == 0
@@ -451,6 +646,45 @@ def waiting_for(experiment: Experiment, slurm: Cluster) -> str:
     return reason()
 
 
+@on_slurm
+def test_what_slurm_says_of_a_task_that_it_ended_stands_in_the_csv(experiment: Experiment, slurm: Cluster) -> None:
+    """And the next start makes its runs."""
+    (experiment.folder / "plan.toml").write_text(PLAN.replace("[0, 30]", "[0]"))
+    words = ["--tasks", "2", "plan.toml", "out.csv", "--time=5"]
+    with experiment.gate(), open(experiment.folder / "told", "wb") as told:
+        begun = start(experiment, *words, name="slurm", env=slurm.env, stderr=told)
+        wait_until(lambda: len(experiment.started()) == 2, "two tasks make a run each")
+        slurm.tells("scancel", "--full", number_of((experiment.folder / "told").read_text()))
+        assert begun.process.wait(100) == 1
+    lost = experiment.rows()
+    assert [row.seed for row in lost] == ["1", "2"], "the runs that were begun"
+    said = r"lost: \*\*\* JOB \d+ ON \S+ CANCELLED AT \S+ .*"
+    assert [row.status for row in lost if not re.fullmatch(said, row.status)] == []
+    assert experiment.script("slurm", *words, env=slurm.env, program=experiment.waiting()).status == 0
+    assert experiment.rows() == experiment.wanted(rounds=(0,))
+
+
+# A task of Slurm, made here, of which Slurm says that it ran out of time.
+OUT_OF_TIME = """#!/bin/sh
+for word; do case $word in --output=*) log=$(echo "${word#--output=}" | sed 's/%A/7/; s/%a/1/');; esac; done
+SLURM_ARRAY_TASK_ID=1 SLURM_ARRAY_TASK_COUNT=6 sh > "$log" 2>&1
+echo "slurmstepd: error: *** JOB 7 ON host CANCELLED AT 2026-11-23T19:00:00 DUE TO TIME LIMIT ***" >> "$log"
+rm results/7
+"""
+
+
+def test_a_task_that_ran_out_of_time_is_told_by_its_last_run(experiment: Experiment) -> None:
+    """The first of six tasks makes the runs 1 and 7, and ends in the second one."""
+    (experiment.folder / "bin").mkdir()
+    write_script(experiment.folder / "bin" / "sbatch", OUT_OF_TIME)
+    told = experiment.script("slurm", "--tasks", "6", "plan.toml", "out.csv", env=with_path(experiment.folder / "bin"))
+    assert told.status == 1 and told.stderr.endswith("out.csv: 2 runs, 1 of them failed, 10 still to be made\n")
+    first, second = experiment.rows()
+    assert (first.instance, first.status) == ("shops/a", "ok")
+    assert (second.instance, second.rounds, second.seed) == ("shops/b", "0", "1")
+    assert second.status == "lost: *** JOB 7 ON host CANCELLED AT 2026-11-23T19:00:00 DUE TO TIME LIMIT ***"
+
+
 # Slurm without a cluster: what it is asked
 
 @pytest.fixture
@@ -498,7 +732,7 @@ def lines_of_way(page: pathlib.Path) -> list[str]:
 
 def test_both_pages_tell_the_same_way(top: pathlib.Path) -> None:
     lines, again = (lines_of_way(page) for page in (top / "README.md", top / "experiments" / "README.md"))
-    assert len(lines) == 5 and lines == again
+    assert len(lines) == 6 and lines == again
 
 
 @pytest.mark.seconds(30)
@@ -512,6 +746,7 @@ def test_the_lines_of_the_way_lead_to_the_reports_plots(top: pathlib.Path, pfs: 
     shutil.copy(pfs.path, folder / "crates" / "pfs" / "out" / "pfs")
     for line in lines_of_way(top / "README.md")[1:]:
         assert told_by([*line.split(" ")], folder).status == 0, line
-    assert sorted(os.listdir(folder / "report")) == ["gap.png", "table.csv", "table.md", "time.png"]
+    assert sorted(os.listdir(folder / "report")) \
+        == ["gap.png", "rpd.png", "seconds.png", "table.csv", "table.md", "time.png"]
     with open(folder / "report" / "table.csv", newline="") as file:
         assert sum(int(row["runs"]) for row in csv.DictReader(file)) == 108

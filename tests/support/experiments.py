@@ -17,7 +17,9 @@ rounds = [0, 30]
 seeds = [1, 2, 3]
 """
 SHOPS = {"a": (20, 5, 873654221), "b": (3, 2, 7)}
-HEAD = "instance,jobs,machines,rounds,take,passes,seed,repetition,makespan,bound,gap_percent,cells,seconds,status"
+# The columns of earlier versions, and those of today.
+OLD_HEAD = "instance,jobs,machines,rounds,take,passes,seed,repetition,makespan,bound,gap_percent,cells,seconds,status"
+HEAD = OLD_HEAD + ",order,reference,source"
 
 # Notes each search, and then waits at the gate, a pipe, as long as there is one.
 WAITING = """#!/bin/sh
@@ -30,7 +32,7 @@ exec {pfs} "$@"
 
 
 class Row(NamedTuple):
-    """A row of the CSV but for the seconds."""
+    """A row of the CSV but for the seconds, the order file and the reference."""
     instance: str
     jobs: str
     machines: str
@@ -92,7 +94,12 @@ class Experiment(NamedTuple):
         """The rows of a CSV, the seconds apart."""
         lines = (self.folder / name).read_text().splitlines()
         assert lines[:1] == [HEAD], "columns"
-        return [(Row._make(row[:12] + row[13:]), row[12]) for row in csv.reader(lines[1:])]
+        return [(Row._make(row[:12] + row[13:14]), row[12]) for row in csv.reader(lines[1:])]
+
+    def columns(self, *names: str, csv_name: str = "out.csv") -> list[tuple[str, ...]]:
+        """These columns of a CSV."""
+        with open(self.folder / csv_name, newline="") as file:
+            return [tuple(row[name] for name in names) for row in csv.DictReader(file)]
 
     @property
     def runs(self) -> pathlib.Path:

@@ -1,8 +1,11 @@
 """What an SVG shows that matplotlib has drawn, in the units of its axes."""
+import base64
 import math
 import pathlib
 import re
+import struct
 import xml.etree.ElementTree as ET
+import zlib
 from collections.abc import Iterator
 from typing import NamedTuple
 
@@ -27,12 +30,13 @@ class Bar(NamedTuple):
 
 
 class Letters(NamedTuple):
-    """A text, where it is anchored on the picture, its colour and its size."""
+    """A text, where it is anchored on the picture, its colour, its size, and which part of it is anchored."""
     text: str
     x: float
     y: float
     fill: str
     size: float
+    anchor: str
 
 
 class Scale:
@@ -109,6 +113,18 @@ class Picture:
         (points, _), = self.shapes(name)
         return points
 
+    def image(self) -> tuple[Bar, list[list[str]]]:
+        """Where the one image stands, in the units of the axes, and the colours of its pixels, from the top."""
+        image, = self.root.iter(f"{SVG}image")
+        x, y, width, height = (float(image.get(name, 0)) for name in ("x", "y", "width", "height"))
+        turned = re.fullmatch(r"matrix\((\S+) 0 0 (\S+) (\S+) (\S+)\)|", image.get("transform", ""))
+        wide, high, left, above = map(float, turned.groups(0) if turned and turned[1] else (1, 1, 0, 0))
+        across, down = [left + wide * at for at in (x, x + width)], [above + high * at for at in (y, y + height)]
+        time, row = self.across(), self.down()
+        place = Bar(time(min(across)), time(max(across)), row(min(down)), row(max(down)), "")
+        pixels = pixels_of(base64.b64decode(image.get(f"{LINK}href", "").partition(",")[2]))
+        return place, pixels[::-1] if high < 0 else pixels
+
     def bars(self, name: str) -> list[Bar]:
         """The bars of a group, in the order in which they were drawn."""
         time, row = self.across(), self.down()
@@ -118,6 +134,31 @@ class Picture:
             fill = value_of(style, "fill")
             found.append(Bar(time(min(across)), time(max(across)), row(min(down)), row(max(down)), fill))
         return found
+
+
+def pixels_of(png: bytes) -> list[list[str]]:
+    """The colours of a PNG of 8 bits a part, line by line."""
+    width, height, _, kind = struct.unpack(">IIBB", png[16:26])
+    depth, at, packed = {2: 3, 6: 4}[kind], 8, b""
+    while at < len(png):
+        length, name = struct.unpack(">I4s", png[at:at + 8])
+        packed += png[at + 8:at + 8 + length] if name == b"IDAT" else b""
+        at += 12 + length
+    data, line, rows = zlib.decompress(packed), bytes(width * depth), []
+    for start in range(0, height * (width * depth + 1), width * depth + 1):
+        line = unfiltered(data[start], data[start + 1:start + 1 + width * depth], line, depth)
+        rows.append([f"#{line[x:x + 3].hex()}" for x in range(0, width * depth, depth)])
+    return rows
+
+
+def unfiltered(kind: int, line: bytes, above: bytes, depth: int) -> bytes:
+    """A line of a PNG, whose bytes are told as what they differ by from those before and above."""
+    made = bytearray(line)
+    for at, byte in enumerate(line) if kind else ():
+        left, corner = (made[at - depth], above[at - depth]) if at >= depth else (0, 0)
+        near = min((left, above[at], corner), key=lambda each: abs(left + above[at] - corner - each))
+        made[at] = (byte + (left, above[at], (left + above[at]) // 2, near)[kind - 1]) % 256
+    return bytes(made)
 
 
 def points_of(path: ET.Element) -> list[tuple[float, float]]:
@@ -139,7 +180,7 @@ def letters_of(text: ET.Element) -> Letters:
         moved = re.search(rf"translate\(({NUMBER}) ({NUMBER})\)", turned)
         x, y = (moved[1], moved[2]) if moved else ("nan", "nan")
     return Letters((text.text or "").strip(), float(x), float(y), value_of(style, "fill") or "#000000",
-                   float(size[1]) if size else 0.0)
+                   float(size[1]) if size else 0.0, value_of(style, "text-anchor") or "start")
 
 
 def luminance(colour: str) -> float:
