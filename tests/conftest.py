@@ -1,4 +1,5 @@
 """The options and the fixtures of all tests."""
+import contextlib
 import pathlib
 import shutil
 from collections.abc import Iterator
@@ -7,19 +8,25 @@ import pytest
 
 pytest.register_assert_rewrite("support")
 from support.files import make_files
+from support.library import Library
 from support.needs import missing
 from support.program import Program
 
 pytest_plugins = ["support.needs", "support.fixtures"]
 
 TOP = pathlib.Path(__file__).resolve().parent.parent
+LIBRARY = TOP / "lib" / "out" / "libpfs.so.0"
 
 
 def pytest_addoption(parser: pytest.Parser) -> None:
     for name in ("pfs", "pfs_calls"):
         built = TOP / "crates" / name / "out" / name
-        parser.addoption(f"--{name.replace('_', '-')}", type=pathlib.Path, default=built, metavar="PATH",
-                         help=f"the built program {name} that is tested (default: {built})")
+        # The tests of the package for Python have an option of the same name and meaning.
+        with contextlib.suppress(ValueError):
+            parser.addoption(f"--{name.replace('_', '-')}", type=pathlib.Path, default=built, metavar="PATH",
+                             help=f"the built program {name} that is tested (default: {built})")
+    parser.addoption("--libpfs", type=pathlib.Path, default=LIBRARY, metavar="PATH",
+                     help=f"the library for C that is tested, with libpfs.a beside it (default: {LIBRARY})")
 
 
 def pytest_configure(config: pytest.Config) -> None:
@@ -55,6 +62,13 @@ def pfs_calls(pytestconfig: pytest.Config) -> Program:
     """The built test program, which `rt ci` leaves, and `make run` doesn't build."""
     path = pytestconfig.getoption("pfs_calls").resolve()
     return Program(path) if path.is_file() else missing(f"no program {path}: `rt ci` builds it")
+
+
+@pytest.fixture(scope="session")
+def libpfs(pytestconfig: pytest.Config) -> Library:
+    """The built library for C."""
+    path: pathlib.Path = pytestconfig.getoption("libpfs").resolve()
+    return Library(path) if path.is_file() else missing(f"no library {path}: `make lib` proves and builds it")
 
 
 @pytest.fixture

@@ -13,29 +13,41 @@ left: low
 right: low   # beside left
 app: left right
 other: low
+for_c staticlib: low
 """
-# What stands for rt: it notes its words, says that it has proved the crate, if it isn't built (of a program on standard
-# error, as rt does), and fails where it is told to. Of `left` and `right` each waits until the other has begun.
+# What stands for rt: it wants each crate that crates.txt names; it holds its crate's folder and that of `low`, as rt holds
+# all crates below; it notes its words, says that it has proved the crate, if it isn't built (of a program on standard
+# error, as rt does), and fails where it is told to. In a first build each of `left` and `right` waits until the other
+# has begun.
 RT = """#!/bin/sh
 crate=${PWD##*/}
-echo "begin $crate $1" >> ../../notes
-case $crate in
-left) until grep -q 'begin right' ../../notes; do sleep 0.01; done;;
-right) until grep -q 'begin left' ../../notes; do sleep 0.01; done;;
-esac
+for named in $(sed 's/[ :#].*//' ../../crates.txt); do
+    test -d "../$named" || { echo "there is no folder $named"; exit 2; }
+done
+exec 8< . 9< ../low
+flock 8
+test $crate = low || flock 9
+echo "begin $crate $1" >> "$NOTES"
+mkdir -p out/rlib
+if ! test -e out/rlib/stamp; then
+    case $crate in
+    left) until grep -q 'begin right' "$NOTES"; do sleep 0.01; done;;
+    right) until grep -q 'begin left' "$NOTES"; do sleep 0.01; done;;
+    esac
+fi
 if test $1 = run; then exec 3>&2; else exec 3>&1; fi
-test -e built || echo 'logic=proved functions=3' >&3
+test -e out/rlib/stamp || echo 'logic=proved functions=3' >&3
 if test -e failing; then echo 'goal left open' >&3; exit 1; fi
-touch built
-echo "end $crate $1" >> ../../notes
+touch out/rlib/stamp
+echo "end $crate $1" >> "$NOTES"
 if test $1 = run; then cat; fi
 """
 
 
 @pytest.fixture
 def repository(folder: pathlib.Path, top: pathlib.Path) -> pathlib.Path:
-    """A repository of five crates, in which tools/build runs a program of its own for `rt`."""
-    for crate in ("low", "left", "right", "app", "other"):
+    """A repository of six crates, in which tools/build runs a program of its own for `rt`."""
+    for crate in ("low", "left", "right", "app", "other", "for_c"):
         (folder / "crates" / crate).mkdir(parents=True)
     (folder / "crates.txt").write_text(CRATES)
     (folder / "crates" / "app" / "stdin").write_text("what app reads\n")
@@ -48,7 +60,8 @@ def repository(folder: pathlib.Path, top: pathlib.Path) -> pathlib.Path:
 
 
 def build(repository: pathlib.Path, *words: str, path: str | None = None) -> subprocess.CompletedProcess[str]:
-    env = dict(os.environ, PATH=f"{repository / 'bin'}:{os.environ['PATH']}" if path is None else path)
+    env = dict(os.environ, PATH=f"{repository / 'bin'}:{os.environ['PATH']}" if path is None else path,
+               NOTES=str(repository / "notes"))
     return subprocess.run([repository / "tools" / "build", *words], env=env, capture_output=True, text=True, timeout=30)
 
 
@@ -76,9 +89,26 @@ def test_each_crate_is_told_with_its_time_and_how_many_are_left(repository: path
 
 def test_what_was_built_before_is_not_told(repository: pathlib.Path) -> None:
     build(repository, "app")
-    (repository / "crates" / "app" / "built").unlink()
+    (repository / "crates" / "app" / "out" / "rlib" / "stamp").unlink()
     told = build(repository, "app").stderr
     assert re.fullmatch(r"app: proved and built in \d+:\d\d minutes, 0 left\n", told)
+
+
+def test_crates_that_were_built_before_wait_for_each_other(repository: pathlib.Path) -> None:
+    """A build that isn't the first works in place: none is left in a copy, whose work would be lost."""
+    build(repository, "app")
+    (repository / "notes").unlink()
+    for crate in ("left", "right"):
+        (repository / "crates" / crate / "out" / "rlib" / "stamp").write_text("")
+    assert build(repository, "app").returncode == 0
+    noted = notes(repository)[2:6]
+    assert [line.split()[0] for line in noted] == ["begin", "end", "begin", "end"]
+
+
+def test_a_static_library_is_built_and_not_run(repository: pathlib.Path) -> None:
+    done = build(repository, "for_c")
+    assert (done.returncode, done.stdout) == (0, "")
+    assert notes(repository)[-2:] == ["begin for_c lib", "end for_c lib"]
 
 
 def test_a_crate_that_fails_is_told_and_none_above_it_begins(repository: pathlib.Path) -> None:

@@ -58,6 +58,14 @@ def test_python_is_typed() -> None:
     assert done.returncode == 0
 
 
+@pytest.mark.seconds(20)
+def test_the_package_for_python_is_typed() -> None:
+    """By its own settings: its tests have names that those here have too."""
+    words = [need("mypy"), "--no-error-summary", "--cache-dir=/dev/null", "src", "tests", "examples"]
+    done = subprocess.run(words, cwd=TOP / "python", capture_output=True, text=True)
+    assert (done.stdout + done.stderr, done.returncode) == ("", 0)
+
+
 @pytest.mark.parametrize("path", scripts("python"))
 def test_pyflakes_finds_nothing(path: str) -> None:
     assert_silent([need("pyflakes3"), path])

@@ -27,6 +27,7 @@ GROWING = [
 # What each call of pfs_calls answers with ample memory.
 CALLS: dict[str, bytes] = {
     "instance": b"3 jobs, 2 machines\n",
+    "of_times": b"3 jobs, 2 machines, 6 times\n",
     "generate": b"seed 2147483646\n",
     "feed": b"49 bytes, done: true, 6 times, 3 jobs\n",
     "read_block": b"3 jobs, 2 machines\n",

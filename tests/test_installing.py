@@ -2,6 +2,7 @@
 nothing when it is taken away. The tarball and the Debian package are made twice, compared, unpacked and installed into
 empty folders, and the program runs there. All of it happens in a copy of the repository that is a repository of git of
 its own, with a kit that only tells its version and notes what it is asked."""
+import csv
 import gzip
 import hashlib
 import io
@@ -11,11 +12,12 @@ import re
 import shutil
 import subprocess
 import tarfile
-from collections.abc import Callable
+from collections.abc import Callable, Iterator
 from typing import NamedTuple
 
 import pytest
 from support.files import THREE_JOBS
+from support.library import Library
 from support.needs import missing, need
 from support.program import Program, Ran
 from support.tools import Told, printed_by, told_by, with_path, write_script
@@ -23,15 +25,41 @@ from support.tools import Told, printed_by, told_by, with_path, write_script
 PROGRAM = "crates/pfs/out/pfs"
 BASH_COMPLETION = pathlib.Path("/usr/share/bash-completion/bash_completion")
 VALUE = ["value", "--layout", "taillard"]
+TOP = pathlib.Path(__file__).resolve().parent.parent
+VERSION = (TOP / "VERSION").read_text().strip()
+PAGES = ["README.md", "CHANGELOG.md", "CITATION.cff", "CONTRIBUTING.md", "SECURITY.md", "LICENSE-MIT", "LICENSE-APACHE",
+         "experiments/README.md", "experiments/taillard.csv", "lib/pfs.h"]
+# The tools, but for what is only of the repository.
+TOOLS = [path for path in (TOP / "tools" / "gantt", *sorted((TOP / "tools").glob("*.py")),
+                           *sorted((TOP / "experiments").iterdir()))
+         if path.is_file() and (path.suffix in (".py", "") or path.name == "taillard.csv")]
 # Where each file goes below the prefix, and which one it is.
 PLACES = {
     "bin/pfs": PROGRAM,
-    "share/man/man1/pfs.1": "share/pfs.1",
+    "bin/pfs-experiments": "tools/pfs-experiments",
+    "bin/pfs-gantt": "tools/gantt",
     "share/bash-completion/completions/pfs": "share/completions/pfs.bash",
     "share/zsh/site-functions/_pfs": "share/completions/_pfs",
     "share/fish/vendor_completions.d/pfs.fish": "share/completions/pfs.fish",
+    **{f"share/doc/pfs/examples/{name}": f"experiments/{name}"
+       for name in ("best_known.csv", *(path.name for path in sorted((TOP / "experiments").glob("*.toml"))))},
+    **{f"share/man/man1/{page.name}": f"share/{page.name}" for page in sorted((TOP / "share").glob("*.1"))},
+    **{f"share/doc/pfs/{page}": page for page in PAGES},
+    **{f"share/doc/pfs/{page.parent.name}/{page.name}": f"{page.parent.name}/{page.name}"
+       for page in (*sorted((TOP / "docs").iterdir()), *sorted((TOP / "examples").glob("*")),
+                    *(TOP / "python").glob("README.md"))},
+    **{f"share/doc/pfs/python/examples/{page.name}": f"python/examples/{page.name}"
+       for page in sorted((TOP / "python" / "examples").glob("*.py"))},
+    **{f"libexec/pfs/{path.relative_to(TOP)}": str(path.relative_to(TOP)) for path in TOOLS},
 }
-COPIED = ["Makefile", "README.md", "crates", "crates.txt", "docs", "share", "tools"]
+# Which folders the installation has made.
+NOTES = "libexec/pfs/installed-folders"
+# What the library's installation has beside links.
+LIBRARY = {"lib/libpfs.a": "lib/out/libpfs.a", "lib/libpfs.so.0": "lib/out/libpfs.so.0",
+           "lib/libpfs.so": "lib/out/libpfs.so.0", "include/pfs.h": "lib/pfs.h"}
+COPIED = ["CHANGELOG.md", "CITATION.cff", "CONTRIBUTING.md", "HANDLES", "LICENSE-APACHE", "LICENSE-MIT", "Makefile",
+          "README.md", "SECURITY.md", "VERSION", "crates", "crates.txt", "docs", "experiments", "lib", "share", "tools",
+          *(name for name in ("examples", "python") if (TOP / name).is_dir())]
 KIT = "rattle-kit-7x logic {logic}"
 RT = """#!/bin/sh
 case $1 in
@@ -44,7 +72,7 @@ esac
 OLD, NEW = 1_000_000_000, 1_100_000_000
 
 # so that the copy and the packages are made once
-pytestmark = [pytest.mark.xdist_group("installing"), pytest.mark.seconds(20)]
+pytestmark = [pytest.mark.xdist_group("installing"), pytest.mark.seconds(60)]
 
 
 class Copy(NamedTuple):
@@ -172,19 +200,24 @@ def variables(prefix: str, root: pathlib.Path) -> list[str]:
 
 def test_an_installation_has_these_files(installed: Installed, copy: Copy) -> None:
     prefix = installed.prefix.relative_to(installed.root)
-    assert_same_files(files_below(installed.root),
-                      {str(prefix / place): (copy.top / file).read_bytes() for place, file in PLACES.items()})
+    found = files_below(installed.root)
+    del found[str(prefix / NOTES)]
+    assert_same_files(found, {str(prefix / place): (copy.top / file).read_bytes() for place, file in PLACES.items()})
 
 
 @pytest.mark.parametrize("place", PLACES)
 def test_an_installed_file_has_the_usual_mode(installed: Installed, place: str) -> None:
-    assert (installed.prefix / place).stat().st_mode & 0o777 == (0o755 if place == "bin/pfs" else 0o644)
+    is_run = place.startswith("bin/") or "libexec" in place and not place.endswith((".py", ".csv"))
+    assert (installed.prefix / place).stat().st_mode & 0o777 == (0o755 if is_run else 0o644)
 
 
-def test_the_manual_page_stands_in_its_own_section(installed: Installed) -> None:
-    page, = installed.prefix.glob("share/man/*/*")
-    section = re.search(r"^\.Dt PFS (\d)$", page.read_text(), re.MULTILINE)
-    assert section and (page.parent.name, page.suffix) == (f"man{section[1]}", f".{section[1]}")
+def test_each_manual_page_stands_in_its_own_section_and_is_of_a_program(installed: Installed) -> None:
+    pages = list(installed.prefix.glob("share/man/*/*"))
+    assert {page.stem for page in pages} == {path.name for path in (installed.prefix / "bin").iterdir()}
+    for page in pages:
+        section = re.search(r"^\.Dt (\S+) (\d)$", page.read_text(), re.MULTILINE)
+        assert section and section[1] == page.stem.upper()
+        assert (page.parent.name, page.suffix) == (f"man{section[2]}", f".{section[2]}")
 
 
 def test_the_installed_program_runs(installed: Installed, folder: pathlib.Path) -> None:
@@ -215,9 +248,156 @@ def test_what_others_have_installed_stays(copy: Copy, folder: pathlib.Path) -> N
     other.parent.mkdir(parents=True)
     other.write_text("another page\n")
     assert copy.make("install", f"PREFIX={folder}").status == 0
-    assert set(files_below(folder)) == {*PLACES, "share/man/man1/other.1"}
+    assert set(files_below(folder)) == {*PLACES, NOTES, "share/man/man1/other.1"}
     assert copy.make("uninstall", f"PREFIX={folder}").status == 0
     assert set(files_below(folder)) == {"share/man/man1/other.1"}
+
+
+def folders_below(folder: pathlib.Path) -> set[str]:
+    return {str(path.relative_to(folder)) for path in folder.rglob("*") if path.is_dir()}
+
+
+def left_below(folder: pathlib.Path) -> list[str]:
+    """All that is no folder, also a link that leads nowhere."""
+    return [str(path.relative_to(folder)) for path in folder.rglob("*") if not path.is_dir()]
+
+
+# Some of the folders that Debian makes before anything is installed in them.
+FRESH = {"usr", "usr/local", "usr/local/bin", "usr/local/lib", "usr/local/share", "usr/local/share/man"}
+
+
+@pytest.mark.parametrize("times", [1, 2])
+def test_the_empty_folders_of_a_fresh_system_stay(times: int, copy: Copy, folder: pathlib.Path) -> None:
+    """Also where an installation is made over another one."""
+    for path in FRESH:
+        (folder / path).mkdir(parents=True, exist_ok=True)
+    for _ in range(times):
+        assert copy.make("install", f"DESTDIR={folder}") == Told(0, "", "")
+    assert "usr/local/share/man/man1" in folders_below(folder)
+    assert copy.make("uninstall", f"DESTDIR={folder}") == Told(0, "", "")
+    assert (folders_below(folder), left_below(folder)) == (FRESH, [])
+
+
+def test_an_installation_that_was_moved_says_nothing_of_the_folders_that_it_came_to(copy: Copy,
+                                                                                   folder: pathlib.Path) -> None:
+    """What was made in a stage isn't taken for what was made where its files went."""
+    for path in FRESH:
+        (folder / "root" / path).mkdir(parents=True, exist_ok=True)
+    assert copy.make("install", f"DESTDIR={folder}/stage").status == 0
+    shutil.copytree(folder / "stage", folder / "root", dirs_exist_ok=True, symlinks=True)
+    assert copy.make("uninstall", f"DESTDIR={folder}/root").status == 0
+    assert left_below(folder / "root") == []
+    assert FRESH <= folders_below(folder / "root")
+
+
+def test_taking_away_what_is_not_there_is_no_failure(copy: Copy, folder: pathlib.Path) -> None:
+    (folder / "usr" / "local" / "bin").mkdir(parents=True)
+    assert copy.make("uninstall", f"DESTDIR={folder}") == Told(0, "", "")
+    assert folders_below(folder) == {"usr", "usr/local", "usr/local/bin"}
+
+
+# The tools
+
+def tools_of(prefix: pathlib.Path) -> dict[str, str]:
+    """The environment of somebody who has installed these programs."""
+    return with_path(prefix / "bin")
+
+
+@pytest.mark.usefixtures("matplotlib")
+def test_the_installed_gantt_draws(installed: Installed, folder: pathlib.Path) -> None:
+    (folder / "table").write_text("table 1 1\n1 0 5\nmakespan 5\n")
+    printed_by(["pfs-gantt", "table", "chart.svg"], folder, env=tools_of(installed.prefix))
+    assert "<svg" in (folder / "chart.svg").read_text()
+
+
+def test_the_installed_experiments_name_their_scripts(installed: Installed, folder: pathlib.Path) -> None:
+    told = told_by(["pfs-experiments"], folder, env=tools_of(installed.prefix))
+    wanted = sorted(path.name for path in TOOLS if path.parent.name == "experiments" and os.access(path, os.X_OK)
+                    and path.name != "one")
+    assert (told.status, told.stdout) == (2, "")
+    assert sorted(told.stderr.removeprefix("usage: pfs-experiments ").split(" ")[0].split("|")) == wanted
+
+
+@pytest.mark.parametrize("words", ["one", "plan.py", "../tools/gantt", "taillard.csv", "no"])
+def test_what_is_no_script_of_experiments_is_refused(words: str, installed: Installed, folder: pathlib.Path) -> None:
+    told = told_by(["pfs-experiments", words], folder, env=tools_of(installed.prefix))
+    assert (told.status, told.stdout, told.stderr.count("\n")) == (2, "", 1)
+
+
+@pytest.mark.usefixtures("matplotlib")
+def test_the_installed_experiments_run_and_report(installed: Installed, folder: pathlib.Path) -> None:
+    """The way of the manual page, with a smaller plan."""
+    need("parallel")
+    (folder / "plan.toml").write_text('instances = ["all/ta00[12]"]\nrounds = [0, 5]\n')
+    # elsewhere than the program that is tested there is none
+    env = tools_of(installed.prefix) | {"HOME": str(folder)}
+    for words in ("taillard all", "run plan.toml runs.csv", "report runs.csv report"):
+        assert told_by(["pfs-experiments", *words.split()], folder, env=env).status == 0, words
+    with open(folder / "runs.csv", newline="") as file:
+        statuses = [row["status"] for row in csv.DictReader(file)]
+    assert len(list((folder / "all").iterdir())) == 120
+    assert statuses == ["ok"] * 4
+    assert (folder / "report" / "table.md").exists()
+
+
+# The library for C
+
+CALLER = """#include <pfs.h>
+#include <stdio.h>
+int main(void) { return printf("%s %s\\n", pfs_version(), PFS_VERSION) < 0; }
+"""
+
+
+@pytest.fixture
+def library(copy: Copy) -> Iterator[pathlib.Path]:
+    """A library that stands in for the proved one: its texts alone, which are no proved functions."""
+    need("cc")
+    out = copy.top / "lib" / "out"
+    out.mkdir()
+    for words in (["cc", "-fPIC", "-c", "lib/pfs_text.c", "-o", "lib/out/pfs_text.o"],
+                  ["cc", "-shared", "-Wl,-soname,libpfs.so.0", "-o", "lib/out/libpfs.so.0", "lib/out/pfs_text.o"],
+                  ["ar", "rcD", "lib/out/libpfs.a", "lib/out/pfs_text.o"]):
+        printed_by([*words], copy.top)
+    yield out
+    shutil.rmtree(out)
+
+
+@pytest.fixture(params=["install", "install-lib"])
+def with_library(request: pytest.FixtureRequest, library: pathlib.Path, copy: Copy,
+                 folder: pathlib.Path) -> pathlib.Path:
+    """The prefix of an installation that has the library, with the program or alone."""
+    assert library.is_dir()
+    assert copy.make(request.param, f"PREFIX={folder}/place") == Told(0, "", "")
+    return folder / "place"
+
+
+def test_the_librarys_installation_has_these_files(with_library: pathlib.Path, copy: Copy) -> None:
+    found = {path: text for path, text in files_below(with_library).items() if path.startswith(("lib/", "include/"))}
+    config = found.pop("lib/pkgconfig/pfs.pc").decode()
+    assert_same_files(found, {place: (copy.top / file).read_bytes() for place, file in LIBRARY.items()})
+    assert f"prefix={with_library}\n" in config and f"\nVersion: {VERSION}\n" in config and "@" not in config
+    assert os.readlink(with_library / "lib" / "libpfs.so") == "libpfs.so.0"
+    assert {(with_library / path).stat().st_mode & 0o777 for path in LIBRARY} == {0o644}
+    assert set(files_below(with_library)) >= set(PLACES) or not (with_library / "bin").exists()
+
+
+@pytest.mark.parametrize("how", ["shared", "static"])
+def test_a_program_is_built_over_the_installed_library(how: str, with_library: pathlib.Path,
+                                                       folder: pathlib.Path) -> None:
+    need("pkg-config")
+    (folder / "caller.c").write_text(CALLER)
+    env = dict(os.environ, PKG_CONFIG_PATH=str(with_library / "lib" / "pkgconfig"))
+    flags = printed_by(["pkg-config", "--cflags", "--libs", "pfs"], folder, env=env).split()
+    if how == "static":
+        flags = [word if word != "-lpfs" else "-l:libpfs.a" for word in flags]
+    printed_by(["cc", "caller.c", "-o", "caller", *flags], folder)
+    told = printed_by(["./caller"], folder, env=dict(os.environ, LD_LIBRARY_PATH=str(with_library / "lib")))
+    assert told == f"{VERSION} {VERSION}\n"
+
+
+def test_nothing_is_left_of_the_library(with_library: pathlib.Path, copy: Copy) -> None:
+    assert copy.make("uninstall", f"PREFIX={with_library}") == Told(0, "", "")
+    assert not with_library.exists()
 
 
 # Building before that
@@ -296,8 +476,9 @@ class Made(NamedTuple):
     folder: pathlib.Path
     files: dict[str, bytes]
 
-    def path(self, ending: str) -> pathlib.Path:
-        name, = (name for name in self.files if name.endswith(ending))
+    def path(self, part: str) -> pathlib.Path:
+        """The one whose name has this part, or begins with it where a slash stands before."""
+        name, = (name for name in self.files if part in f"/{name}")
         return self.folder / name
 
 
@@ -336,9 +517,10 @@ def unpacked(made: Made, tmp_path_factory: pytest.TempPathFactory) -> pathlib.Pa
 
 @pytest.fixture(scope="module")
 def extracted(made: Made, tmp_path_factory: pytest.TempPathFactory) -> pathlib.Path:
-    """The root of the package."""
+    """The root in which the packages of the program and of the tools are."""
     folder = tmp_path_factory.mktemp("extracted")
-    printed_by(["dpkg-deb", "--extract", made.path(".deb"), "."], folder)
+    for package in ("/pfs_", "/pfs-tools_"):
+        printed_by(["dpkg-deb", "--extract", made.path(package), "."], folder)
     return folder
 
 
@@ -347,24 +529,73 @@ def commit_time(copy: Copy) -> int:
 
 
 def version(copy: Copy) -> str:
-    return "0." + copy.git("log", "-1", "--format=%cd", "--date=format-local:%Y%m%d.%H%M%S").strip()
-
-
-def test_a_tarball_a_package_and_their_sums_are_made(made: Made, copy: Copy) -> None:
+    """Of what is made of a commit without a tag."""
     env = copy.env | {"TZ": "UTC"}
-    told = version(Copy(copy.top, env))
-    assert sorted(made.files) == sorted([f"pfs-{told}-linux-x86_64.tar.gz", f"pfs_{told}_amd64.deb", "SHA256SUMS"])
+    return f"{VERSION}~" + Copy(copy.top, env).git("log", "-1", "--format=%cd",
+                                                   "--date=format-local:%Y%m%d.%H%M%S").strip()
 
 
-@pytest.mark.parametrize("ending", [".tar.gz", ".deb", "SHA256SUMS"])
+def names(told: str, *libraries: str) -> list[str]:
+    """What is made of this version."""
+    return sorted(["SHA256SUMS", f"pfs-{told}-linux-x86_64.tar.gz", f"pfs_{told}-1_amd64.deb",
+                   f"pfs-tools_{told}-1_all.deb", *(f"{name}_{told}-1_amd64.deb" for name in libraries),
+                   *([f"python3-pfs_{told}-1_all.deb"] if libraries else [])])
+
+
+def test_a_tarball_packages_and_their_sums_are_made(made: Made, copy: Copy) -> None:
+    assert sorted(made.files) == names(version(copy))
+
+
+def test_a_commit_that_is_tagged_with_the_version_has_it_alone(copy: Copy, folder: pathlib.Path) -> None:
+    copy.git("tag", f"v{VERSION}")
+    try:
+        assert sorted(made_in(copy, folder).files) == names(VERSION)
+    finally:
+        copy.git("tag", "-d", f"v{VERSION}")
+
+
+def test_the_library_has_packages_where_it_is_built(library: pathlib.Path, copy: Copy, folder: pathlib.Path) -> None:
+    assert library.is_dir()
+    made = made_in(copy, folder / "dist")
+    assert sorted(made.files) == names(version(copy), "libpfs0", "libpfs-dev")
+    for name in ("libpfs0", "libpfs-dev"):
+        printed_by(["dpkg-deb", "--extract", made.path(name), "root"], folder)
+        assert errors_of_lintian(made.path(name)) == ""
+    libraries = "usr/lib/x86_64-linux-gnu"
+    found = {path for path in files_below(folder / "root") if "/share/doc/" not in path}
+    assert found == {f"{libraries}/libpfs.a", f"{libraries}/libpfs.so.0", f"{libraries}/libpfs.so",
+                     f"{libraries}/pkgconfig/pfs.pc", "usr/include/pfs.h"}
+    config = (folder / "root" / libraries / "pkgconfig" / "pfs.pc").read_text()
+    assert "prefix=/usr\nlibdir=${prefix}/lib/x86_64-linux-gnu\n" in config
+    assert printed_by(["dpkg-deb", "--field", made.path("libpfs-dev"), "Depends"], folder) \
+        == f"libpfs0 (= {version(copy)}-1)\n"
+
+
+@pytest.mark.seconds(20)
+def test_the_package_for_python_runs(library: pathlib.Path, copy: Copy, folder: pathlib.Path, libpfs: Library) -> None:
+    """Where it is unpacked, over the proved library: a makespan by hand, and a chart."""
+    assert library.is_dir()
+    made = made_in(copy, folder / "dist")
+    printed_by(["dpkg-deb", "--extract", made.path("python3-pfs"), "root"], folder)
+    assert errors_of_lintian(made.path("python3-pfs")) == ""
+    assert printed_by(["dpkg-deb", "--field", made.path("python3-pfs"), "Depends"], folder) \
+        == f"libpfs0 (>= {VERSION}~), python3 (>= 3.11), python3-numpy\n"
+    env = dict(os.environ, PYTHONPATH=str(folder / "root" / "usr/lib/python3/dist-packages"),
+               PFS_LIBRARY=str(libpfs.path))
+    told = printed_by(["/usr/bin/python3", "-c", "import pfs; shop = pfs.Instance([[3, 2], [2, 5], [4, 1]]); "
+                       "print(shop.makespan([0, 1, 2])); shop.schedule([0, 1, 2]).plot('chart.svg')"], folder, env=env)
+    assert told == "11\n"
+    assert (folder / "chart.svg").stat().st_size > 0
+
+
+@pytest.mark.parametrize("ending", [".tar.gz", "/pfs_", "/pfs-tools", "SHA256SUMS"])
 def test_made_again_it_has_the_same_bytes(ending: str, made: Made, made_again: Made) -> None:
     assert made_again.path(ending).name == made.path(ending).name
     assert made_again.path(ending).read_bytes() == made.path(ending).read_bytes()
 
 
 def test_the_names_are_by_the_time_of_the_sources(copy: Copy, folder: pathlib.Path) -> None:
-    assert sorted(made_in(copy, folder, SOURCE_DATE_EPOCH="1000000000").files) \
-        == ["SHA256SUMS", "pfs-0.20010909.014640-linux-x86_64.tar.gz", "pfs_0.20010909.014640_amd64.deb"]
+    assert sorted(made_in(copy, folder, SOURCE_DATE_EPOCH="1000000000").files) == names(f"{VERSION}~20010909.014640")
 
 
 def test_a_program_of_another_kit_is_refused(copy: Copy, folder: pathlib.Path) -> None:
@@ -396,8 +627,10 @@ def test_the_sums_in_the_tarball_are_right(unpacked: pathlib.Path) -> None:
     assert listed == real
 
 
-def test_the_sums_in_the_package_are_right(extracted: pathlib.Path) -> None:
-    listed, real = sums_of(extracted, extracted / "usr" / "share" / "doc" / "pfs" / "SHA256SUMS")
+@pytest.mark.parametrize("package", ["pfs", "pfs-tools"])
+def test_the_sums_in_a_package_are_right(package: str, made: Made, folder: pathlib.Path) -> None:
+    printed_by(["dpkg-deb", "--extract", made.path(f"/{package}_"), "."], folder)
+    listed, real = sums_of(folder / "usr", folder / "usr" / "share" / "doc" / package / "SHA256SUMS")
     assert listed == real
 
 
@@ -407,24 +640,50 @@ PROVED = "pfs {version}\nproved at the commit {commit}\nwith the kit {kit}\n"
 @pytest.mark.parametrize("which", ["unpacked", "extracted"])
 def test_what_is_made_tells_its_commit_and_its_kit(which: str, copy: Copy, request: pytest.FixtureRequest) -> None:
     folder = request.getfixturevalue(which) / ("usr" if which == "extracted" else "")
-    wanted = PROVED.format(version=version(Copy(copy.top, copy.env | {"TZ": "UTC"})), kit=copy.kit(),
-                           commit=copy.git("rev-parse", "HEAD").strip())
+    wanted = PROVED.format(version=version(copy), kit=copy.kit(), commit=copy.git("rev-parse", "HEAD").strip())
     assert (folder / "share" / "doc" / "pfs" / "PROVED").read_text() == wanted
 
 
-@pytest.mark.parametrize("name", ["README.md", "another file"])
+def commit_told(copy: Copy, folder: pathlib.Path) -> str:
+    """What is told of the commit of which packages are made."""
+    package = made_in(copy, folder).path("/pfs_")
+    printed_by(["dpkg-deb", "--extract", package, "extracted"], folder)
+    return (folder / "extracted" / "usr" / "share" / "doc" / "pfs" / "PROVED").read_text().splitlines()[1]
+
+
+@pytest.mark.parametrize("name", ["README.md", "docs/PROOFS.md", "crates/pfs_base/src/another.rt", "lib/another.c"])
 def test_what_is_made_tells_that_changes_are_not_committed(name: str, copy: Copy, folder: pathlib.Path) -> None:
     path = copy.top / name
     before = path.read_text() if path.exists() else None
     try:
         path.write_text("another text\n")
-        package = made_in(copy, folder).path(".deb")
+        told = commit_told(copy, folder)
     finally:
         path.unlink() if before is None else path.write_text(before)
-    printed_by(["dpkg-deb", "--extract", package, "extracted"], folder)
-    told = (folder / "extracted" / "usr" / "share" / "doc" / "pfs" / "PROVED").read_text()
-    commit = copy.git("rev-parse", "HEAD").strip()
-    assert told.splitlines()[1] == f"proved at the commit {commit}, with changes that are not committed", "PROVED"
+    assert told == f"proved at the commit {copy.git('rev-parse', 'HEAD').strip()}, with changes that are not committed"
+
+
+def test_what_examples_leave_behind_is_no_change(copy: Copy, pfs: Program, folder: pathlib.Path) -> None:
+    """README's examples are followed in the repository's folder, as are the lines on experiments, but for the runs."""
+    before = {path.name for path in copy.top.iterdir()}
+    env = copy.env | {"PATH": f"{folder}:{copy.env['PATH']}"}
+    shutil.copy(pfs.path, folder / "pfs")
+    readme = (copy.top / "README.md").read_text()
+    for line in re.findall(r"^\$ ((?:.|\n> )*)$", readme, re.MULTILINE):
+        told_by(["bash", "-c", line], copy.top, env=env)
+    experiments = set(re.findall(r" (\w+\.(?:csv|toml))", readme))
+    folders = [f"{name}.d/results/1" for name in experiments]
+    for name in (*experiments, *folders, "out/taillard/ta001", "report/gap.png"):
+        (copy.top / name).parent.mkdir(parents=True, exist_ok=True)
+        (copy.top / name).write_text("text\n")
+    made = {path.name for path in copy.top.iterdir()} - before
+    try:
+        assert {"three", "instance", "instances", "example.csv", "report"} <= made
+        assert commit_told(copy, folder) == f"proved at the commit {copy.git('rev-parse', 'HEAD').strip()}"
+    finally:
+        for name in made:
+            path = copy.top / name
+            shutil.rmtree(path) if path.is_dir() else path.unlink()
 
 
 # The tarball
@@ -445,49 +704,131 @@ def test_what_is_packed_tells_neither_time_nor_name(path: str, made: Made, extra
     assert (head[3], head[4:8]) == (0, bytes(4)), "flags and time of gzip"
 
 
-def docs_below(copy: Copy) -> dict[str, bytes]:
-    """The pages that go beside the program."""
-    return {f"share/doc/pfs/docs/{name}": text for name, text in files_below(copy.top / "docs").items()} \
-        | {"share/doc/pfs/README.md": (copy.top / "README.md").read_bytes()}
-
-
-def without_notes(found: dict[str, bytes], prefix: str = "") -> dict[str, bytes]:
+def without_notes(found: dict[str, bytes]) -> dict[str, bytes]:
     """The files but those that are made for the packages."""
     return {path: text for path, text in found.items()
-            if path not in (f"{prefix}share/doc/pfs/PROVED", f"{prefix}share/doc/pfs/SHA256SUMS")}
+            if path not in ("share/doc/pfs/PROVED", "share/doc/pfs/SHA256SUMS")}
 
 
 def test_the_tarball_has_the_installed_files_and_the_pages(unpacked: pathlib.Path, copy: Copy) -> None:
     wanted = {place: (copy.top / file).read_bytes() for place, file in PLACES.items()}
-    assert_same_files(without_notes(files_below(unpacked)), wanted | docs_below(copy))
+    assert_same_files(without_notes(files_below(unpacked)), wanted)
 
 
 def test_the_tarballs_program_runs(unpacked: pathlib.Path, folder: pathlib.Path) -> None:
     assert_runs(unpacked / "bin" / "pfs", folder)
 
 
-def test_readmes_line_unpacks_the_tarball_where_shells_look(made: Made, unpacked: pathlib.Path, copy: Copy,
-                                                            folder: pathlib.Path) -> None:
-    line = re.search("^sudo (tar .*)$", (copy.top / "README.md").read_text(), re.MULTILINE)
-    assert line and "/usr/local" in line[1]
-    local = folder / "root" / "usr" / "local"
-    local.mkdir(parents=True)
-    printed_by(["bash", "-c", line[1].replace("/usr/local", str(local))], made.folder)
-    assert_same_files(files_below(local), files_below(unpacked))
+@pytest.fixture
+def local(folder: pathlib.Path) -> pathlib.Path:
+    """A folder /usr/local as it may be, with a mode and a link of its own."""
+    made = folder / "root" / "usr" / "local"
+    for path in (made / "share", made / "man"):
+        path.mkdir(parents=True)
+    made.chmod(0o2775)
+    (made / "share").chmod(0o2775)
+    (made / "share" / "man").symlink_to("../man")
+    return made
+
+
+def line_of_readme(pattern: str, copy: Copy, local: pathlib.Path) -> str:
+    """A line of README, as it is run without sudo at this folder."""
+    found = re.search(pattern, (copy.top / "README.md").read_text(), re.MULTILINE)
+    assert found and "/usr/local" in found[0], pattern
+    return found[0].replace("sudo ", "").replace("/usr/local", str(local))
+
+
+def test_readmes_lines_put_the_tarball_there_and_take_it_away(made: Made, unpacked: pathlib.Path, copy: Copy,
+                                                              local: pathlib.Path, folder: pathlib.Path) -> None:
+    printed_by(["bash", "-c", line_of_readme("^sudo tar .*$", copy, local)], made.folder)
+    assert (local / "share" / "man").is_symlink()
+    found = {re.sub("^man/", "share/man/", path): text for path, text in files_below(local).items()}
+    assert_same_files(found, files_below(unpacked))
+    assert [path.stat().st_mode & 0o7777 for path in (local, local / "share")] == [0o2775, 0o2775]
     found_by_zsh(folder / "root", folder)
+    printed_by(["bash", "-c", line_of_readme("^.*share/doc/pfs/SHA256SUMS .*$", copy, local)], made.folder)
+    assert left_below(local) == [] and (local / "share" / "man").is_symlink()
+    assert not (local / "libexec" / "pfs").exists()
 
 
 # The package
 
-def test_the_package_has_its_files_where_debian_looks(extracted: pathlib.Path, copy: Copy) -> None:
+DEBIAN_PAGES = {"copyright", "changelog.gz", "changelog.Debian.gz", "SHA256SUMS"}
+
+
+def test_the_packages_have_their_files_where_debian_looks(extracted: pathlib.Path, copy: Copy, pfs: Program,
+                                                          folder: pathlib.Path) -> None:
+    """The program without its symbols, packed manual pages and changelogs, and the licences in the file copyright."""
     wanted = {f"usr/{place}": (copy.top / file).read_bytes() for place, file in PLACES.items()}
     wanted["usr/share/zsh/vendor-completions/_pfs"] = wanted.pop("usr/share/zsh/site-functions/_pfs")
-    page = wanted.pop("usr/share/man/man1/pfs.1")
-    found = without_notes(files_below(extracted), "usr/")
-    packed = "usr/share/man/man1/pfs.1.gz"
-    assert [path for path in found if "/man/" in path] == [packed], "where the manual page is"
-    assert gzip.decompress(found.pop(packed)) == page
-    assert_same_files(found, wanted | {f"usr/{place}": text for place, text in docs_below(copy).items()})
+    shutil.copy(pfs.path, folder / "stripped")
+    printed_by(["strip", "stripped"], folder)
+    wanted["usr/bin/pfs"] = (folder / "stripped").read_bytes()
+    changes = wanted.pop("usr/share/doc/pfs/CHANGELOG.md")
+    for name in ("LICENSE-MIT", "LICENSE-APACHE"):
+        del wanted[f"usr/share/doc/pfs/{name}"]
+    found = files_below(extracted)
+    del found["usr/share/doc/pfs/PROVED"]
+    for package in ("pfs", "pfs-tools"):
+        pages = {name: found.pop(f"usr/share/doc/{package}/{name}") for name in DEBIAN_PAGES}
+        assert gzip.decompress(pages["changelog.gz"]) == changes
+        assert gzip.decompress(pages["changelog.Debian.gz"]).decode().startswith(f"pfs ({version(copy)}-1) unstable;")
+        assert b"\nLicense: MIT\n Permission is hereby granted" in pages["copyright"]
+    for path in [path for path in found if "/man/" in path]:
+        found[path.removesuffix(".gz")] = gzip.decompress(found.pop(path))
+    python = b"#!/usr/bin/env python3\n", b"#!/usr/bin/python3\n"
+    assert_same_files(found, {place: text.replace(*python, 1) if "libexec" in place else text
+                              for place, text in wanted.items()})
+
+
+def errors_of_lintian(package: pathlib.Path) -> str:
+    """The lines of lintian that tell an error."""
+    words = [need("lintian"), "--allow-root", "--fail-on", "none", "--display-level", "=error"]
+    return printed_by([*words, package], package.parent)
+
+
+@pytest.mark.parametrize("package", ["/pfs_", "/pfs-tools_"])
+def test_lintian_finds_no_error(package: str, made: Made) -> None:
+    assert errors_of_lintian(made.path(package)) == ""
+
+
+def test_lintian_tells_an_error_where_there_is_one(made: Made, folder: pathlib.Path) -> None:
+    printed_by(["dpkg-deb", "--raw-extract", made.path("/pfs_"), "root"], folder)
+    (folder / "root" / "usr" / "share" / "doc" / "pfs" / "copyright").unlink()
+    printed_by(["dpkg-deb", "--root-owner-group", "--build", "root", "worse.deb"], folder)
+    assert "no-copyright-file" in errors_of_lintian(folder / "worse.deb")
+
+
+# README where it is installed
+
+def test_the_pages_to_which_the_packages_pages_link_are_there(extracted: pathlib.Path) -> None:
+    folder = extracted / "usr" / "share" / "doc" / "pfs"
+    for page in folder.rglob("*.md"):
+        named = [name for name in re.findall(r"\]\(([^)#]+)\)", page.read_text()) if "://" not in name]
+        assert [name for name in named if not (page.parent / name).exists()] == [], page.relative_to(folder)
+
+
+@pytest.mark.usefixtures("matplotlib")
+def test_readmes_examples_run_with_what_the_packages_hold(extracted: pathlib.Path, folder: pathlib.Path) -> None:
+    """In an empty folder, one behind the other; none says that something isn't there."""
+    lines = re.findall(r"^\$ (.*)$", (extracted / "usr/share/doc/pfs/README.md").read_text(), re.MULTILINE)
+    env = tools_of(extracted / "usr")
+    assert len(lines) > 10 and any("pfs-gantt" in line for line in lines)
+    for line in lines:
+        told = told_by(["bash", "-c", line], folder, env=env)
+        assert not re.search("not found|No such file|no such file", told.stderr), f"{line}: {told}"
+    assert (folder / "gantt.png").exists()
+
+
+def test_readmes_experiments_begin_with_files_that_the_packages_hold(extracted: pathlib.Path,
+                                                                     folder: pathlib.Path) -> None:
+    readme = (extracted / "usr/share/doc/pfs/README.md").read_text()
+    named = set(re.findall(r"(/usr/share/doc/\S+)", readme))
+    assert named and [name for name in named if not (extracted / name[1:]).exists()] == []
+    printed_by(["pfs-experiments", "taillard", "out/taillard"], folder, env=tools_of(extracted / "usr"))
+    plan = (extracted / "usr/share/doc/pfs/examples/example.toml").read_text()
+    patterns = re.findall(r'"(out/[^"]*)"', plan)
+    assert patterns and all(list(folder.glob(pattern)) for pattern in patterns)
 
 
 def test_shells_find_the_packages_completions(extracted: pathlib.Path, folder: pathlib.Path) -> None:
@@ -497,12 +838,13 @@ def test_shells_find_the_packages_completions(extracted: pathlib.Path, folder: p
 
 
 def field(made: Made, name: str) -> str:
-    return printed_by(["dpkg-deb", "--field", made.path(".deb"), name], made.folder).strip()
+    return printed_by(["dpkg-deb", "--field", made.path("/pfs_"), name], made.folder).strip()
 
 
-def test_the_package_tells_its_installed_size(made: Made, extracted: pathlib.Path) -> None:
+def test_the_package_tells_its_installed_size(made: Made, folder: pathlib.Path) -> None:
     """In kibibytes, each file by itself."""
-    sizes = [-(-len(text) // 1024) for text in files_below(extracted).values()]
+    printed_by(["dpkg-deb", "--extract", made.path("/pfs_"), "."], folder)
+    sizes = [-(-len(text) // 1024) for text in files_below(folder).values()]
     assert field(made, "Installed-Size") == str(sum(sizes)), "kibibytes that the package tells"
 
 
@@ -520,8 +862,31 @@ def test_the_packages_version_is_that_of_its_name(made: Made) -> None:
     assert f"pfs_{field(made, 'Version')}_amd64.deb" in made.files
 
 
+# One version
+
+def numbers_told(top: pathlib.Path) -> dict[str, list[str]]:
+    """The version that each file tells; only the package for Python need not be there."""
+    patterns = {"CHANGELOG.md": r"^## \[(\d.*?)\]", "CITATION.cff": r"^version: (.*)$",
+                "lib/pfs.h": r'^#define PFS_VERSION "(.*)"$', "share/pfs.1": r"^\.Os pfs (.*)$",
+                "share/pfs-gantt.1": r"^\.Os pfs (.*)$", "share/pfs-experiments.1": r"^\.Os pfs (.*)$",
+                "python/src/pfs/_version.py": r'^VERSION\b.* = "(.*)"$'}
+    return {name: re.findall(pattern, (top / name).read_text(), re.MULTILINE)[:1]
+            for name, pattern in patterns.items() if "python" not in name or (top / name).exists()}
+
+
+def test_all_that_tells_a_version_tells_the_same(top: pathlib.Path) -> None:
+    assert numbers_told(top) == dict.fromkeys(numbers_told(top), [VERSION])
+
+
+def test_a_tag_of_a_version_is_of_a_version_that_the_changelog_has(top: pathlib.Path) -> None:
+    if (top / ".git").exists():
+        tags = printed_by([need("git"), "tag", "--list", "v[0-9]*"], top).split()
+        listed = re.findall(r"^## \[(\d.*?)\]", (top / "CHANGELOG.md").read_text(), re.MULTILINE)
+        assert set(tags) <= {f"v{number}" for number in listed}
+
+
 def test_all_in_the_package_is_roots_at_the_commits_time(made: Made, copy: Copy) -> None:
-    done = subprocess.run(["dpkg-deb", "--fsys-tarfile", str(made.path(".deb"))], capture_output=True, check=True)
+    done = subprocess.run(["dpkg-deb", "--fsys-tarfile", str(made.path("/pfs_"))], capture_output=True, check=True)
     with tarfile.open(fileobj=io.BytesIO(done.stdout)) as tar:
         members = tar.getmembers()
     assert {(it.uid, it.gid, it.mtime) for it in members} == {(0, 0, commit_time(copy))}
@@ -532,7 +897,7 @@ def test_the_packages_program_runs(extracted: pathlib.Path, folder: pathlib.Path
 
 
 def test_the_package_is_installed_into_an_empty_root_and_leaves_nothing(
-        made: Made, extracted: pathlib.Path, pfs: Program, folder: pathlib.Path) -> None:
+        made: Made, pfs: Program, folder: pathlib.Path) -> None:
     need("dpkg")
     if os.geteuid() != 0:
         missing("only root installs a package")
@@ -542,8 +907,9 @@ def test_the_package_is_installed_into_an_empty_root_and_leaves_nothing(
     # in which nothing is installed but the C library
     (root / "var" / "lib" / "dpkg" / "status").write_text(printed_by(["dpkg-query", "--status", "libc6"], folder))
     dpkg: list[str | pathlib.Path] = ["dpkg", f"--root={root}", f"--log={folder / 'log'}"]
-    printed_by([*dpkg, "--install", made.path(".deb")], folder)
-    assert_same_files(files_below(root / "usr"), files_below(extracted / "usr"))
+    printed_by([*dpkg, "--install", made.path("/pfs_")], folder)
+    printed_by(["dpkg-deb", "--extract", made.path("/pfs_"), "extracted"], folder)
+    assert_same_files(files_below(root / "usr"), files_below(folder / "extracted" / "usr"))
     for library in re.findall(r"/\S+", printed_by(["ldd", pfs.path], folder)):
         (root / library[1:]).parent.mkdir(parents=True, exist_ok=True)
         shutil.copy(library, root / library[1:])

@@ -111,17 +111,16 @@ EXAMPLES = {"README.md": readme_examples(), "pfs.1": manual_examples()}
 
 @pytest.fixture(scope="module")
 def shown(pfs: Program, tmp_path_factory: pytest.TempPathFactory) -> Callable[[Example], str]:
-    """What the commands of a page print, run one after the other in a folder that has the folders of the repository."""
+    """What the commands of a page print, run one after the other in a folder that is empty at first, with the programs
+    that an installation has."""
     printed: dict[str, dict[Example, str]] = {}
 
     def run(example: Example) -> str:
         if example.page not in printed:
             folder = tmp_path_factory.mktemp("page")
-            for path in TOP.iterdir():
-                if not path.name.startswith("."):
-                    (folder / path.name).symlink_to(path)
             (folder / ".bin").mkdir()
             shutil.copy(pfs.path, folder / ".bin" / "pfs")
+            (folder / ".bin" / "pfs-gantt").symlink_to(TOP / "tools" / "gantt")
             printed[example.page] = {each: run_line(each.command, folder) for each in EXAMPLES[example.page]}
         return printed[example.page][example]
     return run
@@ -138,7 +137,7 @@ def run_line(line: str, folder: pathlib.Path) -> str:
     for page, found in EXAMPLES.items() for example in found])
 def test_an_example_prints_what_the_page_shows(example: Example, shown: Callable[[Example], str],
                                                request: pytest.FixtureRequest) -> None:
-    if "tools/gantt" in example.command:
+    if "pfs-gantt" in example.command:
         request.getfixturevalue("matplotlib")
     assert shown(example) == example.printed
 
@@ -151,7 +150,7 @@ def test_a_page_has_examples(page: str) -> None:
 # README and links
 
 def test_readme_has_the_commands_of_the_usage_text_and_the_one_without_words() -> None:
-    assert re.findall(r"^\| `(pfs[^`]*)` \|", README, re.MULTILINE) == [*LINES, "pfs"]
+    assert [command.strip("`") for command, _ in table(README, "Command", "Prints")] == [*LINES, "pfs"]
 
 
 @pytest.mark.parametrize("page", PAGES, ids=[str(page.relative_to(TOP)) for page in PAGES])
@@ -163,6 +162,44 @@ def test_the_pages_to_which_a_page_links_are_there(page: pathlib.Path) -> None:
 def test_readme_shows_the_usage_of_gantt() -> None:
     told = re.search(r"^`(tools/gantt [^`]*)` draws", README, re.MULTILINE)
     assert told and f"usage: {told[1]}\n" in (TOP / "tools" / "gantt").read_text().replace('"""', "\n")
+
+
+SLIPS = [re.findall("`([^`]+)`", typed)[0] for typed, _ in table(README, "Typed", "Reason")]
+
+
+@pytest.mark.parametrize("line", SLIPS)
+def test_a_slip_that_readme_names_gets_the_usage(line: str, pfs: Program, worked: pathlib.Path) -> None:
+    assert pfs.run(line.removeprefix("pfs "), worked) == Ran(b"", USAGE, 3)
+
+
+def test_readme_names_slips() -> None:
+    assert len(SLIPS) > 10
+
+
+FILE_SLIPS = {
+    "size line X has a wrong count": [("value --layout orlib three", b""), ("value --layout taillard bom", b"")],
+    "mixed line at X": [("value --layout taillard minus", b"2 "), ("value --layout taillard point", b"1")],
+    "order file syntax at X": [(f"check --layout taillard three {name}", b"")
+                               for name in ("spaces", "more", "windows")],
+    "cannot open": [("value --layout taillard none", b""), ("check --layout taillard three none", b"")],
+}
+
+
+@pytest.mark.parametrize("fault", FILE_SLIPS)
+def test_a_fault_that_readme_explains_comes_of_this(fault: str, pfs: Program, worked: pathlib.Path) -> None:
+    """Where README tells how to show what stands before the byte, that is shown."""
+    files = {"bom": b"\xef\xbb\xbf3 2 0 0 0\n3 2 4\n2 5 1\n", "minus": b"2 1 0 0 0\n2 -5\n",
+             "point": b"2 1 0 0 0\n1.5 1\n", "spaces": b"order 3\n1  2 3\nmakespan 11\n",
+             "more": b"order 3\n1 2 3\nmakespan 11\n\n", "windows": b"order 3\r\n1 2 3\r\nmakespan 11\r\n"}
+    for name, text in files.items():
+        (worked / name).write_bytes(text)
+    assert f"**`pfs: {fault}`**" in README.partition("## Troubleshooting")[2]
+    for line, shown in FILE_SLIPS[fault]:
+        told = re.fullmatch(f"pfs: {fault.replace('X', r'([0-9]+)')}\n", pfs.run(line, worked).stderr.decode())
+        assert told, line
+        if shown:
+            show = f"head -c {told[1]} {line.split()[-1]} | tail -n 1"
+            assert run_line(show, worked).encode() == shown
 
 
 # Faults
@@ -631,6 +668,39 @@ def test_mandoc_finds_nothing_wrong() -> None:
 
 def test_the_synopsis_is_the_usage_text(manual: str) -> None:
     assert shown_section(manual, "SYNOPSIS").split("\n")[:-2] == LINES
+
+
+TOOL_PAGES = {name: (TOP / "share" / f"{name}.1").read_text() for name in ("pfs-gantt", "pfs-experiments")}
+
+
+@pytest.mark.parametrize("name", TOOL_PAGES)
+def test_mandoc_finds_nothing_wrong_in_the_pages_of_the_tools(name: str) -> None:
+    done = subprocess.run([need("mandoc"), "-T", "lint", "-W", "warning", str(TOP / "share" / f"{name}.1")],
+                          capture_output=True, text=True)
+    assert (done.stdout, done.stderr, done.returncode) == ("", "", 0)
+
+
+def test_the_page_of_gantt_has_its_options() -> None:
+    usage = (TOP / "tools" / "gantt").read_text().partition("usage: ")[2].partition('"""')[0]
+    options = re.findall(r"--([\w-]+)", usage)
+    for macro in ("It", "Op"):
+        told = re.findall(rf"^\.{macro} Fl -([\w-]+)", TOOL_PAGES["pfs-gantt"], re.MULTILINE)
+        assert sorted(told) == sorted(options), f"the options of .{macro} in pfs-gantt.1"
+
+
+def test_the_page_of_experiments_has_its_scripts() -> None:
+    scripts = {path.name for path in (TOP / "experiments").iterdir() if path.is_file() and os.access(path, os.X_OK)}
+    synopsis, listed = (re.findall(rf"^\.{macro} (\w+)$", TOOL_PAGES["pfs-experiments"], re.MULTILINE)
+                        for macro in ("Cm", "It Cm"))
+    assert set(synopsis) >= set(listed) == scripts - {"one"}
+
+
+@pytest.mark.parametrize("page", ["pfs", *TOOL_PAGES])
+def test_a_manual_page_tells_what_else_to_read_and_what_is_wanting(page: str) -> None:
+    text = (TOP / "share" / f"{page}.1").read_text()
+    assert "\n.Sh BUGS\n" in text
+    others = {f"pfs{name}" for name in ("", "-gantt", "-experiments")} - {page}
+    assert set(re.findall(r"^\.Xr (pfs\S*) 1", text.partition("\n.Sh SEE ALSO\n")[2], re.MULTILINE)) >= others
 
 
 def test_the_examples_are_shown_as_they_are_run(manual: str) -> None:

@@ -13,9 +13,13 @@ import pytest
 PACKAGES = {
     "bash_completion": "bash-completion",
     "cc": "gcc",
+    "ar": "binutils",
     "dpkg-deb": "dpkg",
     "matplotlib": "python3-matplotlib",
     "munged": "munge",
+    "nm": "binutils",
+    "readelf": "binutils",
+    "scipy": "python3-scipy",
     "slurmctld": "slurm-wlm",
     "ssh": "openssh-client",
     "sshd": "openssh-server",

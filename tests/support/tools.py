@@ -68,9 +68,20 @@ def with_path(folder: pathlib.Path) -> dict[str, str]:
 @pytest.fixture(scope="session")
 def matplotlib() -> None:
     """Matplotlib of Debian's Python, which the scripts name, and which may not be the Python of the tests."""
+    need_of_debian("matplotlib")
+
+
+@pytest.fixture(scope="session")
+def scipy(matplotlib: None) -> None:
+    """SciPy of Debian's Python."""
+    need_of_debian("scipy")
+
+
+def need_of_debian(module: str) -> None:
+    """Skips the test where Debian's Python has no such module."""
     try:
-        done = subprocess.run(["/usr/bin/python3", "-c", "import matplotlib"], stderr=subprocess.DEVNULL)
+        done = subprocess.run(["/usr/bin/python3", "-c", f"import {module}"], stderr=subprocess.DEVNULL)
     except FileNotFoundError:
-        not_installed("matplotlib")
+        not_installed(module)
     if done.returncode != 0:
-        not_installed("matplotlib")
+        not_installed(module)

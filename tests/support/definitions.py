@@ -1,0 +1,180 @@
+#!/usr/bin/env python3
+"""The definitions of the crates, and which of them the contracts of public functions rest on: those that such a
+contract cites, and those that these are written with. Run alone it prints docs/REACHED.md, which lists them.
+
+usage: tests/support/definitions.py > docs/REACHED.md"""
+import pathlib
+import re
+from collections.abc import Callable
+from typing import NamedTuple
+
+TOP = pathlib.Path(__file__).resolve().parent.parent.parent
+
+# The crates of the tests have no definitions that anybody must believe.
+OF_TESTS = ("pfs_calls", "pfs_tests")
+IMPORT = re.compile(r"^(?:ghost )?use Rattle\.(\w+)\.specs\.(\w+)\.\{([^}]*)\}", re.MULTILINE)
+HEAD = re.compile(r"^(?:abbrev|unfoldable|unfolding|pub|record|data|inductive)\b(?: (?:pub|record|data))* (\w+)")
+WORD = re.compile(r"[A-Za-z_]\w*")
+
+
+class Definition(NamedTuple):
+    """A name of a crate's specs, and the file there that has it."""
+    crate: str
+    file: str
+    name: str
+
+
+Imports = dict[str, Definition]
+
+
+def imports_of(text: str) -> Imports:
+    """What each imported name of a file stands for."""
+    found = {}
+    for crate, file, names in IMPORT.findall(text):
+        for each in names.split(","):
+            name, _, other = each.strip().partition(" as ")
+            found[other or name] = Definition(crate, file, name)
+    return found
+
+
+def without_comments(text: str) -> str:
+    return re.sub(r"(?:--|//).*$", "", text, flags=re.MULTILINE)
+
+
+def definitions_of(path: pathlib.Path) -> dict[str, str]:
+    """What each definition of a file is written with: the lines from its head to the next one's."""
+    found: dict[str, str] = {}
+    name = ""
+    for line in without_comments(path.read_text()).splitlines():
+        head = HEAD.match(line)
+        if head and not line.startswith("pub mod"):
+            name = head[1]
+        elif line.startswith(("use ", "pub mod ")):
+            name = ""
+        if name:
+            found[name] = found.get(name, "") + line + "\n"
+    return found
+
+
+def all_definitions(crates: pathlib.Path) -> dict[Definition, set[Definition]]:
+    """Each definition, and those that it is written with."""
+    written = {}
+    for path in sorted(crates.glob("*/specs/*.antt")):
+        crate, own = path.parent.parent.name, definitions_of(path)
+        names = imports_of(path.read_text()) | {name: Definition(crate, path.stem, name) for name in own}
+        for name, text in own.items():
+            written[Definition(crate, path.stem, name)] = {names[word] for word in WORD.findall(text) if word in names}
+    return {each: {other for other in others if other in written and other != each} for each, others in written.items()}
+
+
+# Contracts of public functions
+
+def exported(crate: pathlib.Path) -> tuple[set[str], set[str]]:
+    """The modules that a crate shows as they are, and the names that it hands on from others."""
+    text = (crate / "src" / "lib.rt").read_text()
+    names = set()
+    for last in re.findall(r"^pub use [\w:]*::(\{[^}]*\}|\w+);", text, re.MULTILINE):
+        names.update(WORD.findall(last))
+    return set(re.findall(r"^pub mod (\w+);", text, re.MULTILINE)), names
+
+
+def public_parts(path: pathlib.Path, whole: bool, names: set[str]) -> list[str]:
+    """The parts of a file that users see: public functions, types and traits, and what is implemented of them."""
+    parts = re.split(r"^(?=(?:pub |unsafe |extern \S+ )*(?:fn|impl|trait|struct|enum|const|mod|use|ghost use)\b)",
+                     without_comments(path.read_text()), flags=re.MULTILINE)
+    found = []
+    for part in parts:
+        head = part.split("{", 1)[0]
+        if head.startswith("impl"):
+            shown = whole or bool(names & set(WORD.findall(head)))
+        else:
+            name = re.match(r"pub (extern \"C\" )?(?:fn|trait|struct|enum) (\w+)", head)
+            # C sees a function wherever it stands
+            shown = name is not None and bool(whole or name[1] or name[2] in names)
+        if shown and not re.match(r"(?:ghost )?use\b", part):
+            found.append(part)
+    return found
+
+
+def clauses(part: str) -> str:
+    """The contracts of the functions of a part, but for private functions."""
+    shown = []
+    for each in re.split(r"^(?= *(?:pub\S* )?(?:extern \S+ )?fn )", part, flags=re.MULTILINE):
+        in_trait = part.startswith(("impl", "pub trait")) and not re.match(r" *pub\(", each)
+        if in_trait or re.match(r" *pub (?:extern \S+ )?(?:fn|trait|struct|enum)\b", each):
+            shown += re.findall(r"\b(?:requires|ensures)\b[^{]*(\{(?:[^{}]|\{[^{}]*\})*\})", each)
+    return "\n".join(shown)
+
+
+def is_any(path: pathlib.Path) -> bool:
+    return True
+
+
+def is_no_law(path: pathlib.Path) -> bool:
+    return path.name != "laws.rt"
+
+
+def cited(crates: pathlib.Path, counts: Callable[[pathlib.Path], bool] = is_any) -> set[Definition]:
+    """The definitions that contracts of public functions cite, in the files that count."""
+    found = set()
+    for crate in sorted(crates.iterdir()):
+        if not (crate / "src" / "lib.rt").exists() or crate.name in OF_TESTS:
+            continue
+        modules, names = exported(crate)
+        for path in filter(counts, sorted(crate.glob("src/**/*.rt"))):
+            whole = path.relative_to(crate / "src").with_suffix("").parts[0] in modules
+            imports = imports_of(path.read_text())
+            for part in public_parts(path, whole, names):
+                found |= {imports[word] for word in WORD.findall(clauses(part)) if word in imports}
+    return found
+
+
+def reached(crates: pathlib.Path) -> set[Definition]:
+    """These, and all that they are written with."""
+    written = all_definitions(crates)
+    left, found = [each for each in cited(crates) if each in written], set[Definition]()
+    while left:
+        each = left.pop()
+        if each not in found:
+            found.add(each)
+            left += written[each]
+    return found
+
+
+# The page
+
+HEADING = """# What the contracts rest on
+
+Each definition that the contracts of public functions cite, and each that these are written with, down to std and \
+the kit's crates, with its comment in the source. [DEFINITIONS.md](DEFINITIONS.md) has those that are cited in plain \
+words, and is the page to begin with. This page is made by `tests/support/definitions.py > docs/REACHED.md`, and \
+compared by the tests.
+"""
+
+
+def comments_of(path: pathlib.Path) -> dict[str, str]:
+    """The comment above each definition of a file, on one line."""
+    found: dict[str, str] = {}
+    above: list[str] = []
+    for line in path.read_text().splitlines():
+        head = HEAD.match(line)
+        if head:
+            found.setdefault(head[1], " ".join(above).replace("|", "\\|"))
+        above = [*above, line.removeprefix("--").strip()] if line.startswith("--") else []
+    return found
+
+
+def page(crates: pathlib.Path) -> str:
+    lines = [HEADING]
+    found = sorted(reached(crates))
+    for crate in sorted({each.crate for each in found}):
+        lines += [f"\n## {crate}\n\n| File | Name | What it says |\n|---|---|---|\n"]
+        for file in sorted({each.file for each in found if each.crate == crate}):
+            comments = comments_of(crates / crate / "specs" / f"{file}.antt")
+            names = [each.name for each in found if (each.crate, each.file) == (crate, file)]
+            lines += [f"| {file} | `{name}` | {comments.get(name, '')} |\n" for name in names]
+    return "".join(lines)
+
+
+if __name__ == "__main__":
+    print(page(TOP / "crates"), end="")

@@ -1,0 +1,107 @@
+"""What has to be believed is listed: DEFINITIONS.md has each definition that the contract of a public function cites,
+but for the laws, which stand there by the names of their functions, and REACHED.md each on which one of these rests."""
+import pathlib
+import re
+
+import pytest
+from support.definitions import WORD, Definition, all_definitions, cited, is_no_law, page, reached
+
+# Words that the whole program's and the search's promise rest on.
+HEADLINE = ["take_for", "words_for", "neh_cells", "rounds_cells", "solution_text", "PrintsSolution", "TellsFault",
+            "IsTakeFault", "AreBlocks", "Completes", "Seeks", "ExactlyOne", "BeginDue", "IsLeastTable",
+            "AreLayoutNames", "makespan", "neh_order", "best_place", "after_round", "first_least", "paths", "greatest"]
+
+
+def test_the_page_of_what_is_reached_is_made_of_the_sources(top: pathlib.Path) -> None:
+    made = page(top / "crates")
+    assert (top / "docs" / "REACHED.md").read_text() == made, "tests/support/definitions.py > docs/REACHED.md makes it"
+
+
+@pytest.mark.parametrize("name", HEADLINE)
+def test_this_word_is_reached(name: str, top: pathlib.Path) -> None:
+    assert name in {each.name for each in reached(top / "crates")}
+
+
+def told(top: pathlib.Path) -> set[str]:
+    """The names between backquotes in DEFINITIONS.md."""
+    text = (top / "docs" / "DEFINITIONS.md").read_text()
+    return {name for code in re.findall("`([^`]+)`", text) for name in WORD.findall(code)}
+
+
+def test_each_definition_that_is_cited_stands_in_the_page(top: pathlib.Path) -> None:
+    crates = top / "crates"
+    own = all_definitions(crates)
+    missing = {each for each in cited(crates, is_no_law) if each in own and each.name not in told(top)}
+    assert missing == set()
+
+
+@pytest.mark.parametrize("name", HEADLINE[:15])
+def test_this_word_of_the_headline_stands_in_the_page(name: str, top: pathlib.Path) -> None:
+    assert name in told(top)
+
+
+# A crate over another one: what is reached of these
+
+LOW = """-- so many
+abbrev pub doubled : ℕ → ℕ
+doubled n = n + n
+
+-- not used by anything
+abbrev pub tripled : ℕ → ℕ
+tripled n = n + n + n
+"""
+HIGH = """use Rattle.low.specs.Sums.{doubled, tripled as thrice}
+-- four of it, by doubled | and not by thrice
+pub record Fourfold (n : ℕ) : Type 0 where
+  pub number : ℕ
+  pub same : number ≡ doubled (doubled n)
+"""
+CODE = """ghost use Rattle.high.specs.Times.{{Fourfold}};
+ghost use Rattle.low.specs.Sums.{{tripled}};
+{item}
+    ensures four {{ Fourfold n (λ x. x) }}
+{{
+    n
+}}
+"""
+
+
+@pytest.fixture
+def crates(folder: pathlib.Path) -> pathlib.Path:
+    for crate, file, text in (("low", "Sums", LOW), ("high", "Times", HIGH)):
+        (folder / crate / "specs").mkdir(parents=True)
+        (folder / crate / "specs" / f"{file}.antt").write_text(text)
+        (folder / crate / "src").mkdir()
+        (folder / crate / "src" / "lib.rt").write_text("")
+    return folder
+
+
+FOUR = Definition("high", "Times", "Fourfold")
+TWO = Definition("low", "Sums", "doubled")
+
+
+@pytest.mark.parametrize(("item", "shown", "wanted"), [
+    ("pub fn four(n: u64) -> u64", "pub use inner::{four, other};", {FOUR, TWO}),
+    ("pub fn four(n: u64) -> u64", "pub use inner::four;", {FOUR, TWO}),
+    ("pub fn four(n: u64) -> u64", "pub mod inner;", {FOUR, TWO}),
+    ('pub extern "C" fn four(n: u64) -> u64', "mod inner;", {FOUR, TWO}),
+    ("pub fn four(n: u64) -> u64", "mod inner;", set()),
+    ("fn four(n: u64) -> u64", "pub use inner::four;", set()),
+    ("pub(crate) fn four(n: u64) -> u64", "pub mod inner;", set()),
+    ("impl Four for Times {\n    fn four(&self) -> u64", "pub use inner::Four;", {FOUR, TWO}),
+    ("impl Times {\n    pub fn four(&self) -> u64", "pub use inner::Times;", {FOUR, TWO}),
+    ("impl Times {\n    fn four(&self) -> u64", "pub use inner::Other;", set()),
+])
+def test_what_is_reached(item: str, shown: str, wanted: set[Definition], crates: pathlib.Path) -> None:
+    """By public functions alone, through the definitions that they cite; what is only imported isn't."""
+    (crates / "high" / "src" / "lib.rt").write_text(f"mod inner;\n{shown}\n")
+    (crates / "high" / "src" / "inner.rt").write_text(CODE.format(item=item))
+    assert reached(crates) == wanted
+
+
+def test_the_page_has_the_comments_of_the_definitions(crates: pathlib.Path) -> None:
+    (crates / "high" / "src" / "lib.rt").write_text("pub mod inner;\n")
+    (crates / "high" / "src" / "inner.rt").write_text(CODE.format(item="pub fn four(n: u64) -> u64"))
+    assert re.findall(r"^\| (?!File|-).*$|^##.*$", page(crates), re.MULTILINE) \
+        == ["## high", r"| Times | `Fourfold` | four of it, by doubled \| and not by thrice |",
+            "## low", "| Sums | `doubled` | so many |"]
