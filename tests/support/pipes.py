@@ -47,13 +47,17 @@ def end_to_write(pipe: pathlib.Path) -> int | None:
 
 
 def first_opened(*pipes: pathlib.Path) -> tuple[str, int]:
-    """The name of that named pipe which a program opens first, and the end to write to."""
+    """The name of that named pipe which a program opens first, and the end to write to. No other one is opened: its
+    program might open it meanwhile, and would wait for that end to be closed."""
     found: list[tuple[str, int]] = []
 
     def is_opened() -> bool:
-        ends = ((pipe.name, end_to_write(pipe)) for pipe in pipes)
-        found.extend((name, end) for name, end in ends if end is not None)
-        return bool(found)
+        for pipe in pipes:
+            end = end_to_write(pipe)
+            if end is not None:
+                found.append((pipe.name, end))
+                return True
+        return False
 
     wait_for(f"the program opens {' or '.join(pipe.name for pipe in pipes)}", is_opened)
     return found[0]
