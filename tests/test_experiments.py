@@ -646,19 +646,31 @@ def waiting_for(experiment: Experiment, slurm: Cluster) -> str:
     return reason()
 
 
+def cancel(slurm: Cluster, number: str) -> None:
+    slurm.tells("scancel", "--full", number)
+
+
+def run_out_of_time(slurm: Cluster, number: str) -> None:
+    """Slurm looks for such tasks twice a minute."""
+    slurm.tells("scontrol", "update", f"JobId={number}", "EndTime=now")
+
+
 @on_slurm
-def test_what_slurm_says_of_a_task_that_it_ended_stands_in_the_csv(experiment: Experiment, slurm: Cluster) -> None:
+@pytest.mark.parametrize("end, why", [(cancel, ""), (run_out_of_time, "DUE TO TIME LIMIT ")],
+                         ids=["cancelled", "out of time"])
+def test_what_slurm_says_of_a_task_that_it_ended_stands_in_the_csv(
+        experiment: Experiment, slurm: Cluster, end: Callable[[Cluster, str], None], why: str) -> None:
     """And the next start makes its runs."""
     (experiment.folder / "plan.toml").write_text(PLAN.replace("[0, 30]", "[0]"))
     words = ["--tasks", "2", "plan.toml", "out.csv", "--time=5"]
     with experiment.gate(), open(experiment.folder / "told", "wb") as told:
         begun = start(experiment, *words, name="slurm", env=slurm.env, stderr=told)
         wait_until(lambda: len(experiment.started()) == 2, "two tasks make a run each")
-        slurm.tells("scancel", "--full", number_of((experiment.folder / "told").read_text()))
+        end(slurm, number_of((experiment.folder / "told").read_text()))
         assert begun.process.wait(100) == 1
     lost = experiment.rows()
     assert [row.seed for row in lost] == ["1", "2"], "the runs that were begun"
-    said = r"lost: \*\*\* JOB \d+ ON \S+ CANCELLED AT \S+ .*"
+    said = rf"lost: \*\*\* JOB \d+ ON \S+ CANCELLED AT \S+ {why}\*\*\*"
     assert [row.status for row in lost if not re.fullmatch(said, row.status)] == []
     assert experiment.script("slurm", *words, env=slurm.env, program=experiment.waiting()).status == 0
     assert experiment.rows() == experiment.wanted(rounds=(0,))

@@ -1,7 +1,8 @@
 // A second implementation of lib/pfs.h, with which tests compare the first. It is written from pfs.h and
 // docs/FORMATS.md and shares no method with the first: it judges whole lines of whole texts, asks of each front of an
 // order file whether a text of the grammar begins with it, and evaluates whole orders, job by job, at every place of an
-// insertion. So it serves for small shops only. Its answers are made whole before the first output is written.
+// insertion. So it serves for small instances only. Its answers are made whole before the first output is written.
+#include "../../bench/pcg32.hpp"
 #include "pfs.h"
 
 #include <algorithm>
@@ -170,42 +171,6 @@ Jobs after_round(const Shop& shop, const Jobs& kept, const Jobs& words, uint32_t
     }
     return makespan_of(shop, order) <= makespan_of(shop, kept) ? order : kept;
 }
-
-// PCG XSH RR 64/32 of O'Neill, seeded by a number as Rust's rand_core does it: four words of the generator with a fixed
-// increment, which steps before each, are the state and the increment.
-class Pcg32 {
-public:
-    explicit Pcg32(uint64_t seed) {
-        uint64_t words[4];
-        for (uint64_t& word : words) {
-            seed = seed * MULTIPLIER + 0xA17654E46FBE17F3;
-            word = output(seed);
-        }
-        increment = words[2] | words[3] << 32 | 1;
-        state = (words[0] | words[1] << 32) + increment;
-        step();
-    }
-
-    uint32_t next_word() {
-        uint32_t word = output(state);
-        step();
-        return word;
-    }
-
-private:
-    static constexpr uint64_t MULTIPLIER = 6364136223846793005;
-
-    static uint32_t output(uint64_t state) {
-        uint32_t shifted = (uint32_t)((state >> 18 ^ state) >> 27);
-        unsigned turn = (unsigned)(state >> 59);
-        return turn == 0 ? shifted : shifted >> turn | shifted << (32 - turn);
-    }
-
-    void step() { state = state * MULTIPLIER + increment; }
-
-    uint64_t state;
-    uint64_t increment;
-};
 
 // Instance files
 
@@ -616,7 +581,7 @@ int pfs_rounds(const uint32_t* times, size_t times_length, size_t jobs, size_t m
         Pcg32 random(seed);
         Jobs kept(order, order + jobs), words(take);
         for (uint32_t round = 0; round < first + count; ++round) {
-            std::generate(words.begin(), words.end(), [&] { return random.next_word(); });
+            std::generate(words.begin(), words.end(), [&] { return random.next(); });
             if (round >= first) {
                 kept = after_round(shop, kept, words, passes);
             }
