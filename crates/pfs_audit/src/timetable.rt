@@ -84,7 +84,7 @@ impl TimeTable {
         self.ends[row * self.machines + machine]
     }
 
-    /// All starts: those of row 0 on each machine, then those of row 1, and so on.
+    /// All starts: those of the first row on each machine, then those of the second one, and so on.
     pub fn starts(&self) -> &[u64]
         ensures value { result.now ≡ self.now.starts }
         ensures whole { IsWhole self.now }
@@ -92,7 +92,7 @@ impl TimeTable {
         &self.starts
     }
 
-    /// All ends: those of row 0 on each machine, then those of row 1, and so on.
+    /// All ends: those of the first row on each machine, then those of the second one, and so on.
     pub fn ends(&self) -> &[u64]
         ensures value { result.now ≡ self.now.ends }
         ensures whole { IsWhole self.now }
