@@ -1,5 +1,5 @@
 -- What was read of an input, and what its judgement says of the whole.
-use Rattle.std.proofs.Common.{◌≡◌, ◌≢◌, ℕ, ◌+◌, ◌<◌, ◌≤◌, ◌⊎◌, List, ◌++◌, length, take, Option, Some, None, refl, ap}
+use Rattle.std.proofs.Common.{◌≡◌, ◌≢◌, ℕ, ◌+◌, ◌≤◌, List, ◌++◌, length, take, Option, Some, None, refl, ap, subst}
 use Rattle.std.proofs.Common.{[], arith, inl, inr}
 use Rattle.std.specs.Prelude.{IfSome, IfOk, IfErr, OnOk, Result, Ok, Err}
 use Rattle.std.specs.Io.KnownBytes.{Consumes, IsAtEnd}
@@ -8,14 +8,15 @@ use Rattle.std.proofs.KnownBytes.{Consumes-trans, Consumes-whole}
 use Rattle.std.proofs.lemmas.List.{append-nil, length-append, length-take-le, take-append-le}
 use Rattle.std.proofs.Math.Seq.{take-append-add}
 use borrow.Rule.Slice.PartMut.{put_mid, post_of}
+use Rattle.std.proofs.lemmas.Option.{IfSome_then}
 use Rattle.pfs_base.specs.declared.limits.TheConstants.{LONGEST_ORDER_FILE}
 use Rattle.pfs_order.specs.declared.fault.OrderFault.{OrderFault}
 use Rattle.pfs_order.specs.declared.fault.OrderFault.TheVariants.{TooLong, Read, Memory}
 use Rattle.pfs_order.specs.Sequence.{StatedOrder}
 use Rattle.pfs_order.specs.OrderFile.{IsOrderFile, IsText, RefusesOrder, RefusesUnlessFailed, IsUnlessFailed}
 use Rattle.pfs_order.specs.OrderFile.{ReadsOrderAsFar}
-use Rattle.pfs_order.specs.Pieces.{FillsBelow, JudgesText}
-use Rattle.pfs_order.proofs.Published.OrderVerdicts.{one_refusal, not_both, one_file}
+use Rattle.pfs_order.specs.Private.Reading.{FillsBelow, JudgesText}
+use Rattle.pfs_order.proofs.Published.OrderVerdicts.{one_refusal, not_both, one_file, Verdict, text_verdict}
 
 -- ---- bytes that are read into a part of a buffer
 
@@ -45,139 +46,133 @@ holds_of_known_input None new bytes P c h = tt
 holds_of_known_input (Some input) None bytes P c h = absurd c
 holds_of_known_input (Some input) (Some rest) bytes P c h = rw c (h rest refl)
 
--- ---- the judgement of an input
+-- ---- what is told of an input
 
-pub reads_accepted : (old new : Option (List ℕ)) (bytes : List ℕ) (answer : Result StatedOrder OrderFault)
-    → Consumes old new bytes → IsAtEnd new → IfOk answer (λ file. IsOrderFile bytes file)
+-- what was read, and what is answered to it
+pub data Told (old new : Option (List ℕ)) (answer : Result StatedOrder OrderFault) : Type 0 where
+  whole : (bytes : List ℕ) → Consumes old new bytes → IsAtEnd new → length bytes ≤ LONGEST_ORDER_FILE
+      → JudgesText bytes answer → Told old new answer
+  long : (bytes : List ℕ) → Consumes old new bytes → length bytes ≡ LONGEST_ORDER_FILE + 1 → answer ≡ Err TooLong
+      → Told old new answer
+  stopped : FillsBelow (LONGEST_ORDER_FILE + 1) old new → answer ≡ Err Read → Told old new answer
+
+-- what it says of the input
+abbrev Says : Result StatedOrder OrderFault → List ℕ → Type 0
+Says (Ok file) input = IsOrderFile input file
+Says (Err fault) input = RefusesUnlessFailed input fault
+
+judged_says : (bytes : List ℕ) (answer : Result StatedOrder OrderFault) → length bytes ≤ LONGEST_ORDER_FILE
+    → JudgesText bytes answer → Says answer bytes
+judged_says bytes (Ok file) few e = subst (Verdict bytes) e (text_verdict bytes few)
+judged_says bytes (Err fault) few (inl (memory, h)) = rw memory tt
+judged_says bytes (Err fault) few (inr e) = of fault (subst (Verdict bytes) e (text_verdict bytes few))
+  where
+    of : (told : OrderFault) → RefusesOrder bytes told → RefusesUnlessFailed bytes told
+    of Read h = tt
+    of Memory h = tt
+    of told h = h
+
+module _ {old new : Option (List ℕ)} {answer : Result StatedOrder OrderFault} where
+  says : Told old new answer → IfSome old (Says answer)
+  says (whole bytes c end few j) = Consumes-whole old new bytes (Says answer) c end (judged_says bytes answer few j)
+  says (long bytes c size is) = holds_of_known_input old new bytes (Says answer) c
+      (λ rest _. rw is (omega (arith, length-append bytes rest)))
+  says (stopped (bytes, (few, c)) is) = holds_of_known_input old new bytes (Says answer) c (λ rest _. rw is tt)
+
+pub accepted : {old new : Option (List ℕ)} (answer : Result StatedOrder OrderFault) → Told old new answer
     → IfOk answer (λ file. IfSome old (λ input. IsOrderFile input file))
-reads_accepted old new bytes (Ok file) c end h = Consumes-whole old new bytes (λ input. IsOrderFile input file) c end h
-reads_accepted old new bytes (Err fault) c end h = tt
+accepted (Ok file) told = says told
+accepted (Err fault) told = tt
 
--- a judgement of a text is that of an input
-judged_is_refused : (text : List ℕ) (fault : OrderFault) → JudgesText text fault → RefusesUnlessFailed text fault
-judged_is_refused text Read h = tt
-judged_is_refused text Memory h = tt
-judged_is_refused text fault h = h
-
-pub reads_refused : (old new : Option (List ℕ)) (bytes : List ℕ) (answer : Result StatedOrder OrderFault)
-    → Consumes old new bytes → IsAtEnd new → IfErr answer (λ fault. JudgesText bytes fault)
+pub refused : {old new : Option (List ℕ)} (answer : Result StatedOrder OrderFault) → Told old new answer
     → IfErr answer (λ fault. IfSome old (λ input. RefusesUnlessFailed input fault))
-reads_refused old new bytes (Ok file) c end h = tt
-reads_refused old new bytes (Err fault) c end h =
-    Consumes-whole old new bytes (λ input. RefusesUnlessFailed input fault) c end (judged_is_refused bytes fault h)
+refused (Ok file) told = tt
+refused (Err fault) told = says told
 
--- an input with more bytes than the limit
-pub reads_too_long : (old new : Option (List ℕ)) (bytes : List ℕ) → Consumes old new bytes
-    → LONGEST_ORDER_FILE < length bytes → IfSome old (λ input. RefusesUnlessFailed input TooLong)
-reads_too_long old new bytes c h = holds_of_known_input old new bytes (λ input. RefusesUnlessFailed input TooLong) c
-    (λ rest is. omega (arith, length-append bytes rest))
+-- no other answer is the right one
+one_answer : (input : List ℕ) (answer right : Result StatedOrder OrderFault) → Says answer input → Verdict input right
+    → IsUnlessFailed answer right
+one_answer input (Ok file) (Ok other) h k = inl (ap Ok (one_file input file other h k))
+one_answer input (Ok file) (Err fault) h k = absurd (not_both input file fault h k)
+one_answer input (Err Read) right h k = inr (inl refl)
+one_answer input (Err Memory) right h k = inr (inr refl)
+one_answer input (Err fault) (Ok file) h k = absurd (not_both input file fault k h)
+one_answer input (Err fault) (Err other) h k = inl (ap Err (one_refusal input fault other h k))
 
--- a failed read says nothing of an input
-pub reads_failed : (old : Option (List ℕ)) (fault : OrderFault) → fault ≡ Read
-    → IfSome old (λ input. RefusesUnlessFailed input fault)
-reads_failed None fault e = tt
-reads_failed (Some input) fault e = rw e tt
+pub accepts : {old new : Option (List ℕ)} (answer : Result StatedOrder OrderFault) → Told old new answer
+    → IfSome old (λ input. (file : StatedOrder) → IsOrderFile input file → IsUnlessFailed answer (Ok file))
+accepts {old} answer told = IfSome_then old (says told) (λ input h file. one_answer input answer (Ok file) h)
 
--- ---- no other answer is the right one
+pub refuses : {old new : Option (List ℕ)} (answer : Result StatedOrder OrderFault) → Told old new answer
+    → IfSome old (λ input. (fault : OrderFault) → RefusesOrder input fault → IsUnlessFailed answer (Err fault))
+refuses {old} answer told = IfSome_then old (says told) (λ input h fault. one_answer input answer (Err fault) h)
 
-refused_or_failed : (input : List ℕ) (fault : OrderFault) → RefusesUnlessFailed input fault
-    → RefusesOrder input fault ⊎ ((fault ≡ Read) ⊎ (fault ≡ Memory))
-refused_or_failed input Read h = inr (inl refl)
-refused_or_failed input Memory h = inr (inr refl)
-refused_or_failed input fault h = inl h
+pub ended : {old new : Option (List ℕ)} (answer : Result StatedOrder OrderFault) → Told old new answer
+    → OnOk answer (IsAtEnd new)
+ended (Ok file) (whole bytes c end few j) = end
+ended (Ok file) (long bytes c size is) = absurd (cc)
+ended (Ok file) (stopped f is) = absurd (cc)
+ended (Err fault) told = tt
 
-pub decides_ok : (left : Option (List ℕ)) (answer : Result StatedOrder OrderFault)
-    → IfOk answer (λ file. IfSome left (λ input. IsOrderFile input file))
-    → IfErr answer (λ fault. IfSome left (λ input. RefusesUnlessFailed input fault))
-    → IfSome left (λ input. (file : StatedOrder) → IsOrderFile input file → IsUnlessFailed answer (Ok file))
-decides_ok None answer h k = tt
-decides_ok (Some input) (Ok other) h k = λ file is. inl (ap Ok (one_file input other file h is))
-decides_ok (Some input) (Err fault) h k = λ file is. elim (refused_or_failed input fault k) [
-  | inl refused ↦ absurd (not_both input file fault is refused)
-  | inr (inl read) ↦ inr (inl (ap Err read))
-  | inr (inr memory) ↦ inr (inr (ap Err memory))
-]
-
-pub decides_err : (left : Option (List ℕ)) (answer : Result StatedOrder OrderFault)
-    → IfOk answer (λ file. IfSome left (λ input. IsOrderFile input file))
-    → IfErr answer (λ fault. IfSome left (λ input. RefusesUnlessFailed input fault))
-    → IfSome left (λ input. (fault : OrderFault) → RefusesOrder input fault → IsUnlessFailed answer (Err fault))
-decides_err None answer h k = tt
-decides_err (Some input) (Ok file) h k = λ fault is. absurd (not_both input file fault h is)
-decides_err (Some input) (Err told) h k = λ fault is. elim (refused_or_failed input told k) [
-  | inl refused ↦ inl (ap Err (one_refusal input told fault refused is))
-  | inr (inl read) ↦ inr (inl (ap Err read))
-  | inr (inr memory) ↦ inr (inr (ap Err memory))
-]
-
-pub on_ok : (answer : Result StatedOrder OrderFault) (P : Type 0) → P → OnOk answer P
-on_ok (Ok file) P h = h
-on_ok (Err fault) P h = tt
-
--- ---- how far an input was read
-
--- one whose read failed
-pub reads_stopped : (old new : Option (List ℕ)) (fault : OrderFault) (room : ℕ) → fault ≡ Read
-    → room ≤ LONGEST_ORDER_FILE + 1 → FillsBelow room old new
-    → IfSome old (λ input. ReadsOrderAsFar input new (Some fault))
-reads_stopped old new fault room e h (front, (few, c)) =
-    holds_of_known_input old new front (λ input. ReadsOrderAsFar input new (Some fault)) c (λ rest is. record {
+-- how far it was read
+pub reads : {old new : Option (List ℕ)} (answer : Result StatedOrder OrderFault) → Told old new answer
+    → IfSome old (λ input. ReadsOrderAsFar input new (result_err answer))
+reads {old} {new} answer (stopped (front, (few, c)) is) =
+    holds_of_known_input old new front (λ input. ReadsOrderAsFar input new (result_err answer)) c (λ rest left. record {
       front = front;
       rest = rest;
       whole = refl;
-      leaves = is;
+      leaves = left;
       few = omega arith;
       failed = λ _. omega arith;
-      too_long = λ long. absurd (cc);
-      ended = λ other. absurd (other (ap Some e));
+      too_long = λ told. absurd (cc);
+      ended = λ other. absurd (other (ap result_err is));
       memory = λ none. absurd (cc);
     })
-
--- one with more bytes than the limit
-pub reads_over : (old new : Option (List ℕ)) (bytes : List ℕ) → Consumes old new bytes
-    → length bytes ≡ LONGEST_ORDER_FILE + 1 → IfSome old (λ input. ReadsOrderAsFar input new (Some TooLong))
-reads_over old new bytes c h =
-    holds_of_known_input old new bytes (λ input. ReadsOrderAsFar input new (Some TooLong)) c (λ rest is.
-    record {
+reads {old} {new} answer (long bytes c size is) =
+    holds_of_known_input old new bytes (λ input. ReadsOrderAsFar input new (result_err answer)) c (λ rest left. record {
       front = bytes;
       rest = rest;
       whole = refl;
-      leaves = is;
+      leaves = left;
       few = omega arith;
       failed = λ failed. absurd (cc);
-      too_long = λ _. h;
-      ended = λ _ other. absurd (other refl);
+      too_long = λ _. size;
+      ended = λ _ other. absurd (other (ap result_err is));
       memory = λ none. absurd (cc);
     })
-
--- one that was read to its end
-pub reads_whole : (old new : Option (List ℕ)) (bytes : List ℕ) (answer : Result StatedOrder OrderFault)
-    → Consumes old new bytes → IsAtEnd new → length bytes ≤ LONGEST_ORDER_FILE
-    → IfErr answer (λ fault. JudgesText bytes fault)
-    → IfSome old (λ input. ReadsOrderAsFar input new (result_err answer))
-reads_whole old new bytes answer c end few h =
-    holds_of_known_input old new bytes (λ input. ReadsOrderAsFar input new (result_err answer)) c (λ rest is.
-    let none : rest ≡ [] = rw is at end in
+reads {old} {new} answer (whole bytes c end few j) =
+    holds_of_known_input old new bytes (λ input. ReadsOrderAsFar input new (result_err answer)) c (λ rest left.
+    let none : rest ≡ [] = rw left at end in
     record {
       front = bytes;
       rest = rest;
       whole = refl;
-      leaves = is;
+      leaves = left;
       few = omega arith;
       failed = λ _. few;
-      too_long = λ long. absurd (never_long answer h long);
+      too_long = λ told. absurd (never_long answer j told);
       ended = λ _ _. none;
-      memory = λ memory. rw (none, append-nil) (of_memory answer h memory);
+      memory = λ memory. rw (none, append-nil) (of_memory answer j memory);
     })
   where
-    never_long : (verdict : Result StatedOrder OrderFault) → IfErr verdict (λ fault. JudgesText bytes fault)
-        → result_err verdict ≢ Some TooLong
+    never_long : (read : Result StatedOrder OrderFault) → JudgesText bytes read → result_err read ≢ Some TooLong
     never_long (Ok file) k is = cc
-    never_long (Err TooLong) k is = omega arith
-    never_long (Err fault) k is = cc
+    never_long (Err fault) (inl (memory, h)) is = absurd (cc)
+    never_long (Err TooLong) (inr e) is =
+        let long = subst (Verdict bytes) e (text_verdict bytes few) in absurd (omega arith)
+    never_long (Err fault) (inr e) is = absurd (cc)
 
-    of_memory : (verdict : Result StatedOrder OrderFault) → IfErr verdict (λ fault. JudgesText bytes fault)
-        → result_err verdict ≡ Some Memory → IsText bytes
+    of_memory : (read : Result StatedOrder OrderFault) → JudgesText bytes read → result_err read ≡ Some Memory
+        → IsText bytes
     of_memory (Ok file) k is = absurd (cc)
-    of_memory (Err Memory) k is = k
-    of_memory (Err fault) k is = absurd (cc)
+    of_memory (Err fault) (inl (memory, h)) is = h
+    of_memory (Err Memory) (inr e) is = absurd (subst (Verdict bytes) e (text_verdict bytes few))
+    of_memory (Err fault) (inr e) is = absurd (cc)
+
+pub never_read : (bytes : List ℕ) (answer : Result StatedOrder OrderFault) → length bytes ≤ LONGEST_ORDER_FILE
+    → JudgesText bytes answer → answer ≢ Err Read
+never_read bytes (Ok file) few j is = absurd (cc)
+never_read bytes (Err fault) few (inl (memory, h)) is = absurd (cc)
+never_read bytes (Err Read) few (inr e) is = subst (Verdict bytes) e (text_verdict bytes few)
+never_read bytes (Err fault) few (inr e) is = absurd (cc)

@@ -1,6 +1,6 @@
 pub mod OrderFile
 pub mod OrderLaws
 pub mod OrderText
-pub mod Pieces
+pub mod Private
 pub mod Sequence
 pub mod VersionOne

@@ -1,13 +1,14 @@
 //! Reading an order file.
-ghost use Rattle.std.specs.Prelude.{◌≡◌, ℕ, ◌+◌, ◌-◌, ◌<◌, ◌≤◌, true, false, List, [], ◌∷◌, ◌++◌, length, map, take};
+ghost use Rattle.std.specs.Prelude.{◌≡◌, ℕ, ◌+◌, ◌-◌, ◌<◌, ◌≤◌, ◌^◌, true, false, List, [], ◌∷◌, ◌++◌, length, map};
+ghost use Rattle.std.specs.Prelude.{take};
 ghost use Rattle.std.specs.Prelude.{drop, Contains, IfOk, IfErr, IfSome, OnOk, OnErr, Option};
 ghost use Rattle.std.specs.Io.KnownBytes.{Consumes, IsAtEnd};
 ghost use Rattle.std.specs.Result.{result_err};
-ghost use Rattle.pfs_order.specs.OrderFile.{HasText, IsText, IsOrderFile, RefusesOrder, RefusesUnlessFailed};
-ghost use Rattle.pfs_order.specs.OrderFile.{IsUnlessFailed, ReadsOrderAsFar};
-ghost use Rattle.pfs_order.specs.Pieces.{SaysSyntax, HasJobs, RefusesJob, RefusesJobs, JudgesText, FillsBelow};
-ghost use Rattle.pfs_order.specs.Pieces.{IsHead, opening, counted};
-ghost use Rattle.pfs_order.specs.Sequence.{IsSequence, StatedOrder};
+ghost use Rattle.pfs_order.specs.OrderFile.{IsOrderFile, RefusesOrder, RefusesUnlessFailed, IsUnlessFailed};
+ghost use Rattle.pfs_order.specs.OrderFile.{ReadsOrderAsFar};
+ghost use Rattle.pfs_order.specs.Private.Reading.{Gives, Orders, JudgesText, FillsBelow, IsHead, version_at};
+ghost use Rattle.pfs_order.specs.Private.Reading.{first_line_at, job_end, jobs_at, makespan_at, take_job};
+ghost use Rattle.pfs_order.specs.Sequence.{StatedOrder};
 ghost use Rattle.pfs_order.specs.declared.fault.OrderFault.{OrderFault};
 
 use crate::fault::OrderFault;
@@ -98,117 +99,111 @@ fn fill<R: Source>(reader: &mut R, buffer: &mut [u8]) -> Result<usize, OrderFaul
 }
 
 // What a whole text states.
+#[tactic(auto, unfolding(crate::specs::Private::Reading::read_text, crate::specs::Private::Reading::lines_at))]
 fn parse(alloc: Global, text: &[u8]) -> Result<OrderFile, OrderFault>
-    requires { length text.now ≤ LONGEST_ORDER_FILE }
-    ensures accepted { IfOk result (λ file. IsOrderFile text.now file) }
-    ensures refused { IfErr result (λ fault. JudgesText text.now fault) }
+    ensures { JudgesText text.now result }
 {
     let head = first_line(text)?;
-    let last = jobs_line(text, head)?;
-    let makespan = makespan_line(text, last, head)?;
-    let order = order_line(alloc, text, head)?;
+    let mut numbers = [0; MOST_JOBS];
+    let row = &mut numbers[..head.jobs];
+    let start = jobs_line(text, head, row)?;
+    let (makespan, end) = makespan_line(text, start)?;
+    if end < text.len() {
+        return Err(OrderFault::Syntax { offset: end });
+    }
+    let order = order_of(alloc, row)?;
     Ok(OrderFile::new(order, head.machines, makespan))
 }
 
 // What the first line states.
+#[tactic(auto, unfolding(crate::specs::Private::Reading::first_line_at))]
 fn first_line(text: &[u8]) -> Result<Head, OrderFault>
-    ensures read { IfOk result (λ head. text.now ≡ counted head.jobs head.machines (drop head.end text.now)) }
+    ensures read { Gives text.now (λ head. ((head.jobs, head.machines), head.end)) result (first_line_at text.now) }
     ensures in_range { IfOk result (λ head. IsHead head.jobs head.machines) }
-    ensures within { IfOk result (λ head. head.end ≤ length text.now) }
-    ensures fault { IfErr result (λ fault. SaysSyntax text.now fault) }
 {
     let (version, start) = version_of(text)?;
-    let end = match version {
-        Version::One => b'\n',
-        Version::Two => b' ',
-    };
-    let (jobs, next) = numeral(text, start, 1, MOST_JOBS as u64, end)?;
-    let (machines, end) = match version {
-        Version::One => (None, next),
-        Version::Two => {
-            let (machines, end) = numeral(text, next, 1, MOST_MACHINES as u64, b'\n')?;
-            (Some(machines as usize), end)
+    match version {
+        Version::One => {
+            let (jobs, end) = numeral(text, start, 1, MOST_JOBS as u64, b'\n')?;
+            Ok(Head {
+                jobs: jobs as usize,
+                machines: None,
+                end,
+            })
         }
-    };
-    Ok(Head {
-        jobs: jobs as usize,
-        machines,
-        end,
-    })
+        Version::Two => {
+            let (jobs, next) = numeral(text, start, 1, MOST_JOBS as u64, b' ')?;
+            let (machines, end) = numeral(text, next, 1, MOST_MACHINES as u64, b'\n')?;
+            Ok(Head {
+                jobs: jobs as usize,
+                machines: Some(machines as usize),
+                end,
+            })
+        }
+    }
 }
 
 // The version that the first line begins with, and where its numbers begin.
+#[tactic(auto, unfolding(crate::specs::Private::Reading::version_at, crate::specs::Private::Reading::version_end))]
 fn version_of(text: &[u8]) -> Result<(Version, usize), OrderFault>
-    ensures read { IfOk result (λ r. text.now ≡ opening r.0 ++ drop r.1 text.now) }
-    ensures within { IfOk result (λ r. r.1 ≤ length text.now) }
-    ensures fault { IfErr result (λ fault. SaysSyntax text.now fault) }
+    ensures { Gives text.now (λ r. r) result (version_at text.now) }
 {
     let at = word(text, 0, b"order")?;
-    if at == text.len() {
-        return Err(OrderFault::Syntax { offset: at });
+    if at < text.len() && text[at] == b' ' {
+        return Ok((Version::One, at + 1));
     }
-    match text[at] {
-        b' ' => Ok((Version::One, at + 1)),
-        b'2' => {
-            let start = word(text, at + 1, b" ")?;
-            Ok((Version::Two, start))
-        }
-        _ => Err(OrderFault::Syntax { offset: at }),
-    }
+    let start = word(text, at, b"2 ")?;
+    Ok((Version::Two, start))
 }
 
-// Where the line behind that of the jobs begins.
-fn jobs_line(text: &[u8], head: Head) -> Result<usize, OrderFault>
-    requires counted { text.now ≡ counted head.jobs head.machines (drop head.end text.now) }
-    requires head { IsHead head.jobs head.machines }
+// The numbers of the jobs, and where the line behind theirs begins.
+#[tactic(auto, using(crate::proofs::CodeLemmas::job_steps))]
+fn jobs_line(text: &[u8], head: Head, numbers: &mut [u32]) -> Result<usize, OrderFault>
     requires start { head.end ≤ length text.now }
-    ensures read { IfOk result (λ next. HasJobs head.jobs head.machines text.now next) }
-    ensures within { IfOk result (λ next. next ≤ length text.now) }
-    ensures fault { IfErr result (λ fault. SaysSyntax text.now fault) }
+    requires room { length numbers.old ≡ head.jobs }
+    ensures { Gives text.now (λ next. (numbers.new, next)) result (jobs_at head.jobs (drop head.end text.now)) }
 {
-    let mut at = head.end;
-    for _place in 1..head.jobs {
-        let (_, next) = numeral(text, at, 0, GREATEST_JOB, b' ')?;
-        at = next;
-    }
-    let (_, next) = numeral(text, at, 0, GREATEST_JOB, b'\n')?;
-    Ok(next)
-}
-
-// The makespan in the last line, behind which the text ends.
-fn makespan_line(text: &[u8], start: usize, head: Head) -> Result<u64, OrderFault>
-    requires jobs { HasJobs head.jobs head.machines text.now start }
-    requires start { start ≤ length text.now }
-    ensures read { IfOk result (λ makespan.
-        (jobs : List ℕ) × (HasText text.now jobs head.machines makespan × (length jobs ≡ head.jobs))) }
-    ensures fault { IfErr result (λ fault. SaysSyntax text.now fault) }
-{
-    let at = word(text, start, b"makespan ")?;
-    let (makespan, end) = numeral(text, at, 0, GREATEST_MAKESPAN, b'\n')?;
-    if end < text.len() {
-        return Err(OrderFault::Syntax { offset: end });
-    }
-    Ok(makespan)
-}
-
-// The order of the jobs in the second line of a text of the grammar.
-fn order_line(alloc: Global, text: &[u8], head: Head) -> Result<Order, OrderFault>
-    requires text { IsText text.now }
-    requires counted { text.now ≡ counted head.jobs head.machines (drop head.end text.now) }
-    requires head { IsHead head.jobs head.machines }
-    requires start { head.end ≤ length text.now }
-    ensures sequence { IfOk result (λ order. IsSequence (length order) order) }
-    ensures jobs { IfOk result (λ order. (jobs : List ℕ) (machines : Option ℕ) (makespan : ℕ) →
-        HasText text.now jobs machines makespan → jobs ≡ map (λ job. job + 1) order) }
-    ensures fault { IfErr result (λ fault. RefusesJobs text.now fault) }
-{
-    let mut seq = Seq::new(alloc, head.jobs)?;
     let mut at = head.end;
     for place in 0..head.jobs {
-        let end = if place + 1 < head.jobs { b' ' } else { b'\n' };
+        let end = end_behind(head.jobs - place - 1);
         let (number, next) = numeral(text, at, 0, GREATEST_JOB, end)?;
-        add_job(&mut seq, number)?;
+        numbers[place] = number as u32;
         at = next;
+    }
+    Ok(at)
+}
+
+// The byte behind a job that so many follow.
+fn end_behind(more: usize) -> u8
+    ensures { result ≡ job_end more }
+{
+    match more {
+        0 => b'\n',
+        _ => b' ',
+    }
+}
+
+// The makespan in the last line, and where the text goes on behind it.
+#[tactic(auto, unfolding(crate::specs::Private::Reading::makespan_at))]
+fn makespan_line(text: &[u8], start: usize) -> Result<(u64, usize), OrderFault>
+    requires { start ≤ length text.now }
+    ensures read { Gives text.now (λ r. r) result (makespan_at (drop start text.now)) }
+    ensures short { IfOk result (λ r. r.0 < 10 ^ 18) }
+{
+    let at = word(text, start, b"makespan ")?;
+    numeral(text, at, 0, GREATEST_MAKESPAN, b'\n')
+}
+
+// The order of the jobs with these numbers.
+#[tactic(auto, using(crate::proofs::JobOrders::order_steps))]
+fn order_of(alloc: Global, numbers: &[u32]) -> Result<Order, OrderFault>
+    requires some { 1 ≤ length numbers.now }
+    requires few { length numbers.now ≤ MOST_JOBS }
+    ensures { Orders numbers.now result }
+{
+    let mut seq = Seq::new(alloc, numbers.len())?;
+    for number in numbers {
+        add_job(&mut seq, *number)?;
     }
     match Order::from_seq(seq) {
         Ok(order) => Ok(order),
@@ -217,15 +212,13 @@ fn order_line(alloc: Global, text: &[u8], head: Head) -> Result<Order, OrderFaul
 }
 
 // Puts a job, whose number counts from 1, behind those that stand in a sequence.
-fn add_job(seq: &mut Seq, number: u64) -> Result<(), OrderFault>
-    ensures in_range { OnOk result ((1 ≤ number) × (number ≤ seq.old.size)) }
-    ensures absent { OnOk result (Contains seq.old.jobs (number - 1) → ⊥) }
-    ensures added { OnOk result
-        (seq.new ≡ record seq.old { jobs = seq.old.jobs ++ (number - 1) ∷ [] }) }
-    ensures refused { IfErr result (λ fault. RefusesJob seq.old number fault) }
+#[tactic(auto, using(crate::proofs::JobOrders::add_steps))]
+fn add_job(seq: &mut Seq, number: u32) -> Result<(), OrderFault>
+    ensures ok { OnOk result (take_job seq.old number ≡ Ok seq.new) }
+    ensures err { IfErr result (λ fault. take_job seq.old number ≡ Err fault) }
 {
     let place = seq.len();
-    if number < 1 || number > seq.size() as u64 {
+    if number < 1 || number as usize > seq.size() {
         return Err(OrderFault::JobRange { place: place + 1 });
     }
     let job = number as usize - 1;

@@ -1,28 +1,30 @@
 -- One input, one answer.
 use Rattle.std.proofs.Common.{◌≡◌, ℕ, ◌+◌, ◌-◌, ◌*◌, ◌<◌, ◌≤◌, ◌^◌, ◌⊎◌, inl, inr, List, [], ◌∷◌, ◌++◌}
-use Rattle.std.proofs.Common.{length, take, drop, map, get_or, refl, sym, ◌∙◌, ap, arith, lit≤, lit<, eqb, Option}
+use Rattle.std.proofs.Common.{length, take, drop, map, get_or, refl, sym, ◌∙◌, ap, arith, lit≤, lit<, Option, codes}
 use Rattle.std.proofs.Common.{Some, None}
 use Rattle.std.specs.Fmt.{decimal}
 use Rattle.std.specs.List.{All}
-use Rattle.std.proofs.lemmas.Bool.{cases_order, eq-eqb}
+use Rattle.std.proofs.lemmas.Bool.{cases_order, cases_lt}
 use Rattle.std.proofs.lemmas.Fmt.{length-decimal-le_wide}
-use Rattle.std.proofs.lemmas.List.{append-nil, length-append, length-map, length-take-le, take-append-drop, drop_more}
-use Rattle.std.proofs.lemmas.List.{get_or-map, get_or-take}
-use Rattle.std.proofs.lemmas.List.Elements.{All-head, All-tail, All-get_or, All-map, All-weaker}
-use Rattle.std.proofs.lemmas.Map.Keys.{apart_from_distinct}
+use Rattle.std.proofs.lemmas.List.{append-nil, length-append, length-take-le, take-append-drop, drop_more}
+use Rattle.std.proofs.lemmas.List.Elements.{All-head, All-tail, All-map, All-weaker}
 use Rattle.pfs_base.specs.Limits.{limits}
-use Rattle.pfs_base.specs.declared.limits.TheConstants.{LONGEST_ORDER_FILE}
+use Rattle.pfs_base.specs.declared.limits.TheConstants.{MOST_JOBS, LONGEST_ORDER_FILE}
 use Rattle.pfs_order.specs.declared.fault.OrderFault.{OrderFault}
 use Rattle.pfs_order.specs.declared.fault.OrderFault.TheVariants.{Syntax, JobRange, Repeated, TooLong, Read, Memory}
-use Rattle.pfs_base.specs.Text.{spaced}
-use Rattle.pfs_order.specs.OrderText.{file_text}
+use Rattle.pfs_base.specs.Text.{spaced, with_line_end, named_number}
+use Rattle.pfs_order.specs.OrderText.{file_text, first_line}
 use Rattle.pfs_order.specs.Sequence.{StatedOrder, IsSequence, IsSize, AreMachines}
 use Rattle.pfs_order.specs.OrderFile.{IsText, IsSyntaxFault, IsJob, IsRepeated, AreRightBefore, IsJobFault}
-use Rattle.pfs_order.specs.OrderFile.{HasJobFault, RefusesOrder, IsOrderFile}
-use Rattle.pfs_order.specs.Pieces.{IsHead, counted, last_line}
+use Rattle.std.specs.Prelude.{Result, Ok, Err}
+use Rattle.pfs_order.specs.Sequence.{Sequence}
+use Rattle.pfs_order.specs.Private.Reading.{read_text, on_ok, take_jobs, none_of}
+use Rattle.pfs_order.specs.OrderFile.{HasText, HasJobFault, RefusesOrder, IsOrderFile}
 use Rattle.pfs_order.proofs.Faults.{fault_where_front_ends}
-use Rattle.pfs_order.proofs.OrderTexts.{IsShort}
-use Rattle.pfs_order.proofs.Stages.{head_of, lines_of, one_text, text_ends}
+use Rattle.pfs_order.proofs.Grammar.{IsShort, text_parts, one_text, text_ends, TextRead, read_whole, read_to}
+use Rattle.pfs_order.proofs.Grammar.{text_is_read}
+use Rattle.pfs_order.proofs.JobOrders.{numbered, length-numbered, number_in_range, number_is_new, JudgesJobs}
+use Rattle.pfs_order.proofs.JobOrders.{jobs_judged}
 
 -- ---- how long a text is
 
@@ -40,32 +42,35 @@ length-spaced (j ∷ k ∷ jobs) h =
     let rest = length-spaced (k ∷ jobs) (All-tail IsShort j (k ∷ jobs) h) in
     omega (arith, length-job j (k ∷ jobs) h, length-append (decimal j) (32 ∷ spaced (k ∷ jobs)))
 
-length-counted : (count : ℕ) (machines : Option ℕ) (rest : List ℕ) → IsHead count machines
-    → length (counted count machines rest) ≤ 60 + length rest
-length-counted count None rest h =
-    omega (arith, length-decimal count (omega arith), length-append (decimal count) (10 ∷ rest))
-length-counted count (Some m) rest h =
-    let few = h.stated.1 in
-    let line : List ℕ = decimal m ++ 10 ∷ rest in
+length-first_line : (count : ℕ) (machines : Option ℕ) → count ≤ MOST_JOBS → AreMachines machines
+    → length (first_line count machines) ≤ 60
+length-first_line count None few stated =
+    omega (arith, length-decimal count (omega arith), length-append (codes "order " ++ decimal count) (10 ∷ []))
+length-first_line count (Some m) few stated =
+    let most = stated.1 in
+    let numbers : List ℕ = decimal count ++ 32 ∷ decimal m in
     omega (
       arith,
       length-decimal count (omega arith),
       length-decimal m (omega arith),
-      length-append (decimal count) (32 ∷ line),
-      length-append (decimal m) (10 ∷ rest),
+      length-append (decimal count) (32 ∷ decimal m),
+      length-append (codes "order2 " ++ numbers) (10 ∷ []),
     )
 
 pub text_fits : (text : List ℕ) → IsText text → length text ≤ LONGEST_ORDER_FILE
 text_fits text (jobs, (machines, (makespan, h))) =
     let few = h.few_jobs in
-    let rest : List ℕ = spaced jobs ++ 10 ∷ last_line makespan in
+    let first : List ℕ = first_line (length jobs) machines in
+    let last : List ℕ = named_number (codes "makespan") makespan in
     omega (
       arith,
-      ap length (lines_of h),
-      length-counted (length jobs) machines rest (head_of h),
-      length-append (spaced jobs) (10 ∷ last_line makespan),
+      ap length (h.spelled ∙ text_parts jobs machines makespan),
+      length-append first (with_line_end (spaced jobs) ++ last),
+      length-append (with_line_end (spaced jobs)) last,
+      length-append (spaced jobs) (10 ∷ []),
+      length-first_line (length jobs) machines few h.stated_machines,
       length-spaced jobs h.short_jobs,
-      length-append (decimal makespan) (10 ∷ []),
+      length-append (codes "makespan " ++ decimal makespan) (10 ∷ []),
       length-decimal makespan h.short_makespan,
     )
 
@@ -158,47 +163,17 @@ one_refusal input one Memory h k = absurd k
 
 -- ---- orders
 
-abbrev numbered : List ℕ → List ℕ
-numbered order = map (λ job. job + 1) order
-
-number_at : (order : List ℕ) (i d : ℕ) → i < length order → get_or (numbered order) i d ≡ get_or order i 0 + 1
-number_at order i d lt = get_or-map (λ job. job + 1) order i 0 d lt
-
-length-numbered : (order : List ℕ) → length (numbered order) ≡ length order
-length-numbered order = length-map order (λ (job : ℕ). job + 1)
-
-job_in_range : (order : List ℕ) (i : ℕ) → IsSequence (length order) order → i < length (numbered order)
-    → IsJob (numbered order) i
-job_in_range order i h lt =
-    let size = length-numbered order in
-    let small : get_or order i 0 < length order =
-    All-get_or (λ job. job < length order) order i 0 (omega arith) h.in_range in
-    let number : get_or (numbered order) i 0 ≡ get_or order i 0 + 1 = number_at order i 0 (omega arith) in
-    (omega arith, omega arith)
-
-job_is_new : (order : List ℕ) (i : ℕ) → IsSequence (length order) order → i < length (numbered order)
-    → ¬ IsRepeated (numbered order) i
-job_is_new order i h lt (k, within, same) =
-    let size = length-numbered order in
-    let job : ℕ = get_or (numbered order) i 0 in
-    let taken : length (take i (numbered order)) ≡ i = length-take-le i (numbered order) (omega arith) in
-    let before : get_or (take i (numbered order)) k job ≡ get_or order k 0 + 1 =
-    get_or-take i (numbered order) k job (omega arith) ∙ number_at order k job (omega arith) in
-    let number : job ≡ get_or order i 0 + 1 = number_at order i 0 (omega arith) in
-    let equal = eq-eqb (get_or order k 0) (get_or order i 0) (omega arith) in
-    let apart = apart_from_distinct eqb order k i 0 h.distinct (omega arith) (omega arith) in
-    absurd (cc)
-
 pub not_both : (input : List ℕ) (file : StatedOrder) (fault : OrderFault) → IsOrderFile input file
     → ¬ RefusesOrder input fault
 not_both input file fault h refused =
     let text : IsText input = (numbered file.order, (file.machines, (file.makespan, h.has_text))) in
     let (jobs, (machines, (makespan, (k, f)))) = refused_jobs input fault text refused in
     let (i, (before, wrong)) = fault_place (numbered file.order) fault (rw (one_text k h.has_text).0 at f) in
-    elim wrong [
-      | inl out ↦ out (job_in_range file.order i h.is_order before.within)
-      | inr twice ↦ job_is_new file.order i h.is_order before.within twice
-    ]
+    let size = length-numbered file.order in
+    let lt : i < length file.order = omega (arith, before.within) in
+    let right = rw append-nil at (number_in_range (length file.order) file.order [] h.is_order i lt) in
+    let new = rw append-nil at (number_is_new (length file.order) file.order [] h.is_order i lt) in
+    elim wrong [ inl out ↦ out (rw size right) | inr twice ↦ new twice ]
 
 unnumbered : (order : List ℕ) → map (λ job. job - 1) (numbered order) ≡ order
 unnumbered [] = refl
@@ -238,3 +213,54 @@ written_file order machines makespan size h stated small =
         spelled = refl;
       };
     }
+
+-- ---- what is read of a text is the verdict on it
+
+abbrev pub Verdict : List ℕ → Result StatedOrder OrderFault → Type 0
+Verdict text (Ok file) = IsOrderFile text file
+Verdict text (Err fault) = RefusesOrder text fault
+
+job_refused : (text jobs : List ℕ) (machines : Option ℕ) (makespan : ℕ) (fault : OrderFault)
+    → HasText text jobs machines makespan → IsJobFault jobs fault → RefusesOrder text fault
+job_refused text jobs machines makespan (JobRange p) h f = (jobs, (machines, (makespan, (h, f))))
+job_refused text jobs machines makespan (Repeated p) h f = (jobs, (machines, (makespan, (h, f))))
+job_refused text jobs machines makespan fault h f = absurd f
+
+pub text_verdict : (text : List ℕ) → length text ≤ LONGEST_ORDER_FILE → Verdict text (read_text text)
+unfolding read_text
+text_verdict text few = of (text_is_read text)
+  where
+    of_jobs : (jobs : List ℕ) (machines : Option ℕ) (makespan : ℕ) → HasText text jobs machines makespan
+        → (read : Result Sequence OrderFault) → JudgesJobs jobs read
+        → Verdict text (on_ok (λ seq. Ok (stated_order seq.jobs machines makespan)) read)
+    of_jobs jobs machines makespan h (Err fault) j = job_refused text jobs machines makespan fault h j
+    of_jobs jobs machines makespan h (Ok seq) (sequence, numbers) =
+        let size : length jobs ≡ length seq.jobs = ap length numbers ∙ length-numbered seq.jobs in
+        record { is_order = rw size at sequence; has_text = rw numbers at h }
+
+    of : TextRead text → Verdict text (read_text text)
+    of (read_whole jobs machines makespan h e) =
+        rw e (of_jobs jobs machines makespan h (take_jobs jobs (none_of (length jobs))) (jobs_judged jobs))
+    of (read_to front rest whole f e) =
+        let offset : length text - length rest ≡ length front =
+        omega (arith, ap length whole, length-append front rest) in
+        rw (e, offset) (few, f)
+
+-- each input is an order file or is refused
+pub some_verdict : (input : List ℕ)
+    → ((file : StatedOrder) × IsOrderFile input file) ⊎ ((fault : OrderFault) × RefusesOrder input fault)
+some_verdict input = elim (cases_lt LONGEST_ORDER_FILE (length input)) [
+  | inl long ↦ inr (TooLong, long)
+  | inr few ↦ of (read_text input) (text_verdict input few)
+]
+  where
+    of : (read : Result StatedOrder OrderFault) → Verdict input read
+        → ((file : StatedOrder) × IsOrderFile input file) ⊎ ((fault : OrderFault) × RefusesOrder input fault)
+    of (Ok file) h = inl (file, h)
+    of (Err fault) h = inr (fault, h)
+
+pub text_or_fault : (text : List ℕ) → IsText text ⊎ ((offset : ℕ) × IsSyntaxFault text offset)
+text_or_fault text = elim (text_is_read text) [
+  | read_whole jobs machines makespan h e ↦ inl (jobs, (machines, (makespan, h)))
+  | read_to front rest whole f e ↦ inr (length front, f)
+]

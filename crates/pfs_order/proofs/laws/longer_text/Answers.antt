@@ -1,4 +1,4 @@
-use Rattle.pfs_order.proofs.Stages.{more_fault}
+use Rattle.pfs_order.proofs.Grammar.{more_fault}
 use Rattle.pfs_order.proofs.laws.longer_text.Goals as goal
 
 pub returns : goal.returns

@@ -1,4 +1,4 @@
-use Rattle.pfs_order.proofs.TextOrFault.{text_or_fault}
+use Rattle.pfs_order.proofs.Published.OrderVerdicts.{text_or_fault}
 use Rattle.pfs_order.proofs.laws.text_or_fault.Goals as goal
 
 pub returns : goal.returns

@@ -1,12 +1,11 @@
-use Rattle.std.proofs.Common.{◌≡◌, ◌+◌, ◌≤◌, List, ℕ, length, drop}
-use Rattle.std.specs.List.{All}
-use Rattle.pfs_order.specs.Pieces.{counted}
-use Rattle.pfs_order.proofs.OrderTexts.{IsShort, before}
+use Rattle.std.proofs.Common.{◌≡◌, ◌≤◌, ◌-◌, drop, take, length}
+use Rattle.pfs_order.specs.Private.Reading.{jobs_at}
+use Rattle.pfs_order.proofs.CodeLemmas.{with_front}
 use Rattle.pfs_order.proofs.reading.jobs_line.Given as goal
 
 abbrev pub invariant-loop-place : goal.invariant-loop-place
 invariant-loop-place l = record {
   within : l.at ≤ length l.text;
-  read : (done : List ℕ) × ((All IsShort done) × (length done + 1 ≡ l._place)
-      × (l.text ≡ counted l.fn.head.jobs l.fn.head.machines (before done (drop l.at l.text))));
+  read : jobs_at l.head.jobs (drop l.head.end l.text)
+      ≡ with_front (take l.place l.numbers) (jobs_at (l.head.jobs - l.place) (drop l.at l.text));
 }
