@@ -1,13 +1,10 @@
 -- Seeds of the generator, and times that are set one by one.
-use Rattle.std.proofs.Common.{◌≡◌, ◌≢◌, ℕ, zero, suc, ◌+◌, ◌*◌, ◌%◌, ◌<◌, ◌≤◌, length, add-one, arith}
-use Rattle.std.proofs.lemmas.Grind.{rows}
-use Rattle.std.proofs.lemmas.List.{get_or-set_same, get_or-set_other, length-set}
-use Rattle.std.proofs.lemmas.Nat.{same_from_place}
-use Rattle.pfs_base.specs.FlowShop.{FlowShop, time_of, with_time}
-use Rattle.pfs_base.specs.Problem.{Problem}
-use Rattle.pfs_base.specs.declared.limits.TheConstants.{LONGEST_TIME}
+use Rattle.pfs_layout.proofs.Words.{◌≡◌, ◌≢◌, ℕ, zero, suc, ◌+◌, ◌*◌, ◌%◌, ◌<◌, ◌≤◌, length, add-one, arith, rows}
+use Rattle.pfs_layout.proofs.Words.{length-set, same_from_place, FlowShop, time_of, with_time, Problem, LONGEST_TIME}
+use Rattle.pfs_layout.proofs.Words.{seed_after, generated}
+use Rattle.std.proofs.lemmas.List.{get_or-set_same, get_or-set_other}
 use Rattle.pfs_base.specs.declared.notes.Notes.{Notes}
-use Rattle.pfs_layout.specs.Generator.{prime, seed_after, drawn_time, generated, SeedsStay, GeneratedWithin}
+use Rattle.pfs_layout.specs.Generator.{prime, drawn_time, SeedsStay, GeneratedWithin}
 use Rattle.pfs_layout.proofs.Tables.{length-table, same_table, all_table}
 
 -- so many draws, and then so many more

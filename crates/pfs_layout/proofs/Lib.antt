@@ -2,6 +2,7 @@ pub mod Published
 mod Computing
 mod Options
 mod Tables
+mod Words
 pub mod Files
 pub mod GeneratorLemmas
 pub mod Reading

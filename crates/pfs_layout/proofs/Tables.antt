@@ -1,11 +1,9 @@
 -- Lists of rows of one width, by row and column.
-use Rattle.std.proofs.Common.{◌≡◌, ℕ, zero, suc, ◌+◌, ◌*◌, ◌/◌, ◌%◌, ◌<◌, List, length, get_or, map, flat_map, sym, ◌∙◌}
-use Rattle.std.proofs.Common.{arith, All, div-lt_iff_lt-mul, mod-lt, length-append}
-use Rattle.std.proofs.lemmas.Grind.{elements, same_number_lists}
-use Rattle.std.proofs.lemmas.List.Elements.{All-from_get_or}
-use Rattle.std.proofs.lemmas.List.FromFn.{get_or-map-range_with_len, length-map-range_with_len}
-use Rattle.pfs_base.specs.Lists.{below}
-use Rattle.pfs_base.proofs.Published.SpacedLemmas.{flat_map_more, flat_map_from}
+use Rattle.pfs_layout.proofs.Words.{◌≡◌, ℕ, zero, suc, ◌+◌, ◌*◌, ◌/◌, ◌%◌, ◌<◌, List, length, get_or, map, flat_map}
+use Rattle.pfs_layout.proofs.Words.{sym, ◌∙◌, arith, All, length-append, elements, same_number_lists, All-from_get_or}
+use Rattle.pfs_layout.proofs.Words.{get_or-map-range_with_len, length-map-range_with_len, below, flat_map_more}
+use Rattle.pfs_layout.proofs.Words.{flat_map_from}
+use Rattle.std.proofs.Common.{div-lt_iff_lt-mul, mod-lt}
 
 module _ (f : ℕ → List ℕ) (w : ℕ) (each : (i : ℕ) → length (f i) ≡ w) where
   pub length-rows : (n : ℕ) → length (flat_map f (below n)) ≡ n * w

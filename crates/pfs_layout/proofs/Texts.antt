@@ -1,4 +1,3 @@
 -- Canonical texts: what is written, and that it is a file.
 pub mod CanonicalFile
-pub mod CanonicalLemmas
 pub mod WritingLemmas

@@ -67,11 +67,6 @@ abbrev pub AcceptedLaw : Type 0
 AcceptedLaw = (layout : Layout) (input : List ℕ) (k : ℕ) (problem : Problem) → 1 ≤ k
     → accepted layout input k ≡ Some problem ↔ IsInstanceFile limits layout input k problem
 
--- an input has at most one fault
-abbrev pub OneFault : Type 0
-OneFault = (layout : Layout) (input : List ℕ) (k : ℕ) (one other : LayoutFault)
-    → RefusesInstance layout input k one → RefusesInstance layout input k other → one ≡ other
-
 -- which fault it has can be computed
 abbrev pub RefusalLaw : Type 0
 RefusalLaw = (layout : Layout) (input : List ℕ) (k : ℕ) (fault : LayoutFault)

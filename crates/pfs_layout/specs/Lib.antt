@@ -6,8 +6,8 @@ pub mod File
 pub mod Generator
 pub mod Laws
 pub mod Lines
+pub mod Private
 pub mod Reader
 pub mod Refuse
 pub mod Size
 pub mod Stand
-pub mod Step

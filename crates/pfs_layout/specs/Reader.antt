@@ -28,8 +28,13 @@ use Rattle.pfs_layout.specs.Size.{Size, is_within_limits}
 use Rattle.pfs_layout.specs.Block.{due_count}
 use Rattle.pfs_layout.specs.Stand.{Block, Now, seeking, inside, lost, Stand, stand, times_among, instance_of}
 use Rattle.pfs_layout.specs.File.{IsInstanceFile}
-use Rattle.pfs_layout.specs.Step.{is_live}
 use Rattle.pfs_layout.specs.Refuse.{RefusesInstance, fault_of_place, byte_fault}
+
+-- a further byte is wanted
+abbrev pub is_live : Phase → Bool
+is_live phases.Done = false
+is_live (phases.Refused fault) = false
+is_live other = true
 
 -- what a reader holds: the last line so far, and the blocks
 pub record Fields : Type 0 where
@@ -95,7 +100,7 @@ pub record FollowsBody (layout : Layout) (size : Size) (count : ℕ) (body : Bod
   pub place : body.judged < body.due → IsNextTime layout body
 
 -- the next block is sought, behind these ended numbers of the last line, which has a word byte or not
-pub record Seeks (has_word : Bool) (r : Blocks) (more : List ℕ) : Type 0 where
+pub record IsSeeking (has_word : Bool) (r : Blocks) (more : List ℕ) : Type 0 where
   pub phase : r.phase ≡ (if nat_lt r.complete r.wanted then phases.Seeking else phases.Done)
   pub numbers : has_word ≡ false → HoldsNumbers r.size_line more
 
@@ -107,7 +112,7 @@ pub record IsInside (r : Blocks) (block : Block) (more : List ℕ) : Type 0 wher
   pub body : FollowsBody r.layout block.size (length block.numbers + length more) r.body
 
 abbrev pub FollowsNow : Bool → Blocks → Now → List ℕ → Type 0
-FollowsNow has_word r seeking more = Seeks has_word r more
+FollowsNow has_word r seeking more = IsSeeking has_word r more
 FollowsNow has_word r (inside block) more = IsInside r block more
 FollowsNow has_word r lost more = ⊥
 
@@ -142,11 +147,8 @@ pub record IsRefused (r : Fields) (text : List ℕ) (fault : LayoutFault) : Type
   pub held : r.held ≡ time_count r.layout (block_read r.layout r.wanted front)
 
 abbrev pub StandsIn : Phase → Fields → List ℕ → Type 0
-StandsIn phases.Seeking r text = Follows r text
-StandsIn phases.Body r text = Follows r text
-StandsIn phases.AfterLast r text = Follows r text
-StandsIn phases.Done r text = Follows r text
 StandsIn (phases.Refused fault) r text = IsRefused r text fault
+StandsIn other r text = Follows r text
 
 -- the reader has read this text, with or without a fault
 abbrev pub StandsAfter : Fields → List ℕ → Type 0
@@ -185,24 +187,11 @@ pub record EndsWantedSize (layout : Layout) (k : ℕ) (text : List ℕ) (byte : 
   pub sought : (stand layout (ended_lines text)).now ≡ seeking
   pub begun : (block : Block) × ((stand layout (ended_lines (text ++ byte ∷ []))).now ≡ inside block)
 
--- what the bytes that were taken leave of a reader that stands after this text
-pub record TakeMeets (old : Fields) (text piece : List ℕ) (used : ℕ) (new : Fields) : Type 0 where
-  pub layout : new.layout ≡ old.layout
-  pub wanted : new.wanted ≡ old.wanted
-  pub stands : new.phase ≢ phases.Refused Memory → StandsAfter new (text ++ take used piece)
-  pub memory : new.phase ≡ phases.Refused Memory
-      → (n : ℕ) × (n < length piece) × EndsWantedSize old.layout old.wanted (text ++ take n piece) (slice_index piece n)
-  pub none : new.phase ≡ phases.Refused Memory → new.held ≡ 0
-  pub no_more : (n : ℕ) → n < used
-      → length (stand old.layout (ended_lines (text ++ take n piece))).complete < old.wanted
-
 -- what is told of the bytes that were taken
 abbrev pub progress_of : Phase → ℕ → Result Progress LayoutFault
-progress_of phases.Seeking used = Ok (record { used = used; done = false })
-progress_of phases.Body used = Ok (record { used = used; done = false })
-progress_of phases.AfterLast used = Ok (record { used = used; done = false })
 progress_of phases.Done used = Ok (record { used = used; done = true })
 progress_of (phases.Refused fault) used = Err fault
+progress_of other used = Ok (record { used = used; done = false })
 
 -- what feed owes a reader that stands after this text
 pub record FeedMeets (old : Fields) (text piece : List ℕ) (outcome : Result Progress LayoutFault) (new : Fields)
@@ -250,12 +239,3 @@ pub record ReadsAsFar (layout : Layout) (k : ℕ) (bytes : List ℕ) (left : Opt
   -- memory is wanted at the end of the wanted block's size line alone, which is in the last piece
   pub memory : fault ≡ Some Memory
       → (n : ℕ) × (n < length last) × EndsWantedSize layout k (front ++ take n last) (slice_index last n)
-
--- a reader of the block that has read a front of what its source had left at first, where that is told
-pub record Reading (layout : Layout) (k : ℕ) (first left : Option (List ℕ)) (r : Fields) : Type 0 where
-  pub layout_is : r.layout ≡ layout
-  pub wanted_is : r.wanted ≡ k
-  pub live : is_live r.phase ≡ true
-  pub front : List ℕ
-  pub stands : StandsAfter r front
-  pub told : (text : List ℕ) → first ≡ Some text → (rest : List ℕ) × (left ≡ Some rest) × (text ≡ front ++ rest)

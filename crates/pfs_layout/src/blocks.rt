@@ -2,13 +2,14 @@
 ghost use Rattle.std.specs.Prelude.{◌≡◌, ◌≢◌, ◌+◌, ◌-◌, ◌*◌, ◌<◌, ◌≤◌, true, false, ◌==◌, ℕ, List, length, replicate};
 ghost use Rattle.std.specs.Prelude.{Some, None, IfOk, IfErr, OnOk, OnErr, IfSome, option_map, is_some, if◌then◌else◌};
 ghost use Rattle.pfs_layout.specs.Size.{is_within_limits};
-ghost use Rattle.pfs_layout.specs.Step.{refused, is_live as live_test, is_in_block, CanCount, with_problem_time};
-ghost use Rattle.pfs_layout.specs.Step.{stored, counted, time_judged, machine_judged, body_judged, number_ended};
-ghost use Rattle.pfs_layout.specs.Step.{size_given, empty_problem, no_blocks, block_begun, size_line_ended};
-ghost use Rattle.pfs_layout.specs.Step.{block_ended, line_ended, last_number_ended, mixed_met, blocks_after};
-ghost use Rattle.pfs_layout.specs.Step.{is_line_ended, end_fault, end_fault_in, at_end, IsReady, Keeps, KeepsHeld};
-ghost use Rattle.pfs_layout.specs.Step.{LacksMemory};
-ghost use Rattle.pfs_layout.specs.Reader.{fields, StandsAfter, IsReader, TakeMeets, FeedMeets, progress_of};
+ghost use Rattle.pfs_layout.specs.Private.Step.{refused, is_in_block, CanCount, with_problem_time, stored, counted};
+ghost use Rattle.pfs_layout.specs.Private.Step.{time_judged, machine_judged, body_judged, number_ended, size_given};
+ghost use Rattle.pfs_layout.specs.Private.Step.{empty_problem, no_blocks, block_begun, size_line_ended, block_ended};
+ghost use Rattle.pfs_layout.specs.Private.Step.{line_ended, last_number_ended, mixed_met, blocks_after, is_line_ended};
+ghost use Rattle.pfs_layout.specs.Private.Step.{line_ended_in, has_numbers_alone, end_fault, at_end, IsReady, Keeps};
+ghost use Rattle.pfs_layout.specs.Private.Step.{KeepsHeld, LacksMemory};
+ghost use Rattle.pfs_layout.specs.Reader.{is_live as live_test, fields, StandsAfter, IsReader, FeedMeets, progress_of};
+ghost use Rattle.pfs_layout.specs.Private.Take.{TakeMeets};
 
 use crate::body::Body;
 use crate::scan::{Event, Kinds, Line, Number, is_blank};
@@ -167,7 +168,7 @@ impl Blocks {
 
     // The number stands outside a body.
     #[inline(never)]
-    #[tactic(auto, unfolding(crate::specs::Step::number_ended))]
+    #[tactic(auto, unfolding(crate::specs::Private::Step::number_ended))]
     fn end_other_number(&mut self, value: u64, first: usize)
         requires elsewhere { self.old.phase ≢ Phase.Body }
         requires count { self.old.size_line.count ≤ LONGEST_INPUT }
@@ -182,7 +183,7 @@ impl Blocks {
 
     // A blank, a line end or the end of the input ends a number.
     #[inline(always)]
-    #[tactic(auto, unfolding(crate::specs::Step::number_ended))]
+    #[tactic(auto, unfolding(crate::specs::Private::Step::number_ended))]
     fn end_number(&mut self, number: Number)
         requires can { self.old.phase ≡ Phase.Body → CanCount self.old }
         requires count { self.old.size_line.count ≤ LONGEST_INPUT }
@@ -280,7 +281,7 @@ impl Blocks {
     }
 
     // Byte 10 ends the line.
-    #[tactic(auto, unfolding(crate::specs::Step::line_ended))]
+    #[tactic(auto, unfolding(crate::specs::Private::Step::line_ended))]
     fn end_line(&mut self, alloc: Global, is_number_line: bool)
         requires complete { self.old.complete < self.old.wanted }
         requires line { self.old.line ≤ LONGEST_INPUT }
@@ -389,9 +390,6 @@ impl Blocks {
             }
             let event = line.event(b);
             line.push(b);
-            if let Event::Quiet = event {
-                continue;
-            }
             self.after(alloc, event);
             if !self.is_live() {
                 break;
@@ -438,7 +436,7 @@ impl Blocks {
     /// the wanted block isn't complete.
     pub fn judge_end(&mut self, last: Line) -> Option<LayoutFault>
         requires { IsReader (fields last self.old) }
-        ensures fault { result ≡ end_fault last.kinds (at_end last self.old) }
+        ensures fault { result ≡ end_fault (line_ended (at_end last self.old) (has_numbers_alone last.kinds)) }
         ensures blocks { self.new ≡ at_end last self.old }
     {
         if self.is_live() {
@@ -447,10 +445,11 @@ impl Blocks {
         self.end_fault(last.kinds)
     }
 
-    // The fault of an input that ends here.
+    // The fault of an input that ends here, as if its last line ended.
+    #[tactic(auto, unfolding(crate::specs::Private::Step::line_ended))]
     fn end_fault(&self, kinds: Kinds) -> Option<LayoutFault>
         requires { live_test self.now.phase ≡ true → self.now.complete < self.now.wanted }
-        ensures { result ≡ end_fault kinds self.now }
+        ensures { result ≡ end_fault (line_ended self.now (has_numbers_alone kinds)) }
     {
         match self.phase {
             Phase::Seeking => Some(self.sought_fault(kinds)),
@@ -474,7 +473,8 @@ impl Blocks {
     // The fault of an input that ends while a block is sought. A size line without a fault begins a
     // block, of which no time was read.
     fn sought_fault(&self, kinds: Kinds) -> LayoutFault
-        ensures { Some result ≡ end_fault_in Phase.Seeking kinds self.now }
+        requires { self.now.phase ≡ Phase.Seeking }
+        ensures { Some result ≡ end_fault (line_ended_in Phase.Seeking self.now (has_numbers_alone kinds)) }
     {
         if kinds.is_number_line() {
             match self.size_line.stated(self.layout, self.line) {

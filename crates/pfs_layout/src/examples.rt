@@ -1,4 +1,6 @@
 //! What the definitions say of some files.
+#![tactic(auto, unfolding(crate::proofs::Computing::computing))]
+
 ghost use Rattle.std.specs.Prelude.{◌≡◌, ℕ, ◌+◌, ◌∷◌, [], ◌++◌, codes, length, take, map, replicate, sum};
 ghost use Rattle.pfs_base.specs.Limits.{limits};
 ghost use Rattle.pfs_base.specs.Lists.{below};

@@ -3,7 +3,7 @@ ghost use Rattle.std.specs.Prelude.{◌≡◌, ℕ, List};
 ghost use Rattle.pfs_layout.specs.Reader.{StandsAfter, FinishMeets};
 ghost use Rattle.pfs_layout.specs.CanonicalText.{CanonicalLaw, TextsFit};
 ghost use Rattle.pfs_layout.specs.Generator.{SeedsStay, GeneratedWithin};
-ghost use Rattle.pfs_layout.specs.Laws.{FileStands, SomeFile, OneVerdict, OneFault, RefusalLaw, AcceptedLaw};
+ghost use Rattle.pfs_layout.specs.Laws.{FileStands, SomeFile, OneVerdict, RefusalLaw, AcceptedLaw};
 ghost use Rattle.pfs_layout.specs.Laws.{FaultStays, ByteFaultLaw, FreeBehind, WiderLimits, EarlierFiles};
 ghost use Rattle.pfs_layout.specs.Laws.{DueAndBack, DueFronts};
 
@@ -23,13 +23,9 @@ pub fn some_file()
 {}
 
 /// Every input holds the file of exactly one problem or has exactly one fault, and not both.
+#[tactic(auto, using(crate::proofs::Published::LawLemmas::one_verdict))]
 pub fn one_verdict()
     ensures { OneVerdict }
-{}
-
-/// An input has at most one fault.
-pub fn one_fault()
-    ensures { OneFault }
 {}
 
 /// Which fault an input has can be computed.
@@ -43,6 +39,7 @@ pub fn accepted()
 {}
 
 /// A fault at a byte stays, whatever follows.
+#[tactic(auto, using(crate::proofs::Files::EndLemmas::fault_stays))]
 pub fn fault_stays()
     ensures { FaultStays }
 {}
@@ -53,56 +50,65 @@ pub fn byte_fault()
 {}
 
 /// What follows the wanted block is free.
+#[tactic(auto, using(crate::proofs::Files::EndLemmas::free_behind))]
 pub fn free_behind()
     ensures { FreeBehind }
 {}
 
 /// Wider limits keep every file.
+#[tactic(auto, using(crate::proofs::Files::EndLemmas::wider_limits))]
 pub fn wider_limits()
     ensures { WiderLimits }
 {}
 
 /// What was an instance file of versions before, which took 2,000 jobs and times of 1,000,000 at most, is one of the
 /// same problem.
+#[tactic(auto, using(crate::proofs::Files::EndLemmas::earlier_files))]
 pub fn earlier_files()
     ensures { EarlierFiles }
 {}
 
 /// The numbers that are due for a problem give it back.
+#[tactic(auto, using(crate::proofs::Files::DueLemmas::instance_due))]
 pub fn due_and_back()
     ensures { DueAndBack }
 {}
 
 /// Numbers pass, place by place, exactly where they begin what is due for some problem of the size.
+#[tactic(auto, using(crate::proofs::Files::DueLemmas::due_fronts))]
 pub fn due_fronts()
     ensures { DueFronts }
 {}
 
 /// What is written of an instance is an instance file, and its first block is that instance, but for the
 /// notes in the OR-Library's layout.
+#[tactic(auto, using(crate::proofs::Texts::CanonicalFile::canonical_law))]
 pub fn canonical_text()
     ensures { CanonicalLaw }
 {}
 
 /// What is written of an instance is within the limit of an instance file. The longest text is that of 5,000 jobs which
 /// take 1,000,000,000 on each of 200 machines, in the OR-Library's layout: 14,450,028 bytes.
+#[tactic(auto, using(crate::proofs::Texts::CanonicalFile::texts_fit))]
 pub fn texts_fit()
     ensures { TextsFit }
 {}
 
 /// A seed that is drawn is a seed again.
+#[tactic(auto, using(crate::proofs::GeneratorLemmas::seeds_stay))]
 pub fn seeds_stay()
     ensures { SeedsStay }
 {}
 
 /// What is drawn is an instance within the limits.
+#[tactic(auto, using(crate::proofs::GeneratorLemmas::generated_within))]
 pub fn generated_within()
     ensures { GeneratedWithin }
 {}
 
 /// Two readers of one block and layout that stand after the same bytes give the answer that the bytes
 /// have, however they were cut for each.
-#[tactic(auto, using(crate::proofs::Reading::CuttingLemmas::same_answers))]
+#[tactic(auto, using(crate::proofs::Reading::OutcomeLemmas::same_answers))]
 pub fn cutting(
     one: BlockReader,
     other: BlockReader,

@@ -1,12 +1,12 @@
 //! The push reader of instance files.
-ghost use Rattle.std.specs.Prelude.{◌≡◌, ◌≢◌, ◌↔◌, ℕ, ◌+◌, ◌≤◌, List, [], ◌++◌, length, true, false};
-ghost use Rattle.std.specs.Prelude.{IfOk, IfErr, IfSome};
+ghost use Rattle.std.specs.Prelude.{◌≡◌, ◌≢◌, ◌↔◌, ℕ, ◌+◌, ◌≤◌, List, [], ◌++◌, length, true, false, IfOk, IfErr};
+ghost use Rattle.std.specs.Prelude.{IfSome};
 ghost use Rattle.std.specs.Result.{result_err};
 ghost use Rattle.pfs_base.specs.Limits.{limits};
 ghost use Rattle.pfs_layout.specs.File.{IsInstanceFile};
 ghost use Rattle.pfs_layout.specs.Refuse.{RefusesInstance};
-ghost use Rattle.pfs_layout.specs.Step.{is_live as live_test};
-ghost use Rattle.pfs_layout.specs.Reader.{StandsAfter, HoldsFew, FeedMeets, FinishMeets, ReadsAsFar, progress_of};
+ghost use Rattle.pfs_layout.specs.Reader.{is_live as live_test, StandsAfter, HoldsFew, FeedMeets, FinishMeets};
+ghost use Rattle.pfs_layout.specs.Reader.{ReadsAsFar, progress_of};
 
 use crate::blocks::{Blocks, Phase, Progress};
 use crate::scan::Line;
@@ -85,6 +85,7 @@ impl BlockReader {
 
     /// The instance, if the input may end here. The end of the input ends the last number and the
     /// last line.
+    #[tactic(auto, unfolding(crate::specs::Private::Step::line_ended))]
     pub fn finish(self) -> Result<Instance, LayoutFault>
         ensures refused { (fault : LayoutFault) → self.phase ≡ Phase.Refused fault → result ≡ Err fault }
         ensures meets { (text : List ℕ) → StandsAfter self text → FinishMeets self text result }

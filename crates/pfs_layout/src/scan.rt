@@ -1,10 +1,10 @@
 //! The last line so far, and what a byte behind it means. Its parts have no padding, so that a step is a
 //! few instructions.
-ghost use Rattle.std.specs.Prelude.{◌≡◌, ◌<◌, ◌≤◌, ◌&&◌, not, true};
+ghost use Rattle.std.specs.Prelude.{◌≡◌, ◌<◌, ◌≤◌, ◌&&◌, not, true, false};
 ghost use Rattle.pfs_layout.specs.Bytes.{is_digit as digit_test, is_blank as blank_test, is_word_byte as word_test};
-ghost use Rattle.pfs_layout.specs.Step.{no_line, digits_after, kinds_after, line_after, blank_after, word_after};
-ghost use Rattle.pfs_layout.specs.Step.{has_numbers_alone, number_of, mixed_if as mixed_event};
-ghost use Rattle.pfs_layout.specs.Step.{blank_event as blank_event_of, event_of};
+ghost use Rattle.pfs_layout.specs.Private.Step.{no_line, digits_after, kinds_after, line_after, blank_after};
+ghost use Rattle.pfs_layout.specs.Private.Step.{word_after, has_numbers_alone, number_of};
+ghost use Rattle.pfs_layout.specs.Private.Step.{blank_event as blank_event_of, event_of};
 
 use pfs_base::{GREATEST_NOTE, LONGEST_INPUT};
 
@@ -216,22 +216,23 @@ impl Line {
         is_word_byte(b) && !self.kinds.has_digit
     }
 
-    /// What a byte behind the line means.
+    /// What any other byte behind the line means: it ends the line, or mixes it.
     #[inline(always)]
     pub fn event(self, b: u8) -> Event
+        requires digit { (digit_test b && not self.kinds.has_word) ≡ false }
+        requires blank { blank_test b ≡ false }
+        requires word { (word_test b && not self.kinds.has_digit) ≡ false }
         ensures { result ≡ event_of self b }
     {
-        if is_digit(b) {
-            self.mixed_if(self.kinds.has_word)
-        } else if is_blank(b) {
-            self.blank_event()
-        } else if b == LINE_END {
+        if b == LINE_END {
             Event::LineEnded {
                 number: self.digits.number(),
                 is_number_line: self.kinds.is_number_line(),
             }
         } else {
-            self.mixed_if(self.kinds.has_digit)
+            Event::Mixed {
+                offset: self.digits.offset,
+            }
         }
     }
 
@@ -243,20 +244,6 @@ impl Line {
         match self.digits.number() {
             Some(number) => Event::NumberEnded(number),
             None => Event::Quiet,
-        }
-    }
-
-    // The line is mixed with the next byte, or isn't.
-    #[inline(always)]
-    fn mixed_if(self, is_mixed: bool) -> Event
-        ensures { result ≡ mixed_event self is_mixed }
-    {
-        if is_mixed {
-            Event::Mixed {
-                offset: self.digits.offset,
-            }
-        } else {
-            Event::Quiet
         }
     }
 }

@@ -2,7 +2,7 @@
 ghost use Rattle.std.specs.Prelude.{◌≡◌, ◌≤◌, true, Some, IfOk, IfErr, IsTrue};
 ghost use Rattle.pfs_layout.specs.Size.{is_within_limits};
 ghost use Rattle.pfs_layout.specs.Refuse.{size_fault};
-ghost use Rattle.pfs_layout.specs.Step.{no_numbers, with_number, stated_by, size_given, size_from};
+ghost use Rattle.pfs_layout.specs.Private.Step.{no_numbers, with_number, stated_by, size_given, size_from};
 
 use crate::scan::CEILING;
 use crate::{Layout, LayoutFault};

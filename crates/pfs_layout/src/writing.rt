@@ -1,8 +1,10 @@
 //! Writing instance files.
-ghost use Rattle.std.specs.Prelude.{◌≡◌, ◌+◌, ◌<◌, ◌≤◌, ◌^◌, false, true, length, take, IfErr, OnOk, OnErr};
+ghost use Rattle.std.specs.Prelude.{◌≡◌, ◌+◌, ◌<◌, ◌≤◌, ◌^◌, false, true, length, take, slice_index, IfErr, OnOk};
+ghost use Rattle.std.specs.Prelude.{OnErr};
 ghost use Rattle.std.specs.Io.KnownBytes.{Appends};
 ghost use Rattle.pfs_base.specs.Sends.{Sends};
-ghost use Rattle.pfs_layout.specs.Block.{row_count};
+ghost use Rattle.pfs_layout.specs.Block.{due_row, row_count};
+ghost use Rattle.pfs_layout.specs.Private.Rows.{row_width};
 ghost use Rattle.pfs_layout.specs.CanonicalText.{head_lines, row_line, row_lines, canonical_text};
 
 use crate::layout::Layout;
@@ -112,55 +114,41 @@ fn put_row<W: Sink>(
     ensures { Sends (W.written writer.old) (W.written writer.new) (W.has_failed writer.new) sent
         (row_line layout instance.now.shop row) result }
 {
+    let width = row_length(instance, layout);
+    let mut reached = sent;
+    for place in 0..width {
+        let number = number_at(instance, layout, row, place);
+        reached = put_entry(writer, place, number, reached)?;
+    }
+    put(writer, b"\n", reached)
+}
+
+// How many numbers a row has.
+fn row_length(instance: &Instance, layout: Layout) -> usize
+    ensures { result ≡ row_width layout instance.now.shop }
+{
     match layout {
-        Layout::Taillard => put_machine(writer, instance, row, sent),
-        Layout::OrLib => put_job(writer, instance, row, sent),
+        Layout::Taillard => instance.jobs(),
+        Layout::OrLib => instance.machines() * 2,
     }
 }
 
-// Writes the times of all jobs on a machine.
-fn put_machine<W: Sink>(
-    writer: &mut W,
-    instance: &Instance,
-    machine: usize,
-    sent: u64,
-) -> Result<u64, WriteFault>
-    requires working { W.has_failed writer.old ≡ false }
-    requires machine { machine < instance.now.shop.machines }
-    requires fits { sent + length (row_line Layout.Taillard instance.now.shop machine) < 2 ^ 64 }
-    ensures { Sends (W.written writer.old) (W.written writer.new) (W.has_failed writer.new) sent
-        (row_line Layout.Taillard instance.now.shop machine) result }
+// The number at a place of a row: a job's time on the row's machine, or a machine and then its time of the row's job.
+#[tactic(auto, using(crate::proofs::Texts::WritingLemmas::number_is))]
+fn number_at(instance: &Instance, layout: Layout, row: usize, place: usize) -> u64
+    requires row { row < row_count layout instance.now.shop }
+    requires place { place < row_width layout instance.now.shop }
+    ensures { result ≡ slice_index (due_row layout instance.now.shop row) place }
 {
-    let mut reached = sent;
-    for job in 0..instance.jobs() {
-        reached = put_entry(writer, job, instance.time(job, machine) as u64, reached)?;
+    match layout {
+        Layout::Taillard => instance.time(place, row) as u64,
+        Layout::OrLib => {
+            let machine = place / 2;
+            if place % 2 == 0 {
+                machine as u64
+            } else {
+                instance.time(row, machine) as u64
+            }
+        }
     }
-    put(writer, b"\n", reached)
-}
-
-// Writes the machine numbers and the times of a job.
-fn put_job<W: Sink>(
-    writer: &mut W,
-    instance: &Instance,
-    job: usize,
-    sent: u64,
-) -> Result<u64, WriteFault>
-    requires working { W.has_failed writer.old ≡ false }
-    requires job { job < instance.now.shop.jobs }
-    requires fits { sent + length (row_line Layout.OrLib instance.now.shop job) < 2 ^ 64 }
-    ensures { Sends (W.written writer.old) (W.written writer.new) (W.has_failed writer.new) sent
-        (row_line Layout.OrLib instance.now.shop job) result }
-{
-    let mut reached = sent;
-    for machine in 0..instance.machines() {
-        let place = 2 * machine;
-        reached = put_entry(writer, place, machine as u64, reached)?;
-        reached = put_entry(
-            writer,
-            place + 1,
-            instance.time(job, machine) as u64,
-            reached,
-        )?;
-    }
-    put(writer, b"\n", reached)
 }

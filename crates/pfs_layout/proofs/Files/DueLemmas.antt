@@ -1,31 +1,47 @@
--- The numbers that are due, by index.
-use Rattle.std.proofs.Common.{◌≡◌, ℕ, ◌+◌, ◌*◌, ◌/◌, ◌%◌, ◌<◌, ◌≤◌, true, List, [], ◌∷◌, length, get_or, refl, ◌∙◌}
-use Rattle.std.proofs.Common.{arith, inl, inr}
-use Rattle.std.specs.List.{All, enumerate_from}
-use Rattle.std.proofs.lemmas.Bool.{cases_eq, eq-eqb}
-use Rattle.std.proofs.lemmas.Bool.Decides.{nat_tests}
-use Rattle.std.proofs.lemmas.Grind.{elements}
+-- The numbers that are due: by index, for a problem and back, and their fronts.
+use Rattle.pfs_layout.proofs.Words.{arith, ◌≡◌, ℕ, ◌≤◌, true, List, nat_le, All, list_all, nat_tests, LONGEST_TIME}
+use Rattle.pfs_layout.proofs.Words.{limits, Problem, Size, size_of, is_within_limits, IsInstance, ◌+◌, ◌*◌, ◌/◌, ◌%◌}
+use Rattle.pfs_layout.proofs.Words.{◌<◌, [], ◌∷◌, length, get_or, refl, ◌∙◌, inl, inr, cases_eq, eq-eqb, elements}
+use Rattle.pfs_layout.proofs.Words.{length-map-range_with_len, mod-mul-add, mul-add-lt, FlowShop, time_of, Layout}
+use Rattle.pfs_layout.proofs.Words.{Taillard, OrLib, any_time, machine_number, is_due, due_at, are_due, due_row, due}
+use Rattle.pfs_layout.proofs.Words.{due_count, row_width, place_of_time, Bool, sym, same_number_lists, Block}
+use Rattle.pfs_layout.proofs.Words.{instance_of, ◌++◌, drop, length-append, begun, list_all-append}
+use Rattle.pfs_layout.proofs.Words.{enumerate_from-append, and_parts}
+use Rattle.std.proofs.lemmas.List.Sums.{AllPass-from_list_all, list_all-from_AllPass}
+use Rattle.pfs_base.specs.declared.limits.TheConstants.{GREATEST_NOTE}
+use Rattle.std.specs.List.{enumerate_from}
+use Rattle.std.proofs.lemmas.List.FromFn.{get_or-enumerate_from, length-enumerate_from}
+use Rattle.std.proofs.Common.{leb-true, length-drop}
+use Rattle.pfs_base.specs.FlowShop.{AreSizes}
 use Rattle.std.proofs.lemmas.List.{get_or_past, get_or_default}
-use Rattle.std.proofs.lemmas.List.FromFn.{get_or-enumerate_from, length-enumerate_from, length-map-range_with_len}
-use Rattle.std.proofs.lemmas.List.Sums.{list_all-from_AllPass}
-use Rattle.std.proofs.lemmas.Nat.{mod-mul-add, mul-add-lt}
-use Rattle.pfs_base.specs.declared.limits.TheConstants.{LONGEST_TIME}
-use Rattle.pfs_base.specs.FlowShop.{FlowShop, time_of}
-use Rattle.pfs_base.specs.Problem.{Problem}
-use Rattle.pfs_layout.specs.declared.layout.Layout.{Layout}
-use Rattle.pfs_layout.specs.declared.layout.Layout.TheVariants.{Taillard, OrLib}
-use Rattle.pfs_layout.specs.Size.{Size, size_of}
-use Rattle.pfs_layout.specs.Block.{any_time, machine_number, is_due, due_at, are_due, due_row, due, due_count}
-use Rattle.pfs_layout.specs.Stand.{place_of_time}
-use Rattle.pfs_layout.proofs.Tables.{length-rows, rows_at, at_row, table_at}
+use Rattle.pfs_layout.proofs.Tables.{length-rows, rows_at, at_row, table_at, length-table, same_table, all_table}
+use Rattle.pfs_layout.specs.Laws.{BeginDue, DueFronts}
+
+-- ---- sizes within the limits
+
+pub within_size : (problem : Problem) → IsInstance limits problem → is_within_limits (size_of problem) ≡ true
+within_size problem is = grind (arith, nat_tests)
+
+-- what the test says
+pub record AreWithin (size : Size) : Type 0 where
+  pub sizes : AreSizes limits size.jobs size.machines
+  pub seed : size.notes.seed ≤ GREATEST_NOTE
+  pub upper : size.notes.upper ≤ GREATEST_NOTE
+  pub lower : size.notes.lower ≤ GREATEST_NOTE
+
+pub size_within : (size : Size) → is_within_limits size ≡ true → AreWithin size
+size_within size e = grind (arith, nat_tests)
+
+-- times that pass the test are short
+pub all_short : (times : List ℕ) → list_all (λ time. nat_le time LONGEST_TIME) times ≡ true
+    → All (λ time. time ≤ LONGEST_TIME) times
+all_short times e = λ k d h. leb-true _ _ (AllPass-from_list_all (λ time. nat_le time LONGEST_TIME) times e k d h)
+
+-- ---- the numbers that are due, by index
 
 -- a machine and its time
 abbrev pub pairs_of : FlowShop → ℕ → ℕ → List ℕ
 pairs_of shop job machine = machine ∷ time_of shop job machine ∷ []
-
-abbrev pub row_width : Layout → FlowShop → ℕ
-row_width Taillard shop = shop.jobs
-row_width OrLib shop = shop.machines * 2
 
 pub length-due_row : (layout : Layout) (shop : FlowShop) (r : ℕ)
     → length (due_row layout shop r) ≡ row_width layout shop
@@ -120,3 +136,139 @@ due_passes layout problem within = are_due_by_place layout (size_of problem) (du
           grind (arith, nat_tests, place, due_time, time_due layout problem job machine)
       | a_number machine wanted is ↦ rw (wanted, is) (eq-eqb machine machine refl)
     ])
+
+-- ---- the times of a complete block
+
+-- the number at the place of a time
+abbrev pub stands_at : Layout → Size → List ℕ → ℕ → ℕ → ℕ
+stands_at layout size numbers job machine = get_or numbers (place_of_time layout size job machine) 0
+
+module _ (layout : Layout) (block : Block) where
+  pub length-times : length (instance_of layout block).shop.times ≡ block.size.jobs * block.size.machines
+  unfolding instance_of
+  length-times = length-table (stands_at layout block.size block.numbers) block.size.jobs block.size.machines
+
+-- ---- from a problem to its due numbers and back
+
+module _ (layout : Layout) (problem : Problem) where
+  -- the block of a problem
+  abbrev pub block_of : Block
+  block_of = record { size = size_of problem; numbers = due layout problem.shop }
+
+  pub instance_due : length problem.shop.times ≡ problem.shop.jobs * problem.shop.machines
+      → instance_of layout block_of ≡ problem
+  unfolding instance_of
+  instance_due every =
+      let number : ℕ → ℕ → ℕ = stands_at layout block_of.size block_of.numbers in
+      let times = same_table number problem.shop.jobs problem.shop.machines problem.shop.times
+      every (λ job machine j m. sym (time_due layout problem job machine j m)) in
+      rw (← times)
+
+-- ---- from a complete block's numbers to a problem and back
+
+-- each of the numbers is what is due at its place
+pub due_number : (layout : Layout) (size : Size) (numbers : List ℕ) (k : ℕ) → are_due layout size numbers ≡ true
+    → k < length numbers → is_due (due_at layout size k) (get_or numbers k 0) ≡ true
+unfolding are_due
+due_number layout size numbers k all h =
+    let test : ℕ × ℕ → Bool = λ placed. is_due (due_at layout size placed.0) placed.1 in
+    let placed = AllPass-from_list_all test (enumerate_from 0 numbers) all k (0, 0) in
+    grind (arith, placed, length-enumerate_from {X = ℕ}, get_or-enumerate_from {X = ℕ})
+
+pub length-due_instance : (layout : Layout) (block : Block)
+    → length (due layout (instance_of layout block).shop) ≡ due_count layout block.size
+unfolding instance_of
+length-due_instance layout block = length-due layout (instance_of layout block)
+
+-- a complete block's numbers are those that are due for its problem
+pub due_instance : (layout : Layout) (block : Block) → are_due layout block.size block.numbers ≡ true
+    → length block.numbers ≡ due_count layout block.size → due layout (instance_of layout block).shop ≡ block.numbers
+unfolding instance_of
+due_instance layout block all full =
+    let count = length-due_instance layout block in
+    same_number_lists (due layout (instance_of layout block).shop) block.numbers (count ∙ sym full) (λ k h.
+    elim (place_is layout (instance_of layout block) k (omega (arith, count))) [
+      | a_time job machine j m place ↦
+          rw place (time_due layout (instance_of layout block) job machine j m
+          ∙ table_at (stands_at layout block.size block.numbers) block.size.jobs block.size.machines job machine 0 j m)
+      | a_number machine wanted is ↦
+          grind (arith, nat_tests, is, wanted, full, count, due_number layout block.size block.numbers k all)
+    ])
+
+-- ---- a complete block's problem is within the limits
+
+pub times_short : (layout : Layout) (block : Block) → are_due layout block.size block.numbers ≡ true
+    → length block.numbers ≡ due_count layout block.size
+    → All (λ time. time ≤ LONGEST_TIME) (instance_of layout block).shop.times
+unfolding instance_of
+times_short layout block all full =
+    all_table (stands_at layout block.size block.numbers) block.size.jobs block.size.machines
+    (λ time. time ≤ LONGEST_TIME)
+    (λ job machine j m.
+    let place : ℕ = place_of_time layout block.size job machine in
+    let within = place_within layout block.size job machine j m in
+    let time = due_time layout block.size job machine j m in
+    grind (arith, nat_tests, full, due_number layout block.size block.numbers place all))
+
+pub instance_within : (layout : Layout) (block : Block) → is_within_limits block.size ≡ true
+    → are_due layout block.size block.numbers ≡ true → length block.numbers ≡ due_count layout block.size
+    → IsInstance limits (instance_of layout block)
+unfolding instance_of
+instance_within layout block size all full =
+    grind (arith, size_within block.size size, length-times layout block, times_short layout block all full)
+
+-- ---- numbers that pass begin what is due for some problem
+
+-- the first of numbers that are due are due
+pub are_due_front : (layout : Layout) (size : Size) (xs ys : List ℕ) → are_due layout size (xs ++ ys) ≡ true
+    → are_due layout size xs ≡ true
+unfolding are_due
+are_due_front layout size xs ys e = (and_parts _ _ (rw (enumerate_from-append, list_all-append) at e)).0
+
+-- no more numbers than that pass
+pub no_more_than_due : (layout : Layout) (size : Size) (numbers : List ℕ) → are_due layout size numbers ≡ true
+    → length numbers ≤ due_count layout size
+unfolding due_at
+no_more_than_due layout size numbers all =
+    grind (arith, nat_tests, due_number layout size numbers (due_count layout size) all)
+
+-- what is due for a problem of the size in which each time is 0
+abbrev idle_due : Layout → Size → List ℕ
+idle_due layout size = due layout (instance_of layout (begun size)).shop
+
+-- the numbers, and behind them what is due for the idle problem
+abbrev filled : Layout → Size → List ℕ → List ℕ
+filled layout size numbers = numbers ++ drop (length numbers) (idle_due layout size)
+
+module _ (layout : Layout) (size : Size) (numbers : List ℕ) (all : are_due layout size numbers ≡ true) where
+  length-filled : length (filled layout size numbers) ≡ due_count layout size
+  length-filled =
+      simp (length-append, length-drop, length-due_instance) (omega (arith, no_more_than_due layout size numbers all))
+
+  filled_passes : are_due layout size (filled layout size numbers) ≡ true
+  unfolding instance_of
+  filled_passes = are_due_by_place layout size (filled layout size numbers) (λ k h.
+      let none_long = all_table (λ job machine. 0) size.jobs size.machines (λ time. time ≤ LONGEST_TIME)
+      (λ job machine j m. omega arith) in
+      let idle_passes = due_passes layout (instance_of layout (begun size)) none_long in
+      grind (arith, elements, length-filled, length-due_instance layout (begun size), due_number))
+
+  begin_due : BeginDue layout size numbers
+  unfolding instance_of
+  begin_due =
+      let block : Block = record { size = size; numbers = filled layout size numbers } in
+      record {
+        problem = instance_of layout block;
+        rest = drop (length numbers) (idle_due layout size);
+        of_size = refl;
+        every_time = length-times layout block;
+        short_times = times_short layout block filled_passes length-filled;
+        begin = due_instance layout block filled_passes length-filled;
+      }
+
+pub due_fronts : DueFronts
+due_fronts layout size numbers = (
+  λ all. begin_due layout size numbers all,
+  λ b. are_due_front layout size numbers b.rest (rw (b.begin, b.of_size) at
+      (due_passes layout b.problem b.short_times)),
+)

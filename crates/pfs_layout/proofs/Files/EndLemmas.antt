@@ -1,14 +1,13 @@
--- Faults at bytes and at the end, and what more input changes.
-use Rattle.std.proofs.Common.{◌≡◌, ℕ, List, [], ◌∷◌, ◌++◌, Some}
-use Rattle.std.proofs.lemmas.List.{append_assoc, append-nil}
-use Rattle.pfs_base.proofs.Published.Lists.{by_push}
-use Rattle.pfs_layout.specs.declared.layout.Layout.{Layout}
-use Rattle.pfs_layout.specs.declared.fault.LayoutFault.{LayoutFault}
-use Rattle.pfs_layout.specs.Laws.{FaultStays, ByteFaultLaw, FreeBehind}
-use Rattle.pfs_layout.specs.Refuse.{byte_fault, RefusesInstance}
+-- What more input and wider limits change.
+use Rattle.pfs_layout.proofs.Words.{◌≡◌, ℕ, List, [], ◌∷◌, ◌++◌, Some, append_assoc, append-nil, by_push, Layout}
+use Rattle.pfs_layout.proofs.Words.{LayoutFault, byte_fault, RefusesInstance, ◌≤◌, length, arith, lit≤, AllByRecursion}
+use Rattle.pfs_layout.proofs.Words.{limits, Problem, AreBlocks, IsInstance, IsBlock, IsSomeBlock, lines}
+use Rattle.pfs_layout.specs.Laws.{FaultStays, ByteFaultLaw, FreeBehind, IsWider, WiderLimits, earlier_limits}
+use Rattle.pfs_layout.specs.Laws.{EarlierFiles}
 use Rattle.pfs_layout.proofs.Files.FileLemmas.{file_completes, completes_file}
 use Rattle.pfs_layout.proofs.Files.VerdictLemmas.{enough_holds, holds_longer, one_held}
 use Rattle.pfs_layout.proofs.Published.PlaceLemmas.{byte_fault-push, byte_fault_is, refusal_end, refusal_is}
+use Rattle.pfs_base.specs.Limits.{Limits}
 
 -- a fault at a byte stays, whatever follows
 pub byte_fault-more : (layout : Layout) (k : ℕ) (text more : List ℕ) (fault : LayoutFault)
@@ -44,3 +43,46 @@ free_behind layout text more k problem some right enough =
           let c = file_completes layout (text ++ more) k problem file in
           completes_file layout text k problem (rw (one_held layout k (text ++ more) held.0 problem all c) at own),
     )
+
+-- ---- wider limits keep every file
+
+module _ (narrow wide : Limits) (wider : IsWider narrow wide) where
+  instance_wider : (problem : Problem) → IsInstance narrow problem → IsInstance wide problem
+  instance_wider problem is = record {
+    within = record {
+      sizes = search arith;
+      every_time = is.within.every_time;
+      short_times = λ k d h. omega (arith, is.within.short_times k d h, wider.time);
+    };
+    seed = omega arith;
+    upper = omega arith;
+    lower = omega arith;
+  }
+
+  -- all else that a block is names no limit
+  block_wider : (layout : Layout) (problem : Problem) (block : List (List ℕ)) → IsBlock narrow layout problem block
+      → IsBlock wide layout problem block
+  block_wider layout problem block b = let within = instance_wider problem b.within in search
+
+  blocks_wider : (layout : Layout) (blocks : List (List (List ℕ))) → AllByRecursion (IsSomeBlock narrow layout) blocks
+      → AllByRecursion (IsSomeBlock wide layout) blocks
+  blocks_wider layout [] all = tt
+  blocks_wider layout (block ∷ blocks) all =
+      ((all.0.0, block_wider layout all.0.0 block all.0.1), blocks_wider layout blocks all.1)
+
+pub wider_limits : WiderLimits
+wider_limits narrow wide layout input k problem wider file =
+    let each = blocks_wider narrow wide wider layout file.blocks.earlier file.blocks.each in
+    let own = block_wider narrow wide wider layout problem file.blocks.own file.blocks.is_own in
+    let short : length file.text ≤ wide.input = omega (arith, file.short, wider.input) in
+    let blocks : AreBlocks wide layout k problem (lines file.text) = search in
+    search
+
+pub earlier_files : EarlierFiles
+earlier_files layout input k problem = wider_limits earlier_limits limits layout input k problem (record {
+  jobs = lit≤ tt;
+  machines = lit≤ tt;
+  time = lit≤ tt;
+  note = lit≤ tt;
+  input = lit≤ tt;
+})

@@ -1,17 +1,234 @@
 -- Files, by where their lines lead.
-use Rattle.std.proofs.Common.{ℕ, ◌+◌, List, [], ◌∷◌, ◌++◌, length, flat_map, refl, sym, ap, arith}
-use Rattle.std.proofs.lemmas.List.{append_assoc, append-nil, length-append}
-use Rattle.pfs_base.specs.Limits.{limits}
-use Rattle.pfs_base.specs.Problem.{Problem}
-use Rattle.pfs_layout.specs.declared.layout.Layout.{Layout}
-use Rattle.pfs_layout.specs.Lines.{lines}
-use Rattle.pfs_layout.specs.File.{AreBlocks, IsInstanceFile}
-use Rattle.pfs_layout.specs.Stand.{Block, completed, stand, stand_after, instance_of}
-use Rattle.pfs_layout.specs.Laws.{Completes, FileStands}
-use Rattle.pfs_layout.proofs.Files.BlockLemmas.{blocks_lead}
-use Rattle.pfs_layout.proofs.Files.CutLemmas.{front_of_lines}
-use Rattle.pfs_layout.proofs.Files.RoundLemmas.{block_of, instance_due}
-use Rattle.pfs_layout.proofs.Files.StandLemmas.{AreOf, IsMade, made}
+use Rattle.pfs_layout.proofs.Words.{◌≡◌, ℕ, ◌+◌, ◌<◌, true, not, List, [], ◌∷◌, ◌++◌, length, flat_map, refl, sym}
+use Rattle.pfs_layout.proofs.Words.{arith, append_assoc, append-nil, length-append, AllByRecursion, list_any, list_all}
+use Rattle.pfs_layout.proofs.Words.{list_all-append, fold-append, Layout, is_digit, limits, Problem, Size, size_of}
+use Rattle.pfs_layout.proofs.Words.{is_mixed, is_number_line, is_no_digit, numbers, are_due, due, due_count, Block}
+use Rattle.pfs_layout.proofs.Words.{seeking, inside, standing, completed, stand_after, IsSomeBlock, IsBlock, false, ap}
+use Rattle.pfs_layout.proofs.Words.{Some, ◌==◌, inl, inr, mul-le-mul, cases_Bool, eqb-false, or_parts, flat_map-append}
+use Rattle.pfs_layout.proofs.Words.{by_push, is_within_limits, stated_size, Now, lost, Stand, begun, with_line}
+use Rattle.pfs_layout.proofs.Words.{after_line, stand, instance_of, lines, AreBlocks, IsInstanceFile, Completes}
+use Rattle.std.proofs.Common.{fold}
+use Rattle.std.proofs.lemmas.Bool.{false≢true}
+use Rattle.pfs_layout.proofs.Files.LineLemmas.{split_some, front_of_lines}
+use Rattle.pfs_layout.proofs.Files.DueLemmas.{are_due_front, within_size, due_passes, length-due, block_of, size_within}
+use Rattle.pfs_layout.proofs.Files.DueLemmas.{due_instance, instance_within, instance_due}
+use Rattle.pfs_layout.proofs.Files.GoodLemmas.{stand-push}
+use Rattle.pfs_layout.specs.Laws.{FileStands}
+
+-- ---- where a block leads
+
+-- a line with a digit has a number
+numbers_some : (line : List ℕ) → list_any is_digit line ≡ true → 0 < length (numbers line)
+unfolding numbers
+numbers_some [] any = absurd (false≢true any)
+numbers_some (b ∷ line) any =
+    let parts = split_some is_no_digit line in grind (arith, parts.is, numbers_some line)
+
+-- a block's lines
+module _ (layout : Layout) (complete : List Block) where
+  -- skipped lines change nothing
+  skip_fold : (skipped : List (List ℕ)) → list_all (λ line. not (is_number_line line)) skipped ≡ true
+      → fold (stand_after layout) (standing complete seeking) skipped ≡ standing complete seeking
+  unfolding stand_after
+  skip_fold [] e = refl
+  skip_fold (line ∷ more) e = grind (arith, skip_fold more)
+
+  -- the lines of a body complete a block
+  body_fold : (size : Size) (ns : List ℕ) (front : List (List ℕ)) (last : List ℕ)
+      → list_all (λ line. not (is_mixed line)) front ≡ true → is_number_line last ≡ true
+      → (all : List ℕ) → all ≡ ns ++ (flat_map numbers front ++ numbers last)
+      → are_due layout size all ≡ true → length all ≡ due_count layout size
+      → fold (stand_after layout) (standing complete (inside (record { size = size; numbers = ns })))
+      (front ++ last ∷ [])
+      ≡ completed complete (record { size = size; numbers = all })
+  unfolding stand_after
+  body_fold size ns [] last unmixed numbered all is due count = grind arith
+  body_fold size ns (line ∷ more) last unmixed numbered all is due count =
+      let here : List ℕ = ns ++ numbers line in
+      let left : List ℕ = flat_map numbers more ++ numbers last in
+      let regroup : all ≡ here ++ left = rw is (simp append_assoc) in
+      grind (arith, regroup, numbers_some, are_due_front, length-append {A = ℕ}, body_fold size here more last)
+
+  -- a block is completed by its lines
+  pub block_fold : (problem : Problem) (block : List (List ℕ)) → IsBlock limits layout problem block
+      → fold (stand_after layout) (standing complete seeking) block ≡ completed complete (block_of layout problem)
+  unfolding stand_after
+  block_fold problem block b =
+      let tail : List (List ℕ) = b.front ++ b.last ∷ [] in
+      let lines = append_assoc b.skipped (b.size_line ∷ b.front) (b.last ∷ []) in
+      let skipped = skip_fold b.skipped b.no_numbers in
+      let within = within_size problem b.within in
+      let body = body_fold (size_of problem) [] b.front b.last b.body.front_unmixed b.body.last_numbers
+      (due layout problem.shop) (sym b.body.holds) (due_passes layout problem b.within.within.short_times)
+      (length-due layout problem) in
+      let joined = fold-append (stand_after layout) (standing complete seeking) b.skipped (b.size_line ∷ tail) in
+      grind (arith, b.parts, b.size)
+
+-- blocks lead to as many complete ones, the last of which is the instance's
+pub record LeadsTo (layout : Layout) (complete : List Block) (problem : Problem) (count : ℕ) (text : List (List ℕ))
+    : Type 0 where
+  pub before : List Block
+  pub as_many : length before + 1 ≡ count
+  pub end : fold (stand_after layout) (standing complete seeking) text
+      ≡ completed (complete ++ before) (block_of layout problem)
+
+pub blocks_lead : (layout : Layout) (complete : List Block) (problem : Problem) (earlier : List (List (List ℕ)))
+    (own : List (List ℕ)) → AllByRecursion (IsSomeBlock limits layout) earlier → IsBlock limits layout problem own
+    → LeadsTo layout complete problem (length earlier + 1) (flat_map (λ block. block) earlier ++ own)
+blocks_lead layout complete problem [] own each b =
+    record { before = []; as_many = refl; end = rw (append-nil complete) (block_fold layout complete problem own b) }
+blocks_lead layout complete problem (block ∷ earlier) own each b =
+    let first : Block = block_of layout each.0.0 in
+    let more = blocks_lead layout (complete ++ first ∷ []) problem earlier own each.1 b in
+    let rest : List (List ℕ) = flat_map (λ block. block) earlier ++ own in
+    let lines = append_assoc block (flat_map (λ block. block) earlier) own in
+    let joined = fold-append (stand_after layout) (standing complete seeking) block rest in
+    record {
+      before = first ∷ more.before;
+      as_many = omega (arith, more.as_many);
+      end = rw (lines, joined, block_fold layout complete each.0.0 block each.0.1) (rw more.end (simp append_assoc));
+    }
+
+-- ---- which lines lead to complete blocks
+
+-- a line without a digit has no number
+pub no_numbers : (line : List ℕ) → list_any is_digit line ≡ false → numbers line ≡ []
+unfolding numbers
+no_numbers [] none = refl
+no_numbers (b ∷ line) none =
+    let parts = or_parts (is_digit b) (list_any is_digit line) none in rw parts.0 (no_numbers line parts.1)
+
+-- ---- lines that are made of blocks
+
+-- skipped lines, a size line, and lines that hold the block's numbers so far
+pub record Opens (layout : Layout) (block : Block) (skipped : List (List ℕ)) (size_line : List ℕ)
+    (front tail : List (List ℕ)) : Type 0 where
+  pub parts : tail ≡ skipped ++ size_line ∷ front
+  pub no_numbers : list_all (λ line. not (is_number_line line)) skipped ≡ true
+  pub number_line : is_number_line size_line ≡ true
+  pub states : stated_size layout (numbers size_line) ≡ Some block.size
+  pub within : is_within_limits block.size ≡ true
+  pub unmixed : list_all (λ line. not (is_mixed line)) front ≡ true
+  pub holds : flat_map numbers front ≡ block.numbers
+
+-- a block that is begun and not complete, by its lines
+pub record IsBegun (layout : Layout) (block : Block) (tail : List (List ℕ)) : Type 0 where
+  pub skipped : List (List ℕ)
+  pub size_line : List ℕ
+  pub front : List (List ℕ)
+  pub opens : Opens layout block skipped size_line front tail
+  pub short : length block.numbers ≡ due_count layout block.size → ⊥
+
+-- what the lines behind the last complete block are
+abbrev pub IsTail : Layout → Now → List (List ℕ) → Type 0
+IsTail layout seeking tail = list_all (λ line. not (is_number_line line)) tail ≡ true
+IsTail layout (inside block) tail = IsBegun layout block tail
+IsTail layout lost tail = Unit {0}
+
+-- lines are those of complete blocks, one behind the other
+abbrev pub AreOf : Layout → List Block → List (List ℕ) → Type 0
+AreOf layout [] text = text ≡ []
+AreOf layout (block ∷ more) text = (own : List (List ℕ)) × (rest : List (List ℕ)) × (text ≡ own ++ rest)
+    × IsBlock limits layout (instance_of layout block) own × AreOf layout more rest
+
+AreOf-push : (layout : Layout) (complete : List Block) (text own : List (List ℕ)) (block : Block)
+    → AreOf layout complete text → IsBlock limits layout (instance_of layout block) own
+    → AreOf layout (complete ++ block ∷ []) (text ++ own)
+AreOf-push layout [] text own block are is = (own, [], rw are (sym (append-nil own)), is, refl)
+AreOf-push layout (first ∷ more) text own block are is =
+    let others = AreOf-push layout more are.1 own block are.4 is in
+    (are.0, are.1 ++ own, rw are.2 (append_assoc are.0 are.1 own), are.3, others)
+
+-- lines are those of the complete blocks, and what fits where they lead
+pub record IsMade (layout : Layout) (text : List (List ℕ)) (reached : Stand) : Type 0 where
+  pub front : List (List ℕ)
+  pub tail : List (List ℕ)
+  pub parts : text ≡ front ++ tail
+  pub each : AreOf layout reached.complete front
+  pub fits : IsTail layout reached.now tail
+
+module _ (layout : Layout) (text : List (List ℕ)) (complete : List Block) (line : List ℕ) where
+  -- one more line behind the complete blocks
+  grown : {now : Now} (next : Now) (m : IsMade layout text (standing complete now))
+      → IsTail layout next (m.tail ++ line ∷ []) → IsMade layout (text ++ line ∷ []) (standing complete next)
+  grown next m fits =
+      let parts : text ++ line ∷ [] ≡ m.front ++ (m.tail ++ line ∷ []) =
+      rw m.parts (append_assoc m.front m.tail (line ∷ [])) in
+      search
+
+  -- a size line
+  began : (m : IsMade layout text (standing complete seeking)) (size : Size)
+      → stated_size layout (numbers line) ≡ Some size → is_number_line line ≡ true → is_within_limits size ≡ true
+      → IsMade layout (text ++ line ∷ []) (standing complete (inside (begun size)))
+  began m size states numbered within =
+      let sizes = (size_within size within).sizes in
+      let some = mul-le-mul sizes.some_job sizes.some_machine in
+      grown (inside (begun size)) m (record {
+        skipped = m.tail;
+        size_line = line;
+        front = [];
+        opens = grind (arith, m.fits);
+        short = λ none. grind (arith, some);
+      })
+
+  finished : (block : Block) → IsMade layout text (standing complete (inside block)) → is_mixed line ≡ false
+      → are_due layout block.size (with_line block line).numbers ≡ true
+      → length (with_line block line).numbers ≡ due_count layout block.size
+      → IsMade layout (text ++ line ∷ []) (completed complete (with_line block line))
+  unfolding instance_of
+  finished block m unmixed right whole =
+      let own : List (List ℕ) = m.tail ++ line ∷ [] in
+      let all_due = due_instance layout (with_line block line) right whole in
+      record {
+        front = m.front ++ own;
+        tail = [];
+        parts = rw m.parts (simp (append_assoc, append-nil));
+        each = AreOf-push layout complete m.front own (with_line block line) m.each (record {
+          skipped = m.fits.skipped;
+          size_line = m.fits.size_line;
+          front = m.fits.front;
+          last = line;
+          parts = ap (λ ls. ls ++ line ∷ []) m.fits.opens.parts;
+          no_numbers = m.fits.opens.no_numbers;
+          size = grind (arith, m.fits.opens);
+          body = grind (arith, no_numbers line, append-nil {A = ℕ});
+          within = instance_within layout (with_line block line) m.fits.opens.within right whole;
+        });
+        fits = refl;
+      }
+
+  unfinished : (block : Block) (m : IsMade layout text (standing complete (inside block))) → is_mixed line ≡ false
+      → (length (with_line block line).numbers == due_count layout block.size) ≡ false
+      → IsMade layout (text ++ line ∷ []) (standing complete (inside (with_line block line)))
+  unfinished block m unmixed short =
+      let more_lines = append_assoc m.fits.skipped (m.fits.size_line ∷ m.fits.front) (line ∷ []) in
+      let more_numbers = flat_map-append numbers m.fits.front (line ∷ []) in
+      grown (inside (with_line block line)) m (record {
+        skipped = m.fits.skipped;
+        size_line = m.fits.size_line;
+        front = m.fits.front ++ line ∷ [];
+        opens = grind (arith, m.fits.opens, list_all-append {X = List ℕ}, append-nil {A = ℕ});
+        short = eqb-false (length (with_line block line).numbers) (due_count layout block.size) short;
+      })
+
+  by_now : (now : Now) → IsMade layout text (standing complete now)
+      → IsMade layout (text ++ line ∷ []) (after_line layout complete now line)
+  by_now seeking m = elim (cases_Bool (is_number_line line)) [
+    | inl numbered ↦ grind (arith, grown lost m tt, began m)
+    | inr plain ↦ rw plain (grown seeking m (rw (list_all-append, m.fits, plain)))
+  ]
+  by_now (inside block) m = grind (arith, grown lost m tt, finished block m, unfinished block m)
+  by_now lost m = grown lost m tt
+
+-- any lines are those of the complete blocks, and what fits where they lead
+pub made : (layout : Layout) (text : List (List ℕ)) → IsMade layout text (stand layout text)
+unfolding stand stand_after
+made layout = by_push (λ text. IsMade layout text (stand layout text))
+    (record { front = []; tail = []; parts = refl; each = refl; fits = refl })
+    (λ text line m. rw (stand-push layout text line)
+    (by_now layout text (stand layout text).complete line (stand layout text).now m))
+
+-- ---- files
 
 pub file_completes : (layout : Layout) (input : List ℕ) (k : ℕ) (problem : Problem)
     → IsInstanceFile limits layout input k problem → Completes layout input k problem
@@ -19,18 +236,11 @@ unfolding stand stand_after
 file_completes layout input k problem f =
     let blocks = f.blocks in
     let lead = blocks_lead layout [] problem blocks.earlier blocks.own blocks.each blocks.is_own in
-    record {
-      text = f.text;
-      rest = f.rest;
-      whole = f.whole;
-      ended = f.ended;
-      short = f.short;
-      earlier = lead.before;
-      own = block_of layout problem;
-      count = rw blocks.count at lead.as_many;
-      stands = rw blocks.parts lead.end;
-      is = sym (instance_due layout problem blocks.is_own.within.within.every_time);
-    }
+    let count = rw blocks.count at lead.as_many in
+    let stands : stand layout (lines f.text) ≡ completed lead.before (block_of layout problem) =
+    rw blocks.parts lead.end in
+    let is = sym (instance_due layout problem blocks.is_own.within.within.every_time) in
+    search
 
 -- ---- and back
 

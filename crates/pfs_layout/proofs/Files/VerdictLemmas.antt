@@ -1,33 +1,23 @@
 -- An input holds a file exactly where none of its places has a fault.
-use Rattle.std.proofs.Common.{◌≡◌, ℕ, ◌-◌, ◌<◌, ◌≤◌, true, false, not, List, [], ◌∷◌, ◌++◌, length}
-use Rattle.std.proofs.Common.{refl, sym, ◌∙◌, ap, arith, Option, Some, None, ◌⊎◌, inl, inr, ◌==◌, nat_lt}
-use Rattle.std.specs.List.{slice_get}
-use Rattle.std.proofs.lemmas.Bool.{and_right, cases_Bool, cases_lt, cases_eq, eq-eqb, ne_eqb, lt-ltb, le-ltb, ltb-true}
-use Rattle.std.proofs.lemmas.Bool.{ltb-false, eqb-true}
-use Rattle.std.proofs.lemmas.List.{append_assoc, append-nil, length_push, nil_from_length}
-use Rattle.pfs_base.specs.declared.limits.TheConstants.{LONGEST_INPUT}
-use Rattle.pfs_base.specs.Lists.{is_empty, first_some}
-use Rattle.pfs_base.specs.Problem.{Problem}
-use Rattle.pfs_base.proofs.Published.Lists.{by_push, slice_get-append, slice_get-push}
-use Rattle.pfs_layout.specs.declared.layout.Layout.{Layout}
-use Rattle.pfs_layout.specs.declared.fault.LayoutFault.{LayoutFault}
-use Rattle.pfs_layout.specs.declared.fault.LayoutFault.TheVariants.{NoBlock}
-use Rattle.pfs_layout.specs.Bytes.{is_line_end}
-use Rattle.pfs_layout.specs.Lines.{lines, ended_lines, open_line, ended_parts, numbers, ended_numbers}
-use Rattle.pfs_layout.specs.Stand.{Block, Now, seeking, inside, lost, Stand, standing, completed, after_line}
-use Rattle.pfs_layout.specs.Stand.{stand_after, stand, instance_of}
-use Rattle.pfs_layout.specs.Refuse.{too_long, missing, ends_early, faults, fault_of_place, fault_at, refusal, accepted}
-use Rattle.pfs_layout.specs.Refuse.{byte_fault, mixed_line}
-use Rattle.pfs_layout.specs.Laws.{Completes}
-use Rattle.pfs_layout.proofs.Published.PlaceLemmas.{byte_fault-push, refusal_end, no_fault, not_refused}
-use Rattle.pfs_layout.proofs.Files.SoundLemmas.{GoodNow, good_end, same_last, sound}
-use Rattle.pfs_layout.proofs.Options.{then_some_none, if_some, cases_option, all_none, or_none}
-use Rattle.pfs_layout.proofs.Files.SoundLemmas.{stand-push, stand_of, stand_of-end, stand_of-on, open_line-end}
-use Rattle.pfs_layout.proofs.Files.StandLemmas.{Fits, made}
-use Rattle.pfs_layout.proofs.Files.CutLemmas.{lines-parts, lines-line}
-use Rattle.pfs_layout.proofs.Files.GrowLemmas.{one_line, grows, fewer_before, no_end, line_on}
-use Rattle.pfs_layout.proofs.Files.GrowLemmas.{stand_from, stays_lost}
-use Rattle.pfs_layout.proofs.Files.LoseLemmas.{mixed_at_end, LineAt, ends_here, goes_on, loses}
+use Rattle.pfs_layout.proofs.Words.{◌≡◌, ℕ, ◌-◌, ◌<◌, ◌≤◌, true, false, List, [], ◌∷◌, ◌++◌, length, nat_le, refl, sym}
+use Rattle.pfs_layout.proofs.Words.{◌∙◌, ap, arith, Some, None, ◌⊎◌, inl, inr, slice_get, is_none, option_or}
+use Rattle.pfs_layout.proofs.Words.{cases_Bool, cases_lt, ne_eqb, eqb-true, nat_tests, append_assoc, append-nil}
+use Rattle.pfs_layout.proofs.Words.{length_push, nil_from_length, is_empty, first_some, LONGEST_INPUT, Problem, by_push}
+use Rattle.pfs_layout.proofs.Words.{slice_get-append, slice_get-push, Layout, is_line_end, lines, ended_lines}
+use Rattle.pfs_layout.proofs.Words.{open_line, ended_parts, numbers, ended_numbers, Block, Now, seeking, inside, lost}
+use Rattle.pfs_layout.proofs.Words.{Stand, standing, completed, after_line, stand_after, stand, instance_of, ends_early}
+use Rattle.pfs_layout.proofs.Words.{fault_of_place, refusal, accepted, mixed_line, byte_fault, wrong_number, wrong_size}
+use Rattle.pfs_layout.proofs.Words.{Completes}
+use Rattle.std.proofs.lemmas.Bool.{false_from_ne_true}
+use Rattle.pfs_layout.specs.Refuse.{faults}
+use Rattle.pfs_layout.proofs.Published.PlaceLemmas.{byte_fault-push, refusal_end}
+use Rattle.pfs_layout.proofs.Files.GoodLemmas.{is_good, good_end, fault_within_limit, gap_fault, stand_of, stand-push}
+use Rattle.pfs_layout.proofs.Files.GoodLemmas.{stand_of-end, stand_of-on, open_line-end, one_line, Extends}
+use Rattle.pfs_layout.proofs.Files.GoodLemmas.{line_extends, extends, fewer_before, Few, enough_right, judged, sound}
+use Rattle.pfs_layout.proofs.Files.GoodLemmas.{sound_more, faultless_front}
+use Rattle.pfs_layout.proofs.Options.{cases_option, or_none}
+use Rattle.pfs_layout.proofs.Files.FileLemmas.{IsTail, made}
+use Rattle.pfs_layout.proofs.Files.LineLemmas.{lines-parts}
 
 -- the lines of a text that ends with a line end
 lines_ended : (text : List ℕ) → open_line text ≡ [] → lines text ≡ ended_lines text
@@ -37,21 +27,25 @@ nothing_on : (line : List ℕ) → is_empty line ≡ true → line ≡ []
 nothing_on line e = nil_from_length line (eqb-true (length line) 0 e)
 
 -- an empty line changes nothing
-empty_line : (layout : Layout) (complete : List Block) (now : Now) (tail : List (List ℕ)) → GoodNow layout now []
-    → Fits layout now tail → after_line layout complete now [] ≡ standing complete now
+empty_line : (layout : Layout) (complete : List Block) (now : Now) (tail : List (List ℕ)) → is_good layout now [] ≡ true
+    → IsTail layout now tail → after_line layout complete now [] ≡ standing complete now
 unfolding numbers ended_numbers ended_parts
-empty_line layout complete seeking tail good fits = refl
-empty_line layout complete (inside block) tail good fits =
-    let due = rw append-nil at good.due in
-    rw (append-nil block.numbers, due, ne_eqb _ _ fits.short)
-empty_line layout complete lost tail good fits = absurd good
+empty_line layout complete seeking tail good is = refl
+empty_line layout complete (inside block) tail good is =
+    let due = rw append-nil at good in
+    rw (append-nil block.numbers, due, ne_eqb _ _ is.short)
+empty_line layout complete lost tail good is = absurd (cc)
 
 -- all lines lead where the open line leads from those that are ended
-pub stand_lines : (layout : Layout) (text : List ℕ) → GoodNow layout (stand_of layout text).now (open_line text)
+stand_filled : (layout : Layout) (text : List ℕ) → is_empty (open_line text) ≡ false
+    → stand layout (lines text) ≡ stand_after layout (stand_of layout text) (open_line text)
+stand_filled layout text filled = rw (lines-parts text, filled) (stand-push layout (ended_lines text) (open_line text))
+
+pub stand_lines : (layout : Layout) (text : List ℕ) → is_good layout (stand_of layout text).now (open_line text) ≡ true
     → stand layout (lines text) ≡ stand_after layout (stand_of layout text) (open_line text)
 unfolding stand_after
 stand_lines layout text good = elim (cases_Bool (is_empty (open_line text))) [
-  | inr filled ↦ rw (lines-parts text, filled) (stand-push layout (ended_lines text) (open_line text))
+  | inr filled ↦ stand_filled layout text filled
   | inl empty ↦
       let before : Stand = stand_of layout text in
       let nothing = nothing_on (open_line text) empty in
@@ -64,95 +58,69 @@ stand_lines layout text good = elim (cases_Bool (is_empty (open_line text))) [
 pub block_stays : (layout : Layout) (text more : List ℕ) (i : ℕ) → i < length (stand_of layout text).complete
     → slice_get (stand layout (lines (text ++ more))).complete i ≡ slice_get (stand_of layout text).complete i
 block_stays layout text more i within =
-    let longer = grows layout (stand_of layout text) (lines (open_line text ++ more)) in
-    rw (stand_from layout text more, longer.1) (slice_get-append (stand_of layout text).complete longer.0 i within)
+    let all : List ℕ = text ++ more in
+    let ended = extends layout text more in
+    let longer : Extends (stand_of layout text).complete (stand layout (lines all)).complete =
+    elim (cases_Bool (is_empty (open_line all))) [
+      | inl empty ↦ rw (lines_ended all (nothing_on (open_line all) empty)) ended
+      | inr filled ↦ rw (stand_filled layout all filled)
+          (line_extends layout (stand_of layout text).complete (stand_of layout all) (open_line all) ended)
+    ] in
+    rw longer.1 (slice_get-append (stand_of layout text).complete longer.0 i within)
 
-no_complete : (layout : Layout) → length (stand_of layout []).complete ≡ 0
-unfolding stand ended_parts
-no_complete layout = refl
-
-no_byte : (layout : Layout) (k : ℕ) → byte_fault layout k [] ≡ None
-unfolding byte_fault
-no_byte layout k = refl
-
--- the line of a byte, and the lines behind it
-line_at : (before : List ℕ) (b : ℕ) (after : List ℕ)
-    → (line : List ℕ) × (others : List (List ℕ)) × LineAt before (Some b) line
-    × (lines (open_line before ++ b ∷ after) ≡ line ∷ others)
-line_at before b after = elim (cases_Bool (is_line_end b)) [
-  | inl ends ↦ (
-    open_line before,
-    lines after,
-    ends_here (mixed_at_end before b ends) refl,
-    lines-line (open_line before) b after (no_end before) ends,
-  )
-  | inr goes ↦
-      let on = line_on (open_line before) b after (no_end before) goes in (
-        (open_line before ++ b ∷ []) ++ on.tail,
-        on.others,
-        goes_on b on.tail refl goes (append_assoc (open_line before) (b ∷ []) on.tail),
-        rw (append_assoc (open_line before) (b ∷ []) after) at on.are,
-      )
+-- the fault of the end is that of a line end there, or else what is missing
+pub end_faults : (layout : Layout) (k : ℕ) (now : Now) (text : List ℕ) → is_good layout now (open_line text) ≡ true
+    → first_some (faults layout k now text None)
+    ≡ option_or (fault_within_limit layout now text 10) (ends_early layout k text None)
+unfolding mixed_line wrong_number wrong_size
+end_faults layout k seeking text good = elim (cases_Bool (is_empty (open_line text))) [
+  | inl empty ↦ rw (nothing_on (open_line text) empty) (grind arith)
+  | inr filled ↦ grind arith
 ]
+end_faults layout k (inside block) text good = rw (gap_fault layout block text 10 refl) (grind arith)
+end_faults layout k lost text good = absurd (cc)
 
 module _ (layout : Layout) (k : ℕ) where
   -- no byte of a text has a fault
   abbrev pub Faultless : List ℕ → Type 0
   Faultless text = byte_fault layout k text ≡ None
 
-  -- the lines that are ended leave fewer than k blocks
-  abbrev pub Few : List ℕ → Type 0
-  Few text = length (stand_of layout text).complete < k
+  -- nor has a byte that follows k complete blocks
+  pub faultless_behind : (text more : List ℕ) → k ≤ length (stand_of layout text).complete → Faultless text
+      → Faultless (text ++ more)
+  faultless_behind text more enough right = by_push (λ more. Faultless (text ++ more)) (rw (append-nil text) right)
+      (λ more b h.
+      let longer = fewer_before layout text more in
+      rw (← append_assoc text more (b ∷ []), byte_fault-push layout k (text ++ more) b, h)
+      (enough_right layout k (text ++ more) (Some b) (omega arith))) more
 
-  faultless_front : (text : List ℕ) (b : ℕ) → Faultless (text ++ b ∷ [])
-      → Faultless text × (fault_of_place layout k text (Some b) ≡ None)
-  faultless_front text b right = or_none _ _ (rw byte_fault-push at right)
+  -- the end has a fault exactly where the last line leaves fewer than k blocks
+  end_is : (text : List ℕ) → Faultless text → Few layout k text
+      → is_none (fault_of_place layout k text None) ≡ nat_le k (length (stand layout (lines text)).complete)
+  unfolding fault_of_place ends_early stand_after
+  end_is text right few =
+      let before : Stand = stand_of layout text in
+      let good = (sound layout k text right few).1 in
+      let faults = end_faults layout k before.now text good in
+      let reached = stand_lines layout text good in
+      let line = one_line layout before (open_line text) in
+      let ended = good_end layout before.complete before.now text in
+      grind (arith, nat_tests)
 
   -- ---- without a fault there is a file
-
-  -- the place is not behind the limit, and the input does not end there too early
-  no_others : (now : Now) (text : List ℕ) (next : Option ℕ) → GoodNow layout now (open_line text)
-      → first_some (faults layout k now text next) ≡ None
-      → (too_long text next ≡ None) × (ends_early layout k text next ≡ None)
-  no_others seeking text next good right =
-      let none = all_none (faults layout k seeking text next) right in (none.0, none.1.1.0)
-  no_others (inside block) text next good right =
-      let none = all_none (faults layout k (inside block) text next) right in (none.0, none.1.1.1.0)
-  no_others lost text next good right = absurd good
-
-  -- one more byte keeps within the greatest length
-  short_more : (text : List ℕ) (b : ℕ) → Faultless (text ++ b ∷ []) → Few text → length text ≤ LONGEST_INPUT
-      → length (text ++ b ∷ []) ≤ LONGEST_INPUT
-  unfolding fault_of_place
-  short_more text b right few short = elim (cases_eq (length text) LONGEST_INPUT) [
-    | inr differs ↦ omega (arith, length_push text b)
-    | inl e ↦
-        let front = faultless_front text b right in
-        let none = rw (lt-ltb _ k few) at front.1 in
-        let short = (no_others _ text (Some b) (sound layout k text front.0 few) none).0 in
-        absurd (cc (rw (eq-eqb (length text) LONGEST_INPUT e) at short))
-  ]
-
-  short_few : (text : List ℕ) → Faultless text → Few text → length text ≤ LONGEST_INPUT
-  short_few = by_push (λ text. Faultless text → Few text → length text ≤ LONGEST_INPUT) (λ right few. omega arith)
-      (λ text b h right few.
-      let longer = fewer_before layout text (b ∷ []) in
-      let fewer : Few text = omega arith in
-      short_more text b right fewer (h (faultless_front text b right).0 fewer))
 
   -- some problem whose file it is
   abbrev pub Holds : List ℕ → Type 0
   Holds input = (problem : Problem) × Completes layout input k problem
 
   -- a text that ends with a line by which k blocks are complete, and fewer before it, holds a problem
-  holds_at : (text ended : List ℕ) → Few text → length ended ≤ LONGEST_INPUT
+  holds_at : (text ended : List ℕ) → Few layout k text → length ended ≤ LONGEST_INPUT
       → stand layout (lines ended) ≡ stand_after layout (stand_of layout text) (open_line text)
       → k ≤ length (stand layout (lines ended)).complete
       → (problem : Problem) × (c : Completes layout ended k problem) × (c.text ≡ ended)
-  unfolding stand_after
   holds_at text ended few short reached enough =
       let before : Stand = stand_of layout text in
-      elim (one_line layout before.complete before.now (open_line text)) [
+      elim (one_line layout before (open_line text)) [
         | inl same ↦ let all = rw (reached, same) at enough in absurd (omega arith)
         | inr one ↦
             let stands : stand layout (lines ended) ≡ completed before.complete one.0 = reached ∙ one.1 in
@@ -189,170 +157,72 @@ module _ (layout : Layout) (k : ℕ) where
       let longer : Completes layout (text ++ more) k problem = search in
       (longer, held.1)
 
-  -- the byte by which k blocks are complete ends a line
-  byte_holds : (text : List ℕ) (b : ℕ) → Faultless (text ++ b ∷ []) → Few text
-      → k ≤ length (stand_of layout (text ++ b ∷ [])).complete
-      → (problem : Problem) × EndedHolds (text ++ b ∷ []) problem
-  unfolding stand_after
-  byte_holds text b right few enough = elim (cases_Bool (is_line_end b)) [
-    | inr on ↦ let same = rw (stand_of-on layout text b on) at enough in absurd (omega arith)
-    | inl ends ↦
-        let ended = open_line-end text b ends in
-        let same = lines_ended (text ++ b ∷ []) ended in
-        let short = short_more text b right few (short_few text (faultless_front text b right).0 few) in
-        let held = holds_at text (text ++ b ∷ []) few short (rw same (stand_of-end layout text b ends))
-        (rw same enough) in
-        (held.0, (held.1, rw held.2 ended))
-  ]
+  no_complete : length (stand_of layout []).complete ≡ 0
+  unfolding stand ended_parts
+  no_complete = refl
 
   -- k blocks that are complete before the last line hold a problem
   pub enough_holds : 1 ≤ k → (input : List ℕ) → Faultless input → k ≤ length (stand_of layout input).complete
       → (problem : Problem) × EndedHolds input problem
   enough_holds some = by_push (λ input. Faultless input → k ≤ length (stand_of layout input).complete
       → (problem : Problem) × EndedHolds input problem)
-      (λ right enough. absurd (omega (arith, no_complete layout))) (λ input b earlier right enough.
+      (λ right enough. absurd (omega (arith, no_complete))) (λ input b earlier right enough.
       elim (cases_lt (length (stand_of layout input).complete) k) [
-        | inl few ↦ byte_holds input b right few enough
         | inr all ↦
-            let held = earlier (faultless_front input b right).0 all in
+            let held = earlier (faultless_front layout k input b right).0 all in
             (held.0, holds_longer input (b ∷ []) held.0 held.1)
+        | inl few ↦ elim (cases_Bool (is_line_end b)) [
+          | inr on ↦ let same = rw (stand_of-on layout input b on) at enough in absurd (omega arith)
+          | inl ends ↦
+              let ended = open_line-end input b ends in
+              let same = lines_ended (input ++ b ∷ []) ended in
+              let short = sound_more layout k input b right few in
+              let held = holds_at input (input ++ b ∷ []) few short (rw same (stand_of-end layout input b ends))
+              (rw same enough) in
+              (held.0, (held.1, rw held.2 ended))
+        ]
       ])
-
-  -- nothing is missing at the end behind lines without a fault
-  early_end : (now : Now) (complete : ℕ) → GoodNow layout now [] → missing layout k complete now ≡ None → k ≤ complete
-  early_end seeking complete good e = ltb-false complete k (then_some_none (nat_lt complete k) (NoBlock complete) e)
-  early_end (inside block) complete good e = cc
-  early_end lost complete good e = absurd good
-
-  -- an input whose last line completes the k-th block
-  end_holds : (input : List ℕ) → Faultless input → Few input → fault_of_place layout k input None ≡ None → Holds input
-  unfolding stand_after fault_of_place ends_early
-  end_holds input right few last =
-      let before : Stand = stand_of layout input in
-      let good = sound layout k input right few in
-      let none = rw (lt-ltb _ k few) at last in
-      let reached = stand_lines layout input good in
-      let good_after : GoodNow layout (stand layout (lines input)).now [] =
-      elim (cases_Bool (is_empty (open_line input))) [
-        | inl empty ↦
-            let nothing = nothing_on (open_line input) empty in
-            rw (lines_ended input nothing) (rw nothing at good)
-        | inr filled ↦ rw reached (good_end layout k before.complete before.now input None (ap not filled)
-            (λ there. rw (same_last input, there)) good none)
-      ] in
-      let enough = early_end _ _ good_after (no_others before.now input None good none).1 in
-      let held = holds_at input input few (short_few input right few) reached enough in
-      (held.0, held.1)
 
   pub unrefused_holds : 1 ≤ k → (input : List ℕ) → refusal layout input k ≡ None → Holds input
   unrefused_holds some input e =
       let rights = or_none (byte_fault layout k input) (fault_of_place layout k input None) (rw refusal_end at e) in
       elim (cases_lt (length (stand_of layout input).complete) k) [
-        | inl few ↦ end_holds input rights.0 few rights.1
         | inr enough ↦ let held = enough_holds some input rights.0 enough in (held.0, held.1.0)
+        | inl few ↦
+            let is = sound layout k input rights.0 few in
+            let end = end_is input rights.0 few in
+            let held = holds_at input input few is.0 (stand_lines layout input is.1) (grind (arith, nat_tests)) in
+            (held.0, held.1)
       ]
-
-  pub faultless_holds : 1 ≤ k → (input : List ℕ)
-      → ((place : ℕ) → place ≤ length input → fault_at layout k input place ≡ None) → Holds input
-  faultless_holds some input right = unrefused_holds some input (not_refused layout k input right)
 
   -- ---- a file has no fault
 
-  pub has_fault : (text : List ℕ) (next : Option ℕ) (fault : LayoutFault)
-      → fault_of_place layout k text next ≡ Some fault
-      → Few text × (first_some (faults layout k (stand_of layout text).now text next) ≡ Some fault)
-  unfolding fault_of_place
-  has_fault text next fault e =
-      let parts = if_some (nat_lt (length (stand_of layout text).complete) k) _ fault e in
-      (ltb-true (length (stand_of layout text).complete) k parts.0, parts.1)
-
-  -- behind a fault at a byte all is lost
-  byte_loses : (before : List ℕ) (b : ℕ) (after : List ℕ) (fault : LayoutFault) → length before < LONGEST_INPUT
-      → fault_of_place layout k before (Some b) ≡ Some fault → (stand layout (lines (before ++ b ∷ after))).now ≡ lost
-  unfolding stand_after ends_early
-  byte_loses before b after fault short e =
-      let reached : Stand = stand_of layout before in
-      let at = line_at before b after in
-      let long : too_long before (Some b) ≡ None =
-      rw (ne_eqb (length before) LONGEST_INPUT (λ same. omega arith)) in
-      let here = (has_fault before (Some b) fault e).1 in
-      rw (stand_from layout before (b ∷ after), at.3) (stays_lost layout (stand_after layout reached at.0) at.1
-      (loses before (Some b) fault at.0 at.2 layout k reached.complete reached.now here long refl))
-
-  -- so whatever follows
-  text_loses : (text : List ℕ) (fault : LayoutFault) → length text ≤ LONGEST_INPUT
-      → byte_fault layout k text ≡ Some fault → (more : List ℕ) → (stand layout (lines (text ++ more))).now ≡ lost
-  text_loses text fault = by_push (λ text. length text ≤ LONGEST_INPUT → byte_fault layout k text ≡ Some fault
-      → (more : List ℕ) → (stand layout (lines (text ++ more))).now ≡ lost)
-      (λ short e. absurd (cc (e, no_byte layout k))) (λ text b earlier short e more.
-      let size = length_push text b in
-      rw (append_assoc text (b ∷ []) more) (elim (cases_option (byte_fault layout k text)) [
-        | inr one ↦ earlier (omega arith) (one.1 ∙ rw (byte_fault-push, one.1) at e) (b ∷ more)
-        | inl none ↦ byte_loses text b more fault (omega arith) (rw (byte_fault-push, none) at e)
-      ])) text
-
-  -- behind k complete blocks no place has a fault
-  enough_right : (text : List ℕ) (next : Option ℕ) → k ≤ length (stand_of layout text).complete
-      → fault_of_place layout k text next ≡ None
-  unfolding fault_of_place
-  enough_right text next enough = rw (le-ltb _ k enough)
-
-  -- nor has a byte that follows them
-  faultless_behind : (text more : List ℕ) → k ≤ length (stand_of layout text).complete → Faultless text
-      → Faultless (text ++ more)
-  faultless_behind text more enough right = by_push (λ more. Faultless (text ++ more)) (rw (append-nil text) right)
-      (λ more b h.
-      let longer = fewer_before layout text more in
-      rw (← append_assoc text more (b ∷ []), byte_fault-push layout k (text ++ more) b, h)
-      (enough_right (text ++ more) (Some b) (omega arith))) more
-
-  -- nor has the end of an input of k blocks
-  end_right : (input : List ℕ) (blocks : List Block) → Faultless input
-      → stand layout (lines input) ≡ standing blocks seeking → length blocks ≡ k
-      → fault_of_place layout k input None ≡ None
-  unfolding stand_after ends_early mixed_line
-  end_right input blocks right stands count = elim (cases_option (fault_of_place layout k input None)) [
-    | inl none ↦ none
-    | inr found ↦
-        let reached : Stand = stand_of layout input in
-        let has = has_fault input None found.0 found.1 in
-        let long : too_long input None ≡ None = rw (and_right (length input == LONGEST_INPUT) false refl) in
-        let early : ends_early layout k input None ≡ None = rw (stands, le-ltb (length blocks) k (omega arith)) in
-        let here : LineAt input None (open_line input) = ends_here refl refl in
-        let away = loses input None found.0 (open_line input) here layout k reached.complete reached.now has.1 long
-        early in
-        let same = stand_lines layout input (sound layout k input right has.0) in
-        cc (rw (← same, stands) at away)
-  ]
-
-  holds_unrefused : (input : List ℕ) (problem : Problem) → Completes layout input k problem
+  pub holds_unrefused : (input : List ℕ) (problem : Problem) → Completes layout input k problem
       → refusal layout input k ≡ None
-  holds_unrefused input problem c = elim c.ended [
-    | inl ended ↦
-        let stands = rw (lines_ended c.text ended) at c.stands in
-        let enough : k ≤ length (stand_of layout c.text).complete = rw stands (omega (arith, all)) in
-        let longer = fewer_before layout c.text c.rest in
-        rw (refusal_end layout k input, c.whole, faultless_behind c.text c.rest enough right)
-        (enough_right (c.text ++ c.rest) None (omega arith))
-    | inr none ↦
-        let same : input ≡ c.text = rw (none, append-nil) at c.whole in
-        rw (refusal_end layout k input, same, right) (end_right c.text (c.earlier ++ c.own ∷ []) right c.stands all)
-  ]
-    where
-      all : length (c.earlier ++ c.own ∷ []) ≡ k
-      all = omega (arith, c.count, length_push c.earlier c.own)
-
-      right : Faultless c.text
-      right = elim (cases_option (byte_fault layout k c.text)) [
-        | inl none ↦ none
-        | inr found ↦
-            let away = rw append-nil at (text_loses c.text found.0 c.short found.1 []) in
-            cc (rw c.stands at away)
+  unfolding stand_after
+  holds_unrefused input problem c =
+      let all : length (c.earlier ++ c.own ∷ []) ≡ k = omega (arith, c.count, length_push c.earlier c.own) in
+      let judges = judged layout k c.text c.short in
+      elim (cases_lt (length (stand_of layout c.text).complete) k) [
+        | inr enough ↦
+            let right : Faultless c.text = grind (arith, nat_tests) in
+            let longer = fewer_before layout c.text c.rest in
+            rw (refusal_end layout k input, c.whole, faultless_behind c.text c.rest enough right)
+            (enough_right layout k (c.text ++ c.rest) None (omega arith))
+        | inl few ↦
+            let before : Stand = stand_of layout c.text in
+            let filled : is_empty (open_line c.text) ≡ false = false_from_ne_true _ (λ empty.
+            let same = rw (lines_ended c.text (nothing_on (open_line c.text) empty)) at c.stands in
+            let more = ap (λ (s : Stand). length s.complete) same in
+            omega arith) in
+            let reached = stand_filled layout c.text filled in
+            let ended = good_end layout before.complete before.now c.text in
+            let right : Faultless c.text = grind (arith, nat_tests, c.stands) in
+            let none : c.rest ≡ [] = grind (arith, c.ended) in
+            let same : input ≡ c.text = rw (none, append-nil) at c.whole in
+            let last = end_is c.text right few in
+            rw (refusal_end layout k input, same, right) (grind (arith, nat_tests, c.stands))
       ]
-
-  pub holds_faultless : (input : List ℕ) (problem : Problem) → Completes layout input k problem → (place : ℕ)
-      → place ≤ length input → fault_at layout k input place ≡ None
-  holds_faultless input problem c = no_fault layout k input (holds_unrefused input problem c)
 
   -- ---- the problem of a file is that of the k-th block
 

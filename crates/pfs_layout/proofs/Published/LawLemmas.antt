@@ -1,21 +1,14 @@
 -- One verdict, and what it is computed by.
-use Rattle.std.proofs.Common.{◌≡◌, ℕ, ◌≤◌, List, [], ◌∷◌, ◌++◌, length, refl, ◌∙◌, ap, arith, ◌⊎◌, inl, inr}
-use Rattle.std.proofs.lemmas.Bool.{cases_Bool, eqb-true}
-use Rattle.std.proofs.lemmas.List.{length-append}
-use Rattle.pfs_base.specs.Lists.{all_but_last, last_of}
-use Rattle.pfs_base.specs.Problem.{Problem}
-use Rattle.pfs_base.proofs.Published.Lists.{by_push, all_and_last}
-use Rattle.pfs_layout.specs.declared.layout.Layout.{Layout}
-use Rattle.pfs_layout.specs.Bytes.{is_line_end}
-use Rattle.pfs_layout.specs.Lines.{lines, open_line, ended_parts, open_part}
-use Rattle.pfs_layout.specs.Stand.{Block, standing, stand, instance_of}
-use Rattle.pfs_layout.specs.Refuse.{refusal}
-use Rattle.pfs_layout.specs.Laws.{Completes, Seeks, SomeFile, OneVerdict, AcceptedLaw}
-use Rattle.pfs_layout.proofs.Files.SoundLemmas.{open_line-end, open_line-on}
+use Rattle.pfs_layout.proofs.Words.{◌≡◌, ℕ, ◌≤◌, List, [], ◌∷◌, ◌++◌, length, refl, ◌∙◌, ap, arith, ◌⊎◌, inl, inr}
+use Rattle.pfs_layout.proofs.Words.{cases_Bool, eqb-true, length-append, all_but_last, last_of, Problem, by_push}
+use Rattle.pfs_layout.proofs.Words.{all_and_last, Layout, is_line_end, lines, open_line, ended_parts, open_part, Block}
+use Rattle.pfs_layout.proofs.Words.{standing, stand, instance_of, refusal, Completes}
+use Rattle.pfs_layout.specs.Laws.{Seeks, SomeFile, OneVerdict, AcceptedLaw}
+use Rattle.pfs_layout.proofs.Files.GoodLemmas.{open_line-end, open_line-on}
 use Rattle.pfs_layout.proofs.Options.{cases_option}
-use Rattle.pfs_layout.proofs.Published.PlaceLemmas.{refusal_is, one_fault, no_fault, not_refused}
+use Rattle.pfs_layout.proofs.Published.PlaceLemmas.{refusal_is, one_fault}
 use Rattle.pfs_layout.proofs.Files.FileLemmas.{file_completes, completes_file}
-use Rattle.pfs_layout.proofs.Files.VerdictLemmas.{one_held, faultless_holds, holds_faultless, holds_accepted}
+use Rattle.pfs_layout.proofs.Files.VerdictLemmas.{one_held, unrefused_holds, holds_unrefused, holds_accepted}
 use Rattle.pfs_layout.proofs.Files.VerdictLemmas.{accepted_holds}
 
 pub accepted_law : AcceptedLaw
@@ -30,13 +23,12 @@ one_verdict layout input k some = elim (cases_option (refusal layout input k)) [
     let has = (refusal_is layout input k refused.0).0 refused.1 in
         record { one = refused.0; has = has; no_other = λ other r. one_fault layout input k other refused.0 r has },
     λ problem file.
-        let right = holds_faultless layout k input problem (file_completes layout input k problem file) in
-        let none = not_refused layout k input right in
+        let none = holds_unrefused layout k input problem (file_completes layout input k problem file) in
         let fault = refused.1 in
         cc,
   )
   | inl none ↦
-      let held = faultless_holds layout k some input (no_fault layout k input none) in
+      let held = unrefused_holds layout k some input none in
       inl (
         record {
           one = held.0;

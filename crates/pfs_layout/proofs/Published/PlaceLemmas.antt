@@ -1,33 +1,20 @@
 -- Places of a text with one more byte, and the first fault.
-use Rattle.std.proofs.Common.{◌≡◌, ◌↔◌, ℕ, suc, ◌+◌, ◌<◌, ◌≤◌, List, [], ◌∷◌, ◌++◌, length, refl, arith}
-use Rattle.std.proofs.Common.{Option, Some, None}
-use Rattle.std.specs.List.{slice_get}
-use Rattle.std.specs.Option.{option_or}
-use Rattle.std.proofs.lemmas.List.{length_push, take-append-le, take_at, take_all}
+use Rattle.pfs_layout.proofs.Words.{slice_get-push, ◌≡◌, ◌↔◌, ℕ, suc, ◌+◌, ◌<◌, List, [], ◌∷◌, ◌++◌, length, refl}
+use Rattle.pfs_layout.proofs.Words.{arith, Option, Some, None, option_or, length_push, take_all, slice_get-append}
+use Rattle.pfs_layout.proofs.Words.{Layout, LayoutFault, fault_of_place, refusal, byte_fault, RefusesInstance}
+use Rattle.std.proofs.lemmas.List.{take-append-le, take_at}
 use Rattle.std.proofs.lemmas.Option.{slice_get_past}
-use Rattle.pfs_base.proofs.Published.Lists.{slice_get-append, map-range_with_len-same}
-use Rattle.pfs_layout.specs.declared.layout.Layout.{Layout}
-use Rattle.pfs_layout.specs.declared.fault.LayoutFault.{LayoutFault}
-use Rattle.pfs_layout.specs.Refuse.{fault_at, fault_of_place, refusal, byte_fault, RefusesInstance}
-use Rattle.pfs_layout.proofs.Options.{first_push, first_not_found, IsFirst, one_first, first_is, none_first}
+use Rattle.pfs_base.proofs.Published.Lists.{map-range_with_len-same}
+use Rattle.pfs_layout.specs.Refuse.{fault_at}
+use Rattle.pfs_layout.proofs.Options.{first_push, IsFirst, one_first, first_is}
 
 -- a place within a text has the fault that it has in each longer text
-pub fault_at-append : (layout : Layout) (k : ℕ) (text more : List ℕ) (place : ℕ) → place < length text
+fault_at-append : (layout : Layout) (k : ℕ) (text more : List ℕ) (place : ℕ) → place < length text
     → fault_at layout k (text ++ more) place ≡ fault_at layout k text place
 fault_at-append layout k text more place h =
     rw (take-append-le place text more (omega arith), slice_get-append text more place h)
 
-pub slice_get-at : {A : Type 0} (xs : List A) (y : A) (ys : List A) → slice_get (xs ++ y ∷ ys) (length xs) ≡ Some y
-slice_get-at [] y ys = refl
-slice_get-at (x ∷ xs) y ys = slice_get-at xs y ys
-
--- the place of a byte, and the end
-pub fault_at-byte : (layout : Layout) (k : ℕ) (before : List ℕ) (b : ℕ) (after : List ℕ)
-    → fault_at layout k (before ++ b ∷ after) (length before) ≡ fault_of_place layout k before (Some b)
-fault_at-byte layout k before b after =
-    rw (take_at before (b ∷ after) (length before) refl, slice_get-at before b after)
-
-pub fault_at-end : (layout : Layout) (k : ℕ) (text : List ℕ)
+fault_at-end : (layout : Layout) (k : ℕ) (text : List ℕ)
     → fault_at layout k text (length text) ≡ fault_of_place layout k text None
 fault_at-end layout k text =
     rw (take_all (length text) text (omega arith), slice_get_past text (length text) (omega arith))
@@ -41,7 +28,7 @@ byte_fault-push layout k text b =
     let size : length (text ++ b ∷ []) ≡ suc (length text) = omega (arith, length_push text b) in
     let front = map-range_with_len-same f (fault_at layout k text) 0 (length text)
     (λ i low high. fault_at-append layout k text (b ∷ []) i (omega arith)) in
-    rw (size, first_push f (length text), front, fault_at-byte layout k text b [])
+    rw (size, first_push f (length text), front, take_at text (b ∷ []) (length text) refl, slice_get-push text b)
 
 -- the fault of an input is the first at a byte, or else that at the end
 pub refusal_end : (layout : Layout) (k : ℕ) (input : List ℕ)
@@ -87,17 +74,3 @@ pub one_fault : (layout : Layout) (input : List ℕ) (k : ℕ) (one other : Layo
 one_fault layout input k one other r s =
     one_first (fault_at layout k input) r.place s.place one other
     (first_of layout input k one r) (first_of layout input k other s)
-
--- ---- places without a fault
-
--- no place of an input that isn't refused has a fault
-pub no_fault : (layout : Layout) (k : ℕ) (input : List ℕ) → refusal layout input k ≡ None
-    → (place : ℕ) → place ≤ length input → fault_at layout k input place ≡ None
-unfolding refusal
-no_fault layout k input e place h = first_not_found (fault_at layout k input) (length input + 1) e place (omega arith)
-
-pub not_refused : (layout : Layout) (k : ℕ) (input : List ℕ)
-    → ((place : ℕ) → place ≤ length input → fault_at layout k input place ≡ None) → refusal layout input k ≡ None
-unfolding refusal
-not_refused layout k input none =
-    none_first (fault_at layout k input) (length input + 1) (λ q h. none q (omega arith))

@@ -1,46 +1,78 @@
 -- A byte more: the fault that its place has, or what the fields say behind it.
-use Rattle.std.proofs.Common.{◌≡◌, ℕ, ◌<◌, Bool, true, false, not, ◌&&◌, ◌||◌, List, length, refl, arith, Option, Some}
-use Rattle.std.proofs.Common.{None, if◌then◌else◌, inl, inr}
-use Rattle.std.specs.List.{list_any}
-use Rattle.std.specs.Bool.{then_some}
-use Rattle.std.specs.Option.{option_or}
-use Rattle.std.proofs.lemmas.Bool.{and_right, cases_Bool, lt-ltb, or_parts}
-use Rattle.std.proofs.lemmas.Bool.Decides.{nat_tests}
-use Rattle.std.proofs.lemmas.List.Folds.{list_any-append}
-use Rattle.pfs_base.specs.declared.limits.TheConstants.{LONGEST_INPUT}
-use Rattle.pfs_base.specs.Lists.{is_empty}
-use Rattle.pfs_layout.specs.declared.layout.Layout.{Layout}
-use Rattle.pfs_layout.specs.declared.fault.LayoutFault.{LayoutFault}
-use Rattle.pfs_layout.specs.declared.fault.LayoutFault.TheVariants.{MixedLine}
-use Rattle.pfs_layout.specs.declared.scan.Line.{Line}
+use Rattle.pfs_layout.proofs.Words.{◌++◌, ◌∷◌, [], ◌≡◌, ℕ, ◌<◌, Bool, true, false, ◌||◌, List, length, refl, arith}
+use Rattle.pfs_layout.proofs.Words.{Some, None, if◌then◌else◌, inl, inr, ◌≢◌, ◌+◌, ◌-◌, ◌≤◌, count_by, ◌∙◌, Option}
+use Rattle.pfs_layout.proofs.Words.{list_any, cases_Bool, lt-ltb, or_parts, eqb-true, eqb-false, eq-eqb, ne_eqb}
+use Rattle.pfs_layout.proofs.Words.{nat_tests, list_any-append, is_empty, Layout, LayoutFault, Line, Blocks, is_digit}
+use Rattle.pfs_layout.proofs.Words.{is_blank, is_line_end, is_word_byte, open_line, ended_numbers, last_digits}
+use Rattle.pfs_layout.proofs.Words.{open_part, is_no_digit, numbers, Block, Now, seeking, inside, lost, standing, Stand}
+use Rattle.pfs_layout.proofs.Words.{stand_after, mixed_line, wrong_size, last_number_ended, line_ended}
+use Rattle.pfs_layout.proofs.Words.{has_numbers_alone, number_of, event_of, blocks_after, is_live, FollowsLine}
+use Rattle.pfs_layout.proofs.Words.{FollowsNow, FollowsBlocks, digits_value, length_push, by_push, are_due, ◌⊎◌}
+use Rattle.pfs_layout.proofs.Words.{common_steps, Memory, Phase, no_numbers, machine_judged, time_judged, body_judged}
+use Rattle.pfs_layout.proofs.Words.{is_machine_due, number_ended, HoldsNumbers}
+use Rattle.pfs_layout.specs.Private.Step.{Keeps, number_ended_in}
+use Rattle.std.proofs.lemmas.Bool.{or_right, cond_both}
 use Rattle.pfs_layout.specs.declared.blocks.Phase.TheVariants as phases
-use Rattle.pfs_layout.specs.declared.blocks.Blocks.{Blocks}
-use Rattle.pfs_layout.specs.Bytes.{is_digit, is_blank, is_line_end, is_word_byte}
-use Rattle.pfs_layout.specs.Lines.{ended_lines, open_line, is_mixed, ended_numbers, last_digits}
-use Rattle.pfs_layout.specs.Stand.{Block, Now, seeking, inside, lost, stand, standing}
-use Rattle.pfs_layout.specs.Refuse.{mixed_line, wrong_number, wrong_size, ends_early, fault_of_place}
-use Rattle.pfs_layout.specs.Step.{is_live, is_in_block, refused, last_number_ended, line_ended, has_numbers_alone}
-use Rattle.pfs_layout.specs.Step.{number_of, event_of, blocks_after}
-use Rattle.pfs_layout.specs.Reader.{IsInside, FollowsLine, FollowsNow, FollowsBlocks}
-use Rattle.pfs_layout.proofs.Files.SoundLemmas.{GoodNow}
-use Rattle.pfs_layout.proofs.Reading.LineSteps.{Refuses}
-pub use Rattle.pfs_layout.proofs.Reading.LineSteps.{ByteOutcome}
-use Rattle.pfs_layout.proofs.Reading.ScanLemmas.{digit_is}
+use Rattle.pfs_layout.proofs.Files.GoodLemmas.{GoodNow, good_unmixed, fault_within_limit, wrong_number_is, line_numbers}
+use Rattle.pfs_layout.proofs.Files.GoodLemmas.{no_last, number_fault, due_line, gap_fault}
+use Rattle.pfs_layout.proofs.Files.LineLemmas.{ended_numbers-push, open_part-push}
+use Rattle.pfs_layout.proofs.Options.{cases_option}
+use Rattle.pfs_layout.proofs.Reading.NumberSteps.{Refuses, Outcome, misfit_in, number_step}
+use Rattle.pfs_layout.proofs.Reading.LineSteps.{sought_line, body_line}
+use Rattle.pfs_layout.specs.declared.scan.Number.{Number}
+use Rattle.pfs_layout.specs.declared.blocks.Phase.TheVariants as phases
+use Rattle.pfs_layout.specs.declared.blocks.Phase.TheVariants as phases
 
--- ---- the fault of a place
+-- ---- what the judgement of a number leaves as it is
 
--- the faults that a byte within the limit can have
-abbrev pub fault_within_limit : Layout → Now → List ℕ → ℕ → Option LayoutFault
-fault_within_limit layout seeking text b = wrong_size layout text (Some b)
-fault_within_limit layout (inside block) text b =
-    option_or (mixed_line text (Some b)) (wrong_number layout block text (Some b))
-fault_within_limit layout lost text b = None
+pub live-memory : (phase : Phase) → is_live phase ≡ true → phase ≢ phases.Refused Memory
+live-memory phase live e = grind arith
 
-pub place_fault : (layout : Layout) (k : ℕ) (text : List ℕ) (b : ℕ)
-    → length (stand layout (ended_lines text)).complete < k → length text < LONGEST_INPUT
-    → fault_of_place layout k text (Some b) ≡ fault_within_limit layout (stand layout (ended_lines text)).now text b
-unfolding fault_of_place ends_early
-place_fault layout k text b few short = grind (arith, nat_tests)
+-- whether a reader was refused memory
+pub refused_memory : (phase : Phase) → (phase ≡ phases.Refused Memory) ⊎ (phase ≢ phases.Refused Memory)
+refused_memory (phases.Refused Memory) = inl refl
+refused_memory phase = inr (λ e. cc)
+
+-- ---- a number
+
+keeps_body : (r : Blocks) (value first : ℕ) → Keeps r (body_judged r value first)
+keeps_body r value first = cond_both (is_machine_due r.layout r.body) (machine_judged r value first)
+    (time_judged r value first) (Keeps r) (λ machine. grind arith) (λ time. grind arith)
+
+keeps_in : (phase : Phase) (r : Blocks) (value first : ℕ) → r.phase ≢ phases.Refused Memory
+    → Keeps r (number_ended_in phase r value first)
+keeps_in phases.Body r value first h = keeps_body r value first
+keeps_in phase r value first h = grind arith
+
+pub keeps_number : (r : Blocks) (value first : ℕ) → is_live r.phase ≡ true → Keeps r (number_ended r value first)
+unfolding number_ended
+keeps_number r value first live = keeps_in r.phase r value first (live-memory r.phase live)
+
+pub keeps_last : (r : Blocks) (number : Option Number) → is_live r.phase ≡ true → Keeps r (last_number_ended r number)
+keeps_last r None live = grind arith
+keeps_last r (Some number) live = keeps_number r number.value number.first live
+
+-- what a number does to a line that may be a size line
+pub record KeepsNumbers (old new : Blocks) : Type 0 where
+  pub few : new.size_line.count ≤ old.size_line.count + 1
+  pub five : length new.size_line.values ≡ length old.size_line.values
+
+pub last_numbers : (r : Blocks) (number : Option Number) → KeepsNumbers r (last_number_ended r number)
+unfolding number_ended
+last_numbers r number = grind (arith, common_steps)
+
+-- ---- a line's end
+
+-- what a line's end leaves, and what it does beside the block
+pub record KeepsAtLineEnd (old new : Blocks) : Type 0 where
+  pub layout : new.layout ≡ old.layout
+  pub wanted : new.wanted ≡ old.wanted
+  pub line : new.line ≡ old.line + 1
+  pub size_line : new.size_line ≡ no_numbers
+
+pub line_end_keeps : (r : Blocks) (numbers : Bool) → KeepsAtLineEnd r (line_ended r numbers)
+unfolding line_ended
+line_end_keeps r numbers = grind arith
 
 -- ---- what a live reader says
 
@@ -54,110 +86,176 @@ pub seeking_if_few : (has_word : Bool) (r : Blocks) (more : List ℕ) → Follow
     → r.complete < r.wanted → r.phase ≡ phases.Seeking
 seeking_if_few has_word r more f few = rw (lt-ltb r.complete r.wanted few) at f.phase
 
-pub begun_phase : {r : Blocks} {block : Block} {more : List ℕ} → IsInside r block more → is_in_block r.phase ≡ true
-begun_phase f = let phase = f.phase in grind arith
-
--- ---- outcomes
+-- ---- the blocks behind a byte
 
 -- what the blocks say of this text, which leads to these complete blocks and stands there
 abbrev pub FollowsText : Blocks → List ℕ → List Block → Now → Type 0
 FollowsText r text complete now =
     FollowsBlocks (list_any is_word_byte (open_line text)) r (standing complete now) (ended_numbers (open_line text))
 
-pub refuses_is : (r next : Blocks) (fault : LayoutFault) → next ≡ refused r fault → Refuses r fault next
-refuses_is r next fault e = rw e (record { phase = refl; held = refl; layout = refl; wanted = refl })
-
--- where the line's words stay or become known, the blocks stay as they are
-pub weaker : {has_word less : Bool} {r : Blocks} {complete : List Block} (now : Now) {more : List ℕ}
-    → (less ≡ false → has_word ≡ false)
-    → FollowsBlocks has_word r (standing complete now) more → FollowsBlocks less r (standing complete now) more
-weaker seeking h f = search (h, f.now.numbers)
-weaker (inside block) h f = assumption
-weaker lost h f = absurd f.now
-
--- ---- mixed lines
-
-module _ (text : List ℕ) (b : ℕ) (unmixed : is_mixed (open_line text) ≡ false) where
-  -- a digit behind words
-  mixed_digit : is_digit b ≡ true
-      → mixed_line text (Some b) ≡ then_some (list_any is_word_byte (open_line text)) (MixedLine (length text))
-  unfolding mixed_line
-  mixed_digit digit = grind (arith, list_any-append)
-
-  -- a word byte behind digits
-  pub mixed_word : is_digit b ≡ false → (is_blank b || is_line_end b) ≡ false
-      → mixed_line text (Some b) ≡ then_some (list_any is_digit (open_line text)) (MixedLine (length text))
-  unfolding mixed_line
-  mixed_word digit other = grind (arith, list_any-append)
-
-  -- a blank or a line end mixes nothing
-  pub mixed_other : is_digit b ≡ false → (is_blank b || is_line_end b) ≡ true → mixed_line text (Some b) ≡ None
-  unfolding mixed_line
-  mixed_other digit other = grind (arith, list_any-append)
-
--- ---- the blocks behind a byte
-
 module _ (r : Blocks) (last : Line) (b : ℕ) where
   abbrev pub judged : Blocks
   judged = blocks_after r (event_of last b)
 
-  pub judged_digit : is_digit b ≡ true
-      → judged ≡ (if last.kinds.has_word && is_in_block r.phase then refused r (MixedLine last.digits.offset) else r)
-  judged_digit digit = grind arith
-
-  pub judged_word : is_digit b ≡ false → (is_blank b || is_line_end b) ≡ false
-      → judged ≡ (if last.kinds.has_digit && is_in_block r.phase then refused r (MixedLine last.digits.offset) else r)
-  judged_word digit other = grind arith
-
-  pub judged_blank : is_digit b ≡ false → (is_blank b || is_line_end b) ≡ true
+  pub judged_gap : (is_blank b || is_line_end b) ≡ true
       → judged ≡ (let behind = last_number_ended r (number_of last.digits) in
       if is_line_end b then line_ended behind (has_numbers_alone last.kinds) else behind)
-  judged_blank digit other = grind (arith, nat_tests)
+  judged_gap gap = grind (arith, nat_tests)
 
--- ---- a digit, or a word byte
+-- the outcome of a byte on the line
+abbrev pub FollowsOn : Blocks → Line → List ℕ → ℕ → List Block → Now → Type 0
+FollowsOn r last text b complete now = Outcome r (list_any is_word_byte (open_line text ++ b ∷ []))
+    (standing complete now) (ended_numbers (open_line text ++ b ∷ [])) (judged r last b)
+    (fault_within_limit r.layout now text b)
+
+-- ---- a byte that ends neither a number nor a line
 
 -- a byte that ends no line has no fault while a block is sought
-pub sought_fine : (layout : Layout) (text : List ℕ) (b : ℕ) → is_line_end b ≡ false
+sought_fine : (layout : Layout) (text : List ℕ) (b : ℕ) → is_line_end b ≡ false
     → wrong_size layout text (Some b) ≡ None
 unfolding wrong_size
 sought_fine layout text b on = rw on
 
--- a byte that ends no number has no fault of a number
-number_fine : (layout : Layout) (block : Block) (text : List ℕ) (b : ℕ) → (is_blank b || is_line_end b) ≡ false
-    → wrong_number layout block text (Some b) ≡ None
-unfolding wrong_number
-number_fine layout block text b other = rw (and_right (not (is_empty (last_digits text))) _ other)
-
--- a byte that ends no number is refused where it mixes a line of a block, and leaves the blocks as they are elsewhere
-pub mixing_byte : {less : Bool} {ns : List ℕ} (r : Blocks) (last : Line) (text : List ℕ) (b : ℕ) (complete : List Block)
-    (now : Now) (mixes : Bool) → (is_blank b || is_line_end b) ≡ false
-    → FollowsLine last.digits last.kinds text → FollowsText r text complete now → GoodNow r.layout now (open_line text)
-    → (is_mixed (open_line text) ≡ false → mixed_line text (Some b) ≡ then_some mixes (MixedLine (length text)))
-    → ((mixes && is_in_block r.phase) ≡ false → FollowsBlocks less r (standing complete now) ns)
-    → ByteOutcome r less (standing complete now) ns
-    (if mixes && is_in_block r.phase then refused r (MixedLine last.digits.offset) else r)
-    (fault_within_limit r.layout now text b)
-mixing_byte r last text b complete seeking mixes other line f good mixed stays =
+quiet_sought : (r : Blocks) (last : Line) (text : List ℕ) (b : ℕ) (complete : List Block) (less : Bool) (ns : List ℕ)
+    → (is_blank b || is_line_end b) ≡ false → FollowsText r text complete seeking
+    → less ≡ list_any is_word_byte (open_line text ++ b ∷ []) → ns ≡ ended_numbers (open_line text ++ b ∷ [])
+    → Outcome r less (standing complete seeking) ns (judged r last b) (fault_within_limit r.layout seeking text b)
+quiet_sought r last text b complete less ns other f words numbers =
     let phase = f.now.phase in
-    let out : (mixes && is_in_block r.phase) ≡ false = grind arith in
-    rw (sought_fine r.layout text b (or_parts (is_blank b) _ other).1, out) (stays out)
-mixing_byte r last text b complete (inside block) mixes other line f good mixed stays =
-    rw (mixed good.unmixed, number_fine r.layout block text b other) (elim (cases_Bool mixes) [
-      | inl e ↦ rw (e, begun_phase f.now) (refuses_is r _ _ (rw line.offset))
-      | inr e ↦ rw e (stays (rw e))
-    ])
-mixing_byte r last text b complete lost mixes other line f good mixed stays = absurd good
+    let pushed = ended_numbers-push (open_line text) b in
+    let any = list_any-append is_word_byte (open_line text) (b ∷ []) in
+    let sought = sought_fine r.layout text b (or_parts (is_blank b) _ other).1 in
+    let same : judged r last b ≡ r = grind arith in
+    let plain : less ≡ false → (is_digit b ≡ true) × (list_any is_word_byte (open_line text) ≡ false) = grind arith in
+    let numbers : less ≡ false → HoldsNumbers r.size_line ns =
+    λ e. let p = plain e in grind (arith, f.now.numbers) in
+    rw (sought, same) (grind (arith, numbers))
 
-digit_ends_nothing : (b : ℕ) → is_digit b ≡ true → (is_blank b || is_line_end b) ≡ false
-digit_ends_nothing b digit = let low = digit_is b digit in grind (arith, nat_tests)
+quiet_inside : (r : Blocks) (last : Line) (text : List ℕ) (b : ℕ) (complete : List Block) (block : Block)
+    (less : Bool) (ns : List ℕ) → (is_blank b || is_line_end b) ≡ false
+    → FollowsLine last.digits last.kinds text → FollowsText r text complete (inside block)
+    → GoodNow r.layout (inside block) (open_line text)
+    → less ≡ list_any is_word_byte (open_line text ++ b ∷ []) → ns ≡ ended_numbers (open_line text ++ b ∷ [])
+    → Outcome r less (standing complete (inside block)) ns (judged r last b)
+    (fault_within_limit r.layout (inside block) text b)
+unfolding mixed_line
+quiet_inside r last text b complete block less ns other line f good words numbers =
+    let fault = wrong_number_is r.layout block text b in
+    let all = line_numbers text in
+    let none = no_last text in
+    grind (arith, nat_tests, ended_numbers-push, list_any-append {X = ℕ})
 
-pub digit_byte : (r : Blocks) (last : Line) (text : List ℕ) (b : ℕ) (complete : List Block) (now : Now) (less : Bool)
-    → is_digit b ≡ true → is_live r.phase ≡ true
-    → (less ≡ false → list_any is_word_byte (open_line text) ≡ false)
+-- it is refused where it mixes a line of a block
+quiet_byte : (r : Blocks) (last : Line) (text : List ℕ) (b : ℕ) (complete : List Block) (now : Now)
+    → (is_blank b || is_line_end b) ≡ false → FollowsLine last.digits last.kinds text → FollowsText r text complete now
+    → GoodNow r.layout now (open_line text)
+    → FollowsOn r last text b complete now
+quiet_byte r last text b complete seeking other line f good = quiet_sought r last text b complete _ _ other f refl refl
+quiet_byte r last text b complete (inside block) other line f good =
+    quiet_inside r last text b complete block _ _ other line f good refl refl
+quiet_byte r last text b complete lost other line f good = absurd f.now
+
+last_short : (text : List ℕ) → length (last_digits text) ≤ length text
+unfolding open_part
+last_short = by_push (λ text. length (last_digits text) ≤ length text) (omega arith) (λ text b short.
+    rw (open_part-push is_no_digit text b, length_push text b) (grind (arith, length_push)))
+
+-- ---- the end of a number
+
+pub number_part : (has_word : Bool) (r : Blocks) (last : Line) (text : List ℕ) (complete : List Block) (now : Now)
+    → is_live r.phase ≡ true → length r.size_line.values ≡ 5 → FollowsLine last.digits last.kinds text
+    → FollowsBlocks has_word r (standing complete now) (ended_numbers (open_line text))
+    → Outcome r has_word (standing complete now) (numbers (open_line text))
+    (last_number_ended r (number_of last.digits)) (number_fault r.layout now text)
+number_part has_word r last text complete now live five line f = elim (cases_Bool (is_empty (last_digits text))) [
+  | inl none ↦
+      let right : number_fault r.layout now text ≡ None = grind arith in
+      let empty = eqb-true _ 0 none in
+      let at_end : last.digits.first ≡ last.digits.offset = omega (arith, line.first, line.offset) in
+      rw (right, line_numbers text, none, eq-eqb _ _ at_end) f
+  | inr some ↦
+      let value = digits_value 10 (last_digits text) in
+      let first = length text - length (last_digits text) in
+      let fault : number_fault r.layout now text ≡ misfit_in r.layout now (ended_numbers (open_line text)) value first =
+      grind arith in
+      let full = eqb-false _ 0 some in
+      let begun : last.digits.first ≢ last.digits.offset =
+      λ z. omega (arith, line.first, line.offset, last_short text) in
+      rw (fault, line_numbers text, some, ne_eqb _ _ begun, line.value, line.first)
+      (number_step r complete now _ value first f live five)
+]
+
+-- a blank ends the last number of its line
+blank_byte : (r : Blocks) (last : Line) (text : List ℕ) (b : ℕ) (complete : List Block) (now : Now)
+    → (is_blank b || is_line_end b) ≡ true → is_line_end b ≡ false → is_live r.phase ≡ true
+    → length r.size_line.values ≡ 5 → FollowsLine last.digits last.kinds text → FollowsText r text complete now
+    → FollowsOn r last text b complete now
+blank_byte r last text b complete now gap on live five line f =
+    let fault : fault_within_limit r.layout now text b ≡ number_fault r.layout now text =
+    grind (arith, sought_fine, gap_fault) in
+    let words : list_any is_word_byte (open_line text ++ b ∷ []) ≡ list_any is_word_byte (open_line text) =
+    grind (arith, nat_tests, list_any-append {X = ℕ}) in
+    let ended : ended_numbers (open_line text ++ b ∷ []) ≡ numbers (open_line text) =
+    grind (arith, nat_tests, ended_numbers-push) in
+    rw (words, ended, judged_gap r last b gap, on, fault) (number_part _ r last text complete now live five line f)
+
+-- any byte on the line
+pub byte_on : (r : Blocks) (last : Line) (text : List ℕ) (b : ℕ) (complete : List Block) (now : Now)
+    → is_line_end b ≡ false → is_live r.phase ≡ true → length r.size_line.values ≡ 5
     → FollowsLine last.digits last.kinds text → FollowsText r text complete now → GoodNow r.layout now (open_line text)
-    → ByteOutcome r less (standing complete now) (ended_numbers (open_line text)) (judged r last b)
+    → FollowsOn r last text b complete now
+byte_on r last text b complete now on live five line f good = elim (cases_Bool (is_blank b || is_line_end b)) [
+  | inl gap ↦ blank_byte r last text b complete now gap on live five line f
+  | inr other ↦ quiet_byte r last text b complete now other line f good
+]
+
+-- ---- the end of a line
+
+-- a line's end changes no refusal
+refused_line : (r next : Blocks) (fault : LayoutFault) (numbered : Bool) → Refuses r fault next
+    → Refuses r fault (line_ended next numbered)
+unfolding line_ended
+refused_line r next fault numbered refuses = grind arith
+
+-- a line's end has the outcome that it has behind the line's last number
+outcome_behind : (r between next : Blocks) (stood : Stand) (fault : Option LayoutFault) → Keeps r between
+    → between.held ≡ r.held → Outcome between false stood [] next fault → Outcome r false stood [] next fault
+outcome_behind r between next stood None keeps held o = o
+outcome_behind r between next stood (Some fault) keeps held o = grind arith
+
+pub end_byte : (r : Blocks) (last : Line) (text : List ℕ) (b : ℕ) (complete : List Block) (now : Now)
+    → is_line_end b ≡ true → is_live r.phase ≡ true
+    → length r.size_line.values ≡ 5 → r.line ≡ 1 + count_by is_line_end text
+    → FollowsLine last.digits last.kinds text → FollowsText r text complete now → GoodNow r.layout now (open_line text)
+    → Outcome r false (stand_after r.layout (standing complete now) (open_line text)) [] (judged r last b)
     (fault_within_limit r.layout now text b)
-digit_byte r last text b complete now less digit live known line f good =
-    rw (judged_digit r last b digit, line.has_word)
-    (mixing_byte r last text b complete now (list_any is_word_byte (open_line text)) (digit_ends_nothing b digit) line f
-    good (λ unmixed. mixed_digit text b unmixed digit) (λ stays. weaker now known f))
+unfolding wrong_size
+end_byte r last text b complete seeking end live five lines line f good =
+    let behind : Blocks = last_number_ended r (number_of last.digits) in
+    let keeps = keeps_last r (number_of last.digits) live in
+    let part = number_part _ r last text complete seeking live five line f in
+    let before : r.complete < r.wanted = live_few _ r seeking _ f.now live in
+    let few : behind.complete < behind.wanted = omega (arith, keeps.complete, keeps.wanted) in
+    let sought = seeking_if_few _ behind _ part.now few in
+    let outcome = sought_line behind complete (open_line text) (has_numbers_alone last.kinds) part sought few
+    (rw (line.has_digit, line.has_word)) in
+    rw (judged_gap r last b (or_right (is_blank b) _ end), end)
+    (outcome_behind r behind _ _ _ keeps (keeps.held sought) (rw (keeps.layout, keeps.line ∙ lines) at outcome))
+end_byte r last text b complete (inside block) end live five lines line f good =
+    let behind : Blocks = last_number_ended r (number_of last.digits) in
+    let numbered = has_numbers_alone last.kinds in
+    let keeps = keeps_last r (number_of last.digits) live in
+    let gap = or_right (is_blank b) (is_line_end b) end in
+    let unmixed = good_unmixed r.layout block (open_line text) good in
+    let part = number_part _ r last text complete (inside block) live five line f in
+    rw (judged_gap r last b gap, end, gap_fault r.layout block text b gap)
+    (elim (cases_option (number_fault r.layout (inside block) text)) [
+      | inl none ↦
+          let due : are_due r.layout block.size (block.numbers ++ numbers (open_line text)) ≡ true =
+          due_line r.layout block text ∙ grind arith in
+          let next = body_line behind complete block (open_line text) numbered (rw none at part) unmixed
+          (rw (← keeps.layout) at due) in
+          rw none (rw keeps.layout at next)
+      | inr one ↦ rw one.1 (refused_line r behind one.0 numbered (rw one.1 at part))
+    ])
+end_byte r last text b complete lost end live five lines line f good = absurd f.now

@@ -1,29 +1,18 @@
 -- No more times are held than the wanted block has.
-use Rattle.std.proofs.Common.{◌≡◌, ℕ, ◌≤◌, List, [], ◌∷◌, ◌++◌, length, take, drop, refl, sym, arith, Option}
-use Rattle.std.proofs.Common.{Some, None, inl, inr}
-use Rattle.std.specs.Prelude.{Result, Ok, Err, option_map, slice_get}
-use Rattle.std.specs.List.{All}
-use Rattle.std.proofs.lemmas.Bool.Decides.{nat_tests}
-use Rattle.std.proofs.lemmas.List.{append_assoc, append-nil, take-append-drop}
+use Rattle.pfs_layout.proofs.Words.{◌≡◌, ℕ, ◌≤◌, List, [], ◌∷◌, ◌++◌, length, take, drop, refl, sym, arith, Option}
+use Rattle.pfs_layout.proofs.Words.{Some, None, inl, inr, Result, Ok, Err, option_map, slice_get, All, nat_tests}
+use Rattle.pfs_layout.proofs.Words.{append_assoc, append-nil, take-append-drop, by_push, Layout, LayoutFault, Memory}
+use Rattle.pfs_layout.proofs.Words.{Phase, Progress, ended_lines, ended_numbers, due_count, Block, Now, seeking, inside}
+use Rattle.pfs_layout.proofs.Words.{lost, stand_after, stand, byte_fault, Fields, block_begun_by, block_read}
+use Rattle.pfs_layout.proofs.Words.{time_count, HoldsFew, StandsIn, StandsAfter, FeedMeets}
 use Rattle.std.proofs.lemmas.List.Elements.{All-push, All-get_or}
 use Rattle.std.proofs.lemmas.Option.{slice_get_cases}
-use Rattle.pfs_base.proofs.Published.Lists.{by_push}
-use Rattle.pfs_layout.specs.declared.layout.Layout.{Layout}
-use Rattle.pfs_layout.specs.declared.fault.LayoutFault.{LayoutFault}
-use Rattle.pfs_layout.specs.declared.fault.LayoutFault.TheVariants.{Memory}
-use Rattle.pfs_layout.specs.declared.blocks.Phase.{Phase}
 use Rattle.pfs_layout.specs.declared.blocks.Phase.TheVariants as phases
-use Rattle.pfs_layout.specs.declared.blocks.Progress.{Progress}
-use Rattle.pfs_layout.specs.Lines.{ended_lines, ended_numbers}
-use Rattle.pfs_layout.specs.Block.{due_count}
-use Rattle.pfs_layout.specs.Stand.{Block, Now, seeking, inside, lost, after_line, stand_after, stand}
-use Rattle.pfs_layout.specs.Refuse.{byte_fault}
-use Rattle.pfs_layout.specs.Reader.{Fields, block_begun_by, block_read, time_count, most_times, HoldsFew, StandsIn}
-use Rattle.pfs_layout.specs.Reader.{StandsAfter, FeedMeets}
-use Rattle.pfs_layout.proofs.Files.SoundLemmas.{GoodNow, stand-push, sound}
-use Rattle.pfs_layout.proofs.Files.FrontLemmas.{no_more_than_due}
-use Rattle.pfs_layout.proofs.Reading.TableLemmas.{length-times_among}
-use Rattle.pfs_layout.proofs.Reading.StepLemmas.{refused_memory}
+use Rattle.pfs_layout.specs.Reader.{most_times}
+use Rattle.pfs_layout.proofs.Files.GoodLemmas.{GoodNow, stand-push, sound}
+use Rattle.pfs_layout.proofs.Files.DueLemmas.{no_more_than_due}
+use Rattle.pfs_layout.proofs.Reading.NumberSteps.{length-times_among}
+use Rattle.pfs_layout.proofs.Reading.ByteSteps.{refused_memory}
 
 -- ---- a block that isn't longer than it is due
 
@@ -50,14 +39,10 @@ few_at : (layout : Layout) (blocks : List Block) (i : ℕ) → AreFew layout blo
 unfolding AreFew
 few_at layout blocks i all = grind (arith, slice_get_cases, All-get_or {X = Block} (λ block. IsFew layout (Some block)))
 
-few_behind : (layout : Layout) (complete : List Block) (now : Now) (line : List ℕ) → AreFew layout complete
-    → AreFew layout (after_line layout complete now line).complete
-few_behind layout complete now line all = grind (arith, nat_tests, few_push)
-
 all_few : (layout : Layout) (lines : List (List ℕ)) → AreFew layout (stand layout lines).complete
 unfolding stand stand_after AreFew
 all_few layout = by_push (λ lines. AreFew layout (stand layout lines).complete) (λ k d none. absurd (omega arith))
-    (λ lines line all. rw (stand-push layout lines line) (few_behind layout _ _ line all))
+    (λ lines line all. rw (stand-push layout lines line) (grind (arith, nat_tests, few_push)))
 
 -- ---- the wanted block
 
@@ -66,9 +51,9 @@ begun_few : (layout : Layout) (now : Now) (line : List ℕ) → GoodNow layout n
 begun_few layout seeking line good = omega arith
 begun_few layout (inside block) line good =
     let numbers : List ℕ = block.numbers ++ ended_numbers line in
-    let short = no_more_than_due layout block.size numbers good.due in
+    let short = no_more_than_due layout block.size numbers (grind arith) in
     few_of layout (record { size = block.size; numbers = numbers }) short
-begun_few layout lost line good = absurd good
+begun_few layout lost line good = absurd (cc)
 
 -- while no byte has a fault, the wanted block has no more times than its size says
 few_times : (layout : Layout) (k : ℕ) (text : List ℕ) → byte_fault layout k text ≡ None

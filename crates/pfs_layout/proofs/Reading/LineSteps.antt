@@ -1,34 +1,20 @@
 -- A line that ends: the fault that it has, or what the fields say behind it.
-use Rattle.std.proofs.Common.{◌≡◌, ◌≢◌, ℕ, ◌+◌, ◌<◌, min, Bool, true, false, not, ◌&&◌, List, [], ◌∷◌, ◌++◌, length}
-use Rattle.std.proofs.Common.{refl, ◌∙◌, ap, arith, Option, Some, None, if◌then◌else◌, ◌==◌, nat_le, inl, inr}
-use Rattle.std.specs.Prelude.{option_map}
-use Rattle.std.specs.List.{list_any}
+use Rattle.pfs_layout.proofs.Words.{◌≡◌, ◌≢◌, ℕ, ◌+◌, ◌<◌, min, Bool, true, false, not, ◌&&◌, List, [], ◌∷◌, ◌++◌}
+use Rattle.pfs_layout.proofs.Words.{length, refl, ◌∙◌, ap, arith, Option, Some, None, if◌then◌else◌, ◌==◌, inl, inr}
+use Rattle.pfs_layout.proofs.Words.{option_map, list_any, lt-ltb, le-ltb, eq-eqb, ne_eqb, and_parts, cases_Bool}
+use Rattle.pfs_layout.proofs.Words.{cases_lt, nat_tests, append-nil, length-append, length_push, slice_get-push, Layout}
+use Rattle.pfs_layout.proofs.Words.{Taillard, OrLib, CEILING, SizeLine, Phase, Blocks, is_digit, is_word_byte, Size}
+use Rattle.pfs_layout.proofs.Words.{is_within_limits, is_mixed, is_number_line, numbers, due_count, stated_size}
+use Rattle.pfs_layout.proofs.Words.{are_due, Block, seeking, inside, stand_after, times_among, standing, completed}
+use Rattle.pfs_layout.proofs.Words.{begun, with_line, size_fault, no_numbers, line_ended, block_of, HoldsNumbers}
+use Rattle.pfs_layout.proofs.Words.{FollowsBody, FollowsBlocks}
 use Rattle.std.proofs.Math.Nat.{mul-pos}
-use Rattle.std.proofs.lemmas.Bool.{lt-ltb, le-ltb, eq-eqb, ne_eqb, and_parts, not-true, cases_Bool, cases_lt}
-use Rattle.std.proofs.lemmas.Bool.Decides.{nat_tests}
-use Rattle.std.proofs.lemmas.List.{append-nil, length-append, length_push}
-use Rattle.pfs_base.specs.declared.limits.TheConstants.{MOST_JOBS, MOST_MACHINES, GREATEST_NOTE}
-use Rattle.pfs_base.proofs.Published.Lists.{slice_get-push}
-use Rattle.pfs_layout.specs.declared.layout.Layout.{Layout}
-use Rattle.pfs_layout.specs.declared.layout.Layout.TheVariants.{Taillard, OrLib}
-use Rattle.pfs_layout.specs.declared.fault.LayoutFault.{LayoutFault}
-use Rattle.pfs_layout.specs.declared.scan.TheConstants.{CEILING}
-use Rattle.pfs_layout.specs.declared.size_line.SizeLine.{SizeLine}
-use Rattle.pfs_layout.specs.declared.blocks.Phase.{Phase}
+use Rattle.std.proofs.lemmas.Bool.{not-true}
 use Rattle.pfs_layout.specs.declared.blocks.Phase.TheVariants as phases
-use Rattle.pfs_layout.specs.declared.blocks.Blocks.{Blocks}
-use Rattle.pfs_layout.specs.Bytes.{is_digit, is_word_byte}
-use Rattle.pfs_layout.specs.Size.{Size, is_within_limits}
-use Rattle.pfs_layout.specs.Lines.{is_mixed, is_number_line, numbers}
-use Rattle.pfs_layout.specs.Block.{due_count, stated_size, are_due}
-use Rattle.pfs_layout.specs.Stand.{Block, seeking, inside, Stand, after_size, after_numbers, stand_after, times_among}
-use Rattle.pfs_layout.specs.Stand.{standing, completed, begun, with_line}
-use Rattle.pfs_layout.specs.Refuse.{size_fault}
-use Rattle.pfs_layout.specs.Step.{stated_by, body_of, block_begun, size_judged, no_numbers, at_next_line, line_ended_in}
-use Rattle.pfs_layout.specs.Step.{line_ended}
-use Rattle.pfs_layout.specs.Reader.{block_of, HoldsNumbers, FollowsBody, FollowsBlocks}
-use Rattle.pfs_layout.proofs.Files.SizeLemmas.{size_within}
-use Rattle.pfs_layout.proofs.Reading.TableLemmas.{instance_of-none}
+use Rattle.pfs_layout.specs.Stand.{after_size, after_numbers}
+use Rattle.pfs_layout.specs.Private.Step.{stated_by, body_of, block_begun, size_judged, at_next_line, line_ended_in}
+use Rattle.pfs_layout.proofs.Files.DueLemmas.{size_within}
+use Rattle.pfs_layout.proofs.Reading.NumberSteps.{Outcome, instance_of-none}
 
 -- ---- what a size line states
 
@@ -56,19 +42,9 @@ clips Taillard line others h = rw (ne_eqb line.count 5 (λ z. omega arith))
 clips OrLib line (a ∷ b ∷ []) h = rw h.count (grind (arith, h.values))
 clips OrLib line others h = rw (ne_eqb line.count 2 (λ z. omega arith))
 
--- the ceiling is above every limit
-clipped_le : (v most : ℕ) → most < CEILING → nat_le (min CEILING v) most ≡ nat_le v most
-clipped_le v most h = grind (arith, nat_tests)
-
-clipped_ge : (v : ℕ) → nat_le 1 (min CEILING v) ≡ nat_le 1 v
-clipped_ge v = grind (arith, nat_tests)
-
 pub same_within : (size : Size) → is_within_limits (clipped size) ≡ is_within_limits size
 same_within size =
-    let low : MOST_JOBS < CEILING = omega arith in
-    let few : MOST_MACHINES < CEILING = omega arith in
-    let note : GREATEST_NOTE < CEILING = omega arith in
-    simp (clipped_ge, clipped_le)
+    grind (arith, nat_tests)
 
 -- a size within the limits is kept as it is
 clipped_is : (size : Size) → is_within_limits size ≡ true → clipped size ≡ size
@@ -81,18 +57,15 @@ no_block : (complete : List Block) (wanted : ℕ) (more : List ℕ) → length c
 no_block complete wanted more few = grind (arith, nat_tests)
 
 pub no_times : (layout : Layout) → length (times_among layout []) ≡ 0
-no_times Taillard = refl
-no_times OrLib = refl
+no_times layout = grind arith
 
 body_begun : (layout : Layout) (size : Size) → is_within_limits size ≡ true
     → FollowsBody layout size 0 (body_of layout size.jobs size.machines)
-body_begun Taillard size within = let w = size_within size within in search arith
-body_begun OrLib size within = let w = size_within size within in search arith
+body_begun layout size within = let w = size_within size within in grind arith
 
 due_some : (layout : Layout) (size : Size) → is_within_limits size ≡ true
     → 0 < (body_of layout size.jobs size.machines).due
-due_some Taillard size within = let w = size_within size within in grind (arith, mul-pos)
-due_some OrLib size within = let w = size_within size within in grind (arith, mul-pos)
+due_some layout size within = let w = size_within size within in grind (arith, mul-pos)
 
 begun_follows : (r : Blocks) (complete : List Block) (size : Size)
     → FollowsBlocks false r (standing complete seeking) [] → r.complete < r.wanted → is_within_limits size ≡ true
@@ -112,20 +85,6 @@ begun_follows r complete size f few within =
       held = rw (none, lt-ltb _ _ least) (grind (arith, no_times));
     }
 
--- ---- outcomes
-
--- only the fault is new
-pub record Refuses (old : Blocks) (fault : LayoutFault) (new : Blocks) : Type 0 where
-  pub phase : new.phase ≡ phases.Refused fault
-  pub held : new.held ≡ old.held
-  pub layout : new.layout ≡ old.layout
-  pub wanted : new.wanted ≡ old.wanted
-
--- the fault, or what the fields say behind the byte, whose line has a word byte or not
-abbrev pub ByteOutcome : Blocks → Bool → Stand → List ℕ → Blocks → Option LayoutFault → Type 0
-ByteOutcome r has_word stood more next None = FollowsBlocks has_word next stood more
-ByteOutcome r has_word stood more next (Some fault) = Refuses r fault next
-
 holds_none : HoldsNumbers no_numbers []
 holds_none = record { count = refl; values = λ i low few. absurd (omega arith) }
 
@@ -138,7 +97,7 @@ seeks_on r complete more f = search (holds_none)
 -- the size line of a sought block
 size_step : (stated kept : Option Size) (r : Blocks) (complete : List Block) → Clips kept stated
     → FollowsBlocks false (at_next_line r) (standing complete seeking) [] → r.complete < r.wanted
-    → ByteOutcome r false (standing complete (after_size stated)) []
+    → Outcome r false (standing complete (after_size stated)) []
     (size_judged (at_next_line r) kept (size_fault kept r.line)) (size_fault stated r.line)
 size_step None kept r complete same f few =
     rw same (record { phase = refl; held = refl; layout = refl; wanted = refl })
@@ -164,7 +123,7 @@ pub sought_line : (r : Blocks) (complete : List Block) (line : List ℕ) (number
     → FollowsBlocks (list_any is_word_byte line) r (standing complete seeking) (numbers line)
     → r.phase ≡ phases.Seeking → r.complete < r.wanted
     → numbered ≡ is_number_line line
-    → ByteOutcome r false (stand_after r.layout (standing complete seeking) line) [] (line_ended r numbered)
+    → Outcome r false (stand_after r.layout (standing complete seeking) line) [] (line_ended r numbered)
     (if is_number_line line then size_fault (stated_size r.layout (numbers line)) r.line else None)
 unfolding stand_after
 sought_line r complete line numbered f phase few same =

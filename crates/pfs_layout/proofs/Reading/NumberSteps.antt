@@ -1,32 +1,180 @@
 -- A number more: the fault that it has, or what the fields say behind it.
-use Rattle.std.proofs.Common.{◌≡◌, ℕ, ◌+◌, ◌<◌, ◌≤◌, min, Bool, true, false, List, [], ◌∷◌, ◌++◌, length, refl}
-use Rattle.std.proofs.Common.{arith, Option, Some, None, if◌then◌else◌, ◌==◌, inl, inr}
-use Rattle.std.specs.Prelude.{option_map}
-use Rattle.std.proofs.lemmas.Bool.{cases_Bool, cases_eq, cases_lt, eq-eqb, le-ltb, lt-ltb, ne_eqb}
-use Rattle.std.proofs.lemmas.List.{append_assoc, length-append, length_push}
-use Rattle.pfs_base.specs.declared.limits.TheConstants.{LONGEST_TIME}
-use Rattle.pfs_base.specs.Problem.{Problem}
-use Rattle.pfs_layout.specs.declared.layout.Layout.{Layout}
-use Rattle.pfs_layout.specs.declared.fault.LayoutFault.{LayoutFault}
-use Rattle.pfs_layout.specs.declared.scan.TheConstants.{CEILING}
+use Rattle.pfs_layout.proofs.Words.{◌≡◌, ◌≢◌, ℕ, ◌+◌, ◌*◌, ◌%◌, ◌<◌, List, [], ◌∷◌, ◌++◌, length, get_or, refl, sym}
+use Rattle.pfs_layout.proofs.Words.{◌∙◌, arith, common_steps, length-replicate, length-set, same_from_place, mul-add-lt}
+use Rattle.pfs_layout.proofs.Words.{rows, with_time, Layout, Taillard, OrLib, Size, begun, times_among, place_of_time}
+use Rattle.pfs_layout.proofs.Words.{instance_of, ◌≤◌, min, Bool, true, false, ap, Option, Some, None, if◌then◌else◌}
+use Rattle.pfs_layout.proofs.Words.{◌==◌, inl, inr, option_map, cases_Bool, eqb-true, ne_eqb, cases_eq, cases_lt}
+use Rattle.pfs_layout.proofs.Words.{eq-eqb, le-ltb, lt-ltb, nat_tests, length_push, append_assoc, length-append}
+use Rattle.pfs_layout.proofs.Words.{mod-mul-add, Problem, CEILING, SizeLine, any_time, machine_number, due_count}
+use Rattle.pfs_layout.proofs.Words.{due_at, Stand, Block, Now, seeking, inside, lost, standing, is_machine_due, refused}
+use Rattle.pfs_layout.proofs.Words.{time_judged, machine_judged, body_judged, number_ended, time_count, HoldsNumbers}
+use Rattle.pfs_layout.proofs.Words.{FollowsBody, is_live, block_begun_by, block_of, FollowsBlocks, LONGEST_TIME}
+use Rattle.pfs_layout.proofs.Words.{LayoutFault, Blocks, misfit}
+use Rattle.std.proofs.Math.ListN.{set}
+use Rattle.std.proofs.Math.Nat.{mul_comm}
+use Rattle.std.proofs.lemmas.List.{get_or_push, get_or-replicate}
+use Rattle.pfs_layout.specs.Private.Step.{empty_problem, times_in, with_number, next_of, after_time, after_machine}
+use Rattle.pfs_layout.specs.Private.Step.{with_problem_time, counted}
+use Rattle.pfs_layout.proofs.Files.DueLemmas.{stands_at, size_within}
+use Rattle.pfs_layout.proofs.Tables.{table, length-table, table_at, same_table}
+use Rattle.std.specs.Prelude.{is_some}
+use Rattle.pfs_layout.specs.declared.fault.LayoutFault.TheVariants.{ExtraNumber}
 use Rattle.pfs_layout.specs.declared.body.Body.{Body}
+use Rattle.pfs_layout.specs.Block.{nothing}
 use Rattle.pfs_layout.specs.declared.blocks.Phase.TheVariants as phases
-use Rattle.pfs_layout.specs.declared.blocks.Blocks.{Blocks}
-use Rattle.pfs_layout.specs.Block.{any_time, machine_number, due_count, due_at}
-use Rattle.pfs_layout.specs.Stand.{Block, Now, seeking, inside, lost, instance_of, standing}
-use Rattle.pfs_layout.specs.Refuse.{misfit}
-use Rattle.pfs_layout.specs.Step.{is_live, is_machine_due, refused, counted, time_judged, machine_judged, body_judged}
-use Rattle.pfs_layout.specs.Step.{number_ended}
-use Rattle.pfs_layout.specs.Reader.{block_begun_by, block_of, time_count, FollowsBody, FollowsBlocks}
-use Rattle.pfs_layout.proofs.Files.SizeLemmas.{size_within}
-use Rattle.pfs_layout.proofs.Reading.NumberLemmas.{holds_push, IsDue, due_at-past, due_at-time, due_at-machine}
-use Rattle.pfs_layout.proofs.Reading.NumberLemmas.{time_behind, machine_behind, Keeping, keeping_time, keeping_machine}
 
--- the fault, or what the fields say with the number
-abbrev pub NumberOutcome : Bool → Blocks → List Block → Now → List ℕ → ℕ → Blocks → Option LayoutFault → Type 0
-NumberOutcome has_word r complete now more v next None =
-    FollowsBlocks has_word next (standing complete now) (more ++ v ∷ [])
-NumberOutcome has_word r complete now more v next (Some fault) = next ≡ refused r fault
+-- ---- the problem of a block with one number more
+
+-- a table in which one place has another number
+table_with : (f g : ℕ → ℕ → ℕ) (jobs machines job machine v : ℕ) → job < jobs → machine < machines
+    → g job machine ≡ v → ((r c : ℕ) → r < jobs → c < machines → (r ≡ job → c ≢ machine) → g r c ≡ f r c)
+    → set (table f jobs machines) (job * machines + machine) v ≡ table g jobs machines
+table_with f g jobs machines job machine v j m here others =
+    let old : List ℕ = table f jobs machines in
+    let place : ℕ = job * machines + machine in
+    let size = length-table f jobs machines in
+    let within : place < length old = rw (size, mul_comm jobs machines) (mul-add-lt job machines machine jobs j m) in
+    same_table g jobs machines (set old place v) (length-set old place v ∙ size) (λ r c p q.
+    let same = same_from_place r c job machine machines q m in
+    grind (arith, common_steps, same, here, within, others r c p q, table_at f jobs machines r c 0 p q))
+
+same_time_place : (layout : Layout) (size : Size) (r c job machine : ℕ) → r < size.jobs → c < size.machines
+    → job < size.jobs → machine < size.machines
+    → place_of_time layout size r c ≡ place_of_time layout size job machine → (r ≡ job) × (c ≡ machine)
+same_time_place layout size r c job machine p q j m e =
+    grind (arith, same_from_place r c job machine size.machines, same_from_place c r machine job size.jobs)
+
+-- a list with one number more has elsewhere what it had
+index_push_other : (ns : List ℕ) (v p : ℕ) → p ≢ length ns → get_or (ns ++ v ∷ []) p 0 ≡ get_or ns p 0
+index_push_other ns v p other = grind (arith, common_steps)
+
+module _ (layout : Layout) (size : Size) where
+  -- a time more stands at its place
+  pub instance_of-time : (ns : List ℕ) (v job machine : ℕ) → job < size.jobs → machine < size.machines
+      → place_of_time layout size job machine ≡ length ns
+      → instance_of layout (record { size = size; numbers = ns ++ v ∷ [] })
+      ≡ (let problem = instance_of layout (record { size = size; numbers = ns }) in
+      record problem { shop = with_time problem.shop job machine v })
+  unfolding instance_of
+  instance_of-time ns v job machine j m at =
+      let times = table_with (stands_at layout size ns) (stands_at layout size (ns ++ v ∷ []))
+      size.jobs size.machines job machine v j m
+      (get_or_push ns v 0 _ (sym at)) (λ r c p q other. index_push_other ns v _ (λ last.
+      let same = same_time_place layout size r c job machine p q j m (last ∙ sym at) in other same.0 same.1)) in
+      cc
+
+  -- a block of which no number was read
+  pub instance_of-none : instance_of layout (begun size) ≡ empty_problem size
+  unfolding instance_of
+  instance_of-none =
+      let times = same_table (λ r c. 0) size.jobs size.machines _ (length-replicate (size.jobs * size.machines) 0)
+      (λ r c p q. get_or-replicate (size.jobs * size.machines) _ 0 0 (grind (arith, rows))) in
+      cc
+
+-- the number of a machine changes no time
+pub instance_of-machine : (size : Size) (ns : List ℕ) (v : ℕ) → length ns % 2 ≡ 0
+    → instance_of OrLib (record { size = size; numbers = ns ++ v ∷ [] })
+    ≡ instance_of OrLib (record { size = size; numbers = ns })
+unfolding instance_of
+instance_of-machine size ns v even =
+    let before : ℕ → ℕ → ℕ = stands_at OrLib size ns in
+    let times = same_table (stands_at OrLib size (ns ++ v ∷ [])) size.jobs size.machines
+    (table before size.jobs size.machines) (length-table before size.jobs size.machines)
+    (λ r c p q. table_at before size.jobs size.machines r c 0 p q
+    ∙ sym (index_push_other ns v (place_of_time OrLib size r c) (λ last. omega arith))) in
+    cc
+
+pub length-times_among : (layout : Layout) (ns : List ℕ) → length (times_among layout ns) ≡ times_in layout (length ns)
+length-times_among Taillard ns = refl
+length-times_among OrLib [] = refl
+length-times_among OrLib (x ∷ []) = refl
+length-times_among OrLib (x ∷ y ∷ more) = omega (arith, length-times_among OrLib more)
+
+-- ---- a line that may be a size line
+
+pub holds_push : (line : SizeLine) (ns : List ℕ) (v : ℕ) → length line.values ≡ 5 → HoldsNumbers line ns
+    → HoldsNumbers (with_number line (min CEILING v)) (ns ++ v ∷ [])
+holds_push line ns v five h = record {
+  count = omega (arith, h.count, length_push ns v);
+  values = λ i low few. grind (arith, common_steps, h.count, h.values);
+}
+
+-- ---- the next number of a body
+
+next_place : (width row column rows : ℕ) → column < width → row < rows → row * width + column + 1 < rows * width
+    → (if column + 1 == width then next_of row rows else row) * width + next_of column width ≡ row * width + column + 1
+next_place width row column rows h k more = elim (cases_Bool (column + 1 == width)) [
+  | inl last ↦
+      let full : column + 1 ≡ width = eqb-true (column + 1) width last in
+      let inner : row + 1 ≢ rows = λ e. let same = ap (λ n. n * width) e in omega arith in
+      rw (last, ne_eqb (row + 1) rows inner) (omega arith)
+  | inr on ↦ rw on (omega arith)
+]
+
+-- behind so many numbers another is due, the number of a machine or a time
+pub record IsDue (machine : Bool) (layout : Layout) (size : Size) (count : ℕ) (body : Body) : Type 0 where
+  pub follows : FollowsBody layout size count body
+  pub some : body.judged < body.due
+  pub kind : is_machine_due layout body ≡ machine
+
+-- behind as many as are due nothing is
+pub due_at-past : (layout : Layout) (size : Size) (place : ℕ) → due_count layout size ≤ place
+    → due_at layout size place ≡ nothing
+unfolding due_at
+due_at-past layout size place all = grind (arith, nat_tests)
+
+module _ {layout : Layout} {size : Size} {count : ℕ} {body : Body} where
+  pub due_at-time : IsDue false layout size count body → due_at layout size count ≡ any_time
+  unfolding due_at
+  due_at-time due = grind (arith, nat_tests)
+
+  pub due_at-machine : IsDue true layout size count body → due_at layout size count ≡ machine_number body.machine
+  unfolding due_at
+  due_at-machine due = grind (arith, nat_tests, mod-mul-add, due.follows.place)
+
+  -- behind a time, and behind the number of a machine
+  pub time_behind : IsDue false layout size count body → FollowsBody layout size (count + 1) (after_time layout body)
+  time_behind due = grind (arith, next_place, due.follows.place)
+
+  pub machine_behind : IsDue true layout size count body → FollowsBody layout size (count + 1) (after_machine body)
+  machine_behind due = grind (arith, due.follows.place)
+
+-- ---- the wanted block's instance
+
+-- what is kept of a block that is wanted or not
+pub record Keeping (layout : Layout) (wanted : Bool) (block : Block) (kept : Option Problem) (count : ℕ) : Type 0 where
+  pub instance : kept ≡ option_map (instance_of layout) (if wanted then Some block else None)
+  pub held : count ≡ time_count layout (if wanted then Some block else None)
+
+module _ {wanted : Bool} {layout : Layout} {size : Size} {ns : List ℕ} (v : ℕ) {body : Body} {instance : Option Problem}
+    {held : ℕ} where
+  pub keeping_time : IsDue false layout size (length ns) body
+      → Keeping layout wanted (record { size = size; numbers = ns }) instance held
+      → Keeping layout wanted (record { size = size; numbers = ns ++ v ∷ [] })
+      (option_map (with_problem_time body v) instance) (if is_some instance then held + 1 else held)
+  keeping_time due k = grind (arith, nat_tests, instance_of-time, length-times_among, length_push, due.follows.place)
+
+  pub keeping_machine : IsDue true layout size (length ns) body
+      → Keeping layout wanted (record { size = size; numbers = ns }) instance held
+      → Keeping layout wanted (record { size = size; numbers = ns ++ v ∷ [] }) instance held
+  keeping_machine due k = grind (arith, nat_tests, instance_of-machine, length-times_among, length_push)
+
+-- ---- outcomes
+
+-- only the fault is new
+pub record Refuses (old : Blocks) (fault : LayoutFault) (new : Blocks) : Type 0 where
+  pub phase : new.phase ≡ phases.Refused fault
+  pub held : new.held ≡ old.held
+  pub layout : new.layout ≡ old.layout
+  pub wanted : new.wanted ≡ old.wanted
+
+pub refuses : (r : Blocks) (fault : LayoutFault) → Refuses r fault (refused r fault)
+refuses r fault = record { phase = refl; held = refl; layout = refl; wanted = refl }
+
+-- the fault, or what the fields say behind these ended numbers of the line, which has a word byte or not
+abbrev pub Outcome : Blocks → Bool → Stand → List ℕ → Blocks → Option LayoutFault → Type 0
+Outcome r has_word stood more next None = FollowsBlocks has_word next stood more
+Outcome r has_word stood more next (Some fault) = Refuses r fault next
 
 -- the fault of a number behind these
 abbrev pub misfit_in : Layout → Now → List ℕ → ℕ → ℕ → Option LayoutFault
@@ -77,8 +225,8 @@ sought_number r complete more v first f live five =
 module _ {has_word : Bool} (r : Blocks) (complete : List Block) (block : Block) (more : List ℕ) (v : ℕ)
     (f : FollowsBlocks has_word r (standing complete (inside block)) more) where
   -- the fault, or what the fields say with the number
-  abbrev Outcome : Blocks → Option LayoutFault → Type 0
-  Outcome next fault = NumberOutcome has_word r complete (inside block) more v next fault
+  abbrev Counts : Blocks → Option LayoutFault → Type 0
+  Counts next fault = Outcome r has_word (standing complete (inside block)) (more ++ v ∷ []) next fault
 
   abbrev so_far : List ℕ
   so_far = block.numbers ++ more
@@ -97,7 +245,7 @@ module _ {has_word : Bool} (r : Blocks) (complete : List Block) (block : Block) 
   -- the body has come one number further, and what is kept too
   counted_follows : {body : Body} {instance : Option Problem} {held : ℕ}
       → FollowsBody r.layout block.size (length so_far + 1) body → KeepsOf (so_far ++ v ∷ []) instance held
-      → Outcome (counted (record r { instance = instance; held = held }) body) None
+      → Counts (counted (record r { instance = instance; held = held }) body) None
   counted_follows behind keeping =
       let wanted = begun_wanted complete r.wanted (inside block) (more ++ v ∷ []) few in
       let count : length block.numbers + length (more ++ v ∷ []) ≡ length so_far + 1 =
@@ -115,9 +263,9 @@ module _ {has_word : Bool} (r : Blocks) (complete : List Block) (block : Block) 
       record { follows = rw (← length-append block.numbers more) at f.now.body; some = some; kind = kind }
 
   time_step : (first : ℕ) → IsDue false r.layout block.size (length so_far) r.body
-      → Outcome (time_judged r (min CEILING v) first) (misfit any_time v first)
+      → Counts (time_judged r (min CEILING v) first) (misfit any_time v first)
   time_step first due = elim (cases_lt LONGEST_TIME v) [
-    | inl long ↦ rw (lt-ltb LONGEST_TIME v long, lt-ltb LONGEST_TIME (min CEILING v) (omega arith)) refl
+    | inl long ↦ rw (lt-ltb LONGEST_TIME v long, lt-ltb LONGEST_TIME (min CEILING v) (omega arith)) (refuses r _)
     | inr short ↦
         let same : min CEILING v ≡ v = omega arith in
         rw (same, le-ltb LONGEST_TIME v short)
@@ -125,7 +273,7 @@ module _ {has_word : Bool} (r : Blocks) (complete : List Block) (block : Block) 
   ]
 
   machine_step : (first : ℕ) → IsDue true r.layout block.size (length so_far) r.body
-      → Outcome (machine_judged r (min CEILING v) first) (misfit (machine_number r.body.machine) v first)
+      → Counts (machine_judged r (min CEILING v) first) (misfit (machine_number r.body.machine) v first)
   machine_step first due =
       let within = size_within block.size f.now.fits in
       let small : r.body.machine < CEILING =
@@ -136,33 +284,38 @@ module _ {has_word : Bool} (r : Blocks) (complete : List Block) (block : Block) 
             rw (same, eq-eqb v r.body.machine here)
             (counted_follows (machine_behind due) (keeping_machine v due keeps))
         | inr other ↦
-            rw (ne_eqb v r.body.machine other, ne_eqb (min CEILING v) r.body.machine (λ e. other (omega arith))) refl
+            rw (ne_eqb v r.body.machine other, ne_eqb (min CEILING v) r.body.machine (λ e. other (omega arith)))
+            (refuses r _)
       ]
 
   due_step : (first : ℕ) → r.body.judged < r.body.due
-      → Outcome (body_judged r (min CEILING v) first) (misfit (due_at r.layout block.size (length so_far)) v first)
+      → Counts (body_judged r (min CEILING v) first) (misfit (due_at r.layout block.size (length so_far)) v first)
   due_step first some = elim (cases_Bool (is_machine_due r.layout r.body)) [
     | inl machine ↦ let due = is_due some machine in rw (machine, due_at-machine due) (machine_step first due)
     | inr time ↦ let due = is_due some time in rw (time, due_at-time due) (time_step first due)
   ]
 
-  begun_number : (first : ℕ) → Outcome (number_ended r (min CEILING v) first)
+  begun_number : (first : ℕ) → Counts (number_ended r (min CEILING v) first)
       (misfit (due_at r.layout block.size (length block.numbers + length more)) v first)
   unfolding number_ended
   begun_number first = elim (cases_lt r.body.judged r.body.due) [
     | inl some ↦
-        rw (f.now.phase, lt-ltb r.body.judged r.body.due some, ← length-append block.numbers more) (due_step first some)
+        let is : number_ended r (min CEILING v) first ≡ body_judged r (min CEILING v) first =
+        rw (f.now.phase, lt-ltb r.body.judged r.body.due some) in
+        rw (is, ← length-append block.numbers more) (due_step first some)
     | inr all ↦
         let past : due_count r.layout block.size ≤ length block.numbers + length more =
         omega (arith, f.now.body.due, f.now.body.judged) in
-        rw (f.now.phase, le-ltb r.body.judged r.body.due all, due_at-past r.layout block.size _ past) refl
+        let is : number_ended r (min CEILING v) first ≡ refused r (ExtraNumber first) =
+        rw (f.now.phase, le-ltb r.body.judged r.body.due all) in
+        rw (is, due_at-past r.layout block.size _ past) (refuses r _)
   ]
 
 -- a number more, wherever it stands
 pub number_step : {has_word : Bool} (r : Blocks) (complete : List Block) (now : Now) (more : List ℕ) (v first : ℕ)
     → FollowsBlocks has_word r (standing complete now) more
     → is_live r.phase ≡ true → length r.size_line.values ≡ 5
-    → NumberOutcome has_word r complete now more v (number_ended r (min CEILING v) first)
+    → Outcome r has_word (standing complete now) (more ++ v ∷ []) (number_ended r (min CEILING v) first)
     (misfit_in r.layout now more v first)
 number_step r complete seeking more v first f live five = sought_number r complete more v first f live five
 number_step r complete (inside block) more v first f live five = begun_number r complete block more v f first

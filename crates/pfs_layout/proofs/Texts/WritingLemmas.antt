@@ -1,18 +1,13 @@
 -- The rows of a body, number by number and line by line.
-use Rattle.std.proofs.Common.{◌≡◌, ℕ, ◌+◌, ◌*◌, ◌<◌, List, [], ◌∷◌, ◌++◌, take, flat_map, get_or, refl, add-one, arith}
-use Rattle.std.proofs.Common.{lit<, take_all}
-use Rattle.std.proofs.lemmas.List.FromFn.{get_or-map-range_with_len}
-use Rattle.pfs_base.specs.FlowShop.{FlowShop, time_of}
-use Rattle.pfs_base.specs.Lists.{below}
-use Rattle.pfs_base.specs.Text.{spaced, entry}
+use Rattle.pfs_layout.proofs.Words.{◌∙◌, slice_index, if◌then◌else◌, inl, inr, ◌%◌, ◌/◌, ◌==◌, ◌≡◌, ℕ, ◌+◌, ◌*◌, ◌<◌}
+use Rattle.pfs_layout.proofs.Words.{List, [], ◌∷◌, ◌++◌, take, flat_map, refl, add-one, arith, take_all, cases_eq}
+use Rattle.pfs_layout.proofs.Words.{get_or-map-range_with_len, FlowShop, time_of, below, spaced, flat_map_more}
+use Rattle.pfs_layout.proofs.Words.{flat_map_from, Layout, Taillard, OrLib, due_row, row_count, row_width, row_line}
+use Rattle.pfs_layout.proofs.Words.{row_lines}
+use Rattle.pfs_base.specs.Text.{entry}
 use Rattle.pfs_base.proofs.Published.Printing.{line_on}
 use Rattle.pfs_base.proofs.Published.SendsOn.{GoesOn}
-use Rattle.pfs_base.proofs.Published.SpacedLemmas.{flat_map_more, flat_map_from}
-use Rattle.pfs_layout.specs.declared.layout.Layout.{Layout}
-use Rattle.pfs_layout.specs.declared.layout.Layout.TheVariants.{Taillard, OrLib}
-use Rattle.pfs_layout.specs.Block.{due_row, row_count}
-use Rattle.pfs_layout.specs.CanonicalText.{row_line, row_lines}
-use Rattle.pfs_layout.proofs.Files.DueLemmas.{length-due_row, row_width, pairs_of}
+use Rattle.pfs_layout.proofs.Files.DueLemmas.{length-due_row, pairs_of}
 use Rattle.pfs_layout.proofs.Tables.{rows_at}
 
 -- ---- a row, number by number
@@ -21,41 +16,31 @@ use Rattle.pfs_layout.proofs.Tables.{rows_at}
 abbrev pub row_begun : Layout → FlowShop → ℕ → ℕ → List ℕ
 row_begun layout shop row count = spaced (take count (due_row layout shop row))
 
--- a row goes on with this number at this place
-abbrev pub NextNumber : Layout → FlowShop → ℕ → ℕ → ℕ → Type 0
-NextNumber layout shop row place number =
-    GoesOn (row_line layout shop row) (row_begun layout shop row place) (entry place number)
-    (row_begun layout shop row (place + 1))
+-- a row goes on with the number at a place
+pub number_on : (layout : Layout) (shop : FlowShop) (row place : ℕ) → place < row_width layout shop
+    → GoesOn (row_line layout shop row) (row_begun layout shop row place)
+    (entry place (slice_index (due_row layout shop row) place)) (row_begun layout shop row (place + 1))
+number_on layout shop row place within =
+    line_on (due_row layout shop row) place (omega (arith, length-due_row layout shop row))
 
-pub time_on : (shop : FlowShop) (machine job : ℕ) → job < shop.jobs
-    → NextNumber Taillard shop machine job (time_of shop job machine)
+-- which is a time, or a machine and then its time
+abbrev number : Layout → FlowShop → ℕ → ℕ → ℕ
+number Taillard shop row place = time_of shop place row
+number OrLib shop row place = if place % 2 == 0 then place / 2 else time_of shop row (place / 2)
+
+pub number_is : (layout : Layout) (shop : FlowShop) (row place : ℕ) → place < row_width layout shop
+    → slice_index (due_row layout shop row) place ≡ number layout shop row place
 unfolding due_row
-time_on shop machine job within =
-    let time = get_or-map-range_with_len (λ i. time_of shop i machine) 0 shop.jobs job job 0 within (omega arith) in
-    rw time at (line_on (due_row Taillard shop machine) job (omega (arith, length-due_row Taillard shop machine)))
-
--- the number of a machine, or its time
-pair_on : (shop : FlowShop) (job machine column : ℕ) → machine < shop.machines → column < 2
-    → NextNumber OrLib shop job (2 * machine + column) (get_or (pairs_of shop job machine) column 0)
-unfolding due_row
-pair_on shop job machine column row_in column_in =
-    let place : machine * 2 + column ≡ 2 * machine + column = omega arith in
-    let number = rows_at (pairs_of shop job) 2 (λ i. refl) shop.machines machine column 0 row_in column_in in
-    rw (rw place at number) at
-    (line_on (due_row OrLib shop job) (2 * machine + column) (omega (arith, length-due_row OrLib shop job)))
-
-pub machine_on : (shop : FlowShop) (job machine : ℕ) → machine < shop.machines
-    → NextNumber OrLib shop job (2 * machine) machine
-machine_on shop job machine within =
-    let place : 2 * machine + 0 ≡ 2 * machine = omega arith in
-    rw place at (pair_on shop job machine 0 within (lit< tt))
-
-pub machine_time_on : (shop : FlowShop) (job machine : ℕ) → machine < shop.machines
-    → GoesOn (row_line OrLib shop job) (row_begun OrLib shop job (2 * machine + 1))
-    (entry (2 * machine + 1) (time_of shop job machine)) (row_begun OrLib shop job (2 * (machine + 1)))
-machine_time_on shop job machine within =
-    let place : 2 * machine + 1 + 1 ≡ 2 * (machine + 1) = omega arith in
-    rw place at (pair_on shop job machine 1 within (lit< tt))
+number_is Taillard shop row place within =
+    get_or-map-range_with_len (λ job. time_of shop job row) 0 shop.jobs place place 0 within (omega arith)
+number_is OrLib shop row place within =
+    let at : place / 2 * 2 + place % 2 ≡ place = omega arith in
+    let pair = rows_at (pairs_of shop row) 2 (λ i. refl) shop.machines (place / 2) (place % 2) 0 (omega arith)
+    (omega arith) in
+    rw at at pair ∙ elim (cases_eq (place % 2) 0) [
+      | inl even ↦ rw even
+      | inr odd ↦ let one : place % 2 ≡ 1 = omega arith in rw one
+    ]
 
 -- a row is all of its numbers, and its end
 pub row_ends : (layout : Layout) (shop : FlowShop) (row count : ℕ) → row_width layout shop ≡ count

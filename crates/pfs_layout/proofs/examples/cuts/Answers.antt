@@ -1,11 +1,7 @@
-use Rattle.std.proofs.Common.{refl}
+use Rattle.pfs_layout.proofs.Words.{refl}
 use Rattle.pfs_layout.proofs.Computing.{computing}
 use Rattle.pfs_layout.proofs.examples.cuts.Goals as goal
 
-pub returns-clause-three_jobs : goal.returns-clause-three_jobs
+pub returns : goal.returns
 unfolding computing
-returns-clause-three_jobs c = refl
-
-pub returns-clause-two_blocks : goal.returns-clause-two_blocks
-unfolding computing
-returns-clause-two_blocks c = refl
+returns c = record { three_jobs = refl; two_blocks = refl }

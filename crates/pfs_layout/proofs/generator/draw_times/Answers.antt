@@ -1,5 +1,4 @@
-use Rattle.std.proofs.Common.{arith}
-use Rattle.pfs_layout.specs.Generator.{seed_after}
+use Rattle.pfs_layout.proofs.Words.{arith, seed_after}
 use Rattle.pfs_layout.proofs.GeneratorLemmas.{drawn_more}
 use Rattle.pfs_layout.proofs.generator.draw_times.Goals as goal
 

@@ -1,6 +1,4 @@
-use Rattle.std.proofs.Common.{ℕ, ◌≡◌, arith}
-use Rattle.std.proofs.lemmas.List.{length-replicate}
-use Rattle.pfs_layout.specs.Generator.{seed_after}
+use Rattle.pfs_layout.proofs.Words.{ℕ, ◌≡◌, arith, length-replicate, seed_after}
 use Rattle.pfs_layout.proofs.GeneratorLemmas.{DrawnSoFar, machine_more, drawn_all}
 use Rattle.pfs_layout.proofs.generator.generate.Goals as goal
 

@@ -1,11 +1,9 @@
 -- Each piece takes the reader on, a fault of a piece is one of the whole input, and so is the wanted block.
-use Rattle.std.proofs.Common.{refl, rules, ℕ, [], ◌∙◌, arith}
-use Rattle.std.proofs.lemmas.List.{length-take}
-use Rattle.pfs_layout.specs.declared.fault.LayoutFault.TheVariants.{Read, SeedRange}
-use Rattle.pfs_layout.proofs.Reading.ReadNames.{finish_named, feed_named, same_error, never_failed}
-use Rattle.pfs_layout.proofs.Reading.ReaderLemmas.{live_follows}
-use Rattle.pfs_layout.proofs.Reading.ReadLemmas.{reading_more, reading_fault, reading_done}
-use Rattle.pfs_layout.proofs.Reading.ReadLemmas.{reads_failed, reads_ended, reads_fault}
+use Rattle.pfs_layout.proofs.Words.{refl, rules, ℕ, [], ◌∙◌, arith, length-take, Read, SeedRange}
+use Rattle.pfs_layout.proofs.Reading.SourceLemmas.{finish_named, feed_named, never_failed, reading_more, reading_fault}
+use Rattle.pfs_layout.proofs.Reading.SourceLemmas.{reading_done, reads_failed, reads_ended, reads_fault}
+use Rattle.pfs_layout.proofs.Reading.PieceLemmas.{same_error}
+use Rattle.pfs_layout.proofs.Reading.ReaderSteps.{live_follows}
 use Rattle.pfs_layout.proofs.reader.read_block.Goals as goal
 
 pub pieces-init : goal.pieces-init

@@ -1,7 +1,5 @@
 -- Each piece takes the reader on, and a live reader has read no more than the limit.
-use Rattle.std.proofs.Common.{◌≡◌, ◌-◌, false}
-use Rattle.pfs_base.specs.declared.limits.TheConstants.{LONGEST_INPUT}
-use Rattle.pfs_layout.specs.Reader.{Reading}
+use Rattle.pfs_layout.proofs.Words.{◌≡◌, ◌-◌, false, LONGEST_INPUT, Reading}
 use Rattle.pfs_layout.proofs.reader.read_block.Given as goal
 
 abbrev pub invariant-pieces : goal.invariant-pieces

@@ -1,5 +1,5 @@
-use Rattle.std.proofs.Common.{rules, ◌≡◌, Err}
-use Rattle.pfs_base.proofs.Published.SendsLemmas.{then_front, then_sends, front_of}
+use Rattle.pfs_layout.proofs.Words.{rules, ◌≡◌, Err, then_front, front_of}
+use Rattle.pfs_base.proofs.Published.SendsLemmas.{then_sends}
 use Rattle.pfs_layout.proofs.writing.put_head.Goals as goal
 
 pub returns-in_err-sent-in-Taillard : goal.returns-in_err-sent-in-Taillard

@@ -1,5 +1,4 @@
-use Rattle.std.proofs.Common.{rules, arith}
-use Rattle.pfs_base.proofs.Published.SendsOn.{goes_on-fits, goes_on-more, goes_on-stopped}
+use Rattle.pfs_layout.proofs.Words.{rules, arith, goes_on-fits, goes_on-more, goes_on-stopped}
 use Rattle.pfs_layout.proofs.Texts.WritingLemmas.{row_on}
 use Rattle.pfs_layout.proofs.writing.put_rows.Goals as goal
 

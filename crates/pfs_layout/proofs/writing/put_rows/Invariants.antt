@@ -1,4 +1,4 @@
-use Rattle.pfs_base.specs.Sends.{SendsAll}
+use Rattle.pfs_layout.proofs.Words.{SendsAll}
 use Rattle.pfs_layout.proofs.Texts.WritingLemmas.{rows_begun}
 use Rattle.pfs_layout.proofs.writing.put_rows.Given as goal
 

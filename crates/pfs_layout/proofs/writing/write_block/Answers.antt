@@ -1,9 +1,7 @@
-use Rattle.std.proofs.Common.{rules, arith}
-use Rattle.pfs_base.proofs.Published.SendsLemmas.{then_all, then_front, front_of}
+use Rattle.pfs_layout.proofs.Words.{rules, arith, then_front, front_of, canonical_text, row_lines, Size}
+use Rattle.pfs_base.proofs.Published.SendsLemmas.{then_all}
 use Rattle.pfs_base.proofs.Published.SendsOn.{front_of_whole}
-use Rattle.pfs_layout.specs.CanonicalText.{canonical_text, row_lines}
-use Rattle.pfs_layout.proofs.Texts.CanonicalLemmas.{length-head_lines, length-row_lines}
-use Rattle.pfs_layout.specs.Size.{Size}
+use Rattle.pfs_layout.proofs.Texts.CanonicalFile.{length-head_lines, length-row_lines}
 use Rattle.pfs_layout.proofs.writing.write_block.Goals as goal
 
 pub put_head-requires-clause-fits : goal.put_head-requires-clause-fits

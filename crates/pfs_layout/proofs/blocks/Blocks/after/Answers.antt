@@ -1,6 +1,6 @@
 -- The judgement of a number wants no memory.
-use Rattle.std.proofs.Common.{arith}
-use Rattle.pfs_layout.proofs.Reading.StepLemmas.{keeps_number}
+use Rattle.pfs_layout.proofs.Words.{arith}
+use Rattle.pfs_layout.proofs.Reading.ByteSteps.{keeps_number}
 use Rattle.pfs_layout.proofs.blocks.Blocks.after.Goals as goal
 
 pub returns-in-NumberEnded-clause-memory : goal.returns-in-NumberEnded-clause-memory

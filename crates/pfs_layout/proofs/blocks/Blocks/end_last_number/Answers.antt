@@ -1,5 +1,5 @@
 -- The judgement of a number leaves lines and blocks as they are.
-use Rattle.pfs_layout.proofs.Reading.StepLemmas.{keeps_number}
+use Rattle.pfs_layout.proofs.Reading.ByteSteps.{keeps_number}
 use Rattle.pfs_layout.proofs.blocks.Blocks.end_last_number.Goals as goal
 
 pub returns-in-Some-clause-kept : goal.returns-in-Some-clause-kept

@@ -1,13 +1,9 @@
 -- What was taken of the piece, or of its front within the limit, is what feed owes.
-use Rattle.std.proofs.Common.{◌-◌, take, sym, ◌∙◌, ap, arith}
-use Rattle.std.proofs.lemmas.List.{length-take}
-use Rattle.pfs_base.specs.declared.limits.TheConstants.{LONGEST_INPUT}
-use Rattle.pfs_layout.specs.declared.fault.LayoutFault.TheVariants.{TooLong}
-use Rattle.pfs_layout.specs.Reader.{fields}
-use Rattle.pfs_layout.proofs.Reading.StepLemmas.{live-memory}
-use Rattle.pfs_layout.proofs.Reading.ReaderLemmas.{live_follows}
-use Rattle.pfs_layout.proofs.Reading.FeedLemmas.{feed_of, reader_of, idle_meets, front_meets_as, long_meets_as}
-use Rattle.pfs_layout.proofs.Reading.FeedLemmas.{long_stands}
+use Rattle.pfs_layout.proofs.Words.{◌-◌, take, sym, ◌∙◌, ap, arith, length-take, LONGEST_INPUT, TooLong, fields}
+use Rattle.pfs_layout.proofs.Reading.ReaderSteps.{live_follows}
+use Rattle.pfs_layout.proofs.Reading.ByteSteps.{live-memory}
+use Rattle.pfs_layout.proofs.Reading.PieceLemmas.{feed_of, reader_of, idle_meets, front_meets_as, long_meets_as}
+use Rattle.pfs_layout.proofs.Reading.PieceLemmas.{long_stands}
 use Rattle.pfs_layout.proofs.blocks.Blocks.feed.Goals as goal
 
 pub returns-then-not-is_live-clause-meets : goal.returns-then-not-is_live-clause-meets

@@ -1,6 +1,6 @@
 -- A live reader can judge the last number.
-use Rattle.std.proofs.Common.{sym, ◌∙◌}
-use Rattle.pfs_layout.proofs.Reading.ReaderLemmas.{reader_end_ready}
+use Rattle.pfs_layout.proofs.Words.{sym, ◌∙◌}
+use Rattle.pfs_layout.proofs.Reading.ReaderSteps.{reader_end_ready}
 use Rattle.pfs_layout.proofs.blocks.Blocks.judge_end.Goals as goal
 
 pub end_last_number-requires-clause-can : goal.end_last_number-requires-clause-can

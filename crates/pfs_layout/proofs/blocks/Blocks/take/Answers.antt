@@ -1,7 +1,7 @@
 -- Each byte leads on, and the last one ends the piece or the reading.
-use Rattle.std.proofs.Common.{sym, ◌∙◌, arith}
-use Rattle.pfs_layout.proofs.Reading.TakeLemmas.{digit_means, word_means, blank_means}
-use Rattle.pfs_layout.proofs.Reading.TakeLemmas.{taken_ready, taken_quiet, taken_event, taken_end}
+use Rattle.pfs_layout.proofs.Words.{sym, ◌∙◌, arith}
+use Rattle.pfs_layout.proofs.Reading.PieceLemmas.{digit_means, word_means, blank_means, taken_ready, taken_quiet}
+use Rattle.pfs_layout.proofs.Reading.PieceLemmas.{taken_event, taken_end}
 use Rattle.pfs_layout.proofs.blocks.Blocks.take.Goals as goal
 
 -- ---- a digit, or a word byte, that means nothing
@@ -43,11 +43,6 @@ returns-then-not-is_live-clause-meets c =
     c.after.ensures.memory c.after.ensures.kept
 
 -- ---- any other byte
-
-pub loop-b-preserved-in-Quiet-event : goal.loop-b-preserved-in-Quiet-event
-loop-b-preserved-in-Quiet-event c =
-    taken_quiet c.loop-b.invariant (omega arith) c.requires.room
-    (record { event_is = sym c.in-Quiet-event.is ∙ c.event-event.ensures; line_is = c.push-in-loop-b.ensures })
 
 pub after-requires-in-loop-b : goal.after-requires-in-loop-b
 after-requires-in-loop-b c =

@@ -1,6 +1,6 @@
 -- A live reader behind the bytes so far.
-use Rattle.pfs_layout.specs.Reader.{fields}
-use Rattle.pfs_layout.proofs.Reading.TakeLemmas.{TakenTo}
+use Rattle.pfs_layout.proofs.Words.{fields}
+use Rattle.pfs_layout.proofs.Reading.PieceLemmas.{TakenTo}
 use Rattle.pfs_layout.proofs.blocks.Blocks.take.Given as goal
 
 abbrev pub invariant-loop-b : goal.invariant-loop-b

@@ -1,10 +1,7 @@
 -- The end of the input is judged as the definitions say, and an accepted instance is there.
-use Rattle.std.proofs.Common.{◌≡◌, sym, ◌∙◌, ap, subst, Some}
-use Rattle.std.specs.Prelude.{Ok, Err}
+use Rattle.pfs_layout.proofs.Words.{◌≡◌, sym, ◌∙◌, ap, subst, Some, Ok, Err, Blocks, at_end, Fields, fields}
+use Rattle.pfs_layout.proofs.Words.{StandsAfter, FinishMeets}
 use Rattle.std.proofs.lemmas.Option.{same_Some}
-use Rattle.pfs_layout.specs.declared.blocks.Blocks.{Blocks}
-use Rattle.pfs_layout.specs.Step.{at_end}
-use Rattle.pfs_layout.specs.Reader.{Fields, fields, StandsAfter, FinishMeets}
 use Rattle.pfs_layout.proofs.Reading.OutcomeLemmas.{finish_tells, end_has_instance}
 use Rattle.pfs_layout.proofs.reader.BlockReader.finish.Goals as goal
 

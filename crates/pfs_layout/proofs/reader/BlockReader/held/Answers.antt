@@ -1,6 +1,5 @@
 -- A reader holds no more times than the wanted block has.
-use Rattle.std.proofs.Common.{ap}
-use Rattle.pfs_layout.specs.Reader.{Fields}
+use Rattle.pfs_layout.proofs.Words.{ap, Fields}
 use Rattle.pfs_layout.proofs.Reading.HeldLemmas.{holds_few}
 use Rattle.pfs_layout.proofs.reader.BlockReader.held.Goals as goal
 

@@ -1,7 +1,6 @@
 -- A new reader stands after no bytes.
-use Rattle.std.proofs.Common.{[], ap}
-use Rattle.pfs_layout.specs.declared.blocks.Blocks.{Blocks}
-use Rattle.pfs_layout.proofs.Reading.NewLemmas.{new_stands}
+use Rattle.pfs_layout.proofs.Words.{[], ap, Blocks}
+use Rattle.pfs_layout.proofs.Reading.ReaderSteps.{new_stands}
 use Rattle.pfs_layout.proofs.reader.BlockReader.new.Goals as goal
 
 pub returns-clause-stands : goal.returns-clause-stands

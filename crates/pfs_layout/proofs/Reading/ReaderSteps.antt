@@ -1,42 +1,92 @@
--- Where a reader stands after one byte more.
-use Rattle.std.proofs.Common.{◌≡◌, ℕ, ◌+◌, ◌<◌, ◌≤◌, Bool, true, false, ◌||◌, List, [], ◌∷◌, ◌++◌, length}
-use Rattle.std.proofs.Common.{refl, sym, ◌∙◌, subst, arith, Option, Some, None, if◌then◌else◌, ◌⊎◌, inl, inr}
-use Rattle.std.specs.List.{list_any}
-use Rattle.std.proofs.Math.Nat.{mul-le-mul}
-use Rattle.std.proofs.lemmas.List.{length_push, length-append}
-use Rattle.std.proofs.lemmas.List.Sums.{count_by-le-length}
-use Rattle.std.proofs.lemmas.Bool.{cases_Bool, cases_lt, or_parts}
-use Rattle.std.proofs.lemmas.List.Folds.{list_any-append}
-use Rattle.pfs_base.specs.declared.limits.TheConstants.{LONGEST_INPUT}
-use Rattle.pfs_layout.specs.declared.layout.Layout.{Layout}
-use Rattle.pfs_layout.specs.declared.fault.LayoutFault.{LayoutFault}
-use Rattle.pfs_layout.specs.declared.scan.Line.{Line}
+-- Where a reader stands, before the first byte and after one byte more.
+use Rattle.pfs_layout.proofs.Words.{◌≡◌, ℕ, ◌+◌, ◌≤◌, Bool, true, length, Option, Some, None, arith, refl, ◌⊎◌, inl}
+use Rattle.pfs_layout.proofs.Words.{inr, Blocks, last_number_ended, is_live, ◌*◌, ◌<◌, not, ◌&&◌, ◌||◌, List, [], ◌∷◌}
+use Rattle.pfs_layout.proofs.Words.{◌++◌, count_by, if◌then◌else◌, ◌==◌, list_any, length_push, list_any-append}
+use Rattle.pfs_layout.proofs.Words.{is_digit, is_line_end, is_word_byte, open_line, is_no_digit, last_digits}
+use Rattle.pfs_layout.proofs.Words.{FollowsLine, lt-ltb, Layout, Line, ended_parts, open_part, ended_numbers, stand}
+use Rattle.pfs_layout.proofs.Words.{byte_fault, fields, StandsAfter, sym, ◌∙◌, subst, mul-le-mul, nat_tests}
+use Rattle.pfs_layout.proofs.Words.{length-append, cases_Bool, cases_lt, LONGEST_INPUT, LayoutFault, is_blank, Size}
+use Rattle.pfs_layout.proofs.Words.{is_within_limits, due_count, Block, seeking, inside, instance_of, standing}
+use Rattle.pfs_layout.proofs.Words.{fault_of_place, line_after, has_numbers_alone, number_of, IsReady, Fields}
+use Rattle.pfs_layout.proofs.Words.{block_read, FollowsBlocks, Follows, IsReader}
 use Rattle.pfs_layout.specs.declared.blocks.Phase.TheVariants as phases
-use Rattle.pfs_layout.specs.declared.blocks.Blocks.{Blocks}
-use Rattle.pfs_layout.specs.Bytes.{is_digit, is_blank, is_line_end, is_word_byte}
-use Rattle.pfs_layout.specs.Lines.{ended_parts, open_line, numbers, ended_numbers}
-use Rattle.pfs_layout.specs.Size.{Size, is_within_limits}
-use Rattle.pfs_layout.specs.Block.{due_count}
-use Rattle.pfs_layout.specs.Stand.{Block, Now, seeking, inside, lost, instance_of, standing}
-use Rattle.pfs_layout.specs.Refuse.{fault_of_place}
-use Rattle.pfs_layout.specs.Step.{is_live, line_after, has_numbers_alone, number_of, last_number_ended, CanCount}
-use Rattle.pfs_layout.specs.Step.{IsReady}
-use Rattle.pfs_layout.specs.Reader.{Fields, fields, block_read, FollowsNow, FollowsBlocks, Follows, StandsAfter}
-use Rattle.pfs_layout.specs.Reader.{IsReader}
+use Rattle.pfs_layout.specs.Private.Step.{digits_after, kinds_after, no_line, no_blocks, CanCount}
+use Rattle.std.specs.Char.{digit_value}
+use Rattle.std.specs.Str.Parse.{digits_value_after}
+use Rattle.std.proofs.lemmas.List.Sums.{sum_by-append, count_by-le-length}
+use Rattle.pfs_layout.specs.declared.scan.Digits.{Digits}
+use Rattle.pfs_layout.specs.declared.scan.Kinds.{Kinds}
+use Rattle.pfs_layout.proofs.Files.LineLemmas.{open_part-push}
+use Rattle.pfs_layout.specs.declared.blocks.Phase.TheVariants as phases
 use Rattle.pfs_layout.proofs.Options.{cases_option}
-use Rattle.pfs_layout.proofs.Files.LineLemmas.{ended_numbers-push}
 use Rattle.pfs_layout.proofs.Published.PlaceLemmas.{byte_fault-push}
-use Rattle.pfs_layout.proofs.Files.SoundLemmas.{GoodNow, stand_of, sound, stand_of-on, stand_of-end}
-use Rattle.pfs_layout.proofs.Files.SoundLemmas.{open_line-on, open_line-end}
-use Rattle.pfs_layout.proofs.Reading.StepLemmas.{live-memory, keeps_last, last_numbers, line_end_keeps}
-use Rattle.pfs_layout.proofs.Files.SizeLemmas.{size_within}
-use Rattle.pfs_layout.proofs.Reading.TableLemmas.{length-times_among}
-use Rattle.pfs_layout.proofs.Reading.NumberSteps.{keeping_of}
-use Rattle.pfs_layout.proofs.Reading.LineSteps.{Refuses}
-use Rattle.pfs_layout.proofs.Reading.ScanLemmas.{count_push, line_push, digit-no_line_end}
-use Rattle.pfs_layout.proofs.Reading.ByteSteps.{fault_within_limit, place_fault, live_few, ByteOutcome, digit_byte}
-use Rattle.pfs_layout.proofs.Reading.ByteSteps.{judged, judged_digit, judged_word, judged_blank}
-use Rattle.pfs_layout.proofs.Reading.EndSteps.{word_byte, blank_byte, end_byte}
+use Rattle.pfs_layout.proofs.Files.GoodLemmas.{ended_none, fault_within_limit, place_fault, GoodNow, stand_of, sound}
+use Rattle.pfs_layout.proofs.Files.GoodLemmas.{stand_of-on, stand_of-end, open_line-on, open_line-end}
+use Rattle.pfs_layout.proofs.Files.DueLemmas.{size_within}
+use Rattle.pfs_layout.proofs.Reading.NumberSteps.{length-times_among, Refuses, Outcome, keeping_of}
+use Rattle.pfs_layout.proofs.Reading.ByteSteps.{live_few, judged, judged_gap, byte_on, end_byte, live-memory}
+use Rattle.pfs_layout.proofs.Reading.ByteSteps.{keeps_last, last_numbers, line_end_keeps}
+
+-- ---- the last line with one byte more
+
+value_after-push : (n : ℕ) (ds : List ℕ) (b : ℕ)
+    → digits_value_after 10 n (ds ++ b ∷ []) ≡ digits_value_after 10 n ds * 10 + digit_value b
+value_after-push n [] b = refl
+value_after-push n (d ∷ ds) b = value_after-push (n * 10 + digit_value d) ds b
+
+pub count_push : (text : List ℕ) (b : ℕ)
+    → count_by is_line_end (text ++ b ∷ []) ≡ count_by is_line_end text + (if is_line_end b then 1 else 0)
+count_push text b = grind (arith, sum_by-append (λ x. if is_line_end x then 1 else 0) text (b ∷ []))
+
+-- a test of some byte of the last line
+any_push : (p : ℕ → Bool) (text : List ℕ) (b : ℕ)
+    → list_any p (open_line (text ++ b ∷ [])) ≡ (not (b == 10) && (list_any p (open_line text) || p b))
+any_push p text b =
+    grind (arith, open_part-push is_line_end text b, list_any-append p (open_line text) (b ∷ []))
+
+last_digits-push : (text : List ℕ) (b : ℕ)
+    → last_digits (text ++ b ∷ []) ≡ (if is_digit b then last_digits text ++ b ∷ [] else [])
+last_digits-push text b = grind (arith, open_part-push is_no_digit text b)
+
+pub line_push : (digits : Digits) (kinds : Kinds) (text : List ℕ) (b : ℕ) → FollowsLine digits kinds text
+    → FollowsLine (digits_after digits b) (kinds_after kinds b) (text ++ b ∷ [])
+line_push digits kinds text b f =
+    let count = length_push text b in
+    let run = last_digits-push text b in
+    record {
+      offset = omega (arith, f.offset);
+      first = grind (arith, run, length_push (last_digits text) b, f.first, f.offset);
+      value = grind (arith, run, value_after-push 0 (last_digits text) b, f.value);
+      has_digit = grind (arith, any_push is_digit text b, f.has_digit);
+      has_word = grind (arith, any_push is_word_byte text b, f.has_word);
+    }
+
+-- ---- a reader that has read nothing
+
+-- a reader that is new stands before the first byte
+pub new_stands : (layout : Layout) (wanted : ℕ) (last : Line) (blocks : Blocks) → last ≡ no_line
+    → blocks ≡ no_blocks layout wanted → 1 ≤ wanted → StandsAfter (fields last blocks) []
+unfolding byte_fault ended_parts open_part stand ended_numbers
+new_stands layout wanted last blocks line_is blocks_is some = rw (line_is, blocks_is) (record {
+  some = some;
+  sound = refl;
+  short = omega arith;
+  last_line = record { offset = refl; first = refl; value = refl; has_digit = refl; has_word = refl };
+  line = refl;
+  few_numbers = omega arith;
+  five_values = refl;
+  blocks = record {
+    complete = refl;
+    now = record {
+      phase = rw (lt-ltb 0 wanted some);
+      numbers = λ plain. record { count = refl; values = λ i low few. absurd (omega arith) };
+    };
+    instance = grind arith;
+    held = grind arith;
+  };
+})
+
+-- ---- a byte more
 
 -- ---- what a byte leaves as it is
 
@@ -51,44 +101,16 @@ pub carries : (r : Blocks) (last : Line) (b : ℕ) → is_live r.phase ≡ true 
 carries r last b live =
     let number = number_of last.digits in
     let ends = line_end_keeps (last_number_ended r number) (has_numbers_alone last.kinds) in
-    elim (cases_Bool (is_digit b)) [
-      | inl digit ↦ rw (judged_digit r last b digit) (grind (arith, digit-no_line_end b digit))
-      | inr no_digit ↦ elim (cases_Bool (is_blank b || is_line_end b)) [
-        | inl gap ↦ rw (judged_blank r last b no_digit gap)
-            (grind (arith, keeps_last r number live, last_numbers r number, ends))
-        | inr word ↦ rw (judged_word r last b no_digit word) (grind arith)
-      ]
+    elim (cases_Bool (is_blank b || is_line_end b)) [
+      | inl gap ↦ rw (judged_gap r last b gap) (grind (arith, keeps_last r number live, last_numbers r number, ends))
+      | inr other ↦ grind (arith, nat_tests)
     ]
 
 -- ---- the blocks behind a byte
 
-no_numbers_yet : ended_numbers [] ≡ []
-unfolding ended_numbers ended_parts
-no_numbers_yet = refl
-
--- on the line, a digit ends no number, and every other byte ends the unfinished one
-digit_ends_none : (text : List ℕ) (b : ℕ) → is_line_end b ≡ false → is_digit b ≡ true
-    → ended_numbers (open_line (text ++ b ∷ [])) ≡ ended_numbers (open_line text)
-digit_ends_none text b on digit = rw (open_line-on text b on, ended_numbers-push (open_line text) b, digit)
-
-other_ends_last : (text : List ℕ) (b : ℕ) → is_line_end b ≡ false → is_digit b ≡ false
-    → ended_numbers (open_line (text ++ b ∷ [])) ≡ numbers (open_line text)
-other_ends_last text b on gap = rw (open_line-on text b on, ended_numbers-push (open_line text) b, gap)
-
--- a line that holds no word byte held none before
-no_word_before : (text : List ℕ) (b : ℕ) → is_line_end b ≡ false
-    → list_any is_word_byte (open_line (text ++ b ∷ [])) ≡ false → list_any is_word_byte (open_line text) ≡ false
-no_word_before text b on none =
-    grind (arith, open_line-on text b on, list_any-append is_word_byte (open_line text) (b ∷ []))
-
-word_on_line : (text : List ℕ) (b : ℕ) → is_digit b ≡ false → (is_blank b || is_line_end b) ≡ false
-    → list_any is_word_byte (open_line (text ++ b ∷ [])) ≡ true
-word_on_line text b digit gap =
-    grind (arith, open_line-on text b, list_any-append is_word_byte (open_line text) (b ∷ []))
-
 -- the fault, or blocks that follow the text in this layout
 abbrev OutcomeBehind : Blocks → Layout → List ℕ → Blocks → Option LayoutFault → Type 0
-OutcomeBehind r layout text next fault = ByteOutcome r (list_any is_word_byte (open_line text)) (stand_of layout text)
+OutcomeBehind r layout text next fault = Outcome r (list_any is_word_byte (open_line text)) (stand_of layout text)
     (ended_numbers (open_line text)) next fault
 
 -- a byte more of a live reader, by its kind
@@ -96,24 +118,11 @@ outcome : (r : Fields) (text : List ℕ) (b : ℕ) → Follows r text → is_liv
     → GoodNow r.layout (stand_of r.layout text).now (open_line text)
     → OutcomeBehind r.blocks r.layout (text ++ b ∷ []) (judged r.blocks r.last b)
     (fault_within_limit r.layout (stand_of r.layout text).now text b)
-outcome r text b f live good = elim (cases_Bool (is_digit b)) [
-  | inl digit ↦
-      let on = digit-no_line_end b digit in
-      rw (stand_of-on r.layout text b on, digit_ends_none text b on digit)
-      (digit_byte r.blocks r.last text b _ _ _ digit live (no_word_before text b on) f.last_line f.blocks good)
-  | inr no_digit ↦ elim (cases_Bool (is_blank b || is_line_end b)) [
-    | inl gap ↦ elim (cases_Bool (is_line_end b)) [
-      | inl end ↦ rw (stand_of-end r.layout text b end, open_line-end text b end, no_numbers_yet)
-          (end_byte r.blocks r.last text b _ _ no_digit end live f.five_values f.line f.last_line f.blocks good)
-      | inr on ↦ rw (stand_of-on r.layout text b on, other_ends_last text b on no_digit)
-          (blank_byte r.blocks r.last text b _ _ _ no_digit gap on live f.five_values (no_word_before text b on)
-          f.last_line f.blocks good)
-    ]
-    | inr word ↦
-        let on = (or_parts (is_blank b) _ word).1 in
-        rw (word_on_line text b no_digit word, stand_of-on r.layout text b on, other_ends_last text b on no_digit)
-        (word_byte r.blocks r.last text b _ _ no_digit word live f.last_line f.blocks good)
-  ]
+outcome r text b f live good = elim (cases_Bool (is_line_end b)) [
+  | inr on ↦ rw (stand_of-on r.layout text b on, open_line-on text b on)
+      (byte_on r.blocks r.last text b _ _ on live f.five_values f.last_line f.blocks good)
+  | inl end ↦ rw (stand_of-end r.layout text b end, open_line-end text b end, ended_none)
+      (end_byte r.blocks r.last text b _ _ end live f.five_values f.line f.last_line f.blocks good)
 ]
 
 -- ---- where a reader stands
@@ -171,7 +180,7 @@ step_stands {r = r} {text = text} b f live short =
     let few : length (stand_of r.layout text).complete < r.wanted =
     omega (arith, f.blocks.complete, wants_more f live) in
     let place = place_fault r.layout r.wanted text b few short in
-    let out = outcome r text b f live (sound r.layout r.wanted text f.sound few) in
+    let out = outcome r text b f live (sound r.layout r.wanted text f.sound few).1 in
     elim (cases_option (fault_within_limit r.layout (stand_of r.layout text).now text b)) [
       | inl none ↦
           let carried = carries r.blocks r.last b live in
@@ -197,13 +206,7 @@ sought_now f sought = grind (arith, f.blocks.now)
 
 pub begun_now : {r : Fields} {text : List ℕ} → Follows r text → r.phase ≡ phases.Body
     → (block : Block) × ((stand_of r.layout text).now ≡ inside block)
-begun_now {r = r} f body = by_now _ _ _ f.blocks.now
-  where
-    by_now : (has_word : Bool) (now : Now) (more : List ℕ) → FollowsNow has_word r.blocks now more
-        → (block : Block) × (now ≡ inside block)
-    by_now has_word seeking more n = grind arith
-    by_now has_word (inside block) more n = (block, refl)
-    by_now has_word lost more n = absurd n
+begun_now f body = grind (arith, f.blocks.now)
 
 can_count : {r : Fields} {text : List ℕ} → Follows r text → r.phase ≡ phases.Body → CanCount r.blocks
 can_count {r = r} {text = text} f phase =

@@ -1,37 +1,48 @@
 -- A reader that reads pieces of a source.
-use Rattle.std.proofs.Common.{◌≡◌, ◌≢◌, ℕ, ◌<◌, ◌≤◌, true, false, List, [], ◌++◌, length, take, drop, refl, sym, ◌∙◌}
-use Rattle.std.proofs.Common.{subst, arith, Option, Some, None, inl, inr}
-use Rattle.std.specs.Prelude.{Result, Ok, Err, IfSome, slice_index}
-use Rattle.std.specs.Result.{result_err}
+use Rattle.pfs_layout.proofs.Words.{◌≡◌, ◌≢◌, ℕ, ◌<◌, ◌≤◌, true, false, List, [], ◌++◌, length, take, drop, refl, sym}
+use Rattle.pfs_layout.proofs.Words.{◌∙◌, subst, arith, Option, Some, None, inl, inr, Bool, ap, Result, Ok, Err}
+use Rattle.pfs_layout.proofs.Words.{slice_index, ◌↔◌, result_err, append_assoc, take_all, limits, Problem, Layout}
+use Rattle.pfs_layout.proofs.Words.{LayoutFault, Read, Memory, Phase, Progress, IsInstanceFile, RefusesInstance}
+use Rattle.pfs_layout.proofs.Words.{is_live, Fields, Follows, StandsIn, StandsAfter, EndsWantedSize, FeedMeets}
+use Rattle.pfs_layout.proofs.Words.{FinishMeets, Reading}
+use Rattle.std.specs.Prelude.{IfSome}
 use Rattle.std.specs.Io.KnownBytes.{Keeps, Consumes}
-use Rattle.std.proofs.lemmas.List.{append_assoc, take_all}
-use Rattle.pfs_base.specs.Limits.{limits}
-use Rattle.pfs_base.specs.Problem.{Problem}
-use Rattle.pfs_layout.specs.declared.layout.Layout.{Layout}
-use Rattle.pfs_layout.specs.declared.fault.LayoutFault.{LayoutFault}
-use Rattle.pfs_layout.specs.declared.fault.LayoutFault.TheVariants.{Read, Memory}
-use Rattle.pfs_layout.specs.declared.blocks.Phase.{Phase}
 use Rattle.pfs_layout.specs.declared.blocks.Phase.TheVariants as phases
-use Rattle.pfs_layout.specs.declared.blocks.Progress.{Progress}
 use Rattle.pfs_layout.specs.declared.reader.TheConstants.{PIECE}
-use Rattle.pfs_layout.specs.File.{IsInstanceFile}
-use Rattle.pfs_layout.specs.Refuse.{RefusesInstance}
-use Rattle.pfs_layout.specs.Step.{is_live}
-use Rattle.pfs_layout.specs.Reader.{Fields, Follows, StandsIn, StandsAfter, EndsWantedSize, FeedMeets}
-use Rattle.pfs_layout.specs.Reader.{FinishMeets, IsUndecided, ReadsAsFar, Reading}
+use Rattle.pfs_layout.specs.Reader.{IsUndecided, ReadsAsFar}
 use Rattle.pfs_layout.proofs.Options.{cases_option}
 use Rattle.pfs_layout.proofs.Files.EndLemmas.{byte_fault_refuses, free_behind}
-use Rattle.pfs_layout.proofs.Reading.ReadNames.{finish_named, feed_named, same_error}
-use Rattle.pfs_layout.proofs.Reading.ReaderLemmas.{live_follows}
-use Rattle.pfs_layout.proofs.Reading.FeedLemmas.{whole_text, refused_fault, done_enough, live_wants}
+use Rattle.pfs_layout.proofs.Reading.PieceLemmas.{same_error, whole_text, refused_fault, done_enough, live_wants}
+use Rattle.pfs_layout.proofs.Reading.ReaderSteps.{live_follows}
 use Rattle.pfs_layout.proofs.Reading.OutcomeLemmas.{finish_done}
+use Rattle.std.proofs.lemmas.Bool.{both_ways}
+use Rattle.pfs_layout.proofs.Files.InputFaults.{is_input_fault, refused_input}
+
+-- ---- which faults a read block can have
+
+-- the end of an input has no fault but those of inputs
+pub finish_named : {r : Fields} {text : List ℕ} {outcome : Result Problem LayoutFault} → FinishMeets r text outcome
+    → (fault : LayoutFault) → is_input_fault fault ≡ false → outcome ≢ Err fault
+finish_named {r} {text} meets fault other e =
+    both_ways _ other (refused_input r.layout text r.wanted fault ((meets.refused fault).0 e))
+
+-- nor has a piece, but for want of memory
+pub feed_named : {r new : Fields} {text piece : List ℕ} {found : LayoutFault} → FeedMeets r text piece (Err found) new
+    → (fault : LayoutFault) → fault ≢ Memory → is_input_fault fault ≡ false → found ≢ fault
+feed_named {r} {text} {piece} meets fault no_memory other e =
+    let here = (meets.exact (λ z. no_memory (sym e ∙ same_error z)) fault).0 (ap Err e) in
+    let refuses = byte_fault_refuses r.layout r.wanted (text ++ piece) [] fault here in
+    both_ways _ other (refused_input r.layout _ r.wanted fault refuses)
+
+-- what never holds, exactly where a device that works has failed
+pub never_failed : {P : Type 0} {failed : Bool} → failed ≡ false → ¬ P → P ↔ (failed ≡ true)
+never_failed working never = (λ p. absurd (never p), λ e. absurd (both_ways _ working e))
+
+-- ---- pieces
 
 left_behind : (left next : Option (List ℕ)) (front piece rest : List ℕ) → Consumes left next piece → left ≡ Some rest
     → (more : List ℕ) × (next ≡ Some more) × (front ++ rest ≡ (front ++ piece) ++ more)
-left_behind None next front piece rest c e = cc
-left_behind (Some xs) None front piece rest c e = absurd c
-left_behind (Some xs) (Some more) front piece rest c e =
-    let here : rest ≡ piece ++ more = cc in (more, refl, rw (here, append_assoc))
+left_behind left next front piece rest c e = grind (arith, append_assoc {A = ℕ})
 
 -- a reader that went on and isn't done is live
 live_then : {r new : Fields} {front piece : List ℕ} {progress : Progress} → FeedMeets r front piece (Ok progress) new
@@ -118,19 +129,10 @@ module _ {layout : Layout} {k : ℕ} {first left : Option (List ℕ)} {r : Field
       → IfSome first (λ bytes. ReadsAsFar layout k bytes next fault)
   reads_piece fault size failed memory = told_behind _ (λ more e.
       let f = live_follows r t.front t.live t.stands in
-      let wanted : IsUndecided r.layout r.wanted t.front =
+      let here : IsUndecided r.layout r.wanted t.front =
       record { sound = f.sound; incomplete = live_wants r t.front f t.live } in
-      record {
-        front = t.front;
-        last = piece;
-        rest = more;
-        whole = refl;
-        left_is = e;
-        wanted = rw (t.layout_is, t.wanted_is) at wanted;
-        piece = size;
-        failed = failed;
-        memory = memory;
-      })
+      let wanted = rw (t.layout_is, t.wanted_is) at here in
+      search)
 
   -- the input ends behind the piece, or the wanted block has ended in it
   pub reads_ended : {new : Fields} {text : List ℕ} {outcome : Result Problem LayoutFault} → length piece ≤ PIECE
@@ -155,6 +157,4 @@ reads_failed {left} t next kept =
     reads_piece t next [] (none_consumed left next kept) (Some Read) (omega arith) (λ e. refl) (λ e. absurd (cc))
   where
     none_consumed : (left next : Option (List ℕ)) → Keeps left next → Consumes left next []
-    none_consumed None next kept = tt
-    none_consumed (Some xs) None kept = kept
-    none_consumed (Some xs) (Some ys) kept = sym kept
+    none_consumed left next kept = grind arith

@@ -1,10 +1,8 @@
 -- What one byte does to what a reader keeps: what it means behind the last line, and what such an event does to
--- the blocks. But for `is_live`, whether a further byte is wanted, only the contracts of private functions speak
--- of it: what a reader's fields say of the bytes that it has read stands in `Reader`.
+-- the blocks. What a reader's fields say of the bytes that it has read stands in `Reader`.
 use Rattle.std.specs.Prelude.{◌≡◌, ◌≢◌, ℕ, ◌+◌, ◌-◌, ◌*◌, ◌/◌, ◌%◌, ◌<◌, ◌≤◌, min, Bool, true, false, not, ◌&&◌, ◌||◌}
-use Rattle.std.specs.Prelude.{◌==◌, nat_lt, List, replicate, slice_index, slice_set, Option, Some, None, is_some}
-use Rattle.std.specs.Prelude.{option_map, IfSome, if◌then◌else◌}
-use Rattle.std.specs.Option.{option_or}
+use Rattle.std.specs.Prelude.{◌==◌, nat_lt, replicate, slice_index, slice_set, Option, Some, None, is_some, option_map}
+use Rattle.std.specs.Prelude.{IfSome, if◌then◌else◌}
 use Rattle.pfs_base.specs.declared.limits.TheConstants.{LONGEST_TIME, LONGEST_INPUT}
 use Rattle.pfs_base.specs.FlowShop.{with_time}
 use Rattle.pfs_base.specs.Problem.{Problem}
@@ -30,6 +28,7 @@ use Rattle.pfs_layout.specs.Bytes.{is_digit, is_blank, is_line_end}
 use Rattle.pfs_layout.specs.Size.{Size}
 use Rattle.pfs_layout.specs.Block.{numbers_for}
 use Rattle.pfs_layout.specs.Refuse.{size_fault}
+use Rattle.pfs_layout.specs.Reader.{is_live}
 
 -- ---- the last line so far
 
@@ -80,15 +79,12 @@ abbrev pub blank_event : Option Number → Event
 blank_event None = events.Quiet
 blank_event (Some number) = events.NumberEnded number
 
-abbrev pub mixed_if : Line → Bool → Event
-mixed_if line is_mixed = if is_mixed then events.Mixed line.digits.offset else events.Quiet
-
 -- what a byte means behind the line
 abbrev pub event_of : Line → ℕ → Event
-event_of line b = if is_digit b then mixed_if line line.kinds.has_word
-    else (if is_blank b then blank_event (number_of line.digits)
+event_of line b = if is_blank b then blank_event (number_of line.digits)
     else (if is_line_end b then events.LineEnded (number_of line.digits) (has_numbers_alone line.kinds)
-    else mixed_if line line.kinds.has_digit))
+    else (if (if is_digit b then line.kinds.has_word else line.kinds.has_digit)
+    then events.Mixed line.digits.offset else events.Quiet))
 
 -- ---- a line that may be a size line
 
@@ -107,18 +103,15 @@ abbrev pub size_from : ℕ → ℕ → ℕ → ℕ → ℕ → Size
 size_from jobs machines seed upper lower =
     record { jobs = jobs; machines = machines; notes = record { seed = seed; upper = upper; lower = lower } }
 
-abbrev pub size_from_five : List ℕ → Size
-size_from_five values =
-    size_from (slice_index values 0) (slice_index values 1)
-    (slice_index values 2) (slice_index values 3) (slice_index values 4)
-
-abbrev pub size_from_two : List ℕ → Size
-size_from_two values = size_from (slice_index values 0) (slice_index values 1) 0 0 0
-
 -- what the numbers state, where they are as many as the layout says
 abbrev pub stated_by : Layout → SizeLine → Option Size
-stated_by Taillard line = if line.count == 5 then Some (size_from_five line.values) else None
-stated_by OrLib line = if line.count == 2 then Some (size_from_two line.values) else None
+stated_by Taillard line = if line.count == 5
+    then Some (size_from (slice_index line.values 0) (slice_index line.values 1) (slice_index line.values 2)
+    (slice_index line.values 3) (slice_index line.values 4))
+    else None
+stated_by OrLib line = if line.count == 2
+    then Some (size_from (slice_index line.values 0) (slice_index line.values 1) 0 0 0)
+    else None
 
 -- the size that was given
 abbrev pub size_given : Stated → Size
@@ -181,19 +174,10 @@ no_blocks layout wanted = record {
   held = 0;
 }
 
-abbrev pub is_live : Phase → Bool
-is_live phases.Seeking = true
-is_live phases.Body = true
-is_live phases.AfterLast = true
-is_live phases.Done = false
-is_live (phases.Refused fault) = false
-
 abbrev pub is_in_block : Phase → Bool
-is_in_block phases.Seeking = false
 is_in_block phases.Body = true
 is_in_block phases.AfterLast = true
-is_in_block phases.Done = false
-is_in_block (phases.Refused fault) = false
+is_in_block other = false
 
 abbrev pub refused : Blocks → LayoutFault → Blocks
 refused r fault = record r { phase = phases.Refused fault }
@@ -234,8 +218,7 @@ abbrev pub number_ended_in : Phase → Blocks → ℕ → ℕ → Blocks
 number_ended_in phases.Seeking r value first = record r { size_line = with_number r.size_line value }
 number_ended_in phases.Body r value first = body_judged r value first
 number_ended_in phases.AfterLast r value first = refused r (ExtraNumber first)
-number_ended_in phases.Done r value first = r
-number_ended_in (phases.Refused fault) r value first = r
+number_ended_in other r value first = r
 
 -- behind a number
 unfoldable pub number_ended : Blocks → ℕ → ℕ → Blocks
@@ -278,10 +261,8 @@ abbrev pub line_ended_in : Phase → Blocks → Bool → Blocks
 line_ended_in phases.Seeking r is_number_line = if is_number_line
     then size_line_ended (at_next_line r) r.size_line r.line
     else at_next_line r
-line_ended_in phases.Body r is_number_line = at_next_line r
 line_ended_in phases.AfterLast r is_number_line = block_ended (at_next_line r)
-line_ended_in phases.Done r is_number_line = at_next_line r
-line_ended_in (phases.Refused fault) r is_number_line = at_next_line r
+line_ended_in other r is_number_line = at_next_line r
 
 -- behind a byte 10
 unfoldable pub line_ended : Blocks → Bool → Blocks
@@ -304,10 +285,8 @@ blocks_after r (events.LineEnded number is_number_line) = line_ended (last_numbe
 blocks_after r (events.Mixed offset) = mixed_met r offset
 
 abbrev pub is_line_ended : Event → Bool
-is_line_ended events.Quiet = false
-is_line_ended (events.NumberEnded number) = false
 is_line_ended (events.LineEnded number is_number_line) = true
-is_line_ended (events.Mixed offset) = false
+is_line_ended other = false
 
 -- what the judgement of a number leaves as it is
 pub record Keeps (old new : Blocks) : Type 0 where
@@ -324,19 +303,15 @@ abbrev pub times_in : Layout → ℕ → ℕ
 times_in Taillard n = n
 times_in OrLib n = n / 2
 
--- the fault of an input that ends here, where the wanted block isn't complete: a size line without a fault begins a
--- block, of which no time was read
-abbrev pub end_fault_in : Phase → Kinds → Blocks → Option LayoutFault
-end_fault_in phases.Seeking kinds r = if has_numbers_alone kinds
-    then option_or (size_fault (stated_by r.layout r.size_line) r.line) (Some (Truncated 0))
-    else Some (NoBlock r.complete)
-end_fault_in phases.Body kinds r = Some (Truncated (times_in r.layout r.body.judged))
-end_fault_in phases.AfterLast kinds r = if r.complete + 1 == r.wanted then None else Some (NoBlock (r.complete + 1))
-end_fault_in phases.Done kinds r = None
-end_fault_in (phases.Refused fault) kinds r = Some fault
+-- the fault of an input that ends behind a line end, where the wanted block isn't complete
+abbrev pub end_fault_in : Phase → Blocks → Option LayoutFault
+end_fault_in phases.Seeking r = Some (NoBlock r.complete)
+end_fault_in phases.Body r = Some (Truncated (times_in r.layout r.body.judged))
+end_fault_in (phases.Refused fault) r = Some fault
+end_fault_in other r = None
 
-abbrev pub end_fault : Kinds → Blocks → Option LayoutFault
-end_fault kinds r = end_fault_in r.phase kinds r
+abbrev pub end_fault : Blocks → Option LayoutFault
+end_fault r = end_fault_in r.phase r
 
 -- behind the last number of an input that ends behind this line
 abbrev pub at_end : Line → Blocks → Blocks

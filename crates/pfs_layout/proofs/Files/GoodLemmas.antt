@@ -1,0 +1,297 @@
+-- A byte has a fault exactly where the numbers so far are no longer due, or a line of a body is mixed.
+use Rattle.pfs_layout.proofs.Words.{◌≡◌, ℕ, ◌+◌, ◌-◌, ◌<◌, ◌≤◌, Bool, true, false, not, ◌&&◌, ◌||◌, List, [], ◌∷◌, ◌++◌}
+use Rattle.pfs_layout.proofs.Words.{length, Option, Some, None, if◌then◌else◌, inl, inr, append-nil, append_assoc}
+use Rattle.pfs_layout.proofs.Words.{length-append, nat_le, refl, sym, ◌∙◌, ap, arith, ◌⊎◌, list_any, is_none, option_or}
+use Rattle.pfs_layout.proofs.Words.{digits_value, cases_Bool, cases_lt, cases_eq, le-ltb, nat_tests, length_push}
+use Rattle.pfs_layout.proofs.Words.{list_any-append, list_all-append, fold-append, LONGEST_INPUT, Layout, LayoutFault}
+use Rattle.pfs_layout.proofs.Words.{TooLong, is_digit, is_blank, is_line_end, is_empty, by_push, enumerate_from-append}
+use Rattle.pfs_layout.proofs.Words.{Size, ended_parts, open_part, ended_lines, open_line, is_mixed, numbers}
+use Rattle.pfs_layout.proofs.Words.{ended_numbers, last_digits, Due, is_due, due_at, are_due, Block, Now, seeking}
+use Rattle.pfs_layout.proofs.Words.{inside, lost, Stand, completed, after_line, stand_after, stand, mixed_line, misfit}
+use Rattle.pfs_layout.proofs.Words.{wrong_number, wrong_size, ends_early, fault_of_place, byte_fault}
+use Rattle.std.proofs.Math.Bool.{and-true}
+use Rattle.pfs_layout.proofs.Files.LineLemmas.{ended_parts-push, open_part-push, ended_numbers-push, numbers_is}
+use Rattle.pfs_layout.proofs.Published.PlaceLemmas.{byte_fault-push}
+use Rattle.pfs_layout.proofs.Options.{or_none}
+
+-- ---- numbers that are due
+
+-- one number more
+are_due-push : (layout : Layout) (size : Size) (ns : List ℕ) (n : ℕ)
+    → are_due layout size (ns ++ n ∷ []) ≡ (are_due layout size ns && is_due (due_at layout size (length ns)) n)
+unfolding are_due
+are_due-push layout size ns n =
+    let e : 0 + length ns ≡ length ns = omega arith in
+    rw (enumerate_from-append 0 ns (n ∷ []), list_all-append, e, and-true) refl
+
+misfit_is : (due : Due) (n offset : ℕ) → is_none (misfit due n offset) ≡ is_due due n
+misfit_is due n offset = grind (arith, nat_tests)
+
+-- ---- the number at the end of a line
+
+-- the last digits of a text are those of its last line
+same_last : (text : List ℕ) → last_digits text ≡ last_digits (open_line text)
+unfolding open_part
+same_last = by_push (λ text. last_digits text ≡ last_digits (open_line text)) refl
+    (λ text b h. grind (arith, nat_tests, open_part-push))
+
+-- all numbers of the last line are ended, but for the one that digits at the end of the text are
+pub line_numbers : (text : List ℕ) → numbers (open_line text)
+    ≡ (if is_empty (last_digits text) then ended_numbers (open_line text)
+    else ended_numbers (open_line text) ++ digits_value 10 (last_digits text) ∷ [])
+line_numbers text = rw (numbers_is (open_line text), same_last text) (grind (arith, append-nil {A = ℕ}))
+
+-- such digits are digits of the last line
+pub no_last : (text : List ℕ) → list_any is_digit (open_line text) ≡ false → is_empty (last_digits text) ≡ true
+unfolding open_part
+no_last =
+    by_push (λ text. list_any is_digit (open_line text) ≡ false → is_empty (last_digits text) ≡ true) (λ none. refl)
+    (λ text b h none. grind (arith, nat_tests, list_any-append {X = ℕ}, open_part-push))
+
+-- the fault of the number that the last digits are
+abbrev pub number_fault : Layout → Now → List ℕ → Option LayoutFault
+number_fault layout seeking text = None
+number_fault layout (inside block) text = if is_empty (last_digits text)
+    then None
+    else misfit (due_at layout block.size (length block.numbers + length (ended_numbers (open_line text))))
+    (digits_value 10 (last_digits text)) (length text - length (last_digits text))
+number_fault layout lost text = None
+
+-- it has none where all numbers of the line are due
+pub due_line : (layout : Layout) (block : Block) (text : List ℕ)
+    → are_due layout block.size (block.numbers ++ numbers (open_line text))
+    ≡ (are_due layout block.size (block.numbers ++ ended_numbers (open_line text))
+    && is_none (number_fault layout (inside block) text))
+due_line layout block text = elim (cases_Bool (is_empty (last_digits text))) [
+  | inl none ↦ rw (line_numbers text, none, and-true) refl
+  | inr some ↦ rw (line_numbers text, some, ← append_assoc)
+      (grind (arith, are_due-push, misfit_is, length-append {A = ℕ}))
+]
+
+-- ---- the fault of a byte
+
+-- the faults that a byte within the limit can have
+abbrev pub fault_within_limit : Layout → Now → List ℕ → ℕ → Option LayoutFault
+fault_within_limit layout seeking text b = wrong_size layout text (Some b)
+fault_within_limit layout (inside block) text b =
+    option_or (mixed_line text (Some b)) (wrong_number layout block text (Some b))
+fault_within_limit layout lost text b = None
+
+-- no line of a body is mixed, and the numbers that are ended are due
+abbrev pub is_good : Layout → Now → List ℕ → Bool
+is_good layout seeking line = true
+is_good layout (inside block) line =
+    not (is_mixed line) && are_due layout block.size (block.numbers ++ ended_numbers line)
+is_good layout lost line = false
+
+abbrev pub GoodNow : Layout → Now → List ℕ → Type 0
+GoodNow layout now line = is_good layout now line ≡ true
+
+pub good_unmixed : (layout : Layout) (block : Block) (line : List ℕ) → GoodNow layout (inside block) line
+    → is_mixed line ≡ false
+good_unmixed layout block line good = grind arith
+
+pub wrong_number_is : (layout : Layout) (block : Block) (text : List ℕ) (b : ℕ)
+    → wrong_number layout block text (Some b)
+    ≡ (if is_blank b || is_line_end b then number_fault layout (inside block) text else None)
+unfolding wrong_number
+wrong_number_is layout block text b = grind arith
+
+-- a blank and a line end in a block have the fault of the number that they end
+pub gap_fault : (layout : Layout) (block : Block) (text : List ℕ) (b : ℕ) → (is_blank b || is_line_end b) ≡ true
+    → fault_within_limit layout (inside block) text b ≡ number_fault layout (inside block) text
+unfolding mixed_line
+gap_fault layout block text b gap =
+    rw (wrong_number_is layout block text b, gap) (grind (arith, nat_tests, list_any-append {X = ℕ}))
+
+-- a byte on the line leaves it good exactly where it has no fault
+pub good_on : (layout : Layout) (now : Now) (text : List ℕ) (b : ℕ) → is_line_end b ≡ false
+    → is_good layout now (open_line text ++ b ∷ [])
+    ≡ (is_good layout now (open_line text) && is_none (fault_within_limit layout now text b))
+unfolding mixed_line wrong_size
+good_on layout seeking text b on = rw on
+good_on layout (inside block) text b on =
+    let numbers = due_line layout block text in
+    let fault = wrong_number_is layout block text b in
+    let none = no_last text in
+    grind (arith, nat_tests, line_numbers text, ended_numbers-push (open_line text) b, list_any-append {X = ℕ})
+good_on layout lost text b on = refl
+
+pub ended_none : ended_numbers [] ≡ []
+unfolding ended_numbers ended_parts
+ended_none = refl
+
+none_due : (layout : Layout) (size : Size) → are_due layout size [] ≡ true
+unfolding are_due
+none_due layout size = refl
+
+-- a line's end leaves it good exactly where it has no fault
+pub good_end : (layout : Layout) (complete : List Block) (now : Now) (text : List ℕ)
+    → is_good layout (after_line layout complete now (open_line text)).now []
+    ≡ (is_good layout now (open_line text) && is_none (fault_within_limit layout now text 10))
+unfolding wrong_size
+good_end layout complete seeking text = let none = ended_none in grind (arith, nat_tests, none_due)
+good_end layout complete (inside block) text =
+    let numbers = due_line layout block text in
+    let none = ended_none in
+    rw (gap_fault layout block text 10 refl) (grind (arith, append-nil {A = ℕ}))
+good_end layout complete lost text = refl
+
+-- ---- a text with one byte more
+
+-- where the text stands
+abbrev pub stand_of : Layout → List ℕ → Stand
+stand_of layout text = stand layout (ended_lines text)
+
+pub stand-push : (layout : Layout) (lines : List (List ℕ)) (line : List ℕ)
+    → stand layout (lines ++ line ∷ []) ≡ stand_after layout (stand layout lines) line
+unfolding stand
+stand-push layout lines line = fold-append (stand_after layout) _ lines (line ∷ [])
+
+-- a byte that ends the line, and one that doesn't
+pub stand_of-end : (layout : Layout) (text : List ℕ) (b : ℕ) → is_line_end b ≡ true
+    → stand_of layout (text ++ b ∷ []) ≡ stand_after layout (stand_of layout text) (open_line text)
+stand_of-end layout text b e = rw (ended_parts-push is_line_end text b, e) (stand-push layout _ _)
+
+pub stand_of-on : (layout : Layout) (text : List ℕ) (b : ℕ) → is_line_end b ≡ false
+    → stand_of layout (text ++ b ∷ []) ≡ stand_of layout text
+stand_of-on layout text b e = rw (ended_parts-push is_line_end text b, e)
+
+pub open_line-end : (text : List ℕ) (b : ℕ) → is_line_end b ≡ true → open_line (text ++ b ∷ []) ≡ []
+open_line-end text b e = rw (open_part-push is_line_end text b, e)
+
+pub open_line-on : (text : List ℕ) (b : ℕ) → is_line_end b ≡ false
+    → open_line (text ++ b ∷ []) ≡ open_line text ++ b ∷ []
+open_line-on text b e = rw (open_part-push is_line_end text b, e)
+
+-- ---- complete blocks stay
+
+-- a line completes no block, or one, behind which the next is sought
+pub one_line : (layout : Layout) (before : Stand) (line : List ℕ)
+    → ((stand_after layout before line).complete ≡ before.complete)
+    ⊎ ((block : Block) × (stand_after layout before line ≡ completed before.complete block))
+unfolding stand_after
+one_line layout before line = grind arith
+
+-- these blocks, and maybe more
+abbrev pub Extends : List Block → List Block → Type 0
+Extends complete longer = (more : List Block) × (longer ≡ complete ++ more)
+
+pub line_extends : (layout : Layout) (first : List Block) (before : Stand) (line : List ℕ)
+    → Extends first before.complete → Extends first (stand_after layout before line).complete
+line_extends layout first before line so_far = elim (one_line layout before line) [
+  | inl none ↦ (so_far.0, none ∙ so_far.1)
+  | inr one ↦ (so_far.0 ++ one.0 ∷ [], rw (one.1, so_far.1) (append_assoc first so_far.0 (one.0 ∷ [])))
+]
+
+-- the complete blocks of a text are the first of those of a longer one
+pub extends : (layout : Layout) (text more : List ℕ)
+    → Extends (stand_of layout text).complete (stand_of layout (text ++ more)).complete
+extends layout text =
+    by_push (λ more. Extends (stand_of layout text).complete (stand_of layout (text ++ more)).complete)
+    ([], rw (append-nil text) (sym (append-nil _))) (λ more b so_far.
+    rw (← append_assoc text more (b ∷ [])) (elim (cases_Bool (is_line_end b)) [
+      | inl ends ↦ rw (stand_of-end layout (text ++ more) b ends)
+          (line_extends layout (stand_of layout text).complete _ (open_line (text ++ more)) so_far)
+      | inr on ↦ rw (stand_of-on layout (text ++ more) b on) so_far
+    ]))
+
+pub fewer_before : (layout : Layout) (text more : List ℕ)
+    → length (stand_of layout text).complete ≤ length (stand_of layout (text ++ more)).complete
+fewer_before layout text more =
+    let longer = extends layout text more in
+    omega (arith, ap length longer.1, length-append (stand_of layout text).complete longer.0)
+
+-- ---- texts without a fault
+
+module _ (layout : Layout) (k : ℕ) where
+  -- the lines that are ended leave fewer than k blocks
+  abbrev pub Few : List ℕ → Type 0
+  Few text = length (stand_of layout text).complete < k
+
+  abbrev pub AllGood : List ℕ → Bool
+  AllGood text = is_good layout (stand_of layout text).now (open_line text)
+
+  pub place_fault : (text : List ℕ) (b : ℕ) → Few text → length text < LONGEST_INPUT
+      → fault_of_place layout k text (Some b) ≡ fault_within_limit layout (stand_of layout text).now text b
+  unfolding fault_of_place ends_early
+  place_fault text b few short = grind (arith, nat_tests)
+
+  -- the limit is reached, and a byte follows
+  pub long_fault : (text : List ℕ) (b : ℕ) → Few text → AllGood text ≡ true → length text ≡ LONGEST_INPUT
+      → fault_of_place layout k text (Some b) ≡ Some TooLong
+  unfolding fault_of_place
+  long_fault text b few good full = grind (arith, nat_tests)
+
+  -- behind k complete blocks no place has a fault
+  pub enough_right : (text : List ℕ) (next : Option ℕ) → k ≤ length (stand_of layout text).complete
+      → fault_of_place layout k text next ≡ None
+  unfolding fault_of_place
+  enough_right text next enough = rw (le-ltb _ k enough)
+
+  -- a text within the limit has no fault at a byte exactly where k blocks are complete or all is good
+  abbrev pub Judged : List ℕ → Type 0
+  Judged text = length text ≤ LONGEST_INPUT
+      → is_none (byte_fault layout k text) ≡ (nat_le k (length (stand_of layout text).complete) || AllGood text)
+
+  judged_more : (text : List ℕ) (b : ℕ) → Judged text → Judged (text ++ b ∷ [])
+  unfolding stand_after
+  judged_more text b judged short =
+      let before : Stand = stand_of layout text in
+      let size = length_push text b in
+      let so_far = judged (omega arith) in
+      rw (byte_fault-push layout k text b) (elim (cases_lt (length before.complete) k) [
+        | inr enough ↦
+            let longer = fewer_before layout text (b ∷ []) in
+            grind (arith, nat_tests, enough_right text (Some b) enough)
+        | inl few ↦
+            let here = place_fault text b few (omega arith) in
+            elim (cases_Bool (is_line_end b)) [
+              | inl ends ↦
+                  let good = good_end layout before.complete before.now text in
+                  let line = one_line layout before (open_line text) in
+                  rw (stand_of-end layout text b ends, open_line-end text b ends) (grind (arith, nat_tests))
+              | inr on ↦
+                  let good = good_on layout before.now text b on in
+                  rw (stand_of-on layout text b on, open_line-on text b on) (grind (arith, nat_tests))
+            ]
+      ])
+
+  pub judged : (text : List ℕ) → Judged text
+  unfolding byte_fault open_part stand ended_parts
+  judged = by_push Judged (λ short. grind (arith, nat_tests)) judged_more
+
+  -- no byte before the last has a fault, nor has the last
+  pub faultless_front : (text : List ℕ) (b : ℕ) → byte_fault layout k (text ++ b ∷ []) ≡ None
+      → (byte_fault layout k text ≡ None) × (fault_of_place layout k text (Some b) ≡ None)
+  faultless_front text b right = or_none _ _ (rw byte_fault-push at right)
+
+  -- one byte more of a good text keeps within the limit
+  short_more : (text : List ℕ) (b : ℕ) → byte_fault layout k (text ++ b ∷ []) ≡ None → Few text
+      → length text ≤ LONGEST_INPUT → AllGood text ≡ true → length (text ++ b ∷ []) ≤ LONGEST_INPUT
+  short_more text b right few short good = elim (cases_eq (length text) LONGEST_INPUT) [
+    | inl full ↦
+        let long = long_fault text b few good full in
+        let none = (faultless_front text b right).1 in
+        absurd (cc)
+    | inr differs ↦ omega (arith, length_push text b)
+  ]
+
+  -- while no byte has a fault and blocks are wanted, the text is within the limit and all is good
+  pub sound : (text : List ℕ) → byte_fault layout k text ≡ None → Few text
+      → (length text ≤ LONGEST_INPUT) × (AllGood text ≡ true)
+  unfolding open_part stand ended_parts
+  sound = by_push (λ text. byte_fault layout k text ≡ None → Few text
+      → (length text ≤ LONGEST_INPUT) × (AllGood text ≡ true)) (λ right few. (omega arith, refl)) (λ text b h right few.
+      let longer = fewer_before layout text (b ∷ []) in
+      let fewer : Few text = omega arith in
+      let so_far = h (faultless_front text b right).0 fewer in
+      let within = short_more text b right fewer so_far.0 so_far.1 in
+      (within, grind (arith, nat_tests, judged (text ++ b ∷ []) within)))
+
+  -- so the byte by which k blocks are complete is within the limit
+  pub sound_more : (text : List ℕ) (b : ℕ) → byte_fault layout k (text ++ b ∷ []) ≡ None → Few text
+      → length (text ++ b ∷ []) ≤ LONGEST_INPUT
+  sound_more text b right few =
+      let so_far = sound text (faultless_front text b right).0 few in
+      short_more text b right few so_far.0 so_far.1
