@@ -6,7 +6,7 @@ use Rattle.std.proofs.lemmas.List.{get_or_default}
 use Rattle.std.proofs.Math.ListN.{get_or-append}
 use Rattle.std.proofs.Math.Seq.{get_or-append_seam}
 use Rattle.std.proofs.lemmas.Nat.{row_fits}
-use Rattle.pfs_audit.specs.Schedule.{AreRows}
+use Rattle.pfs_audit.specs.Private.Rows.{AreRows}
 
 -- so many rows are whole, and the next has values of so many machines
 pub record AreEntered (value : ℕ → ℕ → ℕ) (machines row machine : ℕ) (items : List ℕ) : Type 0 where

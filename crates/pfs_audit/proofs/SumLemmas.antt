@@ -13,7 +13,7 @@ use Rattle.pfs_base.specs.Limits.{limits}
 use Rattle.pfs_base.specs.FlowShop.{FlowShop, IsWithin, time_of}
 use Rattle.pfs_base.proofs.Published.Heads.{time_of-le}
 use Rattle.pfs_audit.specs.Bound.{least, time_on}
-use Rattle.pfs_audit.specs.Sums.{least_among, load_among, AreOf}
+use Rattle.pfs_audit.specs.Private.Sums.{least_among, load_among, AreOf}
 use Rattle.pfs_audit.specs.declared.bounds.TheConstants.{LONGEST_TOTAL}
 use Rattle.pfs_audit.proofs.Ranges.{sum_by-range-suc, sum_by-below-suc, sum_by-below-more}
 

@@ -3,7 +3,8 @@ use Rattle.std.proofs.Common.{◌≡◌, ℕ, ◌+◌, ◌-◌, ◌*◌, ◌<◌
 use Rattle.pfs_base.specs.FlowShop.{FlowShop}
 use Rattle.pfs_base.specs.Paths.{makespan, operation}
 use Rattle.pfs_base.proofs.Published.Heads.{head, makespan_is}
-use Rattle.pfs_audit.specs.Schedule.{Starts, end_of, EndsBy, IsLeastSchedule, least_end, least_start, AreRows}
+use Rattle.pfs_audit.specs.Schedule.{Starts, end_of, EndsBy, IsLeastSchedule, least_end, least_start}
+use Rattle.pfs_audit.specs.Private.Rows.{AreRows}
 use Rattle.pfs_audit.proofs.Schedules.{end_of_least, ends_by_makespan, is_least_schedule, least_end-is}
 
 module _ (shop : FlowShop) (order : List ℕ) (starts : Starts) (same :

@@ -89,9 +89,3 @@ pub record IsWhole (timing : Timing) : Type 0 where
   pub some_machine : 1 ≤ timing.machines
   pub every_start : length timing.starts ≡ length timing.jobs * timing.machines
   pub every_end : length timing.ends ≡ length timing.jobs * timing.machines
-
--- a list of so many rows of values, one for each machine, row by row
-pub record AreRows (value : ℕ → ℕ → ℕ) (machines rows : ℕ) (items : List ℕ) : Type 0 where
-  pub size : length items ≡ rows * machines
-  pub entries : (row machine : ℕ) → row < rows → machine < machines
-      → slice_index items (row * machines + machine) ≡ value row machine

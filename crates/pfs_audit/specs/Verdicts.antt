@@ -8,7 +8,7 @@ use Rattle.pfs_audit.specs.declared.verdicts.Verdict.{Verdict}
 use Rattle.pfs_audit.specs.declared.verdicts.Verdict.TheVariants.{Valid, WrongSize, WrongMachines, WrongMakespan}
 
 -- the order has as many jobs as there are, and no other number of machines is stated for it
-pub record Fits (shop : FlowShop) (file : StatedOrder) : Type 0 where
+pub record SizesMatch (shop : FlowShop) (file : StatedOrder) : Type 0 where
   pub jobs : length file.order ≡ shop.jobs
   pub machines : IfSome file.machines (λ stated. stated ≡ shop.machines)
 

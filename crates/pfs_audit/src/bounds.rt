@@ -1,10 +1,9 @@
 //! A bound below the makespan of every order.
 ghost use Rattle.std.specs.Prelude.{◌≡◌, ℕ, ◌+◌, ◌*◌, ◌<◌, ◌≤◌};
-ghost use Rattle.pfs_base.specs.FlowShop.{total_of};
 ghost use Rattle.pfs_audit.specs.Bound.{greatest_machine_bound, bound_of, IsLowerBound};
-ghost use Rattle.pfs_audit.specs.Sums.{AreSumsOf};
+ghost use Rattle.pfs_audit.specs.Private.Sums.{AreSumsOf};
 
-use pfs_base::{Instance, LONGEST_TIME, MOST_MACHINES};
+use pfs_base::{Instance, LONGEST_TIME, MOST_MACHINES, Shop};
 
 // No job takes longer on all of its machines.
 const LONGEST_TOTAL: u64 = LONGEST_TIME as u64 * MOST_MACHINES as u64;
@@ -68,7 +67,7 @@ fn add_job(instance: &Instance, job: usize, sums: &mut Sums)
     requires sums { AreSumsOf instance.now.shop job sums.old }
     ensures { AreSumsOf instance.now.shop (job + 1) sums.new }
 {
-    let total = total(instance, job);
+    let total = instance.metered().total(job);
     sums.longest = sums.longest.max(total);
     let mut through: u64 = 0;
     for machine in 0..instance.machines() {
@@ -78,16 +77,4 @@ fn add_job(instance: &Instance, job: usize, sums: &mut Sums)
         through += time;
         sums.after[machine] = sums.after[machine].min(total - through);
     }
-}
-
-// The times of a job on all machines, added up.
-fn total(instance: &Instance, job: usize) -> u64
-    requires { job < instance.now.shop.jobs }
-    ensures { result ≡ total_of instance.now.shop job }
-{
-    let mut sum = 0;
-    for machine in 0..instance.machines() {
-        sum += u64::from(instance.time(job, machine));
-    }
-    sum
 }

@@ -3,7 +3,8 @@ ghost use Rattle.std.specs.Prelude.{◌≡◌, ◌+◌, ◌*◌, ◌<◌, ◌≤
 ghost use Rattle.std.specs.Prelude.{vec_len, vec_capacity};
 ghost use Rattle.pfs_base.specs.Paths.{makespan};
 ghost use Rattle.pfs_audit.specs.Schedule.{EndsBy, IsLeastSchedule, NoneEndsBefore, least_end, least_start};
-ghost use Rattle.pfs_audit.specs.Schedule.{start_in, end_in, EndsInTime, last_end, IsWhole, AreRows};
+ghost use Rattle.pfs_audit.specs.Schedule.{start_in, end_in, EndsInTime, last_end, IsWhole};
+ghost use Rattle.pfs_audit.specs.Private.Rows.{AreRows};
 
 use crate::fault::AuditFault;
 use pfs_base::Instance;

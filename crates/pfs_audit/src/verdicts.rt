@@ -2,7 +2,7 @@
 ghost use Rattle.std.specs.Prelude.{◌≡◌, ℕ, IfOk};
 ghost use Rattle.pfs_base.specs.Paths.{makespan};
 ghost use Rattle.pfs_audit.specs.Bound.{IsLowerBound};
-ghost use Rattle.pfs_audit.specs.Verdicts.{Fits, verdict_on};
+ghost use Rattle.pfs_audit.specs.Verdicts.{SizesMatch, verdict_on};
 
 use crate::bounds::bound;
 use crate::fault::AuditFault;
@@ -31,7 +31,7 @@ pub fn check(alloc: Global, instance: &Instance, file: &OrderFile) -> Result<Ver
     ensures verdict { IfOk result (λ verdict. verdict ≡ verdict_on instance.now.shop file.now) }
     ensures shortest { IfOk result (λ verdict. (most : ℕ) → verdict ≡ Verdict.Valid most most
         → IsLowerBound instance.now.shop (makespan instance.now.shop file.now.order)) }
-    ensures sizes_first { result ≡ Err AuditFault.Memory → Fits instance.now.shop file.now }
+    ensures sizes_first { result ≡ Err AuditFault.Memory → SizesMatch instance.now.shop file.now }
 {
     let order = file.order();
     let jobs = instance.jobs();

@@ -66,14 +66,10 @@ impl Instance {
         if jobs < 1 || jobs > MOST_JOBS || machines < 1 || machines > MOST_MACHINES {
             return Err(BaseFault::Size);
         }
-        let mut times = match Vec::with_capacity(alloc, jobs * machines) {
+        let times = match vec![in alloc; 0; jobs * machines] {
             Ok(times) => times,
             Err(AllocError) => return Err(BaseFault::Memory),
         };
-        match times.resize(jobs * machines, 0) {
-            Ok(()) => {}
-            Err(AllocError) => unreachable!(),
-        }
         Ok(Instance {
             jobs,
             machines,

@@ -44,10 +44,9 @@ pub fn put_named<W: Sink>(
         sent (named_number name.now number) result }
     ensures short { IfOk result (λ total. total ≤ sent + length name.now + 42) }
 {
-    let sent = put(writer, name, sent)?;
-    let sent = put(writer, b" ", sent)?;
-    let sent = put_number(writer, number, sent)?;
-    put(writer, b"\n", sent)
+    let named = put(writer, name, sent)?;
+    let numbered = put_next(writer, number, named)?;
+    put(writer, b"\n", numbered)
 }
 
 /// Writes the number at a place of a line of numbers, with a space before it unless it is the first.

@@ -14,7 +14,7 @@ use Rattle.pfs_desk.specs.declared.fault.DeskFault.{DeskFault}
 use Rattle.pfs_desk.specs.declared.fault.DeskFault.TheVariants as faults
 use Rattle.pfs_desk.specs.declared.fault.Outcome.{Outcome}
 use Rattle.pfs_words.specs.declared.solve_options.SolveOptions.{SolveOptions}
-use Rattle.pfs_desk.specs.Engine.{JudgesFirst, JudgesTake, ReadsBlock, RefusesNoOrder, Writes, WritesNothing}
+use Rattle.pfs_desk.specs.Engine.{JudgesFirst, JudgesTake, ReadsBlock, RefusesNoOrder, WritesOutput, WritesNothing}
 use Rattle.pfs_desk.specs.Engine.{SolveOutput}
 use Rattle.pfs_desk.specs.Headline.{PrintsSolution, ReadsOn, RunsOn, Solves}
 use Rattle.pfs_desk.specs.Solve.{take_for}
@@ -79,7 +79,7 @@ module _ (layout : Layout) (file : List ℕ) (block : ℕ) (some : 1 ≤ block) 
       }
 
   answers : (result : Result Outcome DeskFault)
-      → Writes (SolveOutput layout (Some file) block options) old new writer_failed result
+      → WritesOutput (SolveOutput layout (Some file) block options) old new writer_failed result
       → IfErr result (JudgesFirst layout (Some file) block)
       → (result ≡ refusal layout_faults.Read → reader_failed ≡ true)
       → IfErr result RefusesNoOrder → IfErr result (JudgesTake layout (Some file) block options.take) → Answers result
@@ -114,7 +114,7 @@ module _ (layout : Layout) (file : List ℕ) (block : ℕ) (some : 1 ≤ block) 
 -- what a `solve` does that writes its output or nothing, and judges the file and then the take
 pub solves : (file left : Option (List ℕ)) (layout : Layout) (block : ℕ) (options : SolveOptions)
     (old new : Option (List ℕ)) (reader_failed writer_failed : Bool) (result : Result Outcome DeskFault)
-    → 1 ≤ block → Writes (SolveOutput layout file block options) old new writer_failed result
+    → 1 ≤ block → WritesOutput (SolveOutput layout file block options) old new writer_failed result
     → ReadsBlock layout block file left reader_failed result → IfErr result RefusesNoOrder
     → IfErr result (JudgesTake layout file block options.take)
     → IfSome file (λ bytes. Solves layout bytes block options old new reader_failed writer_failed result)

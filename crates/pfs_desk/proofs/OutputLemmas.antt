@@ -8,7 +8,7 @@ use Rattle.pfs_base.proofs.Published.SendsLemmas.{front_of}
 use Rattle.pfs_base.specs.FlowShop.{FlowShop}
 use Rattle.pfs_order.specs.Sequence.{StatedOrder}
 use Rattle.pfs_audit.specs.Schedule.{Timing}
-use Rattle.pfs_audit.specs.Verdicts.{Fits}
+use Rattle.pfs_audit.specs.Verdicts.{SizesMatch}
 use Rattle.pfs_desk.specs.declared.fault.Outcome.TheVariants.{Done, CheckFailed}
 use Rattle.pfs_desk.specs.OutputText.{finding, valid_text, wrong_size_text, wrong_machines_text, table_text}
 use Rattle.pfs_desk.specs.OutputText.{IsLeastTable, TablePrints}
@@ -56,7 +56,7 @@ pub least_of : (shop : FlowShop) (order other : List ℕ) (timing : Timing) → 
 least_of shop order other timing e least = rw e at least
 
 -- an order that fits
-pub fitting_prints : (shop : FlowShop) (file : StatedOrder) (timing : Timing) → Fits shop file
+pub fitting_prints : (shop : FlowShop) (file : StatedOrder) (timing : Timing) → SizesMatch shop file
     → IsLeastTable shop file.order timing → TablePrints shop file Done (table_text timing)
 fitting_prints shop file timing fits least = record {
   fits = λ same. (refl, (timing, least, refl));

@@ -11,8 +11,8 @@ use Rattle.pfs_desk.specs.declared.fault.DeskFault.TheVariants as faults
 use Rattle.pfs_desk.specs.declared.fault.Outcome.{Outcome}
 use Rattle.pfs_desk.specs.declared.stop.Stop.{Stop}
 use Rattle.pfs_desk.specs.declared.stop.Stop.TheVariants as stops
-use Rattle.pfs_desk.specs.Engine.{Writes, WritesAll, WritesFront, WritesNothing}
-use Rattle.pfs_desk.specs.LetsOut.{EndsOutput}
+use Rattle.pfs_desk.specs.Engine.{WritesOutput, WritesAll, WritesFront, WritesNothing}
+use Rattle.pfs_desk.specs.Private.LetsOut.{EndsOutput}
 use Rattle.pfs_desk.specs.Program.{CannotOpen, ending}
 use Rattle.pfs_desk.specs.Standing.{Standing}
 use Rattle.pfs_desk.specs.WholeProgram.{PrintsOn, IsFront, AllStands, FrontStands}
@@ -86,7 +86,7 @@ module _ {W : Type 0} (written : W → Option (List ℕ)) (old mid new : Bufferi
 
   pub writes-on : (output : Outcome → List ℕ → Type 0) (failed : Bool) (answer : Result Outcome DeskFault)
       (ended : Result Outcome Stop)
-      → Writes output (bytes_given written old) (bytes_given written mid) failed answer
+      → WritesOutput output (bytes_given written old) (bytes_given written mid) failed answer
       → EndsOutput (ending answer) new.held new.sent ended
       → PrintsOn output (IsNew written old) (written new.writer) answer ended
   writes-on output failed (Ok outcome) (Ok ended) p q = (

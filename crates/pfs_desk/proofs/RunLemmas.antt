@@ -12,7 +12,7 @@ use Rattle.pfs_desk.specs.declared.fault.DeskFault.TheVariants as faults
 use Rattle.pfs_desk.specs.declared.fault.Outcome.{Outcome}
 use Rattle.pfs_desk.specs.declared.stop.Stop.{Stop}
 use Rattle.pfs_desk.specs.declared.stop.Stop.TheVariants as stops
-use Rattle.pfs_desk.specs.Engine.{Writes, ValueOutput, SolveOutput, CheckOutput, TableOutput, ConvertOutput}
+use Rattle.pfs_desk.specs.Engine.{WritesOutput, ValueOutput, SolveOutput, CheckOutput, TableOutput, ConvertOutput}
 use Rattle.pfs_desk.specs.Engine.{GenerateOutput}
 use Rattle.pfs_desk.specs.Program.{CannotOpen, Writing, StopsAtOpening, RunsAlone, RunsAudit, RunsConvert}
 use Rattle.pfs_desk.specs.Program.{RunsGenerate, RunsJob, RunsSolve, RunsValue, WithFile, WithFiles, ending, writing_of}
@@ -238,7 +238,7 @@ works_stopped failed (Err fault) standing p = tt
 
 works_written : (old new : Option (List ℕ)) (failed : Bool) (result : Result Outcome Stop)
     (output : Outcome → List ℕ → Type 0) (answer : Result Outcome DeskFault) → result ≡ ending answer
-    → Writes output old new failed answer → Works result failed
+    → WritesOutput output old new failed answer → Works result failed
 works_written old new failed result output (Ok outcome) e p =
     subst (λ ended. Works ended failed) (sym e) p.working
 works_written old new failed result output (Err fault) e p = subst (λ ended. Works ended failed) (sym e) tt

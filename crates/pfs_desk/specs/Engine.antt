@@ -18,7 +18,7 @@ use Rattle.pfs_order.specs.Sequence.{StatedOrder}
 use Rattle.pfs_order.specs.OrderFile.{IsOrderFile, ReadsOrderAsFar, RefusesUnlessFailed}
 use Rattle.pfs_order.specs.declared.fault.OrderFault.{OrderFault}
 use Rattle.pfs_order.specs.declared.fault.OrderFault.TheVariants as order_faults
-use Rattle.pfs_audit.specs.Verdicts.{Fits, verdict_on}
+use Rattle.pfs_audit.specs.Verdicts.{SizesMatch, verdict_on}
 use Rattle.pfs_desk.specs.declared.fault.Outcome.{Outcome}
 use Rattle.pfs_desk.specs.declared.fault.Outcome.TheVariants.{Done}
 use Rattle.pfs_desk.specs.declared.fault.DeskFault.{DeskFault}
@@ -131,7 +131,7 @@ WantsBehindFirst layout file block others = ⊤
 abbrev pub WantsBehindSecond : Layout → Option (List ℕ) → ℕ → Option (List ℕ) → DeskFault → Type 0
 WantsBehindSecond layout file block order_file faults.Memory =
     (problem : Problem) × (stated : StatedOrder) × Holds layout file block problem × States order_file stated
-    × Fits problem.shop stated
+    × SizesMatch problem.shop stated
 WantsBehindSecond layout file block order_file others = ⊤
 
 -- a block of the instance file holds a problem with fewer jobs than are to be taken out in a round
@@ -176,11 +176,11 @@ pub record WritesNothing (old new : Option (List ℕ)) (failed : Bool) : Type 0 
   pub kept : new ≡ old
 
 -- an engine wrote its output, or a front of it where a write failed, and nothing where it met another fault
-abbrev pub Writes : (Outcome → List ℕ → Type 0) → Option (List ℕ) → Option (List ℕ) → Bool → Result Outcome DeskFault
-    → Type 0
-Writes output old new failed (Ok outcome) = WritesAll output old new failed outcome
-Writes output old new failed (Err (Write fault)) = WritesFront output old new failed fault.written
-Writes output old new failed (Err others) = WritesNothing old new failed
+abbrev pub WritesOutput : (Outcome → List ℕ → Type 0) → Option (List ℕ) → Option (List ℕ) → Bool
+    → Result Outcome DeskFault → Type 0
+WritesOutput output old new failed (Ok outcome) = WritesAll output old new failed outcome
+WritesOutput output old new failed (Err (Write fault)) = WritesFront output old new failed fault.written
+WritesOutput output old new failed (Err others) = WritesNothing old new failed
 
 -- the makespan of the jobs of an instance in the order of their numbers
 pub record ValueOutput (layout : Layout) (file : Option (List ℕ)) (block : ℕ) (outcome : Outcome) (text : List ℕ)

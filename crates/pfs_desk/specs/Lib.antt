@@ -1,9 +1,8 @@
 pub mod Engine
 pub mod FaultText
 pub mod Headline
-pub mod LetsOut
 pub mod OutputText
-pub mod Printable
+pub mod Private
 pub mod Program
 pub mod ProgramText
 pub mod Solve

@@ -8,7 +8,7 @@ use Rattle.pfs_base.specs.Paths.{makespan}
 use Rattle.pfs_base.specs.Text.{with_line_end, spaced, named_number}
 use Rattle.pfs_order.specs.Sequence.{StatedOrder, all_jobs}
 use Rattle.pfs_audit.specs.Schedule.{Timing, start_in, end_in, end_of, last_end, IsLeastSchedule}
-use Rattle.pfs_audit.specs.Verdicts.{Fits}
+use Rattle.pfs_audit.specs.Verdicts.{SizesMatch}
 use Rattle.pfs_audit.specs.declared.verdicts.Verdict.{Verdict}
 use Rattle.pfs_audit.specs.declared.verdicts.Verdict.TheVariants.{Valid, WrongSize, WrongMachines, WrongMakespan}
 use Rattle.pfs_desk.specs.declared.fault.Outcome.{Outcome}
@@ -69,7 +69,7 @@ pub record IsLeastTable (shop : FlowShop) (order : List ℕ) (timing : Timing) :
 
 -- the table of an order that fits, or that the order has a wrong size, or else that wrong machines are stated for it
 pub record TablePrints (shop : FlowShop) (file : StatedOrder) (outcome : Outcome) (text : List ℕ) : Type 0 where
-  pub fits : Fits shop file
+  pub fits : SizesMatch shop file
       → (outcome ≡ Done) × ((timing : Timing) × IsLeastTable shop file.order timing × (text ≡ table_text timing))
   pub wrong_size : length file.order ≢ shop.jobs
       → (outcome ≡ CheckFailed) × (text ≡ wrong_size_text (length file.order) shop.jobs)

@@ -16,7 +16,7 @@ use Rattle.pfs_desk.specs.declared.stop.Stop.{Stop}
 use Rattle.pfs_desk.specs.declared.stop.Stop.TheVariants as stops
 use Rattle.pfs_desk.specs.Engine.{ValueOutput, SolveOutput, CheckOutput, TableOutput, ConvertOutput, GenerateOutput}
 use Rattle.pfs_desk.specs.Engine.{ReadsBlock, ReadsOrder, RefusesNoOrder, RefusesNoTake, JudgesTake, IsGenerateFault}
-use Rattle.pfs_desk.specs.Engine.{Writes, WantsBehindFirst, WantsBehindSecond}
+use Rattle.pfs_desk.specs.Engine.{WritesOutput, WantsBehindFirst, WantsBehindSecond}
 use Rattle.pfs_desk.specs.Standing.{Standing, Asks, MayOpen, MayRefuse}
 
 -- how an engine that answers this has written its output
@@ -30,7 +30,7 @@ ending (Err fault) = Err (stops.Fault fault)
 
 -- an output that was written directly
 abbrev pub writing_of : Option (List ℕ) → Option (List ℕ) → Bool → Writing
-writing_of old new failed = λ output answer. Writes output old new failed answer
+writing_of old new failed = λ output answer. WritesOutput output old new failed answer
 
 -- a path can't be opened, or memory for that was refused
 abbrev pub CannotOpen : Standing → Result Outcome Stop → Type 0

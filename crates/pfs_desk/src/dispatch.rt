@@ -3,7 +3,7 @@ ghost use Rattle.std.specs.Prelude.{◌≡◌, false};
 ghost use Rattle.pfs_base.specs.declared.limits.TheConstants.{MOST_BLOCKS};
 ghost use Rattle.pfs_words.specs.Jobs.{AreOptions, IsFrom1To, IsWithinLimits};
 ghost use Rattle.pfs_desk.specs.Engine.{WritesNothing};
-ghost use Rattle.pfs_desk.specs.Program.{RunsJob, RunsValue, RunsSolve, RunsCheck, RunsTable, RunsConvert};
+ghost use Rattle.pfs_desk.specs.Program.{RunsJob, RunsSolve, RunsCheck, RunsTable, RunsConvert};
 ghost use Rattle.pfs_desk.specs.Program.{WithFile, WithFiles, writing_of};
 ghost use Rattle.pfs_desk.specs.Program.{ending as ending_of};
 
@@ -41,13 +41,8 @@ pub fn run_job<F: Files, R: Source, W: Sink>(
         Job::Value {
             layout,
             block,
-            file: None,
-        } => ending(run_value(alloc, input, *layout, *block, writer)),
-        Job::Value {
-            layout,
-            block,
-            file: Some(file),
-        } => print_value(alloc, files, *layout, *block, file, writer),
+            file,
+        } => print_value(alloc, files, input, *layout, *block, file, writer),
         Job::Solve {
             layout,
             block,
@@ -90,22 +85,27 @@ fn ending(answer: Result<Outcome, DeskFault>) -> Result<Outcome, Stop>
     }
 }
 
-// Prints the value of a file.
-fn print_value<F: Files, W: Sink>(
+// Prints the value of a file, or where none is named that of what standard input gives.
+fn print_value<F: Files, R: Source, W: Sink>(
     alloc: Global,
     files: &mut F,
+    input: &mut R,
     layout: Layout,
     block: usize,
-    path: &PathText,
+    path: &Option<PathText>,
     writer: &mut W,
 ) -> Result<Outcome, Stop>
     requires within { IsFrom1To MOST_BLOCKS block }
+    requires reading { R.has_failed input.old ≡ false }
     requires writing { W.has_failed writer.old ≡ false }
-    ensures { WithFile (F.standing files.old) (F.asked files.old) (F.asked files.new) path.now
+    ensures { RunsJob (Job.Value layout block path.now) (F.standing files.old) (F.asked files.old) (F.asked files.new)
+        (R.left input.old) (R.left input.new) (R.has_failed input.new)
         (WritesNothing (W.written writer.old) (W.written writer.new) (W.has_failed writer.new))
-        (RunsValue layout block
-        (writing_of (W.written writer.old) (W.written writer.new) (W.has_failed writer.new))) result }
+        (writing_of (W.written writer.old) (W.written writer.new) (W.has_failed writer.new)) result }
 {
+    let Some(path) = path else {
+        return ending(run_value(alloc, input, layout, block, writer));
+    };
     let mut file = files.open(path)?;
     ending(run_value(alloc, &mut file, layout, block, writer))
 }

@@ -3,7 +3,7 @@ ghost use Rattle.std.specs.Prelude.{◌≡◌, false, IfOk, map, string_bytes};
 ghost use Rattle.std.specs.Io.KnownBytes.{Keeps};
 ghost use Rattle.pfs_base.specs.Buffer.{IsNew, bytes_given};
 ghost use Rattle.pfs_desk.specs.WholeProgram.{Ends, Runs};
-ghost use Rattle.pfs_desk.specs.LetsOut.{EndsOutput};
+ghost use Rattle.pfs_desk.specs.Private.LetsOut.{EndsOutput};
 
 use crate::dispatch::run_job;
 use crate::fault::{DeskFault, Outcome};

@@ -8,7 +8,8 @@ use Rattle.std.proofs.lemmas.List.Folds.{list_all_at}
 use Rattle.std.proofs.lemmas.List.Sums.{list_all-from_AllPass, position_or_len_is}
 use Rattle.pfs_base.specs.FlowShop.{FlowShop}
 use Rattle.pfs_insert.specs.Inserter.{IsBestPlace}
-use Rattle.pfs_insert.specs.Insertion.{first_least, makespan_with, IsBest, IsFirstLeast, BestPlaceLaw}
+use Rattle.pfs_insert.specs.Insertion.{first_least, makespan_with, IsFirstLeast, BestPlaceLaw}
+use Rattle.pfs_insert.specs.Private.BestSoFar.{IsBest}
 
 place_at : (count k d : ℕ) → k < count → get_or (range_with_len 0 count) k d ≡ k
 place_at count k d small = get_or-range_with_len 0 count k d small ∙ omega arith

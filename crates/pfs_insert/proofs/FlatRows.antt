@@ -4,7 +4,7 @@ use Rattle.std.proofs.Common.{◌∙◌, arith}
 use Rattle.std.proofs.Math.Nat.{mul-le-mul_right, zero-add}
 use Rattle.std.proofs.lemmas.List.{get_or-take, get_or-drop, get_or_append_left, get_or-append_right}
 use Rattle.std.proofs.lemmas.List.{length-drop, length-take-le}
-use Rattle.pfs_insert.specs.Rows.{AreNumbers, AreNumbersFrom}
+use Rattle.pfs_insert.specs.Private.Rows.{AreNumbers, AreNumbersFrom}
 
 -- a row so many behind another
 pub row_split : (row above more width : ℕ) → row ≡ above + more → row * width ≡ above * width + more * width

@@ -4,7 +4,7 @@ use Rattle.std.proofs.Common.{arith}
 use Rattle.std.proofs.lemmas.List.{append-nil}
 use Rattle.pfs_base.specs.FlowShop.{FlowShop, IsWithin}
 use Rattle.pfs_base.specs.Limits.{limits}
-use Rattle.pfs_insert.specs.Rows.{head_of, AreNumbers, AreShort, HasHead, KeepsHeads}
+use Rattle.pfs_insert.specs.Private.Rows.{head_of, AreNumbers, AreShort, HasHead, KeepsHeads}
 use Rattle.pfs_insert.proofs.FlatRows.{row_le, put_behind, put_first, row_in_front, row_taken}
 use Rattle.pfs_insert.proofs.TailRows.{heads_short}
 

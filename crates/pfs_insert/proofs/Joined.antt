@@ -6,7 +6,7 @@ use Rattle.std.specs.Simd.Lanes.{zip2}
 use Rattle.pfs_base.specs.Joins.{greatest_join}
 use Rattle.pfs_base.specs.Paths.{greatest}
 use Rattle.pfs_base.proofs.Published.Heaviest.{greatest-cons}
-use Rattle.pfs_insert.specs.Rows.{greatest_sum, AreNumbers}
+use Rattle.pfs_insert.specs.Private.Rows.{greatest_front_and_back, AreNumbers}
 
 module _ {X : Type 0} (number : X → ℕ) (fronts backs : ℕ → ℕ) where
   sums_are : (a b : List X) (from : ℕ) → length a ≡ length b
@@ -27,7 +27,7 @@ module _ {X : Type 0} (number : X → ℕ) (fronts backs : ℕ → ℕ) where
 
   pub join_is : (machines : ℕ) (a b : List X) → length a ≡ machines → length b ≡ machines
       → AreNumbers number a machines fronts → AreNumbers number b machines backs
-      → greatest_join number a b ≡ greatest_sum machines fronts backs
+      → greatest_join number a b ≡ greatest_front_and_back machines fronts backs
   join_is machines a b wide wide_too one two =
       rw (← wide) (ap greatest (sums_are a b 0 (omega arith)
       (λ machine d lt. one machine d (omega arith) ∙ ap fronts (omega arith))

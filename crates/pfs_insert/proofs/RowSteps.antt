@@ -7,7 +7,7 @@ use Rattle.pfs_base.specs.declared.limits.TheConstants.{MOST_JOBS, MOST_MACHINES
 use Rattle.pfs_base.specs.FlowShop.{FlowShop, time_of, IsWithin}
 use Rattle.pfs_base.specs.Limits.{limits}
 use Rattle.pfs_base.proofs.Published.Heads.{time_of-le}
-use Rattle.pfs_insert.specs.Rows.{next_row, value_before, from_last, AreNumbers, AreBack, AreShort}
+use Rattle.pfs_insert.specs.Private.Rows.{next_row, value_before, from_last, AreNumbers, AreBack, AreShort}
 
 -- a value of a row by the one above it and the one before it
 next_row_at : (times above : ℕ → ℕ) (m : ℕ) →

@@ -9,7 +9,7 @@ use Rattle.pfs_base.specs.Paths.{operation}
 use Rattle.pfs_base.proofs.Published.Heaviest.{most, most_here, most_on, most_down, most_first, most_moved}
 use Rattle.pfs_base.proofs.Published.Heads.{head, head_le, head_step, heaviest_is, time_of-le}
 use Rattle.pfs_insert.specs.Exchange.{heaviest_front, heaviest_back}
-use Rattle.pfs_insert.specs.Rows.{next_row, head_row, tail_row, head_of}
+use Rattle.pfs_insert.specs.Private.Rows.{next_row, head_row, tail_row, head_of}
 use Rattle.pfs_insert.proofs.Exchange.{back_none, operation_before, operation_at}
 use Rattle.pfs_insert.proofs.RowSteps.{next_row_same}
 

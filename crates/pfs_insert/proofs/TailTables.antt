@@ -6,7 +6,7 @@ use Rattle.std.proofs.lemmas.List.{get_or-take, length-take-le, length-drop, tak
 use Rattle.pfs_base.specs.FlowShop.{FlowShop, IsWithin}
 use Rattle.pfs_base.specs.Limits.{limits}
 use Rattle.pfs_insert.specs.Exchange.{heaviest_back}
-use Rattle.pfs_insert.specs.Rows.{AreBack, AreNumbers, AreNumbersFrom, AreShort, HasBacks, HasTails}
+use Rattle.pfs_insert.specs.Private.Rows.{AreBack, AreNumbers, AreNumbersFrom, AreShort, HasBacks, HasTails}
 use Rattle.pfs_insert.proofs.FlatRows.{row_split, row_behind, put_behind, put_first}
 use Rattle.pfs_insert.proofs.TailRows.{IsTail, tails_short}
 

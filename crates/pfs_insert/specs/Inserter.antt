@@ -8,10 +8,6 @@ pub record Sizes : Type 0 where
   pub jobs : ℕ
   pub machines : ℕ
 
--- those of a shop
-abbrev pub sizes_of : FlowShop → Sizes
-sizes_of shop = record { jobs = shop.jobs; machines = shop.machines }
-
 -- an inserter of these sizes, and a sequence for so many jobs, are for shops of this one's sizes
 pub record Fits (shop : FlowShop) (inserter : Sizes) (size : ℕ) : Type 0 where
   pub seq_jobs : size ≡ shop.jobs

@@ -28,11 +28,6 @@ pub record IsFirstLeast (value : ℕ → ℕ) (count place : ℕ) : Type 0 where
   pub least : (other : ℕ) → other < count → value place ≤ value other
   pub first : (other : ℕ) → other < place → value place < value other
 
--- a length is the value at such a place
-pub record IsBest {X : Type 0} (number : X → ℕ) (value : ℕ → ℕ) (count place : ℕ) (span : X) : Type 0 where
-  pub first : IsFirstLeast value count place
-  pub value_is : number span ≡ value place
-
 abbrev pub BestPlaceLaw : Type 0
 BestPlaceLaw = (shop : FlowShop) (jobs : List ℕ) (job : ℕ)
     → IsFirstLeast (makespan_with shop jobs job) (length jobs + 1) (best_place shop jobs job)

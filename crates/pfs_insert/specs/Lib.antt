@@ -2,4 +2,4 @@ pub mod Examples
 pub mod Exchange
 pub mod Inserter
 pub mod Insertion
-pub mod Rows
+pub mod Private

@@ -1,8 +1,9 @@
 //! The fast way to find the best place: heads and tails (Taillard, 1990).
 ghost use Rattle.std.specs.Prelude.{◌≡◌, ◌+◌, ◌<◌, ◌^◌, length, false, Contains, IfOk};
 ghost use Rattle.pfs_insert.specs.Insertion.{heads_tails_cost};
-ghost use Rattle.pfs_insert.specs.Inserter.{IsBestPlace, sizes_of};
-ghost use Rattle.pfs_insert.specs.Rows.{IsTable};
+ghost use Rattle.pfs_insert.specs.Inserter.{IsBestPlace};
+ghost use Rattle.pfs_insert.specs.Private.Rows.{sizes_of};
+ghost use Rattle.pfs_insert.specs.Private.Rows.{IsTable};
 
 use crate::fault::InsertFault;
 use crate::inserter::{Inserter, Placed};
@@ -36,7 +37,7 @@ struct Table<S: Length> {
 
 impl<S: Length> Model for Table<S> {
     ghost use Rattle.pfs_insert.specs.Inserter.{Sizes};
-    ghost use Rattle.pfs_insert.specs.Rows.{IsTable};
+    ghost use Rattle.pfs_insert.specs.Private.Rows.{IsTable};
 
     ghost Value = { Sizes };
 

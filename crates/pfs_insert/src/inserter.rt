@@ -1,6 +1,6 @@
 //! What every inserter promises.
 ghost use Rattle.std.specs.Prelude.{◌≡◌, ℕ, ◌+◌, ◌<◌, ◌^◌, length, Bool, false, Contains, IsOk, IfOk};
-ghost use Rattle.pfs_insert.specs.Insertion.{IsBest};
+ghost use Rattle.pfs_insert.specs.Private.BestSoFar.{IsBest};
 ghost use Rattle.pfs_insert.specs.Inserter.{Counts, Fits, IsBestPlace, Sizes};
 
 use crate::fault::InsertFault;

@@ -1,7 +1,8 @@
 //! The places of a sequence, tried by rows of heads and tails.
 ghost use Rattle.std.specs.Prelude.{◌≡◌, ℕ, ◌+◌, ◌-◌, ◌*◌, ◌<◌, ◌≤◌, ◌^◌, length};
-ghost use Rattle.pfs_insert.specs.Insertion.{IsBest, makespan_with};
-ghost use Rattle.pfs_insert.specs.Rows.{AreParts, HasBacks, HasHead, IsPartial, IsPut, KeepsHeads};
+ghost use Rattle.pfs_insert.specs.Insertion.{makespan_with};
+ghost use Rattle.pfs_insert.specs.Private.BestSoFar.{IsBest};
+ghost use Rattle.pfs_insert.specs.Private.Rows.{AreParts, HasBacks, HasHead, IsPartial, IsPut, KeepsHeads};
 
 use crate::inserter::{Placed, better};
 use crate::rows::{fill_head, fill_two_places};

@@ -1,6 +1,6 @@
 //! Rows of lengths, each computed from the row beside it.
 ghost use Rattle.std.specs.Prelude.{◌≡◌, ◌+◌, ◌*◌, ◌<◌, ◌^◌, [], ◌∷◌, length};
-ghost use Rattle.pfs_insert.specs.Rows.{AreHeadsAfter, AreShort, AreTailsBefore};
+ghost use Rattle.pfs_insert.specs.Private.Rows.{AreHeadsAfter, AreShort, AreTailsBefore};
 
 use pfs_base::{Bench, Length};
 

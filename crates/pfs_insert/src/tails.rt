@@ -1,6 +1,6 @@
 //! The rows of tails of a sequence, filled from its last job on.
 ghost use Rattle.std.specs.Prelude.{◌≡◌, ℕ, ◌+◌, ◌-◌, ◌*◌, ◌<◌, ◌≤◌, ◌^◌, length};
-ghost use Rattle.pfs_insert.specs.Rows.{AreNumbersFrom, HasTails, IsPartial};
+ghost use Rattle.pfs_insert.specs.Private.Rows.{AreNumbersFrom, HasTails, IsPartial};
 
 use crate::rows::{fill_tail, fill_three_tails};
 use pfs_base::{Bench, Length};

@@ -67,6 +67,7 @@ pub(crate) fn play_round<B: Bench, I: Inserter<B>>(
 // Copies an order, and takes the jobs that the words name out of the copy.
 fn take_jobs(order: &Seq, seq: &mut Seq, taken: &mut Vec<usize>, words: &[u32])
     requires sizes { seq.old.size ≡ order.now.size }
+    requires distinct { IsSequence order.now.size order.now.jobs }
     requires few { length words.now ≤ length order.now.jobs }
     requires room { length words.now ≤ vec_capacity taken.old }
     ensures left { seq.new ≡ record { size = order.now.size; jobs = jobs_left order.now.jobs words.now } }
@@ -76,8 +77,6 @@ fn take_jobs(order: &Seq, seq: &mut Seq, taken: &mut Vec<usize>, words: &[u32])
     ensures count_taken { vec_len taken.new ≡ length words.now }
     ensures capacity { vec_capacity taken.old ≤ vec_capacity taken.new }
 {
-    // only for its clause: the jobs of an order are distinct
-    let _size = order.size();
     seq.copy_from(order);
     taken.clear();
     for word in words {

@@ -26,7 +26,6 @@ use std::marker::Model;
 /// made.
 #[derive(Drop)]
 pub struct Searcher<I> {
-    size: usize,
     work: Workspace<I>,
     ranked: Vec<(Reverse<u64>, usize)>,
     words: Vec<u32>,
@@ -38,13 +37,12 @@ impl<I> Model for Searcher<I> {
 
     ghost Value = { SearcherView I };
 
-    ghost view = { λ a. record { size = a.size; inserter = a.work.inserter } };
+    ghost view = { λ a. record { size = a.work.seq.size; inserter = a.work.inserter } };
 
     ghost invariant = { λ a. record {
-      seq : a.work.seq.size ≡ a.size;
-      queue : a.size ≤ vec_capacity a.work.queue;
-      ranked : a.size ≤ vec_capacity a.ranked;
-      words : a.size ≤ vec_len a.words;
+      queue : a.work.seq.size ≤ vec_capacity a.work.queue;
+      ranked : a.work.seq.size ≤ vec_capacity a.ranked;
+      words : a.work.seq.size ≤ vec_len a.words;
     } };
 }
 
@@ -72,7 +70,6 @@ impl<I> Searcher<I> {
             return Err(SearchFault::Memory { done: 0 });
         }
         Ok(Searcher {
-            size,
             work: Workspace {
                 inserter,
                 seq,

@@ -20,7 +20,7 @@ use Rattle.clap.proofs.WalkLemmas.{both, list_any-map}
 use Rattle.pfs_words.specs.Commands.{AreLayoutNames, Names, form_of, layout_rule}
 use Rattle.pfs_words.specs.Jobs.{IsFaultlessLine, AsksFor, AsksForJob, AsksForNothing, SaysMaybeNumber, number_of}
 use Rattle.pfs_words.specs.Jobs.{takes_line}
-use Rattle.pfs_words.specs.Parses.{HasLayout, HasNumber, HasText, IsParseOf, MayHaveNumber}
+use Rattle.pfs_words.specs.Private.Parses.{HasLayout, HasNumber, HasText, IsParseOf, MayHaveNumber}
 use Rattle.pfs_words.specs.declared.job.Job.{Job}
 use Rattle.pfs_layout.specs.declared.layout.Layout.TheVariants.{Taillard, OrLib}
 use Rattle.pfs_words.proofs.FormLemmas.{asks_value, form_has_value, form_passes, has_place}

@@ -1,3 +1,3 @@
 pub mod Commands
 pub mod Jobs
-pub mod Parses
+pub mod Private

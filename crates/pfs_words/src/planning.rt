@@ -2,7 +2,7 @@
 ghost use Rattle.std.specs.Prelude.{◌≡◌, [], ◌∷◌, None, List, IfOk, codes, map, string_bytes};
 ghost use Rattle.clap.specs.Words.{Text};
 ghost use Rattle.pfs_words.specs.Jobs.{AsksFor, AsksForNothing, IsFrom1To, IsWithinLimits};
-ghost use Rattle.pfs_words.specs.Parses.{AsksToAudit, IsAudit};
+ghost use Rattle.pfs_words.specs.Private.Parses.{AsksToAudit, IsAudit};
 
 use self::commands::{
     audit_command, convert_command, generate_command, solve_command, value_command,
@@ -18,7 +18,11 @@ use std::alloc::Global;
 mod commands;
 mod values;
 
-static LAYOUT_NAMES: [&str; 2] = ["taillard", "orlib"];
+// The names of the layouts.
+const TAILLARD: &str = "taillard";
+const ORLIB: &str = "orlib";
+
+static LAYOUT_NAMES: [&str; 2] = [TAILLARD, ORLIB];
 
 /// What the words of a command line ask for, without the program's name. The first word names the command,
 /// and clap reads the others. Without words it is `value` of block 1 in Taillard's layout, on standard

@@ -1,7 +1,8 @@
 //! The verdict on an order file.
 ghost use Rattle.std.specs.Prelude.{◌≡◌, ◌+◌, ◌<◌, ◌≤◌, false, length, IfOk, IfErr};
 ghost use Rattle.pfs_base.specs.Sends.{Sends};
-ghost use Rattle.pfs_desk.specs.Engine.{Writes, CheckOutput, ReadsBlock, ReadsOrder, RefusesNoTake, WantsBehindSecond};
+ghost use Rattle.pfs_desk.specs.Engine.{WritesOutput, CheckOutput, ReadsBlock, ReadsOrder, RefusesNoTake};
+ghost use Rattle.pfs_desk.specs.Engine.{WantsBehindSecond};
 ghost use Rattle.pfs_desk.specs.OutputText.{finding, outcome_of, valid_text, verdict_text};
 
 use crate::fault::{DeskFault, Outcome};
@@ -27,7 +28,7 @@ pub fn run_check<R: Source, O: Source, W: Sink>(
     requires writing { W.has_failed writer.old ≡ false }
     requires some { 1 ≤ block }
     requires few { block ≤ MOST_BLOCKS }
-    ensures written { Writes (CheckOutput layout (R.left reader.old) block (O.left order_reader.old))
+    ensures written { WritesOutput (CheckOutput layout (R.left reader.old) block (O.left order_reader.old))
         (W.written writer.old) (W.written writer.new) (W.has_failed writer.new) result }
     ensures reads { ReadsBlock layout block (R.left reader.old) (R.left reader.new) (R.has_failed reader.new) result }
     ensures reads_order { ReadsOrder layout block (R.left reader.old) (O.left order_reader.old)

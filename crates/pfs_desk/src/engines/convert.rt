@@ -1,6 +1,6 @@
 //! A block of an instance file, written in another layout.
 ghost use Rattle.std.specs.Prelude.{◌≡◌, ◌≢◌, ◌≤◌, false, IfErr};
-ghost use Rattle.pfs_desk.specs.Engine.{Writes, ConvertOutput, ReadsBlock, RefusesNoOrder, RefusesNoTake};
+ghost use Rattle.pfs_desk.specs.Engine.{WritesOutput, ConvertOutput, ReadsBlock, RefusesNoOrder, RefusesNoTake};
 
 use crate::fault::{DeskFault, Outcome};
 use pfs_base::{MOST_BLOCKS, Sink, Source};
@@ -22,7 +22,7 @@ pub fn run_convert<R: Source, W: Sink>(
     requires writing { W.has_failed writer.old ≡ false }
     requires some { 1 ≤ block }
     requires few { block ≤ MOST_BLOCKS }
-    ensures written { Writes (ConvertOutput source target (R.left reader.old) block)
+    ensures written { WritesOutput (ConvertOutput source target (R.left reader.old) block)
         (W.written writer.old) (W.written writer.new) (W.has_failed writer.new) result }
     ensures reads { ReadsBlock source block (R.left reader.old) (R.left reader.new) (R.has_failed reader.new) result }
     ensures one_file { IfErr result RefusesNoOrder }

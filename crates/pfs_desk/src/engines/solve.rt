@@ -1,7 +1,7 @@
 //! The order that a search finds.
 ghost use Rattle.std.specs.Prelude.{◌≡◌, ◌<◌, ◌≤◌, ◌^◌, false, IfSome, IfOk, IfErr};
 ghost use Rattle.pfs_base.specs.Sends.{Sends};
-ghost use Rattle.pfs_desk.specs.Engine.{Writes, SolveOutput, ReadsBlock, RefusesNoOrder, JudgesTake};
+ghost use Rattle.pfs_desk.specs.Engine.{WritesOutput, SolveOutput, ReadsBlock, RefusesNoOrder, JudgesTake};
 ghost use Rattle.pfs_desk.specs.Headline.{Solves};
 ghost use Rattle.pfs_desk.specs.Solve.{IsTakeFault, solution_text};
 ghost use Rattle.pfs_desk.specs.Solve.{take_for as take_of};
@@ -35,7 +35,7 @@ pub fn run_solve<R: Source, W: Sink>(
     requires rounds { options.now.rounds ≤ MOST_ROUNDS }
     requires passes { options.now.passes ≤ MOST_PASSES }
     requires take { IfSome options.now.take (λ asked. 1 ≤ asked) }
-    ensures written { Writes (SolveOutput layout (R.left reader.old) block options.now)
+    ensures written { WritesOutput (SolveOutput layout (R.left reader.old) block options.now)
         (W.written writer.old) (W.written writer.new) (W.has_failed writer.new) result }
     ensures reads { ReadsBlock layout block (R.left reader.old) (R.left reader.new) (R.has_failed reader.new) result }
     ensures one_file { IfErr result RefusesNoOrder }

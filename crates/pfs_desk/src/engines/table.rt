@@ -2,9 +2,10 @@
 ghost use Rattle.std.specs.Prelude.{◌≡◌, ◌+◌, ◌*◌, ◌<◌, ◌≤◌, ◌^◌, ◌∷◌, ◌++◌, [], false, length, IfOk, IfErr};
 ghost use Rattle.pfs_base.specs.Sends.{Sends};
 ghost use Rattle.pfs_base.specs.Text.{with_line_end, spaced};
-ghost use Rattle.pfs_desk.specs.Engine.{Writes, TableOutput, ReadsBlock, ReadsOrder, RefusesNoTake, WantsBehindSecond};
+ghost use Rattle.pfs_desk.specs.Engine.{WritesOutput, TableOutput, ReadsBlock, ReadsOrder, RefusesNoTake};
+ghost use Rattle.pfs_desk.specs.Engine.{WantsBehindSecond};
 ghost use Rattle.pfs_desk.specs.OutputText.{row_text, table_text};
-ghost use Rattle.pfs_desk.specs.Printable.{IsPrintable};
+ghost use Rattle.pfs_desk.specs.Private.Printable.{IsPrintable};
 
 use crate::engines::check::put_verdict;
 use crate::fault::{DeskFault, Outcome};
@@ -32,7 +33,7 @@ pub fn run_table<R: Source, O: Source, W: Sink>(
     requires writing { W.has_failed writer.old ≡ false }
     requires some { 1 ≤ block }
     requires few { block ≤ MOST_BLOCKS }
-    ensures written { Writes (TableOutput layout (R.left reader.old) block (O.left order_reader.old))
+    ensures written { WritesOutput (TableOutput layout (R.left reader.old) block (O.left order_reader.old))
         (W.written writer.old) (W.written writer.new) (W.has_failed writer.new) result }
     ensures reads { ReadsBlock layout block (R.left reader.old) (R.left reader.new) (R.has_failed reader.new) result }
     ensures reads_order { ReadsOrder layout block (R.left reader.old) (O.left order_reader.old)

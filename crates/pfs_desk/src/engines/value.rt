@@ -2,7 +2,7 @@
 ghost use Rattle.std.specs.Prelude.{◌≡◌, ◌≤◌, false, IfOk, IfErr};
 ghost use Rattle.pfs_base.specs.Paths.{makespan};
 ghost use Rattle.pfs_order.specs.Sequence.{all_jobs};
-ghost use Rattle.pfs_desk.specs.Engine.{Writes, ValueOutput, ReadsBlock, RefusesNoOrder, RefusesNoTake};
+ghost use Rattle.pfs_desk.specs.Engine.{WritesOutput, ValueOutput, ReadsBlock, RefusesNoOrder, RefusesNoTake};
 ghost use Rattle.pfs_desk.specs.Engine.{WantsBehindFirst};
 
 use crate::fault::{DeskFault, Outcome};
@@ -26,7 +26,7 @@ pub fn run_value<R: Source, W: Sink>(
     requires writing { W.has_failed writer.old ≡ false }
     requires some { 1 ≤ block }
     requires few { block ≤ MOST_BLOCKS }
-    ensures written { Writes (ValueOutput layout (R.left reader.old) block)
+    ensures written { WritesOutput (ValueOutput layout (R.left reader.old) block)
         (W.written writer.old) (W.written writer.new) (W.has_failed writer.new) result }
     ensures reads { ReadsBlock layout block (R.left reader.old) (R.left reader.new) (R.has_failed reader.new) result }
     ensures one_file { IfErr result RefusesNoOrder }

@@ -2,8 +2,9 @@
 ghost use Rattle.std.specs.Prelude.{◌≡◌, [], IfOk, false, true, map, option_map, string_bytes};
 ghost use Rattle.clap.specs.Words.{app_of, fault_of, first_of, found_of, is_simple_and_free, rows_of, takes};
 ghost use Rattle.pfs_words.specs.Jobs.{SaysFlag, SaysLayout, SaysMaybeNumber, SaysNumber, SaysText};
-ghost use Rattle.pfs_words.specs.Parses.{HasLayout, HasNumber, HasText, IsParseOf, MayHaveNumber};
+ghost use Rattle.pfs_words.specs.Private.Parses.{HasLayout, HasNumber, HasText, IsParseOf, MayHaveNumber};
 
+use super::{ORLIB, TAILLARD};
 use crate::job::PathText;
 use crate::usage::UsageFault;
 use clap::{ArgMatches, Command};
@@ -45,8 +46,8 @@ pub(super) fn layout_in(matches: &ArgMatches<'_>, id: &str) -> Layout
     ensures { SaysLayout (rows_of (found_of matches.now)) id.now result }
 {
     match text_in(matches, id) {
-        "taillard" => Layout::Taillard,
-        "orlib" => Layout::OrLib,
+        TAILLARD => Layout::Taillard,
+        ORLIB => Layout::OrLib,
         _ => unreachable!(),
     }
 }

@@ -1,6 +1,6 @@
-use Rattle.std.proofs.Common.{◌+◌, ◌-◌, refl, arith}
-use Rattle.pfs_base.specs.FlowShop.{time_of, total_of}
-use Rattle.pfs_audit.specs.Sums.{least_among, load_among}
+use Rattle.std.proofs.Common.{◌+◌, ◌-◌, refl, ap, arith}
+use Rattle.pfs_base.specs.FlowShop.{FlowShop, time_of, total_of}
+use Rattle.pfs_audit.specs.Private.Sums.{least_among, load_among}
 use Rattle.pfs_audit.proofs.Ranges.{greatest-range-more, sum_by-below-more, total_of-is}
 use Rattle.pfs_audit.proofs.SumLemmas.{least_among-more, load_among-more, load_among-le, time_on-le, time_on-parts}
 use Rattle.pfs_audit.proofs.SumLemmas.{have_none, have_more}
@@ -12,6 +12,7 @@ loop-machine-init c =
     let job = c.args.job in
     let sums = c.requires.sums in
     let more = greatest-range-more (total_of shop) job in
+    let total = ap (λ (all : FlowShop). total_of all job) c.metered.ensures.shop in
     record {
       longest = omega arith;
       through = refl;
@@ -43,6 +44,7 @@ overflow_sub-total c =
     let parts = time_on-parts shop job machine (omega arith) in
     let more = sum_by-below-more (time_of shop job) machine in
     let is = total_of-is shop job in
+    let total = ap (λ (all : FlowShop). total_of all job) c.metered.ensures.shop in
     omega arith
 
 pub loop-machine-preserved : goal.loop-machine-preserved
@@ -55,6 +57,7 @@ loop-machine-preserved c =
     let parts = time_on-parts shop job machine (omega arith) in
     let more = sum_by-below-more (time_of shop job) machine in
     let is = total_of-is shop job in
+    let total = ap (λ (all : FlowShop). total_of all job) c.metered.ensures.shop in
     let least_before = least_among-more shop job 0 machine in
     let load = load_among-more shop job machine in
     let least_after = least_among-more shop job (machine + 1) (shop.machines - (machine + 1)) in

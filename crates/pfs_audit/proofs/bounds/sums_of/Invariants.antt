@@ -1,4 +1,4 @@
-use Rattle.pfs_audit.specs.Sums.{AreSumsOf}
+use Rattle.pfs_audit.specs.Private.Sums.{AreSumsOf}
 use Rattle.pfs_audit.proofs.bounds.sums_of.Given as goal
 
 abbrev pub invariant-loop-job : goal.invariant-loop-job

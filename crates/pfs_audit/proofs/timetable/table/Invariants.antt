@@ -1,5 +1,6 @@
 use Rattle.std.proofs.Common.{◌*◌, ◌≤◌, length, vec_capacity}
-use Rattle.pfs_audit.specs.Schedule.{least_end, least_start, AreRows}
+use Rattle.pfs_audit.specs.Schedule.{least_end, least_start}
+use Rattle.pfs_audit.specs.Private.Rows.{AreRows}
 use Rattle.pfs_audit.proofs.timetable.table.Given as goal
 
 abbrev pub invariant-loop-row : goal.invariant-loop-row

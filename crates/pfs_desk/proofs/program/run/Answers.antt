@@ -1,6 +1,6 @@
 use Rattle.std.proofs.Common.{◌≡◌, List, ◌∷◌, inr, subst}
 use Rattle.pfs_base.specs.Buffer.{IsNew}
-use Rattle.pfs_desk.specs.LetsOut.{EndsOutput}
+use Rattle.pfs_desk.specs.Private.LetsOut.{EndsOutput}
 use Rattle.pfs_desk.specs.Program.{writing_of}
 use Rattle.pfs_desk.specs.WholeProgram.{printing_on}
 use Rattle.pfs_desk.proofs.ProgramLemmas.{writes-on, stops-on}

@@ -1,6 +1,6 @@
 use Rattle.std.proofs.Common.{◌+◌, ◌≤◌, length, drop, refl, ◌∙◌, arith}
 use Rattle.std.proofs.lemmas.List.{length-take-le}
-use Rattle.pfs_insert.specs.Rows.{head_of}
+use Rattle.pfs_insert.specs.Private.Rows.{head_of}
 use Rattle.pfs_insert.proofs.FlatRows.{row_le}
 use Rattle.pfs_insert.proofs.HeadTables.{heads_above, head_behind, heads_kept, short_heads}
 use Rattle.pfs_insert.proofs.TailRows.{head_first, head_next}

@@ -1,6 +1,7 @@
 use Rattle.std.proofs.Common.{◌≡◌, ℕ, ◌+◌, ◌*◌, ◌/◌, ◌<◌, ◌≤◌, length}
-use Rattle.pfs_insert.specs.Insertion.{IsBest, makespan_with}
-use Rattle.pfs_insert.specs.Rows.{HasHead}
+use Rattle.pfs_insert.specs.Insertion.{makespan_with}
+use Rattle.pfs_insert.specs.Private.BestSoFar.{IsBest}
+use Rattle.pfs_insert.specs.Private.Rows.{HasHead}
 use Rattle.pfs_insert.proofs.places.best_by_rows.Given as goal
 
 abbrev pub invariant-loop-pair : goal.invariant-loop-pair

@@ -2,7 +2,7 @@ use Rattle.std.proofs.Common.{◌≡◌, ℕ, ◌+◌, ◌-◌, ◌*◌, ◌<◌
 use Rattle.pfs_base.specs.declared.limits.TheConstants.{MOST_JOBS, MOST_MACHINES, LONGEST_TIME}
 use Rattle.pfs_base.specs.Joins.{greatest_join}
 use Rattle.pfs_insert.specs.Exchange.{heaviest_front, heaviest_back}
-use Rattle.pfs_insert.specs.Rows.{greatest_sum}
+use Rattle.pfs_insert.specs.Private.Rows.{greatest_front_and_back}
 use Rattle.pfs_insert.proofs.Exchange.{exchange_law}
 use Rattle.pfs_insert.proofs.FlatRows.{row_long, row_taken}
 use Rattle.pfs_insert.proofs.Joined.{join_is, greatest_small}
@@ -19,7 +19,7 @@ joined : (g : Over) (c : After-machines-machines g) →
     let width = c.machines-machines.result in
     greatest_join g.B.Span.Length.number c.args.put.now
     (take ((place + 1) * width - place * width) (drop (place * width) c.args.backs.now))
-    ≡ greatest_sum shop.machines (heaviest_front shop (insert jobs place c.args.job) place)
+    ≡ greatest_front_and_back shop.machines (heaviest_front shop (insert jobs place c.args.job) place)
     (heaviest_back shop jobs place)
 joined g c =
     let number = g.B.Span.Length.number in

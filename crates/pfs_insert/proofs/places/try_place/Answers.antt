@@ -1,6 +1,6 @@
 use Rattle.std.proofs.Common.{◌+◌, ◌-◌, ◌*◌, take, drop, ◌∙◌, arith}
 use Rattle.pfs_insert.specs.Insertion.{makespan_with}
-use Rattle.pfs_insert.specs.Rows.{head_of}
+use Rattle.pfs_insert.specs.Private.Rows.{head_of}
 use Rattle.pfs_insert.proofs.FlatRows.{row_taken}
 use Rattle.pfs_insert.proofs.HeadTables.{HoldsHeads, short_heads}
 use Rattle.pfs_insert.proofs.TailRows.{head_first, put_row}

@@ -1,5 +1,5 @@
 use Rattle.std.proofs.Common.{◌≡◌, ◌+◌, ◌-◌, ◌*◌, length}
-use Rattle.pfs_insert.specs.Rows.{HasTails}
+use Rattle.pfs_insert.specs.Private.Rows.{HasTails}
 use Rattle.pfs_insert.proofs.tails.fill_tails.Given as goal
 
 abbrev pub invariant-loop-turn : goal.invariant-loop-turn

@@ -1,6 +1,6 @@
 use Rattle.std.proofs.Common.{◌≡◌, length, ap, ◌∙◌, sym, rules}
 use Rattle.pfs_order.specs.Sequence.{StatedOrder}
-use Rattle.pfs_audit.specs.Verdicts.{Fits}
+use Rattle.pfs_audit.specs.Verdicts.{SizesMatch}
 use Rattle.pfs_desk.specs.declared.fault.Outcome.TheVariants.{Done, CheckFailed}
 use Rattle.pfs_desk.specs.Engine.{WritesFront, TableOutput}
 use Rattle.pfs_desk.specs.OutputText.{wrong_size_text, wrong_machines_text, table_text, IsLeastTable}
@@ -75,7 +75,7 @@ returns-in_err-put_table-clause-written g c =
     let shop = c.in_ok-instance.instance.shop in
     let timing = c.in_ok-table.table in
     let stated : StatedOrder = c.in_ok-file.file in
-    let fits : Fits shop stated = search rules in
+    let fits : SizesMatch shop stated = search rules in
     let least : IsLeastTable shop c.order-order.result.now timing = record {
       jobs = c.in_ok-table.ensures.jobs;
       machines = c.in_ok-table.ensures.machines;
@@ -107,7 +107,7 @@ returns-2-clause-written g c =
     let shop = c.in_ok-instance.instance.shop in
     let timing = c.in_ok-table.table in
     let stated : StatedOrder = c.in_ok-file.file in
-    let fits : Fits shop stated = search rules in
+    let fits : SizesMatch shop stated = search rules in
     let least : IsLeastTable shop c.order-order.result.now timing = record {
       jobs = c.in_ok-table.ensures.jobs;
       machines = c.in_ok-table.ensures.machines;

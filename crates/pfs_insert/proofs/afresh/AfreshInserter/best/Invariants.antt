@@ -1,5 +1,6 @@
 use Rattle.std.proofs.Common.{◌≡◌, ◌+◌, ◌*◌, ◌<◌, length}
-use Rattle.pfs_insert.specs.Insertion.{IsBest, makespan_with}
+use Rattle.pfs_insert.specs.Insertion.{makespan_with}
+use Rattle.pfs_insert.specs.Private.BestSoFar.{IsBest}
 use Rattle.pfs_insert.proofs.afresh.AfreshInserter.best.Given as goal
 
 abbrev pub invariant-loop-place : goal.invariant-loop-place

@@ -53,7 +53,6 @@ loop-done-preserved g c =
     let falls = gives.never_rises in
     record {
       same_shop = gives.shop ∙ invariant.same_shop;
-      size = invariant.size;
       queue = omega (arith, gives.same_room, invariant.queue);
       ranked = invariant.ranked;
       words = omega (arith, c.draw_words.ensures.len, invariant.words);

@@ -14,7 +14,6 @@ invariant-loop-done g l =
     let number = g.B.Span.Length.number in
     record {
       same_shop : g.B.Bench.shop l.bench ≡ shop;
-      size : inside.size ≡ shop.jobs;
       queue : shop.jobs ≤ vec_capacity inside.work.queue;
       ranked : shop.jobs ≤ vec_capacity inside.ranked;
       words : shop.jobs ≤ vec_len inside.words;

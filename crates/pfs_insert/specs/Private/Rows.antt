@@ -30,8 +30,8 @@ abbrev pub tail_row : FlowShop → ℕ → (ℕ → ℕ) → ℕ → ℕ
 tail_row shop job = next_row (from_last (shop.machines - 1) (time_of shop job))
 
 -- the greatest sum of a front and a back at one of the machines
-abbrev pub greatest_sum : ℕ → (ℕ → ℕ) → (ℕ → ℕ) → ℕ
-greatest_sum machines fronts backs =
+abbrev pub greatest_front_and_back : ℕ → (ℕ → ℕ) → (ℕ → ℕ) → ℕ
+greatest_front_and_back machines fronts backs =
     greatest (map (λ machine. fronts machine + backs machine) (range_with_len 0 machines))
 
 -- the lengths of a row are these numbers
@@ -115,3 +115,7 @@ pub record IsTable {X : Type 0} (number : X → ℕ) (sizes : Sizes) (lengths : 
 pub record IsPut {X : Type 0} (number : X → ℕ) (shop : FlowShop) (jobs : List ℕ) (job place : ℕ) (row : List X)
     : Type 0 where
   pub row_is : AreNumbers number row shop.machines (heaviest_front shop (insert jobs place job) place)
+
+-- the sizes of a shop
+abbrev pub sizes_of : FlowShop → Sizes
+sizes_of shop = record { jobs = shop.jobs; machines = shop.machines }

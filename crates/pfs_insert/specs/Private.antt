@@ -1,0 +1,3 @@
+-- Definitions that no contract of a public function cites.
+pub mod BestSoFar
+pub mod Rows
