@@ -16,9 +16,9 @@ other: low
 for_c staticlib: low
 """
 # What stands for rt: it wants each crate that crates.txt names; it holds its crate's folder and that of `low`, as rt holds
-# all crates below; it notes its words, says that it has proved the crate, if it isn't built (of a program on standard
-# error, as rt does), and fails where it is told to. In a first build each of `left` and `right` waits until the other
-# has begun.
+# all crates below; it notes its words and its niceness, says that it has proved the crate, if it isn't built (of a
+# program on standard error, as rt does), and fails where it is told to. In a first build each of `left` and `right`
+# waits until the other has begun.
 RT = """#!/bin/sh
 crate=${PWD##*/}
 for named in $(sed 's/[ :#].*//' ../../crates.txt); do
@@ -28,6 +28,7 @@ exec 8< . 9< ../low
 flock 8
 test $crate = low || flock 9
 echo "begin $crate $1" >> "$NOTES"
+echo "$crate $(nice)" >> "$NOTES.nice"
 mkdir -p out/rlib
 if ! test -e out/rlib/stamp; then
     case $crate in
@@ -78,6 +79,17 @@ def test_crates_are_built_behind_those_they_stand_on(repository: pathlib.Path) -
     assert sorted(noted[2:4]) == ["begin left lib", "begin right lib"]
     assert sorted(noted[4:6]) == ["end left lib", "end right lib"]
     assert noted[6:] == ["begin app run", "end app run"]
+
+
+def test_the_crate_with_the_longest_chain_above_it_goes_first(repository: pathlib.Path) -> None:
+    """What is built beside it takes only the processors that it leaves idle."""
+    crates = (repository / "crates.txt").read_text()
+    (repository / "crates.txt").write_text(crates.replace("app: left right", "above: left\napp: above right"))
+    (repository / "crates" / "above").mkdir()
+    assert build(repository, "app").returncode == 0
+    niceness = dict(line.split() for line in (repository / "notes.nice").read_text().splitlines())
+    assert {crate: value == niceness["low"] for crate, value in niceness.items()} == {
+        "low": True, "left": True, "right": False, "above": True, "app": True}
 
 
 def test_each_crate_is_told_with_its_time_and_how_many_are_left(repository: pathlib.Path) -> None:
