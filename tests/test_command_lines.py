@@ -6,7 +6,7 @@ import subprocess
 from collections.abc import Callable
 
 import pytest
-from support.files import THREE_JOBS, USAGE
+from support.files import THREE_JOBS, USAGE, make_files
 from support.lines import ANSWERS, PRINTING, refused, unwritten
 from support.program import Program, Ran
 
@@ -23,16 +23,27 @@ def cuts(length: int) -> list[int]:
     return sorted(most for most in ends | {0, 1, length // 2, length - 1} if most < length)
 
 
+CUT = [(line, most) for line in PRINTING for most in cuts(len(ANSWERS[line].stdout))]
+
+
 def limited_to(most: int) -> Callable[[], None]:
     """Lets no file get longer. The signal for that is ignored."""
     return lambda: resource.setrlimit(resource.RLIMIT_FSIZE, (most, most))
 
 
-def run_into_file(pfs: Program, line: str, folder: pathlib.Path, most: int) -> Ran:
+def run_into_file(pfs: Program, line: str, worked: pathlib.Path, file: pathlib.Path, most: int) -> Ran:
     """A run into a file that takes at most so many bytes, with what the file then has."""
-    with open(folder / "output", "wb") as output:
-        ran = pfs.run(line, folder, stdout=output, preexec_fn=limited_to(most), restore_signals=False)
-    return ran._replace(stdout=(folder / "output").read_bytes())
+    with open(file, "wb") as output:
+        ran = pfs.run(line, worked, stdout=output, preexec_fn=limited_to(most), restore_signals=False)
+    return ran._replace(stdout=file.read_bytes())
+
+
+@pytest.fixture(scope="module")
+def worked_once(tmp_path_factory: pytest.TempPathFactory) -> pathlib.Path:
+    """The worked files for many tests, none of which writes there."""
+    made = tmp_path_factory.mktemp("worked")
+    make_files(made)
+    return made
 
 
 @pytest.mark.parametrize("line", ANSWERS)
@@ -59,19 +70,18 @@ def test_full_output(pfs: Program, worked: pathlib.Path, line: str) -> None:
         assert pfs.run(line, worked, stdout=full) == unwritten(0)
 
 
-@pytest.mark.parametrize("line", PRINTING)
-def test_cut_output(pfs: Program, worked: pathlib.Path, line: str) -> None:
+@pytest.mark.parametrize(("line", "most"), CUT, ids=[f"{line}, {most} bytes" for line, most in CUT])
+def test_cut_output(pfs: Program, worked_once: pathlib.Path, folder: pathlib.Path, line: str, most: int) -> None:
     """An output that takes the first bytes alone: nothing but these goes out, and they are counted."""
-    text = ANSWERS[line].stdout
-    for most in cuts(len(text)):
-        wanted = unwritten(most)._replace(stdout=text[:most])
-        assert run_into_file(pfs, line, worked, most) == wanted, f"an output of {most} bytes"
+    wanted = unwritten(most)._replace(stdout=ANSWERS[line].stdout[:most])
+    assert run_into_file(pfs, line, worked_once, folder / "output", most) == wanted
 
 
 @pytest.mark.parametrize("line", PRINTING)
-def test_output_of_the_length_of_the_text(pfs: Program, worked: pathlib.Path, line: str) -> None:
+def test_output_of_the_length_of_the_text(pfs: Program, worked: pathlib.Path, folder: pathlib.Path,
+                                          line: str) -> None:
     """An output that takes all bytes, and no more."""
-    assert run_into_file(pfs, line, worked, len(ANSWERS[line].stdout)) == ANSWERS[line]
+    assert run_into_file(pfs, line, worked, folder / "output", len(ANSWERS[line].stdout)) == ANSWERS[line]
 
 
 @pytest.mark.parametrize("line", [line for line in ANSWERS if line not in PRINTING])

@@ -17,6 +17,11 @@ def test_the_page_of_what_is_reached_is_made_of_the_sources(top: pathlib.Path) -
     assert (top / "docs" / "REACHED.md").read_text() == made, "tests/support/definitions.py > docs/REACHED.md makes it"
 
 
+def test_what_is_private_is_not_reached(top: pathlib.Path) -> None:
+    """No contract of a public function rests on a definition of a folder `specs/Private`."""
+    assert {each for each in reached(top / "crates") if each.file.startswith("Private.")} == set()
+
+
 @pytest.mark.parametrize("name", HEADLINE)
 def test_this_word_is_reached(name: str, top: pathlib.Path) -> None:
     assert name in {each.name for each in reached(top / "crates")}
@@ -97,6 +102,18 @@ def test_what_is_reached(item: str, shown: str, wanted: set[Definition], crates:
     (crates / "high" / "src" / "lib.rt").write_text(f"mod inner;\n{shown}\n")
     (crates / "high" / "src" / "inner.rt").write_text(CODE.format(item=item))
     assert reached(crates) == wanted
+
+
+def test_what_a_folder_has_is_reached(crates: pathlib.Path) -> None:
+    """By its file, named through its folder."""
+    (crates / "low" / "specs" / "Inner").mkdir()
+    (crates / "low" / "specs" / "Sums.antt").rename(crates / "low" / "specs" / "Inner" / "Sums.antt")
+    times = crates / "high" / "specs" / "Times.antt"
+    times.write_text(times.read_text().replace("specs.Sums", "specs.Inner.Sums"))
+    (crates / "high" / "src" / "lib.rt").write_text("pub mod inner;\n")
+    (crates / "high" / "src" / "inner.rt").write_text(CODE.format(item="pub fn four(n: u64) -> u64"))
+    assert reached(crates) == {FOUR, Definition("low", "Inner.Sums", "doubled")}
+    assert "| Inner.Sums | `doubled` | so many |" in page(crates)
 
 
 def test_the_page_has_the_comments_of_the_definitions(crates: pathlib.Path) -> None:

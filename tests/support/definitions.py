@@ -12,13 +12,13 @@ TOP = pathlib.Path(__file__).resolve().parent.parent.parent
 
 # The crates of the tests have no definitions that anybody must believe.
 OF_TESTS = ("pfs_calls", "pfs_tests")
-IMPORT = re.compile(r"^(?:ghost )?use Rattle\.(\w+)\.specs\.(\w+)\.\{([^}]*)\}", re.MULTILINE)
+IMPORT = re.compile(r"^(?:ghost )?use Rattle\.(\w+)\.specs\.([\w.]+)\.\{([^}]*)\}", re.MULTILINE)
 HEAD = re.compile(r"^(?:abbrev|unfoldable|unfolding|pub|record|data|inductive)\b(?: (?:pub|record|data))* (\w+)")
 WORD = re.compile(r"[A-Za-z_]\w*")
 
 
 class Definition(NamedTuple):
-    """A name of a crate's specs, and the file there that has it."""
+    """A name of a crate's specs, and the file there that has it: `Private.Step` is Step.antt in the folder Private."""
     crate: str
     file: str
     name: str
@@ -59,11 +59,12 @@ def definitions_of(path: pathlib.Path) -> dict[str, str]:
 def all_definitions(crates: pathlib.Path) -> dict[Definition, set[Definition]]:
     """Each definition, and those that it is written with."""
     written = {}
-    for path in sorted(crates.glob("*/specs/*.antt")):
-        crate, own = path.parent.parent.name, definitions_of(path)
-        names = imports_of(path.read_text()) | {name: Definition(crate, path.stem, name) for name in own}
+    for path in sorted(crates.glob("*/specs/**/*.antt")):
+        crate, _, *folders = path.relative_to(crates).with_suffix("").parts
+        file, own = ".".join(folders), definitions_of(path)
+        names = imports_of(path.read_text()) | {name: Definition(crate, file, name) for name in own}
         for name, text in own.items():
-            written[Definition(crate, path.stem, name)] = {names[word] for word in WORD.findall(text) if word in names}
+            written[Definition(crate, file, name)] = {names[word] for word in WORD.findall(text) if word in names}
     return {each: {other for other in others if other in written and other != each} for each, others in written.items()}
 
 
@@ -170,7 +171,7 @@ def page(crates: pathlib.Path) -> str:
     for crate in sorted({each.crate for each in found}):
         lines += [f"\n## {crate}\n\n| File | Name | What it says |\n|---|---|---|\n"]
         for file in sorted({each.file for each in found if each.crate == crate}):
-            comments = comments_of(crates / crate / "specs" / f"{file}.antt")
+            comments = comments_of(crates / crate / "specs" / f"{file.replace('.', '/')}.antt")
             names = [each.name for each in found if (each.crate, each.file) == (crate, file)]
             lines += [f"| {file} | `{name}` | {comments.get(name, '')} |\n" for name in names]
     return "".join(lines)
