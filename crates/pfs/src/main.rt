@@ -34,23 +34,27 @@ impl Files for SystemFiles<'_> {
 }
 
 fn main(rt: HostRuntime) -> ExitCode {
-    let mut errors = ToWrite::new(rt.stderr());
-    let words = match words_of(&rt) {
-        Ok(words) => words,
-        Err(fault) => return ExitCode::from(finish(&mut errors, &Err(Stop::from(fault)))),
+    let status = match words_of(&rt) {
+        Ok(words) => run_words(&rt, words.as_slice()),
+        Err(fault) => finish(&mut ToWrite::new(rt.stderr()), &Err(Stop::from(fault))),
     };
-    let mut files = SystemFiles { rt: &rt };
+    ExitCode::from(status)
+}
+
+// Hands the files and the streams of the system to the program.
+fn run_words(rt: &HostRuntime, words: &[String]) -> u8 {
+    let mut files = SystemFiles { rt };
     let mut input = FromRead::new(rt.reader());
     let mut output = Buffered::new(ToWrite::new(rt.stdout()));
-    let status = run_program(
+    let mut errors = ToWrite::new(rt.stderr());
+    run_program(
         rt.alloc(),
-        words.as_slice(),
+        words,
         &mut files,
         &mut input,
         &mut output,
         &mut errors,
-    );
-    ExitCode::from(status)
+    )
 }
 
 // The words behind the program's name. Words that aren't UTF-8 ask for nothing.
