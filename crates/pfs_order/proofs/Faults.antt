@@ -1,35 +1,34 @@
 -- How far a text can be completed: where a front ends, and where a piece is wanted behind a front.
-use Rattle.std.proofs.Common.{◌≡◌, ℕ, ◌+◌, ◌-◌, ◌<◌, inl, inr, List, [], ◌∷◌, ◌++◌, suc, length, take}
-use Rattle.std.proofs.Common.{refl, arith}
+use Rattle.std.proofs.Common.{◌≡◌, ℕ, ◌+◌, ◌-◌, ◌≤◌, inl, inr, List, [], ◌∷◌, ◌++◌, zero, suc, length, take, refl}
+use Rattle.std.proofs.Common.{arith}
 use Rattle.std.proofs.lemmas.Bool.{cases_lt}
-use Rattle.std.proofs.lemmas.List.{append_assoc, length-append, append-nil, take_at}
+use Rattle.std.proofs.lemmas.List.{append_assoc, length-append, take_at}
 use Rattle.std.proofs.Math.Seq.{take-append-add}
 use Rattle.pfs_order.specs.OrderFile.{IsFaultOf, CanBeCompleted}
+use Rattle.pfs_order.proofs.Scanning.{with_tail, with_tail-same}
 
--- a longer front of two lists joined, where the second begins with a byte
-longer_front : (a : List ℕ) (b : ℕ) (c : List ℕ) (n : ℕ) → length a < n
-    → take n (a ++ b ∷ c) ≡ a ++ b ∷ take (n - length a - 1) c
-longer_front a b c n h =
-    let size : n ≡ length a + suc (n - length a - 1) = omega arith in
-    rw (size, take-append-add a (b ∷ c) (suc (n - length a - 1))) (rw (← size))
+-- some bytes, and others behind them, begin with the same byte
+begins_so : (after rest : List ℕ) (n : ℕ) → 1 ≤ n → 1 ≤ length after
+    → (other : List ℕ) × (take n after ++ rest ≡ with_tail after other)
+begins_so [] rest n h l = absurd (omega arith)
+begins_so (b ∷ after) rest zero h l = absurd (omega arith)
+begins_so (b ∷ after) rest (suc n) h l = (take n after ++ rest, refl)
 
 -- a front that can be completed, but neither ends there nor goes on with the byte that stands behind it
 pub fault_where_front_ends : (grammar : List ℕ → Type 0) (front after : List ℕ) → CanBeCompleted grammar front
-    → (after ≡ [] → ¬ grammar front)
-    → ((b : ℕ) (more rest : List ℕ) → after ≡ b ∷ more → ¬ grammar (front ++ b ∷ rest))
+    → ((other : List ℕ) → ¬ grammar (front ++ with_tail after other))
     → IsFaultOf grammar (front ++ after) (length front)
-fault_where_front_ends grammar front [] (rest, done) end stuck = record {
-  no_text = λ h. end refl (rw append-nil at h);
-  within = omega (arith, length-append front []);
-  completed = (rest, rw (take_at front [] (length front) refl) done);
-  longest = λ n h c. omega (arith, length-append front []);
-}
-fault_where_front_ends grammar front (b ∷ after) (rest, done) end stuck = record {
-  no_text = stuck b after after refl;
-  within = omega (arith, length-append front (b ∷ after));
-  completed = (rest, rw (take_at front (b ∷ after) (length front) refl) done);
+fault_where_front_ends grammar front after (rest, done) stops = record {
+  no_text = λ h. let (other, same) = with_tail-same after in stops other (rw same h);
+  within = omega (arith, length-append front after);
+  completed = (rest, rw (take_at front after (length front) refl) done);
   longest = λ n h c. elim (cases_lt (length front) n) [
-    | inl long ↦ absurd (stuck b after _ refl (rw (longer_front front b after n long, append_assoc) at c.1))
+    | inl long ↦
+        let some : 1 ≤ length after = omega (arith, length-append front after) in
+        let (other, same) = begins_so after c.0 (n - length front) (omega arith) some in
+        let size : n ≡ length front + (n - length front) = omega arith in
+        let bytes = rw (← size) at (take-append-add front after (n - length front)) in
+        absurd (stops other (rw (← same, ← append_assoc, ← bytes) c.1))
     | inr short ↦ short
   ];
 }

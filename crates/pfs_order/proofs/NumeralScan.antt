@@ -1,193 +1,130 @@
 -- What is read of a numeral, digit by digit, is the number that it spells.
-use Rattle.std.proofs.Common.{◌≡◌, ◌≢◌, ℕ, zero, suc, ◌+◌, ◌-◌, ◌*◌, ◌<◌, ◌≤◌, ◌^◌, ◌⊎◌, inl, inr, Option, Some, None}
-use Rattle.std.proofs.Common.{List, [], ◌∷◌, ◌++◌, length, refl, ap, ◌∙◌, arith}
-use Rattle.std.specs.Prelude.{Ok, Err}
+use Rattle.std.proofs.Common.{◌≡◌, ℕ, zero, suc, ◌+◌, ◌-◌, ◌*◌, ◌/◌, ◌%◌, ◌<◌, ◌≤◌, ◌^◌, inl, inr, Option, Some, None}
+use Rattle.std.proofs.Common.{List, [], ◌∷◌, ◌++◌, ◌⊎◌, refl, ◌∙◌, arith}
+use Rattle.std.specs.Prelude.{IfSome, Ok, Err}
 use Rattle.std.specs.Fmt.{decimal}
-use Rattle.std.specs.Char.{digit_value}
-use Rattle.std.specs.Option.{ForSome}
-use Rattle.std.proofs.lemmas.Bool.{cases_eq, cases_lt, eq-eqb, ne_eqb, le-leb, lt-leb}
-use Rattle.std.proofs.lemmas.Fmt.{decimal_digit, decimal_nonempty}
-use Rattle.std.proofs.lemmas.List.{append_assoc, append-nil}
-use Rattle.pfs_order.specs.Private.Reading.{with_value, with_digit, or_else, longer, numeral_on, numeral_at}
-use Rattle.pfs_order.proofs.Numerals.{IsWithin, no_digit_ends, zero_ends, decimal_push, front_within, decimal_lacks}
-use Rattle.pfs_order.proofs.Numerals.{numeral_of, lacks_end, decimal_injective}
-use Rattle.pfs_order.proofs.Scanning.{Spelling, Verdict, found, stuck, Reads, with_tail}
+use Rattle.std.proofs.lemmas.Bool.{eq-eqb, ne_eqb}
+use Rattle.std.proofs.lemmas.Bool.Decides.{nat_tests}
+use Rattle.std.proofs.lemmas.Fmt.{decimal_digit, decimal_step_wide, decimal_by_steps_wide}
+use Rattle.std.proofs.lemmas.List.{append_assoc}
+use Rattle.pfs_order.specs.Private.Reading.{with_digit, with_value, if_within, longer, ended, numeral_on, numeral_at}
+use Rattle.pfs_order.proofs.Scanning.{Spelling, Verdict, found, stuck, Reads, Finds, with_tail}
 
-module _ (least most b : ℕ) where
-  -- a numeral goes on by a byte, or none does
-  abbrev LongerOrEnds : Option ℕ → Type 0
-  LongerOrEnds number = ((m : ℕ) × ((longer least most number b ≡ Some m) × IsWithin least most (Some m)
-      × (decimal m ≡ numeral_of number ++ b ∷ [])))
-      ⊎ ((longer least most number b ≡ None)
-      × ((n : ℕ) (rest : List ℕ) → least ≤ n → n ≤ most → decimal n ≢ numeral_of number ++ b ∷ rest))
-
-  -- the same where the number with the digit is known
-  by_range : (m : ℕ) (number : Option ℕ) → IsWithin least most number → m < 10 ^ 20
-      → with_digit number b ≡ Some m → decimal m ≡ numeral_of number ++ b ∷ [] → LongerOrEnds number
-  unfolding longer
-  by_range m number h small is e = elim (cases_lt m least) [
-    | inl low ↦ inr (
-      rw (is, lt-leb least m low),
-      λ n rest some few same.
-          let fits = within n rest some few same in absurd (omega arith),
-    )
-    | inr fits ↦ elim (cases_lt most m) [
-      | inl high ↦ inr (
-        rw (is, le-leb least m fits, lt-leb m most high),
-        λ n rest some few same.
-            let fits = within n rest some few same in absurd (omega arith),
-      )
-      | inr few ↦ inl (
-        m,
-        (
-          rw (is, le-leb least m fits, le-leb m most few),
-          record {
-            low = h.low;
-            some = h.some;
-            high = h.high;
-            in_range = λ n same. (let e : m ≡ n = cc in (omega arith, omega arith));
-          },
-          e,
-        ),
-      )
-    ]
-  ]
-    where
-      within : (n : ℕ) (rest : List ℕ) → least ≤ n → n ≤ most → decimal n ≡ numeral_of number ++ b ∷ rest
-          → (least ≤ m) × (m ≤ most)
-      within n rest some few same =
-          front_within least most m n rest h.low h.high small some few (rw (e, append_assoc) same)
-
-  by_digit : (number : Option ℕ) → IsWithin least most number → 48 ≤ b → b ≤ 57
-      → with_digit number b ≡ with_value number (b - 48) → LongerOrEnds number
-  unfolding longer
-  by_digit None k low high is =
-      let byte : 48 + (b - 48) ≡ b = omega arith in
-      by_range (b - 48) None k (omega arith) is (rw byte at (decimal_digit (b - 48) (omega arith)))
-  by_digit (Some zero) k low high is =
-      let top = k.high in inr (rw is, λ n rest some few. zero_ends n b rest (omega arith))
-  by_digit (Some (suc n)) k low high is =
-      let top = k.high in
-      let few = (k.in_range (suc n) refl).1 in
-      let byte : 48 + (b - 48) ≡ b = omega arith in
-      by_range (suc n * 10 + (b - 48)) (Some (suc n)) k (omega arith) is
-      (rw byte at (decimal_push (suc n) (b - 48) (omega arith) (omega arith) (omega arith)))
-
-  longer_or_ends : (number : Option ℕ) → IsWithin least most number → LongerOrEnds number
-  unfolding longer with_digit
-  longer_or_ends number h = elim (cases_lt b 48) [
-    | inl low ↦ inr (
-      rw (lt-leb 48 b low),
-      λ n rest some few. no_digit_ends n b (numeral_of number) rest (below n few)
-          (inl low),
-    )
-    | inr digit ↦ elim (cases_lt 57 b) [
-      | inl high ↦ inr (
-        rw (le-leb 48 b digit, lt-leb b 57 high),
-        λ n rest some few.
-            no_digit_ends n b (numeral_of number) rest (below n few) (inr high),
-      )
-      | inr fits ↦ by_digit number h digit fits (rw (le-leb 48 b digit, le-leb b 57 fits))
-    ]
-  ]
-    where
-      below : (n : ℕ) → n ≤ most → n < 10 ^ 18
-      below n few = let top = h.high in omega arith
+-- the digits of a number, if there is one
+abbrev numeral_of : Option ℕ → List ℕ
+numeral_of None = []
+numeral_of (Some n) = decimal n
 
 -- the spellings of the numbers from least to most, with a byte that ends them
 abbrev pub IsNumber : ℕ → ℕ → ℕ → Spelling ℕ
-IsNumber least most end n text = (least ≤ n) × (n ≤ most) × (text ≡ decimal n ++ end ∷ [])
+IsNumber least most end n text = ((least ≤ n) × (n ≤ most)) × (text ≡ decimal n ++ end ∷ [])
 
--- where a byte ends no number
-pub not_ended : (least most end b : ℕ) (text : List ℕ) (number : Option ℕ) → ForSome number (λ _. b ≢ end)
-    → numeral_on least most end number (b ∷ text) ≡ or_else (longer least most number b)
-    (λ n. numeral_on least most end (Some n) text) (Err (b ∷ text))
-unfolding numeral_on
-not_ended least most end b text None other = elim (cases_eq b end) [
-  | inl same ↦ rw (eq-eqb b end same) refl
-  | inr apart ↦ rw (ne_eqb b end apart) refl
-]
-not_ended least most end b text (Some n) other = rw (ne_eqb b end (other n refl)) refl
+cases_Option : (o : Option ℕ) → (o ≡ None) ⊎ ((n : ℕ) × (o ≡ Some n))
+cases_Option None = inl refl
+cases_Option (Some n) = inr (n, refl)
 
-module _ (least most end : ℕ) (no_digit : 10 ≤ digit_value end) where
-  -- a numeral of which a front was read
-  reads_rest : (more rest : List ℕ) (n : ℕ) (number : Option ℕ) → IsWithin least most number → least ≤ n → n ≤ most
-      → decimal n ≡ numeral_of number ++ more
-      → numeral_on least most end number (more ++ end ∷ rest) ≡ Ok (n, rest)
-  unfolding numeral_on
-  reads_rest [] rest n None h low high e =
-      let top = h.high in
-      let some = decimal_nonempty n (omega arith) in
-      absurd (omega (arith, ap length e))
-  reads_rest [] rest n (Some m) h low high e =
-      let top = h.high in
-      let few = (h.in_range m refl).1 in
-      let same = decimal_injective n m (omega arith) (omega arith) (rw append-nil at e) in
-      rw (eq-eqb end end refl, same) refl
-  reads_rest (b ∷ more) rest n number h low high e =
-      let top = h.high in
-      let other : b ≢ end = λ same.
-      lacks_end (decimal n) (numeral_of number) end more (decimal_lacks end n no_digit (omega arith)) (rw same at e) in
-      elim (longer_or_ends least most b number h) [
-        | inr w ↦ absurd (w.1 n more low high e)
-        | inl (m, (is, within, spelled)) ↦
-            let behind = reads_rest more rest n (Some m) within low high (rw (spelled, append_assoc) e) in
-            rw (not_ended least most end b (more ++ end ∷ rest) number (λ _ _. other), is) behind
-      ]
+module _ (least most end : ℕ) (low : least ≤ 1) (some : least ≤ most) (high : most < 10 ^ 18)
+    (no_digit : end < 48) where
+  abbrev IsWithin : ℕ → Type 0
+  IsWithin n = (least ≤ n) × (n ≤ most)
 
-  abbrev NumberVerdict : List ℕ → Type 0
-  NumberVerdict text = Verdict (IsNumber least most end) (numeral_at least most end) text
+  within_is : (number : Option ℕ) (m : ℕ) → if_within least most number ≡ Some m → (number ≡ Some m) × IsWithin m
+  within_is None m e = absurd (cc)
+  within_is (Some n) m e = grind (arith, nat_tests)
 
-  abbrev IsFront : Option ℕ → Type 0
-  IsFront number = (other : List ℕ) → numeral_at least most end (numeral_of number ++ other)
-      ≡ numeral_on least most end number other
+  digit_is : (number : Option ℕ) (b m : ℕ) → with_digit number b ≡ Some m
+      → (48 ≤ b) × ((b ≤ 57) × (with_value number (b - 48) ≡ Some m))
+  unfolding with_digit
+  digit_is number b m e = grind (arith, nat_tests)
 
-  completed : (number : Option ℕ) → IsWithin least most number
-      → (n : ℕ) × ((more : List ℕ) × IsNumber least most end n (numeral_of number ++ more))
-  completed None h = (least, (decimal least ++ end ∷ [], (omega arith, h.some, refl)))
-  completed (Some n) h = let (low, high) = h.in_range n refl in (n, (end ∷ [], (low, high, refl)))
-
-  stuck_here : (number : Option ℕ) (after : List ℕ) → IsWithin least most number → IsFront number
-      → ((other : List ℕ) → numeral_on least most end number (with_tail after other) ≡ Err (with_tail after other))
-      → NumberVerdict (numeral_of number ++ after)
-  stuck_here number after h on stops =
-      let (n, (more, spelled)) = completed number h in
-      stuck n (numeral_of number) more after spelled refl (λ other. on (with_tail after other) ∙ stops other)
-
-  -- the text from a front of a numeral on
-  number_verdict : (after : List ℕ) (number : Option ℕ) → IsWithin least most number → IsFront number
-      → NumberVerdict (numeral_of number ++ after)
-  unfolding numeral_on
-  number_verdict [] number h on = stuck_here number [] h on (λ other. refl)
-  number_verdict (b ∷ after) number h on =
-      by_byte number (cases_eq b end) h on (λ m. number_verdict after (Some m)) (longer_or_ends least most b number h)
+  -- a number that goes on by a byte is spelled so
+  goes_on : (number : Option ℕ) (b m : ℕ) → IfSome number IsWithin → longer least most number b ≡ Some m
+      → (48 ≤ b) × (IsWithin m × (decimal m ≡ numeral_of number ++ b ∷ []))
+  unfolding longer
+  goes_on number b m h e =
+      let (is, within) = within_is (with_digit number b) m e in
+      let (digit, (few, value)) = digit_is number b m is in
+      (digit, (within, of number h digit few value))
     where
-      on_by : (read : Option ℕ) → IsWithin least most read → IsFront read → ForSome read (λ _. b ≢ end)
-          → ((m : ℕ) → IsWithin least most (Some m) → IsFront (Some m) → NumberVerdict (decimal m ++ after))
-          → LongerOrEnds least most b read → NumberVerdict (numeral_of read ++ b ∷ after)
-      on_by read k front other next (inl (m, (is, within, spelled))) =
-          rw (spelled, append_assoc) at (next m within (λ text.
-          rw (spelled, append_assoc) (front (b ∷ text) ∙ rw (not_ended least most end b text read other, is) refl)))
-      on_by read k front other next (inr w) =
-          stuck_here read (b ∷ after) k front (λ text. rw (not_ended least most end b text read other, w.0) refl)
+      of : (from : Option ℕ) → IfSome from IsWithin → 48 ≤ b → b ≤ 57 → with_value from (b - 48) ≡ Some m
+          → decimal m ≡ numeral_of from ++ b ∷ []
+      of None h digit few e =
+          let is : m ≡ b - 48 = cc in
+          let byte : 48 + (b - 48) ≡ b = omega arith in rw is (rw byte at (decimal_digit (b - 48) (omega arith)))
+      of (Some zero) h digit few e = absurd (cc)
+      of (Some (suc n)) h digit few e =
+          let is : m ≡ suc n * 10 + (b - 48) = cc in
+          let front : m / 10 ≡ suc n = omega arith in
+          let last : 48 + m % 10 ≡ b = omega arith in
+          let top = h.1 in
+          rw (front, last) at (decimal_step_wide m (omega arith) (omega arith))
 
-      by_byte : (read : Option ℕ) → (b ≡ end) ⊎ (b ≢ end) → IsWithin least most read → IsFront read
-          → ((m : ℕ) → IsWithin least most (Some m) → IsFront (Some m) → NumberVerdict (decimal m ++ after))
-          → LongerOrEnds least most b read → NumberVerdict (numeral_of read ++ b ∷ after)
-      by_byte None any k front = on_by None k front (λ n is. absurd (cc))
-      by_byte (Some n) (inr other) k front = on_by (Some n) k front (λ m is. other)
-      by_byte (Some n) (inl same) k front = λ next w.
-          let (low, high) = k.in_range n refl in
-          found n (decimal n ++ end ∷ []) after (low, high, refl) (rw (same, append_assoc) refl)
+  -- and is read so
+  more_read : (number : Option ℕ) (b m : ℕ) (text : List ℕ) → 48 ≤ b → longer least most number b ≡ Some m
+      → numeral_on least most end number (b ∷ text) ≡ numeral_on least most end (Some m) text
+  unfolding numeral_on
+  more_read number b m text digit e = rw (ne_eqb b end (omega arith), e) refl
 
-  pub numeral_reads : least ≤ 1 → least ≤ most → most < 10 ^ 18
-      → Reads (IsNumber least most end) (numeral_at least most end)
-  numeral_reads low some high =
-      let start : IsWithin least most None =
-      record { low = low; some = some; high = high; in_range = λ n is. absurd (cc) } in
-      record {
-        some = (least, (decimal least ++ end ∷ [], (omega arith, some, refl)));
-        finds = λ n front rest (least_is, most_is, e).
-            rw (e, append_assoc) (reads_rest (decimal n) rest n None start least_is most_is refl);
-        verdict = λ text. number_verdict text None start (λ other. refl);
-      }
+  first_digit : (n : ℕ) → n < 10 → IsWithin n → longer least most None (48 + n) ≡ Some n
+  unfolding longer with_digit
+  first_digit n small within = grind (arith, nat_tests)
+
+  last_digit : (n digit : ℕ) → 1 ≤ n → digit < 10 → IsWithin (n * 10 + digit)
+      → longer least most (Some n) (48 + digit) ≡ Some (n * 10 + digit)
+  unfolding longer with_digit
+  last_digit zero digit some small within = absurd (omega arith)
+  last_digit (suc n) digit some small within = grind (arith, nat_tests)
+
+  -- the digits of a number are read
+  digits_read : (n : ℕ) → IsWithin n → (other : List ℕ)
+      → numeral_at least most end (decimal n ++ other) ≡ numeral_on least most end (Some n) other
+  digits_read n within = decimal_by_steps_wide (λ m ds. IsWithin m → (other : List ℕ)
+      → numeral_at least most end (ds ++ other) ≡ numeral_on least most end (Some m) other)
+      (λ m small h other. more_read None (48 + m) m other (omega arith) (first_digit m small h))
+      (λ m ds ten front h other.
+      let parts : m / 10 * 10 + m % 10 ≡ m = omega arith in
+      let digit = rw parts at (last_digit (m / 10) (m % 10) (omega arith) (omega arith) (rw parts h)) in
+      rw append_assoc (front (omega arith, omega arith) ((48 + m % 10) ∷ other))
+      ∙ more_read (Some (m / 10)) (48 + m % 10) m other (omega arith) digit)
+      n (omega arith) within
+
+  pub number_read : (n : ℕ) → IsWithin n → (other : List ℕ)
+      → numeral_at least most end (decimal n ++ end ∷ other) ≡ Ok (n, other)
+  unfolding numeral_on
+  number_read n within other = digits_read n within (end ∷ other) ∙ rw (eq-eqb end end refl) refl
+
+  number_found : (n : ℕ) → IsWithin n
+      → Finds (IsNumber least most end) (numeral_at least most end) n (decimal n ++ end ∷ [])
+  number_found n within =
+      record { spelled = (within, refl); read = λ other. rw append_assoc (number_read n within other) }
+
+  stuck_at : (number : Option ℕ) (after : List ℕ) → IfSome number IsWithin
+      → ((other : List ℕ) → numeral_on least most end number (with_tail after other) ≡ Err (with_tail after other))
+      → Verdict (IsNumber least most end) (numeral_at least most end) (numeral_of number ++ after)
+  stuck_at None after h stops =
+      stuck least [] (decimal least ++ end ∷ []) after refl (number_found least (omega arith, some)) stops
+  stuck_at (Some n) after h stops = stuck n (decimal n) (end ∷ []) after refl (number_found n h)
+      (λ other. digits_read n h (with_tail after other) ∙ stops other)
+
+  -- what is read from a front of a numeral on
+  verdict_from : (after : List ℕ) (number : Option ℕ) → IfSome number IsWithin
+      → Verdict (IsNumber least most end) (numeral_at least most end) (numeral_of number ++ after)
+  unfolding numeral_on
+  verdict_from [] number h = stuck_at number [] h (λ other. refl)
+  verdict_from (b ∷ after) number h = elim (cases_Option (ended number b end)) [
+    | inr (n, done) ↦
+        let (is, same) : (number ≡ Some n) × (b ≡ end) = grind (arith, nat_tests) in
+        rw (is, same) (found n (decimal n ++ end ∷ []) after (rw append_assoc refl) (number_found n (rw is at h)))
+    | inl none ↦ elim (cases_Option (longer least most number b)) [
+      | inl stops ↦ stuck_at number (b ∷ after) h (λ other. rw (none, stops) refl)
+      | inr (m, more) ↦
+          let (_, (within, spelled)) = goes_on number b m h more in
+          rw (spelled, append_assoc) at (verdict_from after (Some m) within)
+    ]
+  ]
+
+  pub number_reads : Reads (IsNumber least most end) (numeral_at least most end)
+  number_reads = record {
+    some = (least, (decimal least ++ end ∷ [], number_found least (omega arith, some)));
+    verdict = λ text. verdict_from text None tt;
+  }

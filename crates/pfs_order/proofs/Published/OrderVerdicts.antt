@@ -84,7 +84,7 @@ cut_fault text cut h lt =
     let whole : IsText (front ++ byte ∷ rest) = rw (← drop_more text cut 0 lt, take-append-drop) h in
     let size : length front ≡ cut = length-take-le cut text (omega arith) in
     rw (append-nil front, size) at (fault_where_front_ends IsText front [] (byte ∷ rest, whole)
-    (λ _ short. text_ends front rest byte short whole) (λ b more rest e. absurd (cc)))
+    (λ _ short. text_ends front rest byte (rw append-nil at short) whole))
 
 -- ---- faults of jobs
 
