@@ -1,5 +1,5 @@
 -- What was read of an input, and what its judgement says of the whole.
-use Rattle.std.proofs.Common.{◌≡◌, ◌≢◌, ℕ, ◌+◌, ◌≤◌, List, ◌++◌, length, take, Option, Some, None, refl, ap, subst}
+use Rattle.std.proofs.Common.{◌≡◌, ◌≢◌, ℕ, ◌+◌, ◌≤◌, List, ◌++◌, length, take, Option, Some, None, refl, ap, subst, Bool, true}
 use Rattle.std.proofs.Common.{[], arith, inl, inr}
 use Rattle.std.specs.Prelude.{IfSome, IfOk, IfErr, OnOk, Result, Ok, Err}
 use Rattle.std.specs.Io.KnownBytes.{Consumes, IsAtEnd}
@@ -79,12 +79,12 @@ module _ {old new : Option (List ℕ)} {answer : Result StatedOrder OrderFault} 
       (λ rest _. rw is (omega (arith, length-append bytes rest)))
   says (stopped (bytes, (few, c)) is) = holds_of_known_input old new bytes (Says answer) c (λ rest _. rw is tt)
 
-pub accepted : {old new : Option (List ℕ)} (answer : Result StatedOrder OrderFault) → Told old new answer
+accepted : {old new : Option (List ℕ)} (answer : Result StatedOrder OrderFault) → Told old new answer
     → IfOk answer (λ file. IfSome old (λ input. IsOrderFile input file))
 accepted (Ok file) told = says told
 accepted (Err fault) told = tt
 
-pub refused : {old new : Option (List ℕ)} (answer : Result StatedOrder OrderFault) → Told old new answer
+refused : {old new : Option (List ℕ)} (answer : Result StatedOrder OrderFault) → Told old new answer
     → IfErr answer (λ fault. IfSome old (λ input. RefusesUnlessFailed input fault))
 refused (Ok file) told = tt
 refused (Err fault) told = says told
@@ -99,15 +99,7 @@ one_answer input (Err Memory) right h k = inr (inr refl)
 one_answer input (Err fault) (Ok file) h k = absurd (not_both input file fault k h)
 one_answer input (Err fault) (Err other) h k = inl (ap Err (one_refusal input fault other h k))
 
-pub accepts : {old new : Option (List ℕ)} (answer : Result StatedOrder OrderFault) → Told old new answer
-    → IfSome old (λ input. (file : StatedOrder) → IsOrderFile input file → IsUnlessFailed answer (Ok file))
-accepts {old} answer told = IfSome_then old (says told) (λ input h file. one_answer input answer (Ok file) h)
-
-pub refuses : {old new : Option (List ℕ)} (answer : Result StatedOrder OrderFault) → Told old new answer
-    → IfSome old (λ input. (fault : OrderFault) → RefusesOrder input fault → IsUnlessFailed answer (Err fault))
-refuses {old} answer told = IfSome_then old (says told) (λ input h fault. one_answer input answer (Err fault) h)
-
-pub ended : {old new : Option (List ℕ)} (answer : Result StatedOrder OrderFault) → Told old new answer
+ended : {old new : Option (List ℕ)} (answer : Result StatedOrder OrderFault) → Told old new answer
     → OnOk answer (IsAtEnd new)
 ended (Ok file) (whole bytes c end few j) = end
 ended (Ok file) (long bytes c size is) = absurd (cc)
@@ -115,7 +107,7 @@ ended (Ok file) (stopped f is) = absurd (cc)
 ended (Err fault) told = tt
 
 -- how far it was read
-pub reads : {old new : Option (List ℕ)} (answer : Result StatedOrder OrderFault) → Told old new answer
+reads : {old new : Option (List ℕ)} (answer : Result StatedOrder OrderFault) → Told old new answer
     → IfSome old (λ input. ReadsOrderAsFar input new (result_err answer))
 reads {old} {new} answer (stopped (front, (few, c)) is) =
     holds_of_known_input old new front (λ input. ReadsOrderAsFar input new (result_err answer)) c (λ rest left. record {
@@ -176,3 +168,27 @@ never_read bytes (Ok file) few j is = absurd (cc)
 never_read bytes (Err fault) few (inl (memory, h)) is = absurd (cc)
 never_read bytes (Err Read) few (inr e) is = subst (Verdict bytes) e (text_verdict bytes few)
 never_read bytes (Err fault) few (inr e) is = absurd (cc)
+
+-- the clauses of read_order, where a failed read is told just where the device has failed
+pub owed : {old new : Option (List ℕ)} {broken : Bool} (answer : Result StatedOrder OrderFault) → Told old new answer
+    → (answer ≡ Err Read → broken ≡ true) → (broken ≡ true → answer ≡ Err Read) → record {
+      accepted : IfOk answer (λ file. IfSome old (λ input. IsOrderFile input file));
+      refused : IfErr answer (λ fault. IfSome old (λ input. RefusesUnlessFailed input fault));
+      accepts : IfSome old (λ input. (file : StatedOrder) → IsOrderFile input file → IsUnlessFailed answer (Ok file));
+      refuses : IfSome old (λ input. (fault : OrderFault) → RefusesOrder input fault
+          → IsUnlessFailed answer (Err fault));
+      ended : OnOk answer (IsAtEnd new);
+      reads : IfSome old (λ input. ReadsOrderAsFar input new (result_err answer));
+      failed : answer ≡ Err Read → broken ≡ true;
+      working : broken ≡ true → answer ≡ Err Read;
+    }
+owed {old} answer told failed working = record {
+  accepted = accepted answer told;
+  refused = refused answer told;
+  accepts = IfSome_then old (says told) (λ input h file. one_answer input answer (Ok file) h);
+  refuses = IfSome_then old (says told) (λ input h fault. one_answer input answer (Err fault) h);
+  ended = ended answer told;
+  reads = reads answer told;
+  failed = failed;
+  working = working;
+}

@@ -1,7 +1,7 @@
 -- The jobs of a text, taken one behind the other, are an order, or one is the first wrong one.
 use Rattle.std.proofs.Common.{◌≡◌, ℕ, ◌+◌, ◌-◌, ◌<◌, ◌≤◌, ◌⊎◌, inl, inr, List, [], ◌∷◌, ◌++◌, length, take, map, get_or}
 use Rattle.std.proofs.Common.{Contains, refl, sym, ◌∙◌, ap, arith, eqb, false, drop}
-use Rattle.std.specs.Prelude.{Result, Ok, Err}
+use Rattle.std.specs.Prelude.{Result, Ok, Err, nat_lt, ◌||◌}
 use Rattle.std.specs.Cmp.{nat_eq_equiv}
 use Rattle.std.specs.List.{list_any}
 use Rattle.std.proofs.lemmas.Bool.{cases_lt, cases_Bool, eq-eqb, eqb-true, lt-ltb, le-ltb, false_from_ne_true}
@@ -10,6 +10,7 @@ use Rattle.std.proofs.lemmas.List.{get_or-map, get_or-take}
 use Rattle.std.proofs.lemmas.List.{get_or_append_left, map-append, append_assoc, take_at}
 use Rattle.std.proofs.Math.Seq.{get_or-append_seam}
 use Rattle.std.proofs.lemmas.List.Elements.{All-get_or}
+use Rattle.std.proofs.lemmas.Bool.Decides.{nat_tests}
 use Rattle.std.proofs.lemmas.Map.Keys.{apart_from_distinct}
 use Rattle.std.proofs.lemmas.List.Edits.{insert_end}
 use Rattle.std.proofs.lemmas.Map.Views.{Contains-from_any, list_any-from_Contains}
@@ -29,20 +30,14 @@ IsNumber seq number = (1 ≤ number) × (number ≤ seq.size)
 module _ (seq : Sequence) (number : ℕ) where
   pub out_of_range : ¬ IsNumber seq number → take_job seq number ≡ Err (JobRange (length seq.jobs + 1))
   unfolding take_job
-  out_of_range out = elim (cases_lt number 1) [
-    | inl low ↦ rw (lt-ltb number 1 low) refl
-    | inr some ↦ elim (cases_lt seq.size number) [
-      | inl high ↦ rw (le-ltb number 1 some, lt-ltb seq.size number high) refl
-      | inr few ↦ absurd (out (some, few))
-    ]
-  ]
+  out_of_range out = grind (arith, nat_tests)
 
   pub repeated : IsNumber seq number → Contains seq.jobs (number - 1)
       → take_job seq number ≡ Err (Repeated (length seq.jobs + 1))
   unfolding take_job
   repeated (some, few) among =
       let found = list_any-from_Contains nat_eq_equiv (number - 1) seq.jobs among in
-      rw (le-ltb number 1 some, le-ltb seq.size number few, found) refl
+      grind (arith, nat_tests)
 
   pub taken : IsNumber seq number → ¬ Contains seq.jobs (number - 1)
       → take_job seq number ≡ Ok (with_job seq (number - 1))
@@ -50,35 +45,28 @@ module _ (seq : Sequence) (number : ℕ) where
   taken (some, few) absent =
       let none : list_any (eqb (number - 1)) seq.jobs ≡ false =
       false_from_ne_true _ (λ found. absent (Contains-from_any eqb-true (number - 1) seq.jobs found)) in
-      rw (le-ltb number 1 some, le-ltb seq.size number few, none) refl
+      grind (arith, nat_tests)
 
   number_cases : (¬ IsNumber seq number) ⊎ ((IsNumber seq number × Contains seq.jobs (number - 1))
       ⊎ (IsNumber seq number × ¬ Contains seq.jobs (number - 1)))
-  number_cases = elim (cases_lt number 1) [
-    | inl low ↦ inl (λ (some, few). absurd (omega arith))
-    | inr some ↦ elim (cases_lt seq.size number) [
-      | inl high ↦ inl (λ (_, few). absurd (omega arith))
-      | inr few ↦ elim (cases_Bool (list_any (eqb (number - 1)) seq.jobs)) [
-        | inl found ↦ inr (inl ((some, few), Contains-from_any eqb-true (number - 1) seq.jobs found))
-        | inr none ↦ inr (inr (
-          (some, few),
-          λ among.
-              let found = list_any-from_Contains nat_eq_equiv (number - 1) seq.jobs among in absurd (cc),
-        ))
-      ]
-    ]
+  number_cases = elim (cases_Bool (nat_lt number 1 || nat_lt seq.size number)) [
+    | inl out ↦ inl (λ within. grind (arith, nat_tests))
+    | inr among ↦
+        let within : IsNumber seq number = grind (arith, nat_tests) in
+        elim (cases_Bool (list_any (eqb (number - 1)) seq.jobs)) [
+          | inl found ↦ inr (inl (within, Contains-from_any eqb-true (number - 1) seq.jobs found))
+          | inr none ↦ inr (inr (
+            within,
+            λ there.
+                let found = list_any-from_Contains nat_eq_equiv (number - 1) seq.jobs there in absurd (cc),
+          ))
+        ]
   ]
 
 pub taken_size : (seq new : Sequence) (number : ℕ) → take_job seq number ≡ Ok new
     → (new.size ≡ seq.size) × (length new.jobs ≡ length seq.jobs + 1)
-taken_size seq new number e = elim (number_cases seq number) [
-  | inl out ↦ (let no = sym (out_of_range seq number out) ∙ e in absurd (cc))
-  | inr (inl w) ↦ (let no = sym (repeated seq number w.0 w.1) ∙ e in absurd (cc))
-  | inr (inr w) ↦
-      let yes = sym (taken seq number w.0 w.1) ∙ e in
-      let is : new ≡ with_job seq (number - 1) = cc in
-      rw is (refl, length-append seq.jobs ((number - 1) ∷ []))
-]
+unfolding take_job
+taken_size seq new number e = grind (arith, nat_tests, length-append)
 
 pub ruleset add_steps = (out_of_range, repeated, taken, insert_end)
 

@@ -28,36 +28,17 @@ module _ (least most end : ℕ) (low : least ≤ 1) (some : least ≤ most) (hig
   abbrev IsWithin : ℕ → Type 0
   IsWithin n = (least ≤ n) × (n ≤ most)
 
-  within_is : (number : Option ℕ) (m : ℕ) → if_within least most number ≡ Some m → (number ≡ Some m) × IsWithin m
-  within_is None m e = absurd (cc)
-  within_is (Some n) m e = grind (arith, nat_tests)
-
-  digit_is : (number : Option ℕ) (b m : ℕ) → with_digit number b ≡ Some m
-      → (48 ≤ b) × ((b ≤ 57) × (with_value number (b - 48) ≡ Some m))
-  unfolding with_digit
-  digit_is number b m e = grind (arith, nat_tests)
-
   -- a number that goes on by a byte is spelled so
   goes_on : (number : Option ℕ) (b m : ℕ) → IfSome number IsWithin → longer least most number b ≡ Some m
-      → (48 ≤ b) × (IsWithin m × (decimal m ≡ numeral_of number ++ b ∷ []))
-  unfolding longer
-  goes_on number b m h e =
-      let (is, within) = within_is (with_digit number b) m e in
-      let (digit, (few, value)) = digit_is number b m is in
-      (digit, (within, of number h digit few value))
-    where
-      of : (from : Option ℕ) → IfSome from IsWithin → 48 ≤ b → b ≤ 57 → with_value from (b - 48) ≡ Some m
-          → decimal m ≡ numeral_of from ++ b ∷ []
-      of None h digit few e =
-          let is : m ≡ b - 48 = cc in
-          let byte : 48 + (b - 48) ≡ b = omega arith in rw is (rw byte at (decimal_digit (b - 48) (omega arith)))
-      of (Some zero) h digit few e = absurd (cc)
-      of (Some (suc n)) h digit few e =
-          let is : m ≡ suc n * 10 + (b - 48) = cc in
-          let front : m / 10 ≡ suc n = omega arith in
-          let last : 48 + m % 10 ≡ b = omega arith in
-          let top = h.1 in
-          rw (front, last) at (decimal_step_wide m (omega arith) (omega arith))
+      → IsWithin m × (decimal m ≡ numeral_of number ++ b ∷ [])
+  unfolding longer with_digit
+  goes_on None b m h e =
+      let (within, byte, small) : IsWithin m × (48 + m ≡ b) × (m < 10) = grind (arith, nat_tests) in
+      (within, rw byte at (decimal_digit m small))
+  goes_on (Some zero) b m h e = absurd (grind (arith, nat_tests))
+  goes_on (Some (suc n)) b m h e =
+      let (within, front, last) : IsWithin m × (m / 10 ≡ suc n) × (48 + m % 10 ≡ b) = grind (arith, nat_tests) in
+      (within, rw (front, last) at (decimal_step_wide m (omega (arith, front)) (omega (arith, within.1))))
 
   -- and is read so
   more_read : (number : Option ℕ) (b m : ℕ) (text : List ℕ) → 48 ≤ b → longer least most number b ≡ Some m
@@ -118,7 +99,7 @@ module _ (least most end : ℕ) (low : least ≤ 1) (some : least ≤ most) (hig
     | inl none ↦ elim (cases_Option (longer least most number b)) [
       | inl stops ↦ stuck_at number (b ∷ after) h (λ other. rw (none, stops) refl)
       | inr (m, more) ↦
-          let (_, (within, spelled)) = goes_on number b m h more in
+          let (within, spelled) = goes_on number b m h more in
           rw (spelled, append_assoc) at (verdict_from after (Some m) within)
     ]
   ]

@@ -4,6 +4,7 @@ ghost use Rattle.pfs_order.specs.OrderLaws.{CutText, LongerText, TextOrFault, So
 ghost use Rattle.pfs_order.specs.OrderLaws.{VersionOneIsRead};
 
 /// What is written of an order and a makespan is their order file.
+#[tactic(auto, using(crate::proofs::Published::OrderVerdicts::written_file))]
 pub fn written_is_read()
     ensures { WrittenIsRead }
 {}
@@ -14,21 +15,25 @@ pub fn only_written()
 {}
 
 /// An input is the order file of at most one order and one makespan, and states the machines or doesn't.
+#[tactic(auto, using(crate::proofs::Published::OrderVerdicts::one_file))]
 pub fn one_order_file()
     ensures { OneOrderFile }
 {}
 
 /// An input is refused in at most one way.
+#[tactic(auto, using(crate::proofs::Published::OrderVerdicts::one_refusal))]
 pub fn one_refusal()
     ensures { OneRefusal }
 {}
 
 /// No order file is refused.
+#[tactic(auto, using(crate::proofs::Published::OrderVerdicts::not_both))]
 pub fn none_is_both()
     ensures { NoneIsBoth }
 {}
 
 /// Every text of the grammar is within the limit, so that its length never decides.
+#[tactic(auto, using(crate::proofs::Published::OrderVerdicts::text_fits))]
 pub fn texts_fit()
     ensures { TextsFit }
 {}

@@ -6,8 +6,7 @@ use Rattle.std.proofs.lemmas.Result.{err_from_is_err_and}
 use Rattle.pfs_base.specs.declared.limits.TheConstants.{LONGEST_ORDER_FILE}
 use Rattle.pfs_order.specs.declared.reading.TheConstants.{ROOM}
 use Rattle.pfs_order.specs.declared.fault.OrderFault.TheVariants.{TooLong, Read}
-use Rattle.pfs_order.proofs.InputLemmas.{Told, whole, long, stopped, accepted, refused, accepts, refuses, ended, reads}
-use Rattle.pfs_order.proofs.InputLemmas.{never_read}
+use Rattle.pfs_order.proofs.InputLemmas.{Told, whole, long, stopped, owed, never_read}
 use Rattle.pfs_order.proofs.reading.read_order.Goals as goal
 
 pub returns-in_err-filled : goal.returns-in_err-filled
@@ -16,16 +15,7 @@ returns-in_err-filled g c =
     let is : c.from_residual.result ≡ Err Read = rw (p.1, p.2, c.in_err-filled.ensures.fault) refl in
     let told : Told (g.R.Source.left c.args.reader.now) (g.R.Source.left c.fill.new.reader) c.from_residual.result =
     stopped (rw c.fill.auto.buffer at c.in_err-filled.ensures.stopped) is in
-    record {
-      accepted = accepted _ told;
-      refused = refused _ told;
-      accepts = accepts _ told;
-      refuses = refuses _ told;
-      ended = ended _ told;
-      reads = reads _ told;
-      failed = λ _. c.in_err-filled.ensures.failed;
-      working = λ _. is;
-    }
+    owed _ told (λ _. c.in_err-filled.ensures.failed) (λ _. is)
 
 pub returns-then-filled-gt-LONGEST_ORDER_FILE : goal.returns-then-filled-gt-LONGEST_ORDER_FILE
 returns-then-filled-gt-LONGEST_ORDER_FILE g c =
@@ -33,16 +23,8 @@ returns-then-filled-gt-LONGEST_ORDER_FILE g c =
     let all = length-take-le c.in_ok-filled.filled c.fill.new.buffer c.in_ok-filled.ensures.within in
     let told : Told (g.R.Source.left c.args.reader.now) (g.R.Source.left c.fill.new.reader) (Err TooLong) =
     long _ c.in_ok-filled.ensures.bytes (omega (arith, all, c.in_ok-filled.ensures.within)) refl in
-    record {
-      accepted = tt;
-      refused = refused (Err TooLong) told;
-      accepts = accepts (Err TooLong) told;
-      refuses = refuses (Err TooLong) told;
-      ended = tt;
-      reads = reads (Err TooLong) told;
-      failed = λ is. absurd (cc);
-      working = λ failed. absurd (both_ways _ c.in_ok-filled.ensures.working failed);
-    }
+    owed (Err TooLong) told (λ is. absurd (cc))
+    (λ failed. absurd (both_ways _ c.in_ok-filled.ensures.working failed))
 
 pub returns : goal.returns
 returns g c =
@@ -51,13 +33,5 @@ returns g c =
     let few : length (take c.in_ok-filled.filled c.fill.new.buffer) ≤ LONGEST_ORDER_FILE = omega (arith, all) in
     let told : Told (g.R.Source.left c.args.reader.now) (g.R.Source.left c.fill.new.reader) c.parse.result =
     whole _ c.in_ok-filled.ensures.bytes (c.in_ok-filled.ensures.end (omega arith)) few c.parse.ensures in
-    record {
-      accepted = accepted _ told;
-      refused = refused _ told;
-      accepts = accepts _ told;
-      refuses = refuses _ told;
-      ended = ended _ told;
-      reads = reads _ told;
-      failed = λ is. absurd (never_read _ c.parse.result few c.parse.ensures is);
-      working = λ failed. absurd (both_ways _ c.in_ok-filled.ensures.working failed);
-    }
+    owed _ told (λ is. absurd (never_read _ c.parse.result few c.parse.ensures is))
+    (λ failed. absurd (both_ways _ c.in_ok-filled.ensures.working failed))
