@@ -18,7 +18,7 @@ use Rattle.pfs_order.specs.declared.fault.OrderFault.{OrderFault}
 use Rattle.pfs_order.specs.declared.fault.OrderFault.TheVariants.{JobRange, Repeated}
 use Rattle.pfs_order.specs.Sequence.{Sequence, IsSequence}
 use Rattle.pfs_order.specs.OrderFile.{IsRepeated, AreRightBefore, IsJobFault}
-use Rattle.pfs_order.specs.Private.Reading.{take_job, take_jobs, none_of}
+use Rattle.pfs_order.specs.Private.Reading.{on_ok, take_job, take_jobs, none_of}
 use Rattle.pfs_order.proofs.Published.Sequences.{IsSequence-nil, IsSequence-insert}
 
 abbrev pub with_job : Sequence → ℕ → Sequence
@@ -72,23 +72,17 @@ pub ruleset add_steps = (out_of_range, repeated, taken, insert_end)
 
 -- ---- the code's loop
 
-pub taken_next : (numbers : List ℕ) (seq new : Sequence) (i : ℕ) → i < length numbers
-    → take_job seq (get_or numbers i 0) ≡ Ok new
-    → take_jobs (drop i numbers) seq ≡ take_jobs (drop (i + 1) numbers) new
+pub jobs_step : (numbers : List ℕ) (seq : Sequence) (i : ℕ) → i < length numbers → take_jobs (drop i numbers) seq
+    ≡ on_ok (take_jobs (drop (i + 1) numbers)) (take_job seq (get_or numbers i 0))
 unfolding take_jobs
-taken_next numbers seq new i h e = rw (drop_more numbers i 0 h, e) refl
-
-pub refused_next : (numbers : List ℕ) (seq : Sequence) (fault : OrderFault) (i : ℕ) → i < length numbers
-    → take_job seq (get_or numbers i 0) ≡ Err fault → take_jobs (drop i numbers) seq ≡ Err fault
-unfolding take_jobs
-refused_next numbers seq fault i h e = rw (drop_more numbers i 0 h, e) refl
+jobs_step numbers seq i h = rw (drop_more numbers i 0 h) refl
 
 pub taken_all : (numbers : List ℕ) (seq : Sequence) (i : ℕ) → length numbers ≤ i
     → take_jobs (drop i numbers) seq ≡ Ok seq
 unfolding take_jobs
 taken_all numbers seq i h = rw (drop_all i numbers h) refl
 
-pub ruleset order_steps = (taken_size, refused_next, taken_all)
+pub ruleset order_steps = (taken_size, jobs_step, taken_all)
 
 -- ---- the jobs of a sequence as the numbers from 1 on
 
