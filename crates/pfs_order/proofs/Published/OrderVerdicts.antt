@@ -4,7 +4,7 @@ use Rattle.std.proofs.Common.{length, take, drop, map, get_or, refl, sym, ◌∙
 use Rattle.std.proofs.Common.{Some, None}
 use Rattle.std.specs.Fmt.{decimal}
 use Rattle.std.specs.List.{All}
-use Rattle.std.proofs.lemmas.Bool.{cases_order, cases_lt}
+use Rattle.std.proofs.lemmas.Bool.{cases_order, cases_lt, lt-ltb, le-ltb}
 use Rattle.std.proofs.lemmas.Fmt.{length-decimal-le_wide}
 use Rattle.std.proofs.lemmas.List.{append-nil, length-append, length-take-le, take-append-drop, drop_more}
 use Rattle.std.proofs.lemmas.List.Elements.{All-head, All-tail, All-map, All-weaker}
@@ -16,7 +16,7 @@ use Rattle.pfs_base.specs.Text.{spaced, with_line_end, named_number}
 use Rattle.pfs_order.specs.OrderText.{file_text, first_line}
 use Rattle.pfs_order.specs.Sequence.{StatedOrder, IsSequence, IsSize, AreMachines}
 use Rattle.pfs_order.specs.OrderFile.{IsText, IsSyntaxFault, IsJob, IsRepeated, AreRightBefore, IsJobFault}
-use Rattle.std.specs.Prelude.{Result, Ok, Err}
+use Rattle.std.specs.Prelude.{Result, Ok, Err, nat_lt, if◌then◌else◌}
 use Rattle.pfs_order.specs.Sequence.{Sequence}
 use Rattle.pfs_order.specs.Private.Reading.{read_text, on_ok, take_jobs, none_of}
 use Rattle.pfs_order.specs.OrderFile.{HasText, HasJobFault, RefusesOrder, IsOrderFile}
@@ -127,39 +127,37 @@ one_fault_of_jobs : (input : List ℕ) (one other : OrderFault) → HasJobFault 
 one_fault_of_jobs input one other (jobs, (machines, (makespan, (h, f)))) (others, (stated, (number, (k, g)))) =
     one_job_fault jobs one other f (rw (one_text h k).0 g)
 
-text_with_job_fault : (input : List ℕ) (fault : OrderFault) → HasJobFault input fault → IsText input
-text_with_job_fault input fault (jobs, (machines, (makespan, (h, f)))) = (jobs, (machines, (makespan, h)))
-
 -- a text of the grammar is refused for its jobs alone
 refused_jobs : (input : List ℕ) (fault : OrderFault) → IsText input → RefusesOrder input fault → HasJobFault input fault
 refused_jobs input (Syntax p) text h = absurd (h.1.no_text text)
 refused_jobs input (JobRange p) text h = h
 refused_jobs input (Repeated p) text h = h
 refused_jobs input TooLong text h = let fits = text_fits input text in absurd (omega arith)
-refused_jobs input Read text h = absurd h
-refused_jobs input Memory text h = absurd h
+refused_jobs input fault text h = absurd h
 
-one_offset : (input : List ℕ) (p q : ℕ) → IsSyntaxFault input p → IsSyntaxFault input q → p ≡ q
-one_offset input p q h k = omega (arith, k.longest p h.within h.completed, h.longest q k.within k.completed)
+-- another input is refused for its length, or else where it can't be completed
+refused_bytes : (input : List ℕ) (p : ℕ) (fault : OrderFault) → IsSyntaxFault input p → RefusesOrder input fault
+    → fault ≡ (if nat_lt LONGEST_ORDER_FILE (length input) then TooLong else Syntax p)
+refused_bytes input p (Syntax q) f (few, g) =
+    let same : q ≡ p = omega (arith, f.longest q g.within g.completed, g.longest p f.within f.completed) in
+    rw (le-ltb LONGEST_ORDER_FILE (length input) few, same) refl
+refused_bytes input p TooLong f h = rw (lt-ltb LONGEST_ORDER_FILE (length input) h) refl
+refused_bytes input p (JobRange q) f (_, (_, (_, (h, _)))) = absurd (f.no_text (_, (_, (_, h))))
+refused_bytes input p (Repeated q) f (_, (_, (_, (h, _)))) = absurd (f.no_text (_, (_, (_, h))))
+refused_bytes input p fault f h = absurd h
+
+pub text_or_fault : (text : List ℕ) → IsText text ⊎ ((offset : ℕ) × IsSyntaxFault text offset)
+text_or_fault text = elim (text_is_read text) [
+  | read_whole jobs machines makespan h e ↦ inl (jobs, (machines, (makespan, h)))
+  | read_to front rest whole f e ↦ inr (length front, f)
+]
 
 pub one_refusal : (input : List ℕ) (one other : OrderFault) → RefusesOrder input one → RefusesOrder input other
     → one ≡ other
-one_refusal input (JobRange p) other h k =
-    one_fault_of_jobs input (JobRange p) other h (refused_jobs input other (text_with_job_fault input (JobRange p) h) k)
-one_refusal input (Repeated p) other h k =
-    one_fault_of_jobs input (Repeated p) other h (refused_jobs input other (text_with_job_fault input (Repeated p) h) k)
-one_refusal input one (JobRange q) h k =
-    one_fault_of_jobs input one (JobRange q) (refused_jobs input one (text_with_job_fault input (JobRange q) k) h) k
-one_refusal input one (Repeated q) h k =
-    one_fault_of_jobs input one (Repeated q) (refused_jobs input one (text_with_job_fault input (Repeated q) k) h) k
-one_refusal input (Syntax p) (Syntax q) h k = ap Syntax (one_offset input p q h.1 k.1)
-one_refusal input (Syntax p) TooLong h k = let few = h.0 in absurd (omega arith)
-one_refusal input TooLong (Syntax q) h k = let few = k.0 in absurd (omega arith)
-one_refusal input TooLong TooLong h k = refl
-one_refusal input Read other h k = absurd h
-one_refusal input Memory other h k = absurd h
-one_refusal input one Read h k = absurd k
-one_refusal input one Memory h k = absurd k
+one_refusal input one other h k = elim (text_or_fault input) [
+  | inl text ↦ one_fault_of_jobs input one other (refused_jobs input one text h) (refused_jobs input other text k)
+  | inr (p, f) ↦ refused_bytes input p one f h ∙ sym (refused_bytes input p other f k)
+]
 
 -- ---- orders
 
@@ -182,16 +180,13 @@ unnumbered (job ∷ order) = let first : job + 1 - 1 ≡ job = omega arith in le
 abbrev stated_order : List ℕ → Option ℕ → ℕ → StatedOrder
 stated_order order machines makespan = record { order = order; machines = machines; makespan = makespan }
 
-same_stated : (order other : List ℕ) (machines stated : Option ℕ) (makespan number : ℕ) → order ≡ other
-    → machines ≡ stated → makespan ≡ number → stated_order order machines makespan ≡ stated_order other stated number
-same_stated order other machines stated makespan number e f g = cc
-
 pub one_file : (input : List ℕ) (one other : StatedOrder) → IsOrderFile input one → IsOrderFile input other
     → one ≡ other
 one_file input one other h k =
     let (numbers, machines, makespan) = one_text h.has_text k.has_text in
     let order : one.order ≡ other.order = rw (numbers, unnumbered) at (sym (unnumbered one.order)) in
-    same_stated one.order other.order _ _ _ _ order machines makespan
+    let same : stated_order one.order one.machines one.makespan
+        ≡ stated_order other.order other.machines other.makespan = rw (order, machines, makespan) refl in same
 
 pub written_file : (order : List ℕ) (machines : Option ℕ) (makespan : ℕ) → IsSize limits (length order)
     → IsSequence (length order) order → AreMachines machines → makespan < 10 ^ 18
@@ -258,9 +253,3 @@ some_verdict input = elim (cases_lt LONGEST_ORDER_FILE (length input)) [
         → ((file : StatedOrder) × IsOrderFile input file) ⊎ ((fault : OrderFault) × RefusesOrder input fault)
     of (Ok file) h = inl (file, h)
     of (Err fault) h = inr (fault, h)
-
-pub text_or_fault : (text : List ℕ) → IsText text ⊎ ((offset : ℕ) × IsSyntaxFault text offset)
-text_or_fault text = elim (text_is_read text) [
-  | read_whole jobs machines makespan h e ↦ inl (jobs, (machines, (makespan, h)))
-  | read_to front rest whole f e ↦ inr (length front, f)
-]
