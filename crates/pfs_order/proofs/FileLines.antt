@@ -30,13 +30,8 @@ pub lines_fit : (order : List ℕ) (count : ℕ) (machines : Option ℕ) (makesp
     → length (first_line count machines) + length (jobs_line order) + length (makespan_line makespan)
     ≤ LONGEST_ORDER_FILE
 lines_fit order count machines makespan e size sequence stated short =
-    let first : List ℕ = first_line count machines in
     let written = written_file order machines makespan size sequence stated short in
     let is_text : IsText (file_text order machines makespan) = (_, (machines, (makespan, written.has_text))) in
-    omega (
-      arith,
-      text_fits (file_text order machines makespan) is_text,
-      ap length (order_lines order count machines makespan e),
-      length-append (first ++ jobs_line order) (makespan_line makespan),
-      length-append first (jobs_line order),
-    )
+    let fits = text_fits (file_text order machines makespan) is_text in
+    let lines = ap length (order_lines order count machines makespan e) in
+    grind (arith, length-append)

@@ -31,48 +31,27 @@ use Rattle.pfs_order.proofs.JobOrders.{jobs_judged}
 length-decimal : (n : ℕ) → n < 10 ^ 18 → length (decimal n) ≤ 18
 length-decimal n h = length-decimal-le_wide 18 n (lit< tt) h (omega arith)
 
-length-job : (job : ℕ) (jobs : List ℕ) → All IsShort (job ∷ jobs) → length (decimal job) ≤ 9
-length-job job jobs h =
-    let short = All-head IsShort job jobs h in length-decimal-le_wide 9 job (lit< tt) short (omega arith)
-
 length-spaced : (jobs : List ℕ) → All IsShort jobs → length (spaced jobs) ≤ 10 * length jobs
 length-spaced [] h = lit≤ tt
-length-spaced (j ∷ []) h = omega (arith, length-job j [] h)
-length-spaced (j ∷ k ∷ jobs) h =
-    let rest = length-spaced (k ∷ jobs) (All-tail IsShort j (k ∷ jobs) h) in
-    omega (arith, length-job j (k ∷ jobs) h, length-append (decimal j) (32 ∷ spaced (k ∷ jobs)))
+length-spaced (job ∷ []) h = grind (arith, length-decimal-le_wide 9 job (lit< tt), All-head IsShort job [] h)
+length-spaced (job ∷ next ∷ jobs) h =
+    let rest = length-spaced (next ∷ jobs) (All-tail IsShort job (next ∷ jobs) h) in
+    let short = All-head IsShort job (next ∷ jobs) h in
+    grind (arith, length-append, length-decimal-le_wide 9 job (lit< tt))
 
 length-first_line : (count : ℕ) (machines : Option ℕ) → count ≤ MOST_JOBS → AreMachines machines
     → length (first_line count machines) ≤ 60
-length-first_line count None few stated =
-    omega (arith, length-decimal count (omega arith), length-append (codes "order " ++ decimal count) (10 ∷ []))
+length-first_line count None few stated = grind (arith, length-decimal count, length-append)
 length-first_line count (Some m) few stated =
-    let most = stated.1 in
-    let numbers : List ℕ = decimal count ++ 32 ∷ decimal m in
-    omega (
-      arith,
-      length-decimal count (omega arith),
-      length-decimal m (omega arith),
-      length-append (decimal count) (32 ∷ decimal m),
-      length-append (codes "order2 " ++ numbers) (10 ∷ []),
-    )
+    let most = stated.1 in grind (arith, length-decimal count, length-decimal m, length-append)
 
 pub text_fits : (text : List ℕ) → IsText text → length text ≤ LONGEST_ORDER_FILE
 text_fits text (jobs, (machines, (makespan, h))) =
     let few = h.few_jobs in
-    let first : List ℕ = first_line (length jobs) machines in
-    let last : List ℕ = named_number (codes "makespan") makespan in
-    omega (
-      arith,
-      ap length (h.spelled ∙ text_parts jobs machines makespan),
-      length-append first (with_line_end (spaced jobs) ++ last),
-      length-append (with_line_end (spaced jobs)) last,
-      length-append (spaced jobs) (10 ∷ []),
-      length-first_line (length jobs) machines few h.stated_machines,
-      length-spaced jobs h.short_jobs,
-      length-append (codes "makespan " ++ decimal makespan) (10 ∷ []),
-      length-decimal makespan h.short_makespan,
-    )
+    let first = length-first_line (length jobs) machines few h.stated_machines in
+    let line = length-spaced jobs h.short_jobs in
+    let last = length-decimal makespan h.short_makespan in
+    rw (h.spelled, text_parts) (grind (arith, length-append))
 
 -- ---- cut texts
 
