@@ -182,8 +182,16 @@ text_read {text} {jobs} {machines} {makespan} h other =
     let first = first_line_read (length jobs) machines head in
     let is_row = row_is jobs h.some_job in
     let last = makespan_read makespan h.short_makespan other in
-    rw (h.spelled, text_parts, is_row, append_assoc (first_line (length jobs) machines) _ other,
-    append_assoc (row jobs) _ other, first, row_read jobs _ h.short_jobs, last) refl
+    rw (
+      h.spelled,
+      text_parts,
+      is_row,
+      append_assoc (first_line (length jobs) machines) _ other,
+      append_assoc (row jobs) _ other,
+      first,
+      row_read jobs _ h.short_jobs,
+      last,
+    ) refl
 
 text_alone : {text jobs : List ℕ} {machines : Option ℕ} {makespan : ℕ} → HasText text jobs machines makespan
     → lines_at text ≡ Ok ((jobs, machines, makespan), [])

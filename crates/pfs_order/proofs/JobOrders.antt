@@ -1,10 +1,10 @@
 -- The jobs of a text, taken one behind the other, are an order, or one is the first wrong one.
 use Rattle.std.proofs.Common.{◌≡◌, ℕ, ◌+◌, ◌-◌, ◌<◌, ◌≤◌, ◌⊎◌, inl, inr, List, [], ◌∷◌, ◌++◌, length, take, map, get_or}
-use Rattle.std.proofs.Common.{Contains, refl, sym, ◌∙◌, ap, arith, eqb, false, drop}
+use Rattle.std.proofs.Common.{Contains, refl, ◌∙◌, ap, arith, eqb, false, drop}
 use Rattle.std.specs.Prelude.{Result, Ok, Err, nat_lt, ◌||◌}
 use Rattle.std.specs.Cmp.{nat_eq_equiv}
 use Rattle.std.specs.List.{list_any}
-use Rattle.std.proofs.lemmas.Bool.{cases_lt, cases_Bool, eq-eqb, eqb-true, lt-ltb, le-ltb, false_from_ne_true}
+use Rattle.std.proofs.lemmas.Bool.{cases_Bool, eq-eqb, eqb-true, false_from_ne_true}
 use Rattle.std.proofs.lemmas.List.{append-nil, drop_all, drop_more, length-append, length-map, length-take-le}
 use Rattle.std.proofs.lemmas.List.{get_or-map, get_or-take}
 use Rattle.std.proofs.lemmas.List.{get_or_append_left, map-append, append_assoc, take_at}

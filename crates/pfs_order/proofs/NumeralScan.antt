@@ -1,5 +1,5 @@
 -- What is read of a numeral, digit by digit, is the number that it spells.
-use Rattle.std.proofs.Common.{◌≡◌, ℕ, zero, suc, ◌+◌, ◌-◌, ◌*◌, ◌/◌, ◌%◌, ◌<◌, ◌≤◌, ◌^◌, inl, inr, Option, Some, None}
+use Rattle.std.proofs.Common.{◌≡◌, ℕ, zero, suc, ◌+◌, ◌*◌, ◌/◌, ◌%◌, ◌<◌, ◌≤◌, ◌^◌, inl, inr, Option, Some, None}
 use Rattle.std.proofs.Common.{List, [], ◌∷◌, ◌++◌, ◌⊎◌, refl, ◌∙◌, arith}
 use Rattle.std.specs.Prelude.{IfSome, Ok, Err}
 use Rattle.std.specs.Fmt.{decimal}
@@ -7,7 +7,7 @@ use Rattle.std.proofs.lemmas.Bool.{eq-eqb, ne_eqb}
 use Rattle.std.proofs.lemmas.Bool.Decides.{nat_tests}
 use Rattle.std.proofs.lemmas.Fmt.{decimal_digit, decimal_step_wide, decimal_by_steps_wide}
 use Rattle.std.proofs.lemmas.List.{append_assoc}
-use Rattle.pfs_order.specs.Private.Reading.{with_digit, with_value, if_within, longer, ended, numeral_on, numeral_at}
+use Rattle.pfs_order.specs.Private.Reading.{with_digit, longer, ended, numeral_on, numeral_at}
 use Rattle.pfs_order.proofs.Scanning.{Spelling, Verdict, found, stuck, Reads, Finds, with_tail}
 
 -- the digits of a number, if there is one

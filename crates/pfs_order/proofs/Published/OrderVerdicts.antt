@@ -1,6 +1,6 @@
 -- One input, one answer.
 use Rattle.std.proofs.Common.{◌≡◌, ℕ, ◌+◌, ◌-◌, ◌*◌, ◌<◌, ◌≤◌, ◌^◌, ◌⊎◌, inl, inr, List, [], ◌∷◌, ◌++◌}
-use Rattle.std.proofs.Common.{length, take, drop, map, get_or, refl, sym, ◌∙◌, ap, arith, lit≤, lit<, Option, codes}
+use Rattle.std.proofs.Common.{length, take, drop, map, get_or, refl, sym, ◌∙◌, ap, arith, lit≤, lit<, Option}
 use Rattle.std.proofs.Common.{Some, None}
 use Rattle.std.specs.Fmt.{decimal}
 use Rattle.std.specs.List.{All}
@@ -11,8 +11,8 @@ use Rattle.std.proofs.lemmas.List.Elements.{All-head, All-tail, All-map, All-wea
 use Rattle.pfs_base.specs.Limits.{limits}
 use Rattle.pfs_base.specs.declared.limits.TheConstants.{MOST_JOBS, LONGEST_ORDER_FILE}
 use Rattle.pfs_order.specs.declared.fault.OrderFault.{OrderFault}
-use Rattle.pfs_order.specs.declared.fault.OrderFault.TheVariants.{Syntax, JobRange, Repeated, TooLong, Read, Memory}
-use Rattle.pfs_base.specs.Text.{spaced, with_line_end, named_number}
+use Rattle.pfs_order.specs.declared.fault.OrderFault.TheVariants.{Syntax, JobRange, Repeated, TooLong}
+use Rattle.pfs_base.specs.Text.{spaced}
 use Rattle.pfs_order.specs.OrderText.{file_text, first_line}
 use Rattle.pfs_order.specs.Sequence.{StatedOrder, IsSequence, IsSize, AreMachines}
 use Rattle.pfs_order.specs.OrderFile.{IsText, IsSyntaxFault, IsJob, IsRepeated, AreRightBefore, IsJobFault}
@@ -165,7 +165,7 @@ one_file input one other h k =
     let (numbers, machines, makespan) = one_text h.has_text k.has_text in
     let order : one.order ≡ other.order = rw (numbers, unnumbered) at (sym (unnumbered one.order)) in
     let same : stated_order one.order one.machines one.makespan
-        ≡ stated_order other.order other.machines other.makespan = rw (order, machines, makespan) refl in same
+    ≡ stated_order other.order other.machines other.makespan = rw (order, machines, makespan) refl in same
 
 pub written_file : (order : List ℕ) (machines : Option ℕ) (makespan : ℕ) → IsSize limits (length order)
     → IsSequence (length order) order → AreMachines machines → makespan < 10 ^ 18
