@@ -27,6 +27,7 @@ impl Model for Order {
 
 impl Order {
     /// The jobs in the order of their numbers. It fails only where the memory for them is refused.
+    #[tactic(auto, using(crate::proofs::Published::Sequences::all_jobs_steps))]
     pub fn identity(alloc: Global, size: usize) -> Result<Order, OrderFault>
         requires some { 1 ≤ size }
         requires few { size ≤ MOST_JOBS }

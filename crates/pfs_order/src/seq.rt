@@ -49,6 +49,7 @@ impl Seq {
     }
 
     /// Every job is below this number.
+    #[tactic(auto, using(crate::proofs::Published::Sequences::size_limit))]
     pub fn size(&self) -> usize
         ensures value { result ≡ self.now.size }
         ensures accepted { IsSize limits self.now.size }
@@ -59,6 +60,7 @@ impl Seq {
     }
 
     /// How many jobs stand in the sequence.
+    #[tactic(auto, using(crate::proofs::Published::Sequences::size_limit))]
     pub fn len(&self) -> usize
         ensures value { result ≡ length self.now.jobs }
         ensures accepted { IsSize limits self.now.size }
@@ -116,6 +118,7 @@ impl Seq {
     }
 
     /// Takes over the jobs of another sequence, in place of its own.
+    #[tactic(auto, using(crate::proofs::Published::Sequences::size_limit))]
     pub fn copy_from(&mut self, other: &Seq)
         requires { self.old.size ≡ other.now.size }
         ensures { self.new ≡ other.now }

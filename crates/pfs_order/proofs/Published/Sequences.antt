@@ -94,6 +94,8 @@ pub length-le-size : (size : ℕ) (jobs : List ℕ) → IsSequence size jobs →
 length-le-size size jobs h = length-le_from_distinct_below jobs size h.distinct
     (λ job among. All-contains (λ j. j < size) jobs job h.in_range (Contains-from_any eqb-true job jobs among))
 
+pub ruleset size_limit = (length-le-size)
+
 -- and fewer, where a job is absent
 pub length-lt-size : (size job : ℕ) (jobs : List ℕ) → job < size → (Contains jobs job → ⊥) → IsSequence size jobs
     → length jobs < size
@@ -128,6 +130,8 @@ absent-all_jobs n (k, within, at) =
     let small : k < n = omega (arith, length-all_jobs n) in
     let is = get_or-range_with_len 0 n k n small in
     absurd (omega arith)
+
+pub ruleset all_jobs_steps = (length-all_jobs, insert-all_jobs)
 
 -- ---- a job that leaves and comes back
 
