@@ -56,9 +56,9 @@ unfoldable pub use Rattle.pfs_layout.specs.Reader.{block_read}
 pub use Rattle.pfs_layout.specs.Refuse.{RefusesInstance, misfit, size_fault}
 unfoldable pub use Rattle.pfs_layout.specs.Refuse.{accepted, byte_fault, ends_early, fault_of_place, mixed_line}
 unfoldable pub use Rattle.pfs_layout.specs.Refuse.{refusal, wrong_number, wrong_size}
-pub use Rattle.pfs_layout.specs.Size.{Size, is_within_limits, size_of}
+pub use Rattle.pfs_layout.specs.Size.{is_within_limits, size_of}
 pub use Rattle.pfs_layout.specs.Stand.{Block, Now, Stand, after_line, begun, completed, inside, lost, place_of_time}
-pub use Rattle.pfs_layout.specs.Stand.{seeking, standing, times_among, with_line}
+pub use Rattle.pfs_layout.specs.Stand.{seeking, standing, with_line}
 unfoldable pub use Rattle.pfs_layout.specs.Stand.{instance_of, stand, stand_after}
 pub use Rattle.pfs_layout.specs.declared.blocks.Blocks.{Blocks}
 pub use Rattle.pfs_layout.specs.declared.blocks.Phase.{Phase}
@@ -69,4 +69,5 @@ pub use Rattle.pfs_layout.specs.declared.layout.Layout.{Layout}
 pub use Rattle.pfs_layout.specs.declared.layout.Layout.TheVariants.{OrLib, Taillard}
 pub use Rattle.pfs_layout.specs.declared.scan.Line.{Line}
 pub use Rattle.pfs_layout.specs.declared.scan.TheConstants.{CEILING}
+pub use Rattle.pfs_layout.specs.declared.size_line.Size.{Size}
 pub use Rattle.pfs_layout.specs.declared.size_line.SizeLine.{SizeLine}

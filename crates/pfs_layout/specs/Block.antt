@@ -7,7 +7,8 @@ use Rattle.pfs_base.specs.FlowShop.{FlowShop, time_of}
 use Rattle.pfs_base.specs.Lists.{below}
 use Rattle.pfs_layout.specs.declared.layout.Layout.{Layout}
 use Rattle.pfs_layout.specs.declared.layout.Layout.TheVariants.{Taillard, OrLib}
-use Rattle.pfs_layout.specs.Size.{Size}
+use Rattle.pfs_layout.specs.declared.size_line.Size.{Size}
+use Rattle.pfs_layout.specs.Size.{sized}
 
 -- a row of a body: the times of all jobs on a machine, or a job's pairs of machine and time
 unfoldable pub due_row : Layout → FlowShop → ℕ → List ℕ
@@ -26,17 +27,20 @@ due layout shop = flat_map (due_row layout shop) (below (row_count layout shop))
 
 -- the size that the numbers of a size line state, where they are as many as the layout says
 unfoldable pub stated_size : Layout → List ℕ → Option Size
-stated_size Taillard (jobs ∷ machines ∷ seed ∷ upper ∷ lower ∷ []) =
-    Some (record { jobs = jobs; machines = machines; notes = record { seed = seed; upper = upper; lower = lower } })
+stated_size Taillard (jobs ∷ machines ∷ seed ∷ upper ∷ lower ∷ []) = Some (sized jobs machines seed upper lower)
 stated_size Taillard others = None
-stated_size OrLib (jobs ∷ machines ∷ []) =
-    Some (record { jobs = jobs; machines = machines; notes = record { seed = 0; upper = 0; lower = 0 } })
+stated_size OrLib (jobs ∷ machines ∷ []) = Some (sized jobs machines 0 0 0)
 stated_size OrLib others = None
 
 -- how many numbers so many times take
 abbrev pub numbers_for : Layout → ℕ → ℕ
 numbers_for Taillard times = times
 numbers_for OrLib times = 2 * times
+
+-- how many of so many first numbers of a body are times: all of them, or the second of each pair
+abbrev pub times_in : Layout → ℕ → ℕ
+times_in Taillard numbers = numbers
+times_in OrLib numbers = numbers / 2
 
 -- how many numbers are due
 abbrev pub due_count : Layout → Size → ℕ
@@ -48,15 +52,12 @@ pub data Due : Type 0 where
   machine_number : ℕ → Due
   nothing : Due
 
-abbrev pub pair_due : Size → ℕ → Due
-pair_due size place = if place % 2 == 0 then machine_number (place / 2 % size.machines) else any_time
-
 unfoldable pub due_at : Layout → Size → ℕ → Due
 due_at layout size place = if nat_lt place (due_count layout size) then in_order layout else nothing
   where
     in_order : Layout → Due
     in_order Taillard = any_time
-    in_order OrLib = pair_due size place
+    in_order OrLib = if place % 2 == 0 then machine_number (place / 2 % size.machines) else any_time
 
 -- a number is what is due
 abbrev pub is_due : Due → ℕ → Bool

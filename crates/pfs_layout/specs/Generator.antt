@@ -4,7 +4,7 @@ use Rattle.pfs_base.specs.FlowShop.{AreSizes}
 use Rattle.pfs_base.specs.Limits.{limits}
 use Rattle.pfs_base.specs.Problem.{Problem}
 use Rattle.pfs_layout.specs.File.{IsInstance}
-use Rattle.pfs_layout.specs.Size.{problem_of}
+use Rattle.pfs_layout.specs.Size.{problem_of, sized}
 
 abbrev pub prime : ℕ
 prime = 2147483647
@@ -24,8 +24,7 @@ drawn_time seed = 1 + seed * 99 / prime
 -- machine by machine, and within a machine job by job; the first seed itself gives no time
 unfoldable pub generated : ℕ → ℕ → ℕ → Problem
 unfolding seed_after
-generated jobs machines seed = problem_of
-    (record { jobs = jobs; machines = machines; notes = record { seed = seed; upper = 0; lower = 0 } })
+generated jobs machines seed = problem_of (sized jobs machines seed 0 0)
     (λ job machine. drawn_time (seed_after (machine * jobs + job + 1) seed))
 
 -- a seed that is drawn is a seed again

@@ -7,7 +7,8 @@ use Rattle.pfs_base.specs.Problem.{Problem}
 use Rattle.pfs_layout.specs.declared.layout.Layout.{Layout}
 use Rattle.pfs_layout.specs.declared.fault.LayoutFault.{LayoutFault}
 use Rattle.pfs_layout.specs.Lines.{lines, ended_lines, open_line}
-use Rattle.pfs_layout.specs.Size.{Size, size_of}
+use Rattle.pfs_layout.specs.declared.size_line.Size.{Size}
+use Rattle.pfs_layout.specs.Size.{size_of}
 use Rattle.pfs_layout.specs.Block.{due, are_due}
 use Rattle.pfs_layout.specs.File.{IsInstanceFile}
 use Rattle.pfs_layout.specs.Stand.{Block, seeking, stand, instance_of}

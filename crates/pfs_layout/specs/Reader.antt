@@ -1,5 +1,5 @@
 -- What the fields of a reader say of the bytes that it has read.
-use Rattle.std.specs.Prelude.{◌≡◌, ◌≢◌, ◌↔◌, ℕ, ◌+◌, ◌-◌, ◌*◌, ◌/◌, ◌<◌, ◌≤◌, min, Bool, true, false, nat_lt, List, []}
+use Rattle.std.specs.Prelude.{◌≡◌, ◌≢◌, ◌↔◌, ℕ, ◌+◌, ◌-◌, ◌*◌, ◌<◌, ◌≤◌, min, Bool, true, false, nat_lt, List, []}
 use Rattle.std.specs.Prelude.{◌∷◌, ◌++◌, length, take, count_by, slice_index, Option, Some, None, option_map, Result}
 use Rattle.std.specs.Prelude.{Ok, Err, IfOk, IfErr, IsTrue, IsFalse, if◌then◌else◌, ◌==◌, slice_get}
 use Rattle.std.specs.List.{list_any}
@@ -8,7 +8,6 @@ use Rattle.pfs_base.specs.declared.limits.TheConstants.{LONGEST_INPUT}
 use Rattle.pfs_base.specs.Limits.{limits}
 use Rattle.pfs_base.specs.Problem.{Problem}
 use Rattle.pfs_layout.specs.declared.layout.Layout.{Layout}
-use Rattle.pfs_layout.specs.declared.layout.Layout.TheVariants.{Taillard, OrLib}
 use Rattle.pfs_layout.specs.declared.fault.LayoutFault.{LayoutFault}
 use Rattle.pfs_layout.specs.declared.fault.LayoutFault.TheVariants.{Read, Memory}
 use Rattle.pfs_layout.specs.declared.scan.Digits.{Digits}
@@ -24,9 +23,10 @@ use Rattle.pfs_layout.specs.declared.blocks.Progress.{Progress}
 use Rattle.pfs_layout.specs.declared.reader.TheConstants.{PIECE}
 use Rattle.pfs_layout.specs.Bytes.{is_digit, is_word_byte, is_line_end}
 use Rattle.pfs_layout.specs.Lines.{ended_lines, open_line, ended_numbers, last_digits}
-use Rattle.pfs_layout.specs.Size.{Size, is_within_limits}
-use Rattle.pfs_layout.specs.Block.{due_count}
-use Rattle.pfs_layout.specs.Stand.{Block, Now, seeking, inside, lost, Stand, stand, times_among, instance_of}
+use Rattle.pfs_layout.specs.declared.size_line.Size.{Size}
+use Rattle.pfs_layout.specs.Size.{is_within_limits}
+use Rattle.pfs_layout.specs.Block.{due_count, times_in}
+use Rattle.pfs_layout.specs.Stand.{Block, Now, seeking, inside, lost, Stand, stand, instance_of, place_of_time}
 use Rattle.pfs_layout.specs.File.{IsInstanceFile}
 use Rattle.pfs_layout.specs.Refuse.{RefusesInstance, fault_of_place, byte_fault}
 
@@ -66,7 +66,7 @@ block_read layout k text = block_of k (stand layout (ended_lines text)) (ended_n
 -- how many times it has
 abbrev pub time_count : Layout → Option Block → ℕ
 time_count layout None = 0
-time_count layout (Some block) = length (times_among layout block.numbers)
+time_count layout (Some block) = times_in layout (length block.numbers)
 
 -- ---- the fields of a reader that has met no fault
 
@@ -83,12 +83,7 @@ pub record HoldsNumbers (line : SizeLine) (numbers : List ℕ) : Type 0 where
   pub count : line.count ≡ length numbers
   pub values : (i : ℕ) → i < length numbers → i < 5 → slice_index line.values i ≡ min CEILING (slice_index numbers i)
 
--- job and machine are those of the next time, where so many numbers were judged
-abbrev pub IsNextTime : Layout → Body → Type 0
-IsNextTime Taillard body = body.judged ≡ body.machine * body.jobs + body.job
-IsNextTime OrLib body = body.judged / 2 ≡ body.job * body.machines + body.machine
-
--- a block of this size, of which so many numbers were judged
+-- a block of this size, of which so many numbers were judged, and the job and machine of the next time
 pub record FollowsBody (layout : Layout) (size : Size) (count : ℕ) (body : Body) : Type 0 where
   pub jobs : body.jobs ≡ size.jobs
   pub machines : body.machines ≡ size.machines
@@ -97,7 +92,8 @@ pub record FollowsBody (layout : Layout) (size : Size) (count : ℕ) (body : Bod
   pub few : body.judged ≤ body.due
   pub job : body.job < body.jobs
   pub machine : body.machine < body.machines
-  pub place : body.judged < body.due → IsNextTime layout body
+  pub place : body.judged < body.due
+      → times_in layout body.judged ≡ times_in layout (place_of_time layout size body.job body.machine)
 
 -- the next block is sought, behind these ended numbers of the last line, which has a word byte or not
 pub record IsSeeking (has_word : Bool) (r : Blocks) (more : List ℕ) : Type 0 where
@@ -161,21 +157,17 @@ pub record IsReader (r : Fields) : Type 0 where
 
 -- ---- how many times are held
 
--- the size that the wanted block's size line states, once this line has ended
-abbrev pub known_size : Layout → ℕ → List ℕ → Option Size
-known_size layout k text = option_map (λ (block : Block). block.size) (block_read layout k text)
-
--- how many times a block of a known size has, and none of an unknown one
-abbrev pub most_times : Option Size → ℕ
+-- how many times a block has, once its size line has ended
+abbrev pub most_times : Option Block → ℕ
 most_times None = 0
-most_times (Some size) = size.jobs * size.machines
+most_times (Some block) = block.size.jobs * block.size.machines
 
 -- no more times are held than the wanted block has, by a front of the text, and none if no front has its size
 pub record HoldsFew (layout : Layout) (k : ℕ) (text : List ℕ) (held : ℕ) : Type 0 where
   pub front : List ℕ
   pub rest : List ℕ
   pub whole : text ≡ front ++ rest
-  pub few : held ≤ most_times (known_size layout k front)
+  pub few : held ≤ most_times (block_read layout k front)
 
 -- ---- what the calls owe
 

@@ -12,11 +12,12 @@ use Rattle.pfs_layout.specs.declared.fault.LayoutFault.{LayoutFault}
 use Rattle.pfs_layout.specs.declared.fault.LayoutFault.TheVariants.{NoBlock, SizeCount, SizeRange, MixedLine, TimeRange}
 use Rattle.pfs_layout.specs.declared.fault.LayoutFault.TheVariants.{MachineNumber, ExtraNumber, Truncated, TooLong}
 use Rattle.pfs_layout.specs.Bytes.{is_blank, is_line_end}
-use Rattle.pfs_layout.specs.Size.{Size, is_within_limits}
+use Rattle.pfs_layout.specs.declared.size_line.Size.{Size}
+use Rattle.pfs_layout.specs.Size.{is_within_limits}
 use Rattle.pfs_layout.specs.Lines.{lines, ended_lines, open_line, is_mixed, is_number_line, numbers, ended_numbers}
 use Rattle.pfs_layout.specs.Lines.{last_digits}
-use Rattle.pfs_layout.specs.Block.{Due, any_time, machine_number, nothing, stated_size, due_at}
-use Rattle.pfs_layout.specs.Stand.{Block, Now, seeking, inside, lost, stand, times_among, instance_of}
+use Rattle.pfs_layout.specs.Block.{Due, any_time, machine_number, nothing, stated_size, times_in, due_at}
+use Rattle.pfs_layout.specs.Stand.{Block, Now, seeking, inside, lost, stand, instance_of}
 
 -- A place is told by the bytes before it and the byte at it, or None at the end.
 
@@ -69,7 +70,7 @@ wrong_size layout before next = if ends_line before next && is_number_line (open
 -- at the end: a block is begun, or fewer are complete than are wanted
 abbrev pub missing : Layout → ℕ → ℕ → Now → Option LayoutFault
 missing layout k complete seeking = then_some (nat_lt complete k) (NoBlock complete)
-missing layout k complete (inside block) = Some (Truncated (length (times_among layout block.numbers)))
+missing layout k complete (inside block) = Some (Truncated (times_in layout (length block.numbers)))
 missing layout k complete lost = None
 
 unfoldable pub ends_early : Layout → ℕ → List ℕ → Option ℕ → Option LayoutFault

@@ -1,14 +1,14 @@
 -- What a size line states, and the problem of a size with its times.
 use Rattle.std.specs.Prelude.{ℕ, Bool, ◌&&◌, nat_le, map, flat_map}
 use Rattle.pfs_base.specs.declared.limits.TheConstants.{MOST_JOBS, MOST_MACHINES, GREATEST_NOTE}
-use Rattle.pfs_base.specs.declared.notes.Notes.{Notes}
 use Rattle.pfs_base.specs.Lists.{below}
 use Rattle.pfs_base.specs.Problem.{Problem}
+use Rattle.pfs_layout.specs.declared.size_line.Size.{Size}
 
-pub record Size : Type 0 where
-  pub jobs : ℕ
-  pub machines : ℕ
-  pub notes : Notes
+-- the size of these numbers, in the order of Taillard's size lines
+abbrev pub sized : ℕ → ℕ → ℕ → ℕ → ℕ → Size
+sized jobs machines seed upper lower =
+    record { jobs = jobs; machines = machines; notes = record { seed = seed; upper = upper; lower = lower } }
 
 abbrev pub size_of : Problem → Size
 size_of problem = record { jobs = problem.shop.jobs; machines = problem.shop.machines; notes = problem.notes }

@@ -4,7 +4,8 @@ use Rattle.std.specs.Prelude.{if◌then◌else◌}
 use Rattle.pfs_base.specs.Problem.{Problem}
 use Rattle.pfs_layout.specs.declared.layout.Layout.{Layout}
 use Rattle.pfs_layout.specs.declared.layout.Layout.TheVariants.{Taillard, OrLib}
-use Rattle.pfs_layout.specs.Size.{Size, is_within_limits, problem_of}
+use Rattle.pfs_layout.specs.declared.size_line.Size.{Size}
+use Rattle.pfs_layout.specs.Size.{is_within_limits, problem_of}
 use Rattle.pfs_layout.specs.Lines.{is_mixed, is_number_line, numbers}
 use Rattle.pfs_layout.specs.Block.{stated_size, due_count, are_due}
 
@@ -64,17 +65,6 @@ stand_after layout before line = after_line layout before.complete before.now li
 -- where these lines lead from the front of a file
 unfoldable pub stand : Layout → List (List ℕ) → Stand
 stand layout text = fold (stand_after layout) (standing [] seeking) text
-
--- the second of each pair
-abbrev pub seconds : List ℕ → List ℕ
-seconds [] = []
-seconds (first ∷ []) = []
-seconds (first ∷ second ∷ more) = second ∷ seconds more
-
--- the times among the first numbers of a body
-abbrev pub times_among : Layout → List ℕ → List ℕ
-times_among Taillard numbers = numbers
-times_among OrLib numbers = seconds numbers
 
 -- where a time stands among the numbers of a body
 abbrev pub place_of_time : Layout → Size → ℕ → ℕ → ℕ

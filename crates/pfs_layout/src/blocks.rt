@@ -1,11 +1,11 @@
 //! The blocks that a reader has read, and what an event of the last line does to them.
 ghost use Rattle.std.specs.Prelude.{◌≡◌, ◌≢◌, ◌+◌, ◌-◌, ◌*◌, ◌<◌, ◌≤◌, true, false, ◌==◌, ℕ, List, length, replicate};
 ghost use Rattle.std.specs.Prelude.{Some, None, IfOk, IfErr, OnOk, OnErr, IfSome, option_map, is_some, if◌then◌else◌};
-ghost use Rattle.pfs_layout.specs.Size.{is_within_limits};
+ghost use Rattle.pfs_layout.specs.Size.{is_within_limits, problem_of};
 ghost use Rattle.pfs_layout.specs.Private.Step.{refused, is_in_block, CanCount, with_problem_time, stored, counted};
-ghost use Rattle.pfs_layout.specs.Private.Step.{time_judged, machine_judged, body_judged, number_ended, size_given};
-ghost use Rattle.pfs_layout.specs.Private.Step.{empty_problem, no_blocks, block_begun, size_line_ended, block_ended};
-ghost use Rattle.pfs_layout.specs.Private.Step.{line_ended, last_number_ended, mixed_met, blocks_after, is_line_ended};
+ghost use Rattle.pfs_layout.specs.Private.Step.{time_judged, machine_judged, body_judged, number_ended};
+ghost use Rattle.pfs_layout.specs.Private.Step.{no_blocks, block_begun, size_line_ended, block_ended};
+ghost use Rattle.pfs_layout.specs.Private.Step.{line_ended, last_number_ended, mixed_met, blocks_after};
 ghost use Rattle.pfs_layout.specs.Private.Step.{line_ended_in, has_numbers_alone, end_fault, at_end, IsReady, Keeps};
 ghost use Rattle.pfs_layout.specs.Private.Step.{KeepsHeld, LacksMemory};
 ghost use Rattle.pfs_layout.specs.Reader.{is_live as live_test, fields, StandsAfter, IsReader, FeedMeets, progress_of};
@@ -13,7 +13,7 @@ ghost use Rattle.pfs_layout.specs.Private.Take.{TakeMeets};
 
 use crate::body::Body;
 use crate::scan::{Event, Kinds, Line, Number, is_blank};
-use crate::size_line::{SizeLine, Stated};
+use crate::size_line::{Size, SizeLine};
 use crate::{Layout, LayoutFault};
 use pfs_base::{BaseFault, Instance, LONGEST_INPUT, LONGEST_TIME};
 use std::alloc::Global;
@@ -211,11 +211,12 @@ impl Blocks {
     }
 
     // Memory for the block, if it is the wanted one.
-    fn instance_for(&self, alloc: Global, stated: Stated) -> Result<Option<Instance>, BaseFault>
+    #[tactic(auto, using(crate::proofs::Reading::NumberSteps::idle_problem))]
+    fn instance_for(&self, alloc: Global, stated: Size) -> Result<Option<Instance>, BaseFault>
         requires complete { self.now.complete < self.now.wanted }
-        requires within { is_within_limits (size_given stated) ≡ true }
+        requires within { is_within_limits stated ≡ true }
         ensures made { IfOk result (λ instance. instance ≡ (if self.now.complete + 1 == self.now.wanted
-            then Some (empty_problem (size_given stated))
+            then Some (problem_of stated (λ job machine. 0))
             else None)) }
         ensures wanted { OnErr result (self.now.complete + 1 ≡ self.now.wanted) }
         ensures fault { IfErr result (λ fault. fault ≡ BaseFault.Memory) }
@@ -230,11 +231,11 @@ impl Blocks {
     }
 
     // A block of these sizes begins.
-    fn begin_block(&mut self, alloc: Global, stated: Stated)
+    fn begin_block(&mut self, alloc: Global, stated: Size)
         requires complete { self.old.complete < self.old.wanted }
-        requires within { is_within_limits (size_given stated) ≡ true }
+        requires within { is_within_limits stated ≡ true }
         ensures begun { self.new.phase ≢ Phase.Refused LayoutFault.Memory
-            → self.new ≡ block_begun self.old (size_given stated) }
+            → self.new ≡ block_begun self.old stated }
         ensures memory { self.new.phase ≡ Phase.Refused LayoutFault.Memory → self.old.complete + 1 ≡ self.old.wanted }
         ensures kept { KeepsHeld self.old self.new }
     {
@@ -322,7 +323,7 @@ impl Blocks {
         requires ready { IsReady self.old }
         ensures judged { self.new.phase ≢ Phase.Refused LayoutFault.Memory → self.new ≡ blocks_after self.old event }
         ensures memory { self.new.phase ≡ Phase.Refused LayoutFault.Memory
-            → (is_line_ended event ≡ true) × LacksMemory self.old (blocks_after self.old event) }
+            → LacksMemory self.old (blocks_after self.old event) }
         ensures kept { self.new.phase ≡ Phase.Refused LayoutFault.Memory → KeepsHeld self.old self.new }
     {
         match event {

@@ -1,7 +1,8 @@
 //! How far a reader is in the body of a block.
 ghost use Rattle.std.specs.Prelude.{◌≡◌, ◌<◌, ◌≤◌, ◌+◌};
+ghost use Rattle.pfs_layout.specs.Block.{times_in};
 ghost use Rattle.pfs_layout.specs.Private.Step.{HasPlace, body_of, is_machine_due as machine_due_test, next_of};
-ghost use Rattle.pfs_layout.specs.Private.Step.{times_in, after_machine as behind_machine, after_time as behind_time};
+ghost use Rattle.pfs_layout.specs.Private.Step.{after_machine as behind_machine, after_time as behind_time};
 
 use crate::Layout;
 use pfs_base::{MOST_JOBS, MOST_MACHINES};

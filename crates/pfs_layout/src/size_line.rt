@@ -1,8 +1,8 @@
 //! A line that may be a size line.
 ghost use Rattle.std.specs.Prelude.{◌≡◌, ◌≤◌, true, Some, IfOk, IfErr, IsTrue};
-ghost use Rattle.pfs_layout.specs.Size.{is_within_limits};
+ghost use Rattle.pfs_layout.specs.Size.{is_within_limits, sized};
 ghost use Rattle.pfs_layout.specs.Refuse.{size_fault};
-ghost use Rattle.pfs_layout.specs.Private.Step.{no_numbers, with_number, stated_by, size_given, size_from};
+ghost use Rattle.pfs_layout.specs.Private.Step.{no_numbers, with_number, stated_by};
 
 use crate::scan::CEILING;
 use crate::{Layout, LayoutFault};
@@ -19,7 +19,7 @@ pub struct SizeLine {
 
 /// What a size line states.
 #[derive(Clone, Copy)]
-pub struct Stated {
+pub struct Size {
     pub jobs: usize,
     pub machines: usize,
     pub notes: Notes,
@@ -52,9 +52,9 @@ impl SizeLine {
     }
 
     /// What the whole line states: the count of its numbers is judged before their ranges.
-    pub fn stated(self, layout: Layout, line: usize) -> Result<Stated, LayoutFault>
-        ensures stated { IfOk result (λ stated. stated_by layout self ≡ Some (size_given stated)) }
-        ensures within { IfOk result (λ stated. is_within_limits (size_given stated) ≡ true) }
+    pub fn stated(self, layout: Layout, line: usize) -> Result<Size, LayoutFault>
+        ensures stated { IfOk result (λ stated. stated_by layout self ≡ Some stated) }
+        ensures within { IfOk result (λ stated. is_within_limits stated ≡ true) }
         ensures fault { IfErr result (λ fault. size_fault (stated_by layout self) line ≡ Some fault) }
     {
         match layout {
@@ -83,11 +83,11 @@ fn in_range(
     upper: u64,
     lower: u64,
     line: usize,
-) -> Result<Stated, LayoutFault>
-    ensures stated { IfOk result (λ stated. size_given stated ≡ size_from jobs machines seed upper lower) }
-    ensures within { IfOk result (λ stated. is_within_limits (size_given stated) ≡ true) }
+) -> Result<Size, LayoutFault>
+    ensures stated { IfOk result (λ stated. stated ≡ sized jobs machines seed upper lower) }
+    ensures within { IfOk result (λ stated. is_within_limits stated ≡ true) }
     ensures fault { IfErr result (λ fault.
-        size_fault (Some (size_from jobs machines seed upper lower)) line ≡ Some fault) }
+        size_fault (Some (sized jobs machines seed upper lower)) line ≡ Some fault) }
 {
     let fits = 1 <= jobs
         && jobs <= MOST_JOBS as u64
@@ -97,7 +97,7 @@ fn in_range(
         && upper < CEILING
         && lower < CEILING;
     if fits {
-        Ok(Stated {
+        Ok(Size {
             jobs: jobs as usize,
             machines: machines as usize,
             notes: Notes {

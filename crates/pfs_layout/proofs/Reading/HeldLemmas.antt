@@ -1,6 +1,6 @@
 -- No more times are held than the wanted block has.
 use Rattle.pfs_layout.proofs.Words.{◌≡◌, ℕ, ◌≤◌, List, [], ◌∷◌, ◌++◌, length, take, drop, refl, sym, arith, Option}
-use Rattle.pfs_layout.proofs.Words.{Some, None, inl, inr, Result, Ok, Err, option_map, slice_get, All, nat_tests}
+use Rattle.pfs_layout.proofs.Words.{Some, None, inl, inr, Result, Ok, Err, slice_get, All, nat_tests}
 use Rattle.pfs_layout.proofs.Words.{append_assoc, append-nil, take-append-drop, by_push, Layout, LayoutFault, Memory}
 use Rattle.pfs_layout.proofs.Words.{Phase, Progress, ended_lines, ended_numbers, due_count, Block, Now, seeking, inside}
 use Rattle.pfs_layout.proofs.Words.{lost, stand_after, stand, byte_fault, Fields, block_begun_by, block_read}
@@ -11,17 +11,16 @@ use Rattle.pfs_layout.specs.declared.blocks.Phase.TheVariants as phases
 use Rattle.pfs_layout.specs.Reader.{most_times}
 use Rattle.pfs_layout.proofs.Files.GoodLemmas.{GoodNow, stand-push, sound}
 use Rattle.pfs_layout.proofs.Files.DueLemmas.{no_more_than_due}
-use Rattle.pfs_layout.proofs.Reading.NumberSteps.{length-times_among}
 use Rattle.pfs_layout.proofs.Reading.ByteSteps.{refused_memory}
 
 -- ---- a block that isn't longer than it is due
 
 abbrev IsFew : Layout → Option Block → Type 0
-IsFew layout o = time_count layout o ≤ most_times (option_map (λ (block : Block). block.size) o)
+IsFew layout o = time_count layout o ≤ most_times o
 
 few_of : (layout : Layout) (block : Block) → length block.numbers ≤ due_count layout block.size
     → IsFew layout (Some block)
-few_of layout block h = grind (arith, length-times_among)
+few_of layout block h = grind arith
 
 -- ---- complete blocks
 

@@ -5,8 +5,8 @@ use Rattle.pfs_layout.proofs.Words.{option_map, list_any, lt-ltb, le-ltb, eq-eqb
 use Rattle.pfs_layout.proofs.Words.{cases_lt, nat_tests, append-nil, length-append, length_push, slice_get-push, Layout}
 use Rattle.pfs_layout.proofs.Words.{Taillard, OrLib, CEILING, SizeLine, Phase, Blocks, is_digit, is_word_byte, Size}
 use Rattle.pfs_layout.proofs.Words.{is_within_limits, is_mixed, is_number_line, numbers, due_count, stated_size}
-use Rattle.pfs_layout.proofs.Words.{are_due, Block, seeking, inside, stand_after, times_among, standing, completed}
-use Rattle.pfs_layout.proofs.Words.{begun, with_line, size_fault, no_numbers, line_ended, block_of, HoldsNumbers}
+use Rattle.pfs_layout.proofs.Words.{are_due, Block, seeking, inside, stand_after, standing, completed}
+use Rattle.pfs_layout.proofs.Words.{instance_of, begun, with_line, size_fault, no_numbers, line_ended, block_of, HoldsNumbers}
 use Rattle.pfs_layout.proofs.Words.{FollowsBody, FollowsBlocks}
 use Rattle.std.proofs.Math.Nat.{mul-pos}
 use Rattle.std.proofs.lemmas.Bool.{not-true}
@@ -14,7 +14,7 @@ use Rattle.pfs_layout.specs.declared.blocks.Phase.TheVariants as phases
 use Rattle.pfs_layout.specs.Stand.{after_size, after_numbers}
 use Rattle.pfs_layout.specs.Private.Step.{stated_by, body_of, block_begun, size_judged, at_next_line, line_ended_in}
 use Rattle.pfs_layout.proofs.Files.DueLemmas.{size_within}
-use Rattle.pfs_layout.proofs.Reading.NumberSteps.{Outcome, instance_of-none}
+use Rattle.pfs_layout.proofs.Reading.NumberSteps.{Outcome}
 
 -- ---- what a size line states
 
@@ -56,9 +56,6 @@ no_block : (complete : List Block) (wanted : ℕ) (more : List ℕ) → length c
     → block_of wanted (standing complete seeking) more ≡ None
 no_block complete wanted more few = grind (arith, nat_tests)
 
-pub no_times : (layout : Layout) → length (times_among layout []) ≡ 0
-no_times layout = grind arith
-
 body_begun : (layout : Layout) (size : Size) → is_within_limits size ≡ true
     → FollowsBody layout size 0 (body_of layout size.jobs size.machines)
 body_begun layout size within = let w = size_within size within in grind arith
@@ -70,6 +67,7 @@ due_some layout size within = let w = size_within size within in grind (arith, m
 begun_follows : (r : Blocks) (complete : List Block) (size : Size)
     → FollowsBlocks false r (standing complete seeking) [] → r.complete < r.wanted → is_within_limits size ≡ true
     → FollowsBlocks false (block_begun r size) (standing complete (inside (begun size))) []
+unfolding instance_of
 begun_follows r complete size f few within =
     let least : length complete < r.wanted = omega (arith, f.complete) in
     let none = rw (no_block complete r.wanted [] least) at f.held in
@@ -81,8 +79,8 @@ begun_follows r complete size f few within =
         fits = within;
         body = body_begun r.layout size within;
       };
-      instance = rw (f.complete, lt-ltb _ _ least) (grind (arith, instance_of-none));
-      held = rw (none, lt-ltb _ _ least) (grind (arith, no_times));
+      instance = rw (f.complete, lt-ltb _ _ least) (grind arith);
+      held = rw (none, lt-ltb _ _ least) (grind arith);
     }
 
 holds_none : HoldsNumbers no_numbers []

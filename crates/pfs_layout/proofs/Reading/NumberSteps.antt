@@ -1,7 +1,7 @@
 -- A number more: the fault that it has, or what the fields say behind it.
 use Rattle.pfs_layout.proofs.Words.{◌≡◌, ◌≢◌, ℕ, ◌+◌, ◌*◌, ◌%◌, ◌<◌, List, [], ◌∷◌, ◌++◌, length, get_or, refl, sym}
 use Rattle.pfs_layout.proofs.Words.{◌∙◌, arith, common_steps, length-replicate, length-set, same_from_place, mul-add-lt}
-use Rattle.pfs_layout.proofs.Words.{rows, with_time, Layout, Taillard, OrLib, Size, begun, times_among, place_of_time}
+use Rattle.pfs_layout.proofs.Words.{rows, with_time, Layout, OrLib, Size, place_of_time}
 use Rattle.pfs_layout.proofs.Words.{instance_of, ◌≤◌, min, Bool, true, false, ap, Option, Some, None, if◌then◌else◌}
 use Rattle.pfs_layout.proofs.Words.{◌==◌, inl, inr, option_map, cases_Bool, eqb-true, ne_eqb, cases_eq, cases_lt}
 use Rattle.pfs_layout.proofs.Words.{eq-eqb, le-ltb, lt-ltb, nat_tests, length_push, append_assoc, length-append}
@@ -13,11 +13,11 @@ use Rattle.pfs_layout.proofs.Words.{LayoutFault, Blocks, misfit}
 use Rattle.std.proofs.Math.ListN.{set}
 use Rattle.std.proofs.Math.Nat.{mul_comm}
 use Rattle.std.proofs.lemmas.List.{get_or_push, get_or-replicate}
-use Rattle.pfs_layout.specs.Private.Step.{empty_problem, times_in, with_number, next_of, after_time, after_machine}
+use Rattle.pfs_layout.specs.Private.Step.{with_number, next_of, after_time, after_machine}
 use Rattle.pfs_layout.specs.Private.Step.{with_problem_time, counted}
 use Rattle.pfs_layout.proofs.Files.DueLemmas.{stands_at, size_within}
 use Rattle.pfs_layout.proofs.Tables.{table, length-table, table_at, same_table}
-use Rattle.std.specs.Prelude.{is_some}
+use Rattle.std.specs.Prelude.{is_some, replicate}
 use Rattle.pfs_layout.specs.declared.fault.LayoutFault.TheVariants.{ExtraNumber}
 use Rattle.pfs_layout.specs.declared.body.Body.{Body}
 use Rattle.pfs_layout.specs.Block.{nothing}
@@ -63,13 +63,11 @@ module _ (layout : Layout) (size : Size) where
       let same = same_time_place layout size r c job machine p q j m (last ∙ sym at) in other same.0 same.1)) in
       cc
 
-  -- a block of which no number was read
-  pub instance_of-none : instance_of layout (begun size) ≡ empty_problem size
-  unfolding instance_of
-  instance_of-none =
-      let times = same_table (λ r c. 0) size.jobs size.machines _ (length-replicate (size.jobs * size.machines) 0)
-      (λ r c p q. get_or-replicate (size.jobs * size.machines) _ 0 0 (grind (arith, rows))) in
-      cc
+-- times that are all 0
+pub idle_problem : (jobs machines : ℕ) → replicate (jobs * machines) 0 ≡ table (λ job machine. 0) jobs machines
+idle_problem jobs machines =
+    same_table (λ r c. 0) jobs machines _ (length-replicate (jobs * machines) 0)
+    (λ r c p q. get_or-replicate (jobs * machines) _ 0 0 (grind (arith, rows)))
 
 -- the number of a machine changes no time
 pub instance_of-machine : (size : Size) (ns : List ℕ) (v : ℕ) → length ns % 2 ≡ 0
@@ -83,12 +81,6 @@ instance_of-machine size ns v even =
     (λ r c p q. table_at before size.jobs size.machines r c 0 p q
     ∙ sym (index_push_other ns v (place_of_time OrLib size r c) (λ last. omega arith))) in
     cc
-
-pub length-times_among : (layout : Layout) (ns : List ℕ) → length (times_among layout ns) ≡ times_in layout (length ns)
-length-times_among Taillard ns = refl
-length-times_among OrLib [] = refl
-length-times_among OrLib (x ∷ []) = refl
-length-times_among OrLib (x ∷ y ∷ more) = omega (arith, length-times_among OrLib more)
 
 -- ---- a line that may be a size line
 
@@ -130,7 +122,7 @@ module _ {layout : Layout} {size : Size} {count : ℕ} {body : Body} where
 
   pub due_at-machine : IsDue true layout size count body → due_at layout size count ≡ machine_number body.machine
   unfolding due_at
-  due_at-machine due = grind (arith, nat_tests, mod-mul-add, due.follows.place)
+  due_at-machine due = grind (arith, nat_tests, mod-mul-add body.job size.machines body.machine, due.follows.place)
 
   -- behind a time, and behind the number of a machine
   pub time_behind : IsDue false layout size count body → FollowsBody layout size (count + 1) (after_time layout body)
@@ -152,12 +144,12 @@ module _ {wanted : Bool} {layout : Layout} {size : Size} {ns : List ℕ} (v : �
       → Keeping layout wanted (record { size = size; numbers = ns }) instance held
       → Keeping layout wanted (record { size = size; numbers = ns ++ v ∷ [] })
       (option_map (with_problem_time body v) instance) (if is_some instance then held + 1 else held)
-  keeping_time due k = grind (arith, nat_tests, instance_of-time, length-times_among, length_push, due.follows.place)
+  keeping_time due k = grind (arith, nat_tests, instance_of-time, length_push, due.follows.place)
 
   pub keeping_machine : IsDue true layout size (length ns) body
       → Keeping layout wanted (record { size = size; numbers = ns }) instance held
       → Keeping layout wanted (record { size = size; numbers = ns ++ v ∷ [] }) instance held
-  keeping_machine due k = grind (arith, nat_tests, instance_of-machine, length-times_among, length_push)
+  keeping_machine due k = grind (arith, nat_tests, instance_of-machine, length_push)
 
 -- ---- outcomes
 

@@ -21,7 +21,6 @@ use Rattle.pfs_layout.proofs.Published.PlaceLemmas.{refusal_is, refusal_end}
 use Rattle.pfs_layout.proofs.Reading.ReaderSteps.{carries}
 use Rattle.pfs_layout.proofs.Reading.ByteSteps.{refused_memory, live_few, end_byte, judged}
 use Rattle.pfs_layout.proofs.Reading.PieceLemmas.{refused_fault, done_enough}
-use Rattle.pfs_layout.proofs.Reading.NumberSteps.{length-times_among}
 
 -- ---- the end of the input
 
@@ -55,7 +54,7 @@ ends next complete (inside block) tail is f =
     let phase : next.phase ≡ phases.Body = f.now.phase ∙ rw (lt-ltb _ _ less) in
     let count : next.body.judged ≡ length block.numbers = omega arith in
     record {
-      fault = rw (length-times_among next.layout block.numbers, ← count, phase);
+      fault = rw (← count, phase);
       instance = λ none. let some = rw phase at none in absurd (cc);
     }
 ends next complete lost tail is f = absurd f.now

@@ -6,13 +6,13 @@ use Rattle.pfs_layout.proofs.Words.{number_of, event_of, blocks_after, IsReady, 
 use Rattle.pfs_layout.proofs.Words.{StandsAfter, EndsWantedSize, ◌↔◌, Bool, false, drop, sym, ap, subst, add-one, Some}
 use Rattle.pfs_layout.proofs.Words.{None, Ok, Err, Result, append-nil, length-append, take_all, take-append-drop}
 use Rattle.pfs_layout.proofs.Words.{LayoutFault, TooLong, Phase, Now, seeking, inside, lost, byte_fault, refused}
-use Rattle.pfs_layout.proofs.Words.{block_read, FollowsNow, StandsIn, IsReader, FeedMeets}
+use Rattle.pfs_layout.proofs.Words.{block_read, number_ended, FollowsNow, StandsIn, IsReader, FeedMeets}
 use Rattle.pfs_layout.specs.Private.Take.{TakeMeets}
 use Rattle.std.proofs.lemmas.List.{take_more, take-take, length-take-le, get_or-take}
 use Rattle.pfs_layout.specs.declared.scan.Event.{Event}
 use Rattle.pfs_layout.specs.declared.scan.Event.TheVariants as events
 use Rattle.pfs_layout.specs.declared.blocks.Phase.TheVariants as phases
-use Rattle.pfs_layout.specs.Private.Step.{blank_after, word_after, blank_event, is_line_ended, KeepsHeld, LacksMemory}
+use Rattle.pfs_layout.specs.Private.Step.{blank_after, word_after, blank_event, KeepsHeld, LacksMemory}
 use Rattle.pfs_layout.proofs.Files.GoodLemmas.{stand_of, long_fault, sound}
 use Rattle.pfs_layout.proofs.Reading.ReaderSteps.{carries, live_follows, stepped, step_stands, follows_ready}
 use Rattle.pfs_layout.proofs.Reading.ReaderSteps.{wants_more, sought_now, begun_now}
@@ -44,9 +44,10 @@ pub blank_means : {last after : Line} {b : ℕ} {event : Event} → is_blank b �
     → event ≡ blank_event (number_of last.digits) → after ≡ blank_after last → ByteMeans last b event after
 blank_means blank means leads = grind arith
 
--- only a line's end is an event that ends a line
-ends_line_at : (last : Line) (b : ℕ) → is_line_ended (event_of last b) ≡ true → b ≡ 10
-ends_line_at last b e = grind arith
+-- only a line's end begins a block
+ends_line_at : (r : Blocks) (last : Line) (b : ℕ) → LacksMemory r (judged r last b) → b ≡ 10
+unfolding number_ended
+ends_line_at r last b lacks = grind (arith, nat_tests, lacks)
 
 -- ---- the end of the wanted block's size line
 
@@ -126,7 +127,7 @@ module _ {old : Fields} {last after : Line} {r next : Blocks} {event : Event} {p
 
   -- the last event
   pub taken_end : (next.phase ≡ phases.Refused Memory
-      → (is_line_ended event ≡ true) × LacksMemory r (blocks_after r event))
+      → LacksMemory r (blocks_after r event))
       → (next.phase ≡ phases.Refused Memory → KeepsHeld r next)
       → (text : List ℕ) → StandsAfter old text
       → TakeMeets old text piece (after.digits.offset - old.digits.offset) (fields after next)
@@ -150,13 +151,13 @@ module _ {old : Fields} {last after : Line} {r next : Blocks} {event : Event} {p
         | inl refused ↦
             let lacks = rw means.event_is at (wants refused) in
             let kept = keeps refused in
-            let size = wanted_size b f t.live (short t within room text s) (ends_line_at last b lacks.0) lacks.1 in
+            let size = wanted_size b f t.live (short t within room text s) (ends_line_at r last b lacks) lacks in
             record {
               layout = kept.layout ∙ t.layout;
               wanted = kept.wanted ∙ t.wanted;
               stands = λ well. absurd (well refused);
               memory = λ h. (i, within, rw (t.layout, t.wanted) at size);
-              none = λ h. kept.held ∙ none_yet f lacks.1.sought lacks.1.wanted;
+              none = λ h. kept.held ∙ none_yet f lacks.sought lacks.wanted;
               no_more = no_more;
             }
       ])

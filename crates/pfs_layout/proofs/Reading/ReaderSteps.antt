@@ -23,7 +23,7 @@ use Rattle.pfs_layout.proofs.Published.PlaceLemmas.{byte_fault-push}
 use Rattle.pfs_layout.proofs.Files.GoodLemmas.{ended_none, fault_within_limit, place_fault, GoodNow, stand_of, sound}
 use Rattle.pfs_layout.proofs.Files.GoodLemmas.{stand_of-on, stand_of-end, open_line-on, open_line-end}
 use Rattle.pfs_layout.proofs.Files.DueLemmas.{size_within}
-use Rattle.pfs_layout.proofs.Reading.NumberSteps.{length-times_among, Refuses, Outcome, keeping_of}
+use Rattle.pfs_layout.proofs.Reading.NumberSteps.{Refuses, Outcome, keeping_of}
 use Rattle.pfs_layout.proofs.Reading.ByteSteps.{live_few, judged, judged_gap, byte_on, end_byte, live-memory}
 use Rattle.pfs_layout.proofs.Reading.ByteSteps.{keeps_last, last_numbers, line_end_keeps}
 
@@ -220,7 +220,6 @@ can_count {r = r} {text = text} f phase =
     let kept = keeping_of r.blocks complete block more least follows.instance follows.held in
     let all : Block = record { size = block.size; numbers = block.numbers ++ more } in
     let count = length-append block.numbers more in
-    let times = length-times_among r.layout all.numbers in
     let held : r.held ≤ r.body.judged = grind (arith, kept.held, body.judged) in
     let due = due_few r.layout block.size follows.now.fits in
     let sizes = instance_sizes r.layout all in

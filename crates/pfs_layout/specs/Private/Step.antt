@@ -1,8 +1,9 @@
 -- What one byte does to what a reader keeps: what it means behind the last line, and what such an event does to
 -- the blocks. What a reader's fields say of the bytes that it has read stands in `Reader`.
-use Rattle.std.specs.Prelude.{◌≡◌, ◌≢◌, ℕ, ◌+◌, ◌-◌, ◌*◌, ◌/◌, ◌%◌, ◌<◌, ◌≤◌, min, Bool, true, false, not, ◌&&◌, ◌||◌}
+use Rattle.std.specs.Prelude.{◌≡◌, ◌≢◌, ℕ, ◌+◌, ◌-◌, ◌*◌, ◌%◌, ◌<◌, ◌≤◌, min, Bool, true, false, not, ◌&&◌, ◌||◌}
 use Rattle.std.specs.Prelude.{◌==◌, nat_lt, replicate, slice_index, slice_set, Option, Some, None, is_some, option_map}
 use Rattle.std.specs.Prelude.{IfSome, if◌then◌else◌}
+use Rattle.std.specs.Bool.{then_some}
 use Rattle.pfs_base.specs.declared.limits.TheConstants.{LONGEST_TIME, LONGEST_INPUT}
 use Rattle.pfs_base.specs.FlowShop.{with_time}
 use Rattle.pfs_base.specs.Problem.{Problem}
@@ -19,14 +20,14 @@ use Rattle.pfs_layout.specs.declared.scan.Event.{Event}
 use Rattle.pfs_layout.specs.declared.scan.Event.TheVariants as events
 use Rattle.pfs_layout.specs.declared.scan.TheConstants.{CEILING}
 use Rattle.pfs_layout.specs.declared.size_line.SizeLine.{SizeLine}
-use Rattle.pfs_layout.specs.declared.size_line.Stated.{Stated}
+use Rattle.pfs_layout.specs.declared.size_line.Size.{Size}
 use Rattle.pfs_layout.specs.declared.body.Body.{Body}
 use Rattle.pfs_layout.specs.declared.blocks.Phase.{Phase}
 use Rattle.pfs_layout.specs.declared.blocks.Phase.TheVariants as phases
 use Rattle.pfs_layout.specs.declared.blocks.Blocks.{Blocks}
 use Rattle.pfs_layout.specs.Bytes.{is_digit, is_blank, is_line_end}
-use Rattle.pfs_layout.specs.Size.{Size}
-use Rattle.pfs_layout.specs.Block.{numbers_for}
+use Rattle.pfs_layout.specs.Size.{sized, problem_of}
+use Rattle.pfs_layout.specs.Block.{numbers_for, times_in}
 use Rattle.pfs_layout.specs.Refuse.{size_fault}
 use Rattle.pfs_layout.specs.Reader.{is_live}
 
@@ -98,24 +99,12 @@ with_number line value = record {
 abbrev pub no_numbers : SizeLine
 no_numbers = record { count = 0; values = replicate 5 0 }
 
--- the size of these numbers, in the order of Taillard's size lines
-abbrev pub size_from : ℕ → ℕ → ℕ → ℕ → ℕ → Size
-size_from jobs machines seed upper lower =
-    record { jobs = jobs; machines = machines; notes = record { seed = seed; upper = upper; lower = lower } }
-
 -- what the numbers state, where they are as many as the layout says
 abbrev pub stated_by : Layout → SizeLine → Option Size
-stated_by Taillard line = if line.count == 5
-    then Some (size_from (slice_index line.values 0) (slice_index line.values 1) (slice_index line.values 2)
-    (slice_index line.values 3) (slice_index line.values 4))
-    else None
-stated_by OrLib line = if line.count == 2
-    then Some (size_from (slice_index line.values 0) (slice_index line.values 1) 0 0 0)
-    else None
-
--- the size that was given
-abbrev pub size_given : Stated → Size
-size_given stated = record { jobs = stated.jobs; machines = stated.machines; notes = stated.notes }
+stated_by Taillard line = then_some (line.count == 5) (sized (slice_index line.values 0) (slice_index line.values 1)
+    (slice_index line.values 2) (slice_index line.values 3) (slice_index line.values 4))
+stated_by OrLib line =
+    then_some (line.count == 2) (sized (slice_index line.values 0) (slice_index line.values 1) 0 0 0)
 
 -- ---- the body of a block
 
@@ -224,16 +213,9 @@ number_ended_in other r value first = r
 unfoldable pub number_ended : Blocks → ℕ → ℕ → Blocks
 number_ended r value first = number_ended_in r.phase r value first
 
--- a problem of this size whose times are all 0
-abbrev pub empty_problem : Size → Problem
-empty_problem size = record {
-  shop = record { jobs = size.jobs; machines = size.machines; times = replicate (size.jobs * size.machines) 0 };
-  notes = size.notes;
-}
-
 abbrev pub block_begun : Blocks → Size → Blocks
 block_begun r size = record r {
-  instance = if r.complete + 1 == r.wanted then Some (empty_problem size) else None;
+  instance = if r.complete + 1 == r.wanted then Some (problem_of size (λ job machine. 0)) else None;
   body = body_of r.layout size.jobs size.machines;
   phase = phases.Body;
 }
@@ -284,10 +266,6 @@ blocks_after r (events.NumberEnded number) = number_ended r number.value number.
 blocks_after r (events.LineEnded number is_number_line) = line_ended (last_number_ended r number) is_number_line
 blocks_after r (events.Mixed offset) = mixed_met r offset
 
-abbrev pub is_line_ended : Event → Bool
-is_line_ended (events.LineEnded number is_number_line) = true
-is_line_ended other = false
-
 -- what the judgement of a number leaves as it is
 pub record Keeps (old new : Blocks) : Type 0 where
   pub layout : new.layout ≡ old.layout
@@ -297,11 +275,6 @@ pub record Keeps (old new : Blocks) : Type 0 where
   pub sought : new.phase ≡ phases.Seeking → old.phase ≡ phases.Seeking
   pub held : new.phase ≡ phases.Seeking → new.held ≡ old.held
   pub memory : new.phase ≢ phases.Refused Memory
-
--- how many of so many numbers are times
-abbrev pub times_in : Layout → ℕ → ℕ
-times_in Taillard n = n
-times_in OrLib n = n / 2
 
 -- the fault of an input that ends behind a line end, where the wanted block isn't complete
 abbrev pub end_fault_in : Phase → Blocks → Option LayoutFault
