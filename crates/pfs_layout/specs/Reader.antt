@@ -71,12 +71,12 @@ time_count layout (Some block) = times_in layout (length block.numbers)
 -- ---- the fields of a reader that has met no fault
 
 -- the unfinished number, and what the last line holds
-pub record FollowsLine (digits : Digits) (kinds : Kinds) (text : List ℕ) : Type 0 where
-  pub offset : digits.offset ≡ length text
-  pub first : digits.first ≡ length text - length (last_digits text)
-  pub value : digits.value ≡ min CEILING (digits_value 10 (last_digits text))
-  pub has_digit : kinds.has_digit ≡ list_any is_digit (open_line text)
-  pub has_word : kinds.has_word ≡ list_any is_word_byte (open_line text)
+pub record FollowsLine (last : Line) (text : List ℕ) : Type 0 where
+  pub offset : last.digits.offset ≡ length text
+  pub first : last.digits.first ≡ length text - length (last_digits text)
+  pub value : last.digits.value ≡ min CEILING (digits_value 10 (last_digits text))
+  pub has_digit : last.kinds.has_digit ≡ list_any is_digit (open_line text)
+  pub has_word : last.kinds.has_word ≡ list_any is_word_byte (open_line text)
 
 -- the count of these numbers, and the first five of them
 pub record HoldsNumbers (line : SizeLine) (numbers : List ℕ) : Type 0 where
@@ -123,7 +123,7 @@ pub record Follows (r : Fields) (text : List ℕ) : Type 0 where
   pub some : 1 ≤ r.wanted
   pub sound : byte_fault r.layout r.wanted text ≡ None
   pub short : length text ≤ LONGEST_INPUT
-  pub last_line : FollowsLine r.digits r.kinds text
+  pub last_line : FollowsLine r.last text
   pub line : r.line ≡ 1 + count_by is_line_end text
   pub few_numbers : r.size_line.count ≤ length text
   pub five_values : length r.size_line.values ≡ 5

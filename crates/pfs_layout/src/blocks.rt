@@ -4,7 +4,7 @@ ghost use Rattle.std.specs.Prelude.{Some, None, IfOk, IfErr, OnOk, OnErr, IfSome
 ghost use Rattle.pfs_layout.specs.Size.{is_within_limits, problem_of};
 ghost use Rattle.pfs_layout.specs.Private.Step.{refused, is_in_block, CanCount, with_problem_time, stored, counted};
 ghost use Rattle.pfs_layout.specs.Private.Step.{time_judged, machine_judged, body_judged, number_ended};
-ghost use Rattle.pfs_layout.specs.Private.Step.{no_blocks, block_begun, size_line_ended, block_ended};
+ghost use Rattle.pfs_layout.specs.Private.Step.{no_numbers, block_begun, size_line_ended, block_ended};
 ghost use Rattle.pfs_layout.specs.Private.Step.{line_ended, last_number_ended, mixed_met, blocks_after};
 ghost use Rattle.pfs_layout.specs.Private.Step.{line_ended_in, has_numbers_alone, end_fault, at_end, IsReady, Keeps};
 ghost use Rattle.pfs_layout.specs.Private.Step.{KeepsHeld, LacksMemory};
@@ -62,7 +62,10 @@ pub struct Blocks {
 impl Blocks {
     /// Nothing was read, and the block of this number, counted from 1, is wanted.
     pub fn new(layout: Layout, wanted: usize) -> Blocks
-        ensures { result ≡ no_blocks layout wanted }
+        ensures layout { result.layout ≡ layout }
+        ensures wanted { result.wanted ≡ wanted }
+        ensures none { result ≡ record result { complete = 0; line = 1; phase = Phase.Seeking; size_line = no_numbers;
+          instance = None; held = 0 } }
     {
         Blocks {
             layout,

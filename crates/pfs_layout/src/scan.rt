@@ -1,9 +1,10 @@
 //! The last line so far, and what a byte behind it means. Its parts have no padding, so that a step is a
 //! few instructions.
-ghost use Rattle.std.specs.Prelude.{◌≡◌, ◌<◌, ◌≤◌, ◌&&◌, not, true, false};
+ghost use Rattle.std.specs.Prelude.{◌≡◌, ◌<◌, ◌≤◌, ◌&&◌, ◌||◌, ◌==◌, not, true, false, ◌+◌, ◌-◌, ◌*◌, ℕ, [], min};
+ghost use Rattle.std.specs.Prelude.{if◌then◌else◌};
 ghost use Rattle.pfs_layout.specs.Bytes.{is_digit as digit_test, is_blank as blank_test, is_word_byte as word_test};
-ghost use Rattle.pfs_layout.specs.Private.Step.{no_line, digits_after, kinds_after, line_after, blank_after};
-ghost use Rattle.pfs_layout.specs.Private.Step.{word_after, has_numbers_alone, number_of};
+ghost use Rattle.pfs_layout.specs.Reader.{FollowsLine};
+ghost use Rattle.pfs_layout.specs.Private.Step.{Pushes, has_numbers_alone, number_of};
 ghost use Rattle.pfs_layout.specs.Private.Step.{blank_event as blank_event_of, event_of};
 
 use pfs_base::{GREATEST_NOTE, LONGEST_INPUT};
@@ -62,7 +63,9 @@ impl Digits {
     pub fn after(self, b: u8) -> Digits
         requires offset { self.offset < LONGEST_INPUT }
         requires value { self.value ≤ CEILING }
-        ensures { result ≡ digits_after self b }
+        ensures offset { result.offset ≡ self.offset + 1 }
+        ensures first { result.first ≡ (if digit_test b then self.first else self.offset + 1) }
+        ensures value { result.value ≡ (if digit_test b then min CEILING (self.value * 10 + (b - 48)) else 0) }
     {
         let offset = self.offset + 1;
         let digit = is_digit(b);
@@ -97,7 +100,8 @@ impl Kinds {
     /// One byte on.
     #[inline(always)]
     pub fn after(self, b: u8) -> Kinds
-        ensures { result ≡ kinds_after self b }
+        ensures digit { result.has_digit ≡ (digit_test b || (not (b == 10) && self.has_digit)) }
+        ensures word { result.has_word ≡ (not (b == 10) && (self.has_word || not (digit_test b || blank_test b))) }
     {
         let digit = is_digit(b);
         let ends = b == LINE_END;
@@ -149,8 +153,9 @@ pub enum Event {
 
 impl Line {
     /// The first line, of which nothing was read.
+    #[tactic(auto, unfolding(crate::specs::Lines::open_part))]
     pub fn new() -> Line
-        ensures { result ≡ no_line }
+        ensures { FollowsLine result [] }
     {
         Line {
             digits: Digits {
@@ -170,7 +175,7 @@ impl Line {
     pub fn push(&mut self, b: u8)
         requires offset { self.old.digits.offset < LONGEST_INPUT }
         requires value { self.old.digits.value ≤ CEILING }
-        ensures { self.new ≡ line_after self.old b }
+        ensures { Pushes self.old b self.new }
     {
         self.digits = self.digits.after(b);
         self.kinds = self.kinds.after(b);
@@ -180,7 +185,10 @@ impl Line {
     #[inline(always)]
     pub fn push_blank(&mut self)
         requires { self.old.digits.offset < LONGEST_INPUT }
-        ensures { self.new ≡ blank_after self.old }
+        ensures digits { self.new.digits ≡ record { offset = self.old.digits.offset + 1;
+          first = self.old.digits.offset + 1; value = 0 } }
+        ensures kinds { self.new.kinds ≡ self.old.kinds }
+        ensures pushes { (b : ℕ) → blank_test b ≡ true → Pushes self.old b self.new }
     {
         let offset = self.digits.offset + 1;
         self.digits = Digits {
@@ -194,7 +202,7 @@ impl Line {
     #[inline(always)]
     pub fn push_word_byte(&mut self)
         requires { self.old.digits.offset < LONGEST_INPUT }
-        ensures { self.new ≡ word_after self.old }
+        ensures { (b : ℕ) → word_test b ≡ true → Pushes self.old b self.new }
     {
         self.push_blank();
         self.kinds.has_word = true;

@@ -20,8 +20,6 @@ use Rattle.pfs_layout.proofs.Options.{cases_option}
 use Rattle.pfs_layout.proofs.Reading.NumberSteps.{Refuses, Outcome, misfit_in, number_step}
 use Rattle.pfs_layout.proofs.Reading.LineSteps.{sought_line, body_line}
 use Rattle.pfs_layout.specs.declared.scan.Number.{Number}
-use Rattle.pfs_layout.specs.declared.blocks.Phase.TheVariants as phases
-use Rattle.pfs_layout.specs.declared.blocks.Phase.TheVariants as phases
 
 -- ---- what the judgement of a number leaves as it is
 
@@ -133,7 +131,7 @@ quiet_sought r last text b complete less ns other f words numbers =
 
 quiet_inside : (r : Blocks) (last : Line) (text : List ℕ) (b : ℕ) (complete : List Block) (block : Block)
     (less : Bool) (ns : List ℕ) → (is_blank b || is_line_end b) ≡ false
-    → FollowsLine last.digits last.kinds text → FollowsText r text complete (inside block)
+    → FollowsLine last text → FollowsText r text complete (inside block)
     → GoodNow r.layout (inside block) (open_line text)
     → less ≡ list_any is_word_byte (open_line text ++ b ∷ []) → ns ≡ ended_numbers (open_line text ++ b ∷ [])
     → Outcome r less (standing complete (inside block)) ns (judged r last b)
@@ -147,7 +145,7 @@ quiet_inside r last text b complete block less ns other line f good words number
 
 -- it is refused where it mixes a line of a block
 quiet_byte : (r : Blocks) (last : Line) (text : List ℕ) (b : ℕ) (complete : List Block) (now : Now)
-    → (is_blank b || is_line_end b) ≡ false → FollowsLine last.digits last.kinds text → FollowsText r text complete now
+    → (is_blank b || is_line_end b) ≡ false → FollowsLine last text → FollowsText r text complete now
     → GoodNow r.layout now (open_line text)
     → FollowsOn r last text b complete now
 quiet_byte r last text b complete seeking other line f good = quiet_sought r last text b complete _ _ other f refl refl
@@ -163,7 +161,7 @@ last_short = by_push (λ text. length (last_digits text) ≤ length text) (omega
 -- ---- the end of a number
 
 pub number_part : (has_word : Bool) (r : Blocks) (last : Line) (text : List ℕ) (complete : List Block) (now : Now)
-    → is_live r.phase ≡ true → length r.size_line.values ≡ 5 → FollowsLine last.digits last.kinds text
+    → is_live r.phase ≡ true → length r.size_line.values ≡ 5 → FollowsLine last text
     → FollowsBlocks has_word r (standing complete now) (ended_numbers (open_line text))
     → Outcome r has_word (standing complete now) (numbers (open_line text))
     (last_number_ended r (number_of last.digits)) (number_fault r.layout now text)
@@ -188,7 +186,7 @@ number_part has_word r last text complete now live five line f = elim (cases_Boo
 -- a blank ends the last number of its line
 blank_byte : (r : Blocks) (last : Line) (text : List ℕ) (b : ℕ) (complete : List Block) (now : Now)
     → (is_blank b || is_line_end b) ≡ true → is_line_end b ≡ false → is_live r.phase ≡ true
-    → length r.size_line.values ≡ 5 → FollowsLine last.digits last.kinds text → FollowsText r text complete now
+    → length r.size_line.values ≡ 5 → FollowsLine last text → FollowsText r text complete now
     → FollowsOn r last text b complete now
 blank_byte r last text b complete now gap on live five line f =
     let fault : fault_within_limit r.layout now text b ≡ number_fault r.layout now text =
@@ -202,7 +200,7 @@ blank_byte r last text b complete now gap on live five line f =
 -- any byte on the line
 pub byte_on : (r : Blocks) (last : Line) (text : List ℕ) (b : ℕ) (complete : List Block) (now : Now)
     → is_line_end b ≡ false → is_live r.phase ≡ true → length r.size_line.values ≡ 5
-    → FollowsLine last.digits last.kinds text → FollowsText r text complete now → GoodNow r.layout now (open_line text)
+    → FollowsLine last text → FollowsText r text complete now → GoodNow r.layout now (open_line text)
     → FollowsOn r last text b complete now
 byte_on r last text b complete now on live five line f good = elim (cases_Bool (is_blank b || is_line_end b)) [
   | inl gap ↦ blank_byte r last text b complete now gap on live five line f
@@ -226,7 +224,7 @@ outcome_behind r between next stood (Some fault) keeps held o = grind arith
 pub end_byte : (r : Blocks) (last : Line) (text : List ℕ) (b : ℕ) (complete : List Block) (now : Now)
     → is_line_end b ≡ true → is_live r.phase ≡ true
     → length r.size_line.values ≡ 5 → r.line ≡ 1 + count_by is_line_end text
-    → FollowsLine last.digits last.kinds text → FollowsText r text complete now → GoodNow r.layout now (open_line text)
+    → FollowsLine last text → FollowsText r text complete now → GoodNow r.layout now (open_line text)
     → Outcome r false (stand_after r.layout (standing complete now) (open_line text)) [] (judged r last b)
     (fault_within_limit r.layout now text b)
 unfolding wrong_size

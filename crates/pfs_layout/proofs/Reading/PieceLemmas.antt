@@ -1,7 +1,7 @@
 -- What a reader owes for a piece.
 use Rattle.pfs_layout.proofs.Words.{nat_tests, ◌≡◌, ◌≢◌, ℕ, ◌+◌, ◌<◌, ◌≤◌, true, not, ◌&&◌, List, [], ◌∷◌, ◌++◌, length}
 use Rattle.pfs_layout.proofs.Words.{take, get_or, refl, ◌∙◌, arith, inl, inr, ◌-◌, cases_eq, append_assoc}
-use Rattle.pfs_layout.proofs.Words.{LONGEST_INPUT, Memory, Line, Blocks, is_word_byte, is_digit, is_blank, line_after}
+use Rattle.pfs_layout.proofs.Words.{LONGEST_INPUT, Memory, Line, Blocks, is_word_byte, is_digit, is_blank, and_parts}
 use Rattle.pfs_layout.proofs.Words.{number_of, event_of, blocks_after, IsReady, is_live, Fields, fields, Follows}
 use Rattle.pfs_layout.proofs.Words.{StandsAfter, EndsWantedSize, ◌↔◌, Bool, false, drop, sym, ap, subst, add-one, Some}
 use Rattle.pfs_layout.proofs.Words.{None, Ok, Err, Result, append-nil, length-append, take_all, take-append-drop}
@@ -12,13 +12,12 @@ use Rattle.std.proofs.lemmas.List.{take_more, take-take, length-take-le, get_or-
 use Rattle.pfs_layout.specs.declared.scan.Event.{Event}
 use Rattle.pfs_layout.specs.declared.scan.Event.TheVariants as events
 use Rattle.pfs_layout.specs.declared.blocks.Phase.TheVariants as phases
-use Rattle.pfs_layout.specs.Private.Step.{blank_after, word_after, blank_event, KeepsHeld, LacksMemory}
+use Rattle.pfs_layout.specs.Private.Step.{Pushes, blank_event, KeepsHeld, LacksMemory}
 use Rattle.pfs_layout.proofs.Files.GoodLemmas.{stand_of, long_fault, sound}
-use Rattle.pfs_layout.proofs.Reading.ReaderSteps.{carries, live_follows, stepped, step_stands, follows_ready}
+use Rattle.pfs_layout.proofs.Reading.ReaderSteps.{carries, live_follows, step_stands, follows_ready}
 use Rattle.pfs_layout.proofs.Reading.ReaderSteps.{wants_more, sought_now, begun_now}
 use Rattle.pfs_layout.proofs.Reading.ByteSteps.{live-memory, refused_memory, judged, live_few}
 use Rattle.std.proofs.Math.Seq.{drop-cons}
-use Rattle.pfs_layout.specs.declared.blocks.Phase.TheVariants as phases
 use Rattle.pfs_layout.specs.Reader.{IsRefused, progress_of}
 use Rattle.pfs_layout.proofs.Published.PlaceLemmas.{byte_fault-push}
 use Rattle.pfs_layout.proofs.Files.InputFaults.{of_place}
@@ -30,19 +29,20 @@ use Rattle.pfs_layout.proofs.Files.EndLemmas.{byte_fault-more}
 -- a byte means this event behind a line, and leads to this line
 pub record ByteMeans (last : Line) (b : ℕ) (event : Event) (after : Line) : Type 0 where
   pub event_is : event ≡ event_of last b
-  pub line_is : after ≡ line_after last b
+  pub on : Pushes last b after
 
 pub digit_means : {last after : Line} {b : ℕ} → (is_digit b && not last.kinds.has_word) ≡ true
-    → after ≡ line_after last b → ByteMeans last b events.Quiet after
-digit_means e leads = grind arith
+    → Pushes last b after → ByteMeans last b events.Quiet after
+digit_means e pushes = record { event_is = grind arith; on = pushes }
 
 pub word_means : {last after : Line} {b : ℕ} → (is_word_byte b && not last.kinds.has_digit) ≡ true
-    → after ≡ word_after last → ByteMeans last b events.Quiet after
-word_means e leads = grind arith
+    → ((b : ℕ) → is_word_byte b ≡ true → Pushes last b after) → ByteMeans last b events.Quiet after
+word_means {b = b} e pushes = record { event_is = grind arith; on = pushes b (and_parts _ _ e).0 }
 
 pub blank_means : {last after : Line} {b : ℕ} {event : Event} → is_blank b ≡ true
-    → event ≡ blank_event (number_of last.digits) → after ≡ blank_after last → ByteMeans last b event after
-blank_means blank means leads = grind arith
+    → event ≡ blank_event (number_of last.digits) → ((b : ℕ) → is_blank b ≡ true → Pushes last b after)
+    → ByteMeans last b event after
+blank_means {b = b} blank means pushes = record { event_is = grind arith; on = pushes b blank }
 
 -- only a line's end begins a block
 ends_line_at : (r : Blocks) (last : Line) (b : ℕ) → LacksMemory r (judged r last b) → b ≡ 10
@@ -51,17 +51,17 @@ ends_line_at r last b lacks = grind (arith, nat_tests, lacks)
 
 -- ---- the end of the wanted block's size line
 
-wanted_size : {r : Fields} {text : List ℕ} (b : ℕ) → Follows r text → is_live r.phase ≡ true
-    → length text < LONGEST_INPUT → b ≡ 10 → LacksMemory r.blocks (judged r.blocks r.last b)
+wanted_size : {r : Fields} {text : List ℕ} {after : Line} (b : ℕ) → Follows r text → is_live r.phase ≡ true
+    → length text < LONGEST_INPUT → Pushes r.last b after → LacksMemory r.blocks (judged r.blocks r.last b)
     → EndsWantedSize r.layout r.wanted text b
-wanted_size {r = r} {text = text} b f live short end lacks =
-    let next : Fields = stepped r b in
+wanted_size {r = r} {text = text} {after = after} b f live short pushes lacks =
+    let next : Fields = fields after (judged r.blocks r.last b) in
     let next_live : is_live next.phase ≡ true = rw lacks.begins in
-    let follows = live_follows next (text ++ b ∷ []) next_live (step_stands b f live short) in
+    let follows = live_follows next (text ++ b ∷ []) next_live (step_stands b f live short pushes) in
     let begun = begun_now follows lacks.begins in
     record {
       short = short;
-      line_end = end;
+      line_end = ends_line_at r.blocks r.last b lacks;
       last = omega (arith, f.blocks.complete, lacks.wanted);
       sought = sought_now f lacks.sought;
       begun = (begun.0, cc (begun.1, (carries r.blocks r.last b live).layout));
@@ -99,11 +99,11 @@ module _ {old now : Fields} {piece : List ℕ} {i : ℕ} (t : TakenTo old now pi
     pub taken_ready : (text : List ℕ) × StandsAfter old text → IsReady now.blocks
     taken_ready some = follows_ready (t.follows some.0 some.1) t.live (short some.0 some.1)
 
-    stands_then : (text : List ℕ) → StandsAfter old text
-        → StandsAfter (stepped now (get_or piece i 0)) (text ++ take (i + 1) piece)
-    stands_then text s =
+    stands_then : {after : Line} → Pushes now.last (get_or piece i 0) after → (text : List ℕ) → StandsAfter old text
+        → StandsAfter (fields after (judged now.blocks now.last (get_or piece i 0))) (text ++ take (i + 1) piece)
+    stands_then pushes text s =
         rw (take_more piece i 0 within, ← append_assoc)
-        (step_stands (get_or piece i 0) (t.follows text s) t.live (short text s))
+        (step_stands (get_or piece i 0) (t.follows text s) t.live (short text s) pushes)
 
 -- ---- the loop's steps
 
@@ -120,8 +120,8 @@ module _ {old : Fields} {last after : Line} {r next : Blocks} {event : Event} {p
         live = live;
         layout = rw is (c.layout ∙ t.layout);
         wanted = rw is (c.wanted ∙ t.wanted);
-        offset = rw means.line_is (omega (arith, t.offset));
-        follows = λ text s. live_follows _ _ live (rw (means.line_is, is) (stands_then t within room text s));
+        offset = omega (arith, t.offset, means.on.offset);
+        follows = λ text s. live_follows _ _ live (rw is (stands_then t within room means.on text s));
         no_more = no_more_then t;
       }
 
@@ -134,7 +134,8 @@ module _ {old : Fields} {last after : Line} {r next : Blocks} {event : Event} {p
   taken_end wants keeps text s =
       let b = get_or piece i 0 in
       let f = t.follows text s in
-      let used : after.digits.offset - old.digits.offset ≡ i + 1 = rw means.line_is (omega (arith, t.offset)) in
+      let used : after.digits.offset - old.digits.offset ≡ i + 1 =
+      omega (arith, t.offset, means.on.offset) in
       let no_more = no_more_then t text s in
       rw used (elim (refused_memory next.phase) [
         | inr well ↦
@@ -143,7 +144,7 @@ module _ {old : Fields} {last after : Line} {r next : Blocks} {event : Event} {p
             record {
               layout = rw is (c.layout ∙ t.layout);
               wanted = rw is (c.wanted ∙ t.wanted);
-              stands = λ h. rw (means.line_is, is) (stands_then t within room text s);
+              stands = λ h. rw is (stands_then t within room means.on text s);
               memory = λ h. absurd (well h);
               none = λ h. absurd (well h);
               no_more = no_more;
@@ -151,7 +152,7 @@ module _ {old : Fields} {last after : Line} {r next : Blocks} {event : Event} {p
         | inl refused ↦
             let lacks = rw means.event_is at (wants refused) in
             let kept = keeps refused in
-            let size = wanted_size b f t.live (short t within room text s) (ends_line_at r last b lacks) lacks in
+            let size = wanted_size b f t.live (short t within room text s) means.on lacks in
             record {
               layout = kept.layout ∙ t.layout;
               wanted = kept.wanted ∙ t.wanted;

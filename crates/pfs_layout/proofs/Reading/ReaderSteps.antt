@@ -1,5 +1,5 @@
 -- Where a reader stands, before the first byte and after one byte more.
-use Rattle.pfs_layout.proofs.Words.{◌≡◌, ℕ, ◌+◌, ◌≤◌, Bool, true, length, Option, Some, None, arith, refl, ◌⊎◌, inl}
+use Rattle.pfs_layout.proofs.Words.{CEILING, ◌-◌, ◌≡◌, ℕ, ◌+◌, ◌≤◌, Bool, true, length, Option, Some, None, arith, refl, ◌⊎◌, inl}
 use Rattle.pfs_layout.proofs.Words.{inr, Blocks, last_number_ended, is_live, ◌*◌, ◌<◌, not, ◌&&◌, ◌||◌, List, [], ◌∷◌}
 use Rattle.pfs_layout.proofs.Words.{◌++◌, count_by, if◌then◌else◌, ◌==◌, list_any, length_push, list_any-append}
 use Rattle.pfs_layout.proofs.Words.{is_digit, is_line_end, is_word_byte, open_line, is_no_digit, last_digits}
@@ -7,17 +7,16 @@ use Rattle.pfs_layout.proofs.Words.{FollowsLine, lt-ltb, Layout, Line, ended_par
 use Rattle.pfs_layout.proofs.Words.{byte_fault, fields, StandsAfter, sym, ◌∙◌, subst, mul-le-mul, nat_tests}
 use Rattle.pfs_layout.proofs.Words.{length-append, cases_Bool, cases_lt, LONGEST_INPUT, LayoutFault, is_blank, Size}
 use Rattle.pfs_layout.proofs.Words.{is_within_limits, due_count, Block, seeking, inside, instance_of, standing}
-use Rattle.pfs_layout.proofs.Words.{fault_of_place, line_after, has_numbers_alone, number_of, IsReady, Fields}
+use Rattle.pfs_layout.proofs.Words.{fault_of_place, min, no_numbers, has_numbers_alone, number_of, IsReady, Fields}
 use Rattle.pfs_layout.proofs.Words.{block_read, FollowsBlocks, Follows, IsReader}
 use Rattle.pfs_layout.specs.declared.blocks.Phase.TheVariants as phases
-use Rattle.pfs_layout.specs.Private.Step.{digits_after, kinds_after, no_line, no_blocks, CanCount}
+use Rattle.pfs_layout.specs.Private.Step.{Pushes, CanCount}
 use Rattle.std.specs.Char.{digit_value}
 use Rattle.std.specs.Str.Parse.{digits_value_after}
 use Rattle.std.proofs.lemmas.List.Sums.{sum_by-append, count_by-le-length}
 use Rattle.pfs_layout.specs.declared.scan.Digits.{Digits}
 use Rattle.pfs_layout.specs.declared.scan.Kinds.{Kinds}
 use Rattle.pfs_layout.proofs.Files.LineLemmas.{open_part-push}
-use Rattle.pfs_layout.specs.declared.blocks.Phase.TheVariants as phases
 use Rattle.pfs_layout.proofs.Options.{cases_option}
 use Rattle.pfs_layout.proofs.Published.PlaceLemmas.{byte_fault-push}
 use Rattle.pfs_layout.proofs.Files.GoodLemmas.{ended_none, fault_within_limit, place_fault, GoodNow, stand_of, sound}
@@ -48,37 +47,45 @@ last_digits-push : (text : List ℕ) (b : ℕ)
     → last_digits (text ++ b ∷ []) ≡ (if is_digit b then last_digits text ++ b ∷ [] else [])
 last_digits-push text b = grind (arith, open_part-push is_no_digit text b)
 
-pub line_push : (digits : Digits) (kinds : Kinds) (text : List ℕ) (b : ℕ) → FollowsLine digits kinds text
-    → FollowsLine (digits_after digits b) (kinds_after kinds b) (text ++ b ∷ [])
-line_push digits kinds text b f =
-    let count = length_push text b in
-    let run = last_digits-push text b in
-    record {
-      offset = omega (arith, f.offset);
-      first = grind (arith, run, length_push (last_digits text) b, f.first, f.offset);
-      value = grind (arith, run, value_after-push 0 (last_digits text) b, f.value);
-      has_digit = grind (arith, any_push is_digit text b, f.has_digit);
-      has_word = grind (arith, any_push is_word_byte text b, f.has_word);
-    }
+pub line_push : {old new : Line} {b : ℕ} → new.digits.offset ≡ old.digits.offset + 1
+    → new.digits.first ≡ (if is_digit b then old.digits.first else old.digits.offset + 1)
+    → new.digits.value ≡ (if is_digit b then min CEILING (old.digits.value * 10 + (b - 48)) else 0)
+    → new.kinds.has_digit ≡ (is_digit b || (not (b == 10) && old.kinds.has_digit))
+    → new.kinds.has_word ≡ (not (b == 10) && (old.kinds.has_word || not (is_digit b || is_blank b)))
+    → Pushes old b new
+line_push {b = b} offset first value digit word = record {
+  offset = offset;
+  follows = λ text f.
+      let count = length_push text b in
+      let run = last_digits-push text b in
+      record {
+        offset = omega (arith, offset, f.offset);
+        first = grind (arith, first, run, length_push (last_digits text) b, f.first, f.offset);
+        value = grind (arith, value, run, value_after-push 0 (last_digits text) b, f.value);
+        has_digit = grind (arith, digit, any_push is_digit text b, f.has_digit);
+        has_word = grind (arith, word, any_push is_word_byte text b, f.has_word);
+      };
+}
 
 -- ---- a reader that has read nothing
 
 -- a reader that is new stands before the first byte
-pub new_stands : (layout : Layout) (wanted : ℕ) (last : Line) (blocks : Blocks) → last ≡ no_line
-    → blocks ≡ no_blocks layout wanted → 1 ≤ wanted → StandsAfter (fields last blocks) []
+pub new_stands : (last : Line) (r : Blocks) → FollowsLine last [] → 1 ≤ r.wanted
+    → r ≡ record r { complete = 0; line = 1; phase = phases.Seeking; size_line = no_numbers; instance = None; held = 0 }
+    → StandsAfter (fields last r) []
 unfolding byte_fault ended_parts open_part stand ended_numbers
-new_stands layout wanted last blocks line_is blocks_is some = rw (line_is, blocks_is) (record {
+new_stands last r line some is = rw is (record {
   some = some;
   sound = refl;
   short = omega arith;
-  last_line = record { offset = refl; first = refl; value = refl; has_digit = refl; has_word = refl };
+  last_line = line;
   line = refl;
   few_numbers = omega arith;
   five_values = refl;
   blocks = record {
     complete = refl;
     now = record {
-      phase = rw (lt-ltb 0 wanted some);
+      phase = rw (lt-ltb 0 r.wanted some);
       numbers = λ plain. record { count = refl; values = λ i low few. absurd (omega arith) };
     };
     instance = grind arith;
@@ -153,16 +160,16 @@ module _ {r : Fields} {text : List ℕ} (f : Follows r text) (last : Line) (next
     held = rw (n.held, n.layout, n.wanted) f.blocks.held;
   })
 
-  follows_on : length text < LONGEST_INPUT → fault_of_place r.layout r.wanted text (Some b) ≡ None
+  follows_on : Pushes r.last b last → length text < LONGEST_INPUT → fault_of_place r.layout r.wanted text (Some b) ≡ None
       → Carries r.blocks next (is_line_end b) → OutcomeBehind r.blocks r.layout (text ++ b ∷ []) next None
-      → Follows (fields (line_after r.last b) next) (text ++ b ∷ [])
-  follows_on short here c blocks =
+      → Follows (fields last next) (text ++ b ∷ [])
+  follows_on pushes short here c blocks =
       let count = length_push text b in
       record {
         some = omega (arith, c.wanted, f.some);
         sound = rw (c.layout, c.wanted, byte_fault-push r.layout r.wanted text b, f.sound) here;
         short = omega arith;
-        last_line = line_push r.digits r.kinds text b f.last_line;
+        last_line = pushes.follows text f.last_line;
         line = rw (c.line, f.line, count_push text b) (omega arith);
         few_numbers = omega (arith, c.few, f.few_numbers);
         five_values = elim c.five [ inl same ↦ same ∙ f.five_values | inr five ↦ five ];
@@ -170,13 +177,11 @@ module _ {r : Fields} {text : List ℕ} (f : Follows r text) (last : Line) (next
       }
 
 -- one byte more
-abbrev pub stepped : Fields → ℕ → Fields
-stepped r b = fields (line_after r.last b) (judged r.blocks r.last b)
-
-pub step_stands : {r : Fields} {text : List ℕ} (b : ℕ) → Follows r text → is_live r.phase ≡ true
-    → length text < LONGEST_INPUT → StandsAfter (stepped r b) (text ++ b ∷ [])
-step_stands {r = r} {text = text} b f live short =
-    let next : Fields = stepped r b in
+pub step_stands : {r : Fields} {text : List ℕ} {after : Line} (b : ℕ) → Follows r text → is_live r.phase ≡ true
+    → length text < LONGEST_INPUT → Pushes r.last b after
+    → StandsAfter (fields after (judged r.blocks r.last b)) (text ++ b ∷ [])
+step_stands {r = r} {text = text} {after = after} b f live short pushes =
+    let next : Blocks = judged r.blocks r.last b in
     let few : length (stand_of r.layout text).complete < r.wanted =
     omega (arith, f.blocks.complete, wants_more f live) in
     let place = place_fault r.layout r.wanted text b few short in
@@ -184,8 +189,8 @@ step_stands {r = r} {text = text} b f live short =
     elim (cases_option (fault_within_limit r.layout (stand_of r.layout text).now text b)) [
       | inl none ↦
           let carried = carries r.blocks r.last b live in
-          stands_of (follows_on f next.last next.blocks b short (place ∙ none) carried (rw none at out))
-      | inr one ↦ stands_refused f next.last next.blocks b one.0 (place ∙ one.1) (rw one.1 at out)
+          stands_of (follows_on f after next b pushes short (place ∙ none) carried (rw none at out))
+      | inr one ↦ stands_refused f after next b one.0 (place ∙ one.1) (rw one.1 at out)
     ]
 
 -- ---- what a live reader may do next

@@ -2,7 +2,7 @@
 -- the blocks. What a reader's fields say of the bytes that it has read stands in `Reader`.
 use Rattle.std.specs.Prelude.{◌≡◌, ◌≢◌, ℕ, ◌+◌, ◌-◌, ◌*◌, ◌%◌, ◌<◌, ◌≤◌, min, Bool, true, false, not, ◌&&◌, ◌||◌}
 use Rattle.std.specs.Prelude.{◌==◌, nat_lt, replicate, slice_index, slice_set, Option, Some, None, is_some, option_map}
-use Rattle.std.specs.Prelude.{IfSome, if◌then◌else◌}
+use Rattle.std.specs.Prelude.{IfSome, if◌then◌else◌, List, [], ◌∷◌, ◌++◌}
 use Rattle.std.specs.Bool.{then_some}
 use Rattle.pfs_base.specs.declared.limits.TheConstants.{LONGEST_TIME, LONGEST_INPUT}
 use Rattle.pfs_base.specs.FlowShop.{with_time}
@@ -29,44 +29,14 @@ use Rattle.pfs_layout.specs.Bytes.{is_digit, is_blank, is_line_end}
 use Rattle.pfs_layout.specs.Size.{sized, problem_of}
 use Rattle.pfs_layout.specs.Block.{numbers_for, times_in}
 use Rattle.pfs_layout.specs.Refuse.{size_fault}
-use Rattle.pfs_layout.specs.Reader.{is_live}
+use Rattle.pfs_layout.specs.Reader.{is_live, FollowsLine}
 
 -- ---- the last line so far
 
-abbrev pub no_line : Line
-no_line = record {
-  digits = record { offset = 0; first = 0; value = 0 };
-  kinds = record { has_digit = false; has_word = false };
-}
-
-abbrev pub digits_after : Digits → ℕ → Digits
-digits_after d b = record {
-  offset = d.offset + 1;
-  first = if is_digit b then d.first else d.offset + 1;
-  value = if is_digit b then min CEILING (d.value * 10 + (b - 48)) else 0;
-}
-
-abbrev pub kinds_after : Kinds → ℕ → Kinds
-kinds_after k b = record {
-  has_digit = is_digit b || (not (b == 10) && k.has_digit);
-  has_word = not (b == 10) && (k.has_word || not (is_digit b || is_blank b));
-}
-
-abbrev pub line_after : Line → ℕ → Line
-line_after line b = record { digits = digits_after line.digits b; kinds = kinds_after line.kinds b }
-
--- a blank more
-abbrev pub blank_after : Line → Line
-blank_after line = record line {
-  digits = record { offset = line.digits.offset + 1; first = line.digits.offset + 1; value = 0 };
-}
-
--- a word byte more
-abbrev pub word_after : Line → Line
-word_after line = record {
-  digits = (blank_after line).digits;
-  kinds = record line.kinds { has_word = true };
-}
+-- it has come this byte further
+pub record Pushes (old : Line) (b : ℕ) (new : Line) : Type 0 where
+  pub offset : new.digits.offset ≡ old.digits.offset + 1
+  pub follows : (text : List ℕ) → FollowsLine old text → FollowsLine new (text ++ b ∷ [])
 
 -- a number line so far
 abbrev pub has_numbers_alone : Kinds → Bool
@@ -148,20 +118,6 @@ pub record HasPlace (body : Body) : Type 0 where
   pub machine : body.machine < body.machines
 
 -- ---- the blocks
-
--- nothing was read
-abbrev pub no_blocks : Layout → ℕ → Blocks
-no_blocks layout wanted = record {
-  layout = layout;
-  wanted = wanted;
-  complete = 0;
-  line = 1;
-  phase = phases.Seeking;
-  size_line = no_numbers;
-  body = body_of layout 1 1;
-  instance = None;
-  held = 0;
-}
 
 abbrev pub is_in_block : Phase → Bool
 is_in_block phases.Body = true

@@ -22,7 +22,7 @@ pub loop-b-preserved-in-Quiet : goal.loop-b-preserved-in-Quiet
 loop-b-preserved-in-Quiet c =
     let blank = sym c.is_blank.ensures ∙ c.if-is_blank.true in
     taken_quiet c.loop-b.invariant (omega arith) c.requires.room
-    (blank_means blank (sym c.in-Quiet.is ∙ c.blank_event-event.ensures) c.push_blank.ensures)
+    (blank_means blank (sym c.in-Quiet.is ∙ c.blank_event-event.ensures) c.push_blank.ensures.pushes)
 
 pub after-requires : goal.after-requires
 after-requires c =
@@ -32,14 +32,14 @@ pub loop-b-preserved-then-is_blank : goal.loop-b-preserved-then-is_blank
 loop-b-preserved-then-is_blank c =
     let blank = sym c.is_blank.ensures ∙ c.if-is_blank.true in
     taken_event c.loop-b.invariant (omega arith) c.requires.room
-    (blank_means blank c.blank_event-event.ensures c.push_blank.ensures) c.after.ensures.judged
+    (blank_means blank c.blank_event-event.ensures c.push_blank.ensures.pushes) c.after.ensures.judged
     (sym c.is_live.ensures ∙ c.if-not-is_live.false)
 
 pub returns-then-not-is_live-clause-meets : goal.returns-then-not-is_live-clause-meets
 returns-then-not-is_live-clause-meets c =
     let blank = sym c.is_blank.ensures ∙ c.if-is_blank.true in
     taken_end c.loop-b.invariant (omega arith) c.requires.room
-    (blank_means blank c.blank_event-event.ensures c.push_blank.ensures) c.after.ensures.judged
+    (blank_means blank c.blank_event-event.ensures c.push_blank.ensures.pushes) c.after.ensures.judged
     c.after.ensures.memory c.after.ensures.kept
 
 -- ---- any other byte
@@ -51,11 +51,11 @@ after-requires-in-loop-b c =
 pub loop-b-preserved : goal.loop-b-preserved
 loop-b-preserved c =
     taken_event c.loop-b.invariant (omega arith) c.requires.room
-    (record { event_is = c.event-event.ensures; line_is = c.push-in-loop-b.ensures }) c.after-in-loop-b.ensures.judged
+    (record { event_is = c.event-event.ensures; on = c.push-in-loop-b.ensures }) c.after-in-loop-b.ensures.judged
     (sym c.is_live-in-loop-b.ensures ∙ c.if-not-is_live-2.false)
 
 pub returns-then-not-is_live-2-clause-meets : goal.returns-then-not-is_live-2-clause-meets
 returns-then-not-is_live-2-clause-meets c =
     taken_end c.loop-b.invariant (omega arith) c.requires.room
-    (record { event_is = c.event-event.ensures; line_is = c.push-in-loop-b.ensures }) c.after-in-loop-b.ensures.judged
+    (record { event_is = c.event-event.ensures; on = c.push-in-loop-b.ensures }) c.after-in-loop-b.ensures.judged
     c.after-in-loop-b.ensures.memory c.after-in-loop-b.ensures.kept
