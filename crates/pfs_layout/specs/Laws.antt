@@ -33,13 +33,13 @@ abbrev pub FileStands : Type 0
 FileStands = (layout : Layout) (input : List ℕ) (k : ℕ) (problem : Problem)
     → IsInstanceFile limits layout input k problem ↔ Completes layout input k problem
 
--- a front of the input ends with byte 10 or is the whole input, and the next block is sought behind it, k being
+-- behind a front of the input, whose last line ends with byte 10 or with the input, the next block is sought, k being
 -- complete
 pub record Seeks (layout : Layout) (input : List ℕ) (k : ℕ) : Type 0 where
   pub text : List ℕ
   pub rest : List ℕ
   pub whole : input ≡ text ++ rest
-  pub ended : ((front : List ℕ) × (text ≡ front ++ 10 ∷ [])) ⊎ (rest ≡ [])
+  pub ended : (open_line text ≡ []) ⊎ (rest ≡ [])
   pub short : length text ≤ LONGEST_INPUT
   pub complete : length (stand layout (lines text)).complete ≡ k
   pub now : (stand layout (lines text)).now ≡ seeking

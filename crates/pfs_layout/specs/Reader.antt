@@ -10,8 +10,6 @@ use Rattle.pfs_base.specs.Problem.{Problem}
 use Rattle.pfs_layout.specs.declared.layout.Layout.{Layout}
 use Rattle.pfs_layout.specs.declared.fault.LayoutFault.{LayoutFault}
 use Rattle.pfs_layout.specs.declared.fault.LayoutFault.TheVariants.{Read, Memory}
-use Rattle.pfs_layout.specs.declared.scan.Digits.{Digits}
-use Rattle.pfs_layout.specs.declared.scan.Kinds.{Kinds}
 use Rattle.pfs_layout.specs.declared.scan.Line.{Line}
 use Rattle.pfs_layout.specs.declared.scan.TheConstants.{CEILING}
 use Rattle.pfs_layout.specs.declared.size_line.SizeLine.{SizeLine}

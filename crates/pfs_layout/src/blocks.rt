@@ -64,8 +64,14 @@ impl Blocks {
     pub fn new(layout: Layout, wanted: usize) -> Blocks
         ensures layout { result.layout ≡ layout }
         ensures wanted { result.wanted ≡ wanted }
-        ensures none { result ≡ record result { complete = 0; line = 1; phase = Phase.Seeking; size_line = no_numbers;
-          instance = None; held = 0 } }
+        ensures none { result ≡ record result {
+          complete = 0;
+          line = 1;
+          phase = Phase.Seeking;
+          size_line = no_numbers;
+          instance = None;
+          held = 0;
+        } }
     {
         Blocks {
             layout,

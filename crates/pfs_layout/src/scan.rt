@@ -185,8 +185,11 @@ impl Line {
     #[inline(always)]
     pub fn push_blank(&mut self)
         requires { self.old.digits.offset < LONGEST_INPUT }
-        ensures digits { self.new.digits ≡ record { offset = self.old.digits.offset + 1;
-          first = self.old.digits.offset + 1; value = 0 } }
+        ensures digits { self.new.digits ≡ record {
+          offset = self.old.digits.offset + 1;
+          first = self.old.digits.offset + 1;
+          value = 0;
+        } }
         ensures kinds { self.new.kinds ≡ self.old.kinds }
         ensures pushes { (b : ℕ) → blank_test b ≡ true → Pushes self.old b self.new }
     {

@@ -1,10 +1,9 @@
 -- One verdict, and what it is computed by.
-use Rattle.pfs_layout.proofs.Words.{◌≡◌, ℕ, ◌≤◌, List, [], ◌∷◌, ◌++◌, length, refl, ◌∙◌, ap, arith, ◌⊎◌, inl, inr}
-use Rattle.pfs_layout.proofs.Words.{cases_Bool, eqb-true, length-append, all_but_last, last_of, Problem, by_push}
-use Rattle.pfs_layout.proofs.Words.{all_and_last, Layout, is_line_end, lines, open_line, ended_parts, open_part, Block}
+use Rattle.pfs_layout.proofs.Words.{◌≡◌, ℕ, ◌≤◌, List, [], ◌∷◌, ◌++◌, length, refl, ◌∙◌, ap, arith, inl, inr}
+use Rattle.pfs_layout.proofs.Words.{length-append, all_but_last, last_of, Problem}
+use Rattle.pfs_layout.proofs.Words.{all_and_last, Layout, lines, Block}
 use Rattle.pfs_layout.proofs.Words.{standing, stand, instance_of, refusal, Completes}
 use Rattle.pfs_layout.specs.Laws.{Seeks, SomeFile, OneVerdict, AcceptedLaw}
-use Rattle.pfs_layout.proofs.Files.GoodLemmas.{open_line-end, open_line-on}
 use Rattle.pfs_layout.proofs.Options.{cases_option}
 use Rattle.pfs_layout.proofs.Published.PlaceLemmas.{refusal_is, one_fault}
 use Rattle.pfs_layout.proofs.Files.FileLemmas.{file_completes, completes_file}
@@ -42,47 +41,17 @@ one_verdict layout input k some = elim (cases_option (refusal layout input k)) [
 
 -- ---- some file
 
-abbrev EndsWithLineEnd : List ℕ → Type 0
-EndsWithLineEnd text = (front : List ℕ) × (text ≡ front ++ 10 ∷ [])
-
--- a text whose last line is empty is empty or ends a line
-empty_or_ended : (text : List ℕ) → open_line text ≡ [] → (text ≡ []) ⊎ EndsWithLineEnd text
-empty_or_ended = by_push (λ text. open_line text ≡ [] → (text ≡ []) ⊎ EndsWithLineEnd text)
-    (λ e. inl refl) (λ text b earlier h.
-    inr (
-      text,
-      elim (cases_Bool (is_line_end b)) [
-        | inl ends ↦ rw (eqb-true b 10 ends)
-        | inr on ↦
-            let longer = ap length (rw (open_line-on text b on) at h) in
-            absurd (omega (arith, length-append (open_line text) (b ∷ [])))
-      ],
-    ))
-
-none_complete : (layout : Layout) → length (stand layout (lines [])).complete ≡ 0
-unfolding stand lines ended_parts open_part
-none_complete layout = refl
-
 completes_seeks : (layout : Layout) (input : List ℕ) (k : ℕ) (problem : Problem) → Completes layout input k problem
     → Seeks layout input k
 completes_seeks layout input k problem c = record {
   text = c.text;
   rest = c.rest;
   whole = c.whole;
-  ended = elim c.ended [
-    | inr none ↦ inr none
-    | inl empty ↦ inl (elim (empty_or_ended c.text empty) [
-      | inr ends ↦ ends
-      | inl none ↦ let few = rw (none, none_complete layout) at all in absurd (omega (arith, c.count))
-    ])
-  ];
+  ended = c.ended;
   short = c.short;
-  complete = all;
+  complete = rw c.stands (omega (arith, length-append c.earlier (c.own ∷ []), c.count));
   now = rw c.stands;
 }
-  where
-    all : length (stand layout (lines c.text)).complete ≡ k
-    all = rw c.stands (omega (arith, length-append c.earlier (c.own ∷ []), c.count))
 
 seeks_completes : (layout : Layout) (input : List ℕ) (k : ℕ) → 1 ≤ k → Seeks layout input k
     → (problem : Problem) × Completes layout input k problem
@@ -101,7 +70,7 @@ seeks_completes layout input k some s = by_complete (stand layout (lines s.text)
             text = s.text;
             rest = s.rest;
             whole = s.whole;
-            ended = elim s.ended [ inl ends ↦ inl (rw ends.1 (open_line-end ends.0 10 refl)) | inr none ↦ inr none ];
+            ended = s.ended;
             short = s.short;
             earlier = earlier;
             own = own;

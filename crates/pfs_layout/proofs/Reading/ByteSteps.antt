@@ -40,7 +40,7 @@ keeps_body r value first = cond_both (is_machine_due r.layout r.body) (machine_j
 keeps_in : (phase : Phase) (r : Blocks) (value first : ℕ) → r.phase ≢ phases.Refused Memory
     → Keeps r (number_ended_in phase r value first)
 keeps_in phases.Body r value first h = keeps_body r value first
-keeps_in phase r value first h = grind arith
+keeps_in phase r value first h = grind (arith, common_steps)
 
 pub keeps_number : (r : Blocks) (value first : ℕ) → is_live r.phase ≡ true → Keeps r (number_ended r value first)
 unfolding number_ended
@@ -49,15 +49,6 @@ keeps_number r value first live = keeps_in r.phase r value first (live-memory r.
 pub keeps_last : (r : Blocks) (number : Option Number) → is_live r.phase ≡ true → Keeps r (last_number_ended r number)
 keeps_last r None live = grind arith
 keeps_last r (Some number) live = keeps_number r number.value number.first live
-
--- what a number does to a line that may be a size line
-pub record KeepsNumbers (old new : Blocks) : Type 0 where
-  pub few : new.size_line.count ≤ old.size_line.count + 1
-  pub five : length new.size_line.values ≡ length old.size_line.values
-
-pub last_numbers : (r : Blocks) (number : Option Number) → KeepsNumbers r (last_number_ended r number)
-unfolding number_ended
-last_numbers r number = grind (arith, common_steps)
 
 -- ---- a line's end
 

@@ -1,9 +1,9 @@
 -- A line that ends: the fault that it has, or what the fields say behind it.
-use Rattle.pfs_layout.proofs.Words.{◌≡◌, ◌≢◌, ℕ, ◌+◌, ◌<◌, min, Bool, true, false, not, ◌&&◌, List, [], ◌∷◌, ◌++◌}
-use Rattle.pfs_layout.proofs.Words.{length, refl, ◌∙◌, ap, arith, Option, Some, None, if◌then◌else◌, ◌==◌, inl, inr}
+use Rattle.pfs_layout.proofs.Words.{◌≡◌, ◌≢◌, ℕ, ◌+◌, ◌<◌, min, Bool, true, false, List, [], ◌∷◌, ◌++◌}
+use Rattle.pfs_layout.proofs.Words.{length, refl, ◌∙◌, ap, arith, Option, Some, None, if◌then◌else◌, inl, inr}
 use Rattle.pfs_layout.proofs.Words.{option_map, list_any, lt-ltb, le-ltb, eq-eqb, ne_eqb, and_parts, cases_Bool}
 use Rattle.pfs_layout.proofs.Words.{cases_lt, nat_tests, append-nil, length-append, length_push, slice_get-push, Layout}
-use Rattle.pfs_layout.proofs.Words.{Taillard, OrLib, CEILING, SizeLine, Phase, Blocks, is_digit, is_word_byte, Size}
+use Rattle.pfs_layout.proofs.Words.{Taillard, OrLib, CEILING, SizeLine, Phase, Blocks, is_word_byte, Size}
 use Rattle.pfs_layout.proofs.Words.{is_within_limits, is_mixed, is_number_line, numbers, due_count, stated_size}
 use Rattle.pfs_layout.proofs.Words.{are_due, Block, seeking, inside, stand_after, standing, completed}
 use Rattle.pfs_layout.proofs.Words.{instance_of, begun, with_line, size_fault, no_numbers, line_ended, block_of, HoldsNumbers}
@@ -11,7 +11,7 @@ use Rattle.pfs_layout.proofs.Words.{FollowsBody, FollowsBlocks}
 use Rattle.std.proofs.Math.Nat.{mul-pos}
 use Rattle.std.proofs.lemmas.Bool.{not-true}
 use Rattle.pfs_layout.specs.declared.blocks.Phase.TheVariants as phases
-use Rattle.pfs_layout.specs.Stand.{after_size, after_numbers}
+use Rattle.pfs_layout.specs.Stand.{after_size}
 use Rattle.pfs_layout.specs.Private.Step.{stated_by, body_of, block_begun, size_judged, at_next_line, line_ended_in}
 use Rattle.pfs_layout.proofs.Files.DueLemmas.{size_within}
 use Rattle.pfs_layout.proofs.Reading.NumberSteps.{Outcome}
@@ -106,10 +106,6 @@ size_step (Some size) kept r complete same f few = elim (cases_Bool (is_within_l
       rw (same, same_within size, beyond) (record { phase = refl; held = refl; layout = refl; wanted = refl })
 ]
 
--- a line of numbers has no word byte
-pub no_word : (digit word : Bool) → (digit && not word) ≡ true → word ≡ false
-no_word digit word e = not-true word (and_parts digit (not word) e).1
-
 -- what a line's end does in this phase
 ended_in : (r : Blocks) (numbered : Bool) (phase : Phase) → r.phase ≡ phase
     → line_ended r numbered ≡ line_ended_in phase r numbered
@@ -128,20 +124,13 @@ sought_line r complete line numbered f phase few same =
     let next = seeks_on r complete (numbers line) f in
     rw (ended_in r numbered phases.Seeking phase, same) (elim (cases_Bool (is_number_line line)) [
       | inl number_line ↦
-          let plain = no_word (list_any is_digit line) (list_any is_word_byte line) number_line in
+          let plain = not-true _ (and_parts _ _ number_line).1 in
           let kept = clips r.layout r.size_line (numbers line) (f.now.numbers plain) in
           rw number_line (size_step (stated_size r.layout (numbers line)) _ r complete kept next few)
       | inr skipped ↦ rw skipped next
     ])
 
 -- ---- a line of a body
-
-pub full_or_not : (layout : Layout) (complete : List Block) (block : Block)
-    → are_due layout block.size block.numbers ≡ true
-    → after_numbers layout complete block
-    ≡ (if length block.numbers == due_count layout block.size then completed complete block
-    else standing complete (inside block))
-full_or_not layout complete block due = rw due
 
 -- the block that a line completes is read as it was while it was open
 completed_is : (wanted : ℕ) (complete : List Block) (block : Block) (line : List ℕ) → length complete < wanted
@@ -161,7 +150,7 @@ body_line r complete block line numbered f unmixed due =
     let few : length complete < r.wanted = omega (arith, f.complete, f.now.few) in
     let count : length whole.numbers + 0 ≡ length block.numbers + length (numbers line) =
     omega (arith, length-append block.numbers (numbers line)) in
-    rw (unmixed, full_or_not r.layout complete whole due) (elim (cases_lt r.body.judged r.body.due) [
+    rw (unmixed, due) (elim (cases_lt r.body.judged r.body.due) [
       | inl less ↦
           let phase : r.phase ≡ phases.Body = rw (lt-ltb _ _ less) at f.now.phase in
           let short : length whole.numbers ≢ due_count r.layout block.size =

@@ -14,8 +14,6 @@ use Rattle.pfs_layout.specs.Private.Step.{Pushes, CanCount}
 use Rattle.std.specs.Char.{digit_value}
 use Rattle.std.specs.Str.Parse.{digits_value_after}
 use Rattle.std.proofs.lemmas.List.Sums.{sum_by-append, count_by-le-length}
-use Rattle.pfs_layout.specs.declared.scan.Digits.{Digits}
-use Rattle.pfs_layout.specs.declared.scan.Kinds.{Kinds}
 use Rattle.pfs_layout.proofs.Files.LineLemmas.{open_part-push}
 use Rattle.pfs_layout.proofs.Options.{cases_option}
 use Rattle.pfs_layout.proofs.Published.PlaceLemmas.{byte_fault-push}
@@ -24,7 +22,7 @@ use Rattle.pfs_layout.proofs.Files.GoodLemmas.{stand_of-on, stand_of-end, open_l
 use Rattle.pfs_layout.proofs.Files.DueLemmas.{size_within}
 use Rattle.pfs_layout.proofs.Reading.NumberSteps.{Refuses, Outcome, keeping_of}
 use Rattle.pfs_layout.proofs.Reading.ByteSteps.{live_few, judged, judged_gap, byte_on, end_byte, live-memory}
-use Rattle.pfs_layout.proofs.Reading.ByteSteps.{keeps_last, last_numbers, line_end_keeps}
+use Rattle.pfs_layout.proofs.Reading.ByteSteps.{keeps_last, line_end_keeps}
 
 -- ---- the last line with one byte more
 
@@ -109,7 +107,7 @@ carries r last b live =
     let number = number_of last.digits in
     let ends = line_end_keeps (last_number_ended r number) (has_numbers_alone last.kinds) in
     elim (cases_Bool (is_blank b || is_line_end b)) [
-      | inl gap ↦ rw (judged_gap r last b gap) (grind (arith, keeps_last r number live, last_numbers r number, ends))
+      | inl gap ↦ rw (judged_gap r last b gap) (grind (arith, keeps_last r number live, ends))
       | inr other ↦ grind (arith, nat_tests)
     ]
 

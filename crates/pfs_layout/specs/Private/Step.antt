@@ -1,8 +1,8 @@
 -- What one byte does to what a reader keeps: what it means behind the last line, and what such an event does to
 -- the blocks. What a reader's fields say of the bytes that it has read stands in `Reader`.
-use Rattle.std.specs.Prelude.{◌≡◌, ◌≢◌, ℕ, ◌+◌, ◌-◌, ◌*◌, ◌%◌, ◌<◌, ◌≤◌, min, Bool, true, false, not, ◌&&◌, ◌||◌}
+use Rattle.std.specs.Prelude.{◌≡◌, ◌≢◌, ℕ, ◌+◌, ◌*◌, ◌%◌, ◌<◌, ◌≤◌, Bool, true, false, not, ◌&&◌}
 use Rattle.std.specs.Prelude.{◌==◌, nat_lt, replicate, slice_index, slice_set, Option, Some, None, is_some, option_map}
-use Rattle.std.specs.Prelude.{IfSome, if◌then◌else◌, List, [], ◌∷◌, ◌++◌}
+use Rattle.std.specs.Prelude.{IfSome, if◌then◌else◌, List, [], ◌∷◌, ◌++◌, length}
 use Rattle.std.specs.Bool.{then_some}
 use Rattle.pfs_base.specs.declared.limits.TheConstants.{LONGEST_TIME, LONGEST_INPUT}
 use Rattle.pfs_base.specs.FlowShop.{with_time}
@@ -18,7 +18,6 @@ use Rattle.pfs_layout.specs.declared.scan.Line.{Line}
 use Rattle.pfs_layout.specs.declared.scan.Number.{Number}
 use Rattle.pfs_layout.specs.declared.scan.Event.{Event}
 use Rattle.pfs_layout.specs.declared.scan.Event.TheVariants as events
-use Rattle.pfs_layout.specs.declared.scan.TheConstants.{CEILING}
 use Rattle.pfs_layout.specs.declared.size_line.SizeLine.{SizeLine}
 use Rattle.pfs_layout.specs.declared.size_line.Size.{Size}
 use Rattle.pfs_layout.specs.declared.body.Body.{Body}
@@ -230,6 +229,8 @@ pub record Keeps (old new : Blocks) : Type 0 where
   pub line : new.line ≡ old.line
   pub sought : new.phase ≡ phases.Seeking → old.phase ≡ phases.Seeking
   pub held : new.phase ≡ phases.Seeking → new.held ≡ old.held
+  pub few : new.size_line.count ≤ old.size_line.count + 1
+  pub five : length new.size_line.values ≡ length old.size_line.values
   pub memory : new.phase ≢ phases.Refused Memory
 
 -- the fault of an input that ends behind a line end, where the wanted block isn't complete
