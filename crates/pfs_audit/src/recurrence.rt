@@ -5,7 +5,7 @@ ghost use Rattle.pfs_base.specs.Paths.{makespan};
 use crate::fault::AuditFault;
 use pfs_base::{Bench, Length};
 use pfs_order::Seq;
-use std::alloc::{AllocError, Global};
+use std::alloc::Global;
 
 /// The makespan of a sequence: when its last job leaves the last machine, if each operation starts as
 /// early as it can. It computes one row of ends after the other, and counts a cell for each job and
@@ -21,13 +21,9 @@ pub fn makespan<B: Bench>(alloc: Global, bench: &mut B, seq: &Seq) -> Result<B::
 {
     let machines = bench.machines();
     let zero = bench.zero();
-    let mut row = match Vec::with_capacity(alloc, machines) {
-        Ok(row) => row,
-        Err(AllocError) => return Err(AuditFault::Memory),
-    };
-    match row.resize(machines, zero) {
-        Ok(()) => {}
-        Err(AllocError) => unreachable!(),
+    let mut row = Vec::new(alloc);
+    if row.reserve_exact(machines).is_err() || row.resize(machines, zero).is_err() {
+        return Err(AuditFault::Memory);
     }
     for place in 0..seq.len() {
         let job = seq.at(place);

@@ -11,7 +11,7 @@ use crate::places::best_by_rows;
 use crate::tails::fill_tails;
 use pfs_base::{Bench, Length};
 use pfs_order::Seq;
-use std::alloc::{AllocError, Global};
+use std::alloc::Global;
 use std::marker::{Model, PhantomData};
 
 /// An inserter that computes heads and tails of the sequence without the job, and from them the makespan
@@ -57,13 +57,9 @@ impl<B: Bench> HeadsTails<B> {
         let jobs = bench.jobs();
         let machines = bench.machines();
         let size = (2 * jobs + 1) * machines;
-        let mut lengths = match Vec::with_capacity(alloc, size) {
-            Ok(lengths) => lengths,
-            Err(AllocError) => return Err(InsertFault::Memory),
-        };
-        match lengths.resize(size, bench.zero()) {
-            Ok(()) => {}
-            Err(AllocError) => unreachable!(),
+        let mut lengths = Vec::new(alloc);
+        if lengths.reserve_exact(size).is_err() || lengths.resize(size, bench.zero()).is_err() {
+            return Err(InsertFault::Memory);
         }
         Ok(HeadsTails {
             table: Table {

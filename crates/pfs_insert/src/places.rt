@@ -42,13 +42,11 @@ pub(crate) fn best_by_rows<B: Bench>(
     for pair in 0..len / 2 {
         best = try_two_places(bench, seq, job, 2 * pair, heads, backs, put, best);
     }
-    for place in len / 2 * 2..len {
-        add_head(bench, seq, place, heads);
+    if len % 2 == 1 {
+        best = try_place(bench, seq, job, len - 1, heads, backs, put, best);
+        add_head(bench, seq, len - 1, heads);
     }
-    for place in len / 2 * 2..len + 1 {
-        best = try_place(bench, seq, job, place, heads, backs, put, best);
-    }
-    best
+    try_place(bench, seq, job, len, heads, backs, put, best)
 }
 
 // The better of the best place so far, a place, and the next one. The row of heads of the place after both

@@ -1,7 +1,7 @@
-use Rattle.std.proofs.Common.{◌≡◌, ◌+◌, ◌*◌, ◌/◌, ◌<◌, length, inl, inr, ◌∙◌, arith}
-use Rattle.std.proofs.lemmas.Bool.{cases_lt}
+use Rattle.std.proofs.Common.{◌≡◌, ◌+◌, ◌*◌, ◌/◌, ◌<◌, ◌≤◌, length, ◌∙◌, arith}
 use Rattle.pfs_insert.proofs.FlatRows.{row_le, row_split}
 use Rattle.pfs_insert.proofs.places.best_by_rows.Goals as goal
+use Rattle.pfs_insert.proofs.places.best_by_rows.Goals.{then-len-eq1, else-len-eq1}
 
 pub try_two_places-best-requires-clause-room : goal.try_two_places-best-requires-clause-room
 try_two_places-best-requires-clause-room g c =
@@ -30,39 +30,69 @@ loop-pair-preserved g c =
       best = λ _. rw (same, two) at ensures.best;
     }
 
-pub add_head-requires-clause-head : goal.add_head-requires-clause-head
-add_head-requires-clause-head g c =
-    let invariant = c.loop-place.invariant in
-    let starts = c.loop-place.auto.place in
-    rw invariant.same_shop (invariant.heads c.loop-place.place (omega (arith, c.len-len.ensures.value)) (omega arith))
-
-pub loop-place-preserved : goal.loop-place-preserved
-loop-place-preserved g c =
-    let place = c.loop-place.place in
-    let pairs = length c.args.seq.now.jobs / 2 in
-    let invariant = c.loop-place.invariant in
-    let same = invariant.same_shop in
-    let ensures = c.add_head.ensures in
+pub try_place-best-requires-clause-room : goal.try_place-best-requires-clause-room
+try_place-best-requires-clause-room g c =
     let machines = (g.B.Bench.shop c.args.bench.now).machines in
-    let next = row_split (4 * pairs + (place + 1)) (4 * pairs + place) 1 machines (omega arith) in
-    let counted = rw same at ensures.counted in
-    let kept = rw same at ensures.kept in
-    record {
-      same_shop = ensures.shop ∙ same;
-      counted = omega (arith, invariant.counted);
-      no_head = kept 0 (omega arith) invariant.no_head;
-      heads = λ row low high.
-          elim (cases_lt row (place + 1)) [
-            | inl earlier ↦ kept row (omega arith) (invariant.heads row low (omega arith))
-            | inr later ↦ let is : row ≡ place + 1 = omega arith in rw is (rw same at ensures.head)
-          ];
-    }
+    let len = length c.args.seq.now.jobs in
+    let pair = c.loop-pair.pair in
+    let invariant = c.loop-pair.invariant in
+    let pairs : pair ≤ len / 2 = omega (arith, c.loop-pair.auto.pair-end, c.len-len.ensures.value) in
+    let next = row_split (6 * pair + 2) (6 * pair) 2 machines (omega arith) in
+    let fits = row_le (6 * pair + 2) (3 * len + 2) machines (omega arith) in
+    rw invariant.same_shop (omega (arith, invariant.counted, c.requires.room))
 
-pub try_place-best-requires-clause-head : goal.try_place-best-requires-clause-head
-try_place-best-requires-clause-head g c =
+pub try_place-requires-clause-room : goal.try_place-requires-clause-room
+try_place-requires-clause-room g c =
+    let machines = (g.B.Bench.shop c.args.bench.now).machines in
+    let len = length c.args.seq.now.jobs in
+    let pair = c.loop-pair.pair in
+    let invariant = c.loop-pair.invariant in
+    let same = invariant.same_shop in
     let every = c.len-len.ensures.value in
-    let starts = c.loop-place-2.auto.place in
-    let inside = c.loop-place-2-test.true in
-    let done = c.loop-place-test.false in
-    rw c.loop-place-2.invariant.same_shop
-    (c.loop-place.invariant.heads c.loop-place-2.place (omega arith) (omega arith))
+    let pairs : pair ≡ len / 2 = omega (arith, c.loop-pair-test.false, c.loop-pair.auto.pair-end, every) in
+    elim c.if-len-eq1.branch [
+      | then-len-eq1 w ↦
+          let tried = w.try_place-best.ensures.shop ∙ same in
+          let added = w.add_head.ensures.shop ∙ tried in
+          let try_counted = rw same at w.try_place-best.ensures.counted in
+          let add_counted = rw tried at w.add_head.ensures.counted in
+          let all = row_split (3 * len + 2) (6 * pair) 5 machines (omega (arith, w.if-len-eq1.true)) in
+          rw (w.bench-is, added) (omega (arith, invariant.counted, c.requires.room))
+      | else-len-eq1 w ↦
+          let all = row_split (3 * len + 2) (6 * pair) 2 machines (omega (arith, w.if-len-eq1.false)) in
+          rw (w.bench-is, same) (omega (arith, invariant.counted, c.requires.room))
+    ]
+
+pub returns-clause-no_head : goal.returns-clause-no_head
+returns-clause-no_head g c =
+    let invariant = c.loop-pair.invariant in
+    elim c.if-len-eq1.branch [
+      | then-len-eq1 w ↦
+          let kept = rw (w.try_place-best.ensures.shop ∙ invariant.same_shop) at w.add_head.ensures.kept in
+          rw w.heads-is (kept 0 (omega arith) invariant.no_head)
+      | else-len-eq1 w ↦ rw w.heads-is invariant.no_head
+    ]
+
+pub returns-clause-counted : goal.returns-clause-counted
+returns-clause-counted g c =
+    let machines = (g.B.Bench.shop c.args.bench.now).machines in
+    let len = length c.args.seq.now.jobs in
+    let pair = c.loop-pair.pair in
+    let invariant = c.loop-pair.invariant in
+    let same = invariant.same_shop in
+    let every = c.len-len.ensures.value in
+    let pairs : pair ≡ len / 2 = omega (arith, c.loop-pair-test.false, c.loop-pair.auto.pair-end, every) in
+    elim c.if-len-eq1.branch [
+      | then-len-eq1 w ↦
+          let tried = w.try_place-best.ensures.shop ∙ same in
+          let added = w.add_head.ensures.shop ∙ tried in
+          let try_counted = rw same at w.try_place-best.ensures.counted in
+          let add_counted = rw tried at w.add_head.ensures.counted in
+          let last_counted = rw (w.bench-is, added) at c.try_place.ensures.counted in
+          let all = row_split (3 * len + 2) (6 * pair) 5 machines (omega (arith, w.if-len-eq1.true)) in
+          omega (arith, invariant.counted)
+      | else-len-eq1 w ↦
+          let last_counted = rw (w.bench-is, same) at c.try_place.ensures.counted in
+          let all = row_split (3 * len + 2) (6 * pair) 2 machines (omega (arith, w.if-len-eq1.false)) in
+          omega (arith, invariant.counted)
+    ]

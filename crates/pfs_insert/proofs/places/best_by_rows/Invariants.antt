@@ -1,4 +1,4 @@
-use Rattle.std.proofs.Common.{◌≡◌, ℕ, ◌+◌, ◌*◌, ◌/◌, ◌<◌, ◌≤◌, length}
+use Rattle.std.proofs.Common.{◌≡◌, ◌+◌, ◌*◌, ◌<◌}
 use Rattle.pfs_insert.specs.Insertion.{makespan_with}
 use Rattle.pfs_insert.specs.Private.BestSoFar.{IsBest}
 use Rattle.pfs_insert.specs.Private.Rows.{HasHead}
@@ -14,28 +14,4 @@ invariant-loop-pair g l =
       no_head : HasHead number shop l.seq.jobs l.heads 0;
       head : HasHead number shop l.seq.jobs l.heads (2 * l.pair);
       best : 0 < l.pair → IsBest number (makespan_with shop l.seq.jobs l.job) (2 * l.pair) l.best.place l.best.span;
-    }
-
-abbrev pub invariant-loop-place : goal.invariant-loop-place
-invariant-loop-place g l =
-    let shop = g.B.Bench.shop l.fn.bench in
-    let number = g.B.Span.Length.number in
-    let pairs = length l.seq.jobs / 2 in
-    record {
-      same_shop : g.B.Bench.shop l.bench ≡ shop;
-      counted : g.B.Bench.counted l.bench ≡ g.B.Bench.counted l.fn.bench + (4 * pairs + l.place) * shop.machines;
-      no_head : HasHead number shop l.seq.jobs l.heads 0;
-      heads : (row : ℕ) → 2 * pairs ≤ row → row ≤ l.place → HasHead number shop l.seq.jobs l.heads row;
-    }
-
-abbrev pub invariant-loop-place-2 : goal.invariant-loop-place-2
-invariant-loop-place-2 g l =
-    let shop = g.B.Bench.shop l.fn.bench in
-    let number = g.B.Span.Length.number in
-    let len = length l.seq.jobs in
-    let pairs = len / 2 in
-    record {
-      same_shop : g.B.Bench.shop l.bench ≡ shop;
-      counted : g.B.Bench.counted l.bench ≡ g.B.Bench.counted l.fn.bench + (len + 2 * l.place) * shop.machines;
-      best : 0 < l.place → IsBest number (makespan_with shop l.seq.jobs l.job) l.place l.best.place l.best.span;
     }
