@@ -1,7 +1,7 @@
 -- From what is written into a buffer to what stands behind it once it was let out.
-use Rattle.std.proofs.Common.{◌≡◌, ℕ, ◌+◌, ◌≤◌, Bool, false, List, [], ◌∷◌, ◌++◌, Option, None, Some, Result, Ok, Err}
-use Rattle.std.proofs.Common.{IfOk, length, take, sym, ap, subst, ◌∙◌, refl, arith, take-take, take_all, le_refl}
-use Rattle.std.proofs.Common.{length-append, length-take, inl, inr, ◌⊎◌}
+use Rattle.std.proofs.Common.{◌≡◌, ℕ, ◌≤◌, Bool, List, [], ◌∷◌, ◌++◌, Option, None, Some, Result, Ok, Err}
+use Rattle.std.proofs.Common.{length, take, sym, ap, subst, ◌∙◌, refl, arith, take-take}
+use Rattle.std.proofs.Common.{length-append, length-take}
 use Rattle.std.proofs.Math.Seq.{take-append_seam, take-length}
 use Rattle.std.specs.Io.KnownBytes.{Appends, Keeps}
 use Rattle.pfs_base.specs.Buffer.{Buffering, IsNew, bytes_given}
@@ -15,7 +15,7 @@ use Rattle.pfs_desk.specs.Engine.{WritesOutput, WritesAll, WritesFront, WritesNo
 use Rattle.pfs_desk.specs.Private.LetsOut.{EndsOutput}
 use Rattle.pfs_desk.specs.Program.{CannotOpen, ending}
 use Rattle.pfs_desk.specs.Standing.{Standing}
-use Rattle.pfs_desk.specs.WholeProgram.{PrintsOn, IsFront, AllStands, FrontStands}
+use Rattle.pfs_desk.specs.WholeProgram.{PrintsOn, IsFront, FrontStands}
 
 appended : (b c : Option (List ℕ)) (text : List ℕ) → Appends (Some []) b text → Keeps b c → c ≡ Some text
 appended None c text p q = absurd p

@@ -8,10 +8,8 @@ use Rattle.pfs_words.specs.declared.job.Job.TheVariants as job
 use Rattle.pfs_words.specs.declared.solve_options.SolveOptions.{SolveOptions}
 use Rattle.pfs_words.specs.Jobs.{AsksFor}
 use Rattle.pfs_desk.specs.declared.fault.DeskFault.{DeskFault}
-use Rattle.pfs_desk.specs.declared.fault.DeskFault.TheVariants as faults
 use Rattle.pfs_desk.specs.declared.fault.Outcome.{Outcome}
 use Rattle.pfs_desk.specs.declared.stop.Stop.{Stop}
-use Rattle.pfs_desk.specs.declared.stop.Stop.TheVariants as stops
 use Rattle.pfs_desk.specs.Engine.{WritesOutput, ValueOutput, SolveOutput, CheckOutput, TableOutput, ConvertOutput}
 use Rattle.pfs_desk.specs.Engine.{GenerateOutput}
 use Rattle.pfs_desk.specs.Program.{CannotOpen, Writing, StopsAtOpening, RunsAlone, RunsAudit, RunsConvert}

@@ -4,11 +4,11 @@ use Rattle.std.proofs.Common.{append_assoc, append-nil, add-one}
 use Rattle.std.specs.List.{flat_map}
 use Rattle.pfs_base.specs.Lists.{below}
 use Rattle.pfs_base.specs.Sends.{SendsAll, SendsFront}
-use Rattle.pfs_base.specs.Text.{with_line_end, spaced, named_number}
+use Rattle.pfs_base.specs.Text.{named_number}
 use Rattle.pfs_base.proofs.Published.SendsLemmas.{then_all, then_front, front_of}
 use Rattle.pfs_base.proofs.Published.SpacedLemmas.{flat_map_more, flat_map_from, spaced-cons, spaced_pairs}
 use Rattle.pfs_audit.specs.Schedule.{Timing, start_in, end_in, last_end}
-use Rattle.pfs_desk.specs.OutputText.{row_text, table_text}
+use Rattle.pfs_desk.specs.OutputText.{row_text, sizes_text, table_text}
 
 -- ---- a row
 
@@ -90,17 +90,13 @@ module _ (timing : Timing) (row : ℕ) where
 
 -- ---- a table
 
--- its first line
-unfoldable pub sizes_line : Timing → List ℕ
-sizes_line timing = with_line_end (codes "table" ++ 32 ∷ spaced (length timing.jobs ∷ timing.machines ∷ []))
-
 -- a table as far as a row
 unfoldable pub table_to : Timing → ℕ → List ℕ
-table_to timing row = sizes_line timing ++ flat_map (row_text timing) (below row)
+table_to timing row = sizes_text timing ++ flat_map (row_text timing) (below row)
 
-pub table_to-zero : (timing : Timing) → table_to timing 0 ≡ sizes_line timing
+pub table_to-zero : (timing : Timing) → table_to timing 0 ≡ sizes_text timing
 unfolding table_to
-table_to-zero timing = append-nil (sizes_line timing)
+table_to-zero timing = append-nil (sizes_text timing)
 
 pub table_to-more : (timing : Timing) (row : ℕ) → table_to timing (row + 1) ≡ table_to timing row ++ row_text timing row
 unfolding table_to
@@ -108,7 +104,7 @@ table_to-more timing row = rw (add-one row, flat_map_more (row_text timing) row)
 
 table_whole : (timing : Timing)
     → table_text timing ≡ table_to timing (length timing.jobs) ++ named_number (codes "makespan") (last_end timing)
-unfolding table_text table_to sizes_line
+unfolding table_text table_to
 table_whole timing = refl
 
 pub table_front : {a b : Option (List ℕ)} {failed : Bool} {sent reached : ℕ} (timing : Timing) (row : ℕ)
@@ -124,15 +120,9 @@ table_front timing row h front =
 
 -- the first line is a front of the table
 pub sizes_front : {a b : Option (List ℕ)} {failed : Bool} {sent reached : ℕ} (timing : Timing)
-    → SendsFront a b failed sent (sizes_line timing) reached → SendsFront a b failed sent (table_text timing) reached
+    → SendsFront a b failed sent (sizes_text timing) reached → SendsFront a b failed sent (table_text timing) reached
 unfolding table_to
 sizes_front timing front = rw (table_whole timing) (front_of _ (front_of _ front))
-
--- the first line for the numbers that were printed
-pub sizes_line_of : (timing : Timing) (rows machines : ℕ) → rows ≡ length timing.jobs → machines ≡ timing.machines
-    → with_line_end (codes "table" ++ 32 ∷ spaced (rows ∷ machines ∷ [])) ≡ sizes_line timing
-unfolding sizes_line
-sizes_line_of timing rows machines e f = rw (e, f)
 
 -- the end of a table
 pub table_end : (timing : Timing) (row makespan : ℕ) → row ≡ length timing.jobs → makespan ≡ last_end timing

@@ -53,10 +53,14 @@ unfoldable pub row_text : Timing → ℕ → List ℕ
 row_text timing row = with_line_end (spaced ((slice_index timing.jobs row + 1)
     ∷ flat_map (λ machine. start_in timing row machine ∷ end_in timing row machine ∷ []) (below timing.machines)))
 
+-- how many rows and machines a time table has
+unfoldable pub sizes_text : Timing → List ℕ
+sizes_text timing = with_line_end (codes "table" ++ 32 ∷ spaced (length timing.jobs ∷ timing.machines ∷ []))
+
 -- the sizes of a time table, its rows, and when it ends
 unfoldable pub table_text : Timing → List ℕ
-table_text timing = with_line_end (codes "table" ++ 32 ∷ spaced (length timing.jobs ∷ timing.machines ∷ []))
-    ++ flat_map (row_text timing) (below (length timing.jobs)) ++ named_number (codes "makespan") (last_end timing)
+table_text timing = sizes_text timing ++ flat_map (row_text timing) (below (length timing.jobs))
+    ++ named_number (codes "makespan") (last_end timing)
 
 -- the time table of an order whose operations start as early as they can
 pub record IsLeastTable (shop : FlowShop) (order : List ℕ) (timing : Timing) : Type 0 where

@@ -1,6 +1,6 @@
 -- What the program does for a job: which files it opens, in which order, and what the engine does with them. What is
 -- written is judged by the output and the engine's answer.
-use Rattle.std.specs.Prelude.{⊤, ◌≡◌, ◌≢◌, ◌↔◌, ℕ, Bool, false, List, [], ◌∷◌, ◌++◌, Option, None, Some, Result, Ok}
+use Rattle.std.specs.Prelude.{⊤, ◌≡◌, ◌≢◌, ◌↔◌, ℕ, Bool, false, List, Option, None, Some, Result, Ok}
 use Rattle.std.specs.Prelude.{Err, ◌⊎◌, IfErr}
 use Rattle.pfs_layout.specs.declared.fault.LayoutFault.TheVariants as layout_faults
 use Rattle.pfs_layout.specs.declared.layout.Layout.{Layout}

@@ -1,5 +1,5 @@
 -- The whole program: what its words ask for, which files it opens, what stands on its output, and why it stopped.
-use Rattle.std.specs.Prelude.{⊤, ◌≡◌, ◌≢◌, ℕ, ◌-◌, ◌≤◌, ◌^◌, min, Bool, List, [], ◌∷◌, length, take, Option, None, Some}
+use Rattle.std.specs.Prelude.{⊤, ◌≡◌, ℕ, ◌-◌, ◌≤◌, ◌^◌, min, Bool, List, [], ◌∷◌, length, take, Option, None, Some}
 use Rattle.std.specs.Prelude.{Result, Ok, Err, ◌⊎◌}
 use Rattle.pfs_layout.specs.declared.layout.Layout.TheVariants.{Taillard}
 use Rattle.pfs_words.specs.declared.job.Job.{Job}

@@ -79,10 +79,7 @@ pub fn run_job<F: Files, R: Source, W: Sink>(
 fn ending(answer: Result<Outcome, DeskFault>) -> Result<Outcome, Stop>
     ensures { result ≡ ending_of answer }
 {
-    match answer {
-        Ok(outcome) => Ok(outcome),
-        Err(fault) => Err(Stop::Fault(fault)),
-    }
+    answer.map_err(Stop::Fault)
 }
 
 // Prints the value of a file, or where none is named that of what standard input gives.

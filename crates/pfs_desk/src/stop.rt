@@ -1,5 +1,5 @@
 //! How the program ends: what it tells on the error output, and its exit status.
-ghost use Rattle.std.specs.Prelude.{◌≡◌, ◌<◌, false, length};
+ghost use Rattle.std.specs.Prelude.{◌≡◌, false};
 ghost use Rattle.pfs_base.specs.Sends.{Prints};
 ghost use Rattle.pfs_desk.specs.ProgramText.{Tells, exit_status_of, open_stop, stop_status_of, stop_text, usage_stop};
 
@@ -75,19 +75,10 @@ fn tell<E: Sink>(errors: &mut E, stop: &Stop) -> Result<(), WriteFault>
         (stop_text stop.now) result }
 {
     match stop {
-        Stop::Usage => put_text(errors, USAGE),
-        Stop::Open => put_text(errors, b"pfs: cannot open\n"),
-        Stop::Fault(fault) => write_fault(errors, fault),
-    }
-}
-
-// Writes a text.
-fn put_text<E: Sink>(errors: &mut E, text: &[u8]) -> Result<(), WriteFault>
-    requires working { E.has_failed errors.old ≡ false }
-    requires short { length text.now < 1000 }
-    ensures { Prints (E.written errors.old) (E.written errors.new) (E.has_failed errors.new) text.now result }
-{
-    put(errors, text, 0)?;
+        Stop::Usage => put(errors, USAGE, 0)?,
+        Stop::Open => put(errors, b"pfs: cannot open\n", 0)?,
+        Stop::Fault(fault) => return write_fault(errors, fault),
+    };
     Ok(())
 }
 

@@ -1,10 +1,9 @@
 //! The time table of an order.
-ghost use Rattle.std.specs.Prelude.{◌≡◌, ◌+◌, ◌*◌, ◌<◌, ◌≤◌, ◌^◌, ◌∷◌, ◌++◌, [], false, length, IfOk, IfErr};
+ghost use Rattle.std.specs.Prelude.{◌≡◌, ◌+◌, ◌*◌, ◌<◌, ◌≤◌, ◌^◌, false, length, IfOk, IfErr};
 ghost use Rattle.pfs_base.specs.Sends.{Sends};
-ghost use Rattle.pfs_base.specs.Text.{with_line_end, spaced};
 ghost use Rattle.pfs_desk.specs.Engine.{WritesOutput, TableOutput, ReadsBlock, ReadsOrder, RefusesNoTake};
 ghost use Rattle.pfs_desk.specs.Engine.{WantsBehindSecond};
-ghost use Rattle.pfs_desk.specs.OutputText.{row_text, table_text};
+ghost use Rattle.pfs_desk.specs.OutputText.{row_text, sizes_text, table_text};
 ghost use Rattle.pfs_desk.specs.Private.Printable.{IsPrintable};
 
 use crate::engines::check::put_verdict;
@@ -67,34 +66,24 @@ fn put_table<W: Sink>(writer: &mut W, table: &TimeTable) -> Result<u64, WriteFau
     ensures { Sends (W.written writer.old) (W.written writer.new) (W.has_failed writer.new)
         0 (table_text table.now) result }
 {
-    let mut sent = put_sizes(
-        writer,
-        b"table",
-        table.rows() as u64,
-        table.machines() as u64,
-    )?;
+    let mut sent = put_sizes(writer, table)?;
     for row in 0..table.rows() {
         sent = put_row(writer, table, row, sent)?;
     }
     put_named(writer, b"makespan", table.makespan(), sent)
 }
 
-// Writes a line of a name and two sizes.
-fn put_sizes<W: Sink>(
-    writer: &mut W,
-    name: &[u8],
-    rows: u64,
-    machines: u64,
-) -> Result<u64, WriteFault>
-    requires working { W.has_failed writer.old ≡ false }
-    requires short { length name.now < 100 }
+// Writes the line of the sizes.
+#[tactic(auto, unfolding(crate::specs::OutputText::sizes_text))]
+fn put_sizes<W: Sink>(writer: &mut W, table: &TimeTable) -> Result<u64, WriteFault>
+    requires { W.has_failed writer.old ≡ false }
     ensures text { Sends (W.written writer.old) (W.written writer.new) (W.has_failed writer.new)
-        0 (with_line_end (name.now ++ 32 ∷ spaced (rows ∷ machines ∷ []))) result }
+        0 (sizes_text table.now) result }
     ensures short { IfOk result (λ sent. sent < 200) }
 {
-    let sent = put(writer, name, 0)?;
-    let sent = put_next(writer, rows, sent)?;
-    let sent = put_next(writer, machines, sent)?;
+    let sent = put(writer, b"table", 0)?;
+    let sent = put_next(writer, table.rows() as u64, sent)?;
+    let sent = put_next(writer, table.machines() as u64, sent)?;
     put(writer, b"\n", sent)
 }
 

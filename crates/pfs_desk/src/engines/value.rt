@@ -45,12 +45,8 @@ fn value_of(alloc: Global, instance: &Instance) -> Result<u64, DeskFault>
         value ≡ makespan instance.now.shop (all_jobs instance.now.shop.jobs)) }
     ensures memory { IfErr result (λ fault. fault ≡ DeskFault.Memory) }
 {
-    let Ok(order) = Order::identity(alloc, instance.jobs()) else {
-        return Err(DeskFault::Memory);
-    };
+    let order = Order::identity(alloc, instance.jobs()).or(Err(DeskFault::Memory))?;
     let mut bench = instance.metered();
-    let Ok(span) = makespan(alloc, &mut bench, order.seq()) else {
-        return Err(DeskFault::Memory);
-    };
+    let span = makespan(alloc, &mut bench, order.seq())?;
     Ok(bench.reveal(span))
 }

@@ -1,8 +1,5 @@
-use Rattle.std.proofs.Common.{◌≡◌, List, ◌∷◌, inr, subst}
-use Rattle.pfs_base.specs.Buffer.{IsNew}
+use Rattle.std.proofs.Common.{inr, subst}
 use Rattle.pfs_desk.specs.Private.LetsOut.{EndsOutput}
-use Rattle.pfs_desk.specs.Program.{writing_of}
-use Rattle.pfs_desk.specs.WholeProgram.{printing_on}
 use Rattle.pfs_desk.proofs.ProgramLemmas.{writes-on, stops-on}
 use Rattle.pfs_desk.proofs.RunLemmas.{asks_for, job-map, job-works}
 use Rattle.pfs_desk.proofs.program.run.Goals as goal

@@ -1,20 +1,12 @@
 use Rattle.std.proofs.Common.{◌≡◌, List, ℕ, sym, ◌∙◌, subst, arith, rules}
-use Rattle.pfs_base.specs.Sends.{Sends, SendsAll, SendsFront}
+use Rattle.pfs_base.specs.Sends.{Sends, SendsAll}
 use Rattle.pfs_base.proofs.Published.SendsLemmas.{then_all, then_front, then_sends}
-use Rattle.pfs_desk.proofs.TableLemmas.{sizes_line_of, sizes_front, table_to-zero, table_to-more, table_front}
-use Rattle.pfs_desk.proofs.TableLemmas.{table_end}
+use Rattle.pfs_desk.proofs.TableLemmas.{sizes_front, table_to-zero, table_to-more, table_front, table_end}
 use Rattle.pfs_desk.proofs.engines.table.put_table.Goals as goal
 
 pub returns-in_err-sent : goal.returns-in_err-sent
 returns-in_err-sent g c =
-    let old = g.W.Sink.written c.args.writer.now in
-    let new = g.W.Sink.written c.put_sizes.new.writer in
-    let failed = g.W.Sink.has_failed c.put_sizes.new.writer in
-    let Front : List ℕ → Type 0 = λ text. SendsFront old new failed 0 text c.in_err-sent.field-0.0.written in
-    let line = sizes_line_of c.args.table.now c.rows.result c.machines.result c.rows.ensures.value
-    c.machines.ensures.value in
-    let front = sizes_front c.args.table.now (subst Front line c.in_err-sent.ensures.text) in
-    search rules
+    let front = sizes_front c.args.table.now c.in_err-sent.ensures.text in search rules
 
 pub loop-row-init : goal.loop-row-init
 loop-row-init g c =
@@ -22,10 +14,8 @@ loop-row-init g c =
     let new = g.W.Sink.written c.put_sizes.new.writer in
     let failed = g.W.Sink.has_failed c.put_sizes.new.writer in
     let Printed : List ℕ → Type 0 = λ text. SendsAll old new failed 0 text c.in_ok-sent.sent in
-    let line = sizes_line_of c.args.table.now c.rows.result c.machines.result c.rows.ensures.value
-    c.machines.ensures.value in
     record {
-      sends = subst Printed (line ∙ sym (table_to-zero c.args.table.now)) c.in_ok-sent.ensures.text;
+      sends = subst Printed (sym (table_to-zero c.args.table.now)) c.in_ok-sent.ensures.text;
       short = omega (arith, c.in_ok-sent.ensures.short);
     }
 
