@@ -1,7 +1,6 @@
 pub mod Answering
 pub mod Jobs
 pub mod MemoryLemmas
-pub mod Refused
 pub mod Rooms
 pub mod TextLemmas
 pub mod Times

@@ -6,11 +6,12 @@ ghost use Rattle.pfs_order.specs.Sequence.{IsSequence};
 ghost use Rattle.pfs_c.specs.Judgements.{shop_of, sizes_refusal, length_refusal, times_refusal, shop_refusal};
 ghost use Rattle.pfs_c.specs.Judgements.{jobs_refusal, job_refusal};
 ghost use Rattle.pfs_c.specs.Numbers.{Judges};
+ghost use Rattle.pfs_c.specs.Texts.{put_in_front};
 
 use crate::numbers::Refusal;
 use pfs_base::{Instance, LONGEST_TIME, MOST_JOBS, MOST_MACHINES, Notes};
 use pfs_order::{Order, Seq};
-use std::alloc::{AllocError, Global};
+use std::alloc::Global;
 
 /// The notes of an instance that needs none.
 pub(crate) const NO_NOTES: Notes = Notes {
@@ -153,10 +154,7 @@ pub(crate) fn instance_of(
     ensures made { IfOk result (λ made. made ≡ record { shop = shop_of times.now jobs machines; notes = notes }) }
     ensures memory { IfErr result (λ why. why ≡ Refusal.Memory) }
 {
-    match Instance::of_times(alloc, jobs, machines, times, notes) {
-        Ok(instance) => Ok(instance),
-        Err(AllocError) => Err(Refusal::Memory),
-    }
+    Instance::of_times(alloc, jobs, machines, times, notes).or(Err(Refusal::Memory))
 }
 
 /// A sequence of jobs that were judged. It fails only where its memory is refused, which it asks for once.
@@ -167,10 +165,7 @@ pub(crate) fn sequence_of(alloc: Global, size: usize, jobs: &[u32]) -> Result<Se
     ensures made { IfOk result (λ made. made ≡ record { size = size; jobs = jobs.now }) }
     ensures memory { IfErr result (λ why. why ≡ Refusal.Memory) }
 {
-    let mut sequence = match Seq::new(alloc, size) {
-        Ok(sequence) => sequence,
-        Err(_) => return Err(Refusal::Memory),
-    };
+    let mut sequence = Seq::new(alloc, size).or(Err(Refusal::Memory))?;
     for (place, job) in jobs.iter().enumerate() {
         sequence.insert_at(place, *job as usize);
     }
@@ -191,10 +186,11 @@ pub(crate) fn order_of(alloc: Global, jobs: &[u32]) -> Result<Order, Refusal>
     }
 }
 
-/// Copies an order out to C.
+/// Copies an order into the front of a list that has room for it.
 pub(crate) fn copy_order(order: &Order, out: &mut [u32])
-    requires { length order.now ≡ length out.old }
-    ensures { out.new ≡ order.now }
+    requires { length order.now ≤ length out.old }
+    ensures front { out.new ≡ put_in_front order.now out.old }
+    ensures whole { length order.now ≡ length out.old → out.new ≡ order.now }
 {
     for place in 0..order.len() {
         out[place] = order.at(place) as u32;

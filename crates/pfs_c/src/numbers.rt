@@ -2,8 +2,6 @@
 ghost use Rattle.std.specs.Prelude.{◌≡◌, ◌≢◌};
 ghost use Rattle.pfs_c.specs.Numbers.{number_of};
 
-use thiserror::Error;
-
 /// All is done.
 pub const PFS_OK: i32 = 0;
 
@@ -88,90 +86,36 @@ pub const PFS_JOB_TWICE: i32 = 32;
 /// The order file is too long.
 pub const PFS_FILE_TOO_LONG: i32 = 33;
 
-/// Why a function doesn't do what it is asked for.
-#[derive(Clone, Copy, Debug, PartialEq, Eq, Error)]
+/// Why a function doesn't do what it is asked for, with the number that C is told.
+#[derive(Clone, Copy)]
 pub(crate) enum Refusal {
-    /// Memory was refused.
-    #[error("Memory")]
-    Memory,
-    /// The number of jobs or of machines is out of its limit.
-    #[error("Size")]
-    Size,
-    /// A list hasn't as many entries as the sizes say.
-    #[error("Length")]
-    Length,
-    /// A time is too long.
-    #[error("Time")]
-    Time,
-    /// A job isn't below the number of jobs.
-    #[error("Job")]
-    Job,
-    /// A job stands twice, or one that is to be inserted stands there already.
-    #[error("Repeated")]
-    Repeated,
-    /// The number of jobs that a round takes out isn't from 1 to the number of jobs.
-    #[error("Take")]
-    Take,
-    /// Too many passes.
-    #[error("Passes")]
-    Passes,
-    /// Too many rounds.
-    #[error("Rounds")]
-    Rounds,
-    /// A seed that Taillard's generator doesn't take.
-    #[error("Seed")]
-    Seed,
-    /// No layout has this number.
-    #[error("Layout")]
-    Layout,
-    /// No block has this number.
-    #[error("Block")]
-    Block,
-    /// A makespan that an order file can't state.
-    #[error("Makespan")]
-    Makespan,
-    /// Too little room for the answer.
-    #[error("Room")]
-    Room,
-    /// The file ends before the block.
-    #[error("NoBlock")]
-    NoBlock,
-    /// A size line has too few or too many numbers.
-    #[error("SizeCount")]
-    SizeCount,
-    /// A number of a size line is out of its limit.
-    #[error("SizeRange")]
-    SizeRange,
-    /// A line of times has a word too.
-    #[error("MixedLine")]
-    MixedLine,
-    /// A time of the file is too long.
-    #[error("TimeRange")]
-    TimeRange,
-    /// Another machine's number is due.
-    #[error("MachineNumber")]
-    MachineNumber,
-    /// A number stands behind a block's last time.
-    #[error("ExtraNumber")]
-    ExtraNumber,
-    /// The file ends inside a block.
-    #[error("Truncated")]
-    Truncated,
-    /// The block doesn't end within the longest input.
-    #[error("InputTooLong")]
-    InputTooLong,
-    /// No order file.
-    #[error("Syntax")]
-    Syntax,
-    /// A job of the order file is out of range.
-    #[error("JobRange")]
-    JobRange,
-    /// A job stands twice in the order file.
-    #[error("JobTwice")]
-    JobTwice,
-    /// The order file is too long.
-    #[error("FileTooLong")]
-    FileTooLong,
+    Memory = PFS_MEMORY as isize,
+    Size = PFS_SIZE as isize,
+    Length = PFS_LENGTH as isize,
+    Time = PFS_TIME as isize,
+    Job = PFS_JOB as isize,
+    Repeated = PFS_REPEATED as isize,
+    Take = PFS_TAKE as isize,
+    Passes = PFS_PASSES as isize,
+    Rounds = PFS_ROUNDS as isize,
+    Seed = PFS_SEED as isize,
+    Layout = PFS_LAYOUT as isize,
+    Block = PFS_BLOCK as isize,
+    Makespan = PFS_MAKESPAN as isize,
+    Room = PFS_ROOM as isize,
+    NoBlock = PFS_NO_BLOCK as isize,
+    SizeCount = PFS_SIZE_COUNT as isize,
+    SizeRange = PFS_SIZE_RANGE as isize,
+    MixedLine = PFS_MIXED_LINE as isize,
+    TimeRange = PFS_TIME_RANGE as isize,
+    MachineNumber = PFS_MACHINE_NUMBER as isize,
+    ExtraNumber = PFS_EXTRA_NUMBER as isize,
+    Truncated = PFS_TRUNCATED as isize,
+    InputTooLong = PFS_INPUT_TOO_LONG as isize,
+    Syntax = PFS_SYNTAX as isize,
+    JobRange = PFS_JOB_RANGE as isize,
+    JobTwice = PFS_JOB_TWICE as isize,
+    FileTooLong = PFS_FILE_TOO_LONG as isize,
 }
 
 impl Refusal {
@@ -180,34 +124,6 @@ impl Refusal {
         ensures value { result ≡ number_of self }
         ensures some { result ≢ PFS_OK }
     {
-        match self {
-            Refusal::Memory => PFS_MEMORY,
-            Refusal::Size => PFS_SIZE,
-            Refusal::Length => PFS_LENGTH,
-            Refusal::Time => PFS_TIME,
-            Refusal::Job => PFS_JOB,
-            Refusal::Repeated => PFS_REPEATED,
-            Refusal::Take => PFS_TAKE,
-            Refusal::Passes => PFS_PASSES,
-            Refusal::Rounds => PFS_ROUNDS,
-            Refusal::Seed => PFS_SEED,
-            Refusal::Layout => PFS_LAYOUT,
-            Refusal::Block => PFS_BLOCK,
-            Refusal::Makespan => PFS_MAKESPAN,
-            Refusal::Room => PFS_ROOM,
-            Refusal::NoBlock => PFS_NO_BLOCK,
-            Refusal::SizeCount => PFS_SIZE_COUNT,
-            Refusal::SizeRange => PFS_SIZE_RANGE,
-            Refusal::MixedLine => PFS_MIXED_LINE,
-            Refusal::TimeRange => PFS_TIME_RANGE,
-            Refusal::MachineNumber => PFS_MACHINE_NUMBER,
-            Refusal::ExtraNumber => PFS_EXTRA_NUMBER,
-            Refusal::Truncated => PFS_TRUNCATED,
-            Refusal::InputTooLong => PFS_INPUT_TOO_LONG,
-            Refusal::Syntax => PFS_SYNTAX,
-            Refusal::JobRange => PFS_JOB_RANGE,
-            Refusal::JobTwice => PFS_JOB_TWICE,
-            Refusal::FileTooLong => PFS_FILE_TOO_LONG,
-        }
+        self as i32
     }
 }

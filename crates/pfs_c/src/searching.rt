@@ -133,10 +133,7 @@ fn rounds_of(
     judge_count(first, count)?;
     let instance = instance_of(alloc, times, jobs, machines, NO_NOTES)?;
     let order = order_of(alloc, start)?;
-    match improve(alloc, &instance, order, first, count, take, passes, seed) {
-        Ok(found) => Ok(found),
-        Err(_) => Err(Refusal::Memory),
-    }
+    improve(alloc, &instance, order, first, count, take, passes, seed).or(Err(Refusal::Memory))
 }
 
 fn judge_take(take: usize, jobs: usize) -> Result<(), Refusal>

@@ -59,10 +59,8 @@ fn makespan_of(
     let instance = instance_of(alloc, times, jobs, machines, NO_NOTES)?;
     let sequence = sequence_of(alloc, jobs, sequence)?;
     let mut bench = instance.metered();
-    match makespan(alloc, &mut bench, &sequence) {
-        Ok(span) => Ok(bench.reveal(span)),
-        Err(_) => Err(Refusal::Memory),
-    }
+    let span = makespan(alloc, &mut bench, &sequence).or(Err(Refusal::Memory))?;
+    Ok(bench.reveal(span))
 }
 
 /// A length of time below which no order's makespan goes (Taillard 1993).
@@ -165,10 +163,7 @@ fn table_of(
     judge_jobs(jobs, order)?;
     let instance = instance_of(alloc, times, jobs, machines, NO_NOTES)?;
     let order = order_of(alloc, order)?;
-    match table(alloc, &instance, &order) {
-        Ok(table) => Ok(table),
-        Err(_) => Err(Refusal::Memory),
-    }
+    table(alloc, &instance, &order).or(Err(Refusal::Memory))
 }
 
 /// The first best place of a job in a sequence of others, and the makespan with the job there.
@@ -217,17 +212,14 @@ fn best_of(
     let instance = instance_of(alloc, times, jobs, machines, NO_NOTES)?;
     let sequence = sequence_of(alloc, jobs, sequence)?;
     let mut bench = instance.metered();
-    let mut inserter = match HeadsTails::new(alloc, &bench) {
-        Ok(inserter) => inserter,
-        Err(_) => return Err(Refusal::Memory),
-    };
-    match inserter.best(alloc, &mut bench, &sequence, job as usize) {
-        Ok(best) => Ok(Placed {
-            place: best.place,
-            span: bench.reveal(best.span),
-        }),
-        Err(_) => Err(Refusal::Memory),
-    }
+    let mut inserter = HeadsTails::new(alloc, &bench).or(Err(Refusal::Memory))?;
+    let best = inserter
+        .best(alloc, &mut bench, &sequence, job as usize)
+        .or(Err(Refusal::Memory))?;
+    Ok(Placed {
+        place: best.place,
+        span: bench.reveal(best.span),
+    })
 }
 
 /// Draws times from 1 to 99 from a seed, as Taillard (1993) does for his benchmark.

@@ -6,7 +6,7 @@ ghost use Rattle.pfs_layout.specs.File.{IsInstanceFile};
 ghost use Rattle.pfs_layout.specs.Refuse.{RefusesInstance};
 ghost use Rattle.pfs_layout.specs.declared.fault.LayoutFault.{LayoutFault};
 ghost use Rattle.pfs_c.specs.Numbers.{number_of};
-ghost use Rattle.pfs_c.specs.Texts.{file_refusal, file_place, problem_of, put_in_front};
+ghost use Rattle.pfs_c.specs.Texts.{file_refusal, file_place, problem_of};
 ghost use Rattle.pfs_c.specs.Texts.{HoldsProblem, HasFault, WantsMemory, AnswersRead};
 
 use crate::numbers::{PFS_NO_BLOCK, PFS_OK, PFS_ROOM, Refusal};
@@ -67,10 +67,11 @@ pub extern "C" fn pfs_read(
     *jobs = instance.jobs();
     *machines = instance.machines();
     *notes = PfsNotes::from_notes(instance.notes());
-    if times.len() < instance.jobs() * instance.machines() {
+    let read = instance.times();
+    if times.len() < read.len() {
         return Refusal::Room.number();
     }
-    copy_times(&instance, times);
+    times[..read.len()].copy_from_slice(read);
     PFS_OK
 }
 
@@ -127,16 +128,5 @@ fn place_of(fault: LayoutFault) -> u64
         LayoutFault::Truncated { have } => have as u64,
         LayoutFault::TooLong | LayoutFault::SeedRange | LayoutFault::Read | LayoutFault::Memory =>
             0,
-    }
-}
-
-// Writes the times of an instance, job by job, into the front of a list that has room for them.
-fn copy_times(instance: &Instance, times: &mut [u32])
-    requires { instance.now.shop.jobs * instance.now.shop.machines ≤ length times.old }
-    ensures { times.new ≡ put_in_front instance.now.shop.times times.old }
-{
-    let machines = instance.machines();
-    for place in 0..instance.jobs() * machines {
-        times[place] = instance.time(place / machines, place % machines);
     }
 }

@@ -3,12 +3,13 @@ ghost use Rattle.std.specs.Prelude.{◌≡◌, ◌≢◌, ℕ, ◌<◌, ◌≤�
 ghost use Rattle.pfs_order.specs.OrderFile.{IsText, IsOrderFile, RefusesOrder};
 ghost use Rattle.pfs_order.specs.declared.fault.OrderFault.{OrderFault};
 ghost use Rattle.pfs_c.specs.Numbers.{number_of};
-ghost use Rattle.pfs_c.specs.Texts.{order_refusal, order_place, order_file_of, put_in_front};
+ghost use Rattle.pfs_c.specs.Texts.{order_refusal, order_place, order_file_of};
 ghost use Rattle.pfs_c.specs.Texts.{AnswersReadOrder};
 
+use crate::given::copy_order;
 use crate::numbers::{PFS_OK, PFS_ROOM, PFS_SYNTAX, Refusal};
 use crate::texts::bytes::Bytes;
-use pfs_order::{Order, OrderFault, OrderFile, read_order};
+use pfs_order::{OrderFault, OrderFile, read_order};
 use std::alloc::Global;
 
 /// Reads an order file, of version 1 or 2, that stands in memory. Its order goes into the front of `order`, in
@@ -57,7 +58,7 @@ pub extern "C" fn pfs_read_order(
     if order.len() < file.order().len() {
         return Refusal::Room.number();
     }
-    copy_jobs(file.order(), order);
+    copy_order(file.order(), order);
     PFS_OK
 }
 
@@ -93,15 +94,5 @@ fn place_of(fault: OrderFault) -> u64
         OrderFault::Syntax { offset } => offset as u64,
         OrderFault::JobRange { place } | OrderFault::Repeated { place } => place as u64,
         OrderFault::TooLong | OrderFault::Read | OrderFault::Memory => 0,
-    }
-}
-
-// Writes the jobs of an order into the front of a list that has room for them.
-fn copy_jobs(order: &Order, jobs: &mut [u32])
-    requires { length order.now ≤ length jobs.old }
-    ensures { jobs.new ≡ put_in_front order.now jobs.old }
-{
-    for place in 0..order.len() {
-        jobs[place] = order.at(place) as u32;
     }
 }

@@ -1,17 +1,14 @@
 //! Writing instance files into memory.
-ghost use Rattle.std.specs.Prelude.{◌≡◌, ◌≢◌, length, Some, IfOk};
-ghost use Rattle.pfs_layout.specs.CanonicalText.{canonical_text};
-ghost use Rattle.pfs_c.specs.Numbers.{Judges, Refuses};
-ghost use Rattle.pfs_c.specs.Texts.{layout_named, layout_refusal, write_refusal, problem_of, text_in};
-ghost use Rattle.pfs_c.specs.Texts.{put_in_front, AnswersWrite};
+ghost use Rattle.std.specs.Prelude.{◌≡◌, ◌≢◌, length, IfOk};
+ghost use Rattle.pfs_c.specs.Numbers.{Refuses};
+ghost use Rattle.pfs_c.specs.Texts.{write_refusal, problem_of, text_in, put_in_front, AnswersWrite};
 
 use crate::given::{instance_of, judge_shop};
 use crate::numbers::{PFS_OK, PFS_ROOM, Refusal};
 use crate::texts::bytes::{Text, hand_out};
 use crate::texts::{PfsNotes, layout_of};
-use pfs_base::Instance;
-use pfs_layout::{Layout, write_block};
-use std::alloc::{AllocError, Global};
+use pfs_layout::write_block;
+use std::alloc::Global;
 
 /// Writes an instance as a file of one block, in the layout of a number, into the front of `text`, with single
 /// spaces and no leading zeros; the layout of the OR-Library has no notes. `len` is told how many bytes the
@@ -58,32 +55,9 @@ fn file_of(
     ensures text { IfOk result (λ file. file.items ≡ text_in layout (problem_of jobs machines notes.now times.now)) }
 {
     judge_shop(times, jobs, machines)?;
-    let named = named_layout(layout)?;
+    let named = layout_of(layout).ok_or(Refusal::Layout)?;
     let instance = instance_of(alloc, times, jobs, machines, notes.notes())?;
-    match text_of(alloc, &instance, named) {
-        Ok(file) => Ok(file),
-        Err(AllocError) => Err(Refusal::Memory),
-    }
-}
-
-// The layout of a number, if one has it.
-fn named_layout(number: u32) -> Result<Layout, Refusal>
-    ensures judged { Judges result (layout_refusal number) }
-    ensures named { IfOk result (λ layout. layout_named number ≡ Some layout) }
-{
-    match layout_of(number) {
-        Some(layout) => Ok(layout),
-        None => Err(Refusal::Layout),
-    }
-}
-
-// The text of an instance. It fails only where memory for it is refused.
-fn text_of(alloc: Global, instance: &Instance, layout: Layout) -> Result<Vec<u8>, AllocError>
-    ensures { IfOk result (λ text. text.items ≡ canonical_text layout instance.now) }
-{
     let mut text = Text::new(alloc);
-    match write_block(&mut text, instance, layout) {
-        Ok(()) => Ok(text.into_bytes()),
-        Err(_) => Err(AllocError),
-    }
+    write_block(&mut text, &instance, named).or(Err(Refusal::Memory))?;
+    Ok(text.into_bytes())
 }

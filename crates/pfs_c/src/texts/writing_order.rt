@@ -1,7 +1,6 @@
 //! Writing order files into memory.
-ghost use Rattle.std.specs.Prelude.{◌≡◌, ◌≢◌, ◌<◌, ◌^◌, length, IfOk};
+ghost use Rattle.std.specs.Prelude.{◌≡◌, ◌≢◌, length, IfOk};
 ghost use Rattle.pfs_order.specs.OrderText.{file_text};
-ghost use Rattle.pfs_order.specs.Sequence.{AreMachines};
 ghost use Rattle.pfs_c.specs.Numbers.{Refuses};
 ghost use Rattle.pfs_c.specs.Texts.{write_order_refusal, machines_stated, put_in_front, AnswersWrite};
 
@@ -9,8 +8,8 @@ use crate::given::{judge_jobs, order_of};
 use crate::numbers::{PFS_OK, PFS_ROOM, Refusal};
 use crate::texts::bytes::{Text, hand_out};
 use pfs_base::{MOST_JOBS, MOST_MACHINES};
-use pfs_order::{Order, write_order};
-use std::alloc::{AllocError, Global};
+use pfs_order::write_order;
+use std::alloc::Global;
 
 /// The greatest makespan that an order file can state.
 const MOST_MAKESPAN: u64 = 999_999_999_999_999_999;
@@ -60,26 +59,7 @@ fn file_of(alloc: Global, order: &[u32], machines: usize, makespan: u64) -> Resu
     }
     let order = order_of(alloc, order)?;
     let stated = if machines == 0 { None } else { Some(machines) };
-    match text_of(alloc, &order, stated, makespan) {
-        Ok(file) => Ok(file),
-        Err(AllocError) => Err(Refusal::Memory),
-    }
-}
-
-// The text of an order. It fails only where memory for it is refused.
-fn text_of(
-    alloc: Global,
-    order: &Order,
-    machines: Option<usize>,
-    makespan: u64,
-) -> Result<Vec<u8>, AllocError>
-    requires machines { AreMachines machines }
-    requires stated { makespan < 10 ^ 18 }
-    ensures { IfOk result (λ text. text.items ≡ file_text order.now machines makespan) }
-{
     let mut text = Text::new(alloc);
-    match write_order(&mut text, order, machines, makespan) {
-        Ok(_) => Ok(text.into_bytes()),
-        Err(_) => Err(AllocError),
-    }
+    write_order(&mut text, &order, stated, makespan).or(Err(Refusal::Memory))?;
+    Ok(text.into_bytes())
 }

@@ -1,5 +1,9 @@
-use Rattle.std.proofs.Common.{◌≡◌, take}
+-- The jobs before the place are copied, and what stands from it on is as it was.
+use Rattle.std.proofs.Common.{◌≡◌, take, drop}
 use Rattle.pfs_c.proofs.given.copy_order.Given as goal
 
 abbrev pub invariant-loop-place : goal.invariant-loop-place
-invariant-loop-place l = take l.place l.out ≡ take l.place l.order
+invariant-loop-place l = record {
+  copied : take l.place l.out ≡ take l.place l.order;
+  behind : drop l.place l.out ≡ drop l.place l.initial.out;
+}

@@ -1,4 +1,5 @@
-use Rattle.std.proofs.Common.{◌≡◌, ℕ, List, length, ap, refl, arith, ◌∙◌}
+use Rattle.std.proofs.Common.{◌≡◌, ℕ, List, length, ap, refl, arith, ◌∙◌, Result, Ok, Err, IfOk}
+use Rattle.std.specs.Result.{result_or}
 use Rattle.pfs_base.specs.FlowShop.{FlowShop}
 use Rattle.pfs_base.specs.Problem.{Problem}
 use Rattle.pfs_insert.specs.Inserter.{IsBestPlace}
@@ -25,8 +26,14 @@ same_best : (shop other : FlowShop) (jobs others : List ℕ) (job place span num
     → IsBestPlace other others job place number
 same_best shop other jobs others job place span number h e f g = rw (← e, ← f, g) h
 
-pub returns-in-Ok-best-clause-best : goal.returns-in-Ok-best-clause-best
-returns-in-Ok-best-clause-best c =
-    same_best _ _ _ _ _ _ _ _ c.in-Ok-best.ensures.best
+-- what an `Ok` says is said where only the error is another
+kept_by_or : {A B C : Type 0} (result : Result A B) (why : C) (made : A) (P : A → Type 0) → IfOk result P
+    → Ok made ≡ result_or result (Err why) → P made
+kept_by_or (Ok made) why other P holds is = let same : made ≡ other = cc in rw same at holds
+kept_by_or (Err fault) why other P holds is = absurd (cc)
+
+pub returns-clause-best : goal.returns-clause-best
+returns-clause-best c =
+    same_best _ _ _ _ _ _ _ _ (kept_by_or c.best.result _ _ _ c.best.ensures.best c.in_ok-best.ensures)
     (c.metered-bench.ensures.shop ∙ ap (λ (p : Problem). p.shop) c.in_ok-instance.ensures.made)
     (ap (λ (s : Sequence). s.jobs) c.in_ok-sequence.ensures.made) c.reveal.ensures
