@@ -1,7 +1,7 @@
 -- Lists of jobs that are judged from the left.
 use Rattle.std.proofs.Common.{◌≡◌, ◌↔◌, ℕ, zero, suc, ◌+◌, ◌<◌, ◌≤◌, refl, Bool, true, false, List, [], ◌∷◌}
-use Rattle.std.proofs.Common.{length, take, map, get_or, set, nat_eq, nat_lt, All, Contains, insert, sym, ◌∙◌, inl, inr, arith}
-use Rattle.std.proofs.Common.{Option, Some, None, add-zero, add-one, zero-add, ◌||◌, length-set, Result, IsOk}
+use Rattle.std.proofs.Common.{length, take, map, get_or, set, nat_eq, nat_lt, All, Contains, insert, sym, ◌∙◌, inl, inr}
+use Rattle.std.proofs.Common.{arith, Option, Some, None, add-zero, add-one, zero-add, ◌||◌, length-set, Result, IsOk}
 use Rattle.std.specs.List.{list_any, range_with_len}
 use Rattle.std.specs.Cmp.{nat_eq_equiv}
 use Rattle.std.proofs.lemmas.Bool.{cases_Bool, ne_eqb, eqb-true, eqb-false}
@@ -94,7 +94,8 @@ job_small size job others h = elim (cases_Bool (nat_lt job size)) [
 
 pub job_absent : (size job : ℕ) (others : List ℕ) → job_refusal size others job ≡ None → Contains others job → ⊥
 job_absent size job others h among =
-    let twice = job_twice size job others (job_small size job others h) (list_any-from_Contains nat_eq_equiv job others among) in
+    let found = list_any-from_Contains nat_eq_equiv job others among in
+    let twice = job_twice size job others (job_small size job others h) found in
     absurd (cc)
 
 -- ---- jobs up to a place, which were judged and marked
@@ -118,8 +119,9 @@ judged_out size jobs marks place h within great =
     first_below (place_refusal size jobs) (length jobs) place Job within h.right
     (job_out size (get_or jobs place 0) (take place jobs) great)
 
-pub judged_twice : (size : ℕ) (jobs : List ℕ) (marks : List Bool) (place : ℕ) (d : Bool) → AreJudged size jobs marks place
-    → place < length jobs → get_or jobs place 0 < size → get_or marks (get_or jobs place 0) d ≡ true
+pub judged_twice : (size : ℕ) (jobs : List ℕ) (marks : List Bool) (place : ℕ) (d : Bool)
+    → AreJudged size jobs marks place → place < length jobs → get_or jobs place 0 < size
+    → get_or marks (get_or jobs place 0) d ≡ true
     → jobs_refusal size jobs ≡ Some Repeated
 judged_twice size jobs marks place d h within small mark =
     let enough = h.enough in
@@ -136,8 +138,9 @@ or_false true = refl
 or_false false = refl
 
 -- one job more, which is marked
-pub judged_more : (size : ℕ) (jobs : List ℕ) (marks : List Bool) (place : ℕ) (d : Bool) → AreJudged size jobs marks place
-    → place < length jobs → get_or jobs place 0 < size → get_or marks (get_or jobs place 0) d ≡ false
+pub judged_more : (size : ℕ) (jobs : List ℕ) (marks : List Bool) (place : ℕ) (d : Bool)
+    → AreJudged size jobs marks place → place < length jobs → get_or jobs place 0 < size
+    → get_or marks (get_or jobs place 0) d ≡ false
     → AreJudged size jobs (set marks (get_or jobs place 0) true) (place + 1)
 judged_more size jobs marks place d h within small mark =
     let job = get_or jobs place 0 in
@@ -158,7 +161,8 @@ judged_more size jobs marks place d h within small mark =
         | inl same ↦ rw (more other, same, or_true (list_any (nat_eq other) (take place jobs)))
             (get_or-set_at marks job other true e (eqb-true other job same) (omega arith))
         | inr apart ↦ rw (more other, apart, or_false (list_any (nat_eq other) (take place jobs)))
-            (get_or-set_other marks job other true e (eqb-false other job apart) ∙ h.marked other e (omega (arith, long)))
+            (get_or-set_other marks job other true e (eqb-false other job apart)
+            ∙ h.marked other e (omega (arith, long)))
       ];
     }
 
@@ -183,7 +187,8 @@ sequence_to size jobs (suc count) h within =
     rw same (rw (insert_end (take count jobs) job) at put)
 
 pub sequence_of_right : (size : ℕ) (jobs : List ℕ) → jobs_refusal size jobs ≡ None → IsSequence size jobs
-sequence_of_right size jobs h = rw (take_all (length jobs) jobs (omega arith)) at (sequence_to size jobs (length jobs) h (omega arith))
+sequence_of_right size jobs h =
+    rw (take_all (length jobs) jobs (omega arith)) at (sequence_to size jobs (length jobs) h (omega arith))
 
 IsSequence-rest : (size job : ℕ) (jobs : List ℕ) → IsSequence size (job ∷ jobs) → IsSequence size jobs
 IsSequence-rest size job jobs h = record {
@@ -225,11 +230,14 @@ grown jobs place within =
 
 -- ---- what a judgement says
 
-judged_by : (result : Result (Unit {0}) Refusal) (found : Option Refusal) (size : ℕ) (jobs : List ℕ) → Judges result found
-    → jobs_refusal size jobs ≡ found → IsOk result ↔ IsSequence size jobs
+judged_by : (result : Result (Unit {0}) Refusal) (found : Option Refusal) (size : ℕ) (jobs : List ℕ)
+    → Judges result found → jobs_refusal size jobs ≡ found → IsOk result ↔ IsSequence size jobs
 judged_by result None size jobs h is = (λ _. sequence_of_right size jobs is, λ _. h)
 judged_by result (Some why) size jobs h is =
-    (λ ok. absurd (let e = rw h at ok in cc), λ sequence. absurd (let right = right_of_sequence size jobs sequence in cc))
+    (
+      λ ok. absurd (let e = rw h at ok in cc),
+      λ sequence. absurd (let right = right_of_sequence size jobs sequence in cc),
+    )
 
 pub judged_is : (result : Result (Unit {0}) Refusal) (size : ℕ) (jobs : List ℕ) → Judges result (jobs_refusal size jobs)
     → IsOk result ↔ IsSequence size jobs

@@ -12,4 +12,5 @@ pub insertion_room : (cells jobs machines : ℕ) → cells ≡ 0 → jobs ≤ MO
     → cells + (4 * (jobs + 1) - 2) * machines < 2 ^ 64
 insertion_room cells jobs machines none few low =
     let more : 4 * (jobs + 1) - 2 ≤ 4 * MOST_JOBS + 2 = omega arith in
-    let most : (4 * (jobs + 1) - 2) * machines ≤ (4 * MOST_JOBS + 2) * MOST_MACHINES = mul-le-mul more low in omega arith
+    let most : (4 * (jobs + 1) - 2) * machines ≤ (4 * MOST_JOBS + 2) * MOST_MACHINES = mul-le-mul more low in
+    omega arith

@@ -1,6 +1,6 @@
 -- Lists of times that are judged.
-use Rattle.std.proofs.Common.{◌≡◌, ℕ, ◌+◌, ◌<◌, ◌≤◌, refl, Bool, true, false, List, [], ◌∷◌, length, take, max, get_or, ◌&&◌, nat_le}
-use Rattle.std.proofs.Common.{inl, inr, sym, arith}
+use Rattle.std.proofs.Common.{◌≡◌, ℕ, ◌+◌, ◌<◌, ◌≤◌, refl, Bool, true, false, List, [], ◌∷◌, length, take, max, get_or}
+use Rattle.std.proofs.Common.{◌&&◌, nat_le, inl, inr, sym, arith}
 use Rattle.std.specs.List.{list_all}
 use Rattle.std.proofs.lemmas.Bool.{cases_Bool}
 use Rattle.std.proofs.lemmas.Bool.Decides.{nat_tests}
