@@ -19,7 +19,7 @@ use Rattle.pfs_order.specs.declared.fault.OrderFault.TheVariants.{JobRange, Repe
 use Rattle.pfs_order.specs.Sequence.{Sequence, IsSequence}
 use Rattle.pfs_order.specs.OrderFile.{IsRepeated, AreRightBefore, IsJobFault}
 use Rattle.pfs_order.specs.Private.Reading.{on_ok, take_job, take_jobs, none_of}
-use Rattle.pfs_order.proofs.Published.Sequences.{IsSequence-nil, IsSequence-insert}
+use Rattle.pfs_order.proofs.Published.Sequences.{IsSequence-nil, IsSequence-insert, cases_Contains}
 
 abbrev pub with_job : Sequence → ℕ → Sequence
 with_job seq job = record seq { jobs = seq.jobs ++ job ∷ [] }
@@ -53,13 +53,9 @@ module _ (seq : Sequence) (number : ℕ) where
     | inl out ↦ inl (λ within. grind (arith, nat_tests))
     | inr among ↦
         let within : IsNumber seq number = grind (arith, nat_tests) in
-        elim (cases_Bool (list_any (eqb (number - 1)) seq.jobs)) [
-          | inl found ↦ inr (inl (within, Contains-from_any eqb-true (number - 1) seq.jobs found))
-          | inr none ↦ inr (inr (
-            within,
-            λ there.
-                let found = list_any-from_Contains nat_eq_equiv (number - 1) seq.jobs there in absurd (cc),
-          ))
+        elim (cases_Contains seq.jobs (number - 1)) [
+          | inl there ↦ inr (inl (within, there))
+          | inr absent ↦ inr (inr (within, absent))
         ]
   ]
 

@@ -1,6 +1,6 @@
 -- Sequences under edits.
 use Rattle.std.proofs.Common.{◌≡◌, ℕ, zero, suc, ◌+◌, ◌<◌, ◌≤◌, ◌++◌, refl, List, [], ◌∷◌, length, filter, not}
-use Rattle.std.proofs.Common.{inl, inr, Contains, eqb, false, insert, remove, get_or, sym, ◌∙◌, arith}
+use Rattle.std.proofs.Common.{inl, inr, ◌⊎◌, Contains, eqb, false, insert, remove, get_or, sym, ◌∙◌, arith}
 use Rattle.std.specs.List.{IsDistinct, list_any, range_with_len}
 use Rattle.std.specs.List.Sorted.{IsPermutation}
 use Rattle.std.specs.Cmp.{nat_eq_equiv}
@@ -102,15 +102,18 @@ pub length-lt-size : (size job : ℕ) (jobs : List ℕ) → job < size → (Cont
 length-lt-size size job jobs small absent h =
     length-le-size size (job ∷ jobs) (IsSequence-cons size job jobs small absent h)
 
+pub cases_Contains : (jobs : List ℕ) (job : ℕ) → Contains jobs job ⊎ (Contains jobs job → ⊥)
+cases_Contains jobs job = elim (cases_Bool (list_any (eqb job) jobs)) [
+  | inl found ↦ inl (Contains-from_any eqb-true job jobs found)
+  | inr none ↦ inr (λ among. let found = list_any-from_Contains nat_eq_equiv job jobs among in absurd (cc))
+]
+
 -- each job stands in a sequence of all
 pub Contains-all : (size job : ℕ) (jobs : List ℕ) → IsSequence size jobs → length jobs ≡ size → job < size
     → Contains jobs job
-Contains-all size job jobs h full small = elim (cases_Bool (list_any (eqb job) jobs)) [
-  | inl found ↦ Contains-from_any eqb-true job jobs found
-  | inr none ↦
-      let fewer = length-lt-size size job jobs small
-      (λ among. let found = list_any-from_Contains nat_eq_equiv job jobs among in absurd (cc)) h in
-      absurd (omega arith)
+Contains-all size job jobs h full small = elim (cases_Contains jobs job) [
+  | inl among ↦ among
+  | inr absent ↦ let fewer = length-lt-size size job jobs small absent h in absurd (omega arith)
 ]
 
 -- ---- all jobs, in the order of their numbers
