@@ -1,6 +1,6 @@
 -- What was read of an input, and what its judgement says of the whole.
-use Rattle.std.proofs.Common.{◌≡◌, ◌≢◌, ℕ, ◌+◌, ◌≤◌, List, ◌++◌, length, take, Option, Some, None, refl, ap, subst, Bool}
-use Rattle.std.proofs.Common.{true, [], arith, inl, inr}
+use Rattle.std.proofs.Common.{◌≡◌, ◌≢◌, ℕ, ◌+◌, ◌≤◌, List, ◌++◌, length, take, Option, Some, None, refl, ap, subst}
+use Rattle.std.proofs.Common.{Bool, true, [], arith, inl, inr}
 use Rattle.std.specs.Prelude.{IfSome, IfOk, IfErr, OnOk, Result, Ok, Err}
 use Rattle.std.specs.Io.KnownBytes.{Consumes, IsAtEnd}
 use Rattle.std.specs.Result.{result_err}
@@ -106,47 +106,36 @@ ended (Ok file) (long bytes c size is) = absurd (cc)
 ended (Ok file) (stopped f is) = absurd (cc)
 ended (Err fault) told = tt
 
--- how far it was read
-reads : {old new : Option (List ℕ)} (answer : Result StatedOrder OrderFault) → Told old new answer
-    → IfSome old (λ input. ReadsOrderAsFar input new (result_err answer))
-reads {old} {new} answer (stopped (front, (few, c)) is) =
-    holds_of_known_input old new front (λ input. ReadsOrderAsFar input new (result_err answer)) c (λ rest left. record {
+-- how far a known input was read of which this front was read
+reads_front : (old new : Option (List ℕ)) (fault : Option OrderFault) (front : List ℕ) → Consumes old new front
+    → length front ≤ LONGEST_ORDER_FILE + 1 → (fault ≡ Some Read → length front ≤ LONGEST_ORDER_FILE)
+    → (fault ≡ Some TooLong → length front ≡ LONGEST_ORDER_FILE + 1)
+    → (fault ≢ Some Read → fault ≢ Some TooLong → IsAtEnd new) → (fault ≡ Some Memory → IsAtEnd new × IsText front)
+    → IfSome old (λ input. ReadsOrderAsFar input new fault)
+reads_front old new fault front c few failed too_long end memory =
+    holds_of_known_input old new front (λ input. ReadsOrderAsFar input new fault) c (λ rest left. record {
       front = front;
       rest = rest;
       whole = refl;
       leaves = left;
-      few = omega arith;
-      failed = λ _. omega arith;
-      too_long = λ told. absurd (cc);
-      ended = λ other. absurd (other (ap result_err is));
-      memory = λ none. absurd (cc);
+      few = few;
+      failed = failed;
+      too_long = too_long;
+      ended = λ one other. rw left at (end one other);
+      memory = λ is. rw (rw left at (memory is).0, append-nil) (memory is).1;
     })
-reads {old} {new} answer (long bytes c size is) =
-    holds_of_known_input old new bytes (λ input. ReadsOrderAsFar input new (result_err answer)) c (λ rest left. record {
-      front = bytes;
-      rest = rest;
-      whole = refl;
-      leaves = left;
-      few = omega arith;
-      failed = λ failed. absurd (cc);
-      too_long = λ _. size;
-      ended = λ _ other. absurd (other (ap result_err is));
-      memory = λ none. absurd (cc);
-    })
-reads {old} {new} answer (whole bytes c end few j) =
-    holds_of_known_input old new bytes (λ input. ReadsOrderAsFar input new (result_err answer)) c (λ rest left.
-    let none : rest ≡ [] = rw left at end in
-    record {
-      front = bytes;
-      rest = rest;
-      whole = refl;
-      leaves = left;
-      few = omega arith;
-      failed = λ _. few;
-      too_long = λ told. absurd (never_long answer j told);
-      ended = λ _ _. none;
-      memory = λ memory. rw (none, append-nil) (of_memory answer j memory);
-    })
+
+reads : {old new : Option (List ℕ)} (answer : Result StatedOrder OrderFault) → Told old new answer
+    → IfSome old (λ input. ReadsOrderAsFar input new (result_err answer))
+reads answer (stopped (front, (few, c)) is) =
+    reads_front _ _ (result_err answer) front c (omega arith) (λ _. omega arith) (λ told. absurd (cc))
+    (λ other. absurd (other (ap result_err is))) (λ none. absurd (cc))
+reads answer (long bytes c size is) =
+    reads_front _ _ (result_err answer) bytes c (omega arith) (λ failed. absurd (cc)) (λ _. size)
+    (λ _ other. absurd (other (ap result_err is))) (λ none. absurd (cc))
+reads answer (whole bytes c end few j) =
+    reads_front _ _ (result_err answer) bytes c (omega arith) (λ _. few) (λ told. absurd (never_long answer j told))
+    (λ _ _. end) (λ memory. (end, of_memory answer j memory))
   where
     never_long : (read : Result StatedOrder OrderFault) → JudgesText bytes read → result_err read ≢ Some TooLong
     never_long (Ok file) k is = cc
