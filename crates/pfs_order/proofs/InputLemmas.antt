@@ -1,6 +1,6 @@
 -- What was read of an input, and what its judgement says of the whole.
 use Rattle.std.proofs.Common.{◌≡◌, ◌≢◌, ℕ, ◌+◌, ◌≤◌, List, ◌++◌, length, take, Option, Some, None, refl, ap, subst}
-use Rattle.std.proofs.Common.{Bool, true, [], arith, inl, inr}
+use Rattle.std.proofs.Common.{Bool, true, arith, inl, inr}
 use Rattle.std.specs.Prelude.{IfSome, IfOk, IfErr, OnOk, Result, Ok, Err}
 use Rattle.std.specs.Io.KnownBytes.{Consumes, IsAtEnd}
 use Rattle.std.specs.Result.{result_err}
