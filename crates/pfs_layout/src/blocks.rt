@@ -207,6 +207,7 @@ impl Blocks {
 
     // A line end or the end of the input ends the unfinished number, if there is one.
     #[inline(always)]
+    #[tactic(auto, using(crate::proofs::Reading::ByteSteps::keeps_number))]
     fn end_last_number(&mut self, number: Option<Number>)
         requires can { self.old.phase ≡ Phase.Body → CanCount self.old }
         requires count { self.old.size_line.count ≤ LONGEST_INPUT }
@@ -328,6 +329,7 @@ impl Blocks {
 
     // Judges an event of the last line.
     #[inline(always)]
+    #[tactic(auto, using(crate::proofs::Reading::ByteSteps::keeps_number))]
     fn after(&mut self, alloc: Global, event: Event)
         requires ready { IsReady self.old }
         ensures judged { self.new.phase ≢ Phase.Refused LayoutFault.Memory → self.new ≡ blocks_after self.old event }

@@ -1,5 +1,5 @@
 -- The numbers that are due: by index, for a problem and back, and their fronts.
-use Rattle.pfs_layout.proofs.Words.{arith, ◌≡◌, ℕ, ◌≤◌, true, List, nat_le, All, list_all, nat_tests, LONGEST_TIME}
+use Rattle.pfs_layout.proofs.Words.{arith, ◌≡◌, ℕ, ◌≤◌, true, List, All, nat_tests, LONGEST_TIME}
 use Rattle.pfs_layout.proofs.Words.{limits, Problem, Size, size_of, is_within_limits, IsInstance, ◌+◌, ◌*◌, ◌/◌, ◌%◌}
 use Rattle.pfs_layout.proofs.Words.{◌<◌, [], ◌∷◌, length, get_or, refl, ◌∙◌, inl, inr, cases_eq, eq-eqb, elements}
 use Rattle.pfs_layout.proofs.Words.{length-map-range_with_len, mod-mul-add, mul-add-lt, FlowShop, time_of, Layout}
@@ -11,16 +11,13 @@ use Rattle.std.proofs.lemmas.List.Sums.{AllPass-from_list_all, list_all-from_All
 use Rattle.pfs_base.specs.declared.limits.TheConstants.{GREATEST_NOTE}
 use Rattle.std.specs.List.{enumerate_from}
 use Rattle.std.proofs.lemmas.List.FromFn.{get_or-enumerate_from, length-enumerate_from}
-use Rattle.std.proofs.Common.{leb-true, length-drop}
+use Rattle.std.proofs.Common.{length-drop}
 use Rattle.pfs_base.specs.FlowShop.{AreSizes}
 use Rattle.std.proofs.lemmas.List.{get_or_past, get_or_default}
 use Rattle.pfs_layout.proofs.Tables.{length-rows, rows_at, at_row, table_at, length-table, same_table, all_table}
 use Rattle.pfs_layout.specs.Laws.{BeginDue, DueFronts}
 
 -- ---- sizes within the limits
-
-pub within_size : (problem : Problem) → IsInstance limits problem → is_within_limits (size_of problem) ≡ true
-within_size problem is = grind (arith, nat_tests)
 
 -- what the test says
 pub record AreWithin (size : Size) : Type 0 where
@@ -31,11 +28,6 @@ pub record AreWithin (size : Size) : Type 0 where
 
 pub size_within : (size : Size) → is_within_limits size ≡ true → AreWithin size
 size_within size e = grind (arith, nat_tests)
-
--- times that pass the test are short
-pub all_short : (times : List ℕ) → list_all (λ time. nat_le time LONGEST_TIME) times ≡ true
-    → All (λ time. time ≤ LONGEST_TIME) times
-all_short times e = λ k d h. leb-true _ _ (AllPass-from_list_all (λ time. nat_le time LONGEST_TIME) times e k d h)
 
 -- ---- the numbers that are due, by index
 

@@ -1,12 +1,12 @@
 -- What more input and wider limits change.
 use Rattle.pfs_layout.proofs.Words.{◌≡◌, ℕ, List, [], ◌∷◌, ◌++◌, Some, append_assoc, append-nil, by_push, Layout}
-use Rattle.pfs_layout.proofs.Words.{LayoutFault, byte_fault, RefusesInstance, ◌≤◌, length, arith, lit≤, AllByRecursion}
+use Rattle.pfs_layout.proofs.Words.{LayoutFault, byte_fault, ◌≤◌, length, arith, lit≤, AllByRecursion}
 use Rattle.pfs_layout.proofs.Words.{limits, Problem, AreBlocks, IsInstance, IsBlock, IsSomeBlock, lines}
-use Rattle.pfs_layout.specs.Laws.{FaultStays, ByteFaultLaw, FreeBehind, IsWider, WiderLimits, earlier_limits}
+use Rattle.pfs_layout.specs.Laws.{FaultStays, FreeBehind, IsWider, WiderLimits, earlier_limits}
 use Rattle.pfs_layout.specs.Laws.{EarlierFiles}
 use Rattle.pfs_layout.proofs.Files.FileLemmas.{file_completes, completes_file}
 use Rattle.pfs_layout.proofs.Files.VerdictLemmas.{enough_holds, holds_longer, one_held}
-use Rattle.pfs_layout.proofs.Published.PlaceLemmas.{byte_fault-push, byte_fault_is, refusal_end, refusal_is}
+use Rattle.pfs_layout.proofs.Published.PlaceLemmas.{byte_fault-push, refusal_end, refusal_is}
 use Rattle.pfs_base.specs.Limits.{Limits}
 
 -- a fault at a byte stays, whatever follows
@@ -16,19 +16,12 @@ byte_fault-more layout k text more fault e =
     by_push (λ more. byte_fault layout k (text ++ more) ≡ Some fault) (rw (append-nil text) e)
     (λ more b h. rw (← append_assoc text more (b ∷ []), byte_fault-push layout k (text ++ more) b, h)) more
 
-pub byte_fault_refuses : (layout : Layout) (k : ℕ) (text more : List ℕ) (fault : LayoutFault)
-    → byte_fault layout k text ≡ Some fault → RefusesInstance layout (text ++ more) k fault
-byte_fault_refuses layout k text more fault e =
+pub fault_stays : FaultStays
+fault_stays layout text more k fault e =
     (refusal_is layout (text ++ more) k fault).0
     (rw (refusal_end layout k (text ++ more), byte_fault-more layout k text more fault e))
 
 -- ---- as laws
-
-pub fault_stays : FaultStays
-fault_stays layout text more k fault e = byte_fault_refuses layout k text more fault e
-
-pub byte_fault_law : ByteFaultLaw
-byte_fault_law layout text k fault = byte_fault_is layout k text fault
 
 -- behind k complete blocks nothing that follows changes the problem
 pub free_behind : FreeBehind

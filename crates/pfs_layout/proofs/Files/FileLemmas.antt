@@ -1,5 +1,5 @@
 -- Files, by where their lines lead.
-use Rattle.pfs_layout.proofs.Words.{◌≡◌, ℕ, ◌+◌, ◌<◌, true, not, List, [], ◌∷◌, ◌++◌, length, flat_map, refl, sym}
+use Rattle.pfs_layout.proofs.Words.{nat_tests, ◌≡◌, ℕ, ◌+◌, ◌<◌, true, not, List, [], ◌∷◌, ◌++◌, length, flat_map, refl, sym}
 use Rattle.pfs_layout.proofs.Words.{arith, append_assoc, append-nil, length-append, AllByRecursion, list_any, list_all}
 use Rattle.pfs_layout.proofs.Words.{list_all-append, fold-append, Layout, is_digit, limits, Problem, Size, size_of}
 use Rattle.pfs_layout.proofs.Words.{is_mixed, is_number_line, is_no_digit, numbers, are_due, due, due_count, Block}
@@ -10,7 +10,7 @@ use Rattle.pfs_layout.proofs.Words.{after_line, stand, instance_of, lines, AreBl
 use Rattle.std.proofs.Common.{fold}
 use Rattle.std.proofs.lemmas.Bool.{false≢true}
 use Rattle.pfs_layout.proofs.Files.LineLemmas.{split_some, front_of_lines}
-use Rattle.pfs_layout.proofs.Files.DueLemmas.{are_due_front, within_size, due_passes, length-due, block_of, size_within}
+use Rattle.pfs_layout.proofs.Files.DueLemmas.{are_due_front, due_passes, length-due, block_of, size_within}
 use Rattle.pfs_layout.proofs.Files.DueLemmas.{due_instance, instance_within, instance_due}
 use Rattle.pfs_layout.proofs.Files.GoodLemmas.{stand-push}
 use Rattle.pfs_layout.specs.Laws.{FileStands}
@@ -57,7 +57,7 @@ module _ (layout : Layout) (complete : List Block) where
       let tail : List (List ℕ) = b.front ++ b.last ∷ [] in
       let lines = append_assoc b.skipped (b.size_line ∷ b.front) (b.last ∷ []) in
       let skipped = skip_fold b.skipped b.no_numbers in
-      let within = within_size problem b.within in
+      let within : is_within_limits (size_of problem) ≡ true = grind (arith, nat_tests, b.within) in
       let body = body_fold (size_of problem) [] b.front b.last b.body.front_unmixed b.body.last_numbers
       (due layout problem.shop) (sym b.body.holds) (due_passes layout problem b.within.within.short_times)
       (length-due layout problem) in

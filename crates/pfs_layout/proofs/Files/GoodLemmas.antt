@@ -87,10 +87,6 @@ is_good layout lost line = false
 abbrev pub GoodNow : Layout → Now → List ℕ → Type 0
 GoodNow layout now line = is_good layout now line ≡ true
 
-pub good_unmixed : (layout : Layout) (block : Block) (line : List ℕ) → GoodNow layout (inside block) line
-    → is_mixed line ≡ false
-good_unmixed layout block line good = grind arith
-
 pub wrong_number_is : (layout : Layout) (block : Block) (text : List ℕ) (b : ℕ)
     → wrong_number layout block text (Some b)
     ≡ (if is_blank b || is_line_end b then number_fault layout (inside block) text else None)

@@ -1,10 +1,11 @@
 -- Places of a text with one more byte, and the first fault.
-use Rattle.pfs_layout.proofs.Words.{slice_get-push, ◌≡◌, ◌↔◌, ℕ, suc, ◌+◌, ◌<◌, List, [], ◌∷◌, ◌++◌, length, refl}
+use Rattle.pfs_layout.proofs.Words.{slice_get-push, ◌≡◌, ℕ, suc, ◌+◌, ◌<◌, List, [], ◌∷◌, ◌++◌, length, refl}
 use Rattle.pfs_layout.proofs.Words.{arith, Option, Some, None, option_or, length_push, take_all, slice_get-append}
 use Rattle.pfs_layout.proofs.Words.{Layout, LayoutFault, fault_of_place, refusal, byte_fault, RefusesInstance}
 use Rattle.std.proofs.lemmas.List.{take-append-le, take_at}
 use Rattle.std.proofs.lemmas.Option.{slice_get_past}
 use Rattle.pfs_base.proofs.Published.Lists.{map-range_with_len-same}
+use Rattle.pfs_layout.specs.Laws.{ByteFaultLaw, RefusalLaw}
 use Rattle.pfs_layout.specs.Refuse.{fault_at}
 use Rattle.pfs_layout.proofs.Options.{first_push, IsFirst, one_first, first_is}
 
@@ -45,8 +46,7 @@ first_of : (layout : Layout) (input : List ℕ) (k : ℕ) (fault : LayoutFault) 
 first_of layout input k fault r = record { here = r.here; before = r.first }
 
 -- what refusal computes is the fault of the first place that has one
-pub refusal_is : (layout : Layout) (input : List ℕ) (k : ℕ) (fault : LayoutFault)
-    → refusal layout input k ≡ Some fault ↔ RefusesInstance layout input k fault
+pub refusal_is : RefusalLaw
 unfolding refusal
 refusal_is layout input k fault =
     let is = first_is (fault_at layout k input) (length input + 1) fault in (
@@ -56,10 +56,9 @@ refusal_is layout input k fault =
     )
 
 -- the fault at a byte is the fault of a place that is a byte
-pub byte_fault_is : (layout : Layout) (k : ℕ) (text : List ℕ) (fault : LayoutFault)
-    → byte_fault layout k text ≡ Some fault ↔ ((r : RefusesInstance layout text k fault) × (r.place < length text))
+pub byte_fault_is : ByteFaultLaw
 unfolding byte_fault
-byte_fault_is layout k text fault =
+byte_fault_is layout text k fault =
     let is = first_is (fault_at layout k text) (length text) fault in (
       λ e. let found = is.0 e in (
         record { place = found.0; within = omega (arith, found.1); here = found.2.here; first = found.2.before },

@@ -4,7 +4,7 @@ use Rattle.pfs_layout.proofs.Words.{Some, None, if◌then◌else◌, inl, inr, �
 use Rattle.pfs_layout.proofs.Words.{list_any, cases_Bool, lt-ltb, or_parts, eqb-true, eqb-false, eq-eqb, ne_eqb}
 use Rattle.pfs_layout.proofs.Words.{nat_tests, list_any-append, is_empty, Layout, LayoutFault, Line, Blocks, is_digit}
 use Rattle.pfs_layout.proofs.Words.{is_blank, is_line_end, is_word_byte, open_line, ended_numbers, last_digits}
-use Rattle.pfs_layout.proofs.Words.{open_part, is_no_digit, numbers, Block, Now, seeking, inside, lost, standing, Stand}
+use Rattle.pfs_layout.proofs.Words.{open_part, is_mixed, is_no_digit, numbers, Block, Now, seeking, inside, lost, standing, Stand}
 use Rattle.pfs_layout.proofs.Words.{stand_after, mixed_line, wrong_size, last_number_ended, line_ended}
 use Rattle.pfs_layout.proofs.Words.{has_numbers_alone, number_of, event_of, blocks_after, is_live, FollowsLine}
 use Rattle.pfs_layout.proofs.Words.{FollowsNow, FollowsBlocks, digits_value, length_push, by_push, are_due, ◌⊎◌}
@@ -13,7 +13,7 @@ use Rattle.pfs_layout.proofs.Words.{is_machine_due, number_ended, HoldsNumbers}
 use Rattle.pfs_layout.specs.Private.Step.{Keeps, number_ended_in}
 use Rattle.std.proofs.lemmas.Bool.{or_right, cond_both}
 use Rattle.pfs_layout.specs.declared.blocks.Phase.TheVariants as phases
-use Rattle.pfs_layout.proofs.Files.GoodLemmas.{GoodNow, good_unmixed, fault_within_limit, wrong_number_is, line_numbers}
+use Rattle.pfs_layout.proofs.Files.GoodLemmas.{GoodNow, fault_within_limit, wrong_number_is, line_numbers}
 use Rattle.pfs_layout.proofs.Files.GoodLemmas.{no_last, number_fault, due_line, gap_fault}
 use Rattle.pfs_layout.proofs.Files.LineLemmas.{ended_numbers-push, open_part-push}
 use Rattle.pfs_layout.proofs.Options.{cases_option}
@@ -70,10 +70,6 @@ pub live_few : (has_word : Bool) (r : Blocks) (now : Now) (more : List ℕ) → 
 live_few has_word r seeking more f live = grind (arith, nat_tests)
 live_few has_word r (inside block) more f live = f.few
 live_few has_word r lost more f live = absurd f
-
-pub seeking_if_few : (has_word : Bool) (r : Blocks) (more : List ℕ) → FollowsNow has_word r seeking more
-    → r.complete < r.wanted → r.phase ≡ phases.Seeking
-seeking_if_few has_word r more f few = rw (lt-ltb r.complete r.wanted few) at f.phase
 
 -- ---- the blocks behind a byte
 
@@ -225,7 +221,7 @@ end_byte r last text b complete seeking end live five lines line f good =
     let part = number_part _ r last text complete seeking live five line f in
     let before : r.complete < r.wanted = live_few _ r seeking _ f.now live in
     let few : behind.complete < behind.wanted = omega (arith, keeps.complete, keeps.wanted) in
-    let sought = seeking_if_few _ behind _ part.now few in
+    let sought : behind.phase ≡ phases.Seeking = rw (lt-ltb _ _ few) at part.now.phase in
     let outcome = sought_line behind complete (open_line text) (has_numbers_alone last.kinds) part sought few
     (rw (line.has_digit, line.has_word)) in
     rw (judged_gap r last b (or_right (is_blank b) _ end), end)
@@ -235,7 +231,7 @@ end_byte r last text b complete (inside block) end live five lines line f good =
     let numbered = has_numbers_alone last.kinds in
     let keeps = keeps_last r (number_of last.digits) live in
     let gap = or_right (is_blank b) (is_line_end b) end in
-    let unmixed = good_unmixed r.layout block (open_line text) good in
+    let unmixed : is_mixed (open_line text) ≡ false = grind arith in
     let part = number_part _ r last text complete (inside block) live five line f in
     rw (judged_gap r last b gap, end, gap_fault r.layout block text b gap)
     (elim (cases_option (number_fault r.layout (inside block) text)) [

@@ -7,7 +7,7 @@ use Rattle.pfs_layout.proofs.Words.{Taillard, OrLib, CEILING, SizeLine, Phase, B
 use Rattle.pfs_layout.proofs.Words.{is_within_limits, is_mixed, is_number_line, numbers, due_count, stated_size}
 use Rattle.pfs_layout.proofs.Words.{are_due, Block, seeking, inside, stand_after, standing, completed}
 use Rattle.pfs_layout.proofs.Words.{instance_of, begun, with_line, size_fault, no_numbers, line_ended, block_of, HoldsNumbers}
-use Rattle.pfs_layout.proofs.Words.{FollowsBody, FollowsBlocks}
+use Rattle.pfs_layout.proofs.Words.{FollowsBlocks}
 use Rattle.std.proofs.Math.Nat.{mul-pos}
 use Rattle.std.proofs.lemmas.Bool.{not-true}
 use Rattle.pfs_layout.specs.declared.blocks.Phase.TheVariants as phases
@@ -56,10 +56,6 @@ no_block : (complete : List Block) (wanted : ℕ) (more : List ℕ) → length c
     → block_of wanted (standing complete seeking) more ≡ None
 no_block complete wanted more few = grind (arith, nat_tests)
 
-body_begun : (layout : Layout) (size : Size) → is_within_limits size ≡ true
-    → FollowsBody layout size 0 (body_of layout size.jobs size.machines)
-body_begun layout size within = let w = size_within size within in grind arith
-
 due_some : (layout : Layout) (size : Size) → is_within_limits size ≡ true
     → 0 < (body_of layout size.jobs size.machines).due
 due_some layout size within = let w = size_within size within in grind (arith, mul-pos)
@@ -77,7 +73,7 @@ begun_follows r complete size f few within =
         phase = rw (lt-ltb 0 _ (due_some r.layout size within));
         few = few;
         fits = within;
-        body = body_begun r.layout size within;
+        body = grind (arith, size_within size within);
       };
       instance = rw (f.complete, lt-ltb _ _ least) (grind arith);
       held = rw (none, lt-ltb _ _ least) (grind arith);

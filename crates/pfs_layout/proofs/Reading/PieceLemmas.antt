@@ -351,8 +351,3 @@ long_meets_as old text piece front room used mid m e was s full within whole liv
           long_fault mid.layout mid.wanted taken _ wants (sound mid.layout mid.wanted taken follows.sound wants).1 long;
       held = follows.blocks.held;
     }) (λ z. absurd (cc))
-
--- a refusal for the length stands behind some text
-pub long_stands : (old : Fields) (text piece : List ℕ) (new : Fields) (fault : LayoutFault)
-    → FeedMeets old text piece (Err fault) new → fault ≢ Memory → (after : List ℕ) × StandsAfter new after
-long_stands old text piece new fault m other = (text ++ piece, m.refused other)

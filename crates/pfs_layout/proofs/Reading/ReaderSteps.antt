@@ -193,11 +193,6 @@ step_stands {r = r} {text = text} {after = after} b f live short pushes =
 
 -- ---- what a live reader may do next
 
-instance_sizes : (layout : Layout) (block : Block) → let shop = (instance_of layout block).shop in
-    (shop.jobs ≡ block.size.jobs) × (shop.machines ≡ block.size.machines)
-unfolding instance_of
-instance_sizes layout block = (refl, refl)
-
 due_few : (layout : Layout) (size : Size) → is_within_limits size ≡ true → due_count layout size < LONGEST_INPUT
 due_few layout size within =
     let sizes = (size_within size within).sizes in grind (arith, mul-le-mul sizes.few_jobs sizes.few_machines)
@@ -212,6 +207,7 @@ pub begun_now : {r : Fields} {text : List ℕ} → Follows r text → r.phase �
 begun_now f body = grind (arith, f.blocks.now)
 
 can_count : {r : Fields} {text : List ℕ} → Follows r text → r.phase ≡ phases.Body → CanCount r.blocks
+unfolding instance_of
 can_count {r = r} {text = text} f phase =
     let complete = (stand_of r.layout text).complete in
     let more = ended_numbers (open_line text) in
@@ -225,7 +221,6 @@ can_count {r = r} {text = text} f phase =
     let count = length-append block.numbers more in
     let held : r.held ≤ r.body.judged = grind (arith, kept.held, body.judged) in
     let due = due_few r.layout block.size follows.now.fits in
-    let sizes = instance_sizes r.layout all in
     elim (cases_lt r.body.judged r.body.due) [
       | inl less ↦ record {
         place = record { judged = less; job = body.job; machine = body.machine };

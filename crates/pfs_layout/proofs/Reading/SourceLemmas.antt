@@ -11,7 +11,7 @@ use Rattle.pfs_layout.specs.declared.blocks.Phase.TheVariants as phases
 use Rattle.pfs_layout.specs.declared.reader.TheConstants.{PIECE}
 use Rattle.pfs_layout.specs.Reader.{IsUndecided, ReadsAsFar}
 use Rattle.pfs_layout.proofs.Options.{cases_option}
-use Rattle.pfs_layout.proofs.Files.EndLemmas.{byte_fault_refuses, free_behind}
+use Rattle.pfs_layout.proofs.Files.EndLemmas.{fault_stays, free_behind}
 use Rattle.pfs_layout.proofs.Reading.PieceLemmas.{same_error, whole_text, refused_fault, done_enough, live_wants}
 use Rattle.pfs_layout.proofs.Reading.ReaderSteps.{live_follows}
 use Rattle.pfs_layout.proofs.Reading.OutcomeLemmas.{finish_done}
@@ -31,7 +31,7 @@ pub feed_named : {r new : Fields} {text piece : List ℕ} {found : LayoutFault} 
     → (fault : LayoutFault) → fault ≢ Memory → is_input_fault fault ≡ false → found ≢ fault
 feed_named {r} {text} {piece} meets fault no_memory other e =
     let here = (meets.exact (λ z. no_memory (sym e ∙ same_error z)) fault).0 (ap Err e) in
-    let refuses = byte_fault_refuses r.layout r.wanted (text ++ piece) [] fault here in
+    let refuses = fault_stays r.layout (text ++ piece) [] r.wanted fault here in
     both_ways _ other (refused_input r.layout _ r.wanted fault refuses)
 
 -- what never holds, exactly where a device that works has failed
@@ -97,7 +97,7 @@ module _ {layout : Layout} {k : ℕ} {first left : Option (List ℕ)} {r : Field
       → IfSome first (λ bytes. RefusesInstance layout bytes k fault)
   reading_fault {fault} m other = told_behind _ (λ more e.
       let here = (m.exact (λ z. other (same_error z)) fault).0 refl in
-      rw (t.layout_is, t.wanted_is) at (byte_fault_refuses r.layout r.wanted (t.front ++ piece) more fault here))
+      rw (t.layout_is, t.wanted_is) at (fault_stays r.layout (t.front ++ piece) more r.wanted fault here))
 
   -- the wanted block has ended in the piece
   pub reading_done : {new : Fields} {progress : Progress} {outcome : Result Problem LayoutFault}

@@ -1,9 +1,8 @@
 -- What was taken of the piece, or of its front within the limit, is what feed owes.
-use Rattle.pfs_layout.proofs.Words.{◌-◌, take, sym, ◌∙◌, ap, arith, length-take, LONGEST_INPUT, TooLong, fields}
+use Rattle.pfs_layout.proofs.Words.{◌-◌, ◌++◌, take, sym, ◌∙◌, ap, arith, length-take, LONGEST_INPUT, fields}
 use Rattle.pfs_layout.proofs.Reading.ReaderSteps.{live_follows}
 use Rattle.pfs_layout.proofs.Reading.ByteSteps.{live-memory}
 use Rattle.pfs_layout.proofs.Reading.PieceLemmas.{feed_of, reader_of, idle_meets, front_meets_as, long_meets_as}
-use Rattle.pfs_layout.proofs.Reading.PieceLemmas.{long_stands}
 use Rattle.pfs_layout.proofs.blocks.Blocks.feed.Goals as goal
 
 pub returns-then-not-is_live-clause-meets : goal.returns-then-not-is_live-clause-meets
@@ -44,7 +43,7 @@ returns-then-is_live-clause-reader c =
     let some = c.requires.stands (live-memory old.phase was) in
     let meets = returns-then-is_live-clause-meets c some.0 some.1 in
     record {
-      stands = λ h. long_stands old some.0 c.args.piece.now _ TooLong meets (λ z. cc);
+      stands = λ h. (some.0 ++ c.args.piece.now, meets.refused (λ z. cc));
       none = λ h. let other = rw c.refuse.ensures at h in cc;
     }
 
