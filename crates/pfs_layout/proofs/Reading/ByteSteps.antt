@@ -67,9 +67,7 @@ line_end_keeps r numbers = grind arith
 
 pub live_few : (has_word : Bool) (r : Blocks) (now : Now) (more : List ℕ) → FollowsNow has_word r now more
     → is_live r.phase ≡ true → r.complete < r.wanted
-live_few has_word r seeking more f live = grind (arith, nat_tests)
-live_few has_word r (inside block) more f live = f.few
-live_few has_word r lost more f live = absurd f
+live_few has_word r now more f live = grind (arith, nat_tests, f)
 
 -- ---- the blocks behind a byte
 

@@ -92,7 +92,7 @@ seeks_on r complete more f = search (holds_none)
 size_step : (stated kept : Option Size) (r : Blocks) (complete : List Block) → Clips kept stated
     → FollowsBlocks false (at_next_line r) (standing complete seeking) [] → r.complete < r.wanted
     → Outcome r false (standing complete (after_size stated)) []
-    (size_judged (at_next_line r) kept (size_fault kept r.line)) (size_fault stated r.line)
+    (size_judged (at_next_line r) r.line kept) (size_fault stated r.line)
 size_step None kept r complete same f few =
     rw same (record { phase = refl; held = refl; layout = refl; wanted = refl })
 size_step (Some size) kept r complete same f few = elim (cases_Bool (is_within_limits size)) [

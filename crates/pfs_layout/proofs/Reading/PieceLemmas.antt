@@ -5,8 +5,8 @@ use Rattle.pfs_layout.proofs.Words.{LONGEST_INPUT, Memory, Line, Blocks, is_word
 use Rattle.pfs_layout.proofs.Words.{number_of, event_of, blocks_after, IsReady, is_live, Fields, fields, Follows}
 use Rattle.pfs_layout.proofs.Words.{StandsAfter, EndsWantedSize, ◌↔◌, Bool, false, drop, sym, ap, subst, add-one, Some}
 use Rattle.pfs_layout.proofs.Words.{None, Ok, Err, Result, append-nil, length-append, take_all, take-append-drop}
-use Rattle.pfs_layout.proofs.Words.{LayoutFault, TooLong, Phase, Now, seeking, inside, lost, byte_fault, refused}
-use Rattle.pfs_layout.proofs.Words.{block_read, number_ended, FollowsNow, StandsIn, IsReader, FeedMeets}
+use Rattle.pfs_layout.proofs.Words.{LayoutFault, TooLong, Phase, byte_fault, refused}
+use Rattle.pfs_layout.proofs.Words.{block_read, number_ended, StandsIn, IsReader, FeedMeets}
 use Rattle.pfs_layout.specs.Private.Take.{TakeMeets}
 use Rattle.std.proofs.lemmas.List.{take_more, take-take, length-take-le, get_or-take}
 use Rattle.pfs_layout.specs.declared.scan.Event.{Event}
@@ -200,16 +200,10 @@ refused_more r text more fault f =
     rw f.whole (append_assoc f.front (f.byte ∷ f.rest) more) in
     search
 
-done_now : (has_word : Bool) (r : Blocks) (now : Now) (more : List ℕ) → FollowsNow has_word r now more
-    → r.phase ≡ phases.Done → r.wanted ≤ r.complete
-done_now has_word r seeking more f e = grind (arith, nat_tests)
-done_now has_word r (inside block) more f e = let phase = f.phase in absurd (grind arith)
-done_now has_word r lost more f e = absurd f
-
 -- a done reader has the wanted block
 pub done_enough : (r : Fields) (text : List ℕ) → Follows r text → r.phase ≡ phases.Done
     → r.wanted ≤ length (stand_of r.layout text).complete
-done_enough r text f e = omega (arith, f.blocks.complete, done_now _ r.blocks _ _ f.blocks.now e)
+done_enough r text f e = grind (arith, nat_tests, f.blocks.complete, f.blocks.now)
 
 -- and a live one hasn't
 pub live_wants : (r : Fields) (text : List ℕ) → Follows r text → is_live r.phase ≡ true

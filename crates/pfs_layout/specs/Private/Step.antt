@@ -11,7 +11,7 @@ use Rattle.pfs_layout.specs.declared.layout.Layout.{Layout}
 use Rattle.pfs_layout.specs.declared.layout.Layout.TheVariants.{Taillard, OrLib}
 use Rattle.pfs_layout.specs.declared.fault.LayoutFault.{LayoutFault}
 use Rattle.pfs_layout.specs.declared.fault.LayoutFault.TheVariants.{NoBlock, MixedLine, TimeRange, MachineNumber}
-use Rattle.pfs_layout.specs.declared.fault.LayoutFault.TheVariants.{ExtraNumber, Truncated, Memory}
+use Rattle.pfs_layout.specs.declared.fault.LayoutFault.TheVariants.{SizeCount, SizeRange, ExtraNumber, Truncated, Memory}
 use Rattle.pfs_layout.specs.declared.scan.Digits.{Digits}
 use Rattle.pfs_layout.specs.declared.scan.Kinds.{Kinds}
 use Rattle.pfs_layout.specs.declared.scan.Line.{Line}
@@ -25,9 +25,8 @@ use Rattle.pfs_layout.specs.declared.blocks.Phase.{Phase}
 use Rattle.pfs_layout.specs.declared.blocks.Phase.TheVariants as phases
 use Rattle.pfs_layout.specs.declared.blocks.Blocks.{Blocks}
 use Rattle.pfs_layout.specs.Bytes.{is_digit, is_blank, is_line_end}
-use Rattle.pfs_layout.specs.Size.{sized, problem_of}
+use Rattle.pfs_layout.specs.Size.{is_within_limits, problem_of, sized}
 use Rattle.pfs_layout.specs.Block.{numbers_for, times_in}
-use Rattle.pfs_layout.specs.Refuse.{size_fault}
 use Rattle.pfs_layout.specs.Reader.{is_live, FollowsLine}
 
 -- ---- the last line so far
@@ -176,14 +175,12 @@ block_begun r size = record r {
 }
 
 -- the fault of what a size line states, or else the block that it begins
-abbrev pub size_judged : Blocks → Option Size → Option LayoutFault → Blocks
-size_judged r stated (Some fault) = refused r fault
-size_judged r None None = r
-size_judged r (Some size) None = block_begun r size
+abbrev pub size_judged : Blocks → ℕ → Option Size → Blocks
+size_judged r line None = refused r (SizeCount line)
+size_judged r line (Some size) = if is_within_limits size then block_begun r size else refused r (SizeRange line)
 
 abbrev pub size_line_ended : Blocks → SizeLine → ℕ → Blocks
-size_line_ended r size_line line =
-    size_judged r (stated_by r.layout size_line) (size_fault (stated_by r.layout size_line) line)
+size_line_ended r size_line line = size_judged r line (stated_by r.layout size_line)
 
 abbrev pub block_ended : Blocks → Blocks
 block_ended r = record r {
