@@ -1,12 +1,13 @@
 -- Files, by where their lines lead.
-use Rattle.pfs_layout.proofs.Words.{nat_tests, ◌≡◌, ℕ, ◌+◌, ◌<◌, true, not, List, [], ◌∷◌, ◌++◌, length, flat_map, refl, sym}
-use Rattle.pfs_layout.proofs.Words.{arith, append_assoc, append-nil, length-append, AllByRecursion, list_any, list_all}
-use Rattle.pfs_layout.proofs.Words.{list_all-append, fold-append, Layout, is_digit, limits, Problem, Size, size_of}
-use Rattle.pfs_layout.proofs.Words.{is_mixed, is_number_line, is_no_digit, numbers, are_due, due, due_count, Block}
-use Rattle.pfs_layout.proofs.Words.{seeking, inside, standing, completed, stand_after, IsSomeBlock, IsBlock, false, ap}
-use Rattle.pfs_layout.proofs.Words.{Some, ◌==◌, inl, inr, mul-le-mul, cases_Bool, eqb-false, or_parts, flat_map-append}
-use Rattle.pfs_layout.proofs.Words.{by_push, is_within_limits, stated_size, Now, lost, Stand, begun, with_line}
-use Rattle.pfs_layout.proofs.Words.{after_line, stand, instance_of, lines, AreBlocks, IsInstanceFile, Completes}
+use Rattle.pfs_layout.proofs.Words.{nat_tests, ◌≡◌, ℕ, ◌+◌, ◌<◌, true, not, List, [], ◌∷◌, ◌++◌, length, flat_map, refl}
+use Rattle.pfs_layout.proofs.Words.{sym, arith, append_assoc, append-nil, length-append, AllByRecursion, list_any}
+use Rattle.pfs_layout.proofs.Words.{list_all, list_all-append, fold-append, Layout, is_digit, limits, Problem, Size}
+use Rattle.pfs_layout.proofs.Words.{size_of, is_mixed, is_number_line, is_no_digit, numbers, are_due, due, due_count}
+use Rattle.pfs_layout.proofs.Words.{Block, seeking, inside, standing, completed, stand_after, IsSomeBlock, IsBlock}
+use Rattle.pfs_layout.proofs.Words.{false, ap, Some, ◌==◌, inl, inr, mul-le-mul, cases_Bool, eqb-false, or_parts}
+use Rattle.pfs_layout.proofs.Words.{flat_map-append, by_push, is_within_limits, stated_size, Now, lost, Stand, begun}
+use Rattle.pfs_layout.proofs.Words.{with_line, after_line, stand, instance_of, lines, AreBlocks, IsInstanceFile}
+use Rattle.pfs_layout.proofs.Words.{Completes}
 use Rattle.std.proofs.Common.{fold}
 use Rattle.std.proofs.lemmas.Bool.{false≢true}
 use Rattle.pfs_layout.proofs.Files.LineLemmas.{split_some, front_of_lines}

@@ -4,8 +4,8 @@ use Rattle.pfs_layout.proofs.Words.{Some, None, if◌then◌else◌, inl, inr, �
 use Rattle.pfs_layout.proofs.Words.{list_any, cases_Bool, lt-ltb, or_parts, eqb-true, eqb-false, eq-eqb, ne_eqb}
 use Rattle.pfs_layout.proofs.Words.{nat_tests, list_any-append, is_empty, Layout, LayoutFault, Line, Blocks, is_digit}
 use Rattle.pfs_layout.proofs.Words.{is_blank, is_line_end, is_word_byte, open_line, ended_numbers, last_digits}
-use Rattle.pfs_layout.proofs.Words.{open_part, is_mixed, is_no_digit, numbers, Block, Now, seeking, inside, lost, standing, Stand}
-use Rattle.pfs_layout.proofs.Words.{stand_after, mixed_line, wrong_size, last_number_ended, line_ended}
+use Rattle.pfs_layout.proofs.Words.{open_part, is_mixed, is_no_digit, numbers, Block, Now, seeking, inside, lost}
+use Rattle.pfs_layout.proofs.Words.{standing, Stand, stand_after, mixed_line, wrong_size, last_number_ended, line_ended}
 use Rattle.pfs_layout.proofs.Words.{has_numbers_alone, number_of, event_of, blocks_after, is_live, FollowsLine}
 use Rattle.pfs_layout.proofs.Words.{FollowsNow, FollowsBlocks, digits_value, length_push, by_push, are_due, ◌⊎◌}
 use Rattle.pfs_layout.proofs.Words.{common_steps, Memory, Phase, no_numbers, machine_judged, time_judged, body_judged}

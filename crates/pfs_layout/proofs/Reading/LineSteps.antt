@@ -1,13 +1,12 @@
 -- A line that ends: the fault that it has, or what the fields say behind it.
-use Rattle.pfs_layout.proofs.Words.{◌≡◌, ◌≢◌, ℕ, ◌+◌, ◌<◌, min, Bool, true, false, List, [], ◌∷◌, ◌++◌}
-use Rattle.pfs_layout.proofs.Words.{length, refl, ◌∙◌, ap, arith, Option, Some, None, if◌then◌else◌, inl, inr}
-use Rattle.pfs_layout.proofs.Words.{option_map, list_any, lt-ltb, le-ltb, eq-eqb, ne_eqb, and_parts, cases_Bool}
-use Rattle.pfs_layout.proofs.Words.{cases_lt, nat_tests, append-nil, length-append, length_push, slice_get-push, Layout}
-use Rattle.pfs_layout.proofs.Words.{Taillard, OrLib, CEILING, SizeLine, Phase, Blocks, is_word_byte, Size}
-use Rattle.pfs_layout.proofs.Words.{is_within_limits, is_mixed, is_number_line, numbers, due_count, stated_size}
-use Rattle.pfs_layout.proofs.Words.{are_due, Block, seeking, inside, stand_after, standing, completed}
-use Rattle.pfs_layout.proofs.Words.{instance_of, begun, with_line, size_fault, no_numbers, line_ended, block_of, HoldsNumbers}
-use Rattle.pfs_layout.proofs.Words.{FollowsBlocks}
+use Rattle.pfs_layout.proofs.Words.{◌≡◌, ◌≢◌, ℕ, ◌+◌, ◌<◌, min, Bool, true, false, List, [], ◌∷◌, ◌++◌, length, refl}
+use Rattle.pfs_layout.proofs.Words.{◌∙◌, ap, arith, Option, Some, None, if◌then◌else◌, inl, inr, option_map, list_any}
+use Rattle.pfs_layout.proofs.Words.{lt-ltb, le-ltb, eq-eqb, ne_eqb, and_parts, cases_Bool, cases_lt, nat_tests}
+use Rattle.pfs_layout.proofs.Words.{append-nil, length-append, length_push, slice_get-push, Layout, Taillard, OrLib}
+use Rattle.pfs_layout.proofs.Words.{CEILING, SizeLine, Phase, Blocks, is_word_byte, Size, is_within_limits, is_mixed}
+use Rattle.pfs_layout.proofs.Words.{is_number_line, numbers, due_count, stated_size, are_due, Block, seeking, inside}
+use Rattle.pfs_layout.proofs.Words.{stand_after, standing, completed, instance_of, begun, with_line, size_fault}
+use Rattle.pfs_layout.proofs.Words.{no_numbers, line_ended, block_of, HoldsNumbers, FollowsBlocks}
 use Rattle.std.proofs.Math.Nat.{mul-pos}
 use Rattle.std.proofs.lemmas.Bool.{not-true}
 use Rattle.pfs_layout.specs.declared.blocks.Phase.TheVariants as phases

@@ -1,14 +1,14 @@
 -- Where a reader stands, before the first byte and after one byte more.
-use Rattle.pfs_layout.proofs.Words.{CEILING, ◌-◌, ◌≡◌, ℕ, ◌+◌, ◌≤◌, Bool, true, length, Option, Some, None, arith, refl, ◌⊎◌, inl}
-use Rattle.pfs_layout.proofs.Words.{inr, Blocks, last_number_ended, is_live, ◌*◌, ◌<◌, not, ◌&&◌, ◌||◌, List, [], ◌∷◌}
-use Rattle.pfs_layout.proofs.Words.{◌++◌, count_by, if◌then◌else◌, ◌==◌, list_any, length_push, list_any-append}
-use Rattle.pfs_layout.proofs.Words.{is_digit, is_line_end, is_word_byte, open_line, is_no_digit, last_digits}
-use Rattle.pfs_layout.proofs.Words.{FollowsLine, lt-ltb, Layout, Line, ended_parts, open_part, ended_numbers, stand}
-use Rattle.pfs_layout.proofs.Words.{byte_fault, fields, StandsAfter, sym, ◌∙◌, subst, mul-le-mul, nat_tests}
-use Rattle.pfs_layout.proofs.Words.{length-append, cases_Bool, cases_lt, LONGEST_INPUT, LayoutFault, is_blank, Size}
-use Rattle.pfs_layout.proofs.Words.{is_within_limits, due_count, Block, seeking, inside, instance_of, standing}
-use Rattle.pfs_layout.proofs.Words.{fault_of_place, min, no_numbers, has_numbers_alone, number_of, IsReady, Fields}
-use Rattle.pfs_layout.proofs.Words.{block_read, FollowsBlocks, Follows, IsReader}
+use Rattle.pfs_layout.proofs.Words.{CEILING, ◌-◌, ◌≡◌, ℕ, ◌+◌, ◌≤◌, Bool, true, length, Option, Some, None, arith, refl}
+use Rattle.pfs_layout.proofs.Words.{◌⊎◌, inl, inr, Blocks, last_number_ended, is_live, ◌*◌, ◌<◌, not, ◌&&◌, ◌||◌, List}
+use Rattle.pfs_layout.proofs.Words.{[], ◌∷◌, ◌++◌, count_by, if◌then◌else◌, ◌==◌, list_any, length_push}
+use Rattle.pfs_layout.proofs.Words.{list_any-append, is_digit, is_line_end, is_word_byte, open_line, is_no_digit}
+use Rattle.pfs_layout.proofs.Words.{last_digits, FollowsLine, lt-ltb, Layout, Line, ended_parts, open_part}
+use Rattle.pfs_layout.proofs.Words.{ended_numbers, stand, byte_fault, fields, StandsAfter, sym, ◌∙◌, subst, mul-le-mul}
+use Rattle.pfs_layout.proofs.Words.{nat_tests, length-append, cases_Bool, cases_lt, LONGEST_INPUT, LayoutFault}
+use Rattle.pfs_layout.proofs.Words.{is_blank, Size, is_within_limits, due_count, Block, seeking, inside, instance_of}
+use Rattle.pfs_layout.proofs.Words.{standing, fault_of_place, min, no_numbers, has_numbers_alone, number_of, IsReady}
+use Rattle.pfs_layout.proofs.Words.{Fields, block_read, FollowsBlocks, Follows, IsReader}
 use Rattle.pfs_layout.specs.declared.blocks.Phase.TheVariants as phases
 use Rattle.pfs_layout.specs.Private.Step.{Pushes, CanCount}
 use Rattle.std.specs.Char.{digit_value}
@@ -158,7 +158,8 @@ module _ {r : Fields} {text : List ℕ} (f : Follows r text) (last : Line) (next
     held = rw (n.held, n.layout, n.wanted) f.blocks.held;
   })
 
-  follows_on : Pushes r.last b last → length text < LONGEST_INPUT → fault_of_place r.layout r.wanted text (Some b) ≡ None
+  follows_on : Pushes r.last b last → length text < LONGEST_INPUT
+      → fault_of_place r.layout r.wanted text (Some b) ≡ None
       → Carries r.blocks next (is_line_end b) → OutcomeBehind r.blocks r.layout (text ++ b ∷ []) next None
       → Follows (fields last next) (text ++ b ∷ [])
   follows_on pushes short here c blocks =

@@ -11,7 +11,8 @@ use Rattle.pfs_layout.specs.declared.layout.Layout.{Layout}
 use Rattle.pfs_layout.specs.declared.layout.Layout.TheVariants.{Taillard, OrLib}
 use Rattle.pfs_layout.specs.declared.fault.LayoutFault.{LayoutFault}
 use Rattle.pfs_layout.specs.declared.fault.LayoutFault.TheVariants.{NoBlock, MixedLine, TimeRange, MachineNumber}
-use Rattle.pfs_layout.specs.declared.fault.LayoutFault.TheVariants.{SizeCount, SizeRange, ExtraNumber, Truncated, Memory}
+use Rattle.pfs_layout.specs.declared.fault.LayoutFault.TheVariants.{SizeCount, SizeRange, ExtraNumber, Truncated}
+use Rattle.pfs_layout.specs.declared.fault.LayoutFault.TheVariants.{Memory}
 use Rattle.pfs_layout.specs.declared.scan.Digits.{Digits}
 use Rattle.pfs_layout.specs.declared.scan.Kinds.{Kinds}
 use Rattle.pfs_layout.specs.declared.scan.Line.{Line}
