@@ -233,11 +233,10 @@ grown jobs place within =
 judged_by : (result : Result (Unit {0}) Refusal) (found : Option Refusal) (size : ℕ) (jobs : List ℕ)
     → Judges result found → jobs_refusal size jobs ≡ found → IsOk result ↔ IsSequence size jobs
 judged_by result None size jobs h is = (λ _. sequence_of_right size jobs is, λ _. h)
-judged_by result (Some why) size jobs h is =
-    (
-      λ ok. absurd (let e = rw h at ok in cc),
-      λ sequence. absurd (let right = right_of_sequence size jobs sequence in cc),
-    )
+judged_by result (Some why) size jobs h is = (
+  λ ok. absurd (let e = rw h at ok in cc),
+  λ sequence. absurd (let right = right_of_sequence size jobs sequence in cc),
+)
 
 pub judged_is : (result : Result (Unit {0}) Refusal) (size : ℕ) (jobs : List ℕ) → Judges result (jobs_refusal size jobs)
     → IsOk result ↔ IsSequence size jobs

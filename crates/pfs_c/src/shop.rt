@@ -23,6 +23,7 @@ use std::alloc::Global;
 
 /// The makespan of a sequence of distinct jobs, which need not be all; of no job it is 0.
 #[unsafe(no_mangle)]
+#[tactic(auto, using(crate::proofs::Answering::refused))]
 pub extern "C" fn pfs_makespan(
     alloc: Global,
     times: &[u32],
@@ -65,6 +66,7 @@ fn makespan_of(
 
 /// A length of time below which no order's makespan goes (Taillard 1993).
 #[unsafe(no_mangle)]
+#[tactic(auto, using(crate::proofs::Answering::refused))]
 pub extern "C" fn pfs_bound(
     alloc: Global,
     times: &[u32],
@@ -101,6 +103,7 @@ fn judged_instance(
 /// When each operation of an order of all jobs starts and ends, each as early as it can, row by row: row r is
 /// the job at place r of the order, and has an entry for each machine.
 #[unsafe(no_mangle)]
+#[tactic(auto, using(crate::proofs::Answering::refused))]
 pub extern "C" fn pfs_table(
     alloc: Global,
     times: &[u32],
@@ -168,6 +171,7 @@ fn table_of(
 
 /// The first best place of a job in a sequence of others, and the makespan with the job there.
 #[unsafe(no_mangle)]
+#[tactic(auto, using(crate::proofs::Answering::refused))]
 pub extern "C" fn pfs_insert(
     alloc: Global,
     times: &[u32],
@@ -224,6 +228,7 @@ fn best_of(
 
 /// Draws times from 1 to 99 from a seed, as Taillard (1993) does for his benchmark.
 #[unsafe(no_mangle)]
+#[tactic(auto, using(crate::proofs::Answering::refused))]
 pub extern "C" fn pfs_generate(
     alloc: Global,
     jobs: usize,
