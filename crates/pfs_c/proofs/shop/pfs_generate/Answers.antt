@@ -1,12 +1,12 @@
-use Rattle.std.proofs.Common.{◌≡◌, ap, sym, ◌∙◌}
+use Rattle.std.proofs.Common.{◌≡◌, ap, length, sym, ◌∙◌}
 use Rattle.pfs_base.specs.Problem.{Problem}
 use Rattle.pfs_layout.specs.Generator.{generated}
-use Rattle.pfs_c.proofs.shop.generated_of.Goals as goal
+use Rattle.pfs_c.proofs.shop.pfs_generate.Goals as goal
 
-pub returns-in-Ok-clause-long : goal.returns-in-Ok-clause-long
+pub copy_from_slice-requires : goal.copy_from_slice-requires
 unfolding generated
-returns-in-Ok-clause-long c =
+copy_from_slice-requires c =
     let jobs : c.in-Ok.instance.shop.jobs ≡ c.args.jobs = ap (λ (p : Problem). p.shop.jobs) c.in-Ok.ensures.drawn in
     let machines : c.in-Ok.instance.shop.machines ≡ c.args.machines =
     ap (λ (p : Problem). p.shop.machines) c.in-Ok.ensures.drawn in
-    rw (jobs, machines) at c.jobs.ensures.within.every_time ∙ sym c.in_ok-judge_length.ensures.equal
+    c.in-Ok.ensures.long ∙ sym (ap length c.times.ensures.value ∙ rw (jobs, machines) at c.times.ensures.within.every_time)
