@@ -20,6 +20,7 @@ mod values;
 
 // The names of the layouts.
 const TAILLARD: &str = "taillard";
+
 const ORLIB: &str = "orlib";
 
 static LAYOUT_NAMES: [&str; 2] = [TAILLARD, ORLIB];
