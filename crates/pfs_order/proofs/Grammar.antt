@@ -16,7 +16,7 @@ use Rattle.pfs_order.specs.Private.Reading.{job_end, jobs_at, makespan_at, lines
 use Rattle.pfs_order.specs.declared.reading.Version.{Version}
 use Rattle.pfs_order.specs.declared.reading.Version.TheVariants.{One, Two}
 use Rattle.pfs_order.proofs.Faults.{fault_where_front_ends}
-use Rattle.pfs_order.proofs.NumeralScan.{number_reads, number_read}
+use Rattle.pfs_order.proofs.NumeralScan.{number_reads, number_ends}
 use Rattle.pfs_order.proofs.Scanning.{Spelling, Verdict, found, stuck, Finds, Reads, then_reads, then_joined, map_reads}
 use Rattle.pfs_order.proofs.Scanning.{none_reads, word_reads, same_read, spells_read, with_tail-same}
 
@@ -84,15 +84,16 @@ first_line_reads : Reads IsFirstLine first_line_at
 unfolding first_line_at
 first_line_reads = then_reads version_reads counts_read (λ version head s t o (h, e). (h, rw o e))
 
-first_line_read : (n : ℕ) (machines : Option ℕ) → IsHead n machines → (other : List ℕ)
+-- where a first line stands, it is read, whatever stands behind it
+first_line_found : (n : ℕ) (machines : Option ℕ) → IsHead n machines → (other : List ℕ)
     → first_line_at (first_line n machines ++ other) ≡ Ok ((n, machines), other)
 unfolding first_line_at version_at version_end word_at byte_at
-first_line_read n None h other =
-    let jobs = number_read 1 MOST_JOBS 10 (lit≤ tt) (lit≤ tt) (lit< tt) (lit< tt) n (h.some, h.few) other in
+first_line_found n None h other =
+    let jobs = number_ends 1 MOST_JOBS 10 (lit≤ tt) (lit≤ tt) (lit< tt) (lit< tt) n (h.some, h.few) other in
     rw (append_assoc (decimal n) (10 ∷ []) other, jobs) refl
-first_line_read n (Some m) h other =
-    let machines = number_read 1 MOST_MACHINES 10 (lit≤ tt) (lit≤ tt) (lit< tt) (lit< tt) m h.stated other in
-    let jobs = number_read 1 MOST_JOBS 32 (lit≤ tt) (lit≤ tt) (lit< tt) (lit< tt) n (h.some, h.few) in
+first_line_found n (Some m) h other =
+    let machines = number_ends 1 MOST_MACHINES 10 (lit≤ tt) (lit≤ tt) (lit< tt) (lit< tt) m h.stated other in
+    let jobs = number_ends 1 MOST_JOBS 32 (lit≤ tt) (lit≤ tt) (lit< tt) (lit< tt) n (h.some, h.few) in
     let joined = append_assoc (decimal n) (32 ∷ decimal m) in
     rw (joined, append_assoc (decimal n) _ other, append_assoc _ (10 ∷ []) other, jobs _, machines) refl
 
@@ -121,13 +122,13 @@ row_reads (suc more) =
     map_reads (λ others. job ∷ others) (row_reads more) (λ others line (size, short, l) s (within, e).
     (ap suc size, All-cons IsShort job others (omega (arith, within.1)) short, rw (e, l, append_assoc, size) refl)))
 
-row_read : (jobs other : List ℕ) → All IsShort jobs → jobs_at (length jobs) (row jobs ++ other) ≡ Ok (jobs, other)
+row_found : (jobs other : List ℕ) → All IsShort jobs → jobs_at (length jobs) (row jobs ++ other) ≡ Ok (jobs, other)
 unfolding jobs_at
-row_read [] other h = refl
-row_read (job ∷ jobs) other h =
+row_found [] other h = refl
+row_found (job ∷ jobs) other h =
     let small = All-head IsShort job jobs h in
-    let first = number_read 0 (10 ^ 9 - 1) _ (lit≤ tt) (lit≤ tt) (lit< tt) (no_digit (length jobs)) job in
-    let line = row_read jobs other (All-tail IsShort job jobs h) in
+    let first = number_ends 0 (10 ^ 9 - 1) _ (lit≤ tt) (lit≤ tt) (lit< tt) (no_digit (length jobs)) job in
+    let line = row_found jobs other (All-tail IsShort job jobs h) in
     rw (append_assoc, first (omega arith, omega arith) (row jobs ++ other), line) refl
 
 -- ---- the last line
@@ -139,11 +140,11 @@ makespan_reads = then_reads (word_reads (codes "makespan "))
     (λ _. number_reads 0 (10 ^ 18 - 1) 10 (lit≤ tt) (lit≤ tt) (lit< tt) (lit< tt))
     (λ _ makespan s t w (within, e). (omega (arith, within.1), rw (w, e) refl))
 
-makespan_read : (makespan : ℕ) → makespan < 10 ^ 18 → (other : List ℕ)
+makespan_found : (makespan : ℕ) → makespan < 10 ^ 18 → (other : List ℕ)
     → makespan_at (named_number (codes "makespan") makespan ++ other) ≡ Ok (makespan, other)
 unfolding makespan_at word_at byte_at
-makespan_read makespan small other =
-    let number = number_read 0 (10 ^ 18 - 1) 10 (lit≤ tt) (lit≤ tt) (lit< tt) (lit< tt) makespan in
+makespan_found makespan small other =
+    let number = number_ends 0 (10 ^ 18 - 1) 10 (lit≤ tt) (lit≤ tt) (lit< tt) (lit< tt) makespan in
     rw (append_assoc (decimal makespan) (10 ∷ []) other, number (omega arith, omega arith) other) refl
 
 -- ---- the whole
@@ -179,9 +180,9 @@ unfolding lines_at
 text_read {text} {jobs} {machines} {makespan} h other =
     let head : IsHead (length jobs) machines =
     record { some = h.some_job; few = h.few_jobs; stated = h.stated_machines } in
-    let first = first_line_read (length jobs) machines head in
+    let first = first_line_found (length jobs) machines head in
     let is_row = row_is jobs h.some_job in
-    let last = makespan_read makespan h.short_makespan other in
+    let last = makespan_found makespan h.short_makespan other in
     rw (
       h.spelled,
       text_parts,
@@ -189,7 +190,7 @@ text_read {text} {jobs} {machines} {makespan} h other =
       append_assoc (first_line (length jobs) machines) _ other,
       append_assoc (row jobs) _ other,
       first,
-      row_read jobs _ h.short_jobs,
+      row_found jobs _ h.short_jobs,
       last,
     ) refl
 

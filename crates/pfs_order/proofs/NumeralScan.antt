@@ -46,6 +46,7 @@ module _ (least most end : ℕ) (low : least ≤ 1) (some : least ≤ most) (hig
   unfolding numeral_on
   more_read number b m text digit e = rw (ne_eqb b end (omega arith), e) refl
 
+  -- a digit of a number goes on
   first_digit : (n : ℕ) → n < 10 → IsWithin n → longer least most None (48 + n) ≡ Some n
   unfolding longer with_digit
   first_digit n small within = grind (arith, nat_tests)
@@ -69,16 +70,18 @@ module _ (least most end : ℕ) (low : least ≤ 1) (some : least ≤ most) (hig
       ∙ more_read (Some (m / 10)) (48 + m % 10) m other (omega arith) digit)
       n (omega arith) within
 
-  pub number_read : (n : ℕ) → IsWithin n → (other : List ℕ)
+  -- with the byte that ends it, a number is read
+  pub number_ends : (n : ℕ) → IsWithin n → (other : List ℕ)
       → numeral_at least most end (decimal n ++ end ∷ other) ≡ Ok (n, other)
   unfolding numeral_on
-  number_read n within other = digits_read n within (end ∷ other) ∙ rw (eq-eqb end end refl) refl
+  number_ends n within other = digits_read n within (end ∷ other) ∙ rw (eq-eqb end end refl) refl
 
   number_found : (n : ℕ) → IsWithin n
       → Finds (IsNumber least most end) (numeral_at least most end) n (decimal n ++ end ∷ [])
   number_found n within =
-      record { spelled = (within, refl); read = λ other. rw append_assoc (number_read n within other) }
+      record { spelled = (within, refl); read = λ other. rw append_assoc (number_ends n within other) }
 
+  -- nothing goes on behind a front of a numeral
   stuck_at : (number : Option ℕ) (after : List ℕ) → IfSome number IsWithin
       → ((other : List ℕ) → numeral_on least most end number (with_tail after other) ≡ Err (with_tail after other))
       → Verdict (IsNumber least most end) (numeral_at least most end) (numeral_of number ++ after)

@@ -10,6 +10,7 @@ abbrev pub with_tail : List ℕ → List ℕ → List ℕ
 with_tail [] more = []
 with_tail (b ∷ text) more = b ∷ more
 
+-- the bytes themselves are among these
 pub with_tail-same : (after : List ℕ) → (more : List ℕ) × (with_tail after more ≡ after)
 with_tail-same [] = ([], refl)
 with_tail-same (b ∷ after) = (after, refl)
@@ -67,6 +68,7 @@ module _ {A B : Type 0} {L : Spelling A} {M : A → Spelling B} {N : Spelling B}
       let (b, (t, m)) = (k a).some in
       record { some = (b, (s ++ t, then_finds a b s t l m)); verdict = then_verdict }
 
+-- nothing is read of the text, and the value is that of no bytes
 pub none_reads : {A : Type 0} {L : Spelling A} (value : A) → L value [] → Reads L (yields value)
 none_reads {A} {L} value l =
     let here : Finds L (yields value) value [] = record { spelled = l; read = λ other. refl } in
