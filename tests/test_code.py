@@ -1,8 +1,10 @@
 """The scripts of the repository, also those whose names have no ending: Python is typed, and neither pyflakes nor
 shellcheck finds anything wrong."""
+import functools
 import pathlib
 import re
 import subprocess
+from collections.abc import Iterator
 
 import pytest
 from support.needs import need
@@ -16,15 +18,23 @@ ENDINGS = {".py": "python", ".bash": "shell", ".fish": "fish"}
 TYPED = ("tests", "tools", "experiments")
 
 
+@functools.cache
 def scripts(kind: str) -> list[str]:
     """The scripts of a kind, by their paths."""
-    paths = [path for path in TOP.rglob("*") if path.is_file() and not is_passed_over(path)]
-    return sorted(str(path.relative_to(TOP)) for path in paths if kind_of(path) == kind)
+    return sorted(str(path.relative_to(TOP)) for path in files_below(TOP) if kind_of(path) == kind)
 
 
-def is_passed_over(path: pathlib.Path) -> bool:
-    above = path.relative_to(TOP).parts[:-1]
-    return any(name in PASSED_OVER or (name.startswith(".") and name != ".ci") for name in above)
+def files_below(folder: pathlib.Path) -> Iterator[pathlib.Path]:
+    """The files below a folder, but for what is passed over."""
+    for path in folder.iterdir():
+        if path.is_file():
+            yield path
+        elif path.is_dir() and not is_passed_over(path.name):
+            yield from files_below(path)
+
+
+def is_passed_over(folder: str) -> bool:
+    return folder in PASSED_OVER or (folder.startswith(".") and folder != ".ci")
 
 
 def kind_of(path: pathlib.Path) -> str:
@@ -39,7 +49,7 @@ def kind_of(path: pathlib.Path) -> str:
 def assert_silent(words: list[str]) -> None:
     """This finds nothing wrong."""
     done = subprocess.run(words, cwd=TOP, stdout=subprocess.PIPE, stderr=subprocess.STDOUT, text=True)
-    assert done.stdout == "", f"what {' '.join(words)} says"
+    assert done.stdout == "", f"what {words[0]} says"
     assert done.returncode == 0
 
 
@@ -66,9 +76,8 @@ def test_the_package_for_python_is_typed() -> None:
     assert (done.stdout + done.stderr, done.returncode) == ("", 0)
 
 
-@pytest.mark.parametrize("path", scripts("python"))
-def test_pyflakes_finds_nothing(path: str) -> None:
-    assert_silent([need("pyflakes3"), path])
+def test_pyflakes_finds_nothing() -> None:
+    assert_silent([need("pyflakes3"), *scripts("python")])
 
 
 @pytest.mark.parametrize("path", scripts("shell"))

@@ -1,13 +1,12 @@
 """Command lines: what each prints on standard output and on standard error, and its exit status; and what is told where
 either of them is full."""
 import pathlib
-import resource
 import subprocess
-from collections.abc import Callable
 
 import pytest
 from support.files import THREE_JOBS, USAGE, make_files
 from support.lines import ANSWERS, PRINTING, refused, unwritten
+from support.needs import need
 from support.program import Program, Ran
 
 # A text that is no longer is cut at each of its bytes; a longer one where this buffer's ends are, and at a few others.
@@ -26,15 +25,13 @@ def cuts(length: int) -> list[int]:
 CUT = [(line, most) for line in PRINTING for most in cuts(len(ANSWERS[line].stdout))]
 
 
-def limited_to(most: int) -> Callable[[], None]:
-    """Lets no file get longer. The signal for that is ignored."""
-    return lambda: resource.setrlimit(resource.RLIMIT_FSIZE, (most, most))
-
-
 def run_into_file(pfs: Program, line: str, worked: pathlib.Path, file: pathlib.Path, most: int) -> Ran:
-    """A run into a file that takes at most so many bytes, with what the file then has."""
+    """A run into a file that takes at most so many bytes, with what the file then has. The program inherits from Python
+    that the signal for a longer file is ignored."""
+    limiting = Program(pathlib.Path(need("prlimit")))
+    words = [f"--fsize={most}", "--", *pfs.words(line)]
     with open(file, "wb") as output:
-        ran = pfs.run(line, worked, stdout=output, preexec_fn=limited_to(most), restore_signals=False)
+        ran = limiting.run(words, worked, stdout=output, restore_signals=False)
     return ran._replace(stdout=file.read_bytes())
 
 

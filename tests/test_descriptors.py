@@ -37,14 +37,10 @@ CLOSED = [["stdin"], ["stdout"], ["stderr"], ["stdin", "stdout"], ["stdout", "st
 LINES = [line for line in ANSWERS if "/dev/zero" not in line and "500" not in line]
 
 
-def closing(streams: list[str]) -> Callable[[], None]:
-    """Closes these streams, before the program starts."""
-
-    def close() -> None:
-        for stream in streams:
-            os.close(STREAMS.index(stream))
-
-    return close
+def run_without(streams: list[str], pfs: Program, words: Words, folder: pathlib.Path) -> Ran:
+    """A run for which the shell has closed these streams."""
+    line = " ".join(['exec "$0" "$@"', *(f"{STREAMS.index(stream)}>&-" for stream in streams)])
+    return Program(pathlib.Path("/bin/sh")).run(["-c", line, *pfs.words(words)], folder)
 
 
 @pytest.mark.parametrize("streams", CLOSED, ids=" ".join)
@@ -56,12 +52,12 @@ def test_closed(pfs: Program, worked: pathlib.Path, line: str, streams: list[str
         answer = unwritten(0)
     if "stderr" in streams:
         answer = answer._replace(stderr=b"")
-    assert pfs.run(line, worked, preexec_fn=closing(streams)) == answer
+    assert run_without(streams, pfs, line, worked) == answer
     assert {name: (worked / name).read_bytes() for name in FILES} == FILES
 
 
 def test_no_words_and_a_closed_input(pfs: Program, folder: pathlib.Path) -> None:
-    assert pfs.run([], folder, preexec_fn=closing(["stdin"])) == refused("read failed")
+    assert run_without(["stdin"], pfs, [], folder) == refused("read failed")
 
 
 # Standard input that is no usual file

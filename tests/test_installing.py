@@ -186,12 +186,18 @@ class Installed(NamedTuple):
     prefix: pathlib.Path
 
 
-@pytest.fixture(params=["/usr/local", "/opt/pfs"])
-def installed(request: pytest.FixtureRequest, copy: Copy, folder: pathlib.Path) -> Installed:
-    """An installation below a prefix, the first of which is the one where none is named."""
-    root = folder / "a place"
-    assert copy.make("install", *variables(request.param, root)) == Told(0, "", "")
-    return Installed(root, root / request.param[1:])
+def install(copy: Copy, prefix: str, root: pathlib.Path) -> Installed:
+    assert copy.make("install", *variables(prefix, root)) == Told(0, "", "")
+    return Installed(root, root / prefix[1:])
+
+
+PREFIXES = ["/usr/local", "/opt/pfs"]
+
+
+@pytest.fixture(scope="module", params=PREFIXES)
+def installed(request: pytest.FixtureRequest, copy: Copy, tmp_path_factory: pytest.TempPathFactory) -> Installed:
+    """An installation below a prefix, the first of which is the one where none is named. No test changes it."""
+    return install(copy, request.param, tmp_path_factory.mktemp("installed") / "a place")
 
 
 def variables(prefix: str, root: pathlib.Path) -> list[str]:
@@ -237,10 +243,11 @@ def test_zsh_finds_its_installed_completion(copy: Copy, folder: pathlib.Path) ->
     found_by_zsh(folder / "root", folder)
 
 
-def test_nothing_is_left_of_an_installation(installed: Installed, copy: Copy) -> None:
-    prefix = "/" + str(installed.prefix.relative_to(installed.root))
-    assert copy.make("uninstall", *variables(prefix, installed.root)) == Told(0, "", "")
-    assert list(installed.root.iterdir()) == []
+@pytest.mark.parametrize("prefix", PREFIXES)
+def test_nothing_is_left_of_an_installation(copy: Copy, folder: pathlib.Path, prefix: str) -> None:
+    root = install(copy, prefix, folder / "a place").root
+    assert copy.make("uninstall", *variables(prefix, root)) == Told(0, "", "")
+    assert list(root.iterdir()) == []
 
 
 def test_what_others_have_installed_stays(copy: Copy, folder: pathlib.Path) -> None:

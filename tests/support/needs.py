@@ -18,6 +18,7 @@ PACKAGES = {
     "matplotlib": "python3-matplotlib",
     "munged": "munge",
     "nm": "binutils",
+    "prlimit": "util-linux",
     "readelf": "binutils",
     "scipy": "python3-scipy",
     "slurmctld": "slurm-wlm",
