@@ -4,10 +4,10 @@ import functools
 import pathlib
 import re
 import subprocess
-from collections.abc import Iterator
 
 import pytest
 from support.needs import need
+from support.tree import files_below
 
 TOP = pathlib.Path(__file__).resolve().parent.parent
 # What isn't the repository's, or is no script.
@@ -21,16 +21,7 @@ TYPED = ("tests", "tools", "experiments")
 @functools.cache
 def scripts(kind: str) -> list[str]:
     """The scripts of a kind, by their paths."""
-    return sorted(str(path.relative_to(TOP)) for path in files_below(TOP) if kind_of(path) == kind)
-
-
-def files_below(folder: pathlib.Path) -> Iterator[pathlib.Path]:
-    """The files below a folder, but for what is passed over."""
-    for path in folder.iterdir():
-        if path.is_file():
-            yield path
-        elif path.is_dir() and not is_passed_over(path.name):
-            yield from files_below(path)
+    return sorted(str(path.relative_to(TOP)) for path in files_below(TOP, is_passed_over) if kind_of(path) == kind)
 
 
 def is_passed_over(folder: str) -> bool:
