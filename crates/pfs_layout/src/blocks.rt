@@ -92,16 +92,6 @@ impl Blocks {
         self.phase = Phase::Refused(fault);
     }
 
-    // Whether a block is begun and not ended.
-    fn in_block(&self) -> bool
-        ensures { result ≡ is_in_block self.now.phase }
-    {
-        match self.phase {
-            Phase::Body | Phase::AfterLast => true,
-            Phase::Seeking | Phase::Done | Phase::Refused(_) => false,
-        }
-    }
-
     /// Whether a further byte is wanted.
     pub fn is_live(&self) -> bool
         ensures { result ≡ live_test self.now.phase }
@@ -290,8 +280,9 @@ impl Blocks {
     fn meet_mixed_line(&mut self, offset: usize)
         ensures { self.new ≡ mixed_met self.old offset }
     {
-        if self.in_block() {
-            self.refuse(LayoutFault::MixedLine { offset });
+        match self.phase {
+            Phase::Body | Phase::AfterLast => self.refuse(LayoutFault::MixedLine { offset }),
+            Phase::Seeking | Phase::Done | Phase::Refused(_) => {}
         }
     }
 
@@ -432,7 +423,16 @@ impl Blocks {
         ensures { result ≡ end_fault (line_ended self.now (has_numbers_alone kinds)) }
     {
         match self.phase {
-            Phase::Seeking => Some(self.sought_fault(kinds)),
+            // A size line without a fault begins a block, of which no time was read.
+            Phase::Seeking if kinds.is_number_line() => {
+                match self.size_line.stated(self.layout, self.line) {
+                    Ok(_) => Some(LayoutFault::Truncated { have: 0 }),
+                    Err(fault) => Some(fault),
+                }
+            }
+            Phase::Seeking => Some(LayoutFault::NoBlock {
+                found: self.complete,
+            }),
             Phase::Body => Some(LayoutFault::Truncated {
                 have: self.body.times(self.layout),
             }),
@@ -447,24 +447,6 @@ impl Blocks {
             }
             Phase::Done => None,
             Phase::Refused(fault) => Some(fault),
-        }
-    }
-
-    // The fault of an input that ends while a block is sought. A size line without a fault begins a
-    // block, of which no time was read.
-    fn sought_fault(&self, kinds: Kinds) -> LayoutFault
-        requires { self.now.phase ≡ Phase.Seeking }
-        ensures { Some result ≡ end_fault (line_ended_in Phase.Seeking self.now (has_numbers_alone kinds)) }
-    {
-        if kinds.is_number_line() {
-            match self.size_line.stated(self.layout, self.line) {
-                Ok(_) => LayoutFault::Truncated { have: 0 },
-                Err(fault) => fault,
-            }
-        } else {
-            LayoutFault::NoBlock {
-                found: self.complete,
-            }
         }
     }
 }
