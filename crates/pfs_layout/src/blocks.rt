@@ -2,9 +2,9 @@
 ghost use Rattle.std.specs.Prelude.{◌≡◌, ◌≢◌, ◌+◌, ◌-◌, ◌*◌, ◌<◌, ◌≤◌, true, false, ◌==◌, ℕ, List, length, replicate};
 ghost use Rattle.std.specs.Prelude.{Some, None, IfOk, IfErr, OnOk, OnErr, IfSome, option_map, is_some, if◌then◌else◌};
 ghost use Rattle.pfs_layout.specs.Size.{is_within_limits, problem_of};
-ghost use Rattle.pfs_layout.specs.Private.Step.{refused, is_in_block, CanCount, with_problem_time, stored, counted};
+ghost use Rattle.pfs_layout.specs.Private.Step.{refused, CanCount, with_problem_time, stored, counted};
 ghost use Rattle.pfs_layout.specs.Private.Step.{body_judged, number_ended, last_number_ended, no_numbers, Keeps};
-ghost use Rattle.pfs_layout.specs.Private.Step.{size_line_ended, line_ended, line_ended_in, mixed_met, blocks_after};
+ghost use Rattle.pfs_layout.specs.Private.Step.{size_line_ended, line_ended, mixed_met, blocks_after};
 ghost use Rattle.pfs_layout.specs.Private.Step.{has_numbers_alone, end_fault, at_end, IsReady, KeepsHeld, LacksMemory};
 ghost use Rattle.pfs_layout.specs.Reader.{is_live as live_test, fields, StandsAfter, IsReader, FeedMeets, progress_of};
 ghost use Rattle.pfs_layout.specs.Private.Take.{TakeMeets};
