@@ -45,8 +45,8 @@ pub use Rattle.pfs_layout.specs.Lines.{ended_lines, is_mixed, is_no_digit, is_nu
 unfoldable pub use Rattle.pfs_layout.specs.Lines.{ended_numbers, ended_parts, lines, numbers, open_part}
 pub use Rattle.pfs_layout.specs.Private.Rows.{row_width}
 pub use Rattle.pfs_layout.specs.Private.Step.{IsReady, at_end, blocks_after, body_judged, event_of, has_numbers_alone}
-pub use Rattle.pfs_layout.specs.Private.Step.{is_machine_due, last_number_ended, machine_judged, no_numbers}
-pub use Rattle.pfs_layout.specs.Private.Step.{number_of, refused, time_judged}
+pub use Rattle.pfs_layout.specs.Private.Step.{is_machine_due, last_number_ended, no_numbers}
+pub use Rattle.pfs_layout.specs.Private.Step.{number_of, refused}
 unfoldable pub use Rattle.pfs_layout.specs.Private.Step.{line_ended, number_ended}
 pub use Rattle.pfs_layout.specs.Private.Take.{Reading}
 pub use Rattle.pfs_layout.specs.Reader.{EndsWantedSize, FeedMeets, Fields, FinishMeets, Follows, FollowsBlocks}

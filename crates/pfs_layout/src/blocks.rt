@@ -2,12 +2,10 @@
 ghost use Rattle.std.specs.Prelude.{◌≡◌, ◌≢◌, ◌+◌, ◌-◌, ◌*◌, ◌<◌, ◌≤◌, true, false, ◌==◌, ℕ, List, length, replicate};
 ghost use Rattle.std.specs.Prelude.{Some, None, IfOk, IfErr, OnOk, OnErr, IfSome, option_map, is_some, if◌then◌else◌};
 ghost use Rattle.pfs_layout.specs.Size.{is_within_limits, problem_of};
-ghost use Rattle.pfs_layout.specs.Private.Step.{refused, is_in_block, CanCount, with_problem_time, stored, counted};
-ghost use Rattle.pfs_layout.specs.Private.Step.{time_judged, machine_judged, body_judged, number_ended};
-ghost use Rattle.pfs_layout.specs.Private.Step.{no_numbers, block_begun, size_line_ended, block_ended};
-ghost use Rattle.pfs_layout.specs.Private.Step.{line_ended, last_number_ended, mixed_met, blocks_after};
-ghost use Rattle.pfs_layout.specs.Private.Step.{line_ended_in, has_numbers_alone, end_fault, at_end, IsReady, Keeps};
-ghost use Rattle.pfs_layout.specs.Private.Step.{KeepsHeld, LacksMemory};
+ghost use Rattle.pfs_layout.specs.Private.Step.{refused, CanCount, with_problem_time, stored, counted};
+ghost use Rattle.pfs_layout.specs.Private.Step.{body_judged, number_ended, last_number_ended, no_numbers, Keeps};
+ghost use Rattle.pfs_layout.specs.Private.Step.{size_line_ended, line_ended, mixed_met, blocks_after};
+ghost use Rattle.pfs_layout.specs.Private.Step.{has_numbers_alone, end_fault, at_end, IsReady, KeepsHeld, LacksMemory};
 ghost use Rattle.pfs_layout.specs.Reader.{is_live as live_test, fields, StandsAfter, IsReader, FeedMeets, progress_of};
 ghost use Rattle.pfs_layout.specs.Private.Take.{TakeMeets};
 
@@ -94,16 +92,6 @@ impl Blocks {
         self.phase = Phase::Refused(fault);
     }
 
-    // Whether a block is begun and not ended.
-    fn in_block(&self) -> bool
-        ensures { result ≡ is_in_block self.now.phase }
-    {
-        match self.phase {
-            Phase::Body | Phase::AfterLast => true,
-            Phase::Seeking | Phase::Done | Phase::Refused(_) => false,
-        }
-    }
-
     /// Whether a further byte is wanted.
     pub fn is_live(&self) -> bool
         ensures { result ≡ live_test self.now.phase }
@@ -138,40 +126,24 @@ impl Blocks {
         };
     }
 
-    // The number is a time.
-    fn judge_time(&mut self, value: u64, first: usize)
-        requires { CanCount self.old }
-        ensures { self.new ≡ time_judged self.old value first }
-    {
-        if value > u64::from(LONGEST_TIME) {
-            self.refuse(LayoutFault::TimeRange { offset: first });
-            return;
-        }
-        self.store(value as u32);
-        self.count(self.body.after_time(self.layout));
-    }
-
-    // The number is that of a machine.
-    fn judge_machine(&mut self, value: u64, first: usize)
-        requires { CanCount self.old }
-        ensures { self.new ≡ machine_judged self.old value first }
-    {
-        if value != self.body.machine as u64 {
-            self.refuse(LayoutFault::MachineNumber { offset: first });
-            return;
-        }
-        self.count(self.body.after_machine());
-    }
-
     // The number is one of a body, where a time or a machine's number is due.
     fn judge_body(&mut self, value: u64, first: usize)
         requires { CanCount self.old }
         ensures { self.new ≡ body_judged self.old value first }
     {
         if self.body.is_machine_due(self.layout) {
-            self.judge_machine(value, first);
+            if value != self.body.machine as u64 {
+                self.refuse(LayoutFault::MachineNumber { offset: first });
+                return;
+            }
+            self.count(self.body.after_machine());
         } else {
-            self.judge_time(value, first);
+            if value > u64::from(LONGEST_TIME) {
+                self.refuse(LayoutFault::TimeRange { offset: first });
+                return;
+            }
+            self.store(value as u32);
+            self.count(self.body.after_time(self.layout));
         }
     }
 
@@ -240,25 +212,6 @@ impl Blocks {
         }
     }
 
-    // A block of these sizes begins.
-    fn begin_block(&mut self, alloc: Global, stated: Size)
-        requires complete { self.old.complete < self.old.wanted }
-        requires within { is_within_limits stated ≡ true }
-        ensures begun { self.new.phase ≢ Phase.Refused LayoutFault.Memory
-            → self.new ≡ block_begun self.old stated }
-        ensures memory { self.new.phase ≡ Phase.Refused LayoutFault.Memory → self.old.complete + 1 ≡ self.old.wanted }
-        ensures kept { KeepsHeld self.old self.new }
-    {
-        match self.instance_for(alloc, stated) {
-            Ok(instance) => {
-                self.instance = instance;
-                self.body = Body::new(self.layout, stated.jobs, stated.machines);
-                self.phase = Phase::Body;
-            }
-            Err(_) => self.refuse(LayoutFault::Memory),
-        }
-    }
-
     // A number line ends while a block is sought: its numbers begin a block, or are refused. It is this
     // line, counted from 1.
     #[inline(never)]
@@ -271,24 +224,21 @@ impl Blocks {
             → (size_line_ended self.old size_line line).phase ≡ Phase.Body }
         ensures kept { KeepsHeld self.old self.new }
     {
-        match size_line.stated(self.layout, line) {
-            Ok(stated) => self.begin_block(alloc, stated),
-            Err(fault) => self.refuse(fault),
-        }
-    }
-
-    // The line of a block's last number ends.
-    fn end_block(&mut self)
-        requires { self.old.complete < self.old.wanted }
-        ensures { self.new ≡ block_ended self.old }
-    {
-        let complete = self.complete + 1;
-        self.complete = complete;
-        self.phase = if complete == self.wanted {
-            Phase::Done
-        } else {
-            Phase::Seeking
+        let stated = match size_line.stated(self.layout, line) {
+            Ok(stated) => stated,
+            Err(fault) => {
+                self.refuse(fault);
+                return;
+            }
         };
+        match self.instance_for(alloc, stated) {
+            Ok(instance) => {
+                self.instance = instance;
+                self.body = Body::new(self.layout, stated.jobs, stated.machines);
+                self.phase = Phase::Body;
+            }
+            Err(_) => self.refuse(LayoutFault::Memory),
+        }
     }
 
     // Byte 10 ends the line.
@@ -313,7 +263,15 @@ impl Blocks {
                     self.end_size_line(alloc, size_line, line);
                 }
             }
-            Phase::AfterLast => self.end_block(),
+            Phase::AfterLast => {
+                let complete = self.complete + 1;
+                self.complete = complete;
+                self.phase = if complete == self.wanted {
+                    Phase::Done
+                } else {
+                    Phase::Seeking
+                };
+            }
             Phase::Body | Phase::Done | Phase::Refused(_) => {}
         }
     }
@@ -322,8 +280,9 @@ impl Blocks {
     fn meet_mixed_line(&mut self, offset: usize)
         ensures { self.new ≡ mixed_met self.old offset }
     {
-        if self.in_block() {
-            self.refuse(LayoutFault::MixedLine { offset });
+        match self.phase {
+            Phase::Body | Phase::AfterLast => self.refuse(LayoutFault::MixedLine { offset }),
+            Phase::Seeking | Phase::Done | Phase::Refused(_) => {}
         }
     }
 
@@ -464,7 +423,16 @@ impl Blocks {
         ensures { result ≡ end_fault (line_ended self.now (has_numbers_alone kinds)) }
     {
         match self.phase {
-            Phase::Seeking => Some(self.sought_fault(kinds)),
+            // A size line without a fault begins a block, of which no time was read.
+            Phase::Seeking if kinds.is_number_line() => {
+                match self.size_line.stated(self.layout, self.line) {
+                    Ok(_) => Some(LayoutFault::Truncated { have: 0 }),
+                    Err(fault) => Some(fault),
+                }
+            }
+            Phase::Seeking => Some(LayoutFault::NoBlock {
+                found: self.complete,
+            }),
             Phase::Body => Some(LayoutFault::Truncated {
                 have: self.body.times(self.layout),
             }),
@@ -479,24 +447,6 @@ impl Blocks {
             }
             Phase::Done => None,
             Phase::Refused(fault) => Some(fault),
-        }
-    }
-
-    // The fault of an input that ends while a block is sought. A size line without a fault begins a
-    // block, of which no time was read.
-    fn sought_fault(&self, kinds: Kinds) -> LayoutFault
-        requires { self.now.phase ≡ Phase.Seeking }
-        ensures { Some result ≡ end_fault (line_ended_in Phase.Seeking self.now (has_numbers_alone kinds)) }
-    {
-        if kinds.is_number_line() {
-            match self.size_line.stated(self.layout, self.line) {
-                Ok(_) => LayoutFault::Truncated { have: 0 },
-                Err(fault) => fault,
-            }
-        } else {
-            LayoutFault::NoBlock {
-                found: self.complete,
-            }
         }
     }
 }

@@ -57,65 +57,34 @@ impl Body {
         requires { HasPlace self }
         ensures { result ≡ behind_machine self }
     {
-        Body {
-            jobs: self.jobs,
-            machines: self.machines,
-            due: self.due,
-            judged: self.judged + 1,
-            job: self.job,
-            machine: self.machine,
-        }
+        let mut body = self;
+        body.judged += 1;
+        body
     }
 
-    /// Behind a time.
+    /// Behind a time: the same machine's next job, or the next machine's first, or in the OR-Library's layout the same
+    /// job's next machine, or the next job's first.
     pub fn after_time(self, layout: Layout) -> Body
         requires { HasPlace self }
         ensures { result ≡ behind_time layout self }
     {
+        let mut body = self;
+        body.judged += 1;
         match layout {
-            Layout::Taillard => self.at_next_job(),
-            Layout::OrLib => self.at_next_machine(),
+            Layout::Taillard => {
+                body.job = next(self.job, self.jobs);
+                if body.job == 0 {
+                    body.machine = next(self.machine, self.machines);
+                }
+            }
+            Layout::OrLib => {
+                body.machine = next(self.machine, self.machines);
+                if body.machine == 0 {
+                    body.job = next(self.job, self.jobs);
+                }
+            }
         }
-    }
-
-    // The same machine's next job, or the next machine's first.
-    fn at_next_job(self) -> Body
-        requires { HasPlace self }
-        ensures { result ≡ behind_time Layout.Taillard self }
-    {
-        let last = self.job + 1 == self.jobs;
-        Body {
-            jobs: self.jobs,
-            machines: self.machines,
-            due: self.due,
-            judged: self.judged + 1,
-            job: next(self.job, self.jobs),
-            machine: if last {
-                next(self.machine, self.machines)
-            } else {
-                self.machine
-            },
-        }
-    }
-
-    // The same job's next machine, or the next job's first.
-    fn at_next_machine(self) -> Body
-        requires { HasPlace self }
-        ensures { result ≡ behind_time Layout.OrLib self }
-    {
-        let last = self.machine + 1 == self.machines;
-        Body {
-            jobs: self.jobs,
-            machines: self.machines,
-            due: self.due,
-            judged: self.judged + 1,
-            job: if last {
-                next(self.job, self.jobs)
-            } else {
-                self.job
-            },
-            machine: next(self.machine, self.machines),
-        }
+        body
     }
 
     /// How many of the judged numbers are times.

@@ -1,6 +1,7 @@
 -- What more input and wider limits change.
 use Rattle.pfs_layout.proofs.Words.{◌≡◌, ℕ, List, [], ◌∷◌, ◌++◌, Some, append_assoc, append-nil, by_push, Layout}
-use Rattle.pfs_layout.proofs.Words.{LayoutFault, byte_fault, ◌≤◌, length, arith, lit≤, AllByRecursion}
+use Rattle.pfs_layout.proofs.Words.{LayoutFault, byte_fault, ◌≤◌, length, arith, lit≤, AllByRecursion, map, take, drop}
+use Rattle.pfs_layout.proofs.Words.{take-append-drop, None, inl, inr, refusal, fault_of_place, below}
 use Rattle.pfs_layout.proofs.Words.{limits, Problem, AreBlocks, IsInstance, IsBlock, IsSomeBlock, lines}
 use Rattle.pfs_layout.specs.Laws.{FaultStays, FreeBehind, IsWider, WiderLimits, earlier_limits}
 use Rattle.pfs_layout.specs.Laws.{EarlierFiles}
@@ -8,6 +9,8 @@ use Rattle.pfs_layout.proofs.Files.FileLemmas.{file_completes, completes_file}
 use Rattle.pfs_layout.proofs.Files.VerdictLemmas.{enough_holds, holds_longer, one_held}
 use Rattle.pfs_layout.proofs.Published.PlaceLemmas.{byte_fault-push, refusal_end, refusal_is}
 use Rattle.pfs_base.specs.Limits.{Limits}
+use Rattle.pfs_base.proofs.Published.Lists.{map-range_with_len-same}
+use Rattle.pfs_layout.proofs.Options.{cases_option}
 
 -- a fault at a byte stays, whatever follows
 pub byte_fault-more : (layout : Layout) (k : ℕ) (text more : List ℕ) (fault : LayoutFault)
@@ -15,6 +18,18 @@ pub byte_fault-more : (layout : Layout) (k : ℕ) (text more : List ℕ) (fault 
 byte_fault-more layout k text more fault e =
     by_push (λ more. byte_fault layout k (text ++ more) ≡ Some fault) (rw (append-nil text) e)
     (λ more b h. rw (← append_assoc text more (b ∷ []), byte_fault-push layout k (text ++ more) b, h)) more
+
+-- where no byte of a text has a fault, each front has the fault of its end
+pub front_faults : (layout : Layout) (k : ℕ) (text : List ℕ) (n : ℕ) → byte_fault layout k text ≡ None
+    → map (λ cut. refusal layout (take cut text) k) (below n)
+    ≡ map (λ cut. fault_of_place layout k (take cut text) None) (below n)
+front_faults layout k text n right = map-range_with_len-same _ _ 0 n (λ cut low high.
+    rw refusal_end (elim (cases_option (byte_fault layout k (take cut text))) [
+      | inl none ↦ rw none
+      | inr one ↦
+          let stays = byte_fault-more layout k (take cut text) (drop cut text) one.0 one.1 in
+          absurd (cc (right, rw (take-append-drop cut text) at stays))
+    ]))
 
 pub fault_stays : FaultStays
 fault_stays layout text more k fault e =

@@ -14,7 +14,6 @@ use Rattle.pfs_layout.proofs.Files.LineLemmas.{split_some, front_of_lines}
 use Rattle.pfs_layout.proofs.Files.DueLemmas.{are_due_front, due_passes, length-due, block_of, size_within}
 use Rattle.pfs_layout.proofs.Files.DueLemmas.{due_instance, instance_within, instance_due}
 use Rattle.pfs_layout.proofs.Files.GoodLemmas.{stand-push}
-use Rattle.pfs_layout.specs.Laws.{FileStands}
 
 -- ---- where a block leads
 
@@ -48,7 +47,7 @@ module _ (layout : Layout) (complete : List Block) where
       let here : List ℕ = ns ++ numbers line in
       let left : List ℕ = flat_map numbers more ++ numbers last in
       let regroup : all ≡ here ++ left = rw is (simp append_assoc) in
-      grind (arith, regroup, numbers_some, are_due_front, length-append {A = ℕ}, body_fold size here more last)
+      grind (arith, numbers_some, are_due_front, length-append {A = ℕ}, body_fold size here more last)
 
   -- a block is completed by its lines
   pub block_fold : (problem : Problem) (block : List (List ℕ)) → IsBlock limits layout problem block
@@ -63,7 +62,7 @@ module _ (layout : Layout) (complete : List Block) where
       (due layout problem.shop) (sym b.body.holds) (due_passes layout problem b.within.within.short_times)
       (length-due layout problem) in
       let joined = fold-append (stand_after layout) (standing complete seeking) b.skipped (b.size_line ∷ tail) in
-      grind (arith, b.parts, b.size)
+      grind (arith, b.size)
 
 -- blocks lead to as many complete ones, the last of which is the instance's
 pub record LeadsTo (layout : Layout) (complete : List Block) (problem : Problem) (count : ℕ) (text : List (List ℕ))
@@ -280,6 +279,3 @@ completes_file layout input k problem c =
       short = omega (arith, c.short, ap length f.whole, length-append f.front f.rest);
       blocks = rw (f.are, c.is, ← c.count) (are_blocks layout m.front c.earlier c.own m.each);
     }
-
-pub file_stands : FileStands
-file_stands layout input k problem = (file_completes layout input k problem, completes_file layout input k problem)

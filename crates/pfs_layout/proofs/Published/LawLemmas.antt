@@ -3,7 +3,7 @@ use Rattle.pfs_layout.proofs.Words.{◌≡◌, ℕ, ◌≤◌, List, [], ◌∷�
 use Rattle.pfs_layout.proofs.Words.{length-append, all_but_last, last_of, Problem}
 use Rattle.pfs_layout.proofs.Words.{all_and_last, Layout, lines, Block}
 use Rattle.pfs_layout.proofs.Words.{standing, stand, instance_of, refusal, Completes}
-use Rattle.pfs_layout.specs.Laws.{Seeks, SomeFile, OneVerdict, AcceptedLaw}
+use Rattle.pfs_layout.specs.Laws.{Seeks, OneVerdict, AcceptedLaw}
 use Rattle.pfs_layout.proofs.Options.{cases_option}
 use Rattle.pfs_layout.proofs.Published.PlaceLemmas.{refusal_is, one_fault}
 use Rattle.pfs_layout.proofs.Files.FileLemmas.{file_completes, completes_file}
@@ -41,7 +41,7 @@ one_verdict layout input k some = elim (cases_option (refusal layout input k)) [
 
 -- ---- some file
 
-completes_seeks : (layout : Layout) (input : List ℕ) (k : ℕ) (problem : Problem) → Completes layout input k problem
+pub completes_seeks : (layout : Layout) (input : List ℕ) (k : ℕ) (problem : Problem) → Completes layout input k problem
     → Seeks layout input k
 completes_seeks layout input k problem c = record {
   text = c.text;
@@ -53,7 +53,7 @@ completes_seeks layout input k problem c = record {
   now = rw c.stands;
 }
 
-seeks_completes : (layout : Layout) (input : List ℕ) (k : ℕ) → 1 ≤ k → Seeks layout input k
+pub seeks_completes : (layout : Layout) (input : List ℕ) (k : ℕ) → 1 ≤ k → Seeks layout input k
     → (problem : Problem) × Completes layout input k problem
 seeks_completes layout input k some s = by_complete (stand layout (lines s.text)).complete refl
   where
@@ -80,9 +80,3 @@ seeks_completes layout input k some s = by_complete (stand layout (lines s.text)
             is = refl;
           },
         )
-
-pub some_file : SomeFile
-some_file layout input k some = (
-  λ file. completes_seeks layout input k file.0 (file_completes layout input k file.0 file.1),
-  λ s. let held = seeks_completes layout input k some s in (held.0, completes_file layout input k held.0 held.1),
-)

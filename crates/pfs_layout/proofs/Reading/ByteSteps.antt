@@ -8,10 +8,10 @@ use Rattle.pfs_layout.proofs.Words.{open_part, is_mixed, is_no_digit, numbers, B
 use Rattle.pfs_layout.proofs.Words.{standing, Stand, stand_after, mixed_line, wrong_size, last_number_ended, line_ended}
 use Rattle.pfs_layout.proofs.Words.{has_numbers_alone, number_of, event_of, blocks_after, is_live, FollowsLine}
 use Rattle.pfs_layout.proofs.Words.{FollowsNow, FollowsBlocks, digits_value, length_push, by_push, are_due, ◌⊎◌}
-use Rattle.pfs_layout.proofs.Words.{common_steps, Memory, Phase, no_numbers, machine_judged, time_judged, body_judged}
-use Rattle.pfs_layout.proofs.Words.{is_machine_due, number_ended, HoldsNumbers}
+use Rattle.pfs_layout.proofs.Words.{common_steps, Memory, Phase, no_numbers}
+use Rattle.pfs_layout.proofs.Words.{number_ended, HoldsNumbers}
 use Rattle.pfs_layout.specs.Private.Step.{Keeps, number_ended_in}
-use Rattle.std.proofs.lemmas.Bool.{or_right, cond_both}
+use Rattle.std.proofs.lemmas.Bool.{or_right}
 use Rattle.pfs_layout.specs.declared.blocks.Phase.TheVariants as phases
 use Rattle.pfs_layout.proofs.Files.GoodLemmas.{GoodNow, fault_within_limit, wrong_number_is, line_numbers}
 use Rattle.pfs_layout.proofs.Files.GoodLemmas.{no_last, number_fault, due_line, gap_fault}
@@ -33,13 +33,9 @@ refused_memory phase = inr (λ e. cc)
 
 -- ---- a number
 
-keeps_body : (r : Blocks) (value first : ℕ) → Keeps r (body_judged r value first)
-keeps_body r value first = cond_both (is_machine_due r.layout r.body) (machine_judged r value first)
-    (time_judged r value first) (Keeps r) (λ machine. grind arith) (λ time. grind arith)
-
 keeps_in : (phase : Phase) (r : Blocks) (value first : ℕ) → r.phase ≢ phases.Refused Memory
     → Keeps r (number_ended_in phase r value first)
-keeps_in phases.Body r value first h = keeps_body r value first
+keeps_in phases.Body r value first h = grind arith
 keeps_in phase r value first h = grind (arith, common_steps)
 
 pub keeps_number : (r : Blocks) (value first : ℕ) → is_live r.phase ≡ true → Keeps r (number_ended r value first)

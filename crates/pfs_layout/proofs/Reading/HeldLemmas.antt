@@ -71,13 +71,10 @@ front_few : (layout : Layout) (k : ℕ) (front rest : List ℕ) {text : List ℕ
 front_few layout k front rest whole right held =
     record { front = front; rest = rest; whole = whole; few = rw held (few_times layout k front right) }
 
-few_in : (phase : Phase) (r : Fields) (text : List ℕ) → StandsIn phase r text → HoldsFew r.layout r.wanted text r.held
+pub few_in : (phase : Phase) (r : Fields) (text : List ℕ) → StandsIn phase r text → HoldsFew r.layout r.wanted text r.held
 unfolding block_read
 few_in (phases.Refused fault) r text s = front_few r.layout r.wanted s.front (s.byte ∷ s.rest) s.whole s.sound s.held
 few_in phase r text s = front_few r.layout r.wanted text [] (sym (append-nil text)) s.sound s.blocks.held
-
-pub holds_few : (r : Fields) (text : List ℕ) → StandsAfter r text → HoldsFew r.layout r.wanted text r.held
-holds_few r text s = few_in r.phase r text s
 
 -- in a longer text
 few_more : (layout : Layout) (k : ℕ) (text more : List ℕ) {held : ℕ} → HoldsFew layout k text held
@@ -92,10 +89,10 @@ pub feed_few : (old : Fields) (text piece : List ℕ) (outcome : Result Progress
 feed_few old text piece (Ok progress) new m none =
     let used : List ℕ = take progress.used piece in
     let left : List ℕ = drop progress.used piece in
-    let few = rw (m.layout, m.wanted) at (holds_few new (text ++ used) m.ok.1) in
+    let few = rw (m.layout, m.wanted) at (few_in new.phase new (text ++ used) m.ok.1) in
     rw (append_assoc text used left, take-append-drop progress.used piece) at
     (few_more old.layout old.wanted (text ++ used) left few)
 feed_few old text piece (Err fault) new m none = elim (refused_memory (phases.Refused fault)) [
   | inl memory ↦ record { front = []; rest = text ++ piece; whole = refl; few = rw (none (cc)) (omega arith) }
-  | inr other ↦ rw (m.layout, m.wanted) at (holds_few new (text ++ piece) (m.refused (λ e. other (rw e))))
+  | inr other ↦ rw (m.layout, m.wanted) at (few_in new.phase new (text ++ piece) (m.refused (λ e. other (rw e))))
 ]

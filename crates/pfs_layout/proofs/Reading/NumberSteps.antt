@@ -7,7 +7,7 @@ use Rattle.pfs_layout.proofs.Words.{◌==◌, inl, inr, option_map, cases_Bool, 
 use Rattle.pfs_layout.proofs.Words.{eq-eqb, le-ltb, lt-ltb, nat_tests, length_push, append_assoc, length-append}
 use Rattle.pfs_layout.proofs.Words.{mod-mul-add, Problem, CEILING, SizeLine, any_time, machine_number, due_count}
 use Rattle.pfs_layout.proofs.Words.{due_at, Stand, Block, Now, seeking, inside, lost, standing, is_machine_due, refused}
-use Rattle.pfs_layout.proofs.Words.{time_judged, machine_judged, body_judged, number_ended, time_count, HoldsNumbers}
+use Rattle.pfs_layout.proofs.Words.{body_judged, number_ended, time_count, HoldsNumbers}
 use Rattle.pfs_layout.proofs.Words.{FollowsBody, is_live, block_begun_by, block_of, FollowsBlocks, LONGEST_TIME}
 use Rattle.pfs_layout.proofs.Words.{LayoutFault, Blocks, misfit}
 use Rattle.std.proofs.Math.ListN.{set}
@@ -255,17 +255,17 @@ module _ {has_word : Bool} (r : Blocks) (complete : List Block) (block : Block) 
       record { follows = rw (← length-append block.numbers more) at f.now.body; some = some; kind = kind }
 
   time_step : (first : ℕ) → IsDue false r.layout block.size (length so_far) r.body
-      → Counts (time_judged r (min CEILING v) first) (misfit any_time v first)
+      → Counts (body_judged r (min CEILING v) first) (misfit any_time v first)
   time_step first due = elim (cases_lt LONGEST_TIME v) [
-    | inl long ↦ rw (lt-ltb LONGEST_TIME v long, lt-ltb LONGEST_TIME (min CEILING v) (omega arith)) (refuses r _)
+    | inl long ↦ rw (due.kind, lt-ltb LONGEST_TIME v long, lt-ltb LONGEST_TIME (min CEILING v) (omega arith)) (refuses r _)
     | inr short ↦
         let same : min CEILING v ≡ v = omega arith in
-        rw (same, le-ltb LONGEST_TIME v short)
+        rw (due.kind, same, le-ltb LONGEST_TIME v short)
         (counted_follows (time_behind due) (keeping_time v due keeps))
   ]
 
   machine_step : (first : ℕ) → IsDue true r.layout block.size (length so_far) r.body
-      → Counts (machine_judged r (min CEILING v) first) (misfit (machine_number r.body.machine) v first)
+      → Counts (body_judged r (min CEILING v) first) (misfit (machine_number r.body.machine) v first)
   machine_step first due =
       let within = size_within block.size f.now.fits in
       let small : r.body.machine < CEILING =
@@ -273,18 +273,18 @@ module _ {has_word : Bool} (r : Blocks) (complete : List Block) (block : Block) 
       elim (cases_eq v r.body.machine) [
         | inl here ↦
             let same : min CEILING v ≡ v = omega arith in
-            rw (same, eq-eqb v r.body.machine here)
+            rw (due.kind, same, eq-eqb v r.body.machine here)
             (counted_follows (machine_behind due) (keeping_machine v due keeps))
         | inr other ↦
-            rw (ne_eqb v r.body.machine other, ne_eqb (min CEILING v) r.body.machine (λ e. other (omega arith)))
+            rw (due.kind, ne_eqb v r.body.machine other, ne_eqb (min CEILING v) r.body.machine (λ e. other (omega arith)))
             (refuses r _)
       ]
 
   due_step : (first : ℕ) → r.body.judged < r.body.due
       → Counts (body_judged r (min CEILING v) first) (misfit (due_at r.layout block.size (length so_far)) v first)
   due_step first some = elim (cases_Bool (is_machine_due r.layout r.body)) [
-    | inl machine ↦ let due = is_due some machine in rw (machine, due_at-machine due) (machine_step first due)
-    | inr time ↦ let due = is_due some time in rw (time, due_at-time due) (time_step first due)
+    | inl machine ↦ let due = is_due some machine in rw (due_at-machine due) (machine_step first due)
+    | inr time ↦ let due = is_due some time in rw (due_at-time due) (time_step first due)
   ]
 
   begun_number : (first : ℕ) → Counts (number_ended r (min CEILING v) first)

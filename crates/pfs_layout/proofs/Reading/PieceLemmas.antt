@@ -270,9 +270,6 @@ module _ (old : Fields) (text piece : List ℕ) (used : ℕ) (new : Fields) (m :
           fine_meets within no_memory right false (λ e. whole live) (λ e. cc, λ e. cc)
 
       by_phase : (p : Phase) → new.phase ≡ p → FeedMeets old text piece (progress_of p used) new
-      by_phase phases.Seeking e = live_meets (rw e)
-      by_phase phases.Body e = live_meets (rw e)
-      by_phase phases.AfterLast e = live_meets (rw e)
       by_phase phases.Done e =
           let no_memory : new.phase ≢ phases.Refused Memory = λ z. cc in
           let follows : Follows new taken = subst (λ p. StandsIn p new taken) e (m.stands no_memory) in
@@ -283,6 +280,7 @@ module _ (old : Fields) (text piece : List ℕ) (used : ℕ) (new : Fields) (m :
           fault_meets new fault refl refl e (λ other.
           let here = subst (λ p. StandsIn p new taken) e (m.stands (λ z. other (cc))) in
           rw (whole_text text piece used) (refused_more new taken (drop used piece) fault here)) (λ z. rw (e, z))
+      by_phase phase e = live_meets (rw e)
 
 -- a reader that wants no byte takes none
 pub idle_meets : (r : Fields) (text piece : List ℕ) → StandsAfter r text → TakeMeets r text piece 0 r

@@ -50,14 +50,12 @@ live_then : {r new : Fields} {front piece : List ℕ} {progress : Progress} → 
 live_then {new} {front} {piece} m still stands = by_phase new.phase refl
   where
     by_phase : (p : Phase) → new.phase ≡ p → is_live p ≡ true
-    by_phase phases.Seeking e = refl
-    by_phase phases.Body e = refl
-    by_phase phases.AfterLast e = refl
     by_phase phases.Done e = cc (m.done.1 e)
     by_phase (phases.Refused fault) e =
         let refused = subst (λ p. StandsIn p new (front ++ piece)) e stands in
         let is = rw (m.layout, m.wanted) at (refused_fault new (front ++ piece) fault refused) in
         cc ((m.exact (λ z. cc) fault).1 is)
+    by_phase phase e = refl
 
 -- the reader is handed a piece that its source has given
 module _ {layout : Layout} {k : ℕ} {first left : Option (List ℕ)} {r : Fields} (t : Reading layout k first left r)

@@ -143,20 +143,12 @@ stored r time = record r {
   held = if is_some r.instance then r.held + 1 else r.held;
 }
 
-abbrev pub time_judged : Blocks → ℕ → ℕ → Blocks
-time_judged r value first = if nat_lt LONGEST_TIME value
-    then refused r (TimeRange first)
-    else counted (stored r value) (after_time r.layout r.body)
-
-abbrev pub machine_judged : Blocks → ℕ → ℕ → Blocks
-machine_judged r value first = if value == r.body.machine
-    then counted r (after_machine r.body)
-    else refused r (MachineNumber first)
-
+-- a number of the body, which is a machine's or a time
 abbrev pub body_judged : Blocks → ℕ → ℕ → Blocks
 body_judged r value first = if is_machine_due r.layout r.body
-    then machine_judged r value first
-    else time_judged r value first
+    then (if value == r.body.machine then counted r (after_machine r.body) else refused r (MachineNumber first))
+    else (if nat_lt LONGEST_TIME value then refused r (TimeRange first)
+    else counted (stored r value) (after_time r.layout r.body))
 
 abbrev pub number_ended_in : Phase → Blocks → ℕ → ℕ → Blocks
 number_ended_in phases.Seeking r value first = record r { size_line = with_number r.size_line value }
@@ -183,12 +175,6 @@ size_judged r line (Some size) = if is_within_limits size then block_begun r siz
 abbrev pub size_line_ended : Blocks → SizeLine → ℕ → Blocks
 size_line_ended r size_line line = size_judged r line (stated_by r.layout size_line)
 
-abbrev pub block_ended : Blocks → Blocks
-block_ended r = record r {
-  complete = r.complete + 1;
-  phase = if r.complete + 1 == r.wanted then phases.Done else phases.Seeking;
-}
-
 abbrev pub at_next_line : Blocks → Blocks
 at_next_line r = record r { line = r.line + 1; size_line = no_numbers }
 
@@ -196,7 +182,10 @@ abbrev pub line_ended_in : Phase → Blocks → Bool → Blocks
 line_ended_in phases.Seeking r is_number_line = if is_number_line
     then size_line_ended (at_next_line r) r.size_line r.line
     else at_next_line r
-line_ended_in phases.AfterLast r is_number_line = block_ended (at_next_line r)
+line_ended_in phases.AfterLast r is_number_line = record (at_next_line r) {
+  complete = r.complete + 1;
+  phase = if r.complete + 1 == r.wanted then phases.Done else phases.Seeking;
+}
 line_ended_in other r is_number_line = at_next_line r
 
 -- behind a byte 10
