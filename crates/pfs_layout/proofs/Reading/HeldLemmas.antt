@@ -4,7 +4,7 @@ use Rattle.pfs_layout.proofs.Words.{Some, None, inl, inr, Result, Ok, Err, slice
 use Rattle.pfs_layout.proofs.Words.{append_assoc, append-nil, take-append-drop, by_push, Layout, LayoutFault, Memory}
 use Rattle.pfs_layout.proofs.Words.{Phase, Progress, ended_lines, ended_numbers, due_count, Block, Now, seeking, inside}
 use Rattle.pfs_layout.proofs.Words.{lost, stand_after, stand, byte_fault, Fields, block_begun_by, block_read}
-use Rattle.pfs_layout.proofs.Words.{time_count, HoldsFew, StandsIn, StandsAfter, FeedMeets}
+use Rattle.pfs_layout.proofs.Words.{time_count, HoldsFew, StandsIn, FeedMeets}
 use Rattle.std.proofs.lemmas.List.Elements.{All-push, All-get_or}
 use Rattle.std.proofs.lemmas.Option.{slice_get_cases}
 use Rattle.pfs_layout.specs.declared.blocks.Phase.TheVariants as phases
