@@ -10,6 +10,7 @@ use std::alloc::Global;
 /// The makespan of a sequence: when its last job leaves the last machine, if each operation starts as
 /// early as it can. It computes one row of ends after the other, and counts a cell for each job and
 /// machine. It asks for the memory of one row, before it counts any.
+#[inline(always)]
 pub fn makespan<B: Bench>(alloc: Global, bench: &mut B, seq: &Seq) -> Result<B::Span, AuditFault>
     requires sizes { seq.now.size ≡ (B.shop bench.old).jobs }
     requires room { B.counted bench.old + length seq.now.jobs * (B.shop bench.old).machines < 2 ^ 64 }
