@@ -32,7 +32,7 @@ def pytest_addoption(parser: pytest.Parser) -> None:
 def pytest_configure(config: pytest.Config) -> None:
     path = config.getoption("pfs").resolve()
     if not path.is_file() and not config.option.collectonly:
-        raise pytest.UsageError(f"no program {path}: `make run` proves and builds it, or --pfs PATH names another one")
+        raise pytest.UsageError(f"no program {path}: `make run` proves and builds it, or --pfs=PATH names another one")
 
 
 def pytest_collection_modifyitems(items: list[pytest.Item]) -> None:

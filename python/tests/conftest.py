@@ -49,7 +49,7 @@ def program(pytestconfig: pytest.Config) -> str:
     """The built program."""
     path = pathlib.Path(pytestconfig.getoption("pfs")).resolve()
     if not path.is_file():
-        missing(f"no program {path}: `make run` proves and builds it, or --pfs PATH names another one")
+        missing(f"no program {path}: `make run` proves and builds it, or --pfs=PATH names another one")
     return str(path)
 
 
