@@ -71,7 +71,8 @@ front_few : (layout : Layout) (k : ℕ) (front rest : List ℕ) {text : List ℕ
 front_few layout k front rest whole right held =
     record { front = front; rest = rest; whole = whole; few = rw held (few_times layout k front right) }
 
-pub few_in : (phase : Phase) (r : Fields) (text : List ℕ) → StandsIn phase r text → HoldsFew r.layout r.wanted text r.held
+pub few_in : (phase : Phase) (r : Fields) (text : List ℕ) → StandsIn phase r text
+    → HoldsFew r.layout r.wanted text r.held
 unfolding block_read
 few_in (phases.Refused fault) r text s = front_few r.layout r.wanted s.front (s.byte ∷ s.rest) s.whole s.sound s.held
 few_in phase r text s = front_few r.layout r.wanted text [] (sym (append-nil text)) s.sound s.blocks.held

@@ -257,7 +257,8 @@ module _ {has_word : Bool} (r : Blocks) (complete : List Block) (block : Block) 
   time_step : (first : ℕ) → IsDue false r.layout block.size (length so_far) r.body
       → Counts (body_judged r (min CEILING v) first) (misfit any_time v first)
   time_step first due = elim (cases_lt LONGEST_TIME v) [
-    | inl long ↦ rw (due.kind, lt-ltb LONGEST_TIME v long, lt-ltb LONGEST_TIME (min CEILING v) (omega arith)) (refuses r _)
+    | inl long ↦
+        rw (due.kind, lt-ltb LONGEST_TIME v long, lt-ltb LONGEST_TIME (min CEILING v) (omega arith)) (refuses r _)
     | inr short ↦
         let same : min CEILING v ≡ v = omega arith in
         rw (due.kind, same, le-ltb LONGEST_TIME v short)
@@ -276,8 +277,8 @@ module _ {has_word : Bool} (r : Blocks) (complete : List Block) (block : Block) 
             rw (due.kind, same, eq-eqb v r.body.machine here)
             (counted_follows (machine_behind due) (keeping_machine v due keeps))
         | inr other ↦
-            rw (due.kind, ne_eqb v r.body.machine other, ne_eqb (min CEILING v) r.body.machine (λ e. other (omega arith)))
-            (refuses r _)
+            let clipped = ne_eqb (min CEILING v) r.body.machine (λ e. other (omega arith)) in
+            rw (due.kind, ne_eqb v r.body.machine other, clipped) (refuses r _)
       ]
 
   due_step : (first : ℕ) → r.body.judged < r.body.due
