@@ -33,7 +33,7 @@ pub use Rattle.pfs_base.specs.Problem.{Problem}
 pub use Rattle.pfs_base.specs.Sends.{SendsAll}
 pub use Rattle.pfs_base.specs.Text.{spaced}
 pub use Rattle.pfs_base.specs.declared.limits.TheConstants.{LONGEST_INPUT, LONGEST_TIME}
-pub use Rattle.pfs_layout.specs.Block.{Due, any_time, due_count, is_due, machine_number, row_count}
+pub use Rattle.pfs_layout.specs.Block.{due_count, is_due, row_count}
 unfoldable pub use Rattle.pfs_layout.specs.Block.{are_due, due, due_at, due_row, stated_size}
 pub use Rattle.pfs_layout.specs.Bytes.{is_blank, is_digit, is_line_end, is_word_byte}
 pub use Rattle.pfs_layout.specs.CanonicalText.{row_line, row_lines}
@@ -45,7 +45,7 @@ pub use Rattle.pfs_layout.specs.Lines.{ended_lines, is_mixed, is_no_digit, is_nu
 unfoldable pub use Rattle.pfs_layout.specs.Lines.{ended_numbers, ended_parts, lines, numbers, open_part}
 pub use Rattle.pfs_layout.specs.Private.Rows.{row_width}
 pub use Rattle.pfs_layout.specs.Private.Step.{IsReady, at_end, blocks_after, body_judged, event_of, has_numbers_alone}
-pub use Rattle.pfs_layout.specs.Private.Step.{is_machine_due, last_number_ended, no_numbers}
+pub use Rattle.pfs_layout.specs.Private.Step.{last_number_ended, no_numbers}
 pub use Rattle.pfs_layout.specs.Private.Step.{number_of, refused}
 unfoldable pub use Rattle.pfs_layout.specs.Private.Step.{line_ended, number_ended}
 pub use Rattle.pfs_layout.specs.Private.Take.{Reading}
@@ -61,6 +61,7 @@ pub use Rattle.pfs_layout.specs.Stand.{Block, Now, Stand, after_line, begun, com
 pub use Rattle.pfs_layout.specs.Stand.{seeking, standing, with_line}
 unfoldable pub use Rattle.pfs_layout.specs.Stand.{instance_of, stand, stand_after}
 pub use Rattle.pfs_layout.specs.declared.blocks.Blocks.{Blocks}
+pub use Rattle.pfs_layout.specs.declared.body.Due.{Due}
 pub use Rattle.pfs_layout.specs.declared.blocks.Phase.{Phase}
 pub use Rattle.pfs_layout.specs.declared.blocks.Progress.{Progress}
 pub use Rattle.pfs_layout.specs.declared.fault.LayoutFault.{LayoutFault}

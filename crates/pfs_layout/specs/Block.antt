@@ -7,6 +7,7 @@ use Rattle.pfs_base.specs.FlowShop.{FlowShop, time_of}
 use Rattle.pfs_base.specs.Lists.{below}
 use Rattle.pfs_layout.specs.declared.layout.Layout.{Layout}
 use Rattle.pfs_layout.specs.declared.layout.Layout.TheVariants.{Taillard, OrLib}
+use Rattle.pfs_layout.specs.declared.body.Due.{Due}
 use Rattle.pfs_layout.specs.declared.size_line.Size.{Size}
 use Rattle.pfs_layout.specs.Size.{sized}
 
@@ -47,23 +48,18 @@ abbrev pub due_count : Layout → Size → ℕ
 due_count layout size = numbers_for layout (size.jobs * size.machines)
 
 -- what is due at a place of the body
-pub data Due : Type 0 where
-  any_time : Due
-  machine_number : ℕ → Due
-  nothing : Due
-
 unfoldable pub due_at : Layout → Size → ℕ → Due
-due_at layout size place = if nat_lt place (due_count layout size) then in_order layout else nothing
+due_at layout size place = if nat_lt place (due_count layout size) then in_order layout else Due.Nothing
   where
     in_order : Layout → Due
-    in_order Taillard = any_time
-    in_order OrLib = if place % 2 == 0 then machine_number (place / 2 % size.machines) else any_time
+    in_order Taillard = Due.Time
+    in_order OrLib = if place % 2 == 0 then Due.Machine (place / 2 % size.machines) else Due.Time
 
 -- a number is what is due
 abbrev pub is_due : Due → ℕ → Bool
-is_due any_time number = nat_le number LONGEST_TIME
-is_due (machine_number machine) number = number == machine
-is_due nothing number = false
+is_due Due.Time number = nat_le number LONGEST_TIME
+is_due (Due.Machine machine) number = number == machine
+is_due Due.Nothing number = false
 
 -- the numbers are the first of some list that is due
 unfoldable pub are_due : Layout → Size → List ℕ → Bool

@@ -100,7 +100,7 @@ pub record IsSeeking (has_word : Bool) (r : Blocks) (more : List ℕ) : Type 0 w
 
 -- this block is begun, behind these ended numbers of the last line
 pub record IsInside (r : Blocks) (block : Block) (more : List ℕ) : Type 0 where
-  pub phase : r.phase ≡ (if nat_lt r.body.judged r.body.due then phases.Body else phases.AfterLast)
+  pub phase : r.phase ≡ phases.Body
   pub few : r.complete < r.wanted
   pub fits : is_within_limits block.size ≡ true
   pub body : FollowsBody r.layout block.size (length block.numbers + length more) r.body

@@ -4,7 +4,7 @@ use Rattle.std.specs.Prelude.{length, take, map, count_by, Option, Some, None, i
 use Rattle.std.specs.Prelude.{if◌then◌else◌, slice_get}
 use Rattle.std.specs.Bool.{then_some}
 use Rattle.std.specs.Str.Parse.{digits_value}
-use Rattle.pfs_base.specs.declared.limits.TheConstants.{LONGEST_TIME, LONGEST_INPUT}
+use Rattle.pfs_base.specs.declared.limits.TheConstants.{LONGEST_INPUT}
 use Rattle.pfs_base.specs.Lists.{below, is_empty, first_some}
 use Rattle.pfs_base.specs.Problem.{Problem}
 use Rattle.pfs_layout.specs.declared.layout.Layout.{Layout}
@@ -12,11 +12,12 @@ use Rattle.pfs_layout.specs.declared.fault.LayoutFault.{LayoutFault}
 use Rattle.pfs_layout.specs.declared.fault.LayoutFault.TheVariants.{NoBlock, SizeCount, SizeRange, MixedLine, TimeRange}
 use Rattle.pfs_layout.specs.declared.fault.LayoutFault.TheVariants.{MachineNumber, ExtraNumber, Truncated, TooLong}
 use Rattle.pfs_layout.specs.Bytes.{is_blank, is_line_end}
+use Rattle.pfs_layout.specs.declared.body.Due.{Due}
 use Rattle.pfs_layout.specs.declared.size_line.Size.{Size}
 use Rattle.pfs_layout.specs.Size.{is_within_limits}
 use Rattle.pfs_layout.specs.Lines.{lines, ended_lines, open_line, is_mixed, is_number_line, numbers, ended_numbers}
 use Rattle.pfs_layout.specs.Lines.{last_digits}
-use Rattle.pfs_layout.specs.Block.{Due, any_time, machine_number, nothing, stated_size, times_in, due_at}
+use Rattle.pfs_layout.specs.Block.{stated_size, times_in, due_at, is_due}
 use Rattle.pfs_layout.specs.Stand.{Block, Now, seeking, inside, lost, stand, instance_of}
 
 -- A place is told by the bytes before it and the byte at it, or None at the end.
@@ -42,11 +43,14 @@ mixed_line before (Some byte) =
     let line = open_line before in
     then_some (not (is_mixed line) && is_mixed (line ++ byte ∷ [])) (MixedLine (length before))
 
--- a number isn't what is due
+-- the fault of a number that isn't what is due, and whether a number has it
+abbrev pub fault_of_due : Due → ℕ → LayoutFault
+fault_of_due Due.Time offset = TimeRange offset
+fault_of_due (Due.Machine machine) offset = MachineNumber offset
+fault_of_due Due.Nothing offset = ExtraNumber offset
+
 abbrev pub misfit : Due → ℕ → ℕ → Option LayoutFault
-misfit any_time number offset = then_some (nat_lt LONGEST_TIME number) (TimeRange offset)
-misfit (machine_number machine) number offset = then_some (not (number == machine)) (MachineNumber offset)
-misfit nothing number offset = Some (ExtraNumber offset)
+misfit due number offset = then_some (not (is_due due number)) (fault_of_due due offset)
 
 -- a number ends that isn't what is due behind the block's numbers and the earlier ones of its line
 unfoldable pub wrong_number : Layout → Block → List ℕ → Option ℕ → Option LayoutFault

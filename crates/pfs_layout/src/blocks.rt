@@ -2,14 +2,14 @@
 ghost use Rattle.std.specs.Prelude.{◌≡◌, ◌≢◌, ◌+◌, ◌-◌, ◌*◌, ◌<◌, ◌≤◌, true, false, ◌==◌, ℕ, List, length, replicate};
 ghost use Rattle.std.specs.Prelude.{Some, None, IfOk, IfErr, OnOk, OnErr, IfSome, option_map, is_some, if◌then◌else◌};
 ghost use Rattle.pfs_layout.specs.Size.{is_within_limits, problem_of};
-ghost use Rattle.pfs_layout.specs.Private.Step.{refused, CanCount, with_problem_time, stored, counted};
+ghost use Rattle.pfs_layout.specs.Private.Step.{refused, CanCount, with_problem_time, counted};
 ghost use Rattle.pfs_layout.specs.Private.Step.{body_judged, number_ended, last_number_ended, no_numbers, Keeps};
 ghost use Rattle.pfs_layout.specs.Private.Step.{size_line_ended, line_ended, mixed_met, blocks_after};
 ghost use Rattle.pfs_layout.specs.Private.Step.{has_numbers_alone, end_fault, at_end, IsReady, KeepsHeld, LacksMemory};
 ghost use Rattle.pfs_layout.specs.Reader.{is_live as live_test, fields, StandsAfter, IsReader, FeedMeets, progress_of};
 ghost use Rattle.pfs_layout.specs.Private.Take.{TakeMeets};
 
-use crate::body::Body;
+use crate::body::{Body, Due};
 use crate::scan::{Event, Kinds, Line, Number, is_blank};
 use crate::size_line::{Size, SizeLine};
 use crate::{Layout, LayoutFault};
@@ -21,10 +21,8 @@ use std::alloc::Global;
 pub enum Phase {
     /// The next block is sought.
     Seeking,
-    /// Numbers of a block are due.
+    /// A block is begun, and the line of its last number isn't ended.
     Body,
-    /// All numbers of a block were judged, and their last line isn't ended.
-    AfterLast,
     /// The wanted block has ended.
     Done,
     /// The input was refused.
@@ -98,52 +96,33 @@ impl Blocks {
     {
         match self.phase {
             Phase::Done | Phase::Refused(_) => false,
-            Phase::Seeking | Phase::Body | Phase::AfterLast => true,
+            Phase::Seeking | Phase::Body => true,
         }
     }
 
-    // Keeps a time of the wanted block.
-    fn store(&mut self, time: u32)
+    // A time is judged, and kept if its block is the wanted one.
+    fn count_time(&mut self, time: u32)
         requires can { CanCount self.old }
+        requires some { self.old.body.judged < self.old.body.due }
         requires short { time ≤ LONGEST_TIME }
-        ensures { self.new ≡ stored self.old time }
+        ensures { self.new ≡ counted self.old Due.Time time }
     {
         if let Some(instance) = &mut self.instance {
             instance.set(self.body.job, self.body.machine, time);
             self.held += 1;
         }
+        self.body = self.body.after_time(self.layout);
     }
 
-    // One number of the body more was judged.
-    fn count(&mut self, body: Body)
-        ensures { self.new ≡ counted self.old body }
-    {
-        self.body = body;
-        self.phase = if body.judged < body.due {
-            Phase::Body
-        } else {
-            Phase::AfterLast
-        };
-    }
-
-    // The number is one of a body, where a time or a machine's number is due.
+    // The number is one of a body.
     fn judge_body(&mut self, value: u64, first: usize)
         requires { CanCount self.old }
         ensures { self.new ≡ body_judged self.old value first }
     {
-        if self.body.is_machine_due(self.layout) {
-            if value != self.body.machine as u64 {
-                self.refuse(LayoutFault::MachineNumber { offset: first });
-                return;
-            }
-            self.count(self.body.after_machine());
-        } else {
-            if value > u64::from(LONGEST_TIME) {
-                self.refuse(LayoutFault::TimeRange { offset: first });
-                return;
-            }
-            self.store(value as u32);
-            self.count(self.body.after_time(self.layout));
+        match self.body.next_due(self.layout) {
+            Due::Time if value <= u64::from(LONGEST_TIME) => self.count_time(value as u32),
+            Due::Machine(machine) if value == machine as u64 => self.body = self.body.after_machine(),
+            due => self.refuse(due.fault(first)),
         }
     }
 
@@ -157,7 +136,6 @@ impl Blocks {
     {
         match self.phase {
             Phase::Seeking => self.size_line = self.size_line.with(value),
-            Phase::AfterLast => self.refuse(LayoutFault::ExtraNumber { offset: first }),
             Phase::Body | Phase::Done | Phase::Refused(_) => {}
         }
     }
@@ -263,7 +241,7 @@ impl Blocks {
                     self.end_size_line(alloc, size_line, line);
                 }
             }
-            Phase::AfterLast => {
+            Phase::Body if self.body.judged >= self.body.due => {
                 let complete = self.complete + 1;
                 self.complete = complete;
                 self.phase = if complete == self.wanted {
@@ -278,11 +256,10 @@ impl Blocks {
 
     // The line is mixed with the byte at this offset.
     fn meet_mixed_line(&mut self, offset: usize)
-        ensures { self.new ≡ mixed_met self.old offset }
+        ensures { self.new ≡ mixed_met self.old.phase self.old offset }
     {
-        match self.phase {
-            Phase::Body | Phase::AfterLast => self.refuse(LayoutFault::MixedLine { offset }),
-            Phase::Seeking | Phase::Done | Phase::Refused(_) => {}
+        if let Phase::Body = self.phase {
+            self.refuse(LayoutFault::MixedLine { offset });
         }
     }
 
@@ -317,7 +294,7 @@ impl Blocks {
         match self.phase {
             Phase::Done => Ok(Progress { used, done: true }),
             Phase::Refused(fault) => Err(fault),
-            Phase::Seeking | Phase::Body | Phase::AfterLast => Ok(Progress { used, done: false }),
+            Phase::Seeking | Phase::Body => Ok(Progress { used, done: false }),
         }
     }
 
@@ -433,10 +410,10 @@ impl Blocks {
             Phase::Seeking => Some(LayoutFault::NoBlock {
                 found: self.complete,
             }),
-            Phase::Body => Some(LayoutFault::Truncated {
+            Phase::Body if self.body.judged < self.body.due => Some(LayoutFault::Truncated {
                 have: self.body.times(self.layout),
             }),
-            Phase::AfterLast => {
+            Phase::Body => {
                 let wanted = self.wanted;
                 let complete = self.complete + 1;
                 if complete == wanted {

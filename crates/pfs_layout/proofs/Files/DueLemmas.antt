@@ -3,7 +3,7 @@ use Rattle.pfs_layout.proofs.Words.{arith, ◌≡◌, ℕ, ◌≤◌, true, List
 use Rattle.pfs_layout.proofs.Words.{limits, Problem, Size, size_of, is_within_limits, IsInstance, ◌+◌, ◌*◌, ◌/◌, ◌%◌}
 use Rattle.pfs_layout.proofs.Words.{◌<◌, [], ◌∷◌, length, get_or, refl, ◌∙◌, inl, inr, cases_eq, eq-eqb, elements}
 use Rattle.pfs_layout.proofs.Words.{length-map-range_with_len, mod-mul-add, mul-add-lt, FlowShop, time_of, Layout}
-use Rattle.pfs_layout.proofs.Words.{Taillard, OrLib, any_time, machine_number, is_due, due_at, are_due, due_row, due}
+use Rattle.pfs_layout.proofs.Words.{Taillard, OrLib, Due, is_due, due_at, are_due, due_row, due}
 use Rattle.pfs_layout.proofs.Words.{due_count, row_width, place_of_time, Bool, sym, same_number_lists, Block}
 use Rattle.pfs_layout.proofs.Words.{instance_of, ◌++◌, drop, length-append, begun, list_all-append}
 use Rattle.pfs_layout.proofs.Words.{enumerate_from-append, and_parts}
@@ -77,7 +77,7 @@ pub place_within : (layout : Layout) (size : Size) (job machine : ℕ) → job <
 place_within layout size job machine j m = grind (arith, mul-add-lt)
 
 pub due_time : (layout : Layout) (size : Size) (job machine : ℕ) → job < size.jobs → machine < size.machines
-    → due_at layout size (place_of_time layout size job machine) ≡ any_time
+    → due_at layout size (place_of_time layout size job machine) ≡ Due.Time
 unfolding due_at
 due_time layout size job machine j m = grind (arith, nat_tests, place_within)
 
@@ -85,7 +85,7 @@ due_time layout size job machine j m = grind (arith, nat_tests, place_within)
 pub data PlaceIs (layout : Layout) (problem : Problem) (k : ℕ) : Type 0 where
   a_time : (job machine : ℕ) → job < problem.shop.jobs → machine < problem.shop.machines
       → k ≡ place_of_time layout (size_of problem) job machine → PlaceIs layout problem k
-  a_number : (machine : ℕ) → due_at layout (size_of problem) k ≡ machine_number machine
+  a_number : (machine : ℕ) → due_at layout (size_of problem) k ≡ Due.Machine machine
       → get_or (due layout problem.shop) k 0 ≡ machine → PlaceIs layout problem k
 
 pub place_is : (layout : Layout) (problem : Problem) (k : ℕ) → k < due_count layout (size_of problem)

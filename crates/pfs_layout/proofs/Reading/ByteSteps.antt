@@ -33,14 +33,14 @@ refused_memory phase = inr (λ e. cc)
 
 -- ---- a number
 
-keeps_in : (phase : Phase) (r : Blocks) (value first : ℕ) → r.phase ≢ phases.Refused Memory
+keeps_in : (phase : Phase) (r : Blocks) (value first : ℕ) → r.phase ≡ phase → is_live phase ≡ true
     → Keeps r (number_ended_in phase r value first)
-keeps_in phases.Body r value first h = grind arith
-keeps_in phase r value first h = grind (arith, common_steps)
+keeps_in phases.Body r value first e live = grind arith
+keeps_in phase r value first e live = grind (arith, common_steps)
 
 pub keeps_number : (r : Blocks) (value first : ℕ) → is_live r.phase ≡ true → Keeps r (number_ended r value first)
 unfolding number_ended
-keeps_number r value first live = keeps_in r.phase r value first (live-memory r.phase live)
+keeps_number r value first live = keeps_in r.phase r value first refl live
 
 pub keeps_last : (r : Blocks) (number : Option Number) → is_live r.phase ≡ true → Keeps r (last_number_ended r number)
 keeps_last r None live = grind arith

@@ -6,7 +6,7 @@ use Rattle.pfs_layout.proofs.Words.{Memory, Phase, Blocks, Layout, lines, open_l
 use Rattle.pfs_layout.proofs.Words.{instance_of, Block, Now, seeking, inside, lost, standing, IsInstanceFile}
 use Rattle.pfs_layout.proofs.Words.{ends_early, fault_of_place, refusal, accepted, line_ended, has_numbers_alone}
 use Rattle.pfs_layout.proofs.Words.{at_end, is_live, Fields, Follows, StandsIn, StandsAfter, IsReader, FinishMeets}
-use Rattle.pfs_layout.proofs.Words.{FollowsBlocks}
+use Rattle.pfs_layout.proofs.Words.{FollowsBlocks, last_number_ended, number_of}
 use Rattle.std.specs.Result.{result_ok}
 use Rattle.pfs_layout.specs.declared.blocks.Phase.TheVariants as phases
 use Rattle.pfs_layout.specs.Refuse.{missing}
@@ -51,7 +51,7 @@ ends next complete seeking tail is f =
     }
 ends next complete (inside block) tail is f =
     let less : next.body.judged < next.body.due = omega (arith, is.short) in
-    let phase : next.phase ≡ phases.Body = f.now.phase ∙ rw (lt-ltb _ _ less) in
+    let phase = f.now.phase in
     let count : next.body.judged ≡ length block.numbers = omega arith in
     record {
       fault = rw (← count, phase);
@@ -98,7 +98,8 @@ live_end r text f live =
           record {
             some = f.some;
             fault = rw (live, faults, none) early.fault;
-            instance = rw live (λ z. same_instance _ (has_numbers_alone r.kinds) z ∙ early.instance z);
+            instance = rw live (λ z.
+            same_instance (last_number_ended r.blocks (number_of r.digits)) _ z ∙ early.instance z);
           }
     ]
 

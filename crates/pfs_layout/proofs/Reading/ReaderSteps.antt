@@ -222,14 +222,12 @@ can_count {r = r} {text = text} f phase =
     let count = length-append block.numbers more in
     let held : r.held ≤ r.body.judged = grind (arith, kept.held, body.judged) in
     let due = due_few r.layout block.size follows.now.fits in
-    elim (cases_lt r.body.judged r.body.due) [
-      | inl less ↦ record {
-        place = record { judged = less; job = body.job; machine = body.machine };
-        held = omega (arith, body.due);
-        instance = rw kept.instance (grind (arith, body.jobs, body.machines));
-      }
-      | inr full ↦ grind (arith, follows.now.phase)
-    ]
+    record {
+      job = body.job;
+      machine = body.machine;
+      held = omega (arith, body.due, body.few);
+      instance = rw kept.instance (grind (arith, body.jobs, body.machines));
+    }
 
 pub follows_ready : {r : Fields} {text : List ℕ} → Follows r text → is_live r.phase ≡ true
     → length text < LONGEST_INPUT → IsReady r.blocks

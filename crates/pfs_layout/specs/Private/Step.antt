@@ -4,15 +4,14 @@ use Rattle.std.specs.Prelude.{◌≡◌, ◌≢◌, ℕ, ◌+◌, ◌*◌, ◌%�
 use Rattle.std.specs.Prelude.{◌==◌, nat_lt, replicate, slice_index, slice_set, Option, Some, None, is_some, option_map}
 use Rattle.std.specs.Prelude.{IfSome, if◌then◌else◌, List, [], ◌∷◌, ◌++◌, length}
 use Rattle.std.specs.Bool.{then_some}
-use Rattle.pfs_base.specs.declared.limits.TheConstants.{LONGEST_TIME, LONGEST_INPUT}
+use Rattle.pfs_base.specs.declared.limits.TheConstants.{LONGEST_INPUT}
 use Rattle.pfs_base.specs.FlowShop.{with_time}
 use Rattle.pfs_base.specs.Problem.{Problem}
 use Rattle.pfs_layout.specs.declared.layout.Layout.{Layout}
 use Rattle.pfs_layout.specs.declared.layout.Layout.TheVariants.{Taillard, OrLib}
 use Rattle.pfs_layout.specs.declared.fault.LayoutFault.{LayoutFault}
-use Rattle.pfs_layout.specs.declared.fault.LayoutFault.TheVariants.{NoBlock, MixedLine, TimeRange, MachineNumber}
-use Rattle.pfs_layout.specs.declared.fault.LayoutFault.TheVariants.{SizeCount, SizeRange, ExtraNumber, Truncated}
-use Rattle.pfs_layout.specs.declared.fault.LayoutFault.TheVariants.{Memory}
+use Rattle.pfs_layout.specs.declared.fault.LayoutFault.TheVariants.{NoBlock, MixedLine, SizeCount, SizeRange}
+use Rattle.pfs_layout.specs.declared.fault.LayoutFault.TheVariants.{Truncated, Memory}
 use Rattle.pfs_layout.specs.declared.scan.Digits.{Digits}
 use Rattle.pfs_layout.specs.declared.scan.Kinds.{Kinds}
 use Rattle.pfs_layout.specs.declared.scan.Line.{Line}
@@ -22,12 +21,14 @@ use Rattle.pfs_layout.specs.declared.scan.Event.TheVariants as events
 use Rattle.pfs_layout.specs.declared.size_line.SizeLine.{SizeLine}
 use Rattle.pfs_layout.specs.declared.size_line.Size.{Size}
 use Rattle.pfs_layout.specs.declared.body.Body.{Body}
+use Rattle.pfs_layout.specs.declared.body.Due.{Due}
 use Rattle.pfs_layout.specs.declared.blocks.Phase.{Phase}
 use Rattle.pfs_layout.specs.declared.blocks.Phase.TheVariants as phases
 use Rattle.pfs_layout.specs.declared.blocks.Blocks.{Blocks}
 use Rattle.pfs_layout.specs.Bytes.{is_digit, is_blank, is_line_end}
 use Rattle.pfs_layout.specs.Size.{is_within_limits, problem_of, sized}
-use Rattle.pfs_layout.specs.Block.{numbers_for, times_in}
+use Rattle.pfs_layout.specs.Block.{numbers_for, times_in, is_due}
+use Rattle.pfs_layout.specs.Refuse.{fault_of_due}
 use Rattle.pfs_layout.specs.Reader.{is_live, FollowsLine}
 
 -- ---- the last line so far
@@ -87,9 +88,13 @@ body_of layout jobs machines = record {
   machine = 0;
 }
 
-abbrev pub is_machine_due : Layout → Body → Bool
-is_machine_due Taillard body = false
-is_machine_due OrLib body = body.judged % 2 == 0
+-- what is due next
+abbrev pub due_next : Layout → Body → Due
+due_next layout body = if nat_lt body.judged body.due then in_order layout else Due.Nothing
+  where
+    in_order : Layout → Due
+    in_order Taillard = Due.Time
+    in_order OrLib = if body.judged % 2 == 0 then Due.Machine body.machine else Due.Time
 
 abbrev pub after_machine : Body → Body
 after_machine body = record body { judged = body.judged + 1 }
@@ -110,50 +115,31 @@ after_time OrLib body = record body {
   machine = next_of body.machine body.machines;
 }
 
--- a number is due, and the next time has a place
-pub record HasPlace (body : Body) : Type 0 where
-  pub judged : body.judged < body.due
-  pub job : body.job < body.jobs
-  pub machine : body.machine < body.machines
-
 -- ---- the blocks
-
-abbrev pub is_in_block : Phase → Bool
-is_in_block phases.Body = true
-is_in_block phases.AfterLast = true
-is_in_block other = false
 
 abbrev pub refused : Blocks → LayoutFault → Blocks
 refused r fault = record r { phase = phases.Refused fault }
 
--- the body has come so far
-abbrev pub counted : Blocks → Body → Blocks
-counted r body = record r {
-  body = body;
-  phase = if nat_lt body.judged body.due then phases.Body else phases.AfterLast;
-}
-
 abbrev pub with_problem_time : Body → ℕ → Problem → Problem
 with_problem_time body time problem = record problem { shop = with_time problem.shop body.job body.machine time }
 
--- the time stands in the instance, if there is one
-abbrev pub stored : Blocks → ℕ → Blocks
-stored r time = record r {
-  instance = option_map (with_problem_time r.body time) r.instance;
+-- behind a number that is what is due: a time stands in the instance, if there is one
+abbrev pub counted : Blocks → Due → ℕ → Blocks
+counted r Due.Time value = record r {
+  body = after_time r.layout r.body;
+  instance = option_map (with_problem_time r.body value) r.instance;
   held = if is_some r.instance then r.held + 1 else r.held;
 }
+counted r other value = record r { body = after_machine r.body }
 
--- a number of the body, which is a machine's or a time
+-- a number of the body
 abbrev pub body_judged : Blocks → ℕ → ℕ → Blocks
-body_judged r value first = if is_machine_due r.layout r.body
-    then (if value == r.body.machine then counted r (after_machine r.body) else refused r (MachineNumber first))
-    else (if nat_lt LONGEST_TIME value then refused r (TimeRange first)
-    else counted (stored r value) (after_time r.layout r.body))
+body_judged r value first = let due = due_next r.layout r.body in
+    if is_due due value then counted r due value else refused r (fault_of_due due first)
 
 abbrev pub number_ended_in : Phase → Blocks → ℕ → ℕ → Blocks
 number_ended_in phases.Seeking r value first = record r { size_line = with_number r.size_line value }
 number_ended_in phases.Body r value first = body_judged r value first
-number_ended_in phases.AfterLast r value first = refused r (ExtraNumber first)
 number_ended_in other r value first = r
 
 -- behind a number
@@ -182,10 +168,11 @@ abbrev pub line_ended_in : Phase → Blocks → Bool → Blocks
 line_ended_in phases.Seeking r is_number_line = if is_number_line
     then size_line_ended (at_next_line r) r.size_line r.line
     else at_next_line r
-line_ended_in phases.AfterLast r is_number_line = record (at_next_line r) {
-  complete = r.complete + 1;
-  phase = if r.complete + 1 == r.wanted then phases.Done else phases.Seeking;
-}
+line_ended_in phases.Body r is_number_line = if nat_lt r.body.judged r.body.due then at_next_line r
+    else record (at_next_line r) {
+      complete = r.complete + 1;
+      phase = if r.complete + 1 == r.wanted then phases.Done else phases.Seeking;
+    }
 line_ended_in other r is_number_line = at_next_line r
 
 -- behind a byte 10
@@ -198,15 +185,16 @@ last_number_ended r None = r
 last_number_ended r (Some number) = number_ended r number.value number.first
 
 -- a line of a block that is mixed is refused
-abbrev pub mixed_met : Blocks → ℕ → Blocks
-mixed_met r offset = if is_in_block r.phase then refused r (MixedLine offset) else r
+abbrev pub mixed_met : Phase → Blocks → ℕ → Blocks
+mixed_met phases.Body r offset = refused r (MixedLine offset)
+mixed_met other r offset = r
 
 -- behind an event
 abbrev pub blocks_after : Blocks → Event → Blocks
 blocks_after r events.Quiet = r
 blocks_after r (events.NumberEnded number) = number_ended r number.value number.first
 blocks_after r (events.LineEnded number is_number_line) = line_ended (last_number_ended r number) is_number_line
-blocks_after r (events.Mixed offset) = mixed_met r offset
+blocks_after r (events.Mixed offset) = mixed_met r.phase r offset
 
 -- what the judgement of a number leaves as it is
 pub record Keeps (old new : Blocks) : Type 0 where
@@ -248,7 +236,8 @@ pub record KeepsHeld (old new : Blocks) : Type 0 where
 
 -- what the judgement of a number of the body needs
 pub record CanCount (r : Blocks) : Type 0 where
-  pub place : HasPlace r.body
+  pub job : r.body.job < r.body.jobs
+  pub machine : r.body.machine < r.body.machines
   pub held : r.held < LONGEST_INPUT
   pub instance : IfSome r.instance
       (λ problem. (problem.shop.jobs ≡ r.body.jobs) × (problem.shop.machines ≡ r.body.machines))
