@@ -12,7 +12,7 @@ use Rattle.pfs_layout.specs.declared.reader.TheConstants.{PIECE}
 use Rattle.pfs_layout.specs.Reader.{IsUndecided, ReadsAsFar}
 use Rattle.pfs_layout.proofs.Options.{cases_option}
 use Rattle.pfs_layout.proofs.Files.EndLemmas.{fault_stays, free_behind}
-use Rattle.pfs_layout.proofs.Reading.PieceLemmas.{same_error, whole_text, refused_fault, done_enough, live_wants}
+use Rattle.pfs_layout.proofs.Reading.PieceLemmas.{whole_text, refused_fault, done_enough, live_wants}
 use Rattle.pfs_layout.proofs.Reading.ReaderSteps.{live_follows}
 use Rattle.pfs_layout.proofs.Reading.OutcomeLemmas.{finish_done}
 use Rattle.std.proofs.lemmas.Bool.{both_ways}
@@ -30,7 +30,7 @@ finish_named {r} {text} meets fault other e =
 pub feed_named : {r new : Fields} {text piece : List ℕ} {found : LayoutFault} → FeedMeets r text piece (Err found) new
     → (fault : LayoutFault) → fault ≢ Memory → is_input_fault fault ≡ false → found ≢ fault
 feed_named {r} {text} {piece} meets fault no_memory other e =
-    let here = (meets.exact (λ z. no_memory (sym e ∙ same_error z)) fault).0 (ap Err e) in
+    let here = (meets.exact (λ z. no_memory (cc)) fault).0 (ap Err e) in
     let refuses = fault_stays r.layout (text ++ piece) [] r.wanted fault here in
     both_ways _ other (refused_input r.layout _ r.wanted fault refuses)
 
@@ -94,7 +94,7 @@ module _ {layout : Layout} {k : ℕ} {first left : Option (List ℕ)} {r : Field
   pub reading_fault : {new : Fields} {fault : LayoutFault} → FeedMeets r t.front piece (Err fault) new → fault ≢ Memory
       → IfSome first (λ bytes. RefusesInstance layout bytes k fault)
   reading_fault {fault} m other = told_behind _ (λ more e.
-      let here = (m.exact (λ z. other (same_error z)) fault).0 refl in
+      let here = (m.exact (λ z. other (cc)) fault).0 refl in
       rw (t.layout_is, t.wanted_is) at (fault_stays r.layout (t.front ++ piece) more r.wanted fault here))
 
   -- the wanted block has ended in the piece
