@@ -1,8 +1,9 @@
 -- The end of the input is judged as the definitions say, and an accepted instance is there.
 use Rattle.pfs_layout.proofs.Words.{◌≡◌, sym, ◌∙◌, ap, subst, Some, Ok, Err, Blocks, at_end, Fields, fields}
-use Rattle.pfs_layout.proofs.Words.{StandsAfter, FinishMeets}
+use Rattle.pfs_layout.proofs.Words.{StandsAfter, FinishMeets, line_ended, inl, inr}
 use Rattle.std.proofs.lemmas.Option.{same_Some}
-use Rattle.pfs_layout.proofs.Reading.OutcomeLemmas.{finish_tells, end_has_instance}
+use Rattle.pfs_layout.proofs.Reading.OutcomeLemmas.{finish_tells}
+use Rattle.pfs_layout.proofs.Reading.ByteSteps.{refused_memory}
 use Rattle.pfs_layout.proofs.reader.BlockReader.finish.Goals as goal
 
 pub returns-in-Some-clause-meets : goal.returns-in-Some-clause-meets
@@ -14,10 +15,16 @@ returns-in-Some-clause-meets c text =
 
 -- an input that may end here has the wanted block
 pub unreachable-requires : goal.unreachable-requires
+unfolding line_ended
 unreachable-requires c =
-    end_has_instance (fields c.self.inside.last c.self.inside.blocks) c.self.invariant
-    (sym c.judge_end.ensures.fault ∙ c.in-None.is)
-    (sym (ap (λ (z : Blocks). z.instance) c.judge_end.ensures.blocks) ∙ c.in-None-instance.is)
+    let told = sym c.judge_end.ensures.fault ∙ c.in-None.is in
+    elim (refused_memory c.self.inside.blocks.phase) [
+      | inl e ↦ let refused = rw e at told in cc
+      | inr other ↦
+          let at = c.self.invariant.stands other in
+          let there = ((finish_tells _ at.0 at.1).1 told).1 in
+          cc
+    ]
 
 pub returns-in-Some-instance-clause-meets : goal.returns-in-Some-instance-clause-meets
 returns-in-Some-instance-clause-meets c text =
