@@ -28,12 +28,6 @@ use Rattle.pfs_layout.proofs.Reading.PieceLemmas.{refused_fault, done_enough, li
 abbrev pub after_end : Fields → Blocks
 after_end r = line_ended (at_end r.last r.blocks) (has_numbers_alone r.kinds)
 
--- a line end by which no fault is left changes no instance
-same_instance : (r : Blocks) (numbered : Bool) → end_fault (line_ended r numbered) ≡ None
-    → r.instance ≡ (line_ended r numbered).instance
-unfolding line_ended
-same_instance r numbered none = grind arith
-
 -- what is missing is what the blocks behind a line end say, and where nothing is, they have the wanted instance
 ends : (next : Blocks) (complete : List Block) (now : Now) (tail : List (List ℕ))
     → IsTail next.layout now tail → FollowsBlocks false next (standing complete now) []
@@ -87,7 +81,7 @@ live_end r text f live =
           record {
             some = f.some;
             fault = rw (live, faults, none) early.0;
-            instance = rw live (λ z. same_instance _ (has_numbers_alone r.kinds) z ∙ early.1 z);
+            instance = rw live (λ z. grind (arith, early.1 z));
           }
     ]
 

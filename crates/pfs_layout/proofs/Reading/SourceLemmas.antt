@@ -44,15 +44,14 @@ never_failed working never = (λ p. absurd (never p), λ e. absurd (both_ways _ 
 -- a reader that went on and isn't done is live
 live_then : {r new : Fields} {front piece : List ℕ} {progress : Progress} → FeedMeets r front piece (Ok progress) new
     → progress.done ≡ false → StandsAfter new (front ++ piece) → is_live new.phase ≡ true
-live_then {new} {front} {piece} m still stands = by_phase new.phase refl
+live_then {new} {front} {piece} m still stands = by_phase new.phase refl stands
   where
-    by_phase : (p : Phase) → new.phase ≡ p → is_live p ≡ true
-    by_phase phases.Done e = cc (m.done.1 e)
-    by_phase (phases.Refused fault) e =
-        let refused = subst (λ p. StandsIn p new (front ++ piece)) e stands in
-        let is = rw (m.layout, m.wanted) at (refused_fault new (front ++ piece) fault refused) in
+    by_phase : (p : Phase) → new.phase ≡ p → StandsIn p new (front ++ piece) → is_live p ≡ true
+    by_phase phases.Done e s = cc (m.done.1 e)
+    by_phase (phases.Refused fault) e s =
+        let is = rw (m.layout, m.wanted) at (refused_fault new (front ++ piece) fault s) in
         cc ((m.exact (λ z. cc) fault).1 is)
-    by_phase phase e = refl
+    by_phase phase e s = refl
 
 -- the reader is handed a piece that its source has given
 module _ {layout : Layout} {k : ℕ} {first left : Option (List ℕ)} {r : Fields} (t : Reading layout k first left r)

@@ -8,10 +8,7 @@ use Rattle.pfs_layout.proofs.reader.BlockReader.finish.Goals as goal
 
 pub returns-in-Some-clause-meets : goal.returns-in-Some-clause-meets
 returns-in-Some-clause-meets c text =
-    let r : Fields = fields c.self.inside.last c.self.inside.blocks in
-    let fault = c.in-Some.fault in
-    subst (λ z. StandsAfter z text → FinishMeets z text (Err fault)) c.self.view_is
-    (λ s. (finish_tells r text s).0 fault (sym c.judge_end.ensures.fault ∙ c.in-Some.is))
+    rw (← c.self.view_is) (λ s. (finish_tells _ text s).0 _ (sym c.judge_end.ensures.fault ∙ c.in-Some.is))
 
 -- an input that may end here has the wanted block
 pub unreachable-requires : goal.unreachable-requires
@@ -32,6 +29,6 @@ returns-in-Some-instance-clause-meets c text =
     let instance = c.in-Some-instance.instance in
     let there : (at_end r.last r.blocks).instance ≡ Some instance =
     sym (ap (λ (z : Blocks). z.instance) c.judge_end.ensures.blocks) ∙ c.in-Some-instance.is in
-    subst (λ z. StandsAfter z text → FinishMeets z text (Ok instance)) c.self.view_is
-    (λ s. let told = (finish_tells r text s).1 (sym c.judge_end.ensures.fault ∙ c.in-None.is) in
+    rw (← c.self.view_is) (λ s.
+    let told = (finish_tells r text s).1 (sym c.judge_end.ensures.fault ∙ c.in-None.is) in
     rw (same_Some _ _ (sym there ∙ told.1)) told.2)
