@@ -12,15 +12,12 @@ use Rattle.pfs_layout.specs.Reader.{most_times}
 use Rattle.pfs_layout.proofs.Files.GoodLemmas.{GoodNow, stand-push, sound}
 use Rattle.pfs_layout.proofs.Files.DueLemmas.{no_more_than_due}
 use Rattle.pfs_layout.proofs.Reading.ByteSteps.{refused_memory}
+use Rattle.pfs_layout.proofs.Reading.PieceLemmas.{whole_text}
 
 -- ---- a block that isn't longer than it is due
 
 abbrev IsFew : Layout → Option Block → Type 0
 IsFew layout o = time_count layout o ≤ most_times o
-
-few_of : (layout : Layout) (block : Block) → length block.numbers ≤ due_count layout block.size
-    → IsFew layout (Some block)
-few_of layout block h = grind arith
 
 -- ---- complete blocks
 
@@ -32,7 +29,7 @@ few_push : (layout : Layout) (blocks : List Block) (block : Block) → AreFew la
     → length block.numbers ≡ due_count layout block.size → AreFew layout (blocks ++ block ∷ [])
 unfolding AreFew
 few_push layout blocks block all full =
-    All-push (λ block. IsFew layout (Some block)) blocks block all (few_of layout block (omega arith))
+    All-push (λ block. IsFew layout (Some block)) blocks block all (grind arith)
 
 few_at : (layout : Layout) (blocks : List Block) (i : ℕ) → AreFew layout blocks → IsFew layout (slice_get blocks i)
 unfolding AreFew
@@ -50,8 +47,7 @@ begun_few : (layout : Layout) (now : Now) (line : List ℕ) → GoodNow layout n
 begun_few layout seeking line good = omega arith
 begun_few layout (inside block) line good =
     let numbers : List ℕ = block.numbers ++ ended_numbers line in
-    let short = no_more_than_due layout block.size numbers (grind arith) in
-    few_of layout (record { size = block.size; numbers = numbers }) short
+    grind (arith, no_more_than_due layout block.size numbers (grind arith))
 begun_few layout lost line good = absurd (cc)
 
 -- while no byte has a fault, the wanted block has no more times than its size says
@@ -64,35 +60,26 @@ few_times layout k text right =
 
 -- ---- readers
 
--- the times of a front without a fault are held
-front_few : (layout : Layout) (k : ℕ) (front rest : List ℕ) {text : List ℕ} {held : ℕ} → text ≡ front ++ rest
-    → byte_fault layout k front ≡ None → held ≡ time_count layout (block_read layout k front)
-    → HoldsFew layout k text held
-front_few layout k front rest whole right held =
-    record { front = front; rest = rest; whole = whole; few = rw held (few_times layout k front right) }
-
 pub few_in : (phase : Phase) (r : Fields) (text : List ℕ) → StandsIn phase r text
     → HoldsFew r.layout r.wanted text r.held
 unfolding block_read
-few_in (phases.Refused fault) r text s = front_few r.layout r.wanted s.front (s.byte ∷ s.rest) s.whole s.sound s.held
-few_in phase r text s = front_few r.layout r.wanted text [] (sym (append-nil text)) s.sound s.blocks.held
-
--- in a longer text
-few_more : (layout : Layout) (k : ℕ) (text more : List ℕ) {held : ℕ} → HoldsFew layout k text held
-    → HoldsFew layout k (text ++ more) held
-few_more layout k text more h =
-    record { front = h.front; rest = h.rest ++ more; whole = rw (h.whole, append_assoc); few = h.few }
+few_in (phases.Refused fault) r text s =
+    let few = few_times r.layout r.wanted s.front s.sound in
+    record { front = s.front; rest = s.byte ∷ s.rest; whole = s.whole; few = rw s.held few }
+few_in phase r text s =
+    let few = few_times r.layout r.wanted text s.sound in
+    record { front = text; rest = []; whole = sym (append-nil text); few = rw s.blocks.held few }
 
 -- behind a piece
 pub feed_few : (old : Fields) (text piece : List ℕ) (outcome : Result Progress LayoutFault) (new : Fields)
     → FeedMeets old text piece outcome new → (outcome ≡ Err Memory → new.held ≡ 0)
     → HoldsFew old.layout old.wanted (text ++ piece) new.held
 feed_few old text piece (Ok progress) new m none =
-    let used : List ℕ = take progress.used piece in
     let left : List ℕ = drop progress.used piece in
-    let few = rw (m.layout, m.wanted) at (few_in new.phase new (text ++ used) m.ok.1) in
-    rw (append_assoc text used left, take-append-drop progress.used piece) at
-    (few_more old.layout old.wanted (text ++ used) left few)
+    let h = rw (m.layout, m.wanted) at (few_in new.phase new (text ++ take progress.used piece) m.ok.1) in
+    let whole : text ++ piece ≡ h.front ++ (h.rest ++ left) =
+    cc (whole_text text piece progress.used, h.whole, append_assoc h.front h.rest left) in
+    record { front = h.front; rest = h.rest ++ left; whole = whole; few = h.few }
 feed_few old text piece (Err fault) new m none = elim (refused_memory (phases.Refused fault)) [
   | inl memory ↦ record { front = []; rest = text ++ piece; whole = refl; few = rw (none (cc)) (omega arith) }
   | inr other ↦ rw (m.layout, m.wanted) at (few_in new.phase new (text ++ piece) (m.refused (λ e. other (rw e))))

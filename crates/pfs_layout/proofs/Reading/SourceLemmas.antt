@@ -12,9 +12,10 @@ use Rattle.pfs_layout.specs.declared.reader.TheConstants.{PIECE}
 use Rattle.pfs_layout.specs.Reader.{IsUndecided, ReadsAsFar}
 use Rattle.pfs_layout.proofs.Options.{cases_option}
 use Rattle.pfs_layout.proofs.Files.EndLemmas.{fault_stays, free_behind}
-use Rattle.pfs_layout.proofs.Reading.PieceLemmas.{same_error, whole_text, refused_fault, done_enough, live_wants}
+use Rattle.pfs_layout.proofs.Reading.PieceLemmas.{whole_text, refused_fault, done_enough, live_wants}
 use Rattle.pfs_layout.proofs.Reading.ReaderSteps.{live_follows}
-use Rattle.pfs_layout.proofs.Reading.OutcomeLemmas.{finish_done}
+use Rattle.pfs_layout.proofs.Files.FileLemmas.{completes_file}
+use Rattle.pfs_layout.proofs.Files.VerdictLemmas.{enough_holds}
 use Rattle.std.proofs.lemmas.Bool.{both_ways}
 use Rattle.pfs_layout.proofs.Files.InputFaults.{is_input_fault, refused_input}
 
@@ -30,7 +31,7 @@ finish_named {r} {text} meets fault other e =
 pub feed_named : {r new : Fields} {text piece : List ℕ} {found : LayoutFault} → FeedMeets r text piece (Err found) new
     → (fault : LayoutFault) → fault ≢ Memory → is_input_fault fault ≡ false → found ≢ fault
 feed_named {r} {text} {piece} meets fault no_memory other e =
-    let here = (meets.exact (λ z. no_memory (sym e ∙ same_error z)) fault).0 (ap Err e) in
+    let here = (meets.exact (λ z. no_memory (cc)) fault).0 (ap Err e) in
     let refuses = fault_stays r.layout (text ++ piece) [] r.wanted fault here in
     both_ways _ other (refused_input r.layout _ r.wanted fault refuses)
 
@@ -40,22 +41,17 @@ never_failed working never = (λ p. absurd (never p), λ e. absurd (both_ways _ 
 
 -- ---- pieces
 
-left_behind : (left next : Option (List ℕ)) (front piece rest : List ℕ) → Consumes left next piece → left ≡ Some rest
-    → (more : List ℕ) × (next ≡ Some more) × (front ++ rest ≡ (front ++ piece) ++ more)
-left_behind left next front piece rest c e = grind (arith, append_assoc {A = ℕ})
-
 -- a reader that went on and isn't done is live
 live_then : {r new : Fields} {front piece : List ℕ} {progress : Progress} → FeedMeets r front piece (Ok progress) new
     → progress.done ≡ false → StandsAfter new (front ++ piece) → is_live new.phase ≡ true
-live_then {new} {front} {piece} m still stands = by_phase new.phase refl
+live_then {new} {front} {piece} m still stands = by_phase new.phase refl stands
   where
-    by_phase : (p : Phase) → new.phase ≡ p → is_live p ≡ true
-    by_phase phases.Done e = cc (m.done.1 e)
-    by_phase (phases.Refused fault) e =
-        let refused = subst (λ p. StandsIn p new (front ++ piece)) e stands in
-        let is = rw (m.layout, m.wanted) at (refused_fault new (front ++ piece) fault refused) in
+    by_phase : (p : Phase) → new.phase ≡ p → StandsIn p new (front ++ piece) → is_live p ≡ true
+    by_phase phases.Done e s = cc (m.done.1 e)
+    by_phase (phases.Refused fault) e s =
+        let is = rw (m.layout, m.wanted) at (refused_fault new (front ++ piece) fault s) in
         cc ((m.exact (λ z. cc) fault).1 is)
-    by_phase phase e = refl
+    by_phase phase e s = refl
 
 -- the reader is handed a piece that its source has given
 module _ {layout : Layout} {k : ℕ} {first left : Option (List ℕ)} {r : Fields} (t : Reading layout k first left r)
@@ -63,10 +59,7 @@ module _ {layout : Layout} {k : ℕ} {first left : Option (List ℕ)} {r : Field
   -- what is left of the bytes, where they are told
   behind : (text : List ℕ) → first ≡ Some text
       → (more : List ℕ) × (next ≡ Some more) × (text ≡ (t.front ++ piece) ++ more)
-  behind text e =
-      let rest = t.told text e in
-      let more = left_behind left next t.front piece rest.0 c rest.1 in
-      (more.0, more.1, rest.2 ∙ more.2)
+  behind text e = let rest = t.told text e in grind (arith, append_assoc {A = ℕ})
 
   told_behind : (P : List ℕ → Type 0) → ((more : List ℕ) → next ≡ Some more → P ((t.front ++ piece) ++ more))
       → IfSome first P
@@ -94,7 +87,7 @@ module _ {layout : Layout} {k : ℕ} {first left : Option (List ℕ)} {r : Field
   pub reading_fault : {new : Fields} {fault : LayoutFault} → FeedMeets r t.front piece (Err fault) new → fault ≢ Memory
       → IfSome first (λ bytes. RefusesInstance layout bytes k fault)
   reading_fault {fault} m other = told_behind _ (λ more e.
-      let here = (m.exact (λ z. other (same_error z)) fault).0 refl in
+      let here = (m.exact (λ z. other (cc)) fault).0 refl in
       rw (t.layout_is, t.wanted_is) at (fault_stays r.layout (t.front ++ piece) more r.wanted fault here))
 
   -- the wanted block has ended in the piece
@@ -108,12 +101,13 @@ module _ {layout : Layout} {k : ℕ} {first left : Option (List ℕ)} {r : Field
       let phase : new.phase ≡ phases.Done = m.done.0 ended in
       let follows : Follows new front = subst (λ p. StandsIn p new front) phase m.ok.1 in
       let enough = done_enough new front follows phase in
-      let found = finish_done new front follows phase in (
-        found.0,
-        ((meets front m.ok.1).file found.0).1 found.1,
+      let held = enough_holds new.layout new.wanted follows.some front follows.sound enough in
+      let here = completes_file new.layout front new.wanted held.0 held.1.0 in (
+        held.0,
+        ((meets front m.ok.1).file held.0).1 here,
         told_behind _ (λ more e.
-            let file = (free_behind new.layout front (drop progress.used piece ++ more) new.wanted found.0 follows.some
-            follows.sound enough).0 found.1 in
+            let file = (free_behind new.layout front (drop progress.used piece ++ more) new.wanted held.0 follows.some
+            follows.sound enough).0 here in
             rw (whole_text t.front piece progress.used, append_assoc front (drop progress.used piece) more)
             (simp (m.layout, t.layout_is, m.wanted, t.wanted_is) at file)),
       )
@@ -152,7 +146,4 @@ pub reads_failed : {layout : Layout} {k : ℕ} {first left : Option (List ℕ)} 
     → Reading layout k first left r → (next : Option (List ℕ)) → Keeps left next
     → IfSome first (λ bytes. ReadsAsFar layout k bytes next (Some Read))
 reads_failed {left} t next kept =
-    reads_piece t next [] (none_consumed left next kept) (Some Read) (omega arith) (λ e. refl) (λ e. absurd (cc))
-  where
-    none_consumed : (left next : Option (List ℕ)) → Keeps left next → Consumes left next []
-    none_consumed left next kept = grind arith
+    reads_piece t next [] (grind arith) (Some Read) (omega arith) (λ e. refl) (λ e. absurd (cc))

@@ -2,7 +2,6 @@
 use Rattle.pfs_layout.proofs.Words.{refl, rules, ℕ, [], ◌∙◌, arith, length-take, Read, SeedRange}
 use Rattle.pfs_layout.proofs.Reading.SourceLemmas.{finish_named, feed_named, never_failed, reading_more, reading_fault}
 use Rattle.pfs_layout.proofs.Reading.SourceLemmas.{reading_done, reads_failed, reads_ended, reads_fault}
-use Rattle.pfs_layout.proofs.Reading.PieceLemmas.{same_error}
 use Rattle.pfs_layout.proofs.Reading.ReaderSteps.{live_follows}
 use Rattle.pfs_layout.proofs.reader.read_block.Goals as goal
 
@@ -65,8 +64,8 @@ returns-in-Err g c =
       refused = λ read memory. reading_fault t _ _ bytes.1 meets memory;
       read =
           never_failed (c.in-Some.ensures.failed ∙ c.pieces.invariant.working)
-          (λ e. feed_named meets Read (λ z. cc) refl (same_error e));
-      no_seed = λ e. feed_named meets SeedRange (λ z. cc) refl (same_error e);
+          (λ e. feed_named meets Read (λ z. cc) refl (cc));
+      no_seed = λ e. feed_named meets SeedRange (λ z. cc) refl (cc);
       as_far = reads_fault t _ _ bytes.1 (omega (arith, length-take {A = ℕ})) meets;
     }
 
