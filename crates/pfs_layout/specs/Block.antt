@@ -1,15 +1,43 @@
--- A block of an instance file: a size line, and the numbers that are due in its body.
-use Rattle.std.specs.Prelude.{ℕ, ◌*◌, ◌/◌, ◌%◌, Bool, false, ◌==◌, nat_lt, nat_le, List, [], ◌∷◌, map, flat_map, Option}
-use Rattle.std.specs.Prelude.{Some, None, if◌then◌else◌}
+-- A block of an instance file: what a size line states, and the numbers that are due in its body.
+use Rattle.std.specs.Prelude.{ℕ, ◌*◌, ◌/◌, ◌%◌, Bool, false, ◌&&◌, ◌==◌, nat_lt, nat_le, List, [], ◌∷◌, map, flat_map}
+use Rattle.std.specs.Prelude.{Option, Some, None, if◌then◌else◌}
 use Rattle.std.specs.List.{list_all, enumerate_from}
-use Rattle.pfs_base.specs.declared.limits.TheConstants.{LONGEST_TIME}
+use Rattle.pfs_base.specs.declared.limits.TheConstants.{MOST_JOBS, MOST_MACHINES, LONGEST_TIME, GREATEST_NOTE}
 use Rattle.pfs_base.specs.FlowShop.{FlowShop, time_of}
 use Rattle.pfs_base.specs.Lists.{below}
+use Rattle.pfs_base.specs.Problem.{Problem}
 use Rattle.pfs_layout.specs.declared.layout.Layout.{Layout}
 use Rattle.pfs_layout.specs.declared.layout.Layout.TheVariants.{Taillard, OrLib}
 use Rattle.pfs_layout.specs.declared.body.Due.{Due}
 use Rattle.pfs_layout.specs.declared.size_line.Size.{Size}
-use Rattle.pfs_layout.specs.Size.{sized}
+
+-- the size of these numbers, in the order of Taillard's size lines
+abbrev pub sized : ℕ → ℕ → ℕ → ℕ → ℕ → Size
+sized jobs machines seed upper lower =
+    record { jobs = jobs; machines = machines; notes = record { seed = seed; upper = upper; lower = lower } }
+
+abbrev pub size_of : Problem → Size
+size_of problem = record { jobs = problem.shop.jobs; machines = problem.shop.machines; notes = problem.notes }
+
+-- the problem of this size, where each job takes these times on the machines
+abbrev pub problem_of : Size → (ℕ → ℕ → ℕ) → Problem
+problem_of size time = record {
+  shop = record {
+    jobs = size.jobs;
+    machines = size.machines;
+    times = flat_map (λ job. map (λ machine. time job machine) (below size.machines)) (below size.jobs);
+  };
+  notes = size.notes;
+}
+
+abbrev pub is_between : ℕ → ℕ → ℕ → Bool
+is_between least most n = nat_le least n && nat_le n most
+
+-- each number that a size line states is in its limit
+abbrev pub is_within_limits : Size → Bool
+is_within_limits size = is_between 1 MOST_JOBS size.jobs && is_between 1 MOST_MACHINES size.machines
+    && nat_le size.notes.seed GREATEST_NOTE && nat_le size.notes.upper GREATEST_NOTE
+    && nat_le size.notes.lower GREATEST_NOTE
 
 -- a row of a body: the times of all jobs on a machine, or a job's pairs of machine and time
 unfoldable pub due_row : Layout → FlowShop → ℕ → List ℕ

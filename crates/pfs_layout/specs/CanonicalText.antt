@@ -6,10 +6,8 @@ use Rattle.pfs_base.specs.Lists.{below}
 use Rattle.pfs_base.specs.Problem.{Problem}
 use Rattle.pfs_base.specs.Text.{with_line_end, spaced}
 use Rattle.pfs_layout.specs.declared.layout.Layout.{Layout}
-use Rattle.pfs_layout.specs.declared.layout.Layout.TheVariants.{Taillard, OrLib}
 use Rattle.pfs_layout.specs.declared.size_line.Size.{Size}
-use Rattle.pfs_layout.specs.Size.{size_of}
-use Rattle.pfs_layout.specs.Block.{due_row, row_count}
+use Rattle.pfs_layout.specs.Block.{size_of, due_row, row_count}
 use Rattle.pfs_layout.specs.File.{IsInstance, IsInstanceFile}
 
 -- each row of the body on a line
@@ -21,12 +19,12 @@ row_lines layout shop = flat_map (row_line layout shop) (below (row_count layout
 
 -- the lines before the body
 abbrev pub head_lines : Layout → Size → List ℕ
-head_lines Taillard size =
+head_lines Layout.Taillard size =
     with_line_end (codes "number of jobs, number of machines, initial seed, upper bound and lower bound :")
     ++ with_line_end
     (spaced (size.jobs ∷ size.machines ∷ size.notes.seed ∷ size.notes.upper ∷ size.notes.lower ∷ []))
     ++ with_line_end (codes "processing times :")
-head_lines OrLib size =
+head_lines Layout.OrLib size =
     with_line_end (codes "flow shop instance")
     ++ with_line_end (spaced (size.jobs ∷ size.machines ∷ []))
 
@@ -35,8 +33,8 @@ canonical_text layout problem = head_lines layout (size_of problem) ++ row_lines
 
 -- what the text holds of a problem: the layout of the OR-Library has no notes
 abbrev pub as_written : Layout → Problem → Problem
-as_written Taillard problem = problem
-as_written OrLib problem = record { shop = problem.shop; notes = record { seed = 0; upper = 0; lower = 0 } }
+as_written Layout.Taillard problem = problem
+as_written Layout.OrLib problem = record { shop = problem.shop; notes = record { seed = 0; upper = 0; lower = 0 } }
 
 -- what is written is an instance file, and holds the problem
 abbrev pub CanonicalLaw : Type 0

@@ -1,7 +1,7 @@
 -- Some instance files, and what they hold.
 use Rattle.std.specs.Prelude.{ℕ, List, [], ◌∷◌, ◌++◌, codes, flat_map, if◌then◌else◌}
 use Rattle.pfs_base.specs.Problem.{Problem}
-use Rattle.pfs_layout.specs.Bytes.{is_line_end}
+use Rattle.pfs_layout.specs.Lines.{is_line_end}
 
 -- the first line of a file in Taillard's layout
 abbrev pub heading : List ℕ

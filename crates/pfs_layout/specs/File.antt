@@ -6,8 +6,7 @@ use Rattle.pfs_base.specs.Limits.{Limits}
 use Rattle.pfs_base.specs.Problem.{Problem}
 use Rattle.pfs_layout.specs.declared.layout.Layout.{Layout}
 use Rattle.pfs_layout.specs.Lines.{lines, open_line, is_mixed, is_number_line, numbers}
-use Rattle.pfs_layout.specs.Size.{size_of}
-use Rattle.pfs_layout.specs.Block.{due, stated_size}
+use Rattle.pfs_layout.specs.Block.{size_of, due, stated_size}
 
 -- the sizes, times and notes are within the limits
 pub record IsInstance (limits : Limits) (problem : Problem) : Type 0 where
@@ -52,12 +51,17 @@ pub record AreBlocks (limits : Limits) (layout : Layout) (k : ℕ) (problem : Pr
   pub each : AllByRecursion (IsSomeBlock limits layout) earlier
   pub is_own : IsBlock limits layout problem own
 
--- a front of the input, whose last line ends with byte 10 or with the input, is k blocks
-pub record IsInstanceFile (limits : Limits) (layout : Layout) (input : List ℕ) (k : ℕ) (problem : Problem)
-    : Type 0 where
+-- a front of the input, whose last line ends with byte 10 or with the input
+pub record Front (limits : Limits) (input : List ℕ) : Type 0 where
   pub text : List ℕ
   pub rest : List ℕ
   pub whole : input ≡ text ++ rest
   pub ended : (open_line text ≡ []) ⊎ (rest ≡ [])
   pub short : length text ≤ limits.input
+
+-- such a front is k blocks
+pub record IsInstanceFile (limits : Limits) (layout : Layout) (input : List ℕ) (k : ℕ) (problem : Problem)
+    : Type 0 where
+  pub front : Front limits input
+  pub open front use *
   pub blocks : AreBlocks limits layout k problem (lines text)

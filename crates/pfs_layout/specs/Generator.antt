@@ -4,7 +4,7 @@ use Rattle.pfs_base.specs.FlowShop.{AreSizes}
 use Rattle.pfs_base.specs.Limits.{limits}
 use Rattle.pfs_base.specs.Problem.{Problem}
 use Rattle.pfs_layout.specs.File.{IsInstance}
-use Rattle.pfs_layout.specs.Size.{problem_of, sized}
+use Rattle.pfs_layout.specs.Block.{problem_of, sized}
 
 abbrev pub prime : ℕ
 prime = 2147483647

@@ -1,27 +1,21 @@
 -- Laws about instance files.
 use Rattle.std.specs.Prelude.{◌≡◌, ◌↔◌, ℕ, ◌+◌, ◌*◌, ◌<◌, ◌≤◌, List, [], ◌∷◌, ◌++◌, length, Some, None, ◌⊎◌, IsTrue}
 use Rattle.std.specs.List.{All}
-use Rattle.pfs_base.specs.declared.limits.TheConstants.{LONGEST_TIME, LONGEST_INPUT}
 use Rattle.pfs_base.specs.Limits.{Limits, limits}
 use Rattle.pfs_base.specs.Problem.{Problem}
 use Rattle.pfs_layout.specs.declared.layout.Layout.{Layout}
 use Rattle.pfs_layout.specs.declared.fault.LayoutFault.{LayoutFault}
-use Rattle.pfs_layout.specs.Lines.{lines, ended_lines, open_line}
+use Rattle.pfs_layout.specs.Lines.{lines, ended_lines}
 use Rattle.pfs_layout.specs.declared.size_line.Size.{Size}
-use Rattle.pfs_layout.specs.Size.{size_of}
-use Rattle.pfs_layout.specs.Block.{due, are_due}
-use Rattle.pfs_layout.specs.File.{IsInstanceFile}
+use Rattle.pfs_layout.specs.Block.{size_of, due, are_due}
+use Rattle.pfs_layout.specs.File.{Front, IsInstanceFile}
 use Rattle.pfs_layout.specs.Stand.{Block, seeking, stand, instance_of}
 use Rattle.pfs_layout.specs.Refuse.{RefusesInstance, refusal, accepted, byte_fault}
 
--- a front of the input, whose last line ends with byte 10 or with the input, leads to k complete blocks,
--- the last of which is the problem's
+-- a front of the input leads to k complete blocks, the last of which is the problem's
 pub record Completes (layout : Layout) (input : List ℕ) (k : ℕ) (problem : Problem) : Type 0 where
-  pub text : List ℕ
-  pub rest : List ℕ
-  pub whole : input ≡ text ++ rest
-  pub ended : (open_line text ≡ []) ⊎ (rest ≡ [])
-  pub short : length text ≤ LONGEST_INPUT
+  pub front : Front limits input
+  pub open front use *
   pub earlier : List Block
   pub own : Block
   pub count : length earlier + 1 ≡ k
@@ -33,14 +27,10 @@ abbrev pub FileStands : Type 0
 FileStands = (layout : Layout) (input : List ℕ) (k : ℕ) (problem : Problem)
     → IsInstanceFile limits layout input k problem ↔ Completes layout input k problem
 
--- behind a front of the input, whose last line ends with byte 10 or with the input, the next block is sought, k being
--- complete
+-- behind a front of the input the next block is sought, k being complete
 pub record Seeks (layout : Layout) (input : List ℕ) (k : ℕ) : Type 0 where
-  pub text : List ℕ
-  pub rest : List ℕ
-  pub whole : input ≡ text ++ rest
-  pub ended : (open_line text ≡ []) ⊎ (rest ≡ [])
-  pub short : length text ≤ LONGEST_INPUT
+  pub front : Front limits input
+  pub open front use *
   pub complete : length (stand layout (lines text)).complete ≡ k
   pub now : (stand layout (lines text)).now ≡ seeking
 
@@ -124,7 +114,7 @@ pub record BeginDue (layout : Layout) (size : Size) (numbers : List ℕ) : Type 
   pub rest : List ℕ
   pub of_size : size_of problem ≡ size
   pub every_time : length problem.shop.times ≡ size.jobs * size.machines
-  pub short_times : All (λ time. time ≤ LONGEST_TIME) problem.shop.times
+  pub short_times : All (λ time. time ≤ limits.time) problem.shop.times
   pub begin : due layout problem.shop ≡ numbers ++ rest
 
 abbrev pub DueFronts : Type 0

@@ -19,11 +19,10 @@ use Rattle.pfs_layout.specs.declared.blocks.Phase.TheVariants as phases
 use Rattle.pfs_layout.specs.declared.blocks.Blocks.{Blocks}
 use Rattle.pfs_layout.specs.declared.blocks.Progress.{Progress}
 use Rattle.pfs_layout.specs.declared.reader.TheConstants.{PIECE}
-use Rattle.pfs_layout.specs.Bytes.{is_digit, is_word_byte, is_line_end}
+use Rattle.pfs_layout.specs.Lines.{is_digit, is_word_byte, is_line_end}
 use Rattle.pfs_layout.specs.Lines.{ended_lines, open_line, ended_numbers, last_digits}
 use Rattle.pfs_layout.specs.declared.size_line.Size.{Size}
-use Rattle.pfs_layout.specs.Size.{is_within_limits}
-use Rattle.pfs_layout.specs.Block.{due_count, times_in}
+use Rattle.pfs_layout.specs.Block.{is_within_limits, due_count, times_in}
 use Rattle.pfs_layout.specs.Stand.{Block, Now, seeking, inside, lost, Stand, stand, instance_of, place_of_time}
 use Rattle.pfs_layout.specs.File.{IsInstanceFile}
 use Rattle.pfs_layout.specs.Refuse.{RefusesInstance, fault_of_place, byte_fault}

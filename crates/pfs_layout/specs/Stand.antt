@@ -3,11 +3,9 @@ use Rattle.std.specs.Prelude.{ℕ, ◌+◌, ◌*◌, ◌==◌, List, [], ◌∷�
 use Rattle.std.specs.Prelude.{if◌then◌else◌}
 use Rattle.pfs_base.specs.Problem.{Problem}
 use Rattle.pfs_layout.specs.declared.layout.Layout.{Layout}
-use Rattle.pfs_layout.specs.declared.layout.Layout.TheVariants.{Taillard, OrLib}
 use Rattle.pfs_layout.specs.declared.size_line.Size.{Size}
-use Rattle.pfs_layout.specs.Size.{is_within_limits, problem_of}
+use Rattle.pfs_layout.specs.Block.{is_within_limits, problem_of, stated_size, due_count, are_due}
 use Rattle.pfs_layout.specs.Lines.{is_mixed, is_number_line, numbers}
-use Rattle.pfs_layout.specs.Block.{stated_size, due_count, are_due}
 
 -- a block: its size, and the numbers of its body so far
 pub record Block : Type 0 where
@@ -68,8 +66,8 @@ stand layout text = fold (stand_after layout) (standing [] seeking) text
 
 -- where a time stands among the numbers of a body
 abbrev pub place_of_time : Layout → Size → ℕ → ℕ → ℕ
-place_of_time Taillard size job machine = machine * size.jobs + job
-place_of_time OrLib size job machine = 2 * (job * size.machines + machine) + 1
+place_of_time Layout.Taillard size job machine = machine * size.jobs + job
+place_of_time Layout.OrLib size job machine = 2 * (job * size.machines + machine) + 1
 
 -- the problem of a complete block
 unfoldable pub instance_of : Layout → Block → Problem

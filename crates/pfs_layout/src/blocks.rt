@@ -1,7 +1,7 @@
 //! The blocks that a reader has read, and what an event of the last line does to them.
 ghost use Rattle.std.specs.Prelude.{◌≡◌, ◌≢◌, ◌+◌, ◌-◌, ◌*◌, ◌<◌, ◌≤◌, true, false, ◌==◌, ℕ, List, length, replicate};
 ghost use Rattle.std.specs.Prelude.{Some, None, IfOk, IfErr, OnOk, OnErr, IfSome, option_map, is_some, if◌then◌else◌};
-ghost use Rattle.pfs_layout.specs.Size.{is_within_limits, problem_of};
+ghost use Rattle.pfs_layout.specs.Block.{is_within_limits, problem_of};
 ghost use Rattle.pfs_layout.specs.Private.Step.{refused, CanCount, with_problem_time, counted};
 ghost use Rattle.pfs_layout.specs.Private.Step.{body_judged, number_ended, last_number_ended, no_numbers, Keeps};
 ghost use Rattle.pfs_layout.specs.Private.Step.{size_line_ended, line_ended, mixed_met, blocks_after};

@@ -50,7 +50,6 @@ pub fn byte_fault()
 {}
 
 /// What follows the wanted block is free.
-#[tactic(auto, using(crate::proofs::Files::EndLemmas::free_behind))]
 pub fn free_behind()
     ensures { FreeBehind }
 {}

@@ -2,7 +2,7 @@
 //! few instructions.
 ghost use Rattle.std.specs.Prelude.{◌≡◌, ◌<◌, ◌≤◌, ◌&&◌, ◌||◌, ◌==◌, not, true, false, ◌+◌, ◌-◌, ◌*◌, ℕ, [], min};
 ghost use Rattle.std.specs.Prelude.{if◌then◌else◌};
-ghost use Rattle.pfs_layout.specs.Bytes.{is_digit as digit_test, is_blank as blank_test, is_word_byte as word_test};
+ghost use Rattle.pfs_layout.specs.Lines.{is_digit as digit_test, is_blank as blank_test, is_word_byte as word_test};
 ghost use Rattle.pfs_layout.specs.Reader.{FollowsLine};
 ghost use Rattle.pfs_layout.specs.Private.Step.{Pushes, has_numbers_alone, number_of};
 ghost use Rattle.pfs_layout.specs.Private.Step.{blank_event as blank_event_of, event_of};

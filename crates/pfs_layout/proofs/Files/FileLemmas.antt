@@ -1,13 +1,12 @@
 -- Files, by where their lines lead.
 use Rattle.pfs_layout.proofs.Words.{nat_tests, ◌≡◌, ℕ, ◌+◌, ◌<◌, true, not, List, [], ◌∷◌, ◌++◌, length, flat_map, refl}
-use Rattle.pfs_layout.proofs.Words.{sym, arith, append_assoc, append-nil, length-append, AllByRecursion, list_any}
-use Rattle.pfs_layout.proofs.Words.{list_all, list_all-append, fold-append, Layout, is_digit, limits, Problem, Size}
-use Rattle.pfs_layout.proofs.Words.{size_of, is_mixed, is_number_line, is_no_digit, numbers, are_due, due, due_count}
-use Rattle.pfs_layout.proofs.Words.{Block, seeking, inside, standing, completed, stand_after, IsSomeBlock, IsBlock}
-use Rattle.pfs_layout.proofs.Words.{false, ap, Some, ◌==◌, inl, inr, mul-le-mul, cases_Bool, eqb-false, or_parts}
-use Rattle.pfs_layout.proofs.Words.{flat_map-append, by_push, is_within_limits, stated_size, Now, lost, Stand, begun}
-use Rattle.pfs_layout.proofs.Words.{with_line, after_line, stand, instance_of, lines, AreBlocks, IsInstanceFile}
-use Rattle.pfs_layout.proofs.Words.{Completes}
+use Rattle.pfs_layout.proofs.Words.{sym, arith, append_assoc, append-nil, length-append, AllByRecursion, list_any, Size}
+use Rattle.pfs_layout.proofs.Words.{list_all, list_all-append, fold-append, Layout, is_digit, limits, Problem, size_of}
+use Rattle.pfs_layout.proofs.Words.{is_mixed, is_number_line, is_no_digit, numbers, are_due, due, due_count, Block, ap}
+use Rattle.pfs_layout.proofs.Words.{seeking, inside, standing, completed, stand_after, IsSomeBlock, IsBlock, false, inl}
+use Rattle.pfs_layout.proofs.Words.{Some, ◌==◌, inr, mul-le-mul, cases_Bool, eqb-false, or_parts, flat_map-append, Now}
+use Rattle.pfs_layout.proofs.Words.{by_push, is_within_limits, stated_size, lost, Stand, begun, with_line, after_line}
+use Rattle.pfs_layout.proofs.Words.{stand, instance_of, lines, AreBlocks, IsInstanceFile, Completes}
 use Rattle.std.proofs.Common.{fold}
 use Rattle.std.proofs.lemmas.Bool.{false≢true}
 use Rattle.pfs_layout.proofs.Files.LineLemmas.{split_some, front_of_lines}
@@ -272,10 +271,12 @@ completes_file layout input k problem c =
     let m : IsMade layout (lines c.text) (completed c.earlier c.own) = rw c.stands at (made layout (lines c.text)) in
     let f = front_of_lines c.text m.front m.tail m.parts in
     record {
-      text = f.front;
-      rest = f.rest ++ c.rest;
-      whole = rw (← append_assoc f.front f.rest c.rest, ← f.whole) c.whole;
-      ended = grind (arith, f.ended, c.ended, f.whole, append-nil f.front);
-      short = omega (arith, c.short, ap length f.whole, length-append f.front f.rest);
+      front = record {
+        text = f.front;
+        rest = f.rest ++ c.rest;
+        whole = rw (← append_assoc f.front f.rest c.rest, ← f.whole) c.whole;
+        ended = grind (arith, f.ended, c.ended, f.whole, append-nil f.front);
+        short = omega (arith, c.short, ap length f.whole, length-append f.front f.rest);
+      };
       blocks = rw (f.are, c.is, ← c.count) (are_blocks layout m.front c.earlier c.own m.each);
     }

@@ -1,10 +1,9 @@
 -- Lines and numbers of a text: one byte more, and where lines begin and end.
 use Rattle.pfs_layout.proofs.Words.{◌≡◌, ℕ, Bool, not, List, [], ◌∷◌, ◌++◌, map, refl, ◌∙◌, ap, if◌then◌else◌, inl, inr}
-use Rattle.pfs_layout.proofs.Words.{arith, cases_Bool, map-append, digits_value, is_empty, last_of, all_but_last}
-use Rattle.pfs_layout.proofs.Words.{all_and_last, ended_parts, open_part, is_no_digit, numbers, ended_numbers}
-use Rattle.pfs_layout.proofs.Words.{last_digits, true, false, length, sym, ◌⊎◌, list_any, or_parts, append_assoc}
-use Rattle.pfs_layout.proofs.Words.{append-nil, length-append, nil_from_length, is_line_end, lines, ended_lines}
-use Rattle.pfs_layout.proofs.Words.{open_line}
+use Rattle.pfs_layout.proofs.Words.{arith, cases_Bool, map-append, digits_value, is_empty, last_of, all_but_last, true}
+use Rattle.pfs_layout.proofs.Words.{all_and_last, ended_parts, open_part, is_no_digit, numbers, ended_numbers, false}
+use Rattle.pfs_layout.proofs.Words.{last_digits, length, sym, ◌⊎◌, list_any, or_parts, append_assoc, append-nil, lines}
+use Rattle.pfs_layout.proofs.Words.{length-append, nil_from_length, is_line_end, ended_lines, open_line}
 use Rattle.std.specs.List.{slice_split}
 use Rattle.std.proofs.lemmas.List.Elements.{filter-append}
 use Rattle.pfs_base.proofs.Published.Lists.{all_but_last-push, last_of-push}

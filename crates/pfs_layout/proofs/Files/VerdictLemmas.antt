@@ -7,7 +7,7 @@ use Rattle.pfs_layout.proofs.Words.{slice_get-append, slice_get-push, Layout, is
 use Rattle.pfs_layout.proofs.Words.{open_line, ended_parts, numbers, ended_numbers, Block, Now, seeking, inside, lost}
 use Rattle.pfs_layout.proofs.Words.{Stand, standing, completed, after_line, stand_after, stand, instance_of, ends_early}
 use Rattle.pfs_layout.proofs.Words.{fault_of_place, refusal, accepted, mixed_line, byte_fault, wrong_number, wrong_size}
-use Rattle.pfs_layout.proofs.Words.{Completes}
+use Rattle.pfs_layout.proofs.Words.{Completes, limits, Front}
 use Rattle.std.proofs.lemmas.Bool.{false_from_ne_true}
 use Rattle.pfs_layout.specs.Refuse.{faults}
 use Rattle.pfs_layout.proofs.Published.PlaceLemmas.{byte_fault-push, refusal_end}
@@ -128,11 +128,13 @@ module _ (layout : Layout) (k : ℕ) where
             let size = length_push before.complete one.0 in (
               instance_of layout one.0,
               record {
-                text = ended;
-                rest = [];
-                whole = sym (append-nil ended);
-                ended = inr refl;
-                short = short;
+                front = record {
+                  text = ended;
+                  rest = [];
+                  whole = sym (append-nil ended);
+                  ended = inr refl;
+                  short = short;
+                };
                 earlier = before.complete;
                 own = one.0;
                 count = omega arith;
@@ -153,9 +155,9 @@ module _ (layout : Layout) (k : ℕ) where
   holds_longer text more problem held =
       let c = held.0 in
       let whole : text ++ more ≡ c.text ++ (c.rest ++ more) = rw c.whole (append_assoc c.text c.rest more) in
-      let ended : (open_line c.text ≡ []) ⊎ (c.rest ++ more ≡ []) = inl held.1 in
-      let longer : Completes layout (text ++ more) k problem = search in
-      (longer, held.1)
+      let front : Front limits (text ++ more) =
+      record { text = c.text; rest = c.rest ++ more; whole = whole; ended = inl held.1; short = c.short } in
+      (record { front = front; earlier = c.earlier; own = c.own; count = c.count; stands = c.stands; is = c.is }, held.1)
 
   no_complete : length (stand_of layout []).complete ≡ 0
   unfolding stand ended_parts

@@ -1,7 +1,6 @@
 -- One verdict, and what it is computed by.
 use Rattle.pfs_layout.proofs.Words.{◌≡◌, ℕ, ◌≤◌, List, [], ◌∷◌, ◌++◌, length, refl, ◌∙◌, ap, arith, inl, inr}
-use Rattle.pfs_layout.proofs.Words.{length-append, all_but_last, last_of, Problem}
-use Rattle.pfs_layout.proofs.Words.{all_and_last, Layout, lines, Block}
+use Rattle.pfs_layout.proofs.Words.{length-append, all_but_last, last_of, Problem, all_and_last, Layout, lines, Block}
 use Rattle.pfs_layout.proofs.Words.{standing, stand, instance_of, refusal, Completes}
 use Rattle.pfs_layout.specs.Laws.{Seeks, OneVerdict, AcceptedLaw}
 use Rattle.pfs_layout.proofs.Options.{cases_option}
@@ -44,11 +43,7 @@ one_verdict layout input k some = elim (cases_option (refusal layout input k)) [
 pub completes_seeks : (layout : Layout) (input : List ℕ) (k : ℕ) (problem : Problem) → Completes layout input k problem
     → Seeks layout input k
 completes_seeks layout input k problem c = record {
-  text = c.text;
-  rest = c.rest;
-  whole = c.whole;
-  ended = c.ended;
-  short = c.short;
+  front = c.front;
   complete = rw c.stands (omega (arith, length-append c.earlier (c.own ∷ []), c.count));
   now = rw c.stands;
 }
@@ -67,11 +62,7 @@ seeks_completes layout input k some s = by_complete (stand layout (lines s.text)
         e ∙ all_and_last block block blocks in (
           instance_of layout own,
           record {
-            text = s.text;
-            rest = s.rest;
-            whole = s.whole;
-            ended = s.ended;
-            short = s.short;
+            front = s.front;
             earlier = earlier;
             own = own;
             count = omega (arith, s.complete, ap length parts, length-append earlier (own ∷ []));

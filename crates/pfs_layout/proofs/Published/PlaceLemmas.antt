@@ -1,7 +1,7 @@
 -- Places of a text with one more byte, and the first fault.
-use Rattle.pfs_layout.proofs.Words.{slice_get-push, ◌≡◌, ℕ, suc, ◌+◌, ◌<◌, List, [], ◌∷◌, ◌++◌, length, refl}
-use Rattle.pfs_layout.proofs.Words.{arith, Option, Some, None, option_or, length_push, take_all, slice_get-append}
-use Rattle.pfs_layout.proofs.Words.{Layout, LayoutFault, fault_of_place, refusal, byte_fault, RefusesInstance}
+use Rattle.pfs_layout.proofs.Words.{slice_get-push, ◌≡◌, ℕ, suc, ◌+◌, ◌<◌, List, [], ◌∷◌, ◌++◌, length, refl, arith}
+use Rattle.pfs_layout.proofs.Words.{Option, Some, None, option_or, length_push, take_all, slice_get-append, Layout}
+use Rattle.pfs_layout.proofs.Words.{LayoutFault, fault_of_place, refusal, byte_fault, RefusesInstance}
 use Rattle.std.proofs.lemmas.List.{take-append-le, take_at}
 use Rattle.std.proofs.lemmas.Option.{slice_get_past}
 use Rattle.pfs_base.proofs.Published.Lists.{map-range_with_len-same}

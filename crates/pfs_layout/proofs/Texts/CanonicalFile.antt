@@ -1,13 +1,12 @@
 -- Canonical texts: their length, and that they are instance files.
-use Rattle.pfs_layout.proofs.Words.{ℕ, suc, zero, ◌+◌, ◌*◌, ◌<◌, ◌≤◌, List, [], ◌∷◌, length, map, flat_map, codes}
+use Rattle.pfs_layout.proofs.Words.{ℕ, suc, zero, ◌+◌, ◌*◌, ◌<◌, ◌≤◌, List, [], ◌∷◌, length, map, flat_map, codes, Size}
 use Rattle.pfs_layout.proofs.Words.{arith, length-append, mul-le-mul, AllByRecursion, FlowShop, time_of, limits, below}
-use Rattle.pfs_layout.proofs.Words.{spaced, LONGEST_INPUT, Layout, Taillard, OrLib, Size, due_row, row_count, row_width}
-use Rattle.pfs_layout.proofs.Words.{row_line, row_lines, ◌≡◌, ◌-◌, Bool, true, false, not, ◌++◌, Some, refl, sym, inl}
-use Rattle.pfs_layout.proofs.Words.{add-one, append_assoc, append-nil, list_any, list_all, All, nat_tests}
-use Rattle.pfs_layout.proofs.Words.{flat_map-append, All-from_get_or, list_any-append, list_all-append, Problem}
-use Rattle.pfs_layout.proofs.Words.{flat_map_more, due, stated_size, is_line_end, is_word_byte, canonical_text}
-use Rattle.pfs_layout.proofs.Words.{IsInstance, IsBlock, IsInstanceFile, lines, open_line, is_mixed, is_number_line}
-use Rattle.pfs_layout.proofs.Words.{is_no_digit, numbers, size_of}
+use Rattle.pfs_layout.proofs.Words.{spaced, LONGEST_INPUT, Layout, Taillard, OrLib, due_row, row_count, row_line, ◌≡◌}
+use Rattle.pfs_layout.proofs.Words.{row_lines, ◌-◌, Bool, true, false, not, ◌++◌, Some, refl, sym, inl, add-one, All}
+use Rattle.pfs_layout.proofs.Words.{append_assoc, append-nil, list_any, list_all, nat_tests, flat_map-append, Problem}
+use Rattle.pfs_layout.proofs.Words.{All-from_get_or, list_any-append, list_all-append, flat_map_more, due, stated_size}
+use Rattle.pfs_layout.proofs.Words.{is_line_end, is_word_byte, canonical_text, IsInstance, IsBlock, IsInstanceFile}
+use Rattle.pfs_layout.proofs.Words.{lines, open_line, is_mixed, is_number_line, is_no_digit, numbers, size_of}
 use Rattle.std.proofs.Common.{◌^◌, lit<, decimal}
 use Rattle.pfs_layout.specs.CanonicalText.{head_lines, as_written, CanonicalLaw, TextsFit}
 use Rattle.std.specs.List.{range_with_len}
@@ -16,7 +15,7 @@ use Rattle.std.proofs.lemmas.List.Concat.{length-flat_map}
 use Rattle.std.proofs.lemmas.List.FromFn.{length-range_with_len, map-range_with_len_more}
 use Rattle.std.proofs.lemmas.List.Sums.{sum_by-le}
 use Rattle.pfs_base.specs.FlowShop.{IsWithin}
-use Rattle.pfs_layout.proofs.Files.DueLemmas.{length-due_row, short_at}
+use Rattle.pfs_layout.proofs.Files.DueLemmas.{length_due_row, row_width, short_at}
 use Rattle.std.proofs.lemmas.List.Folds.{list_any_none}
 use Rattle.std.proofs.lemmas.List.Splits.{slice_split_none, slice_split_at}
 use Rattle.std.proofs.lemmas.Str.Parse.{digit_at}
@@ -83,7 +82,7 @@ length-row_line : (layout : Layout) (shop : FlowShop) (row : ℕ) → IsWithin l
     → length (row_line layout shop row) ≤ 21 * row_width layout shop + 1
 length-row_line layout shop row within =
     let numbers = length-spaced (due_row layout shop row) (row_fits layout shop row within) in
-    omega (arith, length-append {A = ℕ}, length-due_row layout shop row)
+    omega (arith, length-append {A = ℕ}, length_due_row layout shop row)
 
 -- the body, with room for the lines before it
 pub length-row_lines : (layout : Layout) (shop : FlowShop) → IsWithin limits shop
@@ -200,7 +199,7 @@ module _ (layout : Layout) (problem : Problem) (is : IsInstance limits problem) 
         size = grind (arith, number_line sizes some fit, numbers_spaced sizes fit);
         body = record {
           front_unmixed = rw (list_all-append, unmixed) (rows_unmixed (below n));
-          last_numbers = number_line last (omega (arith, length-due_row layout problem.shop n)) (fits n);
+          last_numbers = number_line last (omega (arith, length_due_row layout problem.shop n)) (fits n);
           holds = rw (joined, none, rows_numbers (below n), numbers_spaced last (fits n), rows, add-one) (sym all_rows);
         };
         within = is;
@@ -220,11 +219,13 @@ file_is : (layout : Layout) (problem : Problem) → IsInstance limits problem �
     → AreLines (canonical_text layout problem) own → IsBlock limits layout problem own
     → IsInstanceFile limits layout (canonical_text layout problem) 1 problem
 file_is layout problem is own are block = record {
-  text = canonical_text layout problem;
-  rest = [];
-  whole = sym (append-nil (canonical_text layout problem));
-  ended = inl are.nothing;
-  short = texts_fit layout problem is;
+  front = record {
+    text = canonical_text layout problem;
+    rest = [];
+    whole = sym (append-nil (canonical_text layout problem));
+    ended = inl are.nothing;
+    short = texts_fit layout problem is;
+  };
   blocks = record { earlier = []; own = own; parts = are.are; count = refl; each = tt; is_own = block };
 }
 

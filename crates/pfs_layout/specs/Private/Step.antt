@@ -25,9 +25,8 @@ use Rattle.pfs_layout.specs.declared.body.Due.{Due}
 use Rattle.pfs_layout.specs.declared.blocks.Phase.{Phase}
 use Rattle.pfs_layout.specs.declared.blocks.Phase.TheVariants as phases
 use Rattle.pfs_layout.specs.declared.blocks.Blocks.{Blocks}
-use Rattle.pfs_layout.specs.Bytes.{is_digit, is_blank, is_line_end}
-use Rattle.pfs_layout.specs.Size.{is_within_limits, problem_of, sized}
-use Rattle.pfs_layout.specs.Block.{numbers_for, times_in, is_due}
+use Rattle.pfs_layout.specs.Lines.{is_digit, is_blank, is_line_end}
+use Rattle.pfs_layout.specs.Block.{is_within_limits, problem_of, sized, numbers_for, times_in, is_due}
 use Rattle.pfs_layout.specs.Refuse.{fault_of_due}
 use Rattle.pfs_layout.specs.Reader.{is_live, FollowsLine}
 
