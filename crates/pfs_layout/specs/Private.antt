@@ -1,3 +1,2 @@
 -- What only contracts of private functions and proofs speak of: no promise to users rests on it.
 pub mod Step
-pub mod Take

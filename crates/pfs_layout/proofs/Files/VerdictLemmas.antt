@@ -1,6 +1,6 @@
 -- An input holds a file exactly where none of its places has a fault.
 use Rattle.pfs_layout.proofs.Words.{◌≡◌, ℕ, ◌-◌, ◌<◌, ◌≤◌, true, false, List, [], ◌∷◌, ◌++◌, length, nat_le, refl, sym}
-use Rattle.pfs_layout.proofs.Words.{◌∙◌, ap, arith, Some, None, ◌⊎◌, inl, inr, slice_get, is_none, option_or}
+use Rattle.pfs_layout.proofs.Words.{◌∙◌, ap, arith, Some, None, inl, inr, slice_get, is_none, option_or}
 use Rattle.pfs_layout.proofs.Words.{cases_Bool, cases_lt, ne_eqb, eqb-true, nat_tests, append_assoc, append-nil}
 use Rattle.pfs_layout.proofs.Words.{length_push, nil_from_length, is_empty, first_some, LONGEST_INPUT, Problem, by_push}
 use Rattle.pfs_layout.proofs.Words.{slice_get-append, slice_get-push, Layout, is_line_end, lines, ended_lines}

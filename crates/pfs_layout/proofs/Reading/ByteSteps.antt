@@ -6,11 +6,11 @@ use Rattle.pfs_layout.proofs.Words.{nat_tests, list_any-append, is_empty, Layout
 use Rattle.pfs_layout.proofs.Words.{is_blank, is_line_end, is_word_byte, open_line, ended_numbers, last_digits}
 use Rattle.pfs_layout.proofs.Words.{open_part, is_mixed, is_no_digit, numbers, Block, Now, seeking, inside, lost}
 use Rattle.pfs_layout.proofs.Words.{standing, Stand, stand_after, mixed_line, wrong_size, last_number_ended, line_ended}
-use Rattle.pfs_layout.proofs.Words.{has_numbers_alone, number_of, event_of, blocks_after, is_live, FollowsLine}
+use Rattle.pfs_layout.proofs.Words.{has_numbers_alone, number_of, judged, is_live, FollowsLine}
 use Rattle.pfs_layout.proofs.Words.{FollowsNow, FollowsBlocks, digits_value, length_push, by_push, are_due, ◌⊎◌}
 use Rattle.pfs_layout.proofs.Words.{common_steps, Memory, Phase, no_numbers}
 use Rattle.pfs_layout.proofs.Words.{number_ended, HoldsNumbers}
-use Rattle.pfs_layout.specs.Private.Step.{Keeps, number_ended_in}
+use Rattle.pfs_layout.specs.Private.Step.{number_ended_in}
 use Rattle.std.proofs.lemmas.Bool.{or_right}
 use Rattle.pfs_layout.specs.declared.blocks.Phase.TheVariants as phases
 use Rattle.pfs_layout.proofs.Files.GoodLemmas.{GoodNow, fault_within_limit, wrong_number_is, line_numbers}
@@ -22,6 +22,17 @@ use Rattle.pfs_layout.proofs.Reading.LineSteps.{sought_line, body_line}
 use Rattle.pfs_layout.specs.declared.scan.Number.{Number}
 
 -- ---- what the judgement of a number leaves as it is
+
+pub record Keeps (old new : Blocks) : Type 0 where
+  pub layout : new.layout ≡ old.layout
+  pub wanted : new.wanted ≡ old.wanted
+  pub complete : new.complete ≡ old.complete
+  pub line : new.line ≡ old.line
+  pub sought : new.phase ≡ phases.Seeking → old.phase ≡ phases.Seeking
+  pub held : new.phase ≡ phases.Seeking → new.held ≡ old.held
+  pub few : new.size_line.count ≤ old.size_line.count + 1
+  pub five : length new.size_line.values ≡ length old.size_line.values
+  pub memory : new.phase ≢ phases.Refused Memory
 
 pub live-memory : (phase : Phase) → is_live phase ≡ true → phase ≢ phases.Refused Memory
 live-memory phase live e = grind arith
@@ -72,14 +83,10 @@ abbrev pub FollowsText : Blocks → List ℕ → List Block → Now → Type 0
 FollowsText r text complete now =
     FollowsBlocks (list_any is_word_byte (open_line text)) r (standing complete now) (ended_numbers (open_line text))
 
-module _ (r : Blocks) (last : Line) (b : ℕ) where
-  abbrev pub judged : Blocks
-  judged = blocks_after r (event_of last b)
-
-  pub judged_gap : (is_blank b || is_line_end b) ≡ true
-      → judged ≡ (let behind = last_number_ended r (number_of last.digits) in
-      if is_line_end b then line_ended behind (has_numbers_alone last.kinds) else behind)
-  judged_gap gap = grind (arith, nat_tests)
+pub judged_gap : (r : Blocks) (last : Line) (b : ℕ) → (is_blank b || is_line_end b) ≡ true
+    → judged r last b ≡ (let behind = last_number_ended r (number_of last.digits) in
+    if is_line_end b then line_ended behind (has_numbers_alone last.kinds) else behind)
+judged_gap r last b gap = grind (arith, nat_tests)
 
 -- the outcome of a byte on the line
 abbrev pub FollowsOn : Blocks → Line → List ℕ → ℕ → List Block → Now → Type 0

@@ -1,7 +1,7 @@
 -- No more times are held than the wanted block has.
 use Rattle.pfs_layout.proofs.Words.{◌≡◌, ℕ, ◌≤◌, List, [], ◌∷◌, ◌++◌, length, take, drop, refl, sym, arith, Option}
 use Rattle.pfs_layout.proofs.Words.{Some, None, inl, inr, Result, Ok, Err, slice_get, All, nat_tests}
-use Rattle.pfs_layout.proofs.Words.{append_assoc, append-nil, take-append-drop, by_push, Layout, LayoutFault, Memory}
+use Rattle.pfs_layout.proofs.Words.{append_assoc, append-nil, by_push, Layout, LayoutFault, Memory}
 use Rattle.pfs_layout.proofs.Words.{Phase, Progress, ended_lines, ended_numbers, due_count, Block, Now, seeking, inside}
 use Rattle.pfs_layout.proofs.Words.{lost, stand_after, stand, byte_fault, Fields, block_begun_by, block_read}
 use Rattle.pfs_layout.proofs.Words.{time_count, HoldsFew, StandsIn, FeedMeets}

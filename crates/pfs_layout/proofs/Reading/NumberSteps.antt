@@ -2,13 +2,13 @@
 use Rattle.pfs_layout.proofs.Words.{◌≡◌, ◌≢◌, ℕ, ◌+◌, ◌*◌, ◌%◌, ◌<◌, List, [], ◌∷◌, ◌++◌, length, get_or, refl, sym}
 use Rattle.pfs_layout.proofs.Words.{◌∙◌, arith, common_steps, length-replicate, length-set, same_from_place, mul-add-lt}
 use Rattle.pfs_layout.proofs.Words.{rows, with_time, Layout, OrLib, Size, place_of_time}
-use Rattle.pfs_layout.proofs.Words.{instance_of, ◌≤◌, min, Bool, true, false, ap, Option, Some, None, if◌then◌else◌}
-use Rattle.pfs_layout.proofs.Words.{◌==◌, inl, inr, option_map, cases_Bool, eqb-true, ne_eqb, cases_eq, cases_lt}
-use Rattle.pfs_layout.proofs.Words.{eq-eqb, le-ltb, lt-ltb, nat_tests, length_push, append_assoc, length-append}
+use Rattle.pfs_layout.proofs.Words.{instance_of, min, Bool, true, ap, Option, Some, None, if◌then◌else◌}
+use Rattle.pfs_layout.proofs.Words.{◌==◌, inl, inr, option_map, cases_Bool, eqb-true, ne_eqb}
+use Rattle.pfs_layout.proofs.Words.{lt-ltb, nat_tests, length_push, append_assoc, length-append}
 use Rattle.pfs_layout.proofs.Words.{mod-mul-add, Problem, CEILING, SizeLine, is_due}
 use Rattle.pfs_layout.proofs.Words.{due_at, Stand, Block, Now, seeking, inside, lost, standing, refused}
 use Rattle.pfs_layout.proofs.Words.{body_judged, number_ended, time_count, HoldsNumbers}
-use Rattle.pfs_layout.proofs.Words.{FollowsBody, is_live, block_begun_by, block_of, FollowsBlocks, LONGEST_TIME}
+use Rattle.pfs_layout.proofs.Words.{FollowsBody, is_live, block_begun_by, block_of, FollowsBlocks}
 use Rattle.pfs_layout.proofs.Words.{LayoutFault, Blocks, misfit}
 use Rattle.std.proofs.Math.ListN.{set}
 use Rattle.std.proofs.Math.Nat.{mul_comm}

@@ -1,61 +1,52 @@
 -- What a reader owes for a piece.
 use Rattle.pfs_layout.proofs.Words.{nat_tests, ◌≡◌, ◌≢◌, ℕ, ◌+◌, ◌<◌, ◌≤◌, true, not, ◌&&◌, List, [], ◌∷◌, ◌++◌, length}
 use Rattle.pfs_layout.proofs.Words.{take, get_or, refl, ◌∙◌, arith, inl, inr, ◌-◌, cases_eq, append_assoc}
-use Rattle.pfs_layout.proofs.Words.{LONGEST_INPUT, Memory, Line, Blocks, is_word_byte, is_digit, is_blank, and_parts}
-use Rattle.pfs_layout.proofs.Words.{number_of, event_of, blocks_after, IsReady, is_live, Fields, fields, Follows}
-use Rattle.pfs_layout.proofs.Words.{StandsAfter, EndsWantedSize, ◌↔◌, Bool, false, drop, sym, ap, subst, add-one, Some}
-use Rattle.pfs_layout.proofs.Words.{None, Ok, Err, Result, append-nil, length-append, take_all, take-append-drop}
+use Rattle.pfs_layout.proofs.Words.{LONGEST_INPUT, Memory, Line, Blocks, is_digit, is_blank}
+use Rattle.pfs_layout.proofs.Words.{number_of, judged, IsReady, is_live, Fields, fields, Follows}
+use Rattle.pfs_layout.proofs.Words.{StandsAfter, EndsWantedSize, ◌↔◌, Bool, false, drop, sym, ap, subst, Some}
+use Rattle.pfs_layout.proofs.Words.{None, Ok, Err, append-nil, take_all, take-append-drop}
 use Rattle.pfs_layout.proofs.Words.{LayoutFault, TooLong, Phase, byte_fault, refused}
-use Rattle.pfs_layout.proofs.Words.{block_read, number_ended, StandsIn, IsReader, FeedMeets}
-use Rattle.pfs_layout.specs.Private.Take.{TakeMeets}
+use Rattle.pfs_layout.proofs.Words.{block_read, number_ended, StandsIn, IsReader, FeedMeets, Option, last_number_ended}
+use Rattle.pfs_layout.specs.declared.scan.Number.{Number}
+use Rattle.pfs_layout.specs.Private.Step.{TakeMeets}
 use Rattle.std.proofs.lemmas.List.{take_more, take-take, length-take-le, get_or-take}
-use Rattle.pfs_layout.specs.declared.scan.Event.{Event}
-use Rattle.pfs_layout.specs.declared.scan.Event.TheVariants as events
 use Rattle.pfs_layout.specs.declared.blocks.Phase.TheVariants as phases
-use Rattle.pfs_layout.specs.Private.Step.{Pushes, blank_event, KeepsHeld, LacksMemory}
+use Rattle.pfs_layout.specs.Private.Step.{Pushes, LacksMemory}
 use Rattle.pfs_layout.proofs.Files.GoodLemmas.{stand_of, long_fault, sound}
 use Rattle.pfs_layout.proofs.Reading.ReaderSteps.{carries, live_follows, step_stands, follows_ready}
 use Rattle.pfs_layout.proofs.Reading.ReaderSteps.{wants_more, sought_now, begun_now}
-use Rattle.pfs_layout.proofs.Reading.ByteSteps.{live-memory, refused_memory, judged, live_few}
-use Rattle.std.proofs.Math.Seq.{drop-cons}
+use Rattle.pfs_layout.proofs.Reading.ByteSteps.{live-memory, refused_memory, live_few}
 use Rattle.pfs_layout.specs.Reader.{IsRefused, progress_of}
 use Rattle.pfs_layout.proofs.Published.PlaceLemmas.{byte_fault-push}
 use Rattle.pfs_layout.proofs.Files.InputFaults.{of_place}
 use Rattle.pfs_layout.proofs.Files.VerdictLemmas.{faultless_behind}
 use Rattle.pfs_layout.proofs.Files.EndLemmas.{byte_fault-more}
 
--- ---- what a byte means
-
--- a digit that doesn't mix the line means nothing
-pub quiet_digit : {last after : Line} {b : ℕ} → Pushes last b after → (is_digit b && not last.kinds.has_word) ≡ true
-    → events.Quiet ≡ event_of last b
-quiet_digit on e = grind arith
-
 -- only a line's end begins a block
-ends_line_at : (r : Blocks) (last : Line) (b : ℕ) → LacksMemory r (judged r last b) → b ≡ 10
+ends_line_at : (r new : Blocks) (last : Line) (b : ℕ) → LacksMemory r (judged r last b) new → b ≡ 10
 unfolding number_ended
-ends_line_at r last b lacks = grind (arith, nat_tests, lacks)
+ends_line_at r new last b lacks = grind (arith, nat_tests, lacks.sought, lacks.begins)
 
 -- ---- the end of the wanted block's size line
 
-wanted_size : {r : Fields} {text : List ℕ} {after : Line} (b : ℕ) → Follows r text → is_live r.phase ≡ true
-    → length text < LONGEST_INPUT → Pushes r.last b after → LacksMemory r.blocks (judged r.blocks r.last b)
-    → EndsWantedSize r.layout r.wanted text b
-wanted_size {r = r} {text = text} {after = after} b f live short pushes lacks =
+wanted_size : {r : Fields} {new : Blocks} {text : List ℕ} {after : Line} (b : ℕ) → Follows r text
+    → is_live r.phase ≡ true → length text < LONGEST_INPUT → Pushes r.last b after
+    → LacksMemory r.blocks (judged r.blocks r.last b) new → EndsWantedSize r.layout r.wanted text b
+wanted_size {r = r} {new = new} {text = text} {after = after} b f live short pushes lacks =
     let next : Fields = fields after (judged r.blocks r.last b) in
     let follows = live_follows next (text ++ b ∷ []) (rw lacks.begins) (step_stands b f live short pushes) in
     let begun = begun_now follows lacks.begins in
     record {
       short = short;
-      line_end = ends_line_at r.blocks r.last b lacks;
+      line_end = ends_line_at r.blocks new r.last b lacks;
       last = omega (arith, f.blocks.complete, lacks.wanted);
       sought = sought_now f lacks.sought;
       begun = (begun.0, cc (begun.1, (carries r.blocks r.last b live).layout));
     }
 
 -- no time is held before the wanted block's size line ends
-none_yet : {r next : Blocks} {last : Line} {text : List ℕ} → Follows (fields last r) text → LacksMemory r next
-    → r.held ≡ 0
+none_yet : {r next new : Blocks} {last : Line} {text : List ℕ} → Follows (fields last r) text
+    → LacksMemory r next new → r.held ≡ 0
 none_yet f lacks = grind (arith, f.blocks.complete, f.blocks.held, sought_now f lacks.sought, lacks.wanted)
 
 -- ---- within a piece
@@ -72,6 +63,17 @@ pub record TakenTo (old now : Fields) (piece : List ℕ) (i : ℕ) : Type 0 wher
 
 -- ---- one byte more, within the limit
 
+module _ {old now : Fields} {piece : List ℕ} {i : ℕ} (t : TakenTo old now piece i) where
+  -- a digit that doesn't mix the line means nothing
+  pub digit_judged : (is_digit (get_or piece i 0) && not now.kinds.has_word) ≡ true
+      → now.blocks ≡ judged now.blocks now.last (get_or piece i 0)
+  digit_judged quiet = grind (arith, nat_tests)
+
+  -- a blank ends the last number, if there is one
+  pub blank_judged : {number : Option Number} → is_blank (get_or piece i 0) ≡ true → number ≡ number_of now.digits
+      → last_number_ended now.blocks number ≡ judged now.blocks now.last (get_or piece i 0)
+  blank_judged blank is = rw (blank, is)
+
 module _ {old now : Fields} {piece : List ℕ} {i : ℕ} (t : TakenTo old now piece i) (within : i < length piece)
     (room : old.digits.offset + length piece ≤ LONGEST_INPUT) where
   no_more_then : (text : List ℕ) → StandsAfter old text → (n : ℕ) → n < i + 1
@@ -84,26 +86,25 @@ module _ {old now : Fields} {piece : List ℕ} {i : ℕ} (t : TakenTo old now pi
   short text s = let f = t.follows text s in omega (arith, f.last_line.offset, t.offset)
 
   pub taken_ready : (text : List ℕ) × StandsAfter old text → IsReady now.blocks
-  taken_ready some = follows_ready (t.follows some.0 some.1) t.live (short some.0 some.1)
+  taken_ready some = follows_ready (t.follows some.0 some.1) t.live
 
-  module _ {after : Line} {next : Blocks} {event : Event} (on : Pushes now.last (get_or piece i 0) after)
-      (means : event ≡ event_of now.last (get_or piece i 0))
-      (judges : next.phase ≢ phases.Refused Memory → next ≡ blocks_after now.blocks event) where
+  module _ {after : Line} {next : Blocks} (on : Pushes now.last (get_or piece i 0) after)
+      (judges : next.phase ≢ phases.Refused Memory → next ≡ judged now.blocks now.last (get_or piece i 0)) where
     -- but for want of memory, the blocks are those behind the byte
     well_then : next.phase ≢ phases.Refused Memory → (next.layout ≡ old.layout) × (next.wanted ≡ old.wanted)
         × ((text : List ℕ) → StandsAfter old text → StandsAfter (fields after next) (text ++ take (i + 1) piece))
     well_then well =
         let c = carries now.blocks now.last (get_or piece i 0) t.live in
-        rw (judges well, means) (
+        rw (judges well) (
           c.layout ∙ t.layout,
           c.wanted ∙ t.wanted,
           λ text s. rw (take_more piece i 0 within, ← append_assoc)
               (step_stands (get_or piece i 0) (t.follows text s) t.live (short text s) on),
         )
 
-    -- an event on
-    pub taken_event : is_live next.phase ≡ true → TakenTo old (fields after next) piece (i + 1)
-    taken_event live =
+    -- a byte on
+    pub taken_on : is_live next.phase ≡ true → TakenTo old (fields after next) piece (i + 1)
+    taken_on live =
         let then = well_then (live-memory next.phase live) in
         record {
           live = live;
@@ -114,11 +115,12 @@ module _ {old now : Fields} {piece : List ℕ} {i : ℕ} (t : TakenTo old now pi
           no_more = no_more_then;
         }
 
-    -- the last event
-    pub taken_end : (next.phase ≡ phases.Refused Memory → LacksMemory now.blocks (blocks_after now.blocks event))
-        → (next.phase ≡ phases.Refused Memory → KeepsHeld now.blocks next) → (text : List ℕ) → StandsAfter old text
+    -- the last byte
+    pub taken_end : (next.phase ≡ phases.Refused Memory
+        → LacksMemory now.blocks (judged now.blocks now.last (get_or piece i 0)) next)
+        → (text : List ℕ) → StandsAfter old text
         → TakeMeets old text piece (after.digits.offset - old.digits.offset) (fields after next)
-    taken_end wants keeps text s =
+    taken_end wants text s =
         let used : after.digits.offset - old.digits.offset ≡ i + 1 = omega (arith, t.offset, on.offset) in
         rw used (elim (refused_memory next.phase) [
           | inr well ↦
@@ -132,24 +134,23 @@ module _ {old now : Fields} {piece : List ℕ} {i : ℕ} (t : TakenTo old now pi
                 no_more = no_more_then text s;
               }
           | inl refused ↦
-              let lacks = rw means at (wants refused) in
-              let kept = keeps refused in
+              let lacks = wants refused in
               let f = t.follows text s in
               let size = wanted_size (get_or piece i 0) f t.live (short text s) on lacks in
               record {
-                layout = kept.layout ∙ t.layout;
-                wanted = kept.wanted ∙ t.wanted;
+                layout = ap (λ r. r.layout) lacks.keeps ∙ t.layout;
+                wanted = ap (λ r. r.wanted) lacks.keeps ∙ t.wanted;
                 stands = λ well. absurd (well refused);
                 memory = λ h. (i, within, rw (t.layout, t.wanted) at size);
-                none = λ h. kept.held ∙ none_yet f lacks;
+                none = λ h. ap (λ r. r.held) lacks.keeps ∙ none_yet f lacks;
                 no_more = no_more_then text s;
               }
         ])
 
   -- a byte that means nothing
   pub taken_quiet : {after : Line} → Pushes now.last (get_or piece i 0) after
-      → events.Quiet ≡ event_of now.last (get_or piece i 0) → TakenTo old (fields after now.blocks) piece (i + 1)
-  taken_quiet on means = taken_event on means (λ well. refl) t.live
+      → now.blocks ≡ judged now.blocks now.last (get_or piece i 0) → TakenTo old (fields after now.blocks) piece (i + 1)
+  taken_quiet on same = taken_on on (λ well. same) t.live
 
 -- ---- behind a fault, and behind the wanted block
 

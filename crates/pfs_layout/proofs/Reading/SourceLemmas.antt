@@ -1,10 +1,10 @@
 -- A reader that reads pieces of a source.
-use Rattle.pfs_layout.proofs.Words.{◌≡◌, ◌≢◌, ℕ, ◌<◌, ◌≤◌, true, false, List, [], ◌++◌, length, take, drop, refl, sym}
+use Rattle.pfs_layout.proofs.Words.{◌≡◌, ◌≢◌, ℕ, ◌<◌, ◌≤◌, true, false, List, [], ◌++◌, length, take, drop, refl}
 use Rattle.pfs_layout.proofs.Words.{◌∙◌, subst, arith, Option, Some, None, inl, inr, Bool, ap, Result, Ok, Err}
 use Rattle.pfs_layout.proofs.Words.{slice_index, ◌↔◌, result_err, append_assoc, take_all, limits, Problem, Layout}
 use Rattle.pfs_layout.proofs.Words.{LayoutFault, Read, Memory, Phase, Progress, IsInstanceFile, RefusesInstance}
 use Rattle.pfs_layout.proofs.Words.{is_live, Fields, Follows, StandsIn, StandsAfter, EndsWantedSize, FeedMeets}
-use Rattle.pfs_layout.proofs.Words.{FinishMeets, Reading}
+use Rattle.pfs_layout.proofs.Words.{FinishMeets}
 use Rattle.std.specs.Prelude.{IfSome}
 use Rattle.std.specs.Io.KnownBytes.{Keeps, Consumes}
 use Rattle.pfs_layout.specs.declared.blocks.Phase.TheVariants as phases
@@ -54,6 +54,15 @@ live_then {new} {front} {piece} m still stands = by_phase new.phase refl stands
     by_phase phase e s = refl
 
 -- the reader is handed a piece that its source has given
+-- a reader of the block that has read a front of what its source had left at first, where that is told
+pub record Reading (layout : Layout) (k : ℕ) (first left : Option (List ℕ)) (r : Fields) : Type 0 where
+  pub layout_is : r.layout ≡ layout
+  pub wanted_is : r.wanted ≡ k
+  pub live : is_live r.phase ≡ true
+  pub front : List ℕ
+  pub stands : StandsAfter r front
+  pub told : (text : List ℕ) → first ≡ Some text → (rest : List ℕ) × (left ≡ Some rest) × (text ≡ front ++ rest)
+
 module _ {layout : Layout} {k : ℕ} {first left : Option (List ℕ)} {r : Fields} (t : Reading layout k first left r)
     (next : Option (List ℕ)) (piece : List ℕ) (c : Consumes left next piece) where
   -- what is left of the bytes, where they are told
