@@ -33,15 +33,7 @@ ends : (next : Blocks) (complete : List Block) (now : Now) (tail : List (List �
     → IsTail next.layout now tail → FollowsBlocks false next (standing complete now) []
     → (missing next.layout next.wanted (length complete) now ≡ end_fault next) × (end_fault next ≡ None
     → next.instance ≡ option_map (instance_of next.layout) (slice_get complete (next.wanted - 1)))
-ends next complete seeking tail is f =
-    let phase = f.now.phase in
-    (grind (arith, nat_tests, f.complete), λ none. grind (arith, nat_tests, f.complete, f.instance))
-ends next complete (inside block) tail is f =
-    let less : next.body.judged < next.body.due = omega (arith, is.short) in
-    let phase : next.phase ≡ phases.Body = f.now.phase ∙ rw (lt-ltb _ _ less) in
-    let count : next.body.judged ≡ length block.numbers = omega arith in
-    (rw (← count, phase), λ none. let some = rw phase at none in absurd (cc))
-ends next complete lost tail is f = absurd f.now
+ends next complete now tail is f = grind (arith, nat_tests, f.complete, f.instance, f.now)
 
 -- the reader's fault is that of the input, and if there is none its instance is that of the input
 record EndOutcome (r : Fields) (text : List ℕ) : Type 0 where
@@ -65,24 +57,14 @@ live_end r text f live =
     rw (refusal_end r.layout r.wanted text, f.sound, lt-ltb _ _ few)
     (end_faults r.layout r.wanted before.now text good) in
     elim (cases_option found) [
-      | inr one ↦
-          let refuses = rw one.1 at outcome in
-          record {
-            some = f.some;
-            fault = rw (live, faults, one.1, refuses.phase);
-            instance = λ none. let some = rw (live, refuses.phase) at none in absurd (cc);
-          }
+      | inr one ↦ let refuses = rw one.1 at outcome in grind (arith, f.some, faults, one.1, refuses.phase)
       | inl none ↦
           let keeps = carries r.blocks r.last 10 live in
           let m = made r.layout (lines text) in
           let follows = rw (none, ← stand_lines r.layout text good) at outcome in
           let early = rw (keeps.layout, keeps.wanted) at
           (ends (judged r.blocks r.last 10) end.complete end.now m.tail (rw keeps.layout m.fits) follows) in
-          record {
-            some = f.some;
-            fault = rw (live, faults, none) early.0;
-            instance = rw live (λ z. grind (arith, early.1 z));
-          }
+          grind (arith, f.some, faults, early)
     ]
 
 end_outcome : (r : Fields) (text : List ℕ) → StandsAfter r text → EndOutcome r text
@@ -95,18 +77,10 @@ end_outcome r text s = by_phase r.phase refl s
         let enough = done_enough r text f e in
         let none = enough_right r.layout r.wanted text None enough in
         let stays = rw append-nil at (block_stays r.layout text [] (r.wanted - 1) (omega (arith, f.some))) in
-        record {
-          some = f.some;
-          fault = rw (e, refusal_end r.layout r.wanted text, f.sound, none);
-          instance = λ none. rw (e, stays, f.blocks.instance, le-ltb _ r.wanted enough);
-        }
+        grind (arith, refusal_end r.layout r.wanted text, f, none, stays, le-ltb _ r.wanted enough)
     by_phase (phases.Refused fault) e f =
         let fine = enough_right r.layout r.wanted f.front (Some f.byte) in
-        record {
-          some = grind (arith, fine, f.here);
-          fault = rw (e, refusal_end r.layout r.wanted text, refused_fault r text fault f);
-          instance = λ none. let some = rw e at none in absurd (cc);
-        }
+        grind (arith, fine, f.here, refusal_end r.layout r.wanted text, refused_fault r text fault f)
     by_phase phase e f = live_end r text f (rw e)
 
 -- ---- the verdict

@@ -45,13 +45,8 @@ wanted_size {r = r} {text = text} {after = after} b f live short pushes lacks =
     let next : Fields = fields after (judged r.blocks r.last b) in
     let follows = live_follows next (text ++ b ∷ []) (rw lacks.begins) (step_stands b f live short pushes) in
     let begun = begun_now follows lacks.begins in
-    record {
-      short = short;
-      line_end = ends_line_at r.blocks r.last b lacks;
-      last = omega (arith, f.blocks.complete, lacks.wanted);
-      sought = sought_now f lacks.sought;
-      begun = (begun.0, cc (begun.1, (carries r.blocks r.last b live).layout));
-    }
+    let line = ends_line_at r.blocks r.last b lacks in
+    grind (arith, f.blocks.complete, lacks, sought_now f lacks.sought, begun, carries r.blocks r.last b live)
 
 -- no time is held before the wanted block's size line ends
 none_yet : {r next : Blocks} {last : Line} {text : List ℕ} → Follows (fields last r) text → LacksMemory r next
@@ -120,30 +115,15 @@ module _ {old now : Fields} {piece : List ℕ} {i : ℕ} (t : TakenTo old now pi
         → TakeMeets old text piece (after.digits.offset - old.digits.offset) (fields after next)
     taken_end wants keeps text s =
         let used : after.digits.offset - old.digits.offset ≡ i + 1 = omega (arith, t.offset, on.offset) in
+        let no_more = no_more_then text s in
         rw used (elim (refused_memory next.phase) [
-          | inr well ↦
-              let then = well_then well in
-              record {
-                layout = then.0;
-                wanted = then.1;
-                stands = λ h. then.2 text s;
-                memory = λ h. absurd (well h);
-                none = λ h. absurd (well h);
-                no_more = no_more_then text s;
-              }
+          | inr well ↦ let then = well_then well in grind (arith, then, no_more)
           | inl refused ↦
               let lacks = rw means at (wants refused) in
               let kept = keeps refused in
               let f = t.follows text s in
               let size = wanted_size (get_or piece i 0) f t.live (short text s) on lacks in
-              record {
-                layout = kept.layout ∙ t.layout;
-                wanted = kept.wanted ∙ t.wanted;
-                stands = λ well. absurd (well refused);
-                memory = λ h. (i, within, rw (t.layout, t.wanted) at size);
-                none = λ h. kept.held ∙ none_yet f lacks;
-                no_more = no_more_then text s;
-              }
+              grind (arith, kept, t, size, none_yet f lacks, no_more)
         ])
 
   -- a byte that means nothing
@@ -201,17 +181,8 @@ module _ {old new : Fields} {text piece : List ℕ} {used : ℕ} (m : TakeMeets 
       → byte_fault new.layout new.wanted (text ++ piece) ≡ None → (done : Bool) → (done ≡ false → used ≡ length piece)
       → (done ≡ true ↔ (new.phase ≡ phases.Done))
       → FeedMeets old text piece (Ok (record { used = used; done = done })) new
-  fine_meets within no_memory right done whole ended = record {
-    ok = (within, m.stands no_memory);
-    layout = m.layout;
-    wanted = m.wanted;
-    whole = whole;
-    done = ended;
-    no_more = m.no_more;
-    refused = tt;
-    exact = let here = rw (m.layout, m.wanted) at right in λ h fault. (λ z. cc, λ z. cc);
-    memory = λ h. absurd (cc);
-  }
+  fine_meets within no_memory right done whole ended =
+      let here = rw (m.layout, m.wanted) at right in grind (arith, m)
 
   pub feed_of : used ≤ length piece → (is_live new.phase ≡ true → used ≡ length piece)
       → FeedMeets old text piece (progress_of new.phase used) new
@@ -238,31 +209,14 @@ module _ {old new : Fields} {text piece : List ℕ} {used : ℕ} (m : TakeMeets 
           let stood : fault ≢ Memory → IsRefused new (text ++ piece) fault = λ other.
           let here = subst (λ p. StandsIn p new taken) e (m.stands (λ z. other (cc))) in
           rw (whole_text text piece used) (refused_more new taken (drop used piece) fault here) in
-          record {
-            ok = tt;
-            layout = m.layout;
-            wanted = m.wanted;
-            whole = tt;
-            done = tt;
-            no_more = tt;
-            refused = λ other. subst (λ p. StandsIn p new (text ++ piece)) (sym e) (stood other);
-            exact = λ other found.
-                let is = refused_fault new (text ++ piece) fault (stood (λ z. other (ap Err z))) in
-                let here = rw (m.layout, m.wanted) at is in (λ z. cc, λ z. cc);
-            memory = λ h. m.memory (cc);
-          }
+          let told : fault ≢ Memory → byte_fault old.layout old.wanted (text ++ piece) ≡ Some fault =
+          λ other. rw (m.layout, m.wanted) at (refused_fault new (text ++ piece) fault (stood other)) in
+          grind (arith, m.memory, m.layout, m.wanted, stood, told)
       by_phase phase e = live_meets (rw e)
 
 -- a reader that wants no byte takes none
 pub idle_meets : (r : Fields) (text piece : List ℕ) → StandsAfter r text → TakeMeets r text piece 0 r
-idle_meets r text piece s = record {
-  layout = refl;
-  wanted = refl;
-  stands = λ h. rw append-nil s;
-  memory = λ h. absurd (memory_nowhere r text h s);
-  none = λ h. absurd (memory_nowhere r text h s);
-  no_more = λ n less. absurd (omega arith);
-}
+idle_meets r text piece s = grind (arith, memory_nowhere r text, append-nil {A = ℕ})
 
 -- ---- a piece that passes the limit
 
@@ -270,18 +224,7 @@ idle_meets r text piece s = record {
 pub front_meets : {old new : Fields} {text : List ℕ} {used : ℕ} (piece : List ℕ) (room : ℕ)
     → TakeMeets old text (take room piece) used new → room ≤ length piece → used ≤ room
     → TakeMeets old text piece used new
-front_meets {used = used} piece room m within few = record {
-  layout = m.layout;
-  wanted = m.wanted;
-  stands = λ h. rw (take-take used room piece few) at (m.stands h);
-  memory = λ h.
-      let end = m.memory h in
-      let less : end.0 < room = omega (arith, end.1, length-take-le room piece within) in
-      let same = get_or-take room piece end.0 0 less in
-      (end.0, omega arith, rw (take-take end.0 room piece (omega arith), same) at end.2);
-  no_more = λ n less. rw (take-take n room piece (omega arith)) at (m.no_more n less);
-  none = m.none;
-}
+front_meets piece room m within few = grind (arith, m, take-take, get_or-take, length-take-le)
 
 -- where all of a front up to the limit was taken, the byte behind it is refused
 pub long_meets : {old mid : Fields} {text : List ℕ} {used : ℕ} (piece : List ℕ) (room : ℕ)
@@ -289,25 +232,14 @@ pub long_meets : {old mid : Fields} {text : List ℕ} {used : ℕ} (piece : List
     → room < length piece → is_live mid.phase ≡ true
     → TakeMeets old text piece (room + 1) (fields mid.last (refused mid.blocks TooLong))
 unfolding block_read
-long_meets {mid = mid} {text = text} piece room m all full within live =
+long_meets {old = old} {mid = mid} {text = text} piece room m all full within live =
     let front = front_meets piece room m (omega arith) (omega arith) in
     let taken : List ℕ = text ++ take room piece in
     let follows = live_follows mid taken live (rw all at (front.stands (live-memory mid.phase live))) in
     let wants = live_wants mid taken follows live in
     let good = (sound mid.layout mid.wanted taken follows.sound wants).1 in
-    record {
-      layout = m.layout;
-      wanted = m.wanted;
-      stands = λ other. record {
-        front = taken;
-        byte = get_or piece room 0;
-        rest = [];
-        whole = rw (take_more piece room 0 within, append_assoc);
-        sound = follows.sound;
-        here = long_fault mid.layout mid.wanted taken _ wants good (sym follows.last_line.offset ∙ full);
-        held = follows.blocks.held;
-      };
-      memory = λ h. absurd (cc);
-      none = λ h. absurd (cc);
-      no_more = λ n less. grind (arith, cases_eq n room, front.no_more n, rw (m.layout, m.wanted) at wants);
-    }
+    let size = sym follows.last_line.offset ∙ full in
+    let here = long_fault mid.layout mid.wanted taken (get_or piece room 0) wants good size in
+    let whole : text ++ take (room + 1) piece ≡ taken ++ get_or piece room 0 ∷ [] =
+    rw (take_more piece room 0 within, append_assoc) in
+    grind (arith, m, front.no_more, cases_eq, follows.sound, follows.blocks.held)

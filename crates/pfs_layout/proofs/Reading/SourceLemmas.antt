@@ -9,7 +9,8 @@ use Rattle.std.specs.Prelude.{IfSome}
 use Rattle.std.specs.Io.KnownBytes.{Keeps, Consumes}
 use Rattle.pfs_layout.specs.declared.blocks.Phase.TheVariants as phases
 use Rattle.pfs_layout.specs.declared.reader.TheConstants.{PIECE}
-use Rattle.pfs_layout.specs.Reader.{IsUndecided, ReadsAsFar}
+use Rattle.pfs_layout.specs.Reader.{IsUndecided, ReadsAsFar, IsRefused}
+use Rattle.pfs_layout.proofs.Words.{byte_fault}
 use Rattle.pfs_layout.proofs.Options.{cases_option}
 use Rattle.pfs_layout.proofs.Files.EndLemmas.{fault_stays, free_behind}
 use Rattle.pfs_layout.proofs.Reading.PieceLemmas.{whole_text, refused_fault, done_enough, live_wants}
@@ -37,21 +38,17 @@ feed_named {r} {text} {piece} meets fault no_memory other e =
 
 -- what never holds, exactly where a device that works has failed
 pub never_failed : {P : Type 0} {failed : Bool} → failed ≡ false → ¬ P → P ↔ (failed ≡ true)
-never_failed working never = (λ p. absurd (never p), λ e. absurd (both_ways _ working e))
+never_failed working never = grind arith
 
 -- ---- pieces
 
 -- a reader that went on and isn't done is live
 live_then : {r new : Fields} {front piece : List ℕ} {progress : Progress} → FeedMeets r front piece (Ok progress) new
     → progress.done ≡ false → StandsAfter new (front ++ piece) → is_live new.phase ≡ true
-live_then {new} {front} {piece} m still stands = by_phase new.phase refl stands
-  where
-    by_phase : (p : Phase) → new.phase ≡ p → StandsIn p new (front ++ piece) → is_live p ≡ true
-    by_phase phases.Done e s = cc (m.done.1 e)
-    by_phase (phases.Refused fault) e s =
-        let is = rw (m.layout, m.wanted) at (refused_fault new (front ++ piece) fault s) in
-        cc ((m.exact (λ z. cc) fault).1 is)
-    by_phase phase e s = refl
+live_then {new} {front} {piece} m still stands =
+    let no_fault : (fault : LayoutFault) → byte_fault new.layout new.wanted (front ++ piece) ≢ Some fault =
+    λ fault e. cc ((m.exact (λ z. cc) fault).1 (rw (m.layout, m.wanted) at e)) in
+    grind (arith, m.done, no_fault, refused_fault new (front ++ piece), stands)
 
 -- the reader is handed a piece that its source has given
 module _ {layout : Layout} {k : ℕ} {first left : Option (List ℕ)} {r : Fields} (t : Reading layout k first left r)
@@ -74,14 +71,7 @@ module _ {layout : Layout} {k : ℕ} {first left : Option (List ℕ)} {r : Field
   reading_more {new} {progress} m still =
       let all = take_all progress.used piece (omega (arith, m.whole still)) in
       let stands : StandsAfter new (t.front ++ piece) = rw all at m.ok.1 in
-      record {
-        layout_is = m.layout ∙ t.layout_is;
-        wanted_is = m.wanted ∙ t.wanted_is;
-        live = live_then m still stands;
-        front = t.front ++ piece;
-        stands = stands;
-        told = behind;
-      }
+      grind (arith, m, t, stands, live_then m still stands, behind)
 
   -- the piece has a fault
   pub reading_fault : {new : Fields} {fault : LayoutFault} → FeedMeets r t.front piece (Err fault) new → fault ≢ Memory
