@@ -22,33 +22,23 @@ IsFew layout o = time_count layout o ≤ most_times o
 -- ---- complete blocks
 
 -- none of them has more times than its size says
-AreFew : Layout → List Block → Type 0
+abbrev AreFew : Layout → List Block → Type 0
 AreFew layout blocks = All (λ block. IsFew layout (Some block)) blocks
 
-few_push : (layout : Layout) (blocks : List Block) (block : Block) → AreFew layout blocks
-    → length block.numbers ≡ due_count layout block.size → AreFew layout (blocks ++ block ∷ [])
-unfolding AreFew
-few_push layout blocks block all full =
-    All-push (λ block. IsFew layout (Some block)) blocks block all (grind arith)
-
 few_at : (layout : Layout) (blocks : List Block) (i : ℕ) → AreFew layout blocks → IsFew layout (slice_get blocks i)
-unfolding AreFew
 few_at layout blocks i all = grind (arith, slice_get_cases, All-get_or {X = Block} (λ block. IsFew layout (Some block)))
 
 all_few : (layout : Layout) (lines : List (List ℕ)) → AreFew layout (stand layout lines).complete
-unfolding stand stand_after AreFew
+unfolding stand stand_after
 all_few layout = by_push (λ lines. AreFew layout (stand layout lines).complete) (λ k d none. absurd (omega arith))
-    (λ lines line all. rw (stand-push layout lines line) (grind (arith, nat_tests, few_push)))
+    (λ lines line all. rw (stand-push layout lines line)
+    (grind (arith, nat_tests, All-push {X = Block} (λ block. IsFew layout (Some block)))))
 
 -- ---- the wanted block
 
 begun_few : (layout : Layout) (now : Now) (line : List ℕ) → GoodNow layout now line
     → IsFew layout (block_begun_by now (ended_numbers line))
-begun_few layout seeking line good = omega arith
-begun_few layout (inside block) line good =
-    let numbers : List ℕ = block.numbers ++ ended_numbers line in
-    grind (arith, no_more_than_due layout block.size numbers (grind arith))
-begun_few layout lost line good = absurd (cc)
+begun_few layout now line good = grind (arith, no_more_than_due, good)
 
 -- while no byte has a fault, the wanted block has no more times than its size says
 few_times : (layout : Layout) (k : ℕ) (text : List ℕ) → byte_fault layout k text ≡ None
@@ -63,12 +53,8 @@ few_times layout k text right =
 pub few_in : (phase : Phase) (r : Fields) (text : List ℕ) → StandsIn phase r text
     → HoldsFew r.layout r.wanted text r.held
 unfolding block_read
-few_in (phases.Refused fault) r text s =
-    let few = few_times r.layout r.wanted s.front s.sound in
-    record { front = s.front; rest = s.byte ∷ s.rest; whole = s.whole; few = rw s.held few }
-few_in phase r text s =
-    let few = few_times r.layout r.wanted text s.sound in
-    record { front = text; rest = []; whole = sym (append-nil text); few = rw s.blocks.held few }
+few_in (phases.Refused fault) r text s = grind (arith, s, few_times r.layout r.wanted s.front s.sound)
+few_in phase r text s = grind (arith, append-nil text, few_times r.layout r.wanted text s.sound, s.blocks.held)
 
 -- behind a piece
 pub feed_few : (old : Fields) (text piece : List ℕ) (outcome : Result Progress LayoutFault) (new : Fields)
@@ -81,6 +67,6 @@ feed_few old text piece (Ok progress) new m none =
     cc (whole_text text piece progress.used, h.whole, append_assoc h.front h.rest left) in
     record { front = h.front; rest = h.rest ++ left; whole = whole; few = h.few }
 feed_few old text piece (Err fault) new m none = elim (refused_memory (phases.Refused fault)) [
-  | inl memory ↦ record { front = []; rest = text ++ piece; whole = refl; few = rw (none (cc)) (omega arith) }
+  | inl memory ↦ grind arith
   | inr other ↦ rw (m.layout, m.wanted) at (few_in new.phase new (text ++ piece) (m.refused (λ e. other (rw e))))
 ]

@@ -48,7 +48,7 @@ wanted_size {r = r} {text = text} {after = after} b f live short pushes lacks =
     let line = ends_line_at r.blocks r.last b lacks in
     grind (arith, f.blocks.complete, lacks, sought_now f lacks.sought, begun, carries r.blocks r.last b live)
 
--- no time is held before the wanted block's size line ends
+-- no time is held before it ends
 none_yet : {r next : Blocks} {last : Line} {text : List ℕ} → Follows (fields last r) text → LacksMemory r next
     → r.held ≡ 0
 none_yet f lacks = grind (arith, f.blocks.complete, f.blocks.held, sought_now f lacks.sought, lacks.wanted)
@@ -151,10 +151,7 @@ refused_fault r text fault f =
 -- a refused reader stands behind every longer text
 refused_more : (r : Fields) (text more : List ℕ) (fault : LayoutFault) → IsRefused r text fault
     → IsRefused r (text ++ more) fault
-refused_more r text more fault f =
-    let whole : text ++ more ≡ f.front ++ f.byte ∷ (f.rest ++ more) =
-    rw f.whole (append_assoc f.front (f.byte ∷ f.rest) more) in
-    search
+refused_more r text more fault f = grind (arith, f, append_assoc {A = ℕ})
 
 -- a done reader has the wanted block
 pub done_enough : (r : Fields) (text : List ℕ) → Follows r text → r.phase ≡ phases.Done
@@ -176,14 +173,6 @@ module _ {old new : Fields} {text piece : List ℕ} {used : ℕ} (m : TakeMeets 
   pub reader_of : IsReader new
   reader_of = record { stands = λ h. (text ++ take used piece, m.stands h); none = m.none }
 
-  -- where no byte of the piece has a fault
-  fine_meets : used ≤ length piece → new.phase ≢ phases.Refused Memory
-      → byte_fault new.layout new.wanted (text ++ piece) ≡ None → (done : Bool) → (done ≡ false → used ≡ length piece)
-      → (done ≡ true ↔ (new.phase ≡ phases.Done))
-      → FeedMeets old text piece (Ok (record { used = used; done = done })) new
-  fine_meets within no_memory right done whole ended =
-      let here = rw (m.layout, m.wanted) at right in grind (arith, m)
-
   pub feed_of : used ≤ length piece → (is_live new.phase ≡ true → used ≡ length piece)
       → FeedMeets old text piece (progress_of new.phase used) new
   feed_of within whole = by_phase new.phase refl
@@ -191,20 +180,14 @@ module _ {old new : Fields} {text piece : List ℕ} {used : ℕ} (m : TakeMeets 
       taken : List ℕ
       taken = text ++ take used piece
 
-      live_meets : is_live new.phase ≡ true → FeedMeets old text piece (Ok (record { used = used; done = false })) new
-      live_meets live =
-          let no_memory = live-memory new.phase live in
-          let follows = live_follows new taken live (m.stands no_memory) in
-          let right = rw (take_all used piece (omega (arith, whole live))) at follows.sound in
-          fine_meets within no_memory right false (λ e. whole live) (λ e. cc, λ e. cc)
-
       by_phase : (p : Phase) → new.phase ≡ p → FeedMeets old text piece (progress_of p used) new
       by_phase phases.Done e =
           let no_memory : new.phase ≢ phases.Refused Memory = λ z. cc in
           let follows : Follows new taken = subst (λ p. StandsIn p new taken) e (m.stands no_memory) in
           let right = faultless_behind new.layout new.wanted taken (drop used piece) (done_enough new taken follows e)
           follows.sound in
-          fine_meets within no_memory (rw (whole_text text piece used) right) true (λ z. cc) (λ z. e, λ z. refl)
+          let here = rw (← whole_text text piece used, m.layout, m.wanted) at right in
+          grind (arith, m, e)
       by_phase (phases.Refused fault) e =
           let stood : fault ≢ Memory → IsRefused new (text ++ piece) fault = λ other.
           let here = subst (λ p. StandsIn p new taken) e (m.stands (λ z. other (cc))) in
@@ -212,7 +195,12 @@ module _ {old new : Fields} {text piece : List ℕ} {used : ℕ} (m : TakeMeets 
           let told : fault ≢ Memory → byte_fault old.layout old.wanted (text ++ piece) ≡ Some fault =
           λ other. rw (m.layout, m.wanted) at (refused_fault new (text ++ piece) fault (stood other)) in
           grind (arith, m.memory, m.layout, m.wanted, stood, told)
-      by_phase phase e = live_meets (rw e)
+      by_phase phase e =
+          let live : is_live new.phase ≡ true = rw e in
+          let all : used ≡ length piece = whole live in
+          let follows = live_follows new taken live (m.stands (live-memory new.phase live)) in
+          let right = rw (take_all used piece (omega arith), m.layout, m.wanted) at follows.sound in
+          grind (arith, m, e, all)
 
 -- a reader that wants no byte takes none
 pub idle_meets : (r : Fields) (text piece : List ℕ) → StandsAfter r text → TakeMeets r text piece 0 r

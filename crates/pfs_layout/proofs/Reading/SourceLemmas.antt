@@ -111,9 +111,7 @@ module _ {layout : Layout} {k : ℕ} {first left : Option (List ℕ)} {r : Field
       → IfSome first (λ bytes. ReadsAsFar layout k bytes next fault)
   reads_piece fault size failed memory = told_behind _ (λ more e.
       let f = live_follows r t.front t.live t.stands in
-      let here : IsUndecided r.layout r.wanted t.front =
-      record { sound = f.sound; incomplete = live_wants r t.front f t.live } in
-      let wanted = rw (t.layout_is, t.wanted_is) at here in
+      let wanted : IsUndecided layout k t.front = grind (arith, f.sound, live_wants r t.front f t.live, t) in
       search)
 
   -- the input ends behind the piece, or the wanted block has ended in it
