@@ -25,9 +25,6 @@ IsFew layout o = time_count layout o ≤ most_times o
 abbrev AreFew : Layout → List Block → Type 0
 AreFew layout blocks = All (λ block. IsFew layout (Some block)) blocks
 
-few_at : (layout : Layout) (blocks : List Block) (i : ℕ) → AreFew layout blocks → IsFew layout (slice_get blocks i)
-few_at layout blocks i all = grind (arith, slice_get_cases, All-get_or {X = Block} (λ block. IsFew layout (Some block)))
-
 all_few : (layout : Layout) (lines : List (List ℕ)) → AreFew layout (stand layout lines).complete
 unfolding stand stand_after
 all_few layout = by_push (λ lines. AreFew layout (stand layout lines).complete) (λ k d none. absurd (omega arith))
@@ -36,17 +33,14 @@ all_few layout = by_push (λ lines. AreFew layout (stand layout lines).complete)
 
 -- ---- the wanted block
 
-begun_few : (layout : Layout) (now : Now) (line : List ℕ) → GoodNow layout now line
-    → IsFew layout (block_begun_by now (ended_numbers line))
-begun_few layout now line good = grind (arith, no_more_than_due, good)
-
 -- while no byte has a fault, the wanted block has no more times than its size says
 few_times : (layout : Layout) (k : ℕ) (text : List ℕ) → byte_fault layout k text ≡ None
     → IsFew layout (block_read layout k text)
 unfolding block_read
 few_times layout k text right =
     let all = all_few layout (ended_lines text) in
-    let good = sound layout k text right in grind (arith, nat_tests, begun_few, few_at, all, good)
+    let good = sound layout k text right in
+    grind (arith, nat_tests, no_more_than_due, slice_get_cases, All-get_or {X = Block} (λ b. IsFew layout (Some b)))
 
 -- ---- readers
 

@@ -100,14 +100,10 @@ module _ {old now : Fields} {piece : List ℕ} {i : ℕ} (t : TakenTo old now pi
     pub taken_event : is_live next.phase ≡ true → TakenTo old (fields after next) piece (i + 1)
     taken_event live =
         let then = well_then (live-memory next.phase live) in
-        record {
-          live = live;
-          layout = then.0;
-          wanted = then.1;
-          offset = omega (arith, t.offset, on.offset);
-          follows = λ text s. live_follows _ _ live (then.2 text s);
-          no_more = no_more_then;
-        }
+        let follows = λ (text : List ℕ) (s : StandsAfter old text). live_follows (fields after next) _ live (then.2 text s)
+        in
+        let offset : after.digits.offset ≡ old.digits.offset + (i + 1) = omega (arith, t.offset, on.offset) in
+        search no_more_then
 
     -- the last event
     pub taken_end : (next.phase ≡ phases.Refused Memory → LacksMemory now.blocks (blocks_after now.blocks event))
@@ -137,8 +133,7 @@ module _ {old now : Fields} {piece : List ℕ} {i : ℕ} (t : TakenTo old now pi
 pub memory_nowhere : (r : Fields) (text : List ℕ) → r.phase ≡ phases.Refused Memory → StandsAfter r text → ⊥
 memory_nowhere r text e s =
     let refused : IsRefused r text Memory = subst (λ p. StandsIn p r text) e s in
-    let named = rw refused.here at (of_place r.layout refused.front (Some refused.byte) r.wanted) in
-    absurd (cc)
+    absurd (cc (rw refused.here at (of_place r.layout refused.front (Some refused.byte) r.wanted)))
 
 -- a refused reader's fault is that of the text
 pub refused_fault : (r : Fields) (text : List ℕ) (fault : LayoutFault) → IsRefused r text fault

@@ -8,14 +8,7 @@ use Rattle.pfs_layout.proofs.reader.read_block.Goals as goal
 pub pieces-init : goal.pieces-init
 pieces-init g c = record {
   working = c.requires.working;
-  reading = record {
-    layout_is = c.new-taker.ensures.layout;
-    wanted_is = c.new-taker.ensures.wanted;
-    live = c.new-taker.ensures.live;
-    front = [];
-    stands = c.new-taker.ensures.stands;
-    told = λ text e. (text, e, refl);
-  };
+  reading = grind (arith, c.new-taker.ensures);
 }
 
 pub pieces-preserved : goal.pieces-preserved
@@ -43,14 +36,13 @@ returns-in_default-clause-as_far g c = reads_failed c.pieces.invariant.reading _
 pub returns-then-n-eq0 : goal.returns-then-n-eq0
 returns-then-n-eq0 g c =
     let t = c.pieces.invariant.reading in
-    let bytes = c.in-Some.ensures.bytes in
     let ends = c.finish.ensures.meets t.front t.stands in
     record {
       file = search rules;
       refused = search rules;
       read = never_failed (c.in-Some.ensures.failed ∙ c.pieces.invariant.working) (finish_named ends Read refl);
       no_seed = finish_named ends SeedRange refl;
-      as_far = reads_ended t _ _ bytes.1 (omega (arith, length-take {A = ℕ})) ends;
+      as_far = reads_ended t _ _ c.in-Some.ensures.bytes.1 (omega (arith, length-take {A = ℕ})) ends;
     }
 
 -- a byte of the piece has a fault, or memory was refused

@@ -25,10 +25,7 @@ unreachable-requires c =
 
 pub returns-in-Some-instance-clause-meets : goal.returns-in-Some-instance-clause-meets
 returns-in-Some-instance-clause-meets c text =
-    let r : Fields = fields c.self.inside.last c.self.inside.blocks in
-    let instance = c.in-Some-instance.instance in
-    let there : (at_end r.last r.blocks).instance ≡ Some instance =
-    sym (ap (λ (z : Blocks). z.instance) c.judge_end.ensures.blocks) ∙ c.in-Some-instance.is in
     rw (← c.self.view_is) (λ s.
-    let told = (finish_tells r text s).1 (sym c.judge_end.ensures.fault ∙ c.in-None.is) in
-    rw (same_Some _ _ (sym there ∙ told.1)) told.2)
+    let told = (finish_tells _ text s).1 (sym c.judge_end.ensures.fault ∙ c.in-None.is) in
+    let same : c.in-Some-instance.instance ≡ told.0 = cc in
+    rw same told.2)
