@@ -14,26 +14,19 @@ use Rattle.pfs_layout.proofs.Files.DueLemmas.{no_more_than_due}
 use Rattle.pfs_layout.proofs.Reading.ByteSteps.{refused_memory}
 use Rattle.pfs_layout.proofs.Reading.PieceLemmas.{whole_text}
 
--- ---- a block that isn't longer than it is due
+-- ---- blocks that aren't longer than they are due
 
 abbrev IsFew : Layout → Option Block → Type 0
 IsFew layout o = time_count layout o ≤ most_times o
 
--- ---- complete blocks
-
--- none of them has more times than its size says
-abbrev AreFew : Layout → List Block → Type 0
-AreFew layout blocks = All (λ block. IsFew layout (Some block)) blocks
-
-all_few : (layout : Layout) (lines : List (List ℕ)) → AreFew layout (stand layout lines).complete
+-- no complete block has more times than its size says
+all_few : (layout : Layout) (lines : List (List ℕ)) → All (λ b. IsFew layout (Some b)) (stand layout lines).complete
 unfolding stand stand_after
-all_few layout = by_push (λ lines. AreFew layout (stand layout lines).complete) (λ k d none. absurd (omega arith))
-    (λ lines line all. rw (stand-push layout lines line)
-    (grind (arith, nat_tests, All-push {X = Block} (λ block. IsFew layout (Some block)))))
+all_few layout = by_push (λ lines. All (λ b. IsFew layout (Some b)) (stand layout lines).complete)
+    (λ k d none. absurd (omega arith)) (λ lines line all. rw (stand-push layout lines line)
+    (grind (arith, nat_tests, All-push {X = Block} (λ b. IsFew layout (Some b)))))
 
--- ---- the wanted block
-
--- while no byte has a fault, the wanted block has no more times than its size says
+-- nor has the wanted block, while no byte has a fault
 few_times : (layout : Layout) (k : ℕ) (text : List ℕ) → byte_fault layout k text ≡ None
     → IsFew layout (block_read layout k text)
 unfolding block_read

@@ -46,16 +46,12 @@ record EndOutcome (r : Fields) (text : List ℕ) : Type 0 where
 live_end : (r : Fields) (text : List ℕ) → Follows r text → is_live r.phase ≡ true → EndOutcome r text
 unfolding fault_of_place ends_early line_ended
 live_end r text f live =
-    let before : Stand = stand_of r.layout text in
-    let end : Stand = stand r.layout (lines text) in
     let few = live_wants r text f live in
     let good = (sound r.layout r.wanted text f.sound few).1 in
-    let found : Option LayoutFault = fault_within_limit r.layout before.now text 10 in
-    let outcome = end_byte r.blocks r.last text 10 before.complete before.now refl live f.five_values f.line
-    f.last_line f.blocks good in
+    let found : Option LayoutFault = fault_within_limit r.layout (stand_of r.layout text).now text 10 in
+    let outcome = end_byte r.blocks r.last text 10 _ _ refl live f.five_values f.line f.last_line f.blocks good in
     let faults : refusal r.layout text r.wanted ≡ option_or found (ends_early r.layout r.wanted text None) =
-    rw (refusal_end r.layout r.wanted text, f.sound, lt-ltb _ _ few)
-    (end_faults r.layout r.wanted before.now text good) in
+    rw (refusal_end r.layout r.wanted text, f.sound, lt-ltb _ _ few) (end_faults r.layout r.wanted _ text good) in
     elim (cases_option found) [
       | inr one ↦ let refuses = rw one.1 at outcome in grind (arith, f.some, faults, one.1, refuses.phase)
       | inl none ↦
@@ -63,25 +59,23 @@ live_end r text f live =
           let m = made r.layout (lines text) in
           let follows = rw (none, ← stand_lines r.layout text good) at outcome in
           let early = rw (keeps.layout, keeps.wanted) at
-          (ends (judged r.blocks r.last 10) end.complete end.now m.tail (rw keeps.layout m.fits) follows) in
+          (ends (judged r.blocks r.last 10) _ _ m.tail (rw keeps.layout m.fits) follows) in
           grind (arith, f.some, faults, early)
     ]
 
-end_outcome : (r : Fields) (text : List ℕ) → StandsAfter r text → EndOutcome r text
+-- a reader that stands in this phase
+end_outcome : (p : Phase) (r : Fields) (text : List ℕ) → r.phase ≡ p → StandsIn p r text → EndOutcome r text
 unfolding line_ended
-end_outcome r text s = by_phase r.phase refl s
-  where
-    by_phase : (p : Phase) → r.phase ≡ p → StandsIn p r text → EndOutcome r text
-    -- the wanted block is complete before the last line
-    by_phase phases.Done e f =
-        let enough = done_enough r text f e in
-        let none = enough_right r.layout r.wanted text None enough in
-        let stays = rw append-nil at (block_stays r.layout text [] (r.wanted - 1) (omega (arith, f.some))) in
-        grind (arith, refusal_end r.layout r.wanted text, f, none, stays, le-ltb _ r.wanted enough)
-    by_phase (phases.Refused fault) e f =
-        let fine = enough_right r.layout r.wanted f.front (Some f.byte) in
-        grind (arith, fine, f.here, refusal_end r.layout r.wanted text, refused_fault r text fault f)
-    by_phase phase e f = live_end r text f (rw e)
+-- the wanted block is complete before the last line
+end_outcome phases.Done r text e f =
+    let enough = done_enough r text f e in
+    let none = enough_right r.layout r.wanted text None enough in
+    let stays = rw append-nil at (block_stays r.layout text [] (r.wanted - 1) (omega (arith, f.some))) in
+    grind (arith, refusal_end r.layout r.wanted text, f, none, stays, le-ltb _ r.wanted enough)
+end_outcome (phases.Refused fault) r text e f =
+    let fine = enough_right r.layout r.wanted f.front (Some f.byte) in
+    grind (arith, fine, f.here, refusal_end r.layout r.wanted text, refused_fault r text fault f)
+end_outcome phase r text e f = live_end r text f (rw e)
 
 -- ---- the verdict
 
@@ -101,7 +95,7 @@ pub finish_tells : (r : Fields) (text : List ℕ) → StandsAfter r text
     → (problem : Problem) × ((at_end r.last r.blocks).instance ≡ Some problem) × FinishMeets r text (Ok problem))
 unfolding accepted
 finish_tells r text s =
-    let o = end_outcome r text s in (
+    let o = end_outcome r.phase r text refl s in (
       λ fault e. meets o.some (rw (o.fault ∙ e)) (o.fault ∙ e),
       λ e.
           let none = o.fault ∙ e in

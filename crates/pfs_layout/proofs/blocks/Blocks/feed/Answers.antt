@@ -7,9 +7,8 @@ use Rattle.pfs_layout.proofs.blocks.Blocks.feed.Goals as goal
 
 pub returns-then-not-is_live-clause-meets : goal.returns-then-not-is_live-clause-meets
 returns-then-not-is_live-clause-meets c text s =
-    let old = fields c.args.last.now c.args.self.now in
     let dead = sym c.is_live.ensures ∙ c.if-not-is_live.true in
-    rw c.progress.ensures (feed_of (idle_meets old text c.args.piece.now s) (omega arith) (λ live. cc))
+    rw c.progress.ensures (feed_of (idle_meets _ text _ s) (omega arith) (λ live. cc))
 
 pub returns-then-piece-room-clause-reader : goal.returns-then-piece-room-clause-reader
 returns-then-piece-room-clause-reader c =
