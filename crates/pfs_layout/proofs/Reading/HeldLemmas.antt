@@ -1,15 +1,15 @@
 -- No more times are held than the wanted block has.
-use Rattle.pfs_layout.proofs.Words.{◌≡◌, ℕ, ◌≤◌, List, [], ◌∷◌, ◌++◌, length, take, drop, refl, sym, arith, Option}
-use Rattle.pfs_layout.proofs.Words.{Some, None, inl, inr, Result, Ok, Err, slice_get, All, nat_tests}
-use Rattle.pfs_layout.proofs.Words.{append_assoc, append-nil, take-append-drop, by_push, Layout, LayoutFault, Memory}
-use Rattle.pfs_layout.proofs.Words.{Phase, Progress, ended_lines, ended_numbers, due_count, Block, Now, seeking, inside}
-use Rattle.pfs_layout.proofs.Words.{lost, stand_after, stand, byte_fault, Fields, block_begun_by, block_read}
+use Rattle.pfs_layout.proofs.Words.{◌≡◌, ℕ, ◌≤◌, List, ◌++◌, take, drop, arith, Option}
+use Rattle.pfs_layout.proofs.Words.{Some, None, inl, inr, Result, Ok, Err, All, nat_tests}
+use Rattle.pfs_layout.proofs.Words.{append_assoc, append-nil, by_push, Layout, LayoutFault, Memory}
+use Rattle.pfs_layout.proofs.Words.{Phase, Progress, ended_lines, Block}
+use Rattle.pfs_layout.proofs.Words.{stand_after, stand, byte_fault, Fields, block_read}
 use Rattle.pfs_layout.proofs.Words.{time_count, HoldsFew, StandsIn, FeedMeets}
 use Rattle.std.proofs.lemmas.List.Elements.{All-push, All-get_or}
 use Rattle.std.proofs.lemmas.Option.{slice_get_cases}
 use Rattle.pfs_layout.specs.declared.blocks.Phase.TheVariants as phases
 use Rattle.pfs_layout.specs.Reader.{most_times}
-use Rattle.pfs_layout.proofs.Files.GoodLemmas.{GoodNow, stand-push, sound}
+use Rattle.pfs_layout.proofs.Files.GoodLemmas.{stand-push, sound}
 use Rattle.pfs_layout.proofs.Files.DueLemmas.{no_more_than_due}
 use Rattle.pfs_layout.proofs.Reading.ByteSteps.{refused_memory}
 use Rattle.pfs_layout.proofs.Reading.PieceLemmas.{whole_text}

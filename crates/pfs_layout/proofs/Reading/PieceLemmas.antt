@@ -1,10 +1,10 @@
 -- What a reader owes for a piece.
 use Rattle.pfs_layout.proofs.Words.{nat_tests, ◌≡◌, ◌≢◌, ℕ, ◌+◌, ◌<◌, ◌≤◌, true, not, ◌&&◌, List, [], ◌∷◌, ◌++◌, length}
 use Rattle.pfs_layout.proofs.Words.{take, get_or, refl, ◌∙◌, arith, inl, inr, ◌-◌, cases_eq, append_assoc}
-use Rattle.pfs_layout.proofs.Words.{LONGEST_INPUT, Memory, Line, Blocks, is_word_byte, is_digit, is_blank, and_parts}
-use Rattle.pfs_layout.proofs.Words.{number_of, event_of, blocks_after, IsReady, is_live, Fields, fields, Follows}
-use Rattle.pfs_layout.proofs.Words.{StandsAfter, EndsWantedSize, ◌↔◌, Bool, false, drop, sym, ap, subst, add-one, Some}
-use Rattle.pfs_layout.proofs.Words.{None, Ok, Err, Result, append-nil, length-append, take_all, take-append-drop}
+use Rattle.pfs_layout.proofs.Words.{LONGEST_INPUT, Memory, Line, Blocks, is_digit}
+use Rattle.pfs_layout.proofs.Words.{event_of, blocks_after, IsReady, is_live, Fields, fields, Follows}
+use Rattle.pfs_layout.proofs.Words.{StandsAfter, EndsWantedSize, drop, sym, subst, Some}
+use Rattle.pfs_layout.proofs.Words.{append-nil, take_all, take-append-drop}
 use Rattle.pfs_layout.proofs.Words.{LayoutFault, TooLong, Phase, byte_fault, refused}
 use Rattle.pfs_layout.proofs.Words.{block_read, number_ended, StandsIn, IsReader, FeedMeets}
 use Rattle.pfs_layout.specs.Private.Take.{TakeMeets}
@@ -12,12 +12,11 @@ use Rattle.std.proofs.lemmas.List.{take_more, take-take, length-take-le, get_or-
 use Rattle.pfs_layout.specs.declared.scan.Event.{Event}
 use Rattle.pfs_layout.specs.declared.scan.Event.TheVariants as events
 use Rattle.pfs_layout.specs.declared.blocks.Phase.TheVariants as phases
-use Rattle.pfs_layout.specs.Private.Step.{Pushes, blank_event, KeepsHeld, LacksMemory}
+use Rattle.pfs_layout.specs.Private.Step.{Pushes, KeepsHeld, LacksMemory}
 use Rattle.pfs_layout.proofs.Files.GoodLemmas.{stand_of, long_fault, sound}
 use Rattle.pfs_layout.proofs.Reading.ReaderSteps.{carries, live_follows, step_stands, follows_ready}
 use Rattle.pfs_layout.proofs.Reading.ReaderSteps.{wants_more, sought_now, begun_now}
 use Rattle.pfs_layout.proofs.Reading.ByteSteps.{live-memory, refused_memory, judged, live_few}
-use Rattle.std.proofs.Math.Seq.{drop-cons}
 use Rattle.pfs_layout.specs.Reader.{IsRefused, progress_of}
 use Rattle.pfs_layout.proofs.Published.PlaceLemmas.{byte_fault-push}
 use Rattle.pfs_layout.proofs.Files.InputFaults.{of_place}

@@ -1,5 +1,5 @@
 -- Each piece takes the reader on, a fault of a piece is one of the whole input, and so is the wanted block.
-use Rattle.pfs_layout.proofs.Words.{refl, rules, ℕ, [], ◌∙◌, arith, length-take, Read, SeedRange}
+use Rattle.pfs_layout.proofs.Words.{refl, rules, ℕ, ◌∙◌, arith, length-take, Read, SeedRange}
 use Rattle.pfs_layout.proofs.Reading.SourceLemmas.{finish_named, feed_named, never_failed, reading_more, reading_fault}
 use Rattle.pfs_layout.proofs.Reading.SourceLemmas.{reading_done, reads_failed, reads_ended, reads_fault}
 use Rattle.pfs_layout.proofs.Reading.ReaderSteps.{live_follows}

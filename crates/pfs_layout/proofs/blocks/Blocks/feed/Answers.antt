@@ -1,5 +1,5 @@
 -- What was taken of the piece, or of its front within the limit, is what feed owes.
-use Rattle.pfs_layout.proofs.Words.{◌-◌, ◌++◌, take, sym, ◌∙◌, ap, arith, length-take, LONGEST_INPUT, fields}
+use Rattle.pfs_layout.proofs.Words.{◌-◌, ◌++◌, sym, ◌∙◌, arith, length-take, LONGEST_INPUT, fields}
 use Rattle.pfs_layout.proofs.Reading.ReaderSteps.{live_follows}
 use Rattle.pfs_layout.proofs.Reading.ByteSteps.{live-memory}
 use Rattle.pfs_layout.proofs.Reading.PieceLemmas.{feed_of, reader_of, idle_meets, front_meets, long_meets}

@@ -1,5 +1,5 @@
 -- A reader that was refused memory stands nowhere, and no more times are held behind a piece than the wanted block has.
-use Rattle.pfs_layout.proofs.Words.{◌++◌, subst, Fields, fields, StandsAfter, HoldsFew}
+use Rattle.pfs_layout.proofs.Words.{fields}
 use Rattle.pfs_layout.proofs.Reading.PieceLemmas.{memory_nowhere}
 use Rattle.pfs_layout.proofs.Reading.HeldLemmas.{feed_few}
 use Rattle.pfs_layout.proofs.reader.BlockReader.feed.Goals as goal

@@ -1,7 +1,6 @@
 -- The end of the input is judged as the definitions say, and an accepted instance is there.
-use Rattle.pfs_layout.proofs.Words.{◌≡◌, sym, ◌∙◌, ap, subst, Some, Ok, Err, Blocks, at_end, Fields, fields}
-use Rattle.pfs_layout.proofs.Words.{StandsAfter, FinishMeets, line_ended, inl, inr}
-use Rattle.std.proofs.lemmas.Option.{same_Some}
+use Rattle.pfs_layout.proofs.Words.{◌≡◌, sym, ◌∙◌}
+use Rattle.pfs_layout.proofs.Words.{line_ended, inl, inr}
 use Rattle.pfs_layout.proofs.Reading.OutcomeLemmas.{finish_tells}
 use Rattle.pfs_layout.proofs.Reading.ByteSteps.{refused_memory}
 use Rattle.pfs_layout.proofs.reader.BlockReader.finish.Goals as goal
