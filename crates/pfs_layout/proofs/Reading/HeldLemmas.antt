@@ -1,10 +1,8 @@
 -- No more times are held than the wanted block has.
-use Rattle.pfs_layout.proofs.Words.{◌≡◌, ℕ, ◌≤◌, List, ◌++◌, take, drop, arith, Option}
-use Rattle.pfs_layout.proofs.Words.{Some, None, inl, inr, Result, Ok, Err, All, nat_tests}
-use Rattle.pfs_layout.proofs.Words.{append_assoc, append-nil, by_push, Layout, LayoutFault, Memory}
-use Rattle.pfs_layout.proofs.Words.{Phase, Progress, ended_lines, Block}
-use Rattle.pfs_layout.proofs.Words.{stand_after, stand, byte_fault, Fields, block_read}
-use Rattle.pfs_layout.proofs.Words.{time_count, HoldsFew, StandsIn, FeedMeets}
+use Rattle.pfs_layout.proofs.Words.{◌≡◌, ℕ, ◌≤◌, List, ◌++◌, take, drop, arith, Option, Some, None, inl, inr, Result}
+use Rattle.pfs_layout.proofs.Words.{Ok, Err, All, nat_tests, append_assoc, append-nil, by_push, Layout, LayoutFault}
+use Rattle.pfs_layout.proofs.Words.{Memory, Phase, Progress, ended_lines, Block, stand_after, stand, byte_fault, Fields}
+use Rattle.pfs_layout.proofs.Words.{block_read, time_count, HoldsFew, StandsIn, FeedMeets}
 use Rattle.std.proofs.lemmas.List.Elements.{All-push, All-get_or}
 use Rattle.std.proofs.lemmas.Option.{slice_get_cases}
 use Rattle.pfs_layout.specs.declared.blocks.Phase.TheVariants as phases

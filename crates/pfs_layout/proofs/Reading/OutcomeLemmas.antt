@@ -1,20 +1,17 @@
 -- What finish owes: the end of an input is judged as a line end there would be, and as what is missing behind it.
-use Rattle.pfs_layout.proofs.Words.{◌≡◌, ℕ, ◌-◌, ◌≤◌, true, List, [], length, refl, sym, ◌∙◌, arith, Option}
-use Rattle.pfs_layout.proofs.Words.{Some, None, inl, inr, false, Result, Ok, Err, option_map, slice_get, option_or}
-use Rattle.pfs_layout.proofs.Words.{result_err, nat_tests, lt-ltb, le-ltb, append-nil, Problem, LayoutFault}
-use Rattle.pfs_layout.proofs.Words.{Phase, Blocks, lines, stand}
-use Rattle.pfs_layout.proofs.Words.{instance_of, Block, Now, standing}
-use Rattle.pfs_layout.proofs.Words.{ends_early, fault_of_place, refusal, accepted, line_ended, has_numbers_alone}
-use Rattle.pfs_layout.proofs.Words.{at_end, is_live, Fields, Follows, StandsIn, StandsAfter, FinishMeets}
-use Rattle.pfs_layout.proofs.Words.{FollowsBlocks}
+use Rattle.pfs_layout.proofs.Words.{◌≡◌, ℕ, ◌-◌, ◌≤◌, true, List, [], length, refl, sym, ◌∙◌, arith, Option, Some, None}
+use Rattle.pfs_layout.proofs.Words.{inl, inr, false, Result, Ok, Err, option_map, slice_get, option_or, result_err}
+use Rattle.pfs_layout.proofs.Words.{nat_tests, lt-ltb, le-ltb, append-nil, Problem, LayoutFault, Phase, Blocks, lines}
+use Rattle.pfs_layout.proofs.Words.{stand, instance_of, Block, Now, standing, ends_early, fault_of_place, refusal}
+use Rattle.pfs_layout.proofs.Words.{accepted, line_ended, has_numbers_alone, at_end, is_live, Fields, Follows, StandsIn}
+use Rattle.pfs_layout.proofs.Words.{StandsAfter, FinishMeets, FollowsBlocks}
 use Rattle.std.specs.Result.{result_ok}
 use Rattle.pfs_layout.specs.declared.blocks.Phase.TheVariants as phases
 use Rattle.pfs_layout.specs.Refuse.{missing}
 use Rattle.pfs_layout.specs.Private.Step.{end_fault}
 use Rattle.pfs_layout.proofs.Files.FileLemmas.{made, IsTail}
 use Rattle.pfs_layout.proofs.Files.GoodLemmas.{stand_of, sound, fault_within_limit, enough_right}
-use Rattle.pfs_layout.proofs.Files.VerdictLemmas.{end_faults, stand_lines, block_stays, unrefused_holds}
-use Rattle.pfs_layout.proofs.Files.VerdictLemmas.{holds_accepted}
+use Rattle.pfs_layout.proofs.Files.VerdictLemmas.{end_faults, stand_lines, block_stays, unrefused_holds, holds_accepted}
 use Rattle.pfs_layout.proofs.Options.{cases_option}
 use Rattle.pfs_layout.proofs.Published.LawLemmas.{accepted_law}
 use Rattle.pfs_layout.proofs.Published.PlaceLemmas.{refusal_is, refusal_end}

@@ -1,12 +1,10 @@
 -- What a reader owes for a piece.
 use Rattle.pfs_layout.proofs.Words.{nat_tests, ◌≡◌, ◌≢◌, ℕ, ◌+◌, ◌<◌, ◌≤◌, true, not, ◌&&◌, List, [], ◌∷◌, ◌++◌, length}
 use Rattle.pfs_layout.proofs.Words.{take, get_or, refl, ◌∙◌, arith, inl, inr, ◌-◌, cases_eq, append_assoc}
-use Rattle.pfs_layout.proofs.Words.{LONGEST_INPUT, Memory, Line, Blocks, is_digit}
-use Rattle.pfs_layout.proofs.Words.{event_of, blocks_after, IsReady, is_live, Fields, fields, Follows}
-use Rattle.pfs_layout.proofs.Words.{StandsAfter, EndsWantedSize, drop, sym, subst, Some}
-use Rattle.pfs_layout.proofs.Words.{append-nil, take_all, take-append-drop}
-use Rattle.pfs_layout.proofs.Words.{LayoutFault, TooLong, Phase, byte_fault, refused}
-use Rattle.pfs_layout.proofs.Words.{block_read, number_ended, StandsIn, IsReader, FeedMeets}
+use Rattle.pfs_layout.proofs.Words.{LONGEST_INPUT, Memory, Line, Blocks, is_digit, event_of, blocks_after, IsReady}
+use Rattle.pfs_layout.proofs.Words.{is_live, Fields, fields, Follows, StandsAfter, EndsWantedSize, drop, sym, subst}
+use Rattle.pfs_layout.proofs.Words.{Some, append-nil, take_all, take-append-drop, LayoutFault, TooLong, Phase}
+use Rattle.pfs_layout.proofs.Words.{byte_fault, refused, block_read, number_ended, StandsIn, IsReader, FeedMeets}
 use Rattle.pfs_layout.specs.Private.Take.{TakeMeets}
 use Rattle.std.proofs.lemmas.List.{take_more, take-take, length-take-le, get_or-take}
 use Rattle.pfs_layout.specs.declared.scan.Event.{Event}
@@ -14,8 +12,8 @@ use Rattle.pfs_layout.specs.declared.scan.Event.TheVariants as events
 use Rattle.pfs_layout.specs.declared.blocks.Phase.TheVariants as phases
 use Rattle.pfs_layout.specs.Private.Step.{Pushes, KeepsHeld, LacksMemory}
 use Rattle.pfs_layout.proofs.Files.GoodLemmas.{stand_of, long_fault, sound}
-use Rattle.pfs_layout.proofs.Reading.ReaderSteps.{carries, live_follows, step_stands, follows_ready}
-use Rattle.pfs_layout.proofs.Reading.ReaderSteps.{wants_more, sought_now, begun_now}
+use Rattle.pfs_layout.proofs.Reading.ReaderSteps.{carries, live_follows, step_stands, follows_ready, wants_more}
+use Rattle.pfs_layout.proofs.Reading.ReaderSteps.{sought_now, begun_now}
 use Rattle.pfs_layout.proofs.Reading.ByteSteps.{live-memory, refused_memory, judged, live_few}
 use Rattle.pfs_layout.specs.Reader.{IsRefused, progress_of}
 use Rattle.pfs_layout.proofs.Published.PlaceLemmas.{byte_fault-push}

@@ -1,16 +1,14 @@
 -- A reader that reads pieces of a source.
-use Rattle.pfs_layout.proofs.Words.{◌≡◌, ◌≢◌, ℕ, ◌<◌, ◌≤◌, true, false, List, [], ◌++◌, length, take, drop, refl}
-use Rattle.pfs_layout.proofs.Words.{subst, arith, Option, Some, None, inl, inr, Bool, ap, Result, Ok, Err}
-use Rattle.pfs_layout.proofs.Words.{slice_index, ◌↔◌, result_err, append_assoc, take_all, limits, Problem, Layout}
-use Rattle.pfs_layout.proofs.Words.{LayoutFault, Read, Memory, Progress, IsInstanceFile, RefusesInstance}
-use Rattle.pfs_layout.proofs.Words.{is_live, Fields, Follows, StandsIn, StandsAfter, EndsWantedSize, FeedMeets}
-use Rattle.pfs_layout.proofs.Words.{FinishMeets, Reading}
+use Rattle.pfs_layout.proofs.Words.{◌≡◌, ◌≢◌, ℕ, ◌<◌, ◌≤◌, true, false, List, [], ◌++◌, length, take, drop, refl, subst}
+use Rattle.pfs_layout.proofs.Words.{arith, Option, Some, None, inl, inr, Bool, ap, Result, Ok, Err, slice_index, ◌↔◌}
+use Rattle.pfs_layout.proofs.Words.{result_err, append_assoc, take_all, limits, Problem, Layout, LayoutFault, Read}
+use Rattle.pfs_layout.proofs.Words.{Memory, Progress, IsInstanceFile, RefusesInstance, is_live, Fields, Follows}
+use Rattle.pfs_layout.proofs.Words.{StandsIn, StandsAfter, EndsWantedSize, FeedMeets, FinishMeets, Reading, byte_fault}
 use Rattle.std.specs.Prelude.{IfSome}
 use Rattle.std.specs.Io.KnownBytes.{Keeps, Consumes}
 use Rattle.pfs_layout.specs.declared.blocks.Phase.TheVariants as phases
 use Rattle.pfs_layout.specs.declared.reader.TheConstants.{PIECE}
 use Rattle.pfs_layout.specs.Reader.{IsUndecided, ReadsAsFar}
-use Rattle.pfs_layout.proofs.Words.{byte_fault}
 use Rattle.pfs_layout.proofs.Options.{cases_option}
 use Rattle.pfs_layout.proofs.Files.EndLemmas.{fault_stays, free_behind}
 use Rattle.pfs_layout.proofs.Reading.PieceLemmas.{whole_text, refused_fault, done_enough, live_wants}

@@ -1,6 +1,5 @@
 -- The end of the input is judged as the definitions say, and an accepted instance is there.
-use Rattle.pfs_layout.proofs.Words.{◌≡◌, sym, ◌∙◌}
-use Rattle.pfs_layout.proofs.Words.{line_ended, inl, inr}
+use Rattle.pfs_layout.proofs.Words.{◌≡◌, sym, ◌∙◌, line_ended, inl, inr}
 use Rattle.pfs_layout.proofs.Reading.OutcomeLemmas.{finish_tells}
 use Rattle.pfs_layout.proofs.Reading.ByteSteps.{refused_memory}
 use Rattle.pfs_layout.proofs.reader.BlockReader.finish.Goals as goal
