@@ -174,19 +174,15 @@ module _ {old new : Fields} {text piece : List ℕ} {used : ℕ} (m : TakeMeets 
 
       by_phase : (p : Phase) → new.phase ≡ p → FeedMeets old text piece (progress_of p used) new
       by_phase phases.Done e =
-          let no_memory : new.phase ≢ phases.Refused Memory = λ z. cc in
-          let follows : Follows new taken = subst (λ p. StandsIn p new taken) e (m.stands no_memory) in
+          let follows : Follows new taken = subst (λ p. StandsIn p new taken) e (m.stands (λ z. cc)) in
           let right = faultless_behind new.layout new.wanted taken (drop used piece) (done_enough new taken follows e)
           follows.sound in
-          let here = rw (← whole_text text piece used, m.layout, m.wanted) at right in
-          grind (arith, m, e)
+          grind (arith, m, e, whole_text text piece used)
       by_phase (phases.Refused fault) e =
           let stood : fault ≢ Memory → IsRefused new (text ++ piece) fault = λ other.
           let here = subst (λ p. StandsIn p new taken) e (m.stands (λ z. other (cc))) in
           rw (whole_text text piece used) (refused_more new taken (drop used piece) fault here) in
-          let told : fault ≢ Memory → byte_fault old.layout old.wanted (text ++ piece) ≡ Some fault =
-          λ other. rw (m.layout, m.wanted) at (refused_fault new (text ++ piece) fault (stood other)) in
-          grind (arith, m.memory, m.layout, m.wanted, stood, told)
+          grind (arith, m.memory, m.layout, m.wanted, stood, refused_fault new (text ++ piece) fault)
       by_phase phase e =
           let live : is_live new.phase ≡ true = rw e in
           let all : used ≡ length piece = whole live in

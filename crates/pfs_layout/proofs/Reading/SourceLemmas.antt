@@ -31,22 +31,13 @@ pub feed_named : {r new : Fields} {text piece : List ℕ} {found : LayoutFault} 
     → (fault : LayoutFault) → fault ≢ Memory → is_input_fault fault ≡ false → found ≢ fault
 feed_named {r} {text} {piece} meets fault no_memory other e =
     let here = (meets.exact (λ z. no_memory (cc)) fault).0 (ap Err e) in
-    let refuses = fault_stays r.layout (text ++ piece) [] r.wanted fault here in
-    both_ways _ other (refused_input r.layout _ r.wanted fault refuses)
+    both_ways _ other (refused_input r.layout _ r.wanted fault (fault_stays r.layout _ [] r.wanted fault here))
 
 -- what never holds, exactly where a device that works has failed
 pub never_failed : {P : Type 0} {failed : Bool} → failed ≡ false → ¬ P → P ↔ (failed ≡ true)
 never_failed working never = grind arith
 
 -- ---- pieces
-
--- a reader that went on and isn't done is live
-live_then : {r new : Fields} {front piece : List ℕ} {progress : Progress} → FeedMeets r front piece (Ok progress) new
-    → progress.done ≡ false → StandsAfter new (front ++ piece) → is_live new.phase ≡ true
-live_then {new} {front} {piece} m still stands =
-    let no_fault : (fault : LayoutFault) → byte_fault new.layout new.wanted (front ++ piece) ≢ Some fault =
-    λ fault e. cc ((m.exact (λ z. cc) fault).1 (rw (m.layout, m.wanted) at e)) in
-    grind (arith, m.done, no_fault, refused_fault new (front ++ piece), stands)
 
 -- the reader is handed a piece that its source has given
 module _ {layout : Layout} {k : ℕ} {first left : Option (List ℕ)} {r : Fields} (t : Reading layout k first left r)
@@ -69,7 +60,10 @@ module _ {layout : Layout} {k : ℕ} {first left : Option (List ℕ)} {r : Field
   reading_more {new} {progress} m still =
       let all = take_all progress.used piece (omega (arith, m.whole still)) in
       let stands : StandsAfter new (t.front ++ piece) = rw all at m.ok.1 in
-      grind (arith, m, t, stands, live_then m still stands, behind)
+      let no_fault : (fault : LayoutFault) → byte_fault new.layout new.wanted (t.front ++ piece) ≢ Some fault =
+      λ fault e. cc ((m.exact (λ z. cc) fault).1 (rw (m.layout, m.wanted) at e)) in
+      let live : is_live new.phase ≡ true = grind (arith, m.done, no_fault, refused_fault new (t.front ++ piece)) in
+      grind (arith, m, t, stands, live, behind)
 
   -- the piece has a fault
   pub reading_fault : {new : Fields} {fault : LayoutFault} → FeedMeets r t.front piece (Err fault) new → fault ≢ Memory

@@ -28,10 +28,9 @@ returns-then-is_live-clause-meets c text s =
     let live = sym c.is_live-2.ensures ∙ c.if-is_live.true in
     let all = c.take-2.ensures.whole live in
     let size = length-take (LONGEST_INPUT - old.digits.offset) c.args.piece.now in
-    let short = follows.last_line.offset in
     rw c.refuse.ensures
-    (feed_of (long_meets c.args.piece.now _ (c.take-2.ensures.meets text s) (omega (arith, follows.short))
-    (omega (arith, follows.short)) (omega arith) live) (omega arith) (λ z. cc))
+    (feed_of (long_meets c.args.piece.now _ (c.take-2.ensures.meets text s) (omega arith) (omega arith)
+    (omega arith) live) (omega arith) (λ z. cc))
 
 pub returns-then-is_live-clause-reader : goal.returns-then-is_live-clause-reader
 returns-then-is_live-clause-reader c =
