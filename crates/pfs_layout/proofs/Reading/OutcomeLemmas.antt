@@ -36,12 +36,12 @@ ends next complete now tail is f = grind (arith, nat_tests, f.complete, f.instan
 record EndOutcome (r : Fields) (text : List ℕ) : Type 0 where
   pub some : 1 ≤ r.wanted
   pub fault : refusal r.layout text r.wanted ≡ end_fault (after_end r)
-  pub instance : end_fault (after_end r) ≡ None → (at_end r.last r.blocks).instance
-      ≡ option_map (instance_of r.layout) (slice_get (stand r.layout (lines text)).complete (r.wanted - 1))
+  pub instance : end_fault (after_end r) ≡ None
+      → (at_end r.last r.blocks).instance ≡ accepted r.layout text r.wanted
 
 -- a reader that wants more: the last number and the last line end as before a line end
 live_end : (r : Fields) (text : List ℕ) → Follows r text → is_live r.phase ≡ true → EndOutcome r text
-unfolding fault_of_place ends_early line_ended
+unfolding fault_of_place ends_early line_ended accepted
 live_end r text f live =
     let few = live_wants r text f live in
     let good = (sound r.layout r.wanted text f.sound few).1 in
@@ -62,7 +62,7 @@ live_end r text f live =
 
 -- a reader that stands in this phase
 end_outcome : (p : Phase) (r : Fields) (text : List ℕ) → r.phase ≡ p → StandsIn p r text → EndOutcome r text
-unfolding line_ended
+unfolding line_ended accepted
 -- the wanted block is complete before the last line
 end_outcome phases.Done r text e f =
     let enough = done_enough r text f e in
@@ -96,11 +96,9 @@ finish_tells r text s =
       λ fault e. meets o.some (rw (o.fault ∙ e)) (o.fault ∙ e),
       λ e.
           let none = o.fault ∙ e in
-          let same : accepted r.layout text r.wanted ≡ (at_end r.last r.blocks).instance =
-          rw none (sym (o.instance e)) in
           let held = unrefused_holds r.layout r.wanted o.some text none in
           let is = holds_accepted r.layout r.wanted text held.0 held.1 in
-          (held.0, sym same ∙ is, meets o.some is none),
+          (held.0, o.instance e ∙ is, meets o.some is none),
     )
 
 -- ---- two answers for the same bytes

@@ -136,9 +136,8 @@ memory_nowhere r text e s =
 pub refused_fault : (r : Fields) (text : List ℕ) (fault : LayoutFault) → IsRefused r text fault
     → byte_fault r.layout r.wanted text ≡ Some fault
 refused_fault r text fault f =
-    let here : byte_fault r.layout r.wanted (f.front ++ f.byte ∷ []) ≡ Some fault =
-    rw (byte_fault-push, f.sound, f.here) in
-    rw (f.whole, ← append_assoc f.front (f.byte ∷ []) f.rest) (byte_fault-more r.layout r.wanted _ f.rest fault here)
+    rw (f.whole, ← append_assoc f.front (f.byte ∷ []) f.rest)
+    (byte_fault-more r.layout r.wanted _ f.rest fault (rw (byte_fault-push, f.sound, f.here)))
 
 -- a refused reader stands behind every longer text
 refused_more : (r : Fields) (text more : List ℕ) (fault : LayoutFault) → IsRefused r text fault
@@ -214,8 +213,7 @@ long_meets {old = old} {mid = mid} {text = text} piece room m all full within li
     let follows = live_follows mid taken live (rw all at (front.stands (live-memory mid.phase live))) in
     let wants = live_wants mid taken follows live in
     let good = (sound mid.layout mid.wanted taken follows.sound wants).1 in
-    let size = sym follows.last_line.offset ∙ full in
-    let here = long_fault mid.layout mid.wanted taken (get_or piece room 0) wants good size in
+    let here = long_fault mid.layout mid.wanted taken (get_or piece room 0) wants good (omega arith) in
     let whole : text ++ take (room + 1) piece ≡ taken ++ get_or piece room 0 ∷ [] =
     rw (take_more piece room 0 within, append_assoc) in
     grind (arith, m, front.no_more, cases_eq, follows.sound, follows.blocks.held)

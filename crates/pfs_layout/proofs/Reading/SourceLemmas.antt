@@ -75,8 +75,7 @@ module _ {layout : Layout} {k : ℕ} {first left : Option (List ℕ)} {r : Field
   -- the wanted block has ended in the piece
   pub reading_done : {new : Fields} {progress : Progress} {outcome : Result Problem LayoutFault}
       → FeedMeets r t.front piece (Ok progress) new → progress.done ≡ true
-      → ((text : List ℕ) → StandsAfter new text → FinishMeets new text outcome)
-      → (problem : Problem) × (outcome ≡ Ok problem)
+      → FinishMeets new (t.front ++ take progress.used piece) outcome → (problem : Problem) × (outcome ≡ Ok problem)
       × IfSome first (λ bytes. IsInstanceFile limits layout bytes k problem)
   reading_done {new} {progress} m ended meets =
       let front : List ℕ = t.front ++ take progress.used piece in
@@ -86,7 +85,7 @@ module _ {layout : Layout} {k : ℕ} {first left : Option (List ℕ)} {r : Field
       let held = enough_holds new.layout new.wanted follows.some front follows.sound enough in
       let here = completes_file new.layout front new.wanted held.0 held.1.0 in (
         held.0,
-        ((meets front m.ok.1).file held.0).1 here,
+        (meets.file held.0).1 here,
         told_behind _ (λ more e.
             let file = (free_behind new.layout front (drop progress.used piece ++ more) new.wanted held.0 follows.some
             follows.sound enough).0 here in
@@ -109,10 +108,9 @@ module _ {layout : Layout} {k : ℕ} {first left : Option (List ℕ)} {r : Field
   -- the input ends behind the piece, or the wanted block has ended in it
   pub reads_ended : {new : Fields} {text : List ℕ} {outcome : Result Problem LayoutFault} → length piece ≤ PIECE
       → FinishMeets new text outcome → IfSome first (λ bytes. ReadsAsFar layout k bytes next (result_err outcome))
-  reads_ended {outcome = Ok problem} size meets = reads_piece None size (λ e. cc) (λ e. absurd (cc))
-  reads_ended {outcome = Err fault} size meets =
-      reads_piece (Some fault) size (λ e. absurd (finish_named meets Read refl (cc)))
-      (λ e. absurd (finish_named meets Memory refl (cc)))
+  reads_ended {outcome = outcome} size meets =
+      reads_piece (result_err outcome) size (λ e. absurd (finish_named meets Read refl (grind arith)))
+      (λ e. absurd (finish_named meets Memory refl (grind arith)))
 
   -- the piece has a fault, or memory was refused in it
   pub reads_fault : {new : Fields} {fault : LayoutFault} → length piece ≤ PIECE

@@ -6,10 +6,7 @@ use Rattle.pfs_layout.proofs.Reading.ReaderSteps.{live_follows}
 use Rattle.pfs_layout.proofs.reader.read_block.Goals as goal
 
 pub pieces-init : goal.pieces-init
-pieces-init g c = record {
-  working = c.requires.working;
-  reading = grind (arith, c.new-taker.ensures);
-}
+pieces-init g c = record { working = c.requires.working; reading = grind (arith, c.new-taker.ensures) }
 
 pub pieces-preserved : goal.pieces-preserved
 pieces-preserved g c =
@@ -67,14 +64,12 @@ returns-then-progress g c =
     let t = c.pieces.invariant.reading in
     let bytes = c.in-Some.ensures.bytes in
     let meets = c.in-Ok.ensures.meets t.front t.stands in
-    let ends = c.finish-then-progress.ensures.meets in
+    let ends = c.finish-then-progress.ensures.meets _ meets.ok.1 in
     let done = reading_done t _ _ bytes.1 meets c.if-progress.true ends in
     record {
       file = rw done.1 done.2;
       refused = rw done.1 tt;
-      read =
-          never_failed (c.in-Some.ensures.failed ∙ c.pieces.invariant.working)
-          (finish_named (ends _ meets.ok.1) Read refl);
-      no_seed = finish_named (ends _ meets.ok.1) SeedRange refl;
-      as_far = reads_ended t _ _ bytes.1 (omega (arith, length-take {A = ℕ})) (ends _ meets.ok.1);
+      read = never_failed (c.in-Some.ensures.failed ∙ c.pieces.invariant.working) (finish_named ends Read refl);
+      no_seed = finish_named ends SeedRange refl;
+      as_far = reads_ended t _ _ bytes.1 (omega (arith, length-take {A = ℕ})) ends;
     }
