@@ -1,20 +1,19 @@
 -- What a reader owes for a piece.
 use Rattle.pfs_layout.proofs.Words.{nat_tests, ◌≡◌, ◌≢◌, ℕ, ◌+◌, ◌<◌, ◌≤◌, true, not, ◌&&◌, List, [], ◌∷◌, ◌++◌, length}
 use Rattle.pfs_layout.proofs.Words.{take, get_or, refl, ◌∙◌, arith, inl, inr, ◌-◌, cases_eq, append_assoc}
-use Rattle.pfs_layout.proofs.Words.{LONGEST_INPUT, Memory, Line, Blocks, is_digit, is_blank}
-use Rattle.pfs_layout.proofs.Words.{number_of, judged, IsReady, is_live, Fields, fields, Follows}
-use Rattle.pfs_layout.proofs.Words.{StandsAfter, EndsWantedSize, ◌↔◌, Bool, false, drop, sym, ap, subst, Some}
-use Rattle.pfs_layout.proofs.Words.{None, Ok, Err, append-nil, take_all, take-append-drop}
-use Rattle.pfs_layout.proofs.Words.{LayoutFault, TooLong, Phase, byte_fault, refused}
-use Rattle.pfs_layout.proofs.Words.{block_read, number_ended, StandsIn, IsReader, FeedMeets, Option, last_number_ended}
+use Rattle.pfs_layout.proofs.Words.{LONGEST_INPUT, Memory, Line, Blocks, is_digit, judged, IsReady, number_of}
+use Rattle.pfs_layout.proofs.Words.{is_live, Fields, fields, Follows, StandsAfter, EndsWantedSize, drop, sym, subst}
+use Rattle.pfs_layout.proofs.Words.{Some, append-nil, take_all, take-append-drop, LayoutFault, TooLong, Phase}
+use Rattle.pfs_layout.proofs.Words.{byte_fault, refused, block_read, number_ended, StandsIn, IsReader, FeedMeets}
+use Rattle.pfs_layout.proofs.Words.{Option, is_blank, last_number_ended}
 use Rattle.pfs_layout.specs.declared.scan.Number.{Number}
 use Rattle.pfs_layout.specs.Private.Step.{TakeMeets}
 use Rattle.std.proofs.lemmas.List.{take_more, take-take, length-take-le, get_or-take}
 use Rattle.pfs_layout.specs.declared.blocks.Phase.TheVariants as phases
 use Rattle.pfs_layout.specs.Private.Step.{Pushes, LacksMemory}
 use Rattle.pfs_layout.proofs.Files.GoodLemmas.{stand_of, long_fault, sound}
-use Rattle.pfs_layout.proofs.Reading.ReaderSteps.{carries, live_follows, step_stands, follows_ready}
-use Rattle.pfs_layout.proofs.Reading.ReaderSteps.{wants_more, sought_now, begun_now}
+use Rattle.pfs_layout.proofs.Reading.ReaderSteps.{carries, live_follows, step_stands, follows_ready, wants_more}
+use Rattle.pfs_layout.proofs.Reading.ReaderSteps.{sought_now, begun_now}
 use Rattle.pfs_layout.proofs.Reading.ByteSteps.{live-memory, refused_memory, live_few}
 use Rattle.pfs_layout.specs.Reader.{IsRefused, progress_of}
 use Rattle.pfs_layout.proofs.Published.PlaceLemmas.{byte_fault-push}
@@ -36,15 +35,10 @@ wanted_size {r = r} {new = new} {text = text} {after = after} b f live short pus
     let next : Fields = fields after (judged r.blocks r.last b) in
     let follows = live_follows next (text ++ b ∷ []) (rw lacks.begins) (step_stands b f live short pushes) in
     let begun = begun_now follows lacks.begins in
-    record {
-      short = short;
-      line_end = ends_line_at r.blocks new r.last b lacks;
-      last = omega (arith, f.blocks.complete, lacks.wanted);
-      sought = sought_now f lacks.sought;
-      begun = (begun.0, cc (begun.1, (carries r.blocks r.last b live).layout));
-    }
+    let line = ends_line_at r.blocks new r.last b lacks in
+    grind (arith, f.blocks.complete, lacks.wanted, sought_now f lacks.sought, begun, carries r.blocks r.last b live)
 
--- no time is held before the wanted block's size line ends
+-- no time is held before it ends
 none_yet : {r next new : Blocks} {last : Line} {text : List ℕ} → Follows (fields last r) text
     → LacksMemory r next new → r.held ≡ 0
 none_yet f lacks = grind (arith, f.blocks.complete, f.blocks.held, sought_now f lacks.sought, lacks.wanted)
@@ -106,14 +100,10 @@ module _ {old now : Fields} {piece : List ℕ} {i : ℕ} (t : TakenTo old now pi
     pub taken_on : is_live next.phase ≡ true → TakenTo old (fields after next) piece (i + 1)
     taken_on live =
         let then = well_then (live-memory next.phase live) in
-        record {
-          live = live;
-          layout = then.0;
-          wanted = then.1;
-          offset = omega (arith, t.offset, on.offset);
-          follows = λ text s. live_follows _ _ live (then.2 text s);
-          no_more = no_more_then;
-        }
+        let follows = λ (text : List ℕ) (s : StandsAfter old text). live_follows (fields after next) _ live (then.2 text s)
+        in
+        let offset : after.digits.offset ≡ old.digits.offset + (i + 1) = omega (arith, t.offset, on.offset) in
+        search no_more_then
 
     -- the last byte
     pub taken_end : (next.phase ≡ phases.Refused Memory
@@ -122,29 +112,14 @@ module _ {old now : Fields} {piece : List ℕ} {i : ℕ} (t : TakenTo old now pi
         → TakeMeets old text piece (after.digits.offset - old.digits.offset) (fields after next)
     taken_end wants text s =
         let used : after.digits.offset - old.digits.offset ≡ i + 1 = omega (arith, t.offset, on.offset) in
+        let no_more = no_more_then text s in
         rw used (elim (refused_memory next.phase) [
-          | inr well ↦
-              let then = well_then well in
-              record {
-                layout = then.0;
-                wanted = then.1;
-                stands = λ h. then.2 text s;
-                memory = λ h. absurd (well h);
-                none = λ h. absurd (well h);
-                no_more = no_more_then text s;
-              }
+          | inr well ↦ let then = well_then well in grind (arith, then, no_more)
           | inl refused ↦
               let lacks = wants refused in
               let f = t.follows text s in
               let size = wanted_size (get_or piece i 0) f t.live (short text s) on lacks in
-              record {
-                layout = ap (λ r. r.layout) lacks.keeps ∙ t.layout;
-                wanted = ap (λ r. r.wanted) lacks.keeps ∙ t.wanted;
-                stands = λ well. absurd (well refused);
-                memory = λ h. (i, within, rw (t.layout, t.wanted) at size);
-                none = λ h. ap (λ r. r.held) lacks.keeps ∙ none_yet f lacks;
-                no_more = no_more_then text s;
-              }
+              grind (arith, lacks.keeps, t, size, none_yet f lacks, no_more)
         ])
 
   -- a byte that means nothing
@@ -158,24 +133,19 @@ module _ {old now : Fields} {piece : List ℕ} {i : ℕ} (t : TakenTo old now pi
 pub memory_nowhere : (r : Fields) (text : List ℕ) → r.phase ≡ phases.Refused Memory → StandsAfter r text → ⊥
 memory_nowhere r text e s =
     let refused : IsRefused r text Memory = subst (λ p. StandsIn p r text) e s in
-    let named = rw refused.here at (of_place r.layout refused.front (Some refused.byte) r.wanted) in
-    absurd (cc)
+    absurd (cc (rw refused.here at (of_place r.layout refused.front (Some refused.byte) r.wanted)))
 
 -- a refused reader's fault is that of the text
 pub refused_fault : (r : Fields) (text : List ℕ) (fault : LayoutFault) → IsRefused r text fault
     → byte_fault r.layout r.wanted text ≡ Some fault
 refused_fault r text fault f =
-    let here : byte_fault r.layout r.wanted (f.front ++ f.byte ∷ []) ≡ Some fault =
-    rw (byte_fault-push, f.sound, f.here) in
-    rw (f.whole, ← append_assoc f.front (f.byte ∷ []) f.rest) (byte_fault-more r.layout r.wanted _ f.rest fault here)
+    rw (f.whole, ← append_assoc f.front (f.byte ∷ []) f.rest)
+    (byte_fault-more r.layout r.wanted _ f.rest fault (rw (byte_fault-push, f.sound, f.here)))
 
 -- a refused reader stands behind every longer text
 refused_more : (r : Fields) (text more : List ℕ) (fault : LayoutFault) → IsRefused r text fault
     → IsRefused r (text ++ more) fault
-refused_more r text more fault f =
-    let whole : text ++ more ≡ f.front ++ f.byte ∷ (f.rest ++ more) =
-    rw f.whole (append_assoc f.front (f.byte ∷ f.rest) more) in
-    search
+refused_more r text more fault f = grind (arith, f, append_assoc {A = ℕ})
 
 -- a done reader has the wanted block
 pub done_enough : (r : Fields) (text : List ℕ) → Follows r text → r.phase ≡ phases.Done
@@ -197,23 +167,6 @@ module _ {old new : Fields} {text piece : List ℕ} {used : ℕ} (m : TakeMeets 
   pub reader_of : IsReader new
   reader_of = record { stands = λ h. (text ++ take used piece, m.stands h); none = m.none }
 
-  -- where no byte of the piece has a fault
-  fine_meets : used ≤ length piece → new.phase ≢ phases.Refused Memory
-      → byte_fault new.layout new.wanted (text ++ piece) ≡ None → (done : Bool) → (done ≡ false → used ≡ length piece)
-      → (done ≡ true ↔ (new.phase ≡ phases.Done))
-      → FeedMeets old text piece (Ok (record { used = used; done = done })) new
-  fine_meets within no_memory right done whole ended = record {
-    ok = (within, m.stands no_memory);
-    layout = m.layout;
-    wanted = m.wanted;
-    whole = whole;
-    done = ended;
-    no_more = m.no_more;
-    refused = tt;
-    exact = let here = rw (m.layout, m.wanted) at right in λ h fault. (λ z. cc, λ z. cc);
-    memory = λ h. absurd (cc);
-  }
-
   pub feed_of : used ≤ length piece → (is_live new.phase ≡ true → used ≡ length piece)
       → FeedMeets old text piece (progress_of new.phase used) new
   feed_of within whole = by_phase new.phase refl
@@ -221,49 +174,27 @@ module _ {old new : Fields} {text piece : List ℕ} {used : ℕ} (m : TakeMeets 
       taken : List ℕ
       taken = text ++ take used piece
 
-      live_meets : is_live new.phase ≡ true → FeedMeets old text piece (Ok (record { used = used; done = false })) new
-      live_meets live =
-          let no_memory = live-memory new.phase live in
-          let follows = live_follows new taken live (m.stands no_memory) in
-          let right = rw (take_all used piece (omega (arith, whole live))) at follows.sound in
-          fine_meets within no_memory right false (λ e. whole live) (λ e. cc, λ e. cc)
-
       by_phase : (p : Phase) → new.phase ≡ p → FeedMeets old text piece (progress_of p used) new
       by_phase phases.Done e =
-          let no_memory : new.phase ≢ phases.Refused Memory = λ z. cc in
-          let follows : Follows new taken = subst (λ p. StandsIn p new taken) e (m.stands no_memory) in
+          let follows : Follows new taken = subst (λ p. StandsIn p new taken) e (m.stands (λ z. cc)) in
           let right = faultless_behind new.layout new.wanted taken (drop used piece) (done_enough new taken follows e)
           follows.sound in
-          fine_meets within no_memory (rw (whole_text text piece used) right) true (λ z. cc) (λ z. e, λ z. refl)
+          grind (arith, m, e, whole_text text piece used)
       by_phase (phases.Refused fault) e =
           let stood : fault ≢ Memory → IsRefused new (text ++ piece) fault = λ other.
           let here = subst (λ p. StandsIn p new taken) e (m.stands (λ z. other (cc))) in
           rw (whole_text text piece used) (refused_more new taken (drop used piece) fault here) in
-          record {
-            ok = tt;
-            layout = m.layout;
-            wanted = m.wanted;
-            whole = tt;
-            done = tt;
-            no_more = tt;
-            refused = λ other. subst (λ p. StandsIn p new (text ++ piece)) (sym e) (stood other);
-            exact = λ other found.
-                let is = refused_fault new (text ++ piece) fault (stood (λ z. other (ap Err z))) in
-                let here = rw (m.layout, m.wanted) at is in (λ z. cc, λ z. cc);
-            memory = λ h. m.memory (cc);
-          }
-      by_phase phase e = live_meets (rw e)
+          grind (arith, m.memory, m.layout, m.wanted, stood, refused_fault new (text ++ piece) fault)
+      by_phase phase e =
+          let live : is_live new.phase ≡ true = rw e in
+          let all : used ≡ length piece = whole live in
+          let follows = live_follows new taken live (m.stands (live-memory new.phase live)) in
+          let right = rw (take_all used piece (omega arith), m.layout, m.wanted) at follows.sound in
+          grind (arith, m, e, all)
 
 -- a reader that wants no byte takes none
 pub idle_meets : (r : Fields) (text piece : List ℕ) → StandsAfter r text → TakeMeets r text piece 0 r
-idle_meets r text piece s = record {
-  layout = refl;
-  wanted = refl;
-  stands = λ h. rw append-nil s;
-  memory = λ h. absurd (memory_nowhere r text h s);
-  none = λ h. absurd (memory_nowhere r text h s);
-  no_more = λ n less. absurd (omega arith);
-}
+idle_meets r text piece s = grind (arith, memory_nowhere r text, append-nil {A = ℕ})
 
 -- ---- a piece that passes the limit
 
@@ -271,18 +202,7 @@ idle_meets r text piece s = record {
 pub front_meets : {old new : Fields} {text : List ℕ} {used : ℕ} (piece : List ℕ) (room : ℕ)
     → TakeMeets old text (take room piece) used new → room ≤ length piece → used ≤ room
     → TakeMeets old text piece used new
-front_meets {used = used} piece room m within few = record {
-  layout = m.layout;
-  wanted = m.wanted;
-  stands = λ h. rw (take-take used room piece few) at (m.stands h);
-  memory = λ h.
-      let end = m.memory h in
-      let less : end.0 < room = omega (arith, end.1, length-take-le room piece within) in
-      let same = get_or-take room piece end.0 0 less in
-      (end.0, omega arith, rw (take-take end.0 room piece (omega arith), same) at end.2);
-  no_more = λ n less. rw (take-take n room piece (omega arith)) at (m.no_more n less);
-  none = m.none;
-}
+front_meets piece room m within few = grind (arith, m, take-take, get_or-take, length-take-le)
 
 -- where all of a front up to the limit was taken, the byte behind it is refused
 pub long_meets : {old mid : Fields} {text : List ℕ} {used : ℕ} (piece : List ℕ) (room : ℕ)
@@ -290,25 +210,13 @@ pub long_meets : {old mid : Fields} {text : List ℕ} {used : ℕ} (piece : List
     → room < length piece → is_live mid.phase ≡ true
     → TakeMeets old text piece (room + 1) (fields mid.last (refused mid.blocks TooLong))
 unfolding block_read
-long_meets {mid = mid} {text = text} piece room m all full within live =
+long_meets {old = old} {mid = mid} {text = text} piece room m all full within live =
     let front = front_meets piece room m (omega arith) (omega arith) in
     let taken : List ℕ = text ++ take room piece in
     let follows = live_follows mid taken live (rw all at (front.stands (live-memory mid.phase live))) in
     let wants = live_wants mid taken follows live in
     let good = (sound mid.layout mid.wanted taken follows.sound wants).1 in
-    record {
-      layout = m.layout;
-      wanted = m.wanted;
-      stands = λ other. record {
-        front = taken;
-        byte = get_or piece room 0;
-        rest = [];
-        whole = rw (take_more piece room 0 within, append_assoc);
-        sound = follows.sound;
-        here = long_fault mid.layout mid.wanted taken _ wants good (sym follows.last_line.offset ∙ full);
-        held = follows.blocks.held;
-      };
-      memory = λ h. absurd (cc);
-      none = λ h. absurd (cc);
-      no_more = λ n less. grind (arith, cases_eq n room, front.no_more n, rw (m.layout, m.wanted) at wants);
-    }
+    let here = long_fault mid.layout mid.wanted taken (get_or piece room 0) wants good (omega arith) in
+    let whole : text ++ take (room + 1) piece ≡ taken ++ get_or piece room 0 ∷ [] =
+    rw (take_more piece room 0 within, append_assoc) in
+    grind (arith, m, front.no_more, cases_eq, follows.sound, follows.blocks.held)

@@ -1,10 +1,9 @@
 -- A reader that reads pieces of a source.
-use Rattle.pfs_layout.proofs.Words.{◌≡◌, ◌≢◌, ℕ, ◌<◌, ◌≤◌, true, false, List, [], ◌++◌, length, take, drop, refl}
-use Rattle.pfs_layout.proofs.Words.{◌∙◌, subst, arith, Option, Some, None, inl, inr, Bool, ap, Result, Ok, Err}
-use Rattle.pfs_layout.proofs.Words.{slice_index, ◌↔◌, result_err, append_assoc, take_all, limits, Problem, Layout}
-use Rattle.pfs_layout.proofs.Words.{LayoutFault, Read, Memory, Phase, Progress, IsInstanceFile, RefusesInstance}
-use Rattle.pfs_layout.proofs.Words.{is_live, Fields, Follows, StandsIn, StandsAfter, EndsWantedSize, FeedMeets}
-use Rattle.pfs_layout.proofs.Words.{FinishMeets}
+use Rattle.pfs_layout.proofs.Words.{◌≡◌, ◌≢◌, ℕ, ◌<◌, ◌≤◌, true, false, List, [], ◌++◌, length, take, drop, refl, subst}
+use Rattle.pfs_layout.proofs.Words.{arith, Option, Some, None, inl, inr, Bool, ap, Result, Ok, Err, slice_index, ◌↔◌}
+use Rattle.pfs_layout.proofs.Words.{result_err, append_assoc, take_all, limits, Problem, Layout, LayoutFault, Read}
+use Rattle.pfs_layout.proofs.Words.{Memory, Progress, IsInstanceFile, RefusesInstance, is_live, Fields, Follows}
+use Rattle.pfs_layout.proofs.Words.{StandsIn, StandsAfter, EndsWantedSize, FeedMeets, FinishMeets, byte_fault}
 use Rattle.std.specs.Prelude.{IfSome}
 use Rattle.std.specs.Io.KnownBytes.{Keeps, Consumes}
 use Rattle.pfs_layout.specs.declared.blocks.Phase.TheVariants as phases
@@ -32,26 +31,13 @@ pub feed_named : {r new : Fields} {text piece : List ℕ} {found : LayoutFault} 
     → (fault : LayoutFault) → fault ≢ Memory → is_input_fault fault ≡ false → found ≢ fault
 feed_named {r} {text} {piece} meets fault no_memory other e =
     let here = (meets.exact (λ z. no_memory (cc)) fault).0 (ap Err e) in
-    let refuses = fault_stays r.layout (text ++ piece) [] r.wanted fault here in
-    both_ways _ other (refused_input r.layout _ r.wanted fault refuses)
+    both_ways _ other (refused_input r.layout _ r.wanted fault (fault_stays r.layout _ [] r.wanted fault here))
 
 -- what never holds, exactly where a device that works has failed
 pub never_failed : {P : Type 0} {failed : Bool} → failed ≡ false → ¬ P → P ↔ (failed ≡ true)
-never_failed working never = (λ p. absurd (never p), λ e. absurd (both_ways _ working e))
+never_failed working never = grind arith
 
 -- ---- pieces
-
--- a reader that went on and isn't done is live
-live_then : {r new : Fields} {front piece : List ℕ} {progress : Progress} → FeedMeets r front piece (Ok progress) new
-    → progress.done ≡ false → StandsAfter new (front ++ piece) → is_live new.phase ≡ true
-live_then {new} {front} {piece} m still stands = by_phase new.phase refl stands
-  where
-    by_phase : (p : Phase) → new.phase ≡ p → StandsIn p new (front ++ piece) → is_live p ≡ true
-    by_phase phases.Done e s = cc (m.done.1 e)
-    by_phase (phases.Refused fault) e s =
-        let is = rw (m.layout, m.wanted) at (refused_fault new (front ++ piece) fault s) in
-        cc ((m.exact (λ z. cc) fault).1 is)
-    by_phase phase e s = refl
 
 -- the reader is handed a piece that its source has given
 -- a reader of the block that has read a front of what its source had left at first, where that is told
@@ -83,14 +69,10 @@ module _ {layout : Layout} {k : ℕ} {first left : Option (List ℕ)} {r : Field
   reading_more {new} {progress} m still =
       let all = take_all progress.used piece (omega (arith, m.whole still)) in
       let stands : StandsAfter new (t.front ++ piece) = rw all at m.ok.1 in
-      record {
-        layout_is = m.layout ∙ t.layout_is;
-        wanted_is = m.wanted ∙ t.wanted_is;
-        live = live_then m still stands;
-        front = t.front ++ piece;
-        stands = stands;
-        told = behind;
-      }
+      let no_fault : (fault : LayoutFault) → byte_fault new.layout new.wanted (t.front ++ piece) ≢ Some fault =
+      λ fault e. cc ((m.exact (λ z. cc) fault).1 (rw (m.layout, m.wanted) at e)) in
+      let live : is_live new.phase ≡ true = grind (arith, m.done, no_fault, refused_fault new (t.front ++ piece)) in
+      grind (arith, m, t, stands, live, behind)
 
   -- the piece has a fault
   pub reading_fault : {new : Fields} {fault : LayoutFault} → FeedMeets r t.front piece (Err fault) new → fault ≢ Memory
@@ -102,8 +84,7 @@ module _ {layout : Layout} {k : ℕ} {first left : Option (List ℕ)} {r : Field
   -- the wanted block has ended in the piece
   pub reading_done : {new : Fields} {progress : Progress} {outcome : Result Problem LayoutFault}
       → FeedMeets r t.front piece (Ok progress) new → progress.done ≡ true
-      → ((text : List ℕ) → StandsAfter new text → FinishMeets new text outcome)
-      → (problem : Problem) × (outcome ≡ Ok problem)
+      → FinishMeets new (t.front ++ take progress.used piece) outcome → (problem : Problem) × (outcome ≡ Ok problem)
       × IfSome first (λ bytes. IsInstanceFile limits layout bytes k problem)
   reading_done {new} {progress} m ended meets =
       let front : List ℕ = t.front ++ take progress.used piece in
@@ -113,7 +94,7 @@ module _ {layout : Layout} {k : ℕ} {first left : Option (List ℕ)} {r : Field
       let held = enough_holds new.layout new.wanted follows.some front follows.sound enough in
       let here = completes_file new.layout front new.wanted held.0 held.1.0 in (
         held.0,
-        ((meets front m.ok.1).file held.0).1 here,
+        (meets.file held.0).1 here,
         told_behind _ (λ more e.
             let file = (free_behind new.layout front (drop progress.used piece ++ more) new.wanted held.0 follows.some
             follows.sound enough).0 here in
@@ -130,18 +111,15 @@ module _ {layout : Layout} {k : ℕ} {first left : Option (List ℕ)} {r : Field
       → IfSome first (λ bytes. ReadsAsFar layout k bytes next fault)
   reads_piece fault size failed memory = told_behind _ (λ more e.
       let f = live_follows r t.front t.live t.stands in
-      let here : IsUndecided r.layout r.wanted t.front =
-      record { sound = f.sound; incomplete = live_wants r t.front f t.live } in
-      let wanted = rw (t.layout_is, t.wanted_is) at here in
+      let wanted : IsUndecided layout k t.front = grind (arith, f.sound, live_wants r t.front f t.live, t) in
       search)
 
   -- the input ends behind the piece, or the wanted block has ended in it
   pub reads_ended : {new : Fields} {text : List ℕ} {outcome : Result Problem LayoutFault} → length piece ≤ PIECE
       → FinishMeets new text outcome → IfSome first (λ bytes. ReadsAsFar layout k bytes next (result_err outcome))
-  reads_ended {outcome = Ok problem} size meets = reads_piece None size (λ e. cc) (λ e. absurd (cc))
-  reads_ended {outcome = Err fault} size meets =
-      reads_piece (Some fault) size (λ e. absurd (finish_named meets Read refl (cc)))
-      (λ e. absurd (finish_named meets Memory refl (cc)))
+  reads_ended {outcome = outcome} size meets =
+      reads_piece (result_err outcome) size (λ e. absurd (finish_named meets Read refl (grind arith)))
+      (λ e. absurd (finish_named meets Memory refl (grind arith)))
 
   -- the piece has a fault, or memory was refused in it
   pub reads_fault : {new : Fields} {fault : LayoutFault} → length piece ≤ PIECE

@@ -7,9 +7,8 @@ use Rattle.pfs_layout.proofs.blocks.Blocks.feed.Goals as goal
 
 pub returns-then-not-is_live-clause-meets : goal.returns-then-not-is_live-clause-meets
 returns-then-not-is_live-clause-meets c text s =
-    let old = fields c.args.last.now c.args.self.now in
     let dead = sym c.is_live.ensures ∙ c.if-not-is_live.true in
-    rw c.progress.ensures (feed_of (idle_meets old text c.args.piece.now s) (omega arith) (λ live. cc))
+    rw c.progress.ensures (feed_of (idle_meets _ text _ s) (omega arith) (λ live. cc))
 
 pub returns-then-piece-room-clause-reader : goal.returns-then-piece-room-clause-reader
 returns-then-piece-room-clause-reader c =
@@ -29,10 +28,9 @@ returns-then-is_live-clause-meets c text s =
     let live = sym c.is_live-2.ensures ∙ c.if-is_live.true in
     let all = c.take-2.ensures.whole live in
     let size = length-take (LONGEST_INPUT - old.digits.offset) c.args.piece.now in
-    let short = follows.last_line.offset in
     rw c.refuse.ensures
-    (feed_of (long_meets c.args.piece.now _ (c.take-2.ensures.meets text s) (omega (arith, follows.short))
-    (omega (arith, follows.short)) (omega arith) live) (omega arith) (λ z. cc))
+    (feed_of (long_meets c.args.piece.now _ (c.take-2.ensures.meets text s) (omega arith) (omega arith)
+    (omega arith) live) (omega arith) (λ z. cc))
 
 pub returns-then-is_live-clause-reader : goal.returns-then-is_live-clause-reader
 returns-then-is_live-clause-reader c =

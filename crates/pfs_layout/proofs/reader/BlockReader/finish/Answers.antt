@@ -1,7 +1,5 @@
 -- The end of the input is judged as the definitions say, and an accepted instance is there.
-use Rattle.pfs_layout.proofs.Words.{◌≡◌, sym, ◌∙◌, ap, Some, Blocks, at_end, Fields, fields}
-use Rattle.pfs_layout.proofs.Words.{line_ended, inl, inr}
-use Rattle.std.proofs.lemmas.Option.{same_Some}
+use Rattle.pfs_layout.proofs.Words.{◌≡◌, sym, ◌∙◌, line_ended, inl, inr}
 use Rattle.pfs_layout.proofs.Reading.OutcomeLemmas.{finish_tells}
 use Rattle.pfs_layout.proofs.Reading.ByteSteps.{refused_memory}
 use Rattle.pfs_layout.proofs.reader.BlockReader.finish.Goals as goal
@@ -25,10 +23,7 @@ unreachable-requires c =
 
 pub returns-in-Some-instance-clause-meets : goal.returns-in-Some-instance-clause-meets
 returns-in-Some-instance-clause-meets c text =
-    let r : Fields = fields c.self.inside.last c.self.inside.blocks in
-    let instance = c.in-Some-instance.instance in
-    let there : (at_end r.last r.blocks).instance ≡ Some instance =
-    sym (ap (λ (z : Blocks). z.instance) c.judge_end.ensures.blocks) ∙ c.in-Some-instance.is in
     rw (← c.self.view_is) (λ s.
-    let told = (finish_tells r text s).1 (sym c.judge_end.ensures.fault ∙ c.in-None.is) in
-    rw (same_Some _ _ (sym there ∙ told.1)) told.2)
+    let told = (finish_tells _ text s).1 (sym c.judge_end.ensures.fault ∙ c.in-None.is) in
+    let same : c.in-Some-instance.instance ≡ told.0 = cc in
+    rw same told.2)
