@@ -41,7 +41,7 @@ pub use Rattle.pfs_layout.specs.CanonicalText.{row_line, row_lines}
 unfoldable pub use Rattle.pfs_layout.specs.CanonicalText.{canonical_text}
 pub use Rattle.pfs_layout.specs.File.{AreBlocks, Front, IsBlock, IsInstance, IsInstanceFile, IsSomeBlock}
 unfoldable pub use Rattle.pfs_layout.specs.Generator.{generated, seed_after}
-pub use Rattle.pfs_layout.specs.Laws.{Completes}
+pub use Rattle.pfs_layout.specs.Laws.{Completes, Seeks}
 unfoldable pub use Rattle.pfs_layout.specs.Lines.{ended_numbers, ended_parts, lines, numbers, open_part}
 pub use Rattle.pfs_layout.specs.Private.Step.{IsReady, at_end, blocks_after, body_judged, event_of, has_numbers_alone}
 pub use Rattle.pfs_layout.specs.Private.Step.{is_machine_due, last_number_ended, no_numbers, number_of, refused}

@@ -6,9 +6,9 @@ use Rattle.pfs_base.specs.declared.limits.TheConstants.{MOST_JOBS, MOST_MACHINES
 use Rattle.pfs_base.specs.FlowShop.{FlowShop, time_of}
 use Rattle.pfs_base.specs.Lists.{below}
 use Rattle.pfs_base.specs.Problem.{Problem}
-use Rattle.pfs_layout.specs.declared.layout.Layout.{Layout}
+pub use Rattle.pfs_layout.specs.declared.layout.Layout.{Layout}
 use Rattle.pfs_layout.specs.declared.layout.Layout.TheVariants.{Taillard, OrLib}
-use Rattle.pfs_layout.specs.declared.size_line.Size.{Size}
+pub use Rattle.pfs_layout.specs.declared.size_line.Size.{Size}
 
 -- the size of these numbers, in the order of Taillard's size lines
 abbrev pub sized : ℕ → ℕ → ℕ → ℕ → ℕ → Size

@@ -2,9 +2,7 @@
 use Rattle.std.specs.Prelude.{ℕ, ◌+◌, ◌*◌, ◌==◌, List, [], ◌∷◌, ◌++◌, length, fold, slice_index, Option, Some, None}
 use Rattle.std.specs.Prelude.{if◌then◌else◌}
 use Rattle.pfs_base.specs.Problem.{Problem}
-use Rattle.pfs_layout.specs.declared.layout.Layout.{Layout}
-use Rattle.pfs_layout.specs.declared.size_line.Size.{Size}
-use Rattle.pfs_layout.specs.Block.{is_within_limits, problem_of, stated_size, due_count, are_due}
+use Rattle.pfs_layout.specs.Block.{Layout, Size, is_within_limits, problem_of, stated_size, due_count, are_due}
 use Rattle.pfs_layout.specs.Lines.{is_mixed, is_number_line, numbers}
 
 -- a block: its size, and the numbers of its body so far
