@@ -33,8 +33,10 @@ pub use Rattle.pfs_base.specs.Sends.{SendsAll}
 pub use Rattle.pfs_base.specs.Text.{spaced}
 pub use Rattle.pfs_base.specs.declared.limits.TheConstants.{LONGEST_INPUT, LONGEST_TIME}
 pub use Rattle.pfs_layout.specs.Block.{Due, any_time, due_count, is_due, machine_number, row_count, is_within_limits}
-pub use Rattle.pfs_layout.specs.Block.{size_of}
-unfoldable pub use Rattle.pfs_layout.specs.Block.{are_due, due, due_at, due_row, stated_size}
+pub use Rattle.pfs_layout.specs.Block.{size_of, Block, Now, Stand, after_line, begun, completed, inside, lost}
+pub use Rattle.pfs_layout.specs.Block.{place_of_time, seeking, standing, with_line, Layout, Size}
+unfoldable pub use Rattle.pfs_layout.specs.Block.{are_due, due, due_at, due_row, stated_size, instance_of, stand}
+unfoldable pub use Rattle.pfs_layout.specs.Block.{stand_after}
 pub use Rattle.pfs_layout.specs.Lines.{is_blank, is_digit, is_line_end, is_word_byte, ended_lines, is_mixed}
 pub use Rattle.pfs_layout.specs.Lines.{is_no_digit, is_number_line, last_digits, open_line}
 pub use Rattle.pfs_layout.specs.CanonicalText.{row_line, row_lines}
@@ -54,17 +56,12 @@ unfoldable pub use Rattle.pfs_layout.specs.Reader.{block_read}
 pub use Rattle.pfs_layout.specs.Refuse.{RefusesInstance, misfit, size_fault}
 unfoldable pub use Rattle.pfs_layout.specs.Refuse.{accepted, byte_fault, ends_early, fault_of_place, mixed_line}
 unfoldable pub use Rattle.pfs_layout.specs.Refuse.{refusal, wrong_number, wrong_size}
-pub use Rattle.pfs_layout.specs.Stand.{Block, Now, Stand, after_line, begun, completed, inside, lost, place_of_time}
-pub use Rattle.pfs_layout.specs.Stand.{seeking, standing, with_line}
-unfoldable pub use Rattle.pfs_layout.specs.Stand.{instance_of, stand, stand_after}
 pub use Rattle.pfs_layout.specs.declared.blocks.Blocks.{Blocks}
 pub use Rattle.pfs_layout.specs.declared.blocks.Phase.{Phase}
 pub use Rattle.pfs_layout.specs.declared.blocks.Progress.{Progress}
 pub use Rattle.pfs_layout.specs.declared.fault.LayoutFault.{LayoutFault}
 pub use Rattle.pfs_layout.specs.declared.fault.LayoutFault.TheVariants.{Memory, Read, SeedRange, TooLong}
-pub use Rattle.pfs_layout.specs.declared.layout.Layout.{Layout}
 pub use Rattle.pfs_layout.specs.declared.layout.Layout.TheVariants.{OrLib, Taillard}
 pub use Rattle.pfs_layout.specs.declared.scan.Line.{Line}
 pub use Rattle.pfs_layout.specs.declared.scan.TheConstants.{CEILING}
-pub use Rattle.pfs_layout.specs.declared.size_line.Size.{Size}
 pub use Rattle.pfs_layout.specs.declared.size_line.SizeLine.{SizeLine}

@@ -12,8 +12,7 @@ use Rattle.pfs_layout.specs.declared.fault.LayoutFault.TheVariants.{TimeRange, M
 use Rattle.pfs_layout.specs.Lines.{is_blank, is_line_end, lines, ended_lines, open_line, is_mixed, is_number_line}
 use Rattle.pfs_layout.specs.Lines.{numbers, ended_numbers, last_digits}
 use Rattle.pfs_layout.specs.Block.{Layout, Size, is_within_limits, Due, any_time, machine_number, nothing, stated_size}
-use Rattle.pfs_layout.specs.Block.{times_in, due_at}
-use Rattle.pfs_layout.specs.Stand.{Block, Now, seeking, inside, lost, stand, instance_of}
+use Rattle.pfs_layout.specs.Block.{times_in, due_at, Block, Now, seeking, inside, lost, stand, instance_of}
 
 -- A place is told by the bytes before it and the byte at it, or None at the end.
 

@@ -10,7 +10,7 @@ use Rattle.pfs_layout.proofs.Words.{no_numbers, line_ended, block_of, HoldsNumbe
 use Rattle.std.proofs.Math.Nat.{mul-pos}
 use Rattle.std.proofs.lemmas.Bool.{not-true}
 use Rattle.pfs_layout.specs.declared.blocks.Phase.TheVariants as phases
-use Rattle.pfs_layout.specs.Stand.{after_size}
+use Rattle.pfs_layout.specs.Block.{after_size}
 use Rattle.pfs_layout.specs.Private.Step.{stated_by, body_of, block_begun, size_judged, at_next_line, line_ended_in}
 use Rattle.pfs_layout.proofs.Files.DueLemmas.{size_within}
 use Rattle.pfs_layout.proofs.Reading.NumberSteps.{Outcome}

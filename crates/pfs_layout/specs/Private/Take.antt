@@ -4,7 +4,7 @@ use Rattle.pfs_layout.specs.declared.layout.Layout.{Layout}
 use Rattle.pfs_layout.specs.declared.fault.LayoutFault.TheVariants.{Memory}
 use Rattle.pfs_layout.specs.declared.blocks.Phase.TheVariants as phases
 use Rattle.pfs_layout.specs.Lines.{ended_lines}
-use Rattle.pfs_layout.specs.Stand.{stand}
+use Rattle.pfs_layout.specs.Block.{stand}
 use Rattle.pfs_layout.specs.Reader.{Fields, StandsAfter, EndsWantedSize, is_live}
 
 -- what the bytes that were taken leave of a reader that stands after this text
