@@ -65,3 +65,10 @@ pub use Rattle.pfs_layout.specs.declared.layout.Layout.TheVariants.{OrLib, Taill
 pub use Rattle.pfs_layout.specs.declared.scan.Line.{Line}
 pub use Rattle.pfs_layout.specs.declared.scan.TheConstants.{CEILING}
 pub use Rattle.pfs_layout.specs.declared.size_line.SizeLine.{SizeLine}
+
+pub cases_option : {A : Type 0} (o : Option A) → (o ≡ None) ⊎ ((x : A) × (o ≡ Some x))
+cases_option None = inl refl
+cases_option (Some x) = inr (x, refl)
+
+pub or_none : {A : Type 0} (o p : Option A) → option_or o p ≡ None → (o ≡ None) × (p ≡ None)
+or_none o p e = grind arith

@@ -7,7 +7,7 @@ use Rattle.pfs_layout.proofs.Words.{slice_get-append, slice_get-push, Layout, is
 use Rattle.pfs_layout.proofs.Words.{open_line, ended_parts, numbers, ended_numbers, Block, Now, seeking, inside, lost}
 use Rattle.pfs_layout.proofs.Words.{Stand, standing, completed, after_line, stand_after, stand, instance_of, ends_early}
 use Rattle.pfs_layout.proofs.Words.{fault_of_place, refusal, accepted, mixed_line, byte_fault, wrong_number, wrong_size}
-use Rattle.pfs_layout.proofs.Words.{Completes, limits, Front, Seeks}
+use Rattle.pfs_layout.proofs.Words.{Completes, limits, Front, Seeks, cases_option, or_none}
 use Rattle.std.proofs.lemmas.Bool.{false_from_ne_true}
 use Rattle.pfs_layout.specs.Refuse.{faults}
 use Rattle.pfs_layout.proofs.Published.PlaceLemmas.{byte_fault-push, refusal_end}
@@ -15,7 +15,6 @@ use Rattle.pfs_layout.proofs.Files.GoodLemmas.{is_good, good_end, fault_within_l
 use Rattle.pfs_layout.proofs.Files.GoodLemmas.{stand_of-end, stand_of-on, open_line-end, one_line, Extends}
 use Rattle.pfs_layout.proofs.Files.GoodLemmas.{line_extends, extends, fewer_before, Few, enough_right, judged, sound}
 use Rattle.pfs_layout.proofs.Files.GoodLemmas.{sound_more, faultless_front}
-use Rattle.pfs_layout.proofs.Options.{cases_option, or_none}
 use Rattle.pfs_layout.proofs.Files.FileLemmas.{IsTail, made}
 use Rattle.pfs_layout.proofs.Files.LineLemmas.{lines-parts}
 

@@ -1,9 +1,8 @@
 -- One verdict, and what it is computed by.
 use Rattle.pfs_layout.proofs.Words.{◌≡◌, ℕ, ◌≤◌, List, [], ◌∷◌, ◌++◌, length, refl, ◌∙◌, ap, arith, inl, inr}
 use Rattle.pfs_layout.proofs.Words.{all_but_last, last_of, Problem, all_and_last, Layout, lines, Block, stand}
-use Rattle.pfs_layout.proofs.Words.{instance_of, refusal, Completes, Seeks}
+use Rattle.pfs_layout.proofs.Words.{instance_of, refusal, Completes, Seeks, cases_option}
 use Rattle.pfs_layout.specs.Laws.{OneVerdict, AcceptedLaw}
-use Rattle.pfs_layout.proofs.Options.{cases_option}
 use Rattle.pfs_layout.proofs.Published.PlaceLemmas.{refusal_is, one_fault}
 use Rattle.pfs_layout.proofs.Files.FileLemmas.{file_completes, completes_file}
 use Rattle.pfs_layout.proofs.Files.VerdictLemmas.{one_held, unrefused_holds, holds_unrefused, holds_accepted}

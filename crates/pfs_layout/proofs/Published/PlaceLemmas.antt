@@ -2,13 +2,26 @@
 use Rattle.pfs_layout.proofs.Words.{slice_get-push, ◌≡◌, ℕ, suc, ◌+◌, ◌<◌, List, [], ◌∷◌, ◌++◌, length, refl, arith}
 use Rattle.pfs_layout.proofs.Words.{Option, Some, None, option_or, length_push, take_all, slice_get-append, Layout}
 use Rattle.pfs_layout.proofs.Words.{LayoutFault, fault_of_place, refusal, byte_fault, RefusesInstance, zero, ◌≤◌, ◌↔◌}
-use Rattle.pfs_layout.proofs.Words.{map, below, first_some, inl, inr}
+use Rattle.pfs_layout.proofs.Words.{map, below, first_some, inl, inr, cases_option, map-append, ap, ◌∙◌}
 use Rattle.std.proofs.lemmas.List.{take-append-le, take_at}
 use Rattle.std.proofs.lemmas.Option.{slice_get_past}
-use Rattle.pfs_base.proofs.Published.Lists.{map-range_with_len-same}
+use Rattle.pfs_base.proofs.Published.Lists.{map-range_with_len-same, first_some-append, range_with_len-push}
 use Rattle.pfs_layout.specs.Laws.{ByteFaultLaw, RefusalLaw}
 use Rattle.pfs_layout.specs.Refuse.{fault_at}
-use Rattle.pfs_layout.proofs.Options.{cases_option, first_push, first_none}
+
+-- the first place at which a function is there
+module _ {A : Type 0} (f : ℕ → Option A) where
+  -- one place more
+  first_push : (n : ℕ) → first_some (map f (below (suc n))) ≡ option_or (first_some (map f (below n))) (f n)
+  first_push n =
+      let e : 0 + n ≡ n = omega arith in
+      ap (λ ns. first_some (map f ns)) (range_with_len-push 0 n)
+      ∙ rw (map-append f (below n) ((0 + n) ∷ []), first_some-append (map f (below n)) (f (0 + n) ∷ []), e)
+      (grind arith)
+
+  first_none : (n : ℕ) → first_some (map f (below n)) ≡ None → (q : ℕ) → q < n → f q ≡ None
+  first_none zero e q h = absurd (omega arith)
+  first_none (suc n) e q h = grind (arith, first_push n, first_none n)
 
 -- a place within a text has the fault that it has in each longer text
 fault_at-append : (layout : Layout) (k : ℕ) (text more : List ℕ) (place : ℕ) → place < length text

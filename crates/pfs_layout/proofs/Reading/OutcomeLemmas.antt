@@ -15,7 +15,7 @@ use Rattle.pfs_layout.proofs.Files.FileLemmas.{completes_file, made, IsTail}
 use Rattle.pfs_layout.proofs.Files.GoodLemmas.{stand_of, sound, fault_within_limit, enough_right}
 use Rattle.pfs_layout.proofs.Files.VerdictLemmas.{end_faults, stand_lines, block_stays, enough_holds, unrefused_holds}
 use Rattle.pfs_layout.proofs.Files.VerdictLemmas.{holds_accepted}
-use Rattle.pfs_layout.proofs.Options.{cases_option}
+use Rattle.pfs_layout.proofs.Words.{cases_option}
 use Rattle.pfs_layout.proofs.Published.LawLemmas.{accepted_law}
 use Rattle.pfs_layout.proofs.Published.PlaceLemmas.{refusal_is, refusal_end}
 use Rattle.pfs_layout.proofs.Reading.ReaderSteps.{carries}
