@@ -53,13 +53,12 @@ pub use Rattle.pfs_layout.specs.Reader.{EndsWantedSize, FeedMeets, Fields, Finis
 pub use Rattle.pfs_layout.specs.Reader.{FollowsBody, FollowsLine, FollowsNow, HoldsFew, HoldsNumbers, IsReader}
 pub use Rattle.pfs_layout.specs.Reader.{StandsAfter, StandsIn, block_begun_by, block_of, fields, is_live, time_count}
 unfoldable pub use Rattle.pfs_layout.specs.Reader.{block_read}
-pub use Rattle.pfs_layout.specs.Refuse.{RefusesInstance, misfit, size_fault}
+pub use Rattle.pfs_layout.specs.Refuse.{LayoutFault, RefusesInstance, misfit, size_fault}
 unfoldable pub use Rattle.pfs_layout.specs.Refuse.{accepted, byte_fault, ends_early, fault_of_place, mixed_line}
 unfoldable pub use Rattle.pfs_layout.specs.Refuse.{refusal, wrong_number, wrong_size}
 pub use Rattle.pfs_layout.specs.declared.blocks.Blocks.{Blocks}
 pub use Rattle.pfs_layout.specs.declared.blocks.Phase.{Phase}
 pub use Rattle.pfs_layout.specs.declared.blocks.Progress.{Progress}
-pub use Rattle.pfs_layout.specs.declared.fault.LayoutFault.{LayoutFault}
 pub use Rattle.pfs_layout.specs.declared.fault.LayoutFault.TheVariants.{Memory, Read, SeedRange, TooLong}
 pub use Rattle.pfs_layout.specs.declared.layout.Layout.TheVariants.{OrLib, Taillard}
 pub use Rattle.pfs_layout.specs.declared.scan.Line.{Line}

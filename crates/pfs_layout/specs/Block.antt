@@ -30,14 +30,11 @@ problem_of size time = record {
   notes = size.notes;
 }
 
-abbrev pub is_between : ℕ → ℕ → ℕ → Bool
-is_between least most n = nat_le least n && nat_le n most
-
 -- each number that a size line states is in its limit
 abbrev pub is_within_limits : Size → Bool
-is_within_limits size = is_between 1 MOST_JOBS size.jobs && is_between 1 MOST_MACHINES size.machines
-    && nat_le size.notes.seed GREATEST_NOTE && nat_le size.notes.upper GREATEST_NOTE
-    && nat_le size.notes.lower GREATEST_NOTE
+is_within_limits size = nat_le 1 size.jobs && nat_le size.jobs MOST_JOBS
+    && nat_le 1 size.machines && nat_le size.machines MOST_MACHINES && nat_le size.notes.seed GREATEST_NOTE
+    && nat_le size.notes.upper GREATEST_NOTE && nat_le size.notes.lower GREATEST_NOTE
 
 -- a row of a body: the times of all jobs on a machine, or a job's pairs of machine and time
 unfoldable pub due_row : Layout → FlowShop → ℕ → List ℕ

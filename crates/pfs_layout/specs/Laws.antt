@@ -4,13 +4,12 @@ use Rattle.std.specs.List.{All}
 use Rattle.pfs_base.specs.FlowShop.{AreSizes}
 use Rattle.pfs_base.specs.Limits.{Limits, limits}
 use Rattle.pfs_base.specs.Problem.{Problem}
-use Rattle.pfs_layout.specs.declared.fault.LayoutFault.{LayoutFault}
 use Rattle.pfs_layout.specs.Lines.{lines, ended_lines}
 use Rattle.pfs_layout.specs.Block.{Layout, Size, size_of, due, are_due, Block, seeking, stand, instance_of}
 use Rattle.pfs_layout.specs.File.{IsInstance, Front, IsInstanceFile}
 use Rattle.pfs_layout.specs.CanonicalText.{canonical_text, as_written}
 use Rattle.pfs_layout.specs.Generator.{IsSeed, seed_after, generated}
-use Rattle.pfs_layout.specs.Refuse.{RefusesInstance, refusal, accepted, byte_fault}
+use Rattle.pfs_layout.specs.Refuse.{LayoutFault, RefusesInstance, refusal, accepted, byte_fault}
 
 -- behind a front of the input the next block is sought, k being complete
 pub record Seeks (layout : Layout) (input : List ℕ) (k : ℕ) : Type 0 where

@@ -7,7 +7,7 @@ use Rattle.std.specs.Str.Parse.{digits_value}
 use Rattle.pfs_base.specs.declared.limits.TheConstants.{LONGEST_TIME, LONGEST_INPUT}
 use Rattle.pfs_base.specs.Lists.{below, is_empty, first_some}
 use Rattle.pfs_base.specs.Problem.{Problem}
-use Rattle.pfs_layout.specs.declared.fault.LayoutFault.{LayoutFault}
+pub use Rattle.pfs_layout.specs.declared.fault.LayoutFault.{LayoutFault}
 use Rattle.pfs_layout.specs.declared.fault.LayoutFault.TheVariants.{TimeRange, MachineNumber, ExtraNumber}
 use Rattle.pfs_layout.specs.Lines.{is_blank, is_line_end, lines, ended_lines, open_line, is_mixed, is_number_line}
 use Rattle.pfs_layout.specs.Lines.{numbers, ended_numbers, last_digits}

@@ -152,16 +152,13 @@ module _ (layout : Layout) (k : ℕ) where
       let seeks : Seeks layout (text ++ more) k = record { front = front; complete = c.complete; now = c.now } in
       (record { seeks = seeks; earlier = c.earlier; own = c.own; parts = c.parts; is = c.is }, held.1)
 
-  no_complete : length (stand_of layout []).complete ≡ 0
-  unfolding stand ended_parts
-  no_complete = refl
-
   -- k blocks that are complete before the last line hold a problem
   pub enough_holds : 1 ≤ k → (input : List ℕ) → Faultless input → k ≤ length (stand_of layout input).complete
       → (problem : Problem) × EndedHolds input problem
+  unfolding stand ended_parts
   enough_holds some = by_push (λ input. Faultless input → k ≤ length (stand_of layout input).complete
       → (problem : Problem) × EndedHolds input problem)
-      (λ right enough. absurd (omega (arith, no_complete))) (λ input b earlier right enough.
+      (λ right enough. absurd (omega arith)) (λ input b earlier right enough.
       elim (cases_lt (length (stand_of layout input).complete) k) [
         | inr all ↦
             let held = earlier (faultless_front layout k input b right).0 all in
