@@ -32,15 +32,18 @@ pub use Rattle.pfs_base.specs.Problem.{Problem}
 pub use Rattle.pfs_base.specs.Sends.{SendsAll}
 pub use Rattle.pfs_base.specs.Text.{spaced}
 pub use Rattle.pfs_base.specs.declared.limits.TheConstants.{LONGEST_INPUT, LONGEST_TIME}
-pub use Rattle.pfs_layout.specs.Block.{due_count, is_due, is_within_limits, row_count, size_of}
-unfoldable pub use Rattle.pfs_layout.specs.Block.{are_due, due, due_at, due_row, stated_size}
+pub use Rattle.pfs_layout.specs.Block.{due_count, is_due, row_count, is_within_limits}
+pub use Rattle.pfs_layout.specs.Block.{size_of, Block, Now, Stand, after_line, begun, completed, inside, lost}
+pub use Rattle.pfs_layout.specs.Block.{place_of_time, seeking, standing, with_line, Layout, Size}
+unfoldable pub use Rattle.pfs_layout.specs.Block.{are_due, due, due_at, due_row, stated_size, instance_of, stand}
+unfoldable pub use Rattle.pfs_layout.specs.Block.{stand_after}
 pub use Rattle.pfs_layout.specs.Lines.{is_blank, is_digit, is_line_end, is_word_byte, ended_lines, is_mixed}
 pub use Rattle.pfs_layout.specs.Lines.{is_no_digit, is_number_line, last_digits, open_line}
 pub use Rattle.pfs_layout.specs.CanonicalText.{row_line, row_lines}
 unfoldable pub use Rattle.pfs_layout.specs.CanonicalText.{canonical_text}
 pub use Rattle.pfs_layout.specs.File.{AreBlocks, Front, IsBlock, IsInstance, IsInstanceFile, IsSomeBlock}
 unfoldable pub use Rattle.pfs_layout.specs.Generator.{generated, seed_after}
-pub use Rattle.pfs_layout.specs.Laws.{Completes}
+pub use Rattle.pfs_layout.specs.Laws.{Completes, Seeks}
 unfoldable pub use Rattle.pfs_layout.specs.Lines.{ended_numbers, ended_parts, lines, numbers, open_part}
 pub use Rattle.pfs_layout.specs.Private.Step.{IsReady, at_end, body_judged, has_numbers_alone, judged}
 pub use Rattle.pfs_layout.specs.Private.Step.{last_number_ended, no_numbers, number_of, refused}
@@ -49,21 +52,22 @@ pub use Rattle.pfs_layout.specs.Reader.{EndsWantedSize, FeedMeets, Fields, Finis
 pub use Rattle.pfs_layout.specs.Reader.{FollowsBody, FollowsLine, FollowsNow, HoldsFew, HoldsNumbers, IsReader}
 pub use Rattle.pfs_layout.specs.Reader.{StandsAfter, StandsIn, block_begun_by, block_of, fields, is_live, time_count}
 unfoldable pub use Rattle.pfs_layout.specs.Reader.{block_read}
-pub use Rattle.pfs_layout.specs.Refuse.{RefusesInstance, misfit, size_fault}
+pub use Rattle.pfs_layout.specs.Refuse.{LayoutFault, RefusesInstance, misfit, size_fault}
 unfoldable pub use Rattle.pfs_layout.specs.Refuse.{accepted, byte_fault, ends_early, fault_of_place, mixed_line}
 unfoldable pub use Rattle.pfs_layout.specs.Refuse.{refusal, wrong_number, wrong_size}
-pub use Rattle.pfs_layout.specs.Stand.{Block, Now, Stand, after_line, begun, completed, inside, lost, place_of_time}
-pub use Rattle.pfs_layout.specs.Stand.{seeking, standing, with_line}
-unfoldable pub use Rattle.pfs_layout.specs.Stand.{instance_of, stand, stand_after}
 pub use Rattle.pfs_layout.specs.declared.blocks.Blocks.{Blocks}
 pub use Rattle.pfs_layout.specs.declared.body.Due.{Due}
 pub use Rattle.pfs_layout.specs.declared.blocks.Phase.{Phase}
 pub use Rattle.pfs_layout.specs.declared.blocks.Progress.{Progress}
-pub use Rattle.pfs_layout.specs.declared.fault.LayoutFault.{LayoutFault}
 pub use Rattle.pfs_layout.specs.declared.fault.LayoutFault.TheVariants.{Memory, Read, SeedRange, TooLong}
-pub use Rattle.pfs_layout.specs.declared.layout.Layout.{Layout}
 pub use Rattle.pfs_layout.specs.declared.layout.Layout.TheVariants.{OrLib, Taillard}
 pub use Rattle.pfs_layout.specs.declared.scan.Line.{Line}
 pub use Rattle.pfs_layout.specs.declared.scan.TheConstants.{CEILING}
-pub use Rattle.pfs_layout.specs.declared.size_line.Size.{Size}
 pub use Rattle.pfs_layout.specs.declared.size_line.SizeLine.{SizeLine}
+
+pub cases_option : {A : Type 0} (o : Option A) → (o ≡ None) ⊎ ((x : A) × (o ≡ Some x))
+cases_option None = inl refl
+cases_option (Some x) = inr (x, refl)
+
+pub or_none : {A : Type 0} (o p : Option A) → option_or o p ≡ None → (o ≡ None) × (p ≡ None)
+or_none o p e = grind arith

@@ -1,14 +1,10 @@
 -- The one text of an instance that is written, in each layout.
-use Rattle.std.specs.Prelude.{ℕ, ◌≤◌, List, [], ◌∷◌, ◌++◌, length, flat_map, codes}
+use Rattle.std.specs.Prelude.{ℕ, List, [], ◌∷◌, ◌++◌, flat_map, codes}
 use Rattle.pfs_base.specs.FlowShop.{FlowShop}
-use Rattle.pfs_base.specs.Limits.{limits}
 use Rattle.pfs_base.specs.Lists.{below}
 use Rattle.pfs_base.specs.Problem.{Problem}
 use Rattle.pfs_base.specs.Text.{with_line_end, spaced}
-use Rattle.pfs_layout.specs.declared.layout.Layout.{Layout}
-use Rattle.pfs_layout.specs.declared.size_line.Size.{Size}
-use Rattle.pfs_layout.specs.Block.{size_of, due_row, row_count}
-use Rattle.pfs_layout.specs.File.{IsInstance, IsInstanceFile}
+use Rattle.pfs_layout.specs.Block.{Layout, Size, size_of, due_row, row_count}
 
 -- each row of the body on a line
 abbrev pub row_line : Layout → FlowShop → ℕ → List ℕ
@@ -35,13 +31,3 @@ canonical_text layout problem = head_lines layout (size_of problem) ++ row_lines
 abbrev pub as_written : Layout → Problem → Problem
 as_written Layout.Taillard problem = problem
 as_written Layout.OrLib problem = record { shop = problem.shop; notes = record { seed = 0; upper = 0; lower = 0 } }
-
--- what is written is an instance file, and holds the problem
-abbrev pub CanonicalLaw : Type 0
-CanonicalLaw = (layout : Layout) (problem : Problem) → IsInstance limits problem
-    → IsInstanceFile limits layout (canonical_text layout problem) 1 (as_written layout problem)
-
--- no text that is written is longer than what is read
-abbrev pub TextsFit : Type 0
-TextsFit = (layout : Layout) (problem : Problem) → IsInstance limits problem
-    → length (canonical_text layout problem) ≤ limits.input

@@ -8,4 +8,3 @@ pub mod Lines
 pub mod Private
 pub mod Reader
 pub mod Refuse
-pub mod Stand

@@ -23,7 +23,7 @@ use Rattle.pfs_layout.specs.Lines.{is_digit, is_word_byte, is_line_end}
 use Rattle.pfs_layout.specs.Lines.{ended_lines, open_line, ended_numbers, last_digits}
 use Rattle.pfs_layout.specs.declared.size_line.Size.{Size}
 use Rattle.pfs_layout.specs.Block.{is_within_limits, due_count, times_in}
-use Rattle.pfs_layout.specs.Stand.{Block, Now, seeking, inside, lost, Stand, stand, instance_of, place_of_time}
+use Rattle.pfs_layout.specs.Block.{Block, Now, seeking, inside, lost, Stand, stand, instance_of, place_of_time}
 use Rattle.pfs_layout.specs.File.{IsInstanceFile}
 use Rattle.pfs_layout.specs.Refuse.{RefusesInstance, fault_of_place, byte_fault}
 

@@ -7,14 +7,12 @@ use Rattle.std.specs.Str.Parse.{digits_value}
 use Rattle.pfs_base.specs.declared.limits.TheConstants.{LONGEST_INPUT}
 use Rattle.pfs_base.specs.Lists.{below, is_empty, first_some}
 use Rattle.pfs_base.specs.Problem.{Problem}
-use Rattle.pfs_layout.specs.declared.layout.Layout.{Layout}
-use Rattle.pfs_layout.specs.declared.fault.LayoutFault.{LayoutFault}
+pub use Rattle.pfs_layout.specs.declared.fault.LayoutFault.{LayoutFault}
+use Rattle.pfs_layout.specs.declared.body.Due.{Due}
 use Rattle.pfs_layout.specs.Lines.{is_blank, is_line_end, lines, ended_lines, open_line, is_mixed, is_number_line}
 use Rattle.pfs_layout.specs.Lines.{numbers, ended_numbers, last_digits}
-use Rattle.pfs_layout.specs.declared.size_line.Size.{Size}
-use Rattle.pfs_layout.specs.declared.body.Due.{Due}
-use Rattle.pfs_layout.specs.Block.{is_within_limits, stated_size, times_in, due_at, is_due}
-use Rattle.pfs_layout.specs.Stand.{Block, Now, seeking, inside, lost, stand, instance_of}
+use Rattle.pfs_layout.specs.Block.{Layout, Size, is_within_limits, stated_size, is_due}
+use Rattle.pfs_layout.specs.Block.{times_in, due_at, Block, Now, seeking, inside, lost, stand, instance_of}
 
 -- A place is told by the bytes before it and the byte at it, or None at the end.
 

@@ -16,7 +16,7 @@ use Rattle.pfs_layout.specs.declared.blocks.Phase.TheVariants as phases
 use Rattle.pfs_layout.proofs.Files.GoodLemmas.{GoodNow, fault_within_limit, wrong_number_is, line_numbers}
 use Rattle.pfs_layout.proofs.Files.GoodLemmas.{no_last, number_fault, due_line, gap_fault}
 use Rattle.pfs_layout.proofs.Files.LineLemmas.{ended_numbers-push, open_part-push}
-use Rattle.pfs_layout.proofs.Options.{cases_option}
+use Rattle.pfs_layout.proofs.Words.{cases_option}
 use Rattle.pfs_layout.proofs.Reading.NumberSteps.{Refuses, Outcome, misfit_in, number_step}
 use Rattle.pfs_layout.proofs.Reading.LineSteps.{sought_line, body_line}
 use Rattle.pfs_layout.specs.declared.scan.Number.{Number}

@@ -9,7 +9,7 @@ use Rattle.pfs_layout.proofs.Words.{stand_after, standing, completed, instance_o
 use Rattle.pfs_layout.proofs.Words.{no_numbers, line_ended, block_of, HoldsNumbers, FollowsBlocks}
 use Rattle.std.proofs.lemmas.Bool.{not-true}
 use Rattle.pfs_layout.specs.declared.blocks.Phase.TheVariants as phases
-use Rattle.pfs_layout.specs.Stand.{after_size}
+use Rattle.pfs_layout.specs.Block.{after_size}
 use Rattle.pfs_layout.specs.Private.Step.{stated_by, block_begun, size_judged, at_next_line, line_ended_in}
 use Rattle.pfs_layout.proofs.Files.DueLemmas.{size_within}
 use Rattle.pfs_layout.proofs.Reading.NumberSteps.{Outcome}

@@ -12,7 +12,7 @@ use Rattle.pfs_layout.specs.Private.Step.{end_fault}
 use Rattle.pfs_layout.proofs.Files.FileLemmas.{made, IsTail}
 use Rattle.pfs_layout.proofs.Files.GoodLemmas.{stand_of, sound, fault_within_limit, enough_right}
 use Rattle.pfs_layout.proofs.Files.VerdictLemmas.{end_faults, stand_lines, block_stays, unrefused_holds, holds_accepted}
-use Rattle.pfs_layout.proofs.Options.{cases_option}
+use Rattle.pfs_layout.proofs.Words.{cases_option}
 use Rattle.pfs_layout.proofs.Published.LawLemmas.{accepted_law}
 use Rattle.pfs_layout.proofs.Published.PlaceLemmas.{refusal_is, refusal_end}
 use Rattle.pfs_layout.proofs.Reading.ReaderSteps.{carries}

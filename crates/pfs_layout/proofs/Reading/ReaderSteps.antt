@@ -15,7 +15,7 @@ use Rattle.std.specs.Char.{digit_value}
 use Rattle.std.specs.Str.Parse.{digits_value_after}
 use Rattle.std.proofs.lemmas.List.Sums.{sum_by-append, count_by-le-length}
 use Rattle.pfs_layout.proofs.Files.LineLemmas.{open_part-push}
-use Rattle.pfs_layout.proofs.Options.{cases_option}
+use Rattle.pfs_layout.proofs.Words.{cases_option}
 use Rattle.pfs_layout.proofs.Published.PlaceLemmas.{byte_fault-push}
 use Rattle.pfs_layout.proofs.Files.GoodLemmas.{ended_none, fault_within_limit, place_fault, GoodNow, stand_of, sound}
 use Rattle.pfs_layout.proofs.Files.GoodLemmas.{stand_of-on, stand_of-end, open_line-on, open_line-end}

@@ -1,5 +1,4 @@
--- What one byte does to what a reader keeps. What a reader's fields say of the bytes that it has read stands in
--- `Reader`.
+-- What bytes do to what a reader keeps. What its fields say of the bytes that it has read stands in `Reader`.
 use Rattle.std.specs.Prelude.{◌≡◌, ◌≢◌, ℕ, ◌+◌, ◌*◌, ◌%◌, ◌<◌, ◌≤◌, Bool, true, not, ◌&&◌}
 use Rattle.std.specs.Prelude.{◌==◌, nat_lt, replicate, slice_index, slice_set, Option, Some, None, is_some, option_map}
 use Rattle.std.specs.Prelude.{IfSome, if◌then◌else◌, List, [], ◌∷◌, ◌++◌, length, take}
@@ -20,9 +19,8 @@ use Rattle.pfs_layout.specs.declared.body.Due.{Due}
 use Rattle.pfs_layout.specs.declared.blocks.Phase.{Phase}
 use Rattle.pfs_layout.specs.declared.blocks.Blocks.{Blocks}
 use Rattle.pfs_layout.specs.Lines.{is_digit, is_blank, is_line_end, ended_lines}
-use Rattle.pfs_layout.specs.Block.{is_within_limits, problem_of, sized, numbers_for, times_in, is_due}
+use Rattle.pfs_layout.specs.Block.{is_within_limits, problem_of, sized, numbers_for, times_in, is_due, stand}
 use Rattle.pfs_layout.specs.Refuse.{fault_of_due}
-use Rattle.pfs_layout.specs.Stand.{stand}
 use Rattle.pfs_layout.specs.Reader.{EndsWantedSize, Fields, FollowsLine, StandsAfter, is_live}
 
 -- ---- the last line so far
