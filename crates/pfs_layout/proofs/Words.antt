@@ -5,7 +5,7 @@ pub use Rattle.std.proofs.Common.{add-one, ap, arith, codes, count_by, drop, fal
 pub use Rattle.std.proofs.Common.{inl, inr, length, lit≤, map, min, mul-le-mul, nat_le, not, refl, rules, subst, suc}
 pub use Rattle.std.proofs.Common.{sym, take, true, zero, ◌||◌, ℕ, ◌↔◌, ◌∙◌, ◌∷◌, ◌≡◌, ◌≢◌, ◌≤◌, ◌⊎◌}
 pub use Rattle.std.proofs.lemmas.Bool.{and_parts, cases_Bool, cases_eq, cases_lt, eq-eqb, eqb-false, eqb-true, le-ltb}
-pub use Rattle.std.proofs.lemmas.Bool.{lt-ltb, ne_eqb, or_parts}
+pub use Rattle.std.proofs.lemmas.Bool.{lt-ltb, ne_eqb, or_parts, false_from_ne_true}
 pub use Rattle.std.proofs.lemmas.Bool.Decides.{nat_tests}
 pub use Rattle.std.proofs.lemmas.Grind.{common_steps, elements, flat_map-append, rows, same_number_lists}
 pub use Rattle.std.proofs.lemmas.List.{append-nil, append_assoc, length-append, length-replicate, length-set, take_all}

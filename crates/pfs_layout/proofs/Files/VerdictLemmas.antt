@@ -7,8 +7,7 @@ use Rattle.pfs_layout.proofs.Words.{slice_get-append, slice_get-push, Layout, is
 use Rattle.pfs_layout.proofs.Words.{open_line, ended_parts, numbers, ended_numbers, Block, Now, seeking, inside, lost}
 use Rattle.pfs_layout.proofs.Words.{Stand, standing, completed, after_line, stand_after, stand, instance_of, ends_early}
 use Rattle.pfs_layout.proofs.Words.{fault_of_place, refusal, accepted, mixed_line, byte_fault, wrong_number, wrong_size}
-use Rattle.pfs_layout.proofs.Words.{Completes, limits, Front, Seeks, cases_option, or_none}
-use Rattle.std.proofs.lemmas.Bool.{false_from_ne_true}
+use Rattle.pfs_layout.proofs.Words.{Completes, limits, Front, Seeks, cases_option, or_none, false_from_ne_true}
 use Rattle.pfs_layout.specs.Refuse.{faults}
 use Rattle.pfs_layout.proofs.Published.PlaceLemmas.{byte_fault-push, refusal_end}
 use Rattle.pfs_layout.proofs.Files.GoodLemmas.{is_good, good_end, fault_within_limit, gap_fault, stand_of, stand-push}

@@ -1,12 +1,12 @@
 -- Canonical texts: their length, and that they are instance files.
-use Rattle.pfs_layout.proofs.Words.{ℕ, suc, zero, ◌+◌, ◌*◌, ◌<◌, ◌≤◌, List, [], ◌∷◌, length, map, flat_map, codes, Size}
-use Rattle.pfs_layout.proofs.Words.{arith, length-append, mul-le-mul, AllByRecursion, FlowShop, time_of, limits, below}
-use Rattle.pfs_layout.proofs.Words.{spaced, LONGEST_INPUT, Layout, Taillard, OrLib, due_row, row_count, row_line, ◌≡◌}
-use Rattle.pfs_layout.proofs.Words.{row_lines, ◌-◌, Bool, true, false, not, ◌++◌, Some, refl, sym, add-one, All}
-use Rattle.pfs_layout.proofs.Words.{append_assoc, list_any, list_all, nat_tests, flat_map-append, Problem}
-use Rattle.pfs_layout.proofs.Words.{All-from_get_or, list_any-append, list_all-append, flat_map_more, due, stated_size}
-use Rattle.pfs_layout.proofs.Words.{is_line_end, is_word_byte, canonical_text, IsInstance, IsBlock, IsInstanceFile}
-use Rattle.pfs_layout.proofs.Words.{lines, is_mixed, is_number_line, is_no_digit, numbers, size_of}
+use Rattle.pfs_layout.proofs.Words.{false_from_ne_true, flat_map-append, All-from_get_or, list_any-append, append_assoc}
+use Rattle.pfs_layout.proofs.Words.{list_all-append, AllByRecursion, canonical_text, IsInstanceFile, is_number_line, []}
+use Rattle.pfs_layout.proofs.Words.{length-append, LONGEST_INPUT, flat_map_more, is_word_byte, stated_size, is_line_end}
+use Rattle.pfs_layout.proofs.Words.{is_no_digit, ended_parts, mul-le-mul, IsInstance, row_count, row_lines, nat_tests}
+use Rattle.pfs_layout.proofs.Words.{open_part, flat_map, FlowShop, Taillard, row_line, list_any, list_all, is_mixed, ℕ}
+use Rattle.pfs_layout.proofs.Words.{time_of, due_row, add-one, Problem, IsBlock, numbers, size_of, length, limits, zero}
+use Rattle.pfs_layout.proofs.Words.{spaced, Layout, codes, arith, below, OrLib, false, lines, List, Size, Bool, true}
+use Rattle.pfs_layout.proofs.Words.{◌++◌, Some, refl, suc, ◌+◌, ◌*◌, ◌<◌, ◌≤◌, ◌∷◌, map, ◌≡◌, ◌-◌, not, sym, All, due}
 use Rattle.std.proofs.Common.{◌^◌, lit<, decimal}
 use Rattle.pfs_layout.specs.CanonicalText.{head_lines, as_written}
 use Rattle.pfs_layout.specs.Laws.{CanonicalLaw, TextsFit}
@@ -18,11 +18,11 @@ use Rattle.std.proofs.lemmas.List.FromFn.{length-range_with_len, map-range_with_
 use Rattle.std.proofs.lemmas.List.Sums.{sum_by-le}
 use Rattle.pfs_base.specs.FlowShop.{IsWithin}
 use Rattle.pfs_layout.proofs.Files.DueLemmas.{length_due_row, row_width, short_at}
-use Rattle.std.proofs.lemmas.List.Folds.{list_any_none}
+use Rattle.std.proofs.lemmas.List.Folds.{list_any_none, list_any_at}
 use Rattle.std.proofs.lemmas.List.Splits.{slice_split_none, slice_split_at}
 use Rattle.std.proofs.lemmas.Str.Parse.{digit_at}
 use Rattle.pfs_base.specs.Text.{with_line_end}
-use Rattle.pfs_layout.proofs.Files.LineLemmas.{lines-line, lines-none}
+use Rattle.pfs_layout.proofs.Files.LineLemmas.{lines-line, IsOpen}
 use Rattle.pfs_layout.proofs.Files.FileLemmas.{no_numbers}
 
 -- the numbers are of 64 bits
@@ -147,7 +147,8 @@ number_line ns some fit =
 more_lines : (line text : List ℕ) {parts : List (List ℕ)} → list_any is_line_end line ≡ false → lines text ≡ parts
     → lines (with_line_end line ++ text) ≡ line ∷ parts
 more_lines line text none are =
-    rw (append_assoc line (10 ∷ []) text, lines-line line 10 text none refl, are)
+    let unended : IsOpen line = λ k d h. false_from_ne_true _ (λ ends. cc (none, list_any_at is_line_end line k d h ends)) in
+    rw (append_assoc line (10 ∷ []) text, lines-line line 10 text unended refl, are)
 
 abbrev row_text : Layout → FlowShop → ℕ → List ℕ
 row_text layout shop row = spaced (due_row layout shop row)
@@ -158,7 +159,8 @@ module _ (layout : Layout) (problem : Problem) (is : IsInstance limits problem) 
 
   rows_are : (rows : List ℕ)
       → lines (flat_map (row_line layout problem.shop) rows) ≡ map (row_text layout problem.shop) rows
-  rows_are [] = lines-none
+  unfolding lines ended_parts open_part
+  rows_are [] = refl
   rows_are (row ∷ rows) = more_lines _ _ (no_line_end (due_row layout problem.shop row) (fits row)) (rows_are rows)
 
   rows_unmixed : (rows : List ℕ)
