@@ -2,7 +2,7 @@
 use Rattle.pfs_layout.proofs.Words.{◌≡◌, ℕ, ◌-◌, ◌≤◌, true, List, [], length, refl, sym, ◌∙◌, arith, Option, Some, None}
 use Rattle.pfs_layout.proofs.Words.{inl, inr, false, Result, Ok, Err, option_map, slice_get, option_or, result_err}
 use Rattle.pfs_layout.proofs.Words.{nat_tests, lt-ltb, le-ltb, append-nil, Problem, LayoutFault, Phase, Blocks, lines}
-use Rattle.pfs_layout.proofs.Words.{stand, instance_of, Block, Now, standing, ends_early, fault_of_place, refusal}
+use Rattle.pfs_layout.proofs.Words.{instance_of, Block, Now, standing, ends_early, fault_of_place, refusal}
 use Rattle.pfs_layout.proofs.Words.{accepted, line_ended, has_numbers_alone, at_end, is_live, Fields, Follows, StandsIn}
 use Rattle.pfs_layout.proofs.Words.{StandsAfter, FinishMeets, FollowsBlocks, judged}
 use Rattle.std.specs.Result.{result_ok}

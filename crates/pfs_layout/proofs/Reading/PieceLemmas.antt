@@ -2,7 +2,7 @@
 use Rattle.pfs_layout.proofs.Words.{nat_tests, ◌≡◌, ◌≢◌, ℕ, ◌+◌, ◌<◌, ◌≤◌, true, not, ◌&&◌, List, [], ◌∷◌, ◌++◌, length}
 use Rattle.pfs_layout.proofs.Words.{take, get_or, refl, ◌∙◌, arith, inl, inr, ◌-◌, cases_eq, append_assoc}
 use Rattle.pfs_layout.proofs.Words.{LONGEST_INPUT, Memory, Line, Blocks, is_digit, judged, IsReady, number_of}
-use Rattle.pfs_layout.proofs.Words.{is_live, Fields, fields, Follows, StandsAfter, EndsWantedSize, drop, sym, subst}
+use Rattle.pfs_layout.proofs.Words.{is_live, Fields, fields, Follows, StandsAfter, EndsWantedSize, drop, subst}
 use Rattle.pfs_layout.proofs.Words.{Some, append-nil, take_all, take-append-drop, LayoutFault, TooLong, Phase}
 use Rattle.pfs_layout.proofs.Words.{byte_fault, refused, block_read, number_ended, StandsIn, IsReader, FeedMeets}
 use Rattle.pfs_layout.proofs.Words.{Option, is_blank, last_number_ended}

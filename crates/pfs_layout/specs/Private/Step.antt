@@ -6,21 +6,19 @@ use Rattle.std.specs.Bool.{then_some}
 use Rattle.pfs_base.specs.declared.limits.TheConstants.{LONGEST_INPUT}
 use Rattle.pfs_base.specs.FlowShop.{with_time}
 use Rattle.pfs_base.specs.Problem.{Problem}
-use Rattle.pfs_layout.specs.declared.layout.Layout.{Layout}
-use Rattle.pfs_layout.specs.declared.fault.LayoutFault.{LayoutFault}
 use Rattle.pfs_layout.specs.declared.scan.Digits.{Digits}
 use Rattle.pfs_layout.specs.declared.scan.Kinds.{Kinds}
 use Rattle.pfs_layout.specs.declared.scan.Line.{Line}
 use Rattle.pfs_layout.specs.declared.scan.Number.{Number}
 use Rattle.pfs_layout.specs.declared.size_line.SizeLine.{SizeLine}
-use Rattle.pfs_layout.specs.declared.size_line.Size.{Size}
 use Rattle.pfs_layout.specs.declared.body.Body.{Body}
 use Rattle.pfs_layout.specs.declared.body.Due.{Due}
 use Rattle.pfs_layout.specs.declared.blocks.Phase.{Phase}
 use Rattle.pfs_layout.specs.declared.blocks.Blocks.{Blocks}
 use Rattle.pfs_layout.specs.Lines.{is_digit, is_blank, is_line_end, ended_lines}
-use Rattle.pfs_layout.specs.Block.{is_within_limits, problem_of, sized, numbers_for, times_in, is_due, stand}
-use Rattle.pfs_layout.specs.Refuse.{fault_of_due}
+use Rattle.pfs_layout.specs.Block.{Layout, Size, is_within_limits, problem_of, sized, numbers_for, times_in, is_due}
+use Rattle.pfs_layout.specs.Block.{stand}
+use Rattle.pfs_layout.specs.Refuse.{LayoutFault, fault_of_due}
 use Rattle.pfs_layout.specs.Reader.{EndsWantedSize, Fields, FollowsLine, StandsAfter, is_live}
 
 -- ---- the last line so far
