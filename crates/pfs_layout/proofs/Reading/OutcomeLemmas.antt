@@ -25,13 +25,6 @@ use Rattle.pfs_layout.proofs.Reading.PieceLemmas.{refused_fault, done_enough, li
 abbrev pub after_end : Fields → Blocks
 after_end r = line_ended (at_end r.last r.blocks) (has_numbers_alone r.kinds)
 
--- what is missing is what the blocks behind a line end say, and where nothing is, they have the wanted instance
-ends : (next : Blocks) (complete : List Block) (now : Now) (tail : List (List ℕ))
-    → IsTail next.layout now tail → FollowsBlocks false next (standing complete now) []
-    → (missing next.layout next.wanted (length complete) now ≡ end_fault next) × (end_fault next ≡ None
-    → next.instance ≡ option_map (instance_of next.layout) (slice_get complete (next.wanted - 1)))
-ends next complete now tail is f = grind (arith, nat_tests, f.complete, f.instance, f.now)
-
 -- the reader's fault is that of the input, and if there is none its instance is that of the input
 record EndOutcome (r : Fields) (text : List ℕ) : Type 0 where
   pub some : 1 ≤ r.wanted
@@ -39,7 +32,8 @@ record EndOutcome (r : Fields) (text : List ℕ) : Type 0 where
   pub instance : end_fault (after_end r) ≡ None
       → (at_end r.last r.blocks).instance ≡ accepted r.layout text r.wanted
 
--- a reader that wants more: the last number and the last line end as before a line end
+-- a reader that wants more: the last number and the last line end as before a line end, and what is missing then is
+-- what the blocks behind it say
 live_end : (r : Fields) (text : List ℕ) → Follows r text → is_live r.phase ≡ true → EndOutcome r text
 unfolding fault_of_place ends_early line_ended accepted
 live_end r text f live =
@@ -55,9 +49,9 @@ live_end r text f live =
           let keeps = carries r.blocks r.last 10 live in
           let m = made r.layout (lines text) in
           let follows = rw (none, ← stand_lines r.layout text good) at outcome in
-          let early = rw (keeps.layout, keeps.wanted) at
-          (ends (judged r.blocks r.last 10) _ _ m.tail (rw keeps.layout m.fits) follows) in
-          grind (arith, f.some, faults, early)
+          let fits : IsTail (judged r.blocks r.last 10).layout (stand r.layout (lines text)).now m.tail =
+          rw keeps.layout m.fits in
+          grind (arith, nat_tests, f.some, faults, keeps, follows.complete, follows.instance, follows.now, fits)
     ]
 
 -- a reader that stands in this phase
