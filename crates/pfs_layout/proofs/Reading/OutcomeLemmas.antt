@@ -49,9 +49,7 @@ live_end r text f live =
           let keeps = carries r.blocks r.last 10 live in
           let m = made r.layout (lines text) in
           let follows = rw (none, ← stand_lines r.layout text good) at outcome in
-          let fits : IsTail (judged r.blocks r.last 10).layout (stand r.layout (lines text)).now m.tail =
-          rw keeps.layout m.fits in
-          grind (arith, nat_tests, f.some, faults, keeps, follows.complete, follows.instance, follows.now, fits)
+          grind (arith, nat_tests, f.some, faults, keeps, follows.complete, follows.instance, follows.now, m.fits)
     ]
 
 -- a reader that stands in this phase
