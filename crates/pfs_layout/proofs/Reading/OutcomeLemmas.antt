@@ -1,22 +1,20 @@
 -- What finish owes: the end of an input is judged as a line end there would be, and as what is missing behind it.
-use Rattle.pfs_layout.proofs.Words.{◌≡◌, ℕ, ◌-◌, ◌≤◌, true, List, [], length, refl, sym, ◌∙◌, arith, Option, Some, None}
-use Rattle.pfs_layout.proofs.Words.{inl, inr, false, Result, Ok, Err, option_map, slice_get, option_or, result_err}
-use Rattle.pfs_layout.proofs.Words.{nat_tests, lt-ltb, le-ltb, append-nil, Problem, LayoutFault, Phase, Blocks, lines}
-use Rattle.pfs_layout.proofs.Words.{stand, instance_of, Block, Now, standing, ends_early, fault_of_place, refusal}
+use Rattle.pfs_layout.proofs.Words.{◌≡◌, ℕ, ◌-◌, ◌≤◌, true, List, [], refl, sym, ◌∙◌, arith, Option, Some, None, inl}
+use Rattle.pfs_layout.proofs.Words.{inr, Result, Ok, Err, option_or, result_err, nat_tests, lt-ltb, le-ltb, append-nil}
+use Rattle.pfs_layout.proofs.Words.{Problem, LayoutFault, Phase, Blocks, lines, ends_early, fault_of_place, refusal}
 use Rattle.pfs_layout.proofs.Words.{accepted, line_ended, has_numbers_alone, at_end, is_live, Fields, Follows, StandsIn}
-use Rattle.pfs_layout.proofs.Words.{StandsAfter, FinishMeets, FollowsBlocks}
+use Rattle.pfs_layout.proofs.Words.{StandsAfter, FinishMeets}
 use Rattle.std.specs.Result.{result_ok}
 use Rattle.pfs_layout.specs.declared.blocks.Phase.TheVariants as phases
-use Rattle.pfs_layout.specs.Refuse.{missing}
 use Rattle.pfs_layout.specs.Private.Step.{end_fault}
-use Rattle.pfs_layout.proofs.Files.FileLemmas.{made, IsTail}
+use Rattle.pfs_layout.proofs.Files.FileLemmas.{made}
 use Rattle.pfs_layout.proofs.Files.GoodLemmas.{stand_of, sound, fault_within_limit, enough_right}
 use Rattle.pfs_layout.proofs.Files.VerdictLemmas.{end_faults, stand_lines, block_stays, unrefused_holds, holds_accepted}
 use Rattle.pfs_layout.proofs.Options.{cases_option}
 use Rattle.pfs_layout.proofs.Published.LawLemmas.{accepted_law}
 use Rattle.pfs_layout.proofs.Published.PlaceLemmas.{refusal_is, refusal_end}
 use Rattle.pfs_layout.proofs.Reading.ReaderSteps.{carries}
-use Rattle.pfs_layout.proofs.Reading.ByteSteps.{end_byte, judged}
+use Rattle.pfs_layout.proofs.Reading.ByteSteps.{end_byte}
 use Rattle.pfs_layout.proofs.Reading.PieceLemmas.{refused_fault, done_enough, live_wants}
 
 -- ---- the end of the input

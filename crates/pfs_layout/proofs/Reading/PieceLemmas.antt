@@ -2,9 +2,9 @@
 use Rattle.pfs_layout.proofs.Words.{nat_tests, ◌≡◌, ◌≢◌, ℕ, ◌+◌, ◌<◌, ◌≤◌, true, not, ◌&&◌, List, [], ◌∷◌, ◌++◌, length}
 use Rattle.pfs_layout.proofs.Words.{take, get_or, refl, ◌∙◌, arith, inl, inr, ◌-◌, cases_eq, append_assoc}
 use Rattle.pfs_layout.proofs.Words.{LONGEST_INPUT, Memory, Line, Blocks, is_digit, event_of, blocks_after, IsReady}
-use Rattle.pfs_layout.proofs.Words.{is_live, Fields, fields, Follows, StandsAfter, EndsWantedSize, drop, sym, subst}
-use Rattle.pfs_layout.proofs.Words.{Some, append-nil, take_all, take-append-drop, LayoutFault, TooLong, Phase}
-use Rattle.pfs_layout.proofs.Words.{byte_fault, refused, block_read, number_ended, StandsIn, IsReader, FeedMeets}
+use Rattle.pfs_layout.proofs.Words.{is_live, Fields, fields, Follows, StandsAfter, EndsWantedSize, drop, subst, Some}
+use Rattle.pfs_layout.proofs.Words.{append-nil, take_all, take-append-drop, LayoutFault, TooLong, Phase, byte_fault}
+use Rattle.pfs_layout.proofs.Words.{refused, block_read, number_ended, StandsIn, IsReader, FeedMeets}
 use Rattle.pfs_layout.specs.Private.Take.{TakeMeets}
 use Rattle.std.proofs.lemmas.List.{take_more, take-take, length-take-le, get_or-take}
 use Rattle.pfs_layout.specs.declared.scan.Event.{Event}

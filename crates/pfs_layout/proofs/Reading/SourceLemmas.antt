@@ -1,6 +1,6 @@
 -- A reader that reads pieces of a source.
 use Rattle.pfs_layout.proofs.Words.{◌≡◌, ◌≢◌, ℕ, ◌<◌, ◌≤◌, true, false, List, [], ◌++◌, length, take, drop, refl, subst}
-use Rattle.pfs_layout.proofs.Words.{arith, Option, Some, None, inl, inr, Bool, ap, Result, Ok, Err, slice_index, ◌↔◌}
+use Rattle.pfs_layout.proofs.Words.{arith, Option, Some, inl, inr, Bool, ap, Result, Ok, Err, slice_index, ◌↔◌}
 use Rattle.pfs_layout.proofs.Words.{result_err, append_assoc, take_all, limits, Problem, Layout, LayoutFault, Read}
 use Rattle.pfs_layout.proofs.Words.{Memory, Progress, IsInstanceFile, RefusesInstance, is_live, Fields, Follows}
 use Rattle.pfs_layout.proofs.Words.{StandsIn, StandsAfter, EndsWantedSize, FeedMeets, FinishMeets, Reading, byte_fault}

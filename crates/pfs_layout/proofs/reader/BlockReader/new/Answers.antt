@@ -1,5 +1,5 @@
 -- A new reader stands after no bytes.
-use Rattle.pfs_layout.proofs.Words.{[], ap, Blocks}
+use Rattle.pfs_layout.proofs.Words.{[]}
 use Rattle.pfs_layout.proofs.Reading.ReaderSteps.{new_stands}
 use Rattle.pfs_layout.proofs.reader.BlockReader.new.Goals as goal
 
