@@ -97,8 +97,8 @@ module _ {old now : Fields} {piece : List ℕ} {i : ℕ} (t : TakenTo old now pi
     pub taken_event : is_live next.phase ≡ true → TakenTo old (fields after next) piece (i + 1)
     taken_event live =
         let then = well_then (live-memory next.phase live) in
-        let follows = λ (text : List ℕ) (s : StandsAfter old text). live_follows (fields after next) _ live (then.2 text s)
-        in
+        let follows = λ (text : List ℕ) (s : StandsAfter old text).
+        live_follows (fields after next) _ live (then.2 text s) in
         let offset : after.digits.offset ≡ old.digits.offset + (i + 1) = omega (arith, t.offset, on.offset) in
         search no_more_then
 
@@ -207,7 +207,7 @@ pub long_meets : {old mid : Fields} {text : List ℕ} {used : ℕ} (piece : List
     → room < length piece → is_live mid.phase ≡ true
     → TakeMeets old text piece (room + 1) (fields mid.last (refused mid.blocks TooLong))
 unfolding block_read
-long_meets {old = old} {mid = mid} {text = text} piece room m all full within live =
+long_meets {mid = mid} {text = text} piece room m all full within live =
     let front = front_meets piece room m (omega arith) (omega arith) in
     let taken : List ℕ = text ++ take room piece in
     let follows = live_follows mid taken live (rw all at (front.stands (live-memory mid.phase live))) in
