@@ -1,15 +1,13 @@
 -- What finish owes: the end of an input is judged as a line end there would be, and as what is missing behind it.
-use Rattle.pfs_layout.proofs.Words.{◌≡◌, ℕ, ◌-◌, ◌≤◌, true, List, [], length, refl, sym, ◌∙◌, arith, Option, Some, None}
-use Rattle.pfs_layout.proofs.Words.{inl, inr, false, Result, Ok, Err, option_map, slice_get, option_or, result_err}
-use Rattle.pfs_layout.proofs.Words.{nat_tests, lt-ltb, le-ltb, append-nil, Problem, LayoutFault, Phase, Blocks, lines}
-use Rattle.pfs_layout.proofs.Words.{instance_of, Block, Now, standing, ends_early, fault_of_place, refusal}
+use Rattle.pfs_layout.proofs.Words.{◌≡◌, ℕ, ◌-◌, ◌≤◌, true, List, [], refl, sym, ◌∙◌, arith, Option, Some, None, inl}
+use Rattle.pfs_layout.proofs.Words.{inr, Result, Ok, Err, option_or, result_err, nat_tests, lt-ltb, le-ltb, append-nil}
+use Rattle.pfs_layout.proofs.Words.{Problem, LayoutFault, Phase, Blocks, lines, ends_early, fault_of_place, refusal}
 use Rattle.pfs_layout.proofs.Words.{accepted, line_ended, has_numbers_alone, at_end, is_live, Fields, Follows, StandsIn}
-use Rattle.pfs_layout.proofs.Words.{StandsAfter, FinishMeets, FollowsBlocks, judged}
+use Rattle.pfs_layout.proofs.Words.{StandsAfter, FinishMeets, judged}
 use Rattle.std.specs.Result.{result_ok}
 use Rattle.pfs_layout.specs.declared.blocks.Phase.TheVariants as phases
-use Rattle.pfs_layout.specs.Refuse.{missing}
 use Rattle.pfs_layout.specs.Private.Step.{end_fault}
-use Rattle.pfs_layout.proofs.Files.FileLemmas.{made, IsTail}
+use Rattle.pfs_layout.proofs.Files.FileLemmas.{made}
 use Rattle.pfs_layout.proofs.Files.GoodLemmas.{stand_of, sound, fault_within_limit, enough_right}
 use Rattle.pfs_layout.proofs.Files.VerdictLemmas.{end_faults, stand_lines, block_stays, unrefused_holds, holds_accepted}
 use Rattle.pfs_layout.proofs.Words.{cases_option}
@@ -25,13 +23,6 @@ use Rattle.pfs_layout.proofs.Reading.PieceLemmas.{refused_fault, done_enough, li
 abbrev pub after_end : Fields → Blocks
 after_end r = line_ended (at_end r.last r.blocks) (has_numbers_alone r.kinds)
 
--- what is missing is what the blocks behind a line end say, and where nothing is, they have the wanted instance
-ends : (next : Blocks) (complete : List Block) (now : Now) (tail : List (List ℕ))
-    → IsTail next.layout now tail → FollowsBlocks false next (standing complete now) []
-    → (missing next.layout next.wanted (length complete) now ≡ end_fault next) × (end_fault next ≡ None
-    → next.instance ≡ option_map (instance_of next.layout) (slice_get complete (next.wanted - 1)))
-ends next complete now tail is f = grind (arith, nat_tests, f.complete, f.instance, f.now)
-
 -- the reader's fault is that of the input, and if there is none its instance is that of the input
 record EndOutcome (r : Fields) (text : List ℕ) : Type 0 where
   pub some : 1 ≤ r.wanted
@@ -39,7 +30,8 @@ record EndOutcome (r : Fields) (text : List ℕ) : Type 0 where
   pub instance : end_fault (after_end r) ≡ None
       → (at_end r.last r.blocks).instance ≡ accepted r.layout text r.wanted
 
--- a reader that wants more: the last number and the last line end as before a line end
+-- a reader that wants more: the last number and the last line end as before a line end, and what is missing then is
+-- what the blocks behind it say
 live_end : (r : Fields) (text : List ℕ) → Follows r text → is_live r.phase ≡ true → EndOutcome r text
 unfolding fault_of_place ends_early line_ended accepted
 live_end r text f live =
@@ -55,9 +47,7 @@ live_end r text f live =
           let keeps = carries r.blocks r.last 10 live in
           let m = made r.layout (lines text) in
           let follows = rw (none, ← stand_lines r.layout text good) at outcome in
-          let early = rw (keeps.layout, keeps.wanted) at
-          (ends (judged r.blocks r.last 10) _ _ m.tail (rw keeps.layout m.fits) follows) in
-          grind (arith, f.some, faults, early)
+          grind (arith, nat_tests, f.some, faults, keeps, follows.complete, follows.instance, follows.now, m.fits)
     ]
 
 -- a reader that stands in this phase

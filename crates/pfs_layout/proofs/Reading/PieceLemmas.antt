@@ -1,11 +1,11 @@
 -- What a reader owes for a piece.
 use Rattle.pfs_layout.proofs.Words.{nat_tests, ◌≡◌, ◌≢◌, ℕ, ◌+◌, ◌<◌, ◌≤◌, true, not, ◌&&◌, List, [], ◌∷◌, ◌++◌, length}
 use Rattle.pfs_layout.proofs.Words.{take, get_or, refl, ◌∙◌, arith, inl, inr, ◌-◌, cases_eq, append_assoc}
-use Rattle.pfs_layout.proofs.Words.{LONGEST_INPUT, Memory, Line, Blocks, is_digit, judged, IsReady, number_of}
-use Rattle.pfs_layout.proofs.Words.{is_live, Fields, fields, Follows, StandsAfter, EndsWantedSize, drop, subst}
-use Rattle.pfs_layout.proofs.Words.{Some, append-nil, take_all, take-append-drop, LayoutFault, TooLong, Phase}
-use Rattle.pfs_layout.proofs.Words.{byte_fault, refused, block_read, number_ended, StandsIn, IsReader, FeedMeets}
-use Rattle.pfs_layout.proofs.Words.{Option, is_blank, last_number_ended}
+use Rattle.pfs_layout.proofs.Words.{LONGEST_INPUT, Memory, Line, Blocks, is_digit, judged, IsReady, number_of, is_live}
+use Rattle.pfs_layout.proofs.Words.{Fields, fields, Follows, StandsAfter, EndsWantedSize, drop, subst, Some, Option}
+use Rattle.pfs_layout.proofs.Words.{append-nil, take_all, take-append-drop, LayoutFault, TooLong, Phase, byte_fault}
+use Rattle.pfs_layout.proofs.Words.{refused, block_read, number_ended, StandsIn, IsReader, FeedMeets, is_blank}
+use Rattle.pfs_layout.proofs.Words.{last_number_ended}
 use Rattle.pfs_layout.specs.declared.scan.Number.{Number}
 use Rattle.pfs_layout.specs.Private.Step.{TakeMeets}
 use Rattle.std.proofs.lemmas.List.{take_more, take-take, length-take-le, get_or-take}
@@ -100,8 +100,8 @@ module _ {old now : Fields} {piece : List ℕ} {i : ℕ} (t : TakenTo old now pi
     pub taken_on : is_live next.phase ≡ true → TakenTo old (fields after next) piece (i + 1)
     taken_on live =
         let then = well_then (live-memory next.phase live) in
-        let follows = λ (text : List ℕ) (s : StandsAfter old text). live_follows (fields after next) _ live (then.2 text s)
-        in
+        let follows = λ (text : List ℕ) (s : StandsAfter old text).
+        live_follows (fields after next) _ live (then.2 text s) in
         let offset : after.digits.offset ≡ old.digits.offset + (i + 1) = omega (arith, t.offset, on.offset) in
         search no_more_then
 
@@ -210,7 +210,7 @@ pub long_meets : {old mid : Fields} {text : List ℕ} {used : ℕ} (piece : List
     → room < length piece → is_live mid.phase ≡ true
     → TakeMeets old text piece (room + 1) (fields mid.last (refused mid.blocks TooLong))
 unfolding block_read
-long_meets {old = old} {mid = mid} {text = text} piece room m all full within live =
+long_meets {mid = mid} {text = text} piece room m all full within live =
     let front = front_meets piece room m (omega arith) (omega arith) in
     let taken : List ℕ = text ++ take room piece in
     let follows = live_follows mid taken live (rw all at (front.stands (live-memory mid.phase live))) in

@@ -15,10 +15,7 @@ unreachable-requires c =
     let told = sym c.judge_end.ensures.fault ∙ c.in-None.is in
     elim (refused_memory c.self.inside.blocks.phase) [
       | inl e ↦ let refused = rw e at told in cc
-      | inr other ↦
-          let at = c.self.invariant.stands other in
-          let there = ((finish_tells _ at.0 at.1).1 told).1 in
-          cc
+      | inr other ↦ let at = c.self.invariant.stands other in cc (((finish_tells _ at.0 at.1).1 told).1)
     ]
 
 pub returns-in-Some-instance-clause-meets : goal.returns-in-Some-instance-clause-meets
