@@ -73,13 +73,15 @@ times_in OrLib numbers = numbers / 2
 abbrev pub due_count : Layout → Size → ℕ
 due_count layout size = numbers_for layout (size.jobs * size.machines)
 
+-- what is due at a place of a body of so many numbers, where the next time is this machine's
+abbrev pub due_by : Layout → ℕ → ℕ → ℕ → Due
+due_by Taillard count machine place = if nat_lt place count then Due.Time else Due.Nothing
+due_by OrLib count machine place = if nat_lt place count
+    then (if place % 2 == 0 then Due.Machine machine else Due.Time) else Due.Nothing
+
 -- what is due at a place of the body
 unfoldable pub due_at : Layout → Size → ℕ → Due
-due_at layout size place = if nat_lt place (due_count layout size) then in_order layout else Due.Nothing
-  where
-    in_order : Layout → Due
-    in_order Taillard = Due.Time
-    in_order OrLib = if place % 2 == 0 then Due.Machine (place / 2 % size.machines) else Due.Time
+due_at layout size place = due_by layout (due_count layout size) (place / 2 % size.machines) place
 
 -- a number is what is due
 abbrev pub is_due : Due → ℕ → Bool

@@ -132,7 +132,8 @@ module _ {wanted : Bool} {layout : Layout} {size : Size} {ns : List ℕ} (v : �
   keeping_time f due k = grind (arith, nat_tests, instance_of-time, length_push, f.place)
 
   pub keeping_machine : {machine : ℕ} → FollowsBody layout size (length ns) body
-      → due_next layout body ≡ Due.Machine machine → Keeping layout wanted (record { size = size; numbers = ns }) instance held
+      → due_next layout body ≡ Due.Machine machine
+      → Keeping layout wanted (record { size = size; numbers = ns }) instance held
       → Keeping layout wanted (record { size = size; numbers = ns ++ v ∷ [] }) instance held
   keeping_machine f due k = grind (arith, nat_tests, instance_of-machine, length_push)
 

@@ -17,7 +17,7 @@ use Rattle.pfs_layout.specs.declared.blocks.Phase.{Phase}
 use Rattle.pfs_layout.specs.declared.blocks.Blocks.{Blocks}
 use Rattle.pfs_layout.specs.Lines.{is_digit, is_blank, is_line_end, ended_lines}
 use Rattle.pfs_layout.specs.Block.{Layout, Size, is_within_limits, problem_of, sized, numbers_for, times_in, is_due}
-use Rattle.pfs_layout.specs.Block.{stand}
+use Rattle.pfs_layout.specs.Block.{due_by, stand}
 use Rattle.pfs_layout.specs.Refuse.{LayoutFault, fault_of_due}
 use Rattle.pfs_layout.specs.Reader.{EndsWantedSize, Fields, FollowsLine, StandsAfter, is_live}
 
@@ -50,8 +50,9 @@ no_numbers = record { count = 0; values = replicate 5 0 }
 
 -- what the numbers state, where they are as many as the layout says
 abbrev pub stated_by : Layout → SizeLine → Option Size
-stated_by Layout.Taillard line = then_some (line.count == 5) (sized (slice_index line.values 0) (slice_index line.values 1)
-    (slice_index line.values 2) (slice_index line.values 3) (slice_index line.values 4))
+stated_by Layout.Taillard line = then_some (line.count == 5)
+    (sized (slice_index line.values 0) (slice_index line.values 1) (slice_index line.values 2)
+    (slice_index line.values 3) (slice_index line.values 4))
 stated_by Layout.OrLib line =
     then_some (line.count == 2) (sized (slice_index line.values 0) (slice_index line.values 1) 0 0 0)
 
@@ -69,11 +70,7 @@ body_of layout jobs machines = record {
 
 -- what is due next
 abbrev pub due_next : Layout → Body → Due
-due_next layout body = if nat_lt body.judged body.due then in_order layout else Due.Nothing
-  where
-    in_order : Layout → Due
-    in_order Layout.Taillard = Due.Time
-    in_order Layout.OrLib = if body.judged % 2 == 0 then Due.Machine body.machine else Due.Time
+due_next layout body = due_by layout body.due body.machine body.judged
 
 abbrev pub after_machine : Body → Body
 after_machine body = record body { judged = body.judged + 1 }
@@ -135,7 +132,8 @@ block_begun r size = record r {
 -- the fault of what a size line states, or else the block that it begins
 abbrev pub size_judged : Blocks → ℕ → Option Size → Blocks
 size_judged r line None = refused r (LayoutFault.SizeCount line)
-size_judged r line (Some size) = if is_within_limits size then block_begun r size else refused r (LayoutFault.SizeRange line)
+size_judged r line (Some size) =
+    if is_within_limits size then block_begun r size else refused r (LayoutFault.SizeRange line)
 
 abbrev pub at_next_line : Blocks → Blocks
 at_next_line r = record r { line = r.line + 1; size_line = no_numbers }

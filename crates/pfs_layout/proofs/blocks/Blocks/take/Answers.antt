@@ -1,6 +1,7 @@
 -- Each byte leads on, and the last one ends the piece or the reading.
 use Rattle.pfs_layout.proofs.Words.{sym, ◌∙◌, arith, and_parts}
-use Rattle.pfs_layout.proofs.Reading.PieceLemmas.{digit_judged, blank_judged, taken_ready, taken_quiet, taken_on, taken_end}
+use Rattle.pfs_layout.proofs.Reading.PieceLemmas.{digit_judged, blank_judged, taken_ready, taken_quiet, taken_on}
+use Rattle.pfs_layout.proofs.Reading.PieceLemmas.{taken_end}
 use Rattle.pfs_layout.proofs.Reading.ByteSteps.{keeps_last}
 use Rattle.pfs_layout.proofs.blocks.Blocks.take.Goals as goal
 
