@@ -1,13 +1,13 @@
 -- An input holds a file exactly where none of its places has a fault.
-use Rattle.pfs_layout.proofs.Words.{◌≡◌, ℕ, ◌-◌, ◌<◌, ◌≤◌, true, false, List, [], ◌∷◌, ◌++◌, length, nat_le, refl, sym}
-use Rattle.pfs_layout.proofs.Words.{◌∙◌, ap, arith, Some, None, inl, inr, slice_get, is_none, option_or, cases_Bool}
-use Rattle.pfs_layout.proofs.Words.{cases_lt, ne_eqb, eqb-true, nat_tests, append_assoc, append-nil, length_push}
-use Rattle.pfs_layout.proofs.Words.{nil_from_length, is_empty, first_some, LONGEST_INPUT, Problem, by_push}
-use Rattle.pfs_layout.proofs.Words.{slice_get-append, slice_get-push, Layout, is_line_end, lines, ended_lines}
-use Rattle.pfs_layout.proofs.Words.{open_line, ended_parts, numbers, ended_numbers, Block, Now, seeking, inside, lost}
-use Rattle.pfs_layout.proofs.Words.{Stand, standing, completed, after_line, stand_after, stand, instance_of, ends_early}
-use Rattle.pfs_layout.proofs.Words.{fault_of_place, refusal, accepted, mixed_line, byte_fault, wrong_number, wrong_size}
-use Rattle.pfs_layout.proofs.Words.{Completes, limits, Front, Seeks, cases_option, or_none, false_from_ne_true}
+use Rattle.pfs_layout.proofs.Words.{false_from_ne_true, slice_get-append, nil_from_length, slice_get-push, append_assoc}
+use Rattle.pfs_layout.proofs.Words.{fault_of_place, LONGEST_INPUT, ended_numbers, wrong_number, cases_option, slice_get}
+use Rattle.pfs_layout.proofs.Words.{all_but_last, all_and_last, length_push, is_line_end, ended_lines, ended_parts, ◌≡◌}
+use Rattle.pfs_layout.proofs.Words.{stand_after, instance_of, cases_Bool, append-nil, first_some, after_line, option_or}
+use Rattle.pfs_layout.proofs.Words.{ends_early, mixed_line, byte_fault, wrong_size, nat_tests, open_line, [], Completes}
+use Rattle.pfs_layout.proofs.Words.{cases_lt, eqb-true, is_empty, standing, accepted, is_none, Problem, true, by_push}
+use Rattle.pfs_layout.proofs.Words.{numbers, seeking, refusal, or_none, last_of, length, nat_le, ne_eqb, false, Layout}
+use Rattle.pfs_layout.proofs.Words.{inside, limits, arith, lines, Block, Stand, stand, Front, Seeks, List, ◌++◌, refl}
+use Rattle.pfs_layout.proofs.Words.{Some, None, lost, ◌-◌, ◌<◌, ◌≤◌, ◌∷◌, sym, ◌∙◌, inl, inr, Now, ap, ℕ}
 use Rattle.pfs_layout.specs.Refuse.{faults}
 use Rattle.pfs_layout.proofs.Published.PlaceLemmas.{byte_fault-push, refusal_end}
 use Rattle.pfs_layout.proofs.Files.GoodLemmas.{is_good, good_end, fault_within_limit, gap_fault, stand_of, stand-push}
@@ -82,6 +82,24 @@ end_faults layout k seeking text good = elim (cases_Bool (is_empty (open_line te
 end_faults layout k (inside block) text good = rw (gap_fault layout block text 10 refl) (grind arith)
 end_faults layout k lost text good = absurd (cc)
 
+-- the last of the complete blocks is a problem's
+pub seeks_completes : (layout : Layout) (input : List ℕ) (k : ℕ) → 1 ≤ k → (s : Seeks layout input k)
+    → (problem : Problem) × (c : Completes layout input k problem) × (c.seeks ≡ s)
+seeks_completes layout input k some s = by_complete (stand layout (lines s.text)).complete refl
+  where
+    by_complete : (blocks : List Block) → (stand layout (lines s.text)).complete ≡ blocks
+        → (problem : Problem) × (c : Completes layout input k problem) × (c.seeks ≡ s)
+    by_complete [] e = absurd (omega (arith, some, s.complete, ap length e))
+    by_complete (block ∷ blocks) e =
+        let earlier : List Block = all_but_last (block ∷ blocks) in
+        let own : Block = last_of block (block ∷ blocks) in
+        let parts : (stand layout (lines s.text)).complete ≡ earlier ++ own ∷ [] =
+        e ∙ all_and_last block block blocks in (
+          instance_of layout own,
+          record { seeks = s; earlier = earlier; own = own; parts = parts; is = refl },
+          refl,
+        )
+
 module _ (layout : Layout) (k : ℕ) where
   -- no byte of a text has a fault
   abbrev pub Faultless : List ℕ → Type 0
@@ -115,26 +133,12 @@ module _ (layout : Layout) (k : ℕ) where
   abbrev pub Holds : List ℕ → Type 0
   Holds input = (problem : Problem) × Completes layout input k problem
 
-  -- a text that ends with a line by which k blocks are complete, and fewer before it, holds a problem
-  holds_at : (text ended : List ℕ) → Few layout k text → length ended ≤ LONGEST_INPUT
-      → stand layout (lines ended) ≡ stand_after layout (stand_of layout text) (open_line text)
-      → k ≤ length (stand layout (lines ended)).complete
-      → (problem : Problem) × (c : Completes layout ended k problem) × (c.text ≡ ended)
-  holds_at text ended few short reached enough =
-      let before : Stand = stand_of layout text in
-      elim (one_line layout before (open_line text)) [
-        | inl same ↦ let all = rw (reached, same) at enough in absurd (omega arith)
-        | inr one ↦
-            let stands : stand layout (lines ended) ≡ completed before.complete one.0 = reached ∙ one.1 in
-            let all = rw stands at enough in
-            let size = length_push before.complete one.0 in
-            let seeks : Seeks layout ended k =
-            record { front = all_of ended short; complete = rw stands (omega arith); now = rw stands } in (
-              instance_of layout one.0,
-              record { seeks = seeks; earlier = before.complete; own = one.0; parts = rw stands; is = refl },
-              refl,
-            )
-      ]
+  -- behind the line by which k blocks are complete the next is sought
+  sought : (text : List ℕ) (reached : Stand) → Few layout k text
+      → reached ≡ stand_after layout (stand_of layout text) (open_line text) → k ≤ length reached.complete
+      → (length reached.complete ≡ k) × (reached.now ≡ seeking)
+  sought text reached few is enough =
+      let line = one_line layout (stand_of layout text) (open_line text) in grind (arith, length_push {X = Block})
 
   -- the problem's file ends with a line end
   abbrev pub EndedHolds : List ℕ → Problem → Type 0
@@ -165,11 +169,14 @@ module _ (layout : Layout) (k : ℕ) where
         | inl few ↦ elim (cases_Bool (is_line_end b)) [
           | inr on ↦ let same = rw (stand_of-on layout input b on) at enough in absurd (omega arith)
           | inl ends ↦
+              let all : List ℕ = input ++ b ∷ [] in
               let ended = open_line-end input b ends in
-              let same = lines_ended (input ++ b ∷ []) ended in
+              let same = lines_ended all ended in
               let short = sound_more layout k input b right few in
-              let held = holds_at input (input ++ b ∷ []) few short (rw same (stand_of-end layout input b ends))
-              (rw same enough) in
+              let is = sought input (stand_of layout all) few (stand_of-end layout input b ends) enough in
+              let s : Seeks layout all k =
+              record { front = all_of all short; complete = rw same is.0; now = rw same is.1 } in
+              let held = seeks_completes layout all k some s in
               (held.0, (held.1, rw held.2 ended))
         ]
       ])
@@ -182,7 +189,11 @@ module _ (layout : Layout) (k : ℕ) where
         | inl few ↦
             let is = sound layout k input rights.0 few in
             let end = end_is input rights.0 few in
-            let held = holds_at input input few is.0 (stand_lines layout input is.1) (grind (arith, nat_tests)) in
+            let reached = sought input (stand layout (lines input)) few (stand_lines layout input is.1)
+            (grind (arith, nat_tests)) in
+            let s : Seeks layout input k =
+            record { front = all_of input is.0; complete = reached.0; now = reached.1 } in
+            let held = seeks_completes layout input k some s in
             (held.0, held.1)
       ]
 

@@ -1,7 +1,5 @@
 -- One verdict, and what it is computed by.
-use Rattle.pfs_layout.proofs.Words.{◌≡◌, ℕ, ◌≤◌, List, [], ◌∷◌, ◌++◌, length, refl, ◌∙◌, ap, arith, inl, inr}
-use Rattle.pfs_layout.proofs.Words.{all_but_last, last_of, Problem, all_and_last, Layout, lines, Block, stand}
-use Rattle.pfs_layout.proofs.Words.{instance_of, refusal, Completes, Seeks, cases_option}
+use Rattle.pfs_layout.proofs.Words.{inl, inr, refusal, cases_option}
 use Rattle.pfs_layout.specs.Laws.{OneVerdict, AcceptedLaw}
 use Rattle.pfs_layout.proofs.Published.PlaceLemmas.{refusal_is, one_fault}
 use Rattle.pfs_layout.proofs.Files.FileLemmas.{file_completes, completes_file}
@@ -36,21 +34,3 @@ one_verdict layout input k some = elim (cases_option (refusal layout input k)) [
         λ fault refused. let there = (refusal_is layout input k fault).1 refused in cc,
       )
 ]
-
--- ---- some file
-
-pub seeks_completes : (layout : Layout) (input : List ℕ) (k : ℕ) → 1 ≤ k → Seeks layout input k
-    → (problem : Problem) × Completes layout input k problem
-seeks_completes layout input k some s = by_complete (stand layout (lines s.text)).complete refl
-  where
-    by_complete : (blocks : List Block) → (stand layout (lines s.text)).complete ≡ blocks
-        → (problem : Problem) × Completes layout input k problem
-    by_complete [] e = absurd (omega (arith, some, s.complete, ap length e))
-    by_complete (block ∷ blocks) e =
-        let earlier : List Block = all_but_last (block ∷ blocks) in
-        let own : Block = last_of block (block ∷ blocks) in
-        let parts : (stand layout (lines s.text)).complete ≡ earlier ++ own ∷ [] =
-        e ∙ all_and_last block block blocks in (
-          instance_of layout own,
-          record { seeks = s; earlier = earlier; own = own; parts = parts; is = refl },
-        )

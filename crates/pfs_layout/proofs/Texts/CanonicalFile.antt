@@ -4,14 +4,13 @@ use Rattle.pfs_layout.proofs.Words.{list_all-append, AllByRecursion, canonical_t
 use Rattle.pfs_layout.proofs.Words.{length-append, LONGEST_INPUT, flat_map_more, is_word_byte, stated_size, is_line_end}
 use Rattle.pfs_layout.proofs.Words.{is_no_digit, ended_parts, mul-le-mul, IsInstance, row_count, row_lines, nat_tests}
 use Rattle.pfs_layout.proofs.Words.{open_part, flat_map, FlowShop, Taillard, row_line, list_any, list_all, is_mixed, ℕ}
-use Rattle.pfs_layout.proofs.Words.{time_of, due_row, add-one, Problem, IsBlock, numbers, size_of, length, limits, zero}
-use Rattle.pfs_layout.proofs.Words.{spaced, Layout, codes, arith, below, OrLib, false, lines, List, Size, Bool, true}
-use Rattle.pfs_layout.proofs.Words.{◌++◌, Some, refl, suc, ◌+◌, ◌*◌, ◌<◌, ◌≤◌, ◌∷◌, map, ◌≡◌, ◌-◌, not, sym, All, due}
+use Rattle.pfs_layout.proofs.Words.{due_row, add-one, Problem, IsBlock, numbers, size_of, length, limits, spaced, codes}
+use Rattle.pfs_layout.proofs.Words.{Layout, arith, below, OrLib, false, lines, List, Size, Bool, true, ◌++◌, Some, refl}
+use Rattle.pfs_layout.proofs.Words.{suc, ◌+◌, ◌*◌, ◌<◌, ◌≤◌, ◌∷◌, map, ◌≡◌, ◌-◌, not, sym, All, due, get_or, ◌/◌}
 use Rattle.std.proofs.Common.{◌^◌, lit<, decimal}
 use Rattle.pfs_layout.specs.CanonicalText.{head_lines, as_written}
 use Rattle.pfs_layout.specs.Laws.{CanonicalLaw, TextsFit}
 use Rattle.pfs_layout.proofs.Files.VerdictLemmas.{all_of}
-use Rattle.std.specs.List.{range_with_len}
 use Rattle.std.proofs.lemmas.Fmt.{length-decimal-le, decimal_is_IsNumeral}
 use Rattle.std.proofs.lemmas.List.Concat.{length-flat_map}
 use Rattle.std.proofs.lemmas.List.FromFn.{length-range_with_len, map-range_with_len_more}
@@ -24,6 +23,7 @@ use Rattle.std.proofs.lemmas.Str.Parse.{digit_at}
 use Rattle.pfs_base.specs.Text.{with_line_end}
 use Rattle.pfs_layout.proofs.Files.LineLemmas.{lines-line, IsOpen}
 use Rattle.pfs_layout.proofs.Files.FileLemmas.{no_numbers}
+use Rattle.pfs_layout.proofs.Texts.WritingLemmas.{number_is}
 
 -- the numbers are of 64 bits
 abbrev pub AllFit : List ℕ → Type 0
@@ -61,24 +61,16 @@ length-head_lines OrLib size fit =
 
 -- ---- the rows
 
-pairs_fit : (time : ℕ → ℕ) → ((machine : ℕ) → time machine < 2 ^ 64) → (a n : ℕ) → a + n < 2 ^ 64
-    → AllFit (flat_map (λ machine. machine ∷ time machine ∷ []) (range_with_len a n))
-pairs_fit time short a zero few = tt
-pairs_fit time short a (suc n) few = (omega arith, (short a, pairs_fit time short (a + 1) n (omega arith)))
-
-times_fit : (time : ℕ → ℕ) → ((job : ℕ) → time job < 2 ^ 64) → (jobs : List ℕ) → AllFit (map time jobs)
-times_fit time short [] = tt
-times_fit time short (job ∷ jobs) = (short job, times_fit time short jobs)
+fit_by_place : (ns : List ℕ) → ((k : ℕ) → k < length ns → get_or ns k 0 < 2 ^ 64) → AllFit ns
+fit_by_place [] each = tt
+fit_by_place (n ∷ ns) each = (each 0 (omega arith), fit_by_place ns (λ k h. each (suc k) (omega arith)))
 
 pub row_fits : (layout : Layout) (shop : FlowShop) (row : ℕ) → IsWithin limits shop → AllFit (due_row layout shop row)
-unfolding due_row
-row_fits Taillard shop machine within =
-    times_fit (λ job. time_of shop job machine)
-    (λ job. omega (arith, short_at shop.times within.short_times (job * shop.machines + machine))) (below shop.jobs)
-row_fits OrLib shop job within =
-    pairs_fit (time_of shop job)
-    (λ machine. omega (arith, short_at shop.times within.short_times (job * shop.machines + machine)))
-    0 shop.machines (omega (arith, within.sizes.few_machines))
+row_fits Taillard shop row within = fit_by_place (due_row Taillard shop row) (λ k h.
+    omega (arith, number_is Taillard shop row k h, short_at shop.times within.short_times (k * shop.machines + row)))
+row_fits OrLib shop row within = fit_by_place (due_row OrLib shop row) (λ k h.
+    let short = short_at shop.times within.short_times (row * shop.machines + k / 2) in
+    grind (arith, nat_tests, number_is OrLib shop row k h, length_due_row OrLib shop row, within.sizes.few_machines))
 
 length-row_line : (layout : Layout) (shop : FlowShop) (row : ℕ) → IsWithin limits shop
     → length (row_line layout shop row) ≤ 21 * row_width layout shop + 1

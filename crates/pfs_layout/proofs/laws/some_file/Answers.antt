@@ -1,5 +1,5 @@
 use Rattle.pfs_layout.proofs.Files.FileLemmas.{file_completes, completes_file}
-use Rattle.pfs_layout.proofs.Published.LawLemmas.{seeks_completes}
+use Rattle.pfs_layout.proofs.Files.VerdictLemmas.{seeks_completes}
 use Rattle.pfs_layout.proofs.laws.some_file.Goals as goal
 
 pub returns : goal.returns
