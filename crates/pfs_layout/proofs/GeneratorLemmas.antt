@@ -4,7 +4,8 @@ use Rattle.pfs_layout.proofs.Words.{length-set, same_from_place, FlowShop, time_
 use Rattle.pfs_layout.proofs.Words.{seed_after, generated}
 use Rattle.std.proofs.lemmas.List.{get_or-set_same, get_or-set_other}
 use Rattle.pfs_base.specs.declared.notes.Notes.{Notes}
-use Rattle.pfs_layout.specs.Generator.{prime, drawn_time, SeedsStay, GeneratedWithin}
+use Rattle.pfs_layout.specs.Generator.{prime, drawn_time}
+use Rattle.pfs_layout.specs.Laws.{SeedsStay, GeneratedWithin}
 use Rattle.pfs_layout.proofs.Tables.{length-table, same_table, all_table}
 
 -- so many draws, and then so many more

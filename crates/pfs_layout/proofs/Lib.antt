@@ -1,6 +1,5 @@
 pub mod Published
 mod Computing
-mod Options
 mod Tables
 mod Words
 pub mod Files

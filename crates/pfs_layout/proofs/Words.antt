@@ -5,12 +5,11 @@ pub use Rattle.std.proofs.Common.{add-one, ap, arith, codes, count_by, drop, fal
 pub use Rattle.std.proofs.Common.{inl, inr, length, lit≤, map, min, mul-le-mul, nat_le, not, refl, rules, subst, suc}
 pub use Rattle.std.proofs.Common.{sym, take, true, zero, ◌||◌, ℕ, ◌↔◌, ◌∙◌, ◌∷◌, ◌≡◌, ◌≢◌, ◌≤◌, ◌⊎◌}
 pub use Rattle.std.proofs.lemmas.Bool.{and_parts, cases_Bool, cases_eq, cases_lt, eq-eqb, eqb-false, eqb-true, le-ltb}
-pub use Rattle.std.proofs.lemmas.Bool.{lt-ltb, ne_eqb, or_parts}
+pub use Rattle.std.proofs.lemmas.Bool.{lt-ltb, ne_eqb, or_parts, false_from_ne_true}
 pub use Rattle.std.proofs.lemmas.Bool.Decides.{nat_tests}
 pub use Rattle.std.proofs.lemmas.Grind.{common_steps, elements, flat_map-append, rows, same_number_lists}
-pub use Rattle.std.proofs.lemmas.List.{append-nil, append_assoc, length-append, length-replicate, length-set}
+pub use Rattle.std.proofs.lemmas.List.{append-nil, append_assoc, length-append, length-replicate, length-set, take_all}
 pub use Rattle.std.proofs.lemmas.List.{length-take, length_push, map-append, nil_from_length, take-append-drop}
-pub use Rattle.std.proofs.lemmas.List.{take_all}
 pub use Rattle.std.proofs.lemmas.List.Elements.{All-from_get_or}
 pub use Rattle.std.proofs.lemmas.List.Folds.{list_all-append, list_any-append}
 pub use Rattle.std.proofs.lemmas.List.FromFn.{get_or-map-range_with_len, length-map-range_with_len}
@@ -33,41 +32,42 @@ pub use Rattle.pfs_base.specs.Problem.{Problem}
 pub use Rattle.pfs_base.specs.Sends.{SendsAll}
 pub use Rattle.pfs_base.specs.Text.{spaced}
 pub use Rattle.pfs_base.specs.declared.limits.TheConstants.{LONGEST_INPUT, LONGEST_TIME}
-pub use Rattle.pfs_layout.specs.Block.{Due, any_time, due_count, is_due, machine_number, row_count}
-unfoldable pub use Rattle.pfs_layout.specs.Block.{are_due, due, due_at, due_row, stated_size}
-pub use Rattle.pfs_layout.specs.Bytes.{is_blank, is_digit, is_line_end, is_word_byte}
+pub use Rattle.pfs_layout.specs.Block.{due_count, is_due, row_count, is_within_limits}
+pub use Rattle.pfs_layout.specs.Block.{size_of, Block, Now, Stand, after_line, begun, completed, inside, lost}
+pub use Rattle.pfs_layout.specs.Block.{place_of_time, seeking, standing, with_line, Layout, Size}
+unfoldable pub use Rattle.pfs_layout.specs.Block.{are_due, due, due_at, due_row, stated_size, instance_of, stand}
+unfoldable pub use Rattle.pfs_layout.specs.Block.{stand_after}
+pub use Rattle.pfs_layout.specs.Lines.{is_blank, is_digit, is_line_end, is_word_byte, ended_lines, is_mixed}
+pub use Rattle.pfs_layout.specs.Lines.{is_no_digit, is_number_line, last_digits, open_line}
 pub use Rattle.pfs_layout.specs.CanonicalText.{row_line, row_lines}
 unfoldable pub use Rattle.pfs_layout.specs.CanonicalText.{canonical_text}
-pub use Rattle.pfs_layout.specs.File.{AreBlocks, IsBlock, IsInstance, IsInstanceFile, IsSomeBlock}
+pub use Rattle.pfs_layout.specs.File.{AreBlocks, Front, IsBlock, IsInstance, IsInstanceFile, IsSomeBlock}
 unfoldable pub use Rattle.pfs_layout.specs.Generator.{generated, seed_after}
-pub use Rattle.pfs_layout.specs.Laws.{Completes}
-pub use Rattle.pfs_layout.specs.Lines.{ended_lines, is_mixed, is_no_digit, is_number_line, last_digits, open_line}
+pub use Rattle.pfs_layout.specs.Laws.{Completes, Seeks}
 unfoldable pub use Rattle.pfs_layout.specs.Lines.{ended_numbers, ended_parts, lines, numbers, open_part}
-pub use Rattle.pfs_layout.specs.Private.Rows.{row_width}
-pub use Rattle.pfs_layout.specs.Private.Step.{IsReady, at_end, blocks_after, body_judged, event_of, has_numbers_alone}
-pub use Rattle.pfs_layout.specs.Private.Step.{is_machine_due, last_number_ended, no_numbers}
-pub use Rattle.pfs_layout.specs.Private.Step.{number_of, refused}
+pub use Rattle.pfs_layout.specs.Private.Step.{IsReady, at_end, body_judged, has_numbers_alone, judged}
+pub use Rattle.pfs_layout.specs.Private.Step.{last_number_ended, no_numbers, number_of, refused}
 unfoldable pub use Rattle.pfs_layout.specs.Private.Step.{line_ended, number_ended}
-pub use Rattle.pfs_layout.specs.Private.Take.{Reading}
 pub use Rattle.pfs_layout.specs.Reader.{EndsWantedSize, FeedMeets, Fields, FinishMeets, Follows, FollowsBlocks}
 pub use Rattle.pfs_layout.specs.Reader.{FollowsBody, FollowsLine, FollowsNow, HoldsFew, HoldsNumbers, IsReader}
 pub use Rattle.pfs_layout.specs.Reader.{StandsAfter, StandsIn, block_begun_by, block_of, fields, is_live, time_count}
 unfoldable pub use Rattle.pfs_layout.specs.Reader.{block_read}
-pub use Rattle.pfs_layout.specs.Refuse.{RefusesInstance, misfit, size_fault}
+pub use Rattle.pfs_layout.specs.Refuse.{LayoutFault, RefusesInstance, misfit, size_fault}
 unfoldable pub use Rattle.pfs_layout.specs.Refuse.{accepted, byte_fault, ends_early, fault_of_place, mixed_line}
 unfoldable pub use Rattle.pfs_layout.specs.Refuse.{refusal, wrong_number, wrong_size}
-pub use Rattle.pfs_layout.specs.Size.{is_within_limits, size_of}
-pub use Rattle.pfs_layout.specs.Stand.{Block, Now, Stand, after_line, begun, completed, inside, lost, place_of_time}
-pub use Rattle.pfs_layout.specs.Stand.{seeking, standing, with_line}
-unfoldable pub use Rattle.pfs_layout.specs.Stand.{instance_of, stand, stand_after}
 pub use Rattle.pfs_layout.specs.declared.blocks.Blocks.{Blocks}
+pub use Rattle.pfs_layout.specs.declared.body.Due.{Due}
 pub use Rattle.pfs_layout.specs.declared.blocks.Phase.{Phase}
 pub use Rattle.pfs_layout.specs.declared.blocks.Progress.{Progress}
-pub use Rattle.pfs_layout.specs.declared.fault.LayoutFault.{LayoutFault}
 pub use Rattle.pfs_layout.specs.declared.fault.LayoutFault.TheVariants.{Memory, Read, SeedRange, TooLong}
-pub use Rattle.pfs_layout.specs.declared.layout.Layout.{Layout}
 pub use Rattle.pfs_layout.specs.declared.layout.Layout.TheVariants.{OrLib, Taillard}
 pub use Rattle.pfs_layout.specs.declared.scan.Line.{Line}
 pub use Rattle.pfs_layout.specs.declared.scan.TheConstants.{CEILING}
-pub use Rattle.pfs_layout.specs.declared.size_line.Size.{Size}
 pub use Rattle.pfs_layout.specs.declared.size_line.SizeLine.{SizeLine}
+
+pub cases_option : {A : Type 0} (o : Option A) → (o ≡ None) ⊎ ((x : A) × (o ≡ Some x))
+cases_option None = inl refl
+cases_option (Some x) = inr (x, refl)
+
+pub or_none : {A : Type 0} (o p : Option A) → option_or o p ≡ None → (o ≡ None) × (p ≡ None)
+or_none o p e = grind arith

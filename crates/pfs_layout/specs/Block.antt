@@ -1,14 +1,41 @@
--- A block of an instance file: a size line, and the numbers that are due in its body.
-use Rattle.std.specs.Prelude.{ℕ, ◌*◌, ◌/◌, ◌%◌, Bool, false, ◌==◌, nat_lt, nat_le, List, [], ◌∷◌, map, flat_map, Option}
-use Rattle.std.specs.Prelude.{Some, None, if◌then◌else◌}
+-- The blocks of an instance file: what a size line states, the numbers that are due in a body, and where lines lead.
+use Rattle.std.specs.Prelude.{ℕ, ◌*◌, ◌/◌, ◌%◌, Bool, false, ◌&&◌, ◌==◌, nat_lt, nat_le, List, [], ◌∷◌, map, flat_map}
+use Rattle.std.specs.Prelude.{Option, Some, None, if◌then◌else◌, ◌+◌, ◌++◌, length, fold, slice_index}
 use Rattle.std.specs.List.{list_all, enumerate_from}
-use Rattle.pfs_base.specs.declared.limits.TheConstants.{LONGEST_TIME}
+use Rattle.pfs_base.specs.declared.limits.TheConstants.{MOST_JOBS, MOST_MACHINES, LONGEST_TIME, GREATEST_NOTE}
 use Rattle.pfs_base.specs.FlowShop.{FlowShop, time_of}
 use Rattle.pfs_base.specs.Lists.{below}
-use Rattle.pfs_layout.specs.declared.layout.Layout.{Layout}
+use Rattle.pfs_base.specs.Problem.{Problem}
+pub use Rattle.pfs_layout.specs.declared.layout.Layout.{Layout}
 use Rattle.pfs_layout.specs.declared.layout.Layout.TheVariants.{Taillard, OrLib}
-use Rattle.pfs_layout.specs.declared.size_line.Size.{Size}
-use Rattle.pfs_layout.specs.Size.{sized}
+use Rattle.pfs_layout.specs.declared.body.Due.{Due}
+pub use Rattle.pfs_layout.specs.declared.size_line.Size.{Size}
+use Rattle.pfs_layout.specs.Lines.{is_mixed, is_number_line, numbers}
+
+-- the size of these numbers, in the order of Taillard's size lines
+abbrev pub sized : ℕ → ℕ → ℕ → ℕ → ℕ → Size
+sized jobs machines seed upper lower =
+    record { jobs = jobs; machines = machines; notes = record { seed = seed; upper = upper; lower = lower } }
+
+abbrev pub size_of : Problem → Size
+size_of problem = record { jobs = problem.shop.jobs; machines = problem.shop.machines; notes = problem.notes }
+
+-- the problem of this size, where each job takes these times on the machines
+abbrev pub problem_of : Size → (ℕ → ℕ → ℕ) → Problem
+problem_of size time = record {
+  shop = record {
+    jobs = size.jobs;
+    machines = size.machines;
+    times = flat_map (λ job. map (λ machine. time job machine) (below size.machines)) (below size.jobs);
+  };
+  notes = size.notes;
+}
+
+-- each number that a size line states is in its limit
+abbrev pub is_within_limits : Size → Bool
+is_within_limits size = nat_le 1 size.jobs && nat_le size.jobs MOST_JOBS
+    && nat_le 1 size.machines && nat_le size.machines MOST_MACHINES && nat_le size.notes.seed GREATEST_NOTE
+    && nat_le size.notes.upper GREATEST_NOTE && nat_le size.notes.lower GREATEST_NOTE
 
 -- a row of a body: the times of all jobs on a machine, or a job's pairs of machine and time
 unfoldable pub due_row : Layout → FlowShop → ℕ → List ℕ
@@ -47,26 +74,90 @@ abbrev pub due_count : Layout → Size → ℕ
 due_count layout size = numbers_for layout (size.jobs * size.machines)
 
 -- what is due at a place of the body
-pub data Due : Type 0 where
-  any_time : Due
-  machine_number : ℕ → Due
-  nothing : Due
-
 unfoldable pub due_at : Layout → Size → ℕ → Due
-due_at layout size place = if nat_lt place (due_count layout size) then in_order layout else nothing
+due_at layout size place = if nat_lt place (due_count layout size) then in_order layout else Due.Nothing
   where
     in_order : Layout → Due
-    in_order Taillard = any_time
-    in_order OrLib = if place % 2 == 0 then machine_number (place / 2 % size.machines) else any_time
+    in_order Taillard = Due.Time
+    in_order OrLib = if place % 2 == 0 then Due.Machine (place / 2 % size.machines) else Due.Time
 
 -- a number is what is due
 abbrev pub is_due : Due → ℕ → Bool
-is_due any_time number = nat_le number LONGEST_TIME
-is_due (machine_number machine) number = number == machine
-is_due nothing number = false
+is_due Due.Time number = nat_le number LONGEST_TIME
+is_due (Due.Machine machine) number = number == machine
+is_due Due.Nothing number = false
 
 -- the numbers are the first of some list that is due
 unfoldable pub are_due : Layout → Size → List ℕ → Bool
 unfolding due_at
 are_due layout size numbers =
     list_all (λ placed. is_due (due_at layout size placed.0) placed.1) (enumerate_from 0 numbers)
+
+-- ---- where an instance file stands after some lines
+
+-- a block: its size, and the numbers of its body so far
+pub record Block : Type 0 where
+  pub size : Size
+  pub numbers : List ℕ
+
+-- the next block is sought, or this one is begun, or all is lost for good
+pub data Now : Type 0 where
+  seeking : Now
+  inside : Block → Now
+  lost : Now
+
+pub record Stand : Type 0 where
+  pub complete : List Block
+  pub now : Now
+
+-- these blocks are complete, and this stands behind them
+abbrev pub standing : List Block → Now → Stand
+standing complete now = record { complete = complete; now = now }
+
+-- one block more is complete, and the next is sought
+abbrev pub completed : List Block → Block → Stand
+completed complete block = standing (complete ++ block ∷ []) seeking
+
+-- a block without its numbers, and with those of one more line
+abbrev pub begun : Size → Block
+begun size = record { size = size; numbers = [] }
+
+abbrev pub with_line : Block → List ℕ → Block
+with_line block line = record { size = block.size; numbers = block.numbers ++ numbers line }
+
+-- a size line begins a block
+abbrev pub after_size : Option Size → Now
+after_size None = lost
+after_size (Some size) = if is_within_limits size then inside (begun size) else lost
+
+-- a block's numbers are all that is due, or the first of it, or no list that is due begins so
+abbrev pub after_numbers : Layout → List Block → Block → Stand
+after_numbers layout complete block = if are_due layout block.size block.numbers
+    then (if length block.numbers == due_count layout block.size
+    then completed complete block else standing complete (inside block))
+    else standing complete lost
+
+-- a skipped line changes nothing, a size line begins a block, and a line of a body adds its numbers
+abbrev pub after_line : Layout → List Block → Now → List ℕ → Stand
+after_line layout complete seeking line = standing complete
+    (if is_number_line line then after_size (stated_size layout (numbers line)) else seeking)
+after_line layout complete (inside block) line =
+    if is_mixed line then standing complete lost else after_numbers layout complete (with_line block line)
+after_line layout complete lost line = standing complete lost
+
+unfoldable pub stand_after : Layout → Stand → List ℕ → Stand
+stand_after layout before line = after_line layout before.complete before.now line
+
+-- where these lines lead from the front of a file
+unfoldable pub stand : Layout → List (List ℕ) → Stand
+stand layout text = fold (stand_after layout) (standing [] seeking) text
+
+-- where a time stands among the numbers of a body
+abbrev pub place_of_time : Layout → Size → ℕ → ℕ → ℕ
+place_of_time Taillard size job machine = machine * size.jobs + job
+place_of_time OrLib size job machine = 2 * (job * size.machines + machine) + 1
+
+-- the problem of a complete block
+unfoldable pub instance_of : Layout → Block → Problem
+instance_of layout block =
+    problem_of block.size (λ job machine. slice_index block.numbers (place_of_time layout block.size job machine))

@@ -1,7 +1,8 @@
 -- Some instance files, and what they hold.
 use Rattle.std.specs.Prelude.{ℕ, List, [], ◌∷◌, ◌++◌, codes, flat_map, if◌then◌else◌}
 use Rattle.pfs_base.specs.Problem.{Problem}
-use Rattle.pfs_layout.specs.Bytes.{is_line_end}
+use Rattle.pfs_layout.specs.Block.{problem_of, sized}
+use Rattle.pfs_layout.specs.Lines.{is_line_end}
 
 -- the first line of a file in Taillard's layout
 abbrev pub heading : List ℕ
@@ -33,7 +34,4 @@ abbrev pub two_blocks_file : List ℕ
 two_blocks_file = codes "+++\ninstance one 1\n+++\nfirst\n1 1\n0 7\n+++\nsecond\n3 2\n0 3 1 2\n0 2 1 5\n0 4 1 1\n+++\n"
 
 abbrev pub one_job : Problem
-one_job = record {
-  shop = record { jobs = 1; machines = 1; times = 7 ∷ [] };
-  notes = record { seed = 0; upper = 0; lower = 0 };
-}
+one_job = problem_of (sized 1 1 0 0 0) (λ job machine. 7)

@@ -1,13 +1,11 @@
 -- What an instance file is: blocks, each of skipped lines, a size line and a body.
 use Rattle.std.specs.Prelude.{◌≡◌, ℕ, ◌+◌, ◌≤◌, not, List, [], ◌∷◌, ◌++◌, length, flat_map, Some, ◌⊎◌, IsTrue}
 use Rattle.std.specs.List.{list_all, AllByRecursion}
-use Rattle.pfs_base.specs.FlowShop.{FlowShop, IsWithin}
+use Rattle.pfs_base.specs.FlowShop.{IsWithin}
 use Rattle.pfs_base.specs.Limits.{Limits}
 use Rattle.pfs_base.specs.Problem.{Problem}
-use Rattle.pfs_layout.specs.declared.layout.Layout.{Layout}
 use Rattle.pfs_layout.specs.Lines.{lines, open_line, is_mixed, is_number_line, numbers}
-use Rattle.pfs_layout.specs.Size.{size_of}
-use Rattle.pfs_layout.specs.Block.{due, stated_size}
+use Rattle.pfs_layout.specs.Block.{Layout, size_of, due, stated_size}
 
 -- the sizes, times and notes are within the limits
 pub record IsInstance (limits : Limits) (problem : Problem) : Type 0 where
@@ -15,17 +13,6 @@ pub record IsInstance (limits : Limits) (problem : Problem) : Type 0 where
   pub seed : problem.notes.seed ≤ limits.note
   pub upper : problem.notes.upper ≤ limits.note
   pub lower : problem.notes.lower ≤ limits.note
-
--- a number line with as many numbers as the layout says, which are the problem's sizes and notes
-pub record IsSizeLine (layout : Layout) (problem : Problem) (line : List ℕ) : Type 0 where
-  pub number_line : IsTrue (is_number_line line)
-  pub states : stated_size layout (numbers line) ≡ Some (size_of problem)
-
--- lines of which none is mixed and the last is a number line, and whose numbers are those that are due
-pub record IsBody (layout : Layout) (shop : FlowShop) (front : List (List ℕ)) (last : List ℕ) : Type 0 where
-  pub front_unmixed : IsTrue (list_all (λ line. not (is_mixed line)) front)
-  pub last_numbers : IsTrue (is_number_line last)
-  pub holds : flat_map numbers front ++ numbers last ≡ due layout shop
 
 -- skipped lines, a size line and a body
 pub record IsBlock (limits : Limits) (layout : Layout) (problem : Problem) (block : List (List ℕ)) : Type 0 where
@@ -35,8 +22,13 @@ pub record IsBlock (limits : Limits) (layout : Layout) (problem : Problem) (bloc
   pub last : List ℕ
   pub parts : block ≡ skipped ++ size_line ∷ front ++ last ∷ []
   pub no_numbers : IsTrue (list_all (λ line. not (is_number_line line)) skipped)
-  pub size : IsSizeLine layout problem size_line
-  pub body : IsBody layout problem.shop front last
+  -- the size line is a number line with as many numbers as the layout says, which are the problem's sizes and notes
+  pub number_line : IsTrue (is_number_line size_line)
+  pub states : stated_size layout (numbers size_line) ≡ Some (size_of problem)
+  -- no line of the body is mixed, the last is a number line, and the numbers are those that are due
+  pub front_unmixed : IsTrue (list_all (λ line. not (is_mixed line)) front)
+  pub last_numbers : IsTrue (is_number_line last)
+  pub holds : flat_map numbers front ++ numbers last ≡ due layout problem.shop
   pub within : IsInstance limits problem
 
 abbrev pub IsSomeBlock : Limits → Layout → List (List ℕ) → Type 0
@@ -52,12 +44,17 @@ pub record AreBlocks (limits : Limits) (layout : Layout) (k : ℕ) (problem : Pr
   pub each : AllByRecursion (IsSomeBlock limits layout) earlier
   pub is_own : IsBlock limits layout problem own
 
--- a front of the input, whose last line ends with byte 10 or with the input, is k blocks
-pub record IsInstanceFile (limits : Limits) (layout : Layout) (input : List ℕ) (k : ℕ) (problem : Problem)
-    : Type 0 where
+-- a front of the input, whose last line ends with byte 10 or with the input
+pub record Front (limits : Limits) (input : List ℕ) : Type 0 where
   pub text : List ℕ
   pub rest : List ℕ
   pub whole : input ≡ text ++ rest
   pub ended : (open_line text ≡ []) ⊎ (rest ≡ [])
   pub short : length text ≤ limits.input
+
+-- a front of the input is k blocks, the last of which is the problem's
+pub record IsInstanceFile (limits : Limits) (layout : Layout) (input : List ℕ) (k : ℕ) (problem : Problem)
+    : Type 0 where
+  pub front : Front limits input
+  pub open front use *
   pub blocks : AreBlocks limits layout k problem (lines text)

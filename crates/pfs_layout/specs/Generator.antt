@@ -1,10 +1,7 @@
 -- Taillard's generator of instances: products modulo a prime.
 use Rattle.std.specs.Prelude.{ℕ, zero, suc, ◌+◌, ◌*◌, ◌/◌, ◌%◌, ◌<◌}
-use Rattle.pfs_base.specs.FlowShop.{AreSizes}
-use Rattle.pfs_base.specs.Limits.{limits}
 use Rattle.pfs_base.specs.Problem.{Problem}
-use Rattle.pfs_layout.specs.File.{IsInstance}
-use Rattle.pfs_layout.specs.Size.{problem_of, sized}
+use Rattle.pfs_layout.specs.Block.{problem_of, sized}
 
 abbrev pub prime : ℕ
 prime = 2147483647
@@ -26,12 +23,3 @@ unfoldable pub generated : ℕ → ℕ → ℕ → Problem
 unfolding seed_after
 generated jobs machines seed = problem_of (sized jobs machines seed 0 0)
     (λ job machine. drawn_time (seed_after (machine * jobs + job + 1) seed))
-
--- a seed that is drawn is a seed again
-abbrev pub SeedsStay : Type 0
-SeedsStay = (draws seed : ℕ) → IsSeed seed → IsSeed (seed_after draws seed)
-
--- what is drawn is an instance within the limits
-abbrev pub GeneratedWithin : Type 0
-GeneratedWithin = (jobs machines seed : ℕ) → AreSizes limits jobs machines → IsSeed seed
-    → IsInstance limits (generated jobs machines seed)

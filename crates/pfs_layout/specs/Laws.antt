@@ -1,48 +1,36 @@
 -- Laws about instance files.
-use Rattle.std.specs.Prelude.{◌≡◌, ◌↔◌, ℕ, ◌+◌, ◌*◌, ◌<◌, ◌≤◌, List, [], ◌∷◌, ◌++◌, length, Some, None, ◌⊎◌, IsTrue}
+use Rattle.std.specs.Prelude.{◌≡◌, ◌↔◌, ℕ, ◌*◌, ◌<◌, ◌≤◌, List, [], ◌∷◌, ◌++◌, length, Some, None, ◌⊎◌, IsTrue}
 use Rattle.std.specs.List.{All}
-use Rattle.pfs_base.specs.declared.limits.TheConstants.{LONGEST_TIME, LONGEST_INPUT}
+use Rattle.pfs_base.specs.FlowShop.{AreSizes}
 use Rattle.pfs_base.specs.Limits.{Limits, limits}
 use Rattle.pfs_base.specs.Problem.{Problem}
-use Rattle.pfs_layout.specs.declared.layout.Layout.{Layout}
-use Rattle.pfs_layout.specs.declared.fault.LayoutFault.{LayoutFault}
-use Rattle.pfs_layout.specs.Lines.{lines, ended_lines, open_line}
-use Rattle.pfs_layout.specs.declared.size_line.Size.{Size}
-use Rattle.pfs_layout.specs.Size.{size_of}
-use Rattle.pfs_layout.specs.Block.{due, are_due}
-use Rattle.pfs_layout.specs.File.{IsInstanceFile}
-use Rattle.pfs_layout.specs.Stand.{Block, seeking, stand, instance_of}
-use Rattle.pfs_layout.specs.Refuse.{RefusesInstance, refusal, accepted, byte_fault}
+use Rattle.pfs_layout.specs.Lines.{lines, ended_lines}
+use Rattle.pfs_layout.specs.Block.{Layout, Size, size_of, due, are_due, Block, seeking, stand, instance_of}
+use Rattle.pfs_layout.specs.File.{IsInstance, Front, IsInstanceFile}
+use Rattle.pfs_layout.specs.CanonicalText.{canonical_text, as_written}
+use Rattle.pfs_layout.specs.Generator.{IsSeed, seed_after, generated}
+use Rattle.pfs_layout.specs.Refuse.{LayoutFault, RefusesInstance, refusal, accepted, byte_fault}
 
--- a front of the input, whose last line ends with byte 10 or with the input, leads to k complete blocks,
--- the last of which is the problem's
+-- behind a front of the input the next block is sought, k being complete
+pub record Seeks (layout : Layout) (input : List ℕ) (k : ℕ) : Type 0 where
+  pub front : Front limits input
+  pub open front use *
+  pub complete : length (stand layout (lines text)).complete ≡ k
+  pub now : (stand layout (lines text)).now ≡ seeking
+
+-- behind a front of the input k blocks are complete, the last of which is the problem's, and the next is sought
 pub record Completes (layout : Layout) (input : List ℕ) (k : ℕ) (problem : Problem) : Type 0 where
-  pub text : List ℕ
-  pub rest : List ℕ
-  pub whole : input ≡ text ++ rest
-  pub ended : (open_line text ≡ []) ⊎ (rest ≡ [])
-  pub short : length text ≤ LONGEST_INPUT
+  pub seeks : Seeks layout input k
+  pub open seeks use *
   pub earlier : List Block
   pub own : Block
-  pub count : length earlier + 1 ≡ k
-  pub stands : stand layout (lines text) ≡ record { complete = earlier ++ own ∷ []; now = seeking }
+  pub parts : (stand layout (lines text)).complete ≡ earlier ++ own ∷ []
   pub is : problem ≡ instance_of layout own
 
 -- files are told by where their lines lead
 abbrev pub FileStands : Type 0
 FileStands = (layout : Layout) (input : List ℕ) (k : ℕ) (problem : Problem)
     → IsInstanceFile limits layout input k problem ↔ Completes layout input k problem
-
--- behind a front of the input, whose last line ends with byte 10 or with the input, the next block is sought, k being
--- complete
-pub record Seeks (layout : Layout) (input : List ℕ) (k : ℕ) : Type 0 where
-  pub text : List ℕ
-  pub rest : List ℕ
-  pub whole : input ≡ text ++ rest
-  pub ended : (open_line text ≡ []) ⊎ (rest ≡ [])
-  pub short : length text ≤ LONGEST_INPUT
-  pub complete : length (stand layout (lines text)).complete ≡ k
-  pub now : (stand layout (lines text)).now ≡ seeking
 
 -- where an input holds a file of some problem
 abbrev pub SomeFile : Type 0
@@ -124,9 +112,28 @@ pub record BeginDue (layout : Layout) (size : Size) (numbers : List ℕ) : Type 
   pub rest : List ℕ
   pub of_size : size_of problem ≡ size
   pub every_time : length problem.shop.times ≡ size.jobs * size.machines
-  pub short_times : All (λ time. time ≤ LONGEST_TIME) problem.shop.times
+  pub short_times : All (λ time. time ≤ limits.time) problem.shop.times
   pub begin : due layout problem.shop ≡ numbers ++ rest
 
 abbrev pub DueFronts : Type 0
 DueFronts = (layout : Layout) (size : Size) (numbers : List ℕ)
     → IsTrue (are_due layout size numbers) ↔ BeginDue layout size numbers
+
+-- what is written is an instance file, and holds the problem
+abbrev pub CanonicalLaw : Type 0
+CanonicalLaw = (layout : Layout) (problem : Problem) → IsInstance limits problem
+    → IsInstanceFile limits layout (canonical_text layout problem) 1 (as_written layout problem)
+
+-- no text that is written is longer than what is read
+abbrev pub TextsFit : Type 0
+TextsFit = (layout : Layout) (problem : Problem) → IsInstance limits problem
+    → length (canonical_text layout problem) ≤ limits.input
+
+-- a seed that is drawn is a seed again
+abbrev pub SeedsStay : Type 0
+SeedsStay = (draws seed : ℕ) → IsSeed seed → IsSeed (seed_after draws seed)
+
+-- what is drawn is an instance within the limits
+abbrev pub GeneratedWithin : Type 0
+GeneratedWithin = (jobs machines seed : ℕ) → AreSizes limits jobs machines → IsSeed seed
+    → IsInstance limits (generated jobs machines seed)

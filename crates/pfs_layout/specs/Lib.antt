@@ -1,5 +1,4 @@
 pub mod Block
-pub mod Bytes
 pub mod CanonicalText
 pub mod Examples
 pub mod File
@@ -9,5 +8,3 @@ pub mod Lines
 pub mod Private
 pub mod Reader
 pub mod Refuse
-pub mod Size
-pub mod Stand

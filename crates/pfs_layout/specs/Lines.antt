@@ -1,9 +1,23 @@
--- Lines of a text, their kinds, and the numbers on them.
-use Rattle.std.specs.Prelude.{ℕ, Bool, not, ◌&&◌, List, [], ◌∷◌, ◌++◌, map, filter, if◌then◌else◌}
+-- The kinds of a byte of an instance file, lines of a text, their kinds, and the numbers on them.
+use Rattle.std.specs.Prelude.{ℕ, Bool, not, ◌&&◌, ◌||◌, ◌==◌, nat_le, List, [], ◌∷◌, ◌++◌, map, filter, if◌then◌else◌}
 use Rattle.std.specs.List.{list_any, slice_split}
 use Rattle.std.specs.Str.Parse.{digits_value}
 use Rattle.pfs_base.specs.Lists.{is_empty, last_of, all_but_last}
-use Rattle.pfs_layout.specs.Bytes.{is_digit, is_word_byte, is_line_end}
+
+-- '0' to '9'
+abbrev pub is_digit : ℕ → Bool
+is_digit b = nat_le 48 b && nat_le b 57
+
+-- space, tab, carriage return
+abbrev pub is_blank : ℕ → Bool
+is_blank b = b == 32 || b == 9 || b == 13
+
+abbrev pub is_line_end : ℕ → Bool
+is_line_end b = b == 10
+
+-- every other byte
+abbrev pub is_word_byte : ℕ → Bool
+is_word_byte b = not (is_digit b || is_blank b || is_line_end b)
 
 -- the parts of a list that an element which passes ends, and the part behind the last such element
 unfoldable pub ended_parts : (ℕ → Bool) → List ℕ → List (List ℕ)

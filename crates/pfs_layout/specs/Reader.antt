@@ -7,31 +7,25 @@ use Rattle.std.specs.Str.Parse.{digits_value}
 use Rattle.pfs_base.specs.declared.limits.TheConstants.{LONGEST_INPUT}
 use Rattle.pfs_base.specs.Limits.{limits}
 use Rattle.pfs_base.specs.Problem.{Problem}
-use Rattle.pfs_layout.specs.declared.layout.Layout.{Layout}
-use Rattle.pfs_layout.specs.declared.fault.LayoutFault.{LayoutFault}
-use Rattle.pfs_layout.specs.declared.fault.LayoutFault.TheVariants.{Read, Memory}
 use Rattle.pfs_layout.specs.declared.scan.Line.{Line}
 use Rattle.pfs_layout.specs.declared.scan.TheConstants.{CEILING}
 use Rattle.pfs_layout.specs.declared.size_line.SizeLine.{SizeLine}
 use Rattle.pfs_layout.specs.declared.body.Body.{Body}
 use Rattle.pfs_layout.specs.declared.blocks.Phase.{Phase}
-use Rattle.pfs_layout.specs.declared.blocks.Phase.TheVariants as phases
 use Rattle.pfs_layout.specs.declared.blocks.Blocks.{Blocks}
 use Rattle.pfs_layout.specs.declared.blocks.Progress.{Progress}
 use Rattle.pfs_layout.specs.declared.reader.TheConstants.{PIECE}
-use Rattle.pfs_layout.specs.Bytes.{is_digit, is_word_byte, is_line_end}
-use Rattle.pfs_layout.specs.Lines.{ended_lines, open_line, ended_numbers, last_digits}
-use Rattle.pfs_layout.specs.declared.size_line.Size.{Size}
-use Rattle.pfs_layout.specs.Size.{is_within_limits}
-use Rattle.pfs_layout.specs.Block.{due_count, times_in}
-use Rattle.pfs_layout.specs.Stand.{Block, Now, seeking, inside, lost, Stand, stand, instance_of, place_of_time}
+use Rattle.pfs_layout.specs.Lines.{is_digit, is_word_byte, is_line_end, ended_lines, open_line, ended_numbers}
+use Rattle.pfs_layout.specs.Lines.{last_digits}
+use Rattle.pfs_layout.specs.Block.{Layout, Size, Block, Now, seeking, inside, lost, Stand, stand, instance_of}
+use Rattle.pfs_layout.specs.Block.{is_within_limits, due_count, times_in, place_of_time}
 use Rattle.pfs_layout.specs.File.{IsInstanceFile}
-use Rattle.pfs_layout.specs.Refuse.{RefusesInstance, fault_of_place, byte_fault}
+use Rattle.pfs_layout.specs.Refuse.{LayoutFault, RefusesInstance, fault_of_place, byte_fault}
 
 -- a further byte is wanted
 abbrev pub is_live : Phase → Bool
-is_live phases.Done = false
-is_live (phases.Refused fault) = false
+is_live Phase.Done = false
+is_live (Phase.Refused fault) = false
 is_live other = true
 
 -- what a reader holds: the last line so far, and the blocks
@@ -95,12 +89,12 @@ pub record FollowsBody (layout : Layout) (size : Size) (count : ℕ) (body : Bod
 
 -- the next block is sought, behind these ended numbers of the last line, which has a word byte or not
 pub record IsSeeking (has_word : Bool) (r : Blocks) (more : List ℕ) : Type 0 where
-  pub phase : r.phase ≡ (if nat_lt r.complete r.wanted then phases.Seeking else phases.Done)
+  pub phase : r.phase ≡ (if nat_lt r.complete r.wanted then Phase.Seeking else Phase.Done)
   pub numbers : has_word ≡ false → HoldsNumbers r.size_line more
 
 -- this block is begun, behind these ended numbers of the last line
 pub record IsInside (r : Blocks) (block : Block) (more : List ℕ) : Type 0 where
-  pub phase : r.phase ≡ (if nat_lt r.body.judged r.body.due then phases.Body else phases.AfterLast)
+  pub phase : r.phase ≡ Phase.Body
   pub few : r.complete < r.wanted
   pub fits : is_within_limits block.size ≡ true
   pub body : FollowsBody r.layout block.size (length block.numbers + length more) r.body
@@ -141,7 +135,7 @@ pub record IsRefused (r : Fields) (text : List ℕ) (fault : LayoutFault) : Type
   pub held : r.held ≡ time_count r.layout (block_read r.layout r.wanted front)
 
 abbrev pub StandsIn : Phase → Fields → List ℕ → Type 0
-StandsIn (phases.Refused fault) r text = IsRefused r text fault
+StandsIn (Phase.Refused fault) r text = IsRefused r text fault
 StandsIn other r text = Follows r text
 
 -- the reader has read this text, with or without a fault
@@ -150,8 +144,8 @@ StandsAfter r text = StandsIn r.phase r text
 
 -- every reader has read some text, or was refused memory and holds no time
 pub record IsReader (r : Fields) : Type 0 where
-  pub stands : r.phase ≢ phases.Refused Memory → (text : List ℕ) × StandsAfter r text
-  pub none : r.phase ≡ phases.Refused Memory → r.held ≡ 0
+  pub stands : r.phase ≢ Phase.Refused LayoutFault.Memory → (text : List ℕ) × StandsAfter r text
+  pub none : r.phase ≡ Phase.Refused LayoutFault.Memory → r.held ≡ 0
 
 -- ---- how many times are held
 
@@ -179,8 +173,8 @@ pub record EndsWantedSize (layout : Layout) (k : ℕ) (text : List ℕ) (byte : 
 
 -- what is told of the bytes that were taken
 abbrev pub progress_of : Phase → ℕ → Result Progress LayoutFault
-progress_of phases.Done used = Ok (record { used = used; done = true })
-progress_of (phases.Refused fault) used = Err fault
+progress_of Phase.Done used = Ok (record { used = used; done = true })
+progress_of (Phase.Refused fault) used = Err fault
 progress_of other used = Ok (record { used = used; done = false })
 
 -- what feed owes a reader that stands after this text
@@ -192,13 +186,13 @@ pub record FeedMeets (old : Fields) (text piece : List ℕ) (outcome : Result Pr
   pub wanted : new.wanted ≡ old.wanted
   -- it has used the whole piece, or the wanted block has ended with the last byte that it used
   pub whole : IfOk outcome (λ progress. IsFalse progress.done → progress.used ≡ length piece)
-  pub done : IfOk outcome (λ progress. IsTrue progress.done ↔ (new.phase ≡ phases.Done))
+  pub done : IfOk outcome (λ progress. IsTrue progress.done ↔ (new.phase ≡ Phase.Done))
   pub no_more : IfOk outcome (λ progress. (n : ℕ) → n < progress.used
       → length (stand old.layout (ended_lines (text ++ take n piece))).complete < old.wanted)
-  pub refused : IfErr outcome (λ fault. fault ≢ Memory → StandsAfter new (text ++ piece))
-  pub exact : outcome ≢ Err Memory → (fault : LayoutFault)
+  pub refused : IfErr outcome (λ fault. fault ≢ LayoutFault.Memory → StandsAfter new (text ++ piece))
+  pub exact : outcome ≢ Err LayoutFault.Memory → (fault : LayoutFault)
       → (outcome ≡ Err fault) ↔ (byte_fault old.layout old.wanted (text ++ piece) ≡ Some fault)
-  pub memory : outcome ≡ Err Memory
+  pub memory : outcome ≡ Err LayoutFault.Memory
       → (n : ℕ) × (n < length piece) × EndsWantedSize old.layout old.wanted (text ++ take n piece) (slice_index piece n)
 
 -- what finish owes
@@ -225,7 +219,7 @@ pub record ReadsAsFar (layout : Layout) (k : ℕ) (bytes : List ℕ) (left : Opt
   pub wanted : IsUndecided layout k front
   pub piece : length last ≤ PIECE
   -- a failed read gives no piece
-  pub failed : fault ≡ Some Read → last ≡ []
+  pub failed : fault ≡ Some LayoutFault.Read → last ≡ []
   -- memory is wanted at the end of the wanted block's size line alone, which is in the last piece
-  pub memory : fault ≡ Some Memory
+  pub memory : fault ≡ Some LayoutFault.Memory
       → (n : ℕ) × (n < length last) × EndsWantedSize layout k (front ++ take n last) (slice_index last n)

@@ -4,20 +4,15 @@ use Rattle.std.specs.Prelude.{length, take, map, count_by, Option, Some, None, i
 use Rattle.std.specs.Prelude.{if◌then◌else◌, slice_get}
 use Rattle.std.specs.Bool.{then_some}
 use Rattle.std.specs.Str.Parse.{digits_value}
-use Rattle.pfs_base.specs.declared.limits.TheConstants.{LONGEST_TIME, LONGEST_INPUT}
+use Rattle.pfs_base.specs.declared.limits.TheConstants.{LONGEST_INPUT}
 use Rattle.pfs_base.specs.Lists.{below, is_empty, first_some}
 use Rattle.pfs_base.specs.Problem.{Problem}
-use Rattle.pfs_layout.specs.declared.layout.Layout.{Layout}
-use Rattle.pfs_layout.specs.declared.fault.LayoutFault.{LayoutFault}
-use Rattle.pfs_layout.specs.declared.fault.LayoutFault.TheVariants.{NoBlock, SizeCount, SizeRange, MixedLine, TimeRange}
-use Rattle.pfs_layout.specs.declared.fault.LayoutFault.TheVariants.{MachineNumber, ExtraNumber, Truncated, TooLong}
-use Rattle.pfs_layout.specs.Bytes.{is_blank, is_line_end}
-use Rattle.pfs_layout.specs.declared.size_line.Size.{Size}
-use Rattle.pfs_layout.specs.Size.{is_within_limits}
-use Rattle.pfs_layout.specs.Lines.{lines, ended_lines, open_line, is_mixed, is_number_line, numbers, ended_numbers}
-use Rattle.pfs_layout.specs.Lines.{last_digits}
-use Rattle.pfs_layout.specs.Block.{Due, any_time, machine_number, nothing, stated_size, times_in, due_at}
-use Rattle.pfs_layout.specs.Stand.{Block, Now, seeking, inside, lost, stand, instance_of}
+pub use Rattle.pfs_layout.specs.declared.fault.LayoutFault.{LayoutFault}
+use Rattle.pfs_layout.specs.declared.body.Due.{Due}
+use Rattle.pfs_layout.specs.Lines.{is_blank, is_line_end, lines, ended_lines, open_line, is_mixed, is_number_line}
+use Rattle.pfs_layout.specs.Lines.{numbers, ended_numbers, last_digits}
+use Rattle.pfs_layout.specs.Block.{Layout, Size, is_within_limits, stated_size, is_due}
+use Rattle.pfs_layout.specs.Block.{times_in, due_at, Block, Now, seeking, inside, lost, stand, instance_of}
 
 -- A place is told by the bytes before it and the byte at it, or None at the end.
 
@@ -33,20 +28,23 @@ ends_number before (Some byte) = not (is_empty (last_digits before)) && (is_blan
 
 -- the limit of the input is reached, and a byte follows
 abbrev pub too_long : List ℕ → Option ℕ → Option LayoutFault
-too_long before next = then_some (length before == LONGEST_INPUT && is_some next) TooLong
+too_long before next = then_some (length before == LONGEST_INPUT && is_some next) LayoutFault.TooLong
 
 -- the byte is the first by which its line holds both a digit and a word byte
 unfoldable pub mixed_line : List ℕ → Option ℕ → Option LayoutFault
 mixed_line before None = None
 mixed_line before (Some byte) =
     let line = open_line before in
-    then_some (not (is_mixed line) && is_mixed (line ++ byte ∷ [])) (MixedLine (length before))
+    then_some (not (is_mixed line) && is_mixed (line ++ byte ∷ [])) (LayoutFault.MixedLine (length before))
 
--- a number isn't what is due
+-- the fault of a number that isn't what is due, and whether a number has it
+abbrev pub fault_of_due : Due → ℕ → LayoutFault
+fault_of_due Due.Time offset = LayoutFault.TimeRange offset
+fault_of_due (Due.Machine machine) offset = LayoutFault.MachineNumber offset
+fault_of_due Due.Nothing offset = LayoutFault.ExtraNumber offset
+
 abbrev pub misfit : Due → ℕ → ℕ → Option LayoutFault
-misfit any_time number offset = then_some (nat_lt LONGEST_TIME number) (TimeRange offset)
-misfit (machine_number machine) number offset = then_some (not (number == machine)) (MachineNumber offset)
-misfit nothing number offset = Some (ExtraNumber offset)
+misfit due number offset = then_some (not (is_due due number)) (fault_of_due due offset)
 
 -- a number ends that isn't what is due behind the block's numbers and the earlier ones of its line
 unfoldable pub wrong_number : Layout → Block → List ℕ → Option ℕ → Option LayoutFault
@@ -59,8 +57,8 @@ wrong_number layout block before next =
 
 -- what a number line states has a wrong count of numbers, or one out of its limit
 abbrev pub size_fault : Option Size → ℕ → Option LayoutFault
-size_fault None line = Some (SizeCount line)
-size_fault (Some size) line = then_some (not (is_within_limits size)) (SizeRange line)
+size_fault None line = Some (LayoutFault.SizeCount line)
+size_fault (Some size) line = then_some (not (is_within_limits size)) (LayoutFault.SizeRange line)
 
 unfoldable pub wrong_size : Layout → List ℕ → Option ℕ → Option LayoutFault
 wrong_size layout before next = if ends_line before next && is_number_line (open_line before)
@@ -69,8 +67,8 @@ wrong_size layout before next = if ends_line before next && is_number_line (open
 
 -- at the end: a block is begun, or fewer are complete than are wanted
 abbrev pub missing : Layout → ℕ → ℕ → Now → Option LayoutFault
-missing layout k complete seeking = then_some (nat_lt complete k) (NoBlock complete)
-missing layout k complete (inside block) = Some (Truncated (times_in layout (length block.numbers)))
+missing layout k complete seeking = then_some (nat_lt complete k) (LayoutFault.NoBlock complete)
+missing layout k complete (inside block) = Some (LayoutFault.Truncated (times_in layout (length block.numbers)))
 missing layout k complete lost = None
 
 unfoldable pub ends_early : Layout → ℕ → List ℕ → Option ℕ → Option LayoutFault

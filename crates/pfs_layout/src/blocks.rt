@@ -1,16 +1,15 @@
-//! The blocks that a reader has read, and what an event of the last line does to them.
+//! The blocks that a reader has read, and what a byte behind the last line does to them.
 ghost use Rattle.std.specs.Prelude.{◌≡◌, ◌≢◌, ◌+◌, ◌-◌, ◌*◌, ◌<◌, ◌≤◌, true, false, ◌==◌, ℕ, List, length, replicate};
 ghost use Rattle.std.specs.Prelude.{Some, None, IfOk, IfErr, OnOk, OnErr, IfSome, option_map, is_some, if◌then◌else◌};
-ghost use Rattle.pfs_layout.specs.Size.{is_within_limits, problem_of};
-ghost use Rattle.pfs_layout.specs.Private.Step.{refused, CanCount, with_problem_time, stored, counted};
-ghost use Rattle.pfs_layout.specs.Private.Step.{body_judged, number_ended, last_number_ended, no_numbers, Keeps};
-ghost use Rattle.pfs_layout.specs.Private.Step.{size_line_ended, line_ended, mixed_met, blocks_after};
-ghost use Rattle.pfs_layout.specs.Private.Step.{has_numbers_alone, end_fault, at_end, IsReady, KeepsHeld, LacksMemory};
+ghost use Rattle.pfs_layout.specs.Block.{is_within_limits, problem_of};
+ghost use Rattle.pfs_layout.specs.Private.Step.{refused, CanCount, with_problem_time, counted};
+ghost use Rattle.pfs_layout.specs.Private.Step.{body_judged, number_ended, last_number_ended, no_numbers, stated_by};
+ghost use Rattle.pfs_layout.specs.Private.Step.{size_judged, line_ended, mixed_met, judged, TakeMeets};
+ghost use Rattle.pfs_layout.specs.Private.Step.{has_numbers_alone, end_fault, at_end, IsReady, LacksMemory};
 ghost use Rattle.pfs_layout.specs.Reader.{is_live as live_test, fields, StandsAfter, IsReader, FeedMeets, progress_of};
-ghost use Rattle.pfs_layout.specs.Private.Take.{TakeMeets};
 
-use crate::body::Body;
-use crate::scan::{Event, Kinds, Line, Number, is_blank};
+use crate::body::{Body, Due};
+use crate::scan::{Kinds, LINE_END, Line, Number, is_blank};
 use crate::size_line::{Size, SizeLine};
 use crate::{Layout, LayoutFault};
 use pfs_base::{BaseFault, Instance, LONGEST_INPUT, LONGEST_TIME};
@@ -21,10 +20,8 @@ use std::alloc::Global;
 pub enum Phase {
     /// The next block is sought.
     Seeking,
-    /// Numbers of a block are due.
+    /// A block is begun, and the line of its last number isn't ended.
     Body,
-    /// All numbers of a block were judged, and their last line isn't ended.
-    AfterLast,
     /// The wanted block has ended.
     Done,
     /// The input was refused.
@@ -98,52 +95,35 @@ impl Blocks {
     {
         match self.phase {
             Phase::Done | Phase::Refused(_) => false,
-            Phase::Seeking | Phase::Body | Phase::AfterLast => true,
+            Phase::Seeking | Phase::Body => true,
         }
     }
 
-    // Keeps a time of the wanted block.
-    fn store(&mut self, time: u32)
+    // A time is judged, and kept if its block is the wanted one.
+    fn count_time(&mut self, time: u32)
         requires can { CanCount self.old }
+        requires some { self.old.body.judged < self.old.body.due }
         requires short { time ≤ LONGEST_TIME }
-        ensures { self.new ≡ stored self.old time }
+        ensures { self.new ≡ counted self.old Due.Time time }
     {
         if let Some(instance) = &mut self.instance {
             instance.set(self.body.job, self.body.machine, time);
             self.held += 1;
         }
+        self.body = self.body.after_time(self.layout);
     }
 
-    // One number of the body more was judged.
-    fn count(&mut self, body: Body)
-        ensures { self.new ≡ counted self.old body }
-    {
-        self.body = body;
-        self.phase = if body.judged < body.due {
-            Phase::Body
-        } else {
-            Phase::AfterLast
-        };
-    }
-
-    // The number is one of a body, where a time or a machine's number is due.
+    // The number is one of a body.
     fn judge_body(&mut self, value: u64, first: usize)
         requires { CanCount self.old }
         ensures { self.new ≡ body_judged self.old value first }
     {
-        if self.body.is_machine_due(self.layout) {
-            if value != self.body.machine as u64 {
-                self.refuse(LayoutFault::MachineNumber { offset: first });
-                return;
+        match self.body.next_due(self.layout) {
+            Due::Time if value <= u64::from(LONGEST_TIME) => self.count_time(value as u32),
+            Due::Machine(machine) if value == machine as u64 => {
+                self.body = self.body.after_machine();
             }
-            self.count(self.body.after_machine());
-        } else {
-            if value > u64::from(LONGEST_TIME) {
-                self.refuse(LayoutFault::TimeRange { offset: first });
-                return;
-            }
-            self.store(value as u32);
-            self.count(self.body.after_time(self.layout));
+            due => self.refuse(due.fault(first)),
         }
     }
 
@@ -152,12 +132,11 @@ impl Blocks {
     #[tactic(auto, unfolding(crate::specs::Private::Step::number_ended))]
     fn end_other_number(&mut self, value: u64, first: usize)
         requires elsewhere { self.old.phase ≢ Phase.Body }
-        requires count { self.old.size_line.count ≤ LONGEST_INPUT }
+        requires ready { IsReady self.old }
         ensures { self.new ≡ number_ended self.old value first }
     {
         match self.phase {
             Phase::Seeking => self.size_line = self.size_line.with(value),
-            Phase::AfterLast => self.refuse(LayoutFault::ExtraNumber { offset: first }),
             Phase::Body | Phase::Done | Phase::Refused(_) => {}
         }
     }
@@ -166,8 +145,7 @@ impl Blocks {
     #[inline(always)]
     #[tactic(auto, unfolding(crate::specs::Private::Step::number_ended))]
     fn end_number(&mut self, number: Number)
-        requires can { self.old.phase ≡ Phase.Body → CanCount self.old }
-        requires count { self.old.size_line.count ≤ LONGEST_INPUT }
+        requires ready { IsReady self.old }
         ensures { self.new ≡ number_ended self.old number.value number.first }
     {
         if let Phase::Body = self.phase {
@@ -179,13 +157,9 @@ impl Blocks {
 
     // A line end or the end of the input ends the unfinished number, if there is one.
     #[inline(always)]
-    #[tactic(auto, using(crate::proofs::Reading::ByteSteps::keeps_number))]
     fn end_last_number(&mut self, number: Option<Number>)
-        requires can { self.old.phase ≡ Phase.Body → CanCount self.old }
-        requires count { self.old.size_line.count ≤ LONGEST_INPUT }
-        requires live { live_test self.old.phase ≡ true }
-        ensures ended { self.new ≡ last_number_ended self.old number }
-        ensures kept { Keeps self.old self.new }
+        requires { IsReady self.old }
+        ensures { self.new ≡ last_number_ended self.old number }
     {
         if let Some(number) = number {
             self.end_number(number);
@@ -216,13 +190,12 @@ impl Blocks {
     // line, counted from 1.
     #[inline(never)]
     fn end_size_line(&mut self, alloc: Global, size_line: SizeLine, line: usize)
+        requires sought { self.old.phase ≡ Phase.Seeking }
         requires complete { self.old.complete < self.old.wanted }
         ensures ended { self.new.phase ≢ Phase.Refused LayoutFault.Memory
-            → self.new ≡ size_line_ended self.old size_line line }
-        ensures memory { self.new.phase ≡ Phase.Refused LayoutFault.Memory → self.old.complete + 1 ≡ self.old.wanted }
-        ensures begins { self.new.phase ≡ Phase.Refused LayoutFault.Memory
-            → (size_line_ended self.old size_line line).phase ≡ Phase.Body }
-        ensures kept { KeepsHeld self.old self.new }
+            → self.new ≡ size_judged self.old line (stated_by self.old.layout size_line) }
+        ensures memory { self.new.phase ≡ Phase.Refused LayoutFault.Memory
+            → LacksMemory self.old (size_judged self.old line (stated_by self.old.layout size_line)) self.new }
     {
         let stated = match size_line.stated(self.layout, line) {
             Ok(stated) => stated,
@@ -245,13 +218,12 @@ impl Blocks {
     #[tactic(auto, unfolding(crate::specs::Private::Step::line_ended))]
     fn end_line(&mut self, alloc: Global, is_number_line: bool)
         requires complete { self.old.complete < self.old.wanted }
-        requires line { self.old.line ≤ LONGEST_INPUT }
+        requires line { self.old.line ≤ LONGEST_INPUT + 1 }
         requires memory { self.old.phase ≢ Phase.Refused LayoutFault.Memory }
         ensures ended { self.new.phase ≢ Phase.Refused LayoutFault.Memory
             → self.new ≡ line_ended self.old is_number_line }
         ensures memory { self.new.phase ≡ Phase.Refused LayoutFault.Memory
-            → LacksMemory self.old (line_ended self.old is_number_line) }
-        ensures kept { KeepsHeld self.old self.new }
+            → LacksMemory self.old (line_ended self.old is_number_line) self.new }
     {
         let line = self.line;
         let size_line = self.size_line;
@@ -263,7 +235,7 @@ impl Blocks {
                     self.end_size_line(alloc, size_line, line);
                 }
             }
-            Phase::AfterLast => {
+            Phase::Body if self.body.judged >= self.body.due => {
                 let complete = self.complete + 1;
                 self.complete = complete;
                 self.phase = if complete == self.wanted {
@@ -278,35 +250,29 @@ impl Blocks {
 
     // The line is mixed with the byte at this offset.
     fn meet_mixed_line(&mut self, offset: usize)
-        ensures { self.new ≡ mixed_met self.old offset }
+        ensures { self.new ≡ mixed_met self.old.phase self.old offset }
     {
-        match self.phase {
-            Phase::Body | Phase::AfterLast => self.refuse(LayoutFault::MixedLine { offset }),
-            Phase::Seeking | Phase::Done | Phase::Refused(_) => {}
+        if let Phase::Body = self.phase {
+            self.refuse(LayoutFault::MixedLine { offset });
         }
     }
 
-    // Judges an event of the last line.
+    // Judges a byte behind this line.
     #[inline(always)]
-    #[tactic(auto, using(crate::proofs::Reading::ByteSteps::keeps_number))]
-    fn after(&mut self, alloc: Global, event: Event)
+    #[tactic(auto, using(crate::proofs::Reading::ByteSteps::keeps_last))]
+    fn after(&mut self, alloc: Global, last: Line, b: u8)
         requires ready { IsReady self.old }
-        ensures judged { self.new.phase ≢ Phase.Refused LayoutFault.Memory → self.new ≡ blocks_after self.old event }
+        ensures well { self.new.phase ≢ Phase.Refused LayoutFault.Memory → self.new ≡ judged self.old last b }
         ensures memory { self.new.phase ≡ Phase.Refused LayoutFault.Memory
-            → LacksMemory self.old (blocks_after self.old event) }
-        ensures kept { self.new.phase ≡ Phase.Refused LayoutFault.Memory → KeepsHeld self.old self.new }
+            → LacksMemory self.old (judged self.old last b) self.new }
     {
-        match event {
-            Event::Quiet => {}
-            Event::NumberEnded(number) => self.end_number(number),
-            Event::LineEnded {
-                number,
-                is_number_line,
-            } => {
-                self.end_last_number(number);
-                self.end_line(alloc, is_number_line);
-            }
-            Event::Mixed { offset } => self.meet_mixed_line(offset),
+        if b == LINE_END {
+            self.end_last_number(last.digits.number());
+            self.end_line(alloc, last.kinds.is_number_line());
+        } else if is_blank(b) {
+            self.end_last_number(last.digits.number());
+        } else if last.is_mixed_by(b) {
+            self.meet_mixed_line(last.digits.offset);
         }
     }
 
@@ -317,7 +283,7 @@ impl Blocks {
         match self.phase {
             Phase::Done => Ok(Progress { used, done: true }),
             Phase::Refused(fault) => Err(fault),
-            Phase::Seeking | Phase::Body | Phase::AfterLast => Ok(Progress { used, done: false }),
+            Phase::Seeking | Phase::Body => Ok(Progress { used, done: false }),
         }
     }
 
@@ -344,12 +310,12 @@ impl Blocks {
                 continue;
             }
             if is_blank(b) {
-                let event = line.blank_event();
+                let number = line.digits.number();
                 line.push_blank();
-                if let Event::Quiet = event {
+                if number.is_none() {
                     continue;
                 }
-                self.after(alloc, event);
+                self.end_last_number(number);
                 if !self.is_live() {
                     break;
                 }
@@ -359,9 +325,8 @@ impl Blocks {
                 line.push_word_byte();
                 continue;
             }
-            let event = line.event(b);
+            self.after(alloc, line, b);
             line.push(b);
-            self.after(alloc, event);
             if !self.is_live() {
                 break;
             }
@@ -405,6 +370,7 @@ impl Blocks {
 
     /// Judges the last number of an input that ends behind this line, and answers the fault of the end, if
     /// the wanted block isn't complete.
+    #[tactic(auto, using(crate::proofs::Reading::ByteSteps::keeps_last))]
     pub fn judge_end(&mut self, last: Line) -> Option<LayoutFault>
         requires { IsReader (fields last self.old) }
         ensures fault { result ≡ end_fault (line_ended (at_end last self.old) (has_numbers_alone last.kinds)) }
@@ -433,10 +399,10 @@ impl Blocks {
             Phase::Seeking => Some(LayoutFault::NoBlock {
                 found: self.complete,
             }),
-            Phase::Body => Some(LayoutFault::Truncated {
+            Phase::Body if self.body.judged < self.body.due => Some(LayoutFault::Truncated {
                 have: self.body.times(self.layout),
             }),
-            Phase::AfterLast => {
+            Phase::Body => {
                 let wanted = self.wanted;
                 let complete = self.complete + 1;
                 if complete == wanted {

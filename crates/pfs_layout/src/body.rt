@@ -1,11 +1,37 @@
 //! How far a reader is in the body of a block.
 ghost use Rattle.std.specs.Prelude.{◌≡◌, ◌<◌, ◌≤◌, ◌+◌};
 ghost use Rattle.pfs_layout.specs.Block.{times_in};
-ghost use Rattle.pfs_layout.specs.Private.Step.{HasPlace, body_of, is_machine_due as machine_due_test, next_of};
+ghost use Rattle.pfs_layout.specs.Refuse.{fault_of_due};
+ghost use Rattle.pfs_layout.specs.Private.Step.{body_of, due_next, next_of};
 ghost use Rattle.pfs_layout.specs.Private.Step.{after_machine as behind_machine, after_time as behind_time};
 
-use crate::Layout;
+use crate::{Layout, LayoutFault};
 use pfs_base::{MOST_JOBS, MOST_MACHINES};
+
+/// What is due at a place of the body of a block.
+#[derive(Clone, Copy)]
+pub enum Due {
+    /// Any time within the limit.
+    Time,
+    /// The number of this machine.
+    Machine(usize),
+    /// Nothing: the body has no more numbers.
+    Nothing,
+}
+
+impl Due {
+    /// The fault of a number at this offset that isn't what is due.
+    #[cold]
+    pub fn fault(self, offset: usize) -> LayoutFault
+        ensures { result ≡ fault_of_due self offset }
+    {
+        match self {
+            Due::Time => LayoutFault::TimeRange { offset },
+            Due::Machine(_) => LayoutFault::MachineNumber { offset },
+            Due::Nothing => LayoutFault::ExtraNumber { offset },
+        }
+    }
+}
 
 /// The sizes of a block, how many of its numbers are judged, and where the next time stands.
 #[derive(Clone, Copy)]
@@ -42,19 +68,22 @@ impl Body {
         }
     }
 
-    /// Whether the number that is due is that of a machine.
-    pub fn is_machine_due(self, layout: Layout) -> bool
-        ensures { result ≡ machine_due_test layout self }
+    /// What is due next.
+    pub fn next_due(self, layout: Layout) -> Due
+        ensures { result ≡ due_next layout self }
     {
+        if self.judged >= self.due {
+            return Due::Nothing;
+        }
         match layout {
-            Layout::Taillard => false,
-            Layout::OrLib => self.judged % 2 == 0,
+            Layout::OrLib if self.judged % 2 == 0 => Due::Machine(self.machine),
+            Layout::Taillard | Layout::OrLib => Due::Time,
         }
     }
 
     /// Behind the number of a machine.
     pub fn after_machine(self) -> Body
-        requires { HasPlace self }
+        requires { self.judged < self.due }
         ensures { result ≡ behind_machine self }
     {
         let mut body = self;
@@ -65,7 +94,9 @@ impl Body {
     /// Behind a time: the same machine's next job, or the next machine's first, or in the OR-Library's layout the same
     /// job's next machine, or the next job's first.
     pub fn after_time(self, layout: Layout) -> Body
-        requires { HasPlace self }
+        requires some { self.judged < self.due }
+        requires job { self.job < self.jobs }
+        requires machine { self.machine < self.machines }
         ensures { result ≡ behind_time layout self }
     {
         let mut body = self;

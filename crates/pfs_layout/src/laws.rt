@@ -1,11 +1,9 @@
 //! Laws about the definitions, and one about readers.
 ghost use Rattle.std.specs.Prelude.{◌≡◌, ℕ, List};
 ghost use Rattle.pfs_layout.specs.Reader.{StandsAfter, FinishMeets};
-ghost use Rattle.pfs_layout.specs.CanonicalText.{CanonicalLaw, TextsFit};
-ghost use Rattle.pfs_layout.specs.Generator.{SeedsStay, GeneratedWithin};
 ghost use Rattle.pfs_layout.specs.Laws.{FileStands, SomeFile, OneVerdict, RefusalLaw, AcceptedLaw};
 ghost use Rattle.pfs_layout.specs.Laws.{FaultStays, ByteFaultLaw, FreeBehind, WiderLimits, EarlierFiles};
-ghost use Rattle.pfs_layout.specs.Laws.{DueAndBack, DueFronts};
+ghost use Rattle.pfs_layout.specs.Laws.{DueAndBack, DueFronts, CanonicalLaw, TextsFit, SeedsStay, GeneratedWithin};
 
 use crate::LayoutFault;
 use crate::reader::BlockReader;
@@ -50,7 +48,6 @@ pub fn byte_fault()
 {}
 
 /// What follows the wanted block is free.
-#[tactic(auto, using(crate::proofs::Files::EndLemmas::free_behind))]
 pub fn free_behind()
     ensures { FreeBehind }
 {}

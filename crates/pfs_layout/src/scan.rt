@@ -1,11 +1,10 @@
-//! The last line so far, and what a byte behind it means. Its parts have no padding, so that a step is a
+//! The last line so far, and what a byte does to it. Its parts have no padding, so that a step is a
 //! few instructions.
 ghost use Rattle.std.specs.Prelude.{◌≡◌, ◌<◌, ◌≤◌, ◌&&◌, ◌||◌, ◌==◌, not, true, false, ◌+◌, ◌-◌, ◌*◌, ℕ, [], min};
 ghost use Rattle.std.specs.Prelude.{if◌then◌else◌};
-ghost use Rattle.pfs_layout.specs.Bytes.{is_digit as digit_test, is_blank as blank_test, is_word_byte as word_test};
+ghost use Rattle.pfs_layout.specs.Lines.{is_digit as digit_test, is_blank as blank_test, is_word_byte as word_test};
 ghost use Rattle.pfs_layout.specs.Reader.{FollowsLine};
 ghost use Rattle.pfs_layout.specs.Private.Step.{Pushes, has_numbers_alone, number_of};
-ghost use Rattle.pfs_layout.specs.Private.Step.{blank_event as blank_event_of, event_of};
 
 use pfs_base::{GREATEST_NOTE, LONGEST_INPUT};
 
@@ -133,24 +132,6 @@ pub struct Number {
     pub first: usize,
 }
 
-/// What a byte means to the blocks.
-#[derive(Clone, Copy)]
-pub enum Event {
-    /// It ends nothing, and the line isn't mixed.
-    Quiet,
-    /// A blank has ended this number.
-    NumberEnded(Number),
-    /// The line has ended, and with it this number, if there was one.
-    LineEnded {
-        number: Option<Number>,
-        is_number_line: bool,
-    },
-    /// The line is mixed with the byte at this offset.
-    Mixed {
-        offset: usize,
-    },
-}
-
 impl Line {
     /// The first line, of which nothing was read.
     #[tactic(auto, unfolding(crate::specs::Lines::open_part))]
@@ -227,34 +208,15 @@ impl Line {
         is_word_byte(b) && !self.kinds.has_digit
     }
 
-    /// What any other byte behind the line means: it ends the line, or mixes it.
+    /// Whether a digit or a word byte mixes the line: it has a byte of the other kind.
     #[inline(always)]
-    pub fn event(self, b: u8) -> Event
-        requires digit { (digit_test b && not self.kinds.has_word) ≡ false }
-        requires blank { blank_test b ≡ false }
-        requires word { (word_test b && not self.kinds.has_digit) ≡ false }
-        ensures { result ≡ event_of self b }
+    pub fn is_mixed_by(self, b: u8) -> bool
+        ensures { result ≡ (if digit_test b then self.kinds.has_word else self.kinds.has_digit) }
     {
-        if b == LINE_END {
-            Event::LineEnded {
-                number: self.digits.number(),
-                is_number_line: self.kinds.is_number_line(),
-            }
+        if is_digit(b) {
+            self.kinds.has_word
         } else {
-            Event::Mixed {
-                offset: self.digits.offset,
-            }
-        }
-    }
-
-    /// What a blank behind the line means.
-    #[inline(always)]
-    pub fn blank_event(self) -> Event
-        ensures { result ≡ blank_event_of (number_of self.digits) }
-    {
-        match self.digits.number() {
-            Some(number) => Event::NumberEnded(number),
-            None => Event::Quiet,
+            self.kinds.has_digit
         }
     }
 }

@@ -1,10 +1,9 @@
 //! Writing instance files.
-ghost use Rattle.std.specs.Prelude.{◌≡◌, ◌+◌, ◌<◌, ◌≤◌, ◌^◌, false, true, length, take, slice_index, IfErr, OnOk};
+ghost use Rattle.std.specs.Prelude.{◌≡◌, ℕ, ◌+◌, ◌<◌, ◌≤◌, ◌^◌, false, true, length, take, slice_index, IfErr, OnOk};
 ghost use Rattle.std.specs.Prelude.{OnErr};
 ghost use Rattle.std.specs.Io.KnownBytes.{Appends};
 ghost use Rattle.pfs_base.specs.Sends.{Sends};
 ghost use Rattle.pfs_layout.specs.Block.{due_row, row_count};
-ghost use Rattle.pfs_layout.specs.Private.Rows.{row_width};
 ghost use Rattle.pfs_layout.specs.CanonicalText.{head_lines, row_line, row_lines, canonical_text};
 
 use crate::layout::Layout;
@@ -124,8 +123,9 @@ fn put_row<W: Sink>(
 }
 
 // How many numbers a row has.
+#[tactic(auto, using(crate::proofs::Files::DueLemmas::length_due_row))]
 fn row_length(instance: &Instance, layout: Layout) -> usize
-    ensures { result ≡ row_width layout instance.now.shop }
+    ensures { (row : ℕ) → length (due_row layout instance.now.shop row) ≡ result }
 {
     match layout {
         Layout::Taillard => instance.jobs(),
@@ -134,10 +134,10 @@ fn row_length(instance: &Instance, layout: Layout) -> usize
 }
 
 // The number at a place of a row: a job's time on the row's machine, or a machine and then its time of the row's job.
-#[tactic(auto, using(crate::proofs::Texts::WritingLemmas::number_is))]
+#[tactic(auto, using(crate::proofs::Files::DueLemmas::length_due_row, crate::proofs::Texts::WritingLemmas::number_is))]
 fn number_at(instance: &Instance, layout: Layout, row: usize, place: usize) -> u64
     requires row { row < row_count layout instance.now.shop }
-    requires place { place < row_width layout instance.now.shop }
+    requires place { place < length (due_row layout instance.now.shop row) }
     ensures { result ≡ slice_index (due_row layout instance.now.shop row) place }
 {
     match layout {

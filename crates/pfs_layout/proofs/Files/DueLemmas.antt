@@ -1,12 +1,11 @@
 -- The numbers that are due: by index, for a problem and back, and their fronts.
-use Rattle.pfs_layout.proofs.Words.{arith, ◌≡◌, ℕ, ◌≤◌, true, List, All, nat_tests, LONGEST_TIME}
-use Rattle.pfs_layout.proofs.Words.{limits, Problem, Size, size_of, is_within_limits, IsInstance, ◌+◌, ◌*◌, ◌/◌, ◌%◌}
-use Rattle.pfs_layout.proofs.Words.{◌<◌, [], ◌∷◌, length, get_or, refl, ◌∙◌, inl, inr, cases_eq, eq-eqb, elements}
-use Rattle.pfs_layout.proofs.Words.{length-map-range_with_len, mod-mul-add, mul-add-lt, FlowShop, time_of, Layout}
-use Rattle.pfs_layout.proofs.Words.{Taillard, OrLib, any_time, machine_number, is_due, due_at, are_due, due_row, due}
-use Rattle.pfs_layout.proofs.Words.{due_count, row_width, place_of_time, Bool, sym, same_number_lists, Block}
-use Rattle.pfs_layout.proofs.Words.{instance_of, ◌++◌, drop, length-append, begun, list_all-append}
-use Rattle.pfs_layout.proofs.Words.{enumerate_from-append, and_parts}
+use Rattle.pfs_layout.proofs.Words.{arith, ◌≡◌, ℕ, ◌≤◌, true, List, All, nat_tests, LONGEST_TIME, limits, Problem, Size}
+use Rattle.pfs_layout.proofs.Words.{size_of, is_within_limits, IsInstance, ◌+◌, ◌*◌, ◌/◌, ◌%◌, ◌<◌, [], ◌∷◌, length}
+use Rattle.pfs_layout.proofs.Words.{get_or, refl, ◌∙◌, inl, inr, cases_eq, eq-eqb, elements, length-map-range_with_len}
+use Rattle.pfs_layout.proofs.Words.{mod-mul-add, mul-add-lt, FlowShop, time_of, Layout, Taillard, OrLib, Due}
+use Rattle.pfs_layout.proofs.Words.{is_due, due_at, are_due, due_row, due, due_count, place_of_time}
+use Rattle.pfs_layout.proofs.Words.{Bool, sym, same_number_lists, Block, instance_of, ◌++◌, drop, length-append, begun}
+use Rattle.pfs_layout.proofs.Words.{list_all-append, enumerate_from-append, and_parts}
 use Rattle.std.proofs.lemmas.List.Sums.{AllPass-from_list_all, list_all-from_AllPass}
 use Rattle.pfs_base.specs.declared.limits.TheConstants.{GREATEST_NOTE}
 use Rattle.std.specs.List.{enumerate_from}
@@ -31,32 +30,37 @@ size_within size e = grind (arith, nat_tests)
 
 -- ---- the numbers that are due, by index
 
+-- how many numbers a row has
+abbrev pub row_width : Layout → FlowShop → ℕ
+row_width Taillard shop = shop.jobs
+row_width OrLib shop = shop.machines * 2
+
 -- a machine and its time
 abbrev pub pairs_of : FlowShop → ℕ → ℕ → List ℕ
 pairs_of shop job machine = machine ∷ time_of shop job machine ∷ []
 
-pub length-due_row : (layout : Layout) (shop : FlowShop) (r : ℕ)
+pub length_due_row : (layout : Layout) (shop : FlowShop) (r : ℕ)
     → length (due_row layout shop r) ≡ row_width layout shop
 unfolding due_row
-length-due_row Taillard shop r = length-map-range_with_len (λ job. time_of shop job r) 0 shop.jobs
-length-due_row OrLib shop r = length-rows (pairs_of shop r) 2 (λ i. refl) shop.machines
+length_due_row Taillard shop r = length-map-range_with_len (λ job. time_of shop job r) 0 shop.jobs
+length_due_row OrLib shop r = length-rows (pairs_of shop r) 2 (λ i. refl) shop.machines
 
 -- as many numbers are due as due_count says
 pub length-due : (layout : Layout) (problem : Problem)
     → length (due layout problem.shop) ≡ due_count layout (size_of problem)
 unfolding due
 length-due Taillard problem =
-    length-rows (due_row Taillard problem.shop) _ (length-due_row Taillard problem.shop) problem.shop.machines
+    length-rows (due_row Taillard problem.shop) _ (length_due_row Taillard problem.shop) problem.shop.machines
     ∙ grind arith
 length-due OrLib problem =
-    length-rows (due_row OrLib problem.shop) _ (length-due_row OrLib problem.shop) problem.shop.jobs ∙ grind arith
+    length-rows (due_row OrLib problem.shop) _ (length_due_row OrLib problem.shop) problem.shop.jobs ∙ grind arith
 
 -- the number of a machine and its time of a job, in the OR-Library's layout
 pub pair_at : (shop : FlowShop) (job machine c d : ℕ) → job < shop.jobs → machine < shop.machines → c < 2
     → get_or (due OrLib shop) (job * (shop.machines * 2) + (machine * 2 + c)) d ≡ get_or (pairs_of shop job machine) c d
 unfolding due due_row
 pair_at shop job machine c d j m l =
-    rows_at (due_row OrLib shop) (shop.machines * 2) (length-due_row OrLib shop) shop.jobs job (machine * 2 + c) d j
+    rows_at (due_row OrLib shop) (shop.machines * 2) (length_due_row OrLib shop) shop.jobs job (machine * 2 + c) d j
     (omega arith)
     ∙ rows_at (pairs_of shop job) 2 (λ i. refl) shop.machines machine c d m l
 
@@ -77,7 +81,7 @@ pub place_within : (layout : Layout) (size : Size) (job machine : ℕ) → job <
 place_within layout size job machine j m = grind (arith, mul-add-lt)
 
 pub due_time : (layout : Layout) (size : Size) (job machine : ℕ) → job < size.jobs → machine < size.machines
-    → due_at layout size (place_of_time layout size job machine) ≡ any_time
+    → due_at layout size (place_of_time layout size job machine) ≡ Due.Time
 unfolding due_at
 due_time layout size job machine j m = grind (arith, nat_tests, place_within)
 
@@ -85,7 +89,7 @@ due_time layout size job machine j m = grind (arith, nat_tests, place_within)
 pub data PlaceIs (layout : Layout) (problem : Problem) (k : ℕ) : Type 0 where
   a_time : (job machine : ℕ) → job < problem.shop.jobs → machine < problem.shop.machines
       → k ≡ place_of_time layout (size_of problem) job machine → PlaceIs layout problem k
-  a_number : (machine : ℕ) → due_at layout (size_of problem) k ≡ machine_number machine
+  a_number : (machine : ℕ) → due_at layout (size_of problem) k ≡ Due.Machine machine
       → get_or (due layout problem.shop) k 0 ≡ machine → PlaceIs layout problem k
 
 pub place_is : (layout : Layout) (problem : Problem) (k : ℕ) → k < due_count layout (size_of problem)

@@ -1,16 +1,14 @@
 -- What more input and wider limits change.
 use Rattle.pfs_layout.proofs.Words.{◌≡◌, ℕ, List, [], ◌∷◌, ◌++◌, Some, append_assoc, append-nil, by_push, Layout}
 use Rattle.pfs_layout.proofs.Words.{LayoutFault, byte_fault, ◌≤◌, length, arith, lit≤, AllByRecursion, map, take, drop}
-use Rattle.pfs_layout.proofs.Words.{take-append-drop, None, inl, inr, refusal, fault_of_place, below}
-use Rattle.pfs_layout.proofs.Words.{limits, Problem, AreBlocks, IsInstance, IsBlock, IsSomeBlock, lines}
-use Rattle.pfs_layout.specs.Laws.{FaultStays, FreeBehind, IsWider, WiderLimits, earlier_limits}
-use Rattle.pfs_layout.specs.Laws.{EarlierFiles}
+use Rattle.pfs_layout.proofs.Words.{take-append-drop, None, inl, inr, refusal, fault_of_place, below, limits, Front}
+use Rattle.pfs_layout.proofs.Words.{Problem, AreBlocks, IsInstance, IsBlock, IsSomeBlock, lines, cases_option}
+use Rattle.pfs_layout.specs.Laws.{FaultStays, FreeBehind, IsWider, WiderLimits, earlier_limits, EarlierFiles}
 use Rattle.pfs_layout.proofs.Files.FileLemmas.{file_completes, completes_file}
 use Rattle.pfs_layout.proofs.Files.VerdictLemmas.{enough_holds, holds_longer, one_held}
 use Rattle.pfs_layout.proofs.Published.PlaceLemmas.{byte_fault-push, refusal_end, refusal_is}
 use Rattle.pfs_base.specs.Limits.{Limits}
 use Rattle.pfs_base.proofs.Published.Lists.{map-range_with_len-same}
-use Rattle.pfs_layout.proofs.Options.{cases_option}
 
 -- a fault at a byte stays, whatever follows
 pub byte_fault-more : (layout : Layout) (k : ℕ) (text more : List ℕ) (fault : LayoutFault)
@@ -83,8 +81,9 @@ wider_limits narrow wide layout input k problem wider file =
     let each = blocks_wider narrow wide wider layout file.blocks.earlier file.blocks.each in
     let own = block_wider narrow wide wider layout problem file.blocks.own file.blocks.is_own in
     let short : length file.text ≤ wide.input = omega (arith, file.short, wider.input) in
+    let front : Front wide input = search in
     let blocks : AreBlocks wide layout k problem (lines file.text) = search in
-    search
+    record { front = front; blocks = blocks }
 
 pub earlier_files : EarlierFiles
 earlier_files layout input k problem = wider_limits earlier_limits limits layout input k problem (record {

@@ -1,13 +1,12 @@
 -- Files, by where their lines lead.
 use Rattle.pfs_layout.proofs.Words.{nat_tests, ◌≡◌, ℕ, ◌+◌, ◌<◌, true, not, List, [], ◌∷◌, ◌++◌, length, flat_map, refl}
-use Rattle.pfs_layout.proofs.Words.{sym, arith, append_assoc, append-nil, length-append, AllByRecursion, list_any}
-use Rattle.pfs_layout.proofs.Words.{list_all, list_all-append, fold-append, Layout, is_digit, limits, Problem, Size}
-use Rattle.pfs_layout.proofs.Words.{size_of, is_mixed, is_number_line, is_no_digit, numbers, are_due, due, due_count}
-use Rattle.pfs_layout.proofs.Words.{Block, seeking, inside, standing, completed, stand_after, IsSomeBlock, IsBlock}
-use Rattle.pfs_layout.proofs.Words.{false, ap, Some, ◌==◌, inl, inr, mul-le-mul, cases_Bool, eqb-false, or_parts}
-use Rattle.pfs_layout.proofs.Words.{flat_map-append, by_push, is_within_limits, stated_size, Now, lost, Stand, begun}
-use Rattle.pfs_layout.proofs.Words.{with_line, after_line, stand, instance_of, lines, AreBlocks, IsInstanceFile}
-use Rattle.pfs_layout.proofs.Words.{Completes}
+use Rattle.pfs_layout.proofs.Words.{sym, arith, append_assoc, append-nil, length-append, AllByRecursion, list_any, Size}
+use Rattle.pfs_layout.proofs.Words.{list_all, list_all-append, fold-append, Layout, is_digit, limits, Problem, size_of}
+use Rattle.pfs_layout.proofs.Words.{is_mixed, is_number_line, is_no_digit, numbers, are_due, due, due_count, Block, ap}
+use Rattle.pfs_layout.proofs.Words.{seeking, inside, standing, completed, stand_after, IsSomeBlock, IsBlock, false, inl}
+use Rattle.pfs_layout.proofs.Words.{Some, ◌==◌, inr, mul-le-mul, cases_Bool, eqb-false, or_parts, flat_map-append, Now}
+use Rattle.pfs_layout.proofs.Words.{by_push, is_within_limits, stated_size, lost, Stand, begun, with_line, after_line}
+use Rattle.pfs_layout.proofs.Words.{stand, instance_of, lines, AreBlocks, IsInstanceFile, Completes, Seeks, length_push}
 use Rattle.std.proofs.Common.{fold}
 use Rattle.std.proofs.lemmas.Bool.{false≢true}
 use Rattle.pfs_layout.proofs.Files.LineLemmas.{split_some, front_of_lines}
@@ -58,11 +57,11 @@ module _ (layout : Layout) (complete : List Block) where
       let lines = append_assoc b.skipped (b.size_line ∷ b.front) (b.last ∷ []) in
       let skipped = skip_fold b.skipped b.no_numbers in
       let within : is_within_limits (size_of problem) ≡ true = grind (arith, nat_tests, b.within) in
-      let body = body_fold (size_of problem) [] b.front b.last b.body.front_unmixed b.body.last_numbers
-      (due layout problem.shop) (sym b.body.holds) (due_passes layout problem b.within.within.short_times)
+      let body = body_fold (size_of problem) [] b.front b.last b.front_unmixed b.last_numbers
+      (due layout problem.shop) (sym b.holds) (due_passes layout problem b.within.within.short_times)
       (length-due layout problem) in
       let joined = fold-append (stand_after layout) (standing complete seeking) b.skipped (b.size_line ∷ tail) in
-      grind (arith, b.size)
+      grind (arith, b.number_line, b.states)
 
 -- blocks lead to as many complete ones, the last of which is the instance's
 pub record LeadsTo (layout : Layout) (complete : List Block) (problem : Problem) (count : ℕ) (text : List (List ℕ))
@@ -190,8 +189,14 @@ module _ (layout : Layout) (text : List (List ℕ)) (complete : List Block) (lin
           last = line;
           parts = ap (λ ls. ls ++ line ∷ []) m.fits.opens.parts;
           no_numbers = m.fits.opens.no_numbers;
-          size = grind (arith, m.fits.opens);
-          body = grind (arith, no_numbers line, append-nil {A = ℕ});
+          number_line = m.fits.opens.number_line;
+          states = m.fits.opens.states;
+          front_unmixed = m.fits.opens.unmixed;
+          last_numbers = elim (cases_Bool (list_any is_digit line)) [
+            | inl any ↦ grind (arith, any)
+            | inr none ↦ absurd (m.fits.short (rw (no_numbers line none, append-nil) at whole))
+          ];
+          holds = grind (arith, all_due, m.fits.opens);
           within = instance_within layout (with_line block line) m.fits.opens.within right whole;
         });
         fits = refl;
@@ -236,11 +241,18 @@ unfolding stand stand_after
 file_completes layout input k problem f =
     let blocks = f.blocks in
     let lead = blocks_lead layout [] problem blocks.earlier blocks.own blocks.each blocks.is_own in
-    let count = rw blocks.count at lead.as_many in
-    let stands : stand layout (lines f.text) ≡ completed lead.before (block_of layout problem) =
-    rw blocks.parts lead.end in
-    let is = sym (instance_due layout problem blocks.is_own.within.within.every_time) in
-    search
+    let own : Block = block_of layout problem in
+    let stands : stand layout (lines f.text) ≡ completed lead.before own = rw blocks.parts lead.end in
+    let count = length_push lead.before own in
+    let seeks : Seeks layout input k =
+    record { front = f.front; complete = rw stands (omega (arith, lead.as_many, blocks.count)); now = rw stands } in
+    record {
+      seeks = seeks;
+      earlier = lead.before;
+      own = own;
+      parts = rw stands;
+      is = sym (instance_due layout problem blocks.is_own.within.within.every_time);
+    }
 
 -- ---- and back
 
@@ -269,13 +281,17 @@ are_blocks layout text (block ∷ earlier) own are =
 pub completes_file : (layout : Layout) (input : List ℕ) (k : ℕ) (problem : Problem)
     → Completes layout input k problem → IsInstanceFile limits layout input k problem
 completes_file layout input k problem c =
-    let m : IsMade layout (lines c.text) (completed c.earlier c.own) = rw c.stands at (made layout (lines c.text)) in
+    let m : IsMade layout (lines c.text) (completed c.earlier c.own) = rw (c.parts, c.now) at
+    (made layout (lines c.text)) in
     let f = front_of_lines c.text m.front m.tail m.parts in
+    let count : k ≡ length c.earlier + 1 = omega (arith, c.complete, ap length c.parts, length_push c.earlier c.own) in
     record {
-      text = f.front;
-      rest = f.rest ++ c.rest;
-      whole = rw (← append_assoc f.front f.rest c.rest, ← f.whole) c.whole;
-      ended = grind (arith, f.ended, c.ended, f.whole, append-nil f.front);
-      short = omega (arith, c.short, ap length f.whole, length-append f.front f.rest);
-      blocks = rw (f.are, c.is, ← c.count) (are_blocks layout m.front c.earlier c.own m.each);
+      front = record {
+        text = f.front;
+        rest = f.rest ++ c.rest;
+        whole = rw (← append_assoc f.front f.rest c.rest, ← f.whole) c.whole;
+        ended = grind (arith, f.ended, c.ended, f.whole, append-nil f.front);
+        short = omega (arith, c.short, ap length f.whole, length-append f.front f.rest);
+      };
+      blocks = rw (f.are, c.is, count) (are_blocks layout m.front c.earlier c.own m.each);
     }

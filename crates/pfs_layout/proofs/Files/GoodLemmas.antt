@@ -8,11 +8,10 @@ use Rattle.pfs_layout.proofs.Words.{TooLong, is_digit, is_blank, is_line_end, is
 use Rattle.pfs_layout.proofs.Words.{Size, ended_parts, open_part, ended_lines, open_line, is_mixed, numbers}
 use Rattle.pfs_layout.proofs.Words.{ended_numbers, last_digits, Due, is_due, due_at, are_due, Block, Now, seeking}
 use Rattle.pfs_layout.proofs.Words.{inside, lost, Stand, completed, after_line, stand_after, stand, mixed_line, misfit}
-use Rattle.pfs_layout.proofs.Words.{wrong_number, wrong_size, ends_early, fault_of_place, byte_fault}
+use Rattle.pfs_layout.proofs.Words.{wrong_number, wrong_size, ends_early, fault_of_place, byte_fault, or_none}
 use Rattle.std.proofs.Math.Bool.{and-true}
 use Rattle.pfs_layout.proofs.Files.LineLemmas.{ended_parts-push, open_part-push, ended_numbers-push, numbers_is}
 use Rattle.pfs_layout.proofs.Published.PlaceLemmas.{byte_fault-push}
-use Rattle.pfs_layout.proofs.Options.{or_none}
 
 -- ---- numbers that are due
 

@@ -1,8 +1,8 @@
 -- Every fault that the definitions put at a place is one of the input: neither a failed read, nor want of
 -- memory, nor a seed out of its limit.
 use Rattle.pfs_layout.proofs.Words.{arith, ◌≡◌, ℕ, Bool, true, false, List, take, Option, Some, None, slice_get, Layout}
-use Rattle.pfs_layout.proofs.Words.{LayoutFault, SeedRange, Read, Memory, Size, Due, Block, mixed_line, misfit}
-use Rattle.pfs_layout.proofs.Words.{wrong_number, size_fault, wrong_size, ends_early, fault_of_place, RefusesInstance}
+use Rattle.pfs_layout.proofs.Words.{LayoutFault, SeedRange, Read, Memory, Size, Due, mixed_line, misfit, wrong_number}
+use Rattle.pfs_layout.proofs.Words.{size_fault, wrong_size, ends_early, fault_of_place, RefusesInstance, Block}
 
 abbrev pub is_input_fault : LayoutFault → Bool
 is_input_fault SeedRange = false
@@ -22,17 +22,9 @@ of_size : (stated : Option Size) (line : ℕ) → of_input (size_fault stated li
 of_size stated line = grind arith
 
 module _ (layout : Layout) (text : List ℕ) (next : Option ℕ) where
-  of_mixed : of_input (mixed_line text next) ≡ true
-  unfolding mixed_line
-  of_mixed = grind arith
-
   of_number : (block : Block) → of_input (wrong_number layout block text next) ≡ true
   unfolding wrong_number
   of_number block = grind (arith, of_misfit)
-
-  of_wrong_size : of_input (wrong_size layout text next) ≡ true
-  unfolding wrong_size
-  of_wrong_size = grind (arith, of_size)
 
   of_early : (k : ℕ) → of_input (ends_early layout k text next) ≡ true
   unfolding ends_early
@@ -40,8 +32,8 @@ module _ (layout : Layout) (text : List ℕ) (next : Option ℕ) where
 
   -- the fault of a place, if it has one, is one of inputs
   pub of_place : (k : ℕ) → of_input (fault_of_place layout k text next) ≡ true
-  unfolding fault_of_place
-  of_place k = let mixed = of_mixed in let size = of_wrong_size in grind (arith, of_number, of_early)
+  unfolding fault_of_place mixed_line wrong_size
+  of_place k = grind (arith, of_number, of_early, of_size)
 
 -- a refused input has a fault of the input
 pub refused_input : (layout : Layout) (input : List ℕ) (k : ℕ) (fault : LayoutFault)

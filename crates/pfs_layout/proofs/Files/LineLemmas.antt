@@ -1,14 +1,16 @@
 -- Lines and numbers of a text: one byte more, and where lines begin and end.
 use Rattle.pfs_layout.proofs.Words.{◌≡◌, ℕ, Bool, not, List, [], ◌∷◌, ◌++◌, map, refl, ◌∙◌, ap, if◌then◌else◌, inl, inr}
-use Rattle.pfs_layout.proofs.Words.{arith, cases_Bool, map-append, digits_value, is_empty, last_of, all_but_last}
-use Rattle.pfs_layout.proofs.Words.{all_and_last, ended_parts, open_part, is_no_digit, numbers, ended_numbers}
-use Rattle.pfs_layout.proofs.Words.{last_digits, true, false, length, sym, ◌⊎◌, list_any, or_parts, append_assoc}
-use Rattle.pfs_layout.proofs.Words.{append-nil, length-append, nil_from_length, is_line_end, lines, ended_lines}
-use Rattle.pfs_layout.proofs.Words.{open_line}
-use Rattle.std.specs.List.{slice_split}
+use Rattle.pfs_layout.proofs.Words.{arith, cases_Bool, map-append, digits_value, is_empty, last_of, all_but_last, true}
+use Rattle.pfs_layout.proofs.Words.{all_and_last, ended_parts, open_part, is_no_digit, numbers, ended_numbers, false}
+use Rattle.pfs_layout.proofs.Words.{last_digits, length, sym, ◌⊎◌, append_assoc, append-nil, lines, length-append}
+use Rattle.pfs_layout.proofs.Words.{nil_from_length, is_line_end, ended_lines, open_line, All, drop, take, get_or}
+use Rattle.pfs_layout.proofs.Words.{cases_lt, common_steps, ◌+◌}
+use Rattle.std.specs.List.{slice_split, position_or_len}
 use Rattle.std.proofs.lemmas.List.Elements.{filter-append}
 use Rattle.pfs_base.proofs.Published.Lists.{all_but_last-push, last_of-push}
 use Rattle.pfs_layout.specs.Lines.{values}
+use Rattle.std.proofs.lemmas.List.Splits.{slice_split_none, slice_split_at}
+use Rattle.std.proofs.lemmas.List.Sums.{split_at_first, fails_before_first, passes_at_first}
 
 -- a list of parts that isn't empty
 pub record IsSome (parts : List (List ℕ)) : Type 0 where
@@ -47,15 +49,13 @@ pub open_part-push : (p : ℕ → Bool) (xs : List ℕ) (b : ℕ)
 unfolding open_part
 open_part-push p xs b = grind (arith, split-push, last_of-push {A = List ℕ})
 
-pub values-append : (xs ys : List (List ℕ)) → values (xs ++ ys) ≡ values xs ++ values ys
-values-append xs ys =
-    ap (map (digits_value 10)) (filter-append (λ run. not (is_empty run)) xs ys) ∙ map-append (digits_value 10) _ _
-
 -- the numbers on a line are those that are ended and the one that isn't, if there is one
 pub numbers_is : (line : List ℕ) → numbers line ≡ ended_numbers line ++ values (last_digits line ∷ [])
 unfolding numbers ended_numbers
 numbers_is line =
-    ap values (split_is is_no_digit line) ∙ values-append (ended_parts is_no_digit line) (last_digits line ∷ [])
+    ap values (split_is is_no_digit line)
+    ∙ ap (map (digits_value 10)) (filter-append (λ run. not (is_empty run)) (ended_parts is_no_digit line) _)
+    ∙ map-append (digits_value 10) _ _
 
 -- a byte that isn't a digit ends the number
 pub ended_numbers-push : (line : List ℕ) (b : ℕ)
@@ -65,38 +65,9 @@ ended_numbers-push line b = grind (arith, ended_parts-push, split_is)
 
 -- ---- where lines begin and end
 
-pub open_line-none : open_line [] ≡ []
-unfolding open_part
-open_line-none = refl
-
-module _ (p : ℕ → Bool) where
-  -- the parts on both sides of what ends one
-  pub slice_split-break : (xs : List ℕ) (c : ℕ) (ys : List ℕ) → p c ≡ true
-      → slice_split p (xs ++ c ∷ ys) ≡ slice_split p xs ++ slice_split p ys
-  slice_split-break [] c ys e = rw e
-  slice_split-break (x ∷ xs) c ys e =
-      let more = slice_split-break xs c ys e in
-      let s = split_some p xs in
-      elim (cases_Bool (p x)) [ inl breaks ↦ rw (more, breaks) | inr stays ↦ rw (more, stays, s.is) ]
-
-  -- a list that nothing ends is open
-  slice_split-open : (part : List ℕ) → list_any p part ≡ false → slice_split p part ≡ part ∷ []
-  slice_split-open [] none = refl
-  slice_split-open (x ∷ part) none =
-      let parts = or_parts (p x) (list_any p part) none in rw (parts.0, slice_split-open part parts.1)
-
-  -- a part, what ends it, and the rest
-  ended_parts-part : (part : List ℕ) (c : ℕ) (rest : List ℕ) → list_any p part ≡ false → p c ≡ true
-      → ended_parts p (part ++ c ∷ rest) ≡ part ∷ ended_parts p rest
-  unfolding ended_parts
-  ended_parts-part part c rest none e =
-      let s = split_some p rest in rw (slice_split-break part c rest e, slice_split-open part none, s.is)
-
-  pub open_part-part : (part : List ℕ) (c : ℕ) (rest : List ℕ) → list_any p part ≡ false → p c ≡ true
-      → open_part p (part ++ c ∷ rest) ≡ open_part p rest
-  unfolding open_part
-  open_part-part part c rest none e =
-      let s = split_some p rest in rw (slice_split-break part c rest e, slice_split-open part none, s.is)
+-- no byte of a line ends it
+abbrev pub IsOpen : List ℕ → Type 0
+IsOpen line = All (λ b. is_line_end b ≡ false) line
 
 -- what follows the last line end, if it isn't empty
 abbrev pub last_line : List ℕ → List (List ℕ)
@@ -106,34 +77,21 @@ pub lines-parts : (text : List ℕ) → lines text ≡ ended_lines text ++ last_
 unfolding lines
 lines-parts text = refl
 
--- the lines of a line, its end and the rest
-pub lines-line : (line : List ℕ) (c : ℕ) (rest : List ℕ) → list_any is_line_end line ≡ false → is_line_end c ≡ true
-    → lines (line ++ c ∷ rest) ≡ line ∷ lines rest
-lines-line line c rest none e =
-    rw (lines-parts (line ++ c ∷ rest), lines-parts rest, ended_parts-part is_line_end line c rest none e)
-    (rw (open_part-part is_line_end line c rest none e))
-
-pub lines-open : (line : List ℕ) → list_any is_line_end line ≡ false → lines line ≡ last_line line
+pub lines-open : (line : List ℕ) → IsOpen line → lines line ≡ last_line line
 unfolding lines ended_parts open_part
-lines-open line none = rw (slice_split-open is_line_end line none)
+lines-open line none = rw (slice_split_none is_line_end line none)
 
--- the first line of a text, and the rest if it is ended
-pub data FirstLine (text : List ℕ) : Type 0 where
-  unended : list_any is_line_end text ≡ false → FirstLine text
-  ended : (line : List ℕ) (c : ℕ) (rest : List ℕ) → text ≡ line ++ c ∷ rest → list_any is_line_end line ≡ false
-      → is_line_end c ≡ true → FirstLine text
+-- a line, its end and the rest
+module _ (line : List ℕ) (c : ℕ) (rest : List ℕ) (none : IsOpen line) (ends : is_line_end c ≡ true) where
+  pub lines-line : lines (line ++ c ∷ rest) ≡ line ∷ lines rest
+  unfolding lines ended_parts open_part
+  lines-line =
+      let s = split_some is_line_end rest in rw (slice_split_at is_line_end line c rest none ends, s.is)
 
-pub first_line : (text : List ℕ) → FirstLine text
-first_line [] = unended refl
-first_line (b ∷ text) =
-    let more = first_line text in
-    elim (cases_Bool (is_line_end b)) [
-      | inl e ↦ ended [] b text refl refl e
-      | inr e ↦ elim more [
-        | unended none ↦ unended (rw (e, none))
-        | ended line c rest is none at ↦ ended (b ∷ line) c rest (ap (λ xs. b ∷ xs) is) (rw (e, none)) at
-      ]
-    ]
+  pub open_line-line : open_line (line ++ c ∷ rest) ≡ open_line rest
+  unfolding open_part
+  open_line-line =
+      let s = split_some is_line_end rest in rw (slice_split_at is_line_end line c rest none ends, s.is)
 
 -- a front of a text that is some of its lines
 pub record Front (text : List ℕ) (some : List (List ℕ)) : Type 0 where
@@ -143,18 +101,16 @@ pub record Front (text : List ℕ) (some : List (List ℕ)) : Type 0 where
   pub are : lines front ≡ some
   pub ended : (open_line front ≡ []) ⊎ (rest ≡ [])
 
-pub lines-none : lines [] ≡ []
-unfolding lines ended_parts open_part
-lines-none = refl
-
 pub front_of_lines : (text : List ℕ) (some more : List (List ℕ)) → lines text ≡ some ++ more → Front text some
-front_of_lines text [] more e =
-    record { front = []; rest = text; whole = refl; are = lines-none; ended = inl open_line-none }
+unfolding lines ended_parts open_part
+front_of_lines text [] more e = record { front = []; rest = text; whole = refl; are = refl; ended = inl refl }
 front_of_lines text (line ∷ some) more e =
-    let shorter = λ (rest : List ℕ). front_of_lines rest some more in
-    elim (first_line text) [
-      | unended none ↦
-          let only : last_line text ≡ line ∷ (some ++ more) = rw (lines-open text none) at e in
+    let at : ℕ = position_or_len is_line_end text in
+    let shorter = front_of_lines (drop (at + 1) text) some more in
+    elim (cases_lt at (length text)) [
+      | inr none ↦
+          let unended : IsOpen text = λ k d h. fails_before_first is_line_end text k d (omega arith) in
+          let only : last_line text ≡ line ∷ (some ++ more) = rw (lines-open text unended) at e in
           elim (cases_Bool (is_empty text)) [
             | inl empty ↦ let no_line = rw empty at only in absurd (cc)
             | inr filled ↦
@@ -165,19 +121,26 @@ front_of_lines text (line ∷ some) more e =
                   front = text;
                   rest = [];
                   whole = sym (append-nil text);
-                  are = rw (lines-open text none, filled, nothing, same);
+                  are = rw (lines-open text unended, filled, nothing, same);
                   ended = inr refl;
                 }
           ]
-      | ended first c rest is none at ↦
-          let parts = rw (is, lines-line first c rest none at) at e in
-          let f = shorter rest (cc) in
+      | inl within ↦
+          let first : List ℕ = take at text in
+          let c : ℕ = get_or text at 0 in
+          let is : text ≡ first ++ c ∷ drop (at + 1) text = split_at_first is_line_end text 0 within in
+          let none : IsOpen first = λ k d h.
+          let fails = fails_before_first is_line_end text k d (grind (arith, common_steps)) in
+          grind (arith, common_steps) in
+          let ends = passes_at_first is_line_end text 0 within in
+          let parts = sym (lines-line first c (drop (at + 1) text) none ends) ∙ ap lines (sym is) ∙ e in
+          let f = shorter (cc) in
           let same : first ≡ line = cc in
           record {
             front = first ++ c ∷ f.front;
             rest = f.rest;
-            whole = rw (append_assoc first (c ∷ f.front) f.rest, ← f.whole) is;
-            are = rw (lines-line first c f.front none at, f.are) (ap (λ l. l ∷ some) same);
-            ended = rw (open_part-part is_line_end first c f.front none at) f.ended;
+            whole = is ∙ rw (append_assoc first (c ∷ f.front) f.rest, ← f.whole) refl;
+            are = rw (lines-line first c f.front none ends, f.are, same);
+            ended = rw (open_line-line first c f.front none ends) f.ended;
           }
     ]

@@ -1,23 +1,25 @@
 -- An input holds a file exactly where none of its places has a fault.
 use Rattle.pfs_layout.proofs.Words.{◌≡◌, ℕ, ◌-◌, ◌<◌, ◌≤◌, true, false, List, [], ◌∷◌, ◌++◌, length, nat_le, refl, sym}
-use Rattle.pfs_layout.proofs.Words.{◌∙◌, ap, arith, Some, None, ◌⊎◌, inl, inr, slice_get, is_none, option_or}
-use Rattle.pfs_layout.proofs.Words.{cases_Bool, cases_lt, ne_eqb, eqb-true, nat_tests, append_assoc, append-nil}
-use Rattle.pfs_layout.proofs.Words.{length_push, nil_from_length, is_empty, first_some, LONGEST_INPUT, Problem, by_push}
+use Rattle.pfs_layout.proofs.Words.{◌∙◌, ap, arith, Some, None, inl, inr, slice_get, is_none, option_or, cases_Bool}
+use Rattle.pfs_layout.proofs.Words.{cases_lt, ne_eqb, eqb-true, nat_tests, append_assoc, append-nil, length_push}
+use Rattle.pfs_layout.proofs.Words.{nil_from_length, is_empty, first_some, LONGEST_INPUT, Problem, by_push}
 use Rattle.pfs_layout.proofs.Words.{slice_get-append, slice_get-push, Layout, is_line_end, lines, ended_lines}
 use Rattle.pfs_layout.proofs.Words.{open_line, ended_parts, numbers, ended_numbers, Block, Now, seeking, inside, lost}
 use Rattle.pfs_layout.proofs.Words.{Stand, standing, completed, after_line, stand_after, stand, instance_of, ends_early}
 use Rattle.pfs_layout.proofs.Words.{fault_of_place, refusal, accepted, mixed_line, byte_fault, wrong_number, wrong_size}
-use Rattle.pfs_layout.proofs.Words.{Completes}
-use Rattle.std.proofs.lemmas.Bool.{false_from_ne_true}
+use Rattle.pfs_layout.proofs.Words.{Completes, limits, Front, Seeks, cases_option, or_none, false_from_ne_true}
 use Rattle.pfs_layout.specs.Refuse.{faults}
 use Rattle.pfs_layout.proofs.Published.PlaceLemmas.{byte_fault-push, refusal_end}
 use Rattle.pfs_layout.proofs.Files.GoodLemmas.{is_good, good_end, fault_within_limit, gap_fault, stand_of, stand-push}
 use Rattle.pfs_layout.proofs.Files.GoodLemmas.{stand_of-end, stand_of-on, open_line-end, one_line, Extends}
 use Rattle.pfs_layout.proofs.Files.GoodLemmas.{line_extends, extends, fewer_before, Few, enough_right, judged, sound}
 use Rattle.pfs_layout.proofs.Files.GoodLemmas.{sound_more, faultless_front}
-use Rattle.pfs_layout.proofs.Options.{cases_option, or_none}
 use Rattle.pfs_layout.proofs.Files.FileLemmas.{IsTail, made}
 use Rattle.pfs_layout.proofs.Files.LineLemmas.{lines-parts}
+
+-- a text within the limit is a front of itself
+abbrev pub all_of : (text : List ℕ) → length text ≤ LONGEST_INPUT → Front limits text
+all_of text short = record { text = text; rest = []; whole = sym (append-nil text); ended = inr refl; short = short }
 
 -- the lines of a text that ends with a line end
 lines_ended : (text : List ℕ) → open_line text ≡ [] → lines text ≡ ended_lines text
@@ -125,20 +127,11 @@ module _ (layout : Layout) (k : ℕ) where
         | inr one ↦
             let stands : stand layout (lines ended) ≡ completed before.complete one.0 = reached ∙ one.1 in
             let all = rw stands at enough in
-            let size = length_push before.complete one.0 in (
+            let size = length_push before.complete one.0 in
+            let seeks : Seeks layout ended k =
+            record { front = all_of ended short; complete = rw stands (omega arith); now = rw stands } in (
               instance_of layout one.0,
-              record {
-                text = ended;
-                rest = [];
-                whole = sym (append-nil ended);
-                ended = inr refl;
-                short = short;
-                earlier = before.complete;
-                own = one.0;
-                count = omega arith;
-                stands = stands;
-                is = refl;
-              },
+              record { seeks = seeks; earlier = before.complete; own = one.0; parts = rw stands; is = refl },
               refl,
             )
       ]
@@ -153,20 +146,18 @@ module _ (layout : Layout) (k : ℕ) where
   holds_longer text more problem held =
       let c = held.0 in
       let whole : text ++ more ≡ c.text ++ (c.rest ++ more) = rw c.whole (append_assoc c.text c.rest more) in
-      let ended : (open_line c.text ≡ []) ⊎ (c.rest ++ more ≡ []) = inl held.1 in
-      let longer : Completes layout (text ++ more) k problem = search in
-      (longer, held.1)
-
-  no_complete : length (stand_of layout []).complete ≡ 0
-  unfolding stand ended_parts
-  no_complete = refl
+      let front : Front limits (text ++ more) =
+      record { text = c.text; rest = c.rest ++ more; whole = whole; ended = inl held.1; short = c.short } in
+      let seeks : Seeks layout (text ++ more) k = record { front = front; complete = c.complete; now = c.now } in
+      (record { seeks = seeks; earlier = c.earlier; own = c.own; parts = c.parts; is = c.is }, held.1)
 
   -- k blocks that are complete before the last line hold a problem
   pub enough_holds : 1 ≤ k → (input : List ℕ) → Faultless input → k ≤ length (stand_of layout input).complete
       → (problem : Problem) × EndedHolds input problem
+  unfolding stand ended_parts
   enough_holds some = by_push (λ input. Faultless input → k ≤ length (stand_of layout input).complete
       → (problem : Problem) × EndedHolds input problem)
-      (λ right enough. absurd (omega (arith, no_complete))) (λ input b earlier right enough.
+      (λ right enough. absurd (omega arith)) (λ input b earlier right enough.
       elim (cases_lt (length (stand_of layout input).complete) k) [
         | inr all ↦
             let held = earlier (faultless_front layout k input b right).0 all in
@@ -201,7 +192,6 @@ module _ (layout : Layout) (k : ℕ) where
       → refusal layout input k ≡ None
   unfolding stand_after
   holds_unrefused input problem c =
-      let all : length (c.earlier ++ c.own ∷ []) ≡ k = omega (arith, c.count, length_push c.earlier c.own) in
       let judges = judged layout k c.text c.short in
       elim (cases_lt (length (stand_of layout c.text).complete) k) [
         | inr enough ↦
@@ -212,16 +202,14 @@ module _ (layout : Layout) (k : ℕ) where
         | inl few ↦
             let before : Stand = stand_of layout c.text in
             let filled : is_empty (open_line c.text) ≡ false = false_from_ne_true _ (λ empty.
-            let same = rw (lines_ended c.text (nothing_on (open_line c.text) empty)) at c.stands in
-            let more = ap (λ (s : Stand). length s.complete) same in
-            omega arith) in
+            let same = rw (lines_ended c.text (nothing_on (open_line c.text) empty)) at c.complete in omega arith) in
             let reached = stand_filled layout c.text filled in
             let ended = good_end layout before.complete before.now c.text in
-            let right : Faultless c.text = grind (arith, nat_tests, c.stands) in
+            let right : Faultless c.text = grind (arith, nat_tests, c.complete, c.now) in
             let none : c.rest ≡ [] = grind (arith, c.ended) in
             let same : input ≡ c.text = rw (none, append-nil) at c.whole in
             let last = end_is c.text right few in
-            rw (refusal_end layout k input, same, right) (grind (arith, nat_tests, c.stands))
+            rw (refusal_end layout k input, same, right) (grind (arith, nat_tests, c.complete, c.now))
       ]
 
   -- ---- the problem of a file is that of the k-th block
@@ -229,15 +217,15 @@ module _ (layout : Layout) (k : ℕ) where
   kth_block : (input : List ℕ) (problem : Problem) (c : Completes layout input k problem)
       → slice_get (stand layout (lines input)).complete (k - 1) ≡ Some c.own
   kth_block input problem c =
-      let at : k - 1 ≡ length c.earlier = omega (arith, c.count) in
+      let at : k - 1 ≡ length c.earlier = omega (arith, c.complete, ap length c.parts, length_push c.earlier c.own) in
       let own = slice_get-push c.earlier c.own in
       elim c.ended [
         | inl ended ↦
-            let stands = rw (lines_ended c.text ended) at c.stands in
+            let parts = rw (lines_ended c.text ended) at c.parts in
             let within : k - 1 < length (stand_of layout c.text).complete =
-            rw stands (omega (arith, length_push c.earlier c.own)) in
-            rw (c.whole, block_stays layout c.text c.rest (k - 1) within, stands, at) own
-        | inr none ↦ let same : input ≡ c.text = rw (none, append-nil) at c.whole in rw (same, c.stands, at) own
+            rw parts (omega (arith, length_push c.earlier c.own)) in
+            rw (c.whole, block_stays layout c.text c.rest (k - 1) within, parts, at) own
+        | inr none ↦ let same : input ≡ c.text = rw (none, append-nil) at c.whole in rw (same, c.parts, at) own
       ]
 
   pub holds_accepted : (input : List ℕ) (problem : Problem) → Completes layout input k problem

@@ -1,10 +1,8 @@
 -- One verdict, and what it is computed by.
 use Rattle.pfs_layout.proofs.Words.{◌≡◌, ℕ, ◌≤◌, List, [], ◌∷◌, ◌++◌, length, refl, ◌∙◌, ap, arith, inl, inr}
-use Rattle.pfs_layout.proofs.Words.{length-append, all_but_last, last_of, Problem}
-use Rattle.pfs_layout.proofs.Words.{all_and_last, Layout, lines, Block}
-use Rattle.pfs_layout.proofs.Words.{standing, stand, instance_of, refusal, Completes}
-use Rattle.pfs_layout.specs.Laws.{Seeks, OneVerdict, AcceptedLaw}
-use Rattle.pfs_layout.proofs.Options.{cases_option}
+use Rattle.pfs_layout.proofs.Words.{all_but_last, last_of, Problem, all_and_last, Layout, lines, Block, stand}
+use Rattle.pfs_layout.proofs.Words.{instance_of, refusal, Completes, Seeks, cases_option}
+use Rattle.pfs_layout.specs.Laws.{OneVerdict, AcceptedLaw}
 use Rattle.pfs_layout.proofs.Published.PlaceLemmas.{refusal_is, one_fault}
 use Rattle.pfs_layout.proofs.Files.FileLemmas.{file_completes, completes_file}
 use Rattle.pfs_layout.proofs.Files.VerdictLemmas.{one_held, unrefused_holds, holds_unrefused, holds_accepted}
@@ -41,18 +39,6 @@ one_verdict layout input k some = elim (cases_option (refusal layout input k)) [
 
 -- ---- some file
 
-pub completes_seeks : (layout : Layout) (input : List ℕ) (k : ℕ) (problem : Problem) → Completes layout input k problem
-    → Seeks layout input k
-completes_seeks layout input k problem c = record {
-  text = c.text;
-  rest = c.rest;
-  whole = c.whole;
-  ended = c.ended;
-  short = c.short;
-  complete = rw c.stands (omega (arith, length-append c.earlier (c.own ∷ []), c.count));
-  now = rw c.stands;
-}
-
 pub seeks_completes : (layout : Layout) (input : List ℕ) (k : ℕ) → 1 ≤ k → Seeks layout input k
     → (problem : Problem) × Completes layout input k problem
 seeks_completes layout input k some s = by_complete (stand layout (lines s.text)).complete refl
@@ -66,17 +52,5 @@ seeks_completes layout input k some s = by_complete (stand layout (lines s.text)
         let parts : (stand layout (lines s.text)).complete ≡ earlier ++ own ∷ [] =
         e ∙ all_and_last block block blocks in (
           instance_of layout own,
-          record {
-            text = s.text;
-            rest = s.rest;
-            whole = s.whole;
-            ended = s.ended;
-            short = s.short;
-            earlier = earlier;
-            own = own;
-            count = omega (arith, s.complete, ap length parts, length-append earlier (own ∷ []));
-            stands = ap (λ bs. standing bs (stand layout (lines s.text)).now) parts
-                ∙ ap (standing (earlier ++ own ∷ [])) s.now;
-            is = refl;
-          },
+          record { seeks = s; earlier = earlier; own = own; parts = parts; is = refl },
         )

@@ -1,13 +1,27 @@
 -- Places of a text with one more byte, and the first fault.
-use Rattle.pfs_layout.proofs.Words.{slice_get-push, ◌≡◌, ℕ, suc, ◌+◌, ◌<◌, List, [], ◌∷◌, ◌++◌, length, refl}
-use Rattle.pfs_layout.proofs.Words.{arith, Option, Some, None, option_or, length_push, take_all, slice_get-append}
-use Rattle.pfs_layout.proofs.Words.{Layout, LayoutFault, fault_of_place, refusal, byte_fault, RefusesInstance}
+use Rattle.pfs_layout.proofs.Words.{slice_get-push, ◌≡◌, ℕ, suc, ◌+◌, ◌<◌, List, [], ◌∷◌, ◌++◌, length, refl, arith}
+use Rattle.pfs_layout.proofs.Words.{Option, Some, None, option_or, length_push, take_all, slice_get-append, Layout}
+use Rattle.pfs_layout.proofs.Words.{LayoutFault, fault_of_place, refusal, byte_fault, RefusesInstance, zero, ◌≤◌, ◌↔◌}
+use Rattle.pfs_layout.proofs.Words.{map, below, first_some, inl, inr, cases_option, map-append, ap, ◌∙◌}
 use Rattle.std.proofs.lemmas.List.{take-append-le, take_at}
 use Rattle.std.proofs.lemmas.Option.{slice_get_past}
-use Rattle.pfs_base.proofs.Published.Lists.{map-range_with_len-same}
+use Rattle.pfs_base.proofs.Published.Lists.{map-range_with_len-same, first_some-append, range_with_len-push}
 use Rattle.pfs_layout.specs.Laws.{ByteFaultLaw, RefusalLaw}
 use Rattle.pfs_layout.specs.Refuse.{fault_at}
-use Rattle.pfs_layout.proofs.Options.{first_push, IsFirst, one_first, first_is}
+
+-- the first place at which a function is there
+module _ {A : Type 0} (f : ℕ → Option A) where
+  -- one place more
+  first_push : (n : ℕ) → first_some (map f (below (suc n))) ≡ option_or (first_some (map f (below n))) (f n)
+  first_push n =
+      let e : 0 + n ≡ n = omega arith in
+      ap (λ ns. first_some (map f ns)) (range_with_len-push 0 n)
+      ∙ rw (map-append f (below n) ((0 + n) ∷ []), first_some-append (map f (below n)) (f (0 + n) ∷ []), e)
+      (grind arith)
+
+  first_none : (n : ℕ) → first_some (map f (below n)) ≡ None → (q : ℕ) → q < n → f q ≡ None
+  first_none zero e q h = absurd (omega arith)
+  first_none (suc n) e q h = grind (arith, first_push n, first_none n)
 
 -- a place within a text has the fault that it has in each longer text
 fault_at-append : (layout : Layout) (k : ℕ) (text more : List ℕ) (place : ℕ) → place < length text
@@ -41,35 +55,42 @@ refusal_end layout k input =
 
 -- ---- the first place that has a fault
 
-first_of : (layout : Layout) (input : List ℕ) (k : ℕ) (fault : LayoutFault) (r : RefusesInstance layout input k fault)
-    → IsFirst (fault_at layout k input) r.place fault
-first_of layout input k fault r = record { here = r.here; before = r.first }
+module _ (layout : Layout) (input : List ℕ) (k : ℕ) where
+  -- at most one fault
+  pub one_fault : (one other : LayoutFault) → RefusesInstance layout input k one → RefusesInstance layout input k other
+      → one ≡ other
+  one_fault one other r s = grind (arith, r.first, s.first)
+
+  first_fault : (n : ℕ) (fault : LayoutFault) → n ≤ length input + 1
+      → first_some (map (fault_at layout k input) (below n)) ≡ Some fault
+      → (r : RefusesInstance layout input k fault) × (r.place < n)
+  first_fault zero fault few e = cc
+  first_fault (suc n) fault few e =
+      elim (cases_option (first_some (map (fault_at layout k input) (below n)))) [
+        | inr one ↦
+            let found = first_fault n fault (omega arith) (grind (arith, first_push (fault_at layout k input) n)) in
+            (found.0, omega (arith, found.1))
+        | inl none ↦
+            let here : fault_at layout k input n ≡ Some fault = grind (arith, first_push (fault_at layout k input) n) in
+            let before = first_none (fault_at layout k input) n none in
+            (record { place = n; within = omega arith; here = here; first = before }, omega arith)
+      ]
+
+  -- the first of the faults of so many places is the fault of the input that is at one of them
+  first_is : (n : ℕ) (fault : LayoutFault) → n ≤ length input + 1
+      → first_some (map (fault_at layout k input) (below n)) ≡ Some fault
+      ↔ ((r : RefusesInstance layout input k fault) × (r.place < n))
+  first_is n fault few =
+      (first_fault n fault few, λ r. grind (arith, first_none (fault_at layout k input) n, first_fault n, one_fault))
 
 -- what refusal computes is the fault of the first place that has one
 pub refusal_is : RefusalLaw
 unfolding refusal
 refusal_is layout input k fault =
-    let is = first_is (fault_at layout k input) (length input + 1) fault in (
-      λ e. let found = is.0 e in
-          record { place = found.0; within = omega (arith, found.1); here = found.2.here; first = found.2.before },
-      λ r. is.1 (r.place, omega (arith, r.within), first_of layout input k fault r),
-    )
+    let is = first_is layout input k (length input + 1) fault (omega arith) in
+    (λ e. (is.0 e).0, λ r. is.1 (r, omega (arith, r.within)))
 
 -- the fault at a byte is the fault of a place that is a byte
 pub byte_fault_is : ByteFaultLaw
 unfolding byte_fault
-byte_fault_is layout text k fault =
-    let is = first_is (fault_at layout k text) (length text) fault in (
-      λ e. let found = is.0 e in (
-        record { place = found.0; within = omega (arith, found.1); here = found.2.here; first = found.2.before },
-        found.1,
-      ),
-      λ r. is.1 (r.0.place, r.1, first_of layout text k fault r.0),
-    )
-
--- at most one fault
-pub one_fault : (layout : Layout) (input : List ℕ) (k : ℕ) (one other : LayoutFault)
-    → RefusesInstance layout input k one → RefusesInstance layout input k other → one ≡ other
-one_fault layout input k one other r s =
-    one_first (fault_at layout k input) r.place s.place one other
-    (first_of layout input k one r) (first_of layout input k other s)
+byte_fault_is layout text k fault = first_is layout text k (length text) fault (omega arith)

@@ -6,22 +6,33 @@ use Rattle.pfs_layout.proofs.Words.{nat_tests, list_any-append, is_empty, Layout
 use Rattle.pfs_layout.proofs.Words.{is_blank, is_line_end, is_word_byte, open_line, ended_numbers, last_digits}
 use Rattle.pfs_layout.proofs.Words.{open_part, is_mixed, is_no_digit, numbers, Block, Now, seeking, inside, lost}
 use Rattle.pfs_layout.proofs.Words.{standing, Stand, stand_after, mixed_line, wrong_size, last_number_ended, line_ended}
-use Rattle.pfs_layout.proofs.Words.{has_numbers_alone, number_of, event_of, blocks_after, is_live, FollowsLine}
+use Rattle.pfs_layout.proofs.Words.{has_numbers_alone, number_of, judged, is_live, FollowsLine}
 use Rattle.pfs_layout.proofs.Words.{FollowsNow, FollowsBlocks, digits_value, length_push, by_push, are_due, ◌⊎◌}
 use Rattle.pfs_layout.proofs.Words.{common_steps, Memory, Phase, no_numbers}
 use Rattle.pfs_layout.proofs.Words.{number_ended, HoldsNumbers}
-use Rattle.pfs_layout.specs.Private.Step.{Keeps, number_ended_in}
+use Rattle.pfs_layout.specs.Private.Step.{number_ended_in}
 use Rattle.std.proofs.lemmas.Bool.{or_right}
 use Rattle.pfs_layout.specs.declared.blocks.Phase.TheVariants as phases
 use Rattle.pfs_layout.proofs.Files.GoodLemmas.{GoodNow, fault_within_limit, wrong_number_is, line_numbers}
 use Rattle.pfs_layout.proofs.Files.GoodLemmas.{no_last, number_fault, due_line, gap_fault}
 use Rattle.pfs_layout.proofs.Files.LineLemmas.{ended_numbers-push, open_part-push}
-use Rattle.pfs_layout.proofs.Options.{cases_option}
+use Rattle.pfs_layout.proofs.Words.{cases_option}
 use Rattle.pfs_layout.proofs.Reading.NumberSteps.{Refuses, Outcome, misfit_in, number_step}
 use Rattle.pfs_layout.proofs.Reading.LineSteps.{sought_line, body_line}
 use Rattle.pfs_layout.specs.declared.scan.Number.{Number}
 
 -- ---- what the judgement of a number leaves as it is
+
+pub record Keeps (old new : Blocks) : Type 0 where
+  pub layout : new.layout ≡ old.layout
+  pub wanted : new.wanted ≡ old.wanted
+  pub complete : new.complete ≡ old.complete
+  pub line : new.line ≡ old.line
+  pub sought : new.phase ≡ phases.Seeking → old.phase ≡ phases.Seeking
+  pub held : new.phase ≡ phases.Seeking → new.held ≡ old.held
+  pub few : new.size_line.count ≤ old.size_line.count + 1
+  pub five : length new.size_line.values ≡ length old.size_line.values
+  pub memory : new.phase ≢ phases.Refused Memory
 
 pub live-memory : (phase : Phase) → is_live phase ≡ true → phase ≢ phases.Refused Memory
 live-memory phase live e = grind arith
@@ -33,14 +44,14 @@ refused_memory phase = inr (λ e. cc)
 
 -- ---- a number
 
-keeps_in : (phase : Phase) (r : Blocks) (value first : ℕ) → r.phase ≢ phases.Refused Memory
+keeps_in : (phase : Phase) (r : Blocks) (value first : ℕ) → r.phase ≡ phase → is_live phase ≡ true
     → Keeps r (number_ended_in phase r value first)
-keeps_in phases.Body r value first h = grind arith
-keeps_in phase r value first h = grind (arith, common_steps)
+keeps_in phases.Body r value first e live = grind arith
+keeps_in phase r value first e live = grind (arith, common_steps)
 
 pub keeps_number : (r : Blocks) (value first : ℕ) → is_live r.phase ≡ true → Keeps r (number_ended r value first)
 unfolding number_ended
-keeps_number r value first live = keeps_in r.phase r value first (live-memory r.phase live)
+keeps_number r value first live = keeps_in r.phase r value first refl live
 
 pub keeps_last : (r : Blocks) (number : Option Number) → is_live r.phase ≡ true → Keeps r (last_number_ended r number)
 keeps_last r None live = grind arith
@@ -72,14 +83,10 @@ abbrev pub FollowsText : Blocks → List ℕ → List Block → Now → Type 0
 FollowsText r text complete now =
     FollowsBlocks (list_any is_word_byte (open_line text)) r (standing complete now) (ended_numbers (open_line text))
 
-module _ (r : Blocks) (last : Line) (b : ℕ) where
-  abbrev pub judged : Blocks
-  judged = blocks_after r (event_of last b)
-
-  pub judged_gap : (is_blank b || is_line_end b) ≡ true
-      → judged ≡ (let behind = last_number_ended r (number_of last.digits) in
-      if is_line_end b then line_ended behind (has_numbers_alone last.kinds) else behind)
-  judged_gap gap = grind (arith, nat_tests)
+pub judged_gap : (r : Blocks) (last : Line) (b : ℕ) → (is_blank b || is_line_end b) ≡ true
+    → judged r last b ≡ (let behind = last_number_ended r (number_of last.digits) in
+    if is_line_end b then line_ended behind (has_numbers_alone last.kinds) else behind)
+judged_gap r last b gap = grind (arith, nat_tests)
 
 -- the outcome of a byte on the line
 abbrev pub FollowsOn : Blocks → Line → List ℕ → ℕ → List Block → Now → Type 0

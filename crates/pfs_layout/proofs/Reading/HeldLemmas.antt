@@ -1,99 +1,57 @@
 -- No more times are held than the wanted block has.
-use Rattle.pfs_layout.proofs.Words.{◌≡◌, ℕ, ◌≤◌, List, [], ◌∷◌, ◌++◌, length, take, drop, refl, sym, arith, Option}
-use Rattle.pfs_layout.proofs.Words.{Some, None, inl, inr, Result, Ok, Err, slice_get, All, nat_tests}
-use Rattle.pfs_layout.proofs.Words.{append_assoc, append-nil, take-append-drop, by_push, Layout, LayoutFault, Memory}
-use Rattle.pfs_layout.proofs.Words.{Phase, Progress, ended_lines, ended_numbers, due_count, Block, Now, seeking, inside}
-use Rattle.pfs_layout.proofs.Words.{lost, stand_after, stand, byte_fault, Fields, block_begun_by, block_read}
-use Rattle.pfs_layout.proofs.Words.{time_count, HoldsFew, StandsIn, FeedMeets}
+use Rattle.pfs_layout.proofs.Words.{◌≡◌, ℕ, ◌≤◌, List, ◌++◌, take, drop, arith, Option, Some, None, inl, inr, Result}
+use Rattle.pfs_layout.proofs.Words.{Ok, Err, All, nat_tests, append_assoc, append-nil, by_push, Layout, LayoutFault}
+use Rattle.pfs_layout.proofs.Words.{Memory, Phase, Progress, ended_lines, Block, stand_after, stand, byte_fault, Fields}
+use Rattle.pfs_layout.proofs.Words.{block_read, time_count, HoldsFew, StandsIn, FeedMeets}
 use Rattle.std.proofs.lemmas.List.Elements.{All-push, All-get_or}
 use Rattle.std.proofs.lemmas.Option.{slice_get_cases}
 use Rattle.pfs_layout.specs.declared.blocks.Phase.TheVariants as phases
 use Rattle.pfs_layout.specs.Reader.{most_times}
-use Rattle.pfs_layout.proofs.Files.GoodLemmas.{GoodNow, stand-push, sound}
+use Rattle.pfs_layout.proofs.Files.GoodLemmas.{stand-push, sound}
 use Rattle.pfs_layout.proofs.Files.DueLemmas.{no_more_than_due}
 use Rattle.pfs_layout.proofs.Reading.ByteSteps.{refused_memory}
+use Rattle.pfs_layout.proofs.Reading.PieceLemmas.{whole_text}
 
--- ---- a block that isn't longer than it is due
+-- ---- blocks that aren't longer than they are due
 
 abbrev IsFew : Layout → Option Block → Type 0
 IsFew layout o = time_count layout o ≤ most_times o
 
-few_of : (layout : Layout) (block : Block) → length block.numbers ≤ due_count layout block.size
-    → IsFew layout (Some block)
-few_of layout block h = grind arith
+-- no complete block has more times than its size says
+all_few : (layout : Layout) (lines : List (List ℕ)) → All (λ b. IsFew layout (Some b)) (stand layout lines).complete
+unfolding stand stand_after
+all_few layout = by_push (λ lines. All (λ b. IsFew layout (Some b)) (stand layout lines).complete)
+    (λ k d none. absurd (omega arith)) (λ lines line all. rw (stand-push layout lines line)
+    (grind (arith, nat_tests, All-push {X = Block} (λ b. IsFew layout (Some b)))))
 
--- ---- complete blocks
-
--- none of them has more times than its size says
-AreFew : Layout → List Block → Type 0
-AreFew layout blocks = All (λ block. IsFew layout (Some block)) blocks
-
-few_push : (layout : Layout) (blocks : List Block) (block : Block) → AreFew layout blocks
-    → length block.numbers ≡ due_count layout block.size → AreFew layout (blocks ++ block ∷ [])
-unfolding AreFew
-few_push layout blocks block all full =
-    All-push (λ block. IsFew layout (Some block)) blocks block all (few_of layout block (omega arith))
-
-few_at : (layout : Layout) (blocks : List Block) (i : ℕ) → AreFew layout blocks → IsFew layout (slice_get blocks i)
-unfolding AreFew
-few_at layout blocks i all = grind (arith, slice_get_cases, All-get_or {X = Block} (λ block. IsFew layout (Some block)))
-
-all_few : (layout : Layout) (lines : List (List ℕ)) → AreFew layout (stand layout lines).complete
-unfolding stand stand_after AreFew
-all_few layout = by_push (λ lines. AreFew layout (stand layout lines).complete) (λ k d none. absurd (omega arith))
-    (λ lines line all. rw (stand-push layout lines line) (grind (arith, nat_tests, few_push)))
-
--- ---- the wanted block
-
-begun_few : (layout : Layout) (now : Now) (line : List ℕ) → GoodNow layout now line
-    → IsFew layout (block_begun_by now (ended_numbers line))
-begun_few layout seeking line good = omega arith
-begun_few layout (inside block) line good =
-    let numbers : List ℕ = block.numbers ++ ended_numbers line in
-    let short = no_more_than_due layout block.size numbers (grind arith) in
-    few_of layout (record { size = block.size; numbers = numbers }) short
-begun_few layout lost line good = absurd (cc)
-
--- while no byte has a fault, the wanted block has no more times than its size says
+-- nor has the wanted block, while no byte has a fault
 few_times : (layout : Layout) (k : ℕ) (text : List ℕ) → byte_fault layout k text ≡ None
     → IsFew layout (block_read layout k text)
 unfolding block_read
 few_times layout k text right =
     let all = all_few layout (ended_lines text) in
-    let good = sound layout k text right in grind (arith, nat_tests, begun_few, few_at, all, good)
+    let good = sound layout k text right in
+    grind (arith, nat_tests, no_more_than_due, slice_get_cases, All-get_or {X = Block} (λ b. IsFew layout (Some b)))
 
 -- ---- readers
-
--- the times of a front without a fault are held
-front_few : (layout : Layout) (k : ℕ) (front rest : List ℕ) {text : List ℕ} {held : ℕ} → text ≡ front ++ rest
-    → byte_fault layout k front ≡ None → held ≡ time_count layout (block_read layout k front)
-    → HoldsFew layout k text held
-front_few layout k front rest whole right held =
-    record { front = front; rest = rest; whole = whole; few = rw held (few_times layout k front right) }
 
 pub few_in : (phase : Phase) (r : Fields) (text : List ℕ) → StandsIn phase r text
     → HoldsFew r.layout r.wanted text r.held
 unfolding block_read
-few_in (phases.Refused fault) r text s = front_few r.layout r.wanted s.front (s.byte ∷ s.rest) s.whole s.sound s.held
-few_in phase r text s = front_few r.layout r.wanted text [] (sym (append-nil text)) s.sound s.blocks.held
-
--- in a longer text
-few_more : (layout : Layout) (k : ℕ) (text more : List ℕ) {held : ℕ} → HoldsFew layout k text held
-    → HoldsFew layout k (text ++ more) held
-few_more layout k text more h =
-    record { front = h.front; rest = h.rest ++ more; whole = rw (h.whole, append_assoc); few = h.few }
+few_in (phases.Refused fault) r text s = grind (arith, s, few_times r.layout r.wanted s.front s.sound)
+few_in phase r text s = grind (arith, append-nil text, few_times r.layout r.wanted text s.sound, s.blocks.held)
 
 -- behind a piece
 pub feed_few : (old : Fields) (text piece : List ℕ) (outcome : Result Progress LayoutFault) (new : Fields)
     → FeedMeets old text piece outcome new → (outcome ≡ Err Memory → new.held ≡ 0)
     → HoldsFew old.layout old.wanted (text ++ piece) new.held
 feed_few old text piece (Ok progress) new m none =
-    let used : List ℕ = take progress.used piece in
     let left : List ℕ = drop progress.used piece in
-    let few = rw (m.layout, m.wanted) at (few_in new.phase new (text ++ used) m.ok.1) in
-    rw (append_assoc text used left, take-append-drop progress.used piece) at
-    (few_more old.layout old.wanted (text ++ used) left few)
+    let h = rw (m.layout, m.wanted) at (few_in new.phase new (text ++ take progress.used piece) m.ok.1) in
+    let whole : text ++ piece ≡ h.front ++ (h.rest ++ left) =
+    cc (whole_text text piece progress.used, h.whole, append_assoc h.front h.rest left) in
+    record { front = h.front; rest = h.rest ++ left; whole = whole; few = h.few }
 feed_few old text piece (Err fault) new m none = elim (refused_memory (phases.Refused fault)) [
-  | inl memory ↦ record { front = []; rest = text ++ piece; whole = refl; few = rw (none (cc)) (omega arith) }
+  | inl memory ↦ grind arith
   | inr other ↦ rw (m.layout, m.wanted) at (few_in new.phase new (text ++ piece) (m.refused (λ e. other (rw e))))
 ]

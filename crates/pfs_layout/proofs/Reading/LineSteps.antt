@@ -7,11 +7,10 @@ use Rattle.pfs_layout.proofs.Words.{CEILING, SizeLine, Phase, Blocks, is_word_by
 use Rattle.pfs_layout.proofs.Words.{is_number_line, numbers, due_count, stated_size, are_due, Block, seeking, inside}
 use Rattle.pfs_layout.proofs.Words.{stand_after, standing, completed, instance_of, begun, with_line, size_fault}
 use Rattle.pfs_layout.proofs.Words.{no_numbers, line_ended, block_of, HoldsNumbers, FollowsBlocks}
-use Rattle.std.proofs.Math.Nat.{mul-pos}
 use Rattle.std.proofs.lemmas.Bool.{not-true}
 use Rattle.pfs_layout.specs.declared.blocks.Phase.TheVariants as phases
-use Rattle.pfs_layout.specs.Stand.{after_size}
-use Rattle.pfs_layout.specs.Private.Step.{stated_by, body_of, block_begun, size_judged, at_next_line, line_ended_in}
+use Rattle.pfs_layout.specs.Block.{after_size}
+use Rattle.pfs_layout.specs.Private.Step.{stated_by, block_begun, size_judged, at_next_line, line_ended_in}
 use Rattle.pfs_layout.proofs.Files.DueLemmas.{size_within}
 use Rattle.pfs_layout.proofs.Reading.NumberSteps.{Outcome}
 
@@ -55,10 +54,6 @@ no_block : (complete : List Block) (wanted : ℕ) (more : List ℕ) → length c
     → block_of wanted (standing complete seeking) more ≡ None
 no_block complete wanted more few = grind (arith, nat_tests)
 
-due_some : (layout : Layout) (size : Size) → is_within_limits size ≡ true
-    → 0 < (body_of layout size.jobs size.machines).due
-due_some layout size within = let w = size_within size within in grind (arith, mul-pos)
-
 begun_follows : (r : Blocks) (complete : List Block) (size : Size)
     → FollowsBlocks false r (standing complete seeking) [] → r.complete < r.wanted → is_within_limits size ≡ true
     → FollowsBlocks false (block_begun r size) (standing complete (inside (begun size))) []
@@ -69,7 +64,7 @@ begun_follows r complete size f few within =
     record {
       complete = f.complete;
       now = record {
-        phase = rw (lt-ltb 0 _ (due_some r.layout size within));
+        phase = refl;
         few = few;
         fits = within;
         body = grind (arith, size_within size within);
@@ -147,20 +142,18 @@ body_line r complete block line numbered f unmixed due =
     omega (arith, length-append block.numbers (numbers line)) in
     rw (unmixed, due) (elim (cases_lt r.body.judged r.body.due) [
       | inl less ↦
-          let phase : r.phase ≡ phases.Body = rw (lt-ltb _ _ less) at f.now.phase in
           let short : length whole.numbers ≢ due_count r.layout block.size =
           λ z. omega (arith, body.due, body.judged, count) in
-          rw (ended_in r numbered phases.Body phase, ne_eqb _ _ short) (record {
+          rw (ended_in r numbered phases.Body f.now.phase, lt-ltb _ _ less, ne_eqb _ _ short) (record {
             complete = f.complete;
             now = record { phase = f.now.phase; few = f.now.few; fits = f.now.fits; body = rw count body };
             instance = rw append-nil f.instance;
             held = rw append-nil f.held;
           })
       | inr all ↦
-          let phase : r.phase ≡ phases.AfterLast = rw (le-ltb _ _ all) at f.now.phase in
           let full : length whole.numbers ≡ due_count r.layout block.size =
           omega (arith, body.due, body.judged, body.few, count) in
-          rw (ended_in r numbered phases.AfterLast phase, eq-eqb _ _ full) (record {
+          rw (ended_in r numbered phases.Body f.now.phase, le-ltb _ _ all, eq-eqb _ _ full) (record {
             complete = omega (arith, f.complete, length_push complete whole);
             now = record { phase = grind (arith, nat_tests); numbers = λ plain. holds_none };
             instance = rw (completed_is r.wanted complete block line few) f.instance;

@@ -2,25 +2,24 @@
 use Rattle.pfs_layout.proofs.Words.{◌≡◌, ◌≢◌, ℕ, ◌+◌, ◌*◌, ◌%◌, ◌<◌, List, [], ◌∷◌, ◌++◌, length, get_or, refl, sym}
 use Rattle.pfs_layout.proofs.Words.{◌∙◌, arith, common_steps, length-replicate, length-set, same_from_place, mul-add-lt}
 use Rattle.pfs_layout.proofs.Words.{rows, with_time, Layout, OrLib, Size, place_of_time}
-use Rattle.pfs_layout.proofs.Words.{instance_of, ◌≤◌, min, Bool, true, false, ap, Option, Some, None, if◌then◌else◌}
-use Rattle.pfs_layout.proofs.Words.{◌==◌, inl, inr, option_map, cases_Bool, eqb-true, ne_eqb, cases_eq, cases_lt}
-use Rattle.pfs_layout.proofs.Words.{eq-eqb, le-ltb, lt-ltb, nat_tests, length_push, append_assoc, length-append}
-use Rattle.pfs_layout.proofs.Words.{mod-mul-add, Problem, CEILING, SizeLine, any_time, machine_number, due_count}
-use Rattle.pfs_layout.proofs.Words.{due_at, Stand, Block, Now, seeking, inside, lost, standing, is_machine_due, refused}
+use Rattle.pfs_layout.proofs.Words.{instance_of, min, Bool, true, ap, Option, Some, None, if◌then◌else◌}
+use Rattle.pfs_layout.proofs.Words.{◌==◌, inl, inr, option_map, cases_Bool, eqb-true, ne_eqb}
+use Rattle.pfs_layout.proofs.Words.{lt-ltb, nat_tests, length_push, append_assoc, length-append}
+use Rattle.pfs_layout.proofs.Words.{mod-mul-add, Problem, CEILING, SizeLine, is_due}
+use Rattle.pfs_layout.proofs.Words.{due_at, Stand, Block, Now, seeking, inside, lost, standing, refused}
 use Rattle.pfs_layout.proofs.Words.{body_judged, number_ended, time_count, HoldsNumbers}
-use Rattle.pfs_layout.proofs.Words.{FollowsBody, is_live, block_begun_by, block_of, FollowsBlocks, LONGEST_TIME}
+use Rattle.pfs_layout.proofs.Words.{FollowsBody, is_live, block_begun_by, block_of, FollowsBlocks}
 use Rattle.pfs_layout.proofs.Words.{LayoutFault, Blocks, misfit}
 use Rattle.std.proofs.Math.ListN.{set}
 use Rattle.std.proofs.Math.Nat.{mul_comm}
 use Rattle.std.proofs.lemmas.List.{get_or_push, get_or-replicate}
-use Rattle.pfs_layout.specs.Private.Step.{with_number, next_of, after_time, after_machine}
+use Rattle.pfs_layout.specs.Private.Step.{with_number, next_of, after_time, after_machine, due_next}
 use Rattle.pfs_layout.specs.Private.Step.{with_problem_time, counted}
 use Rattle.pfs_layout.proofs.Files.DueLemmas.{stands_at, size_within}
 use Rattle.pfs_layout.proofs.Tables.{table, length-table, table_at, same_table}
 use Rattle.std.specs.Prelude.{is_some, replicate}
-use Rattle.pfs_layout.specs.declared.fault.LayoutFault.TheVariants.{ExtraNumber}
 use Rattle.pfs_layout.specs.declared.body.Body.{Body}
-use Rattle.pfs_layout.specs.Block.{nothing}
+use Rattle.pfs_layout.specs.declared.body.Due.{Due}
 use Rattle.pfs_layout.specs.declared.blocks.Phase.TheVariants as phases
 
 -- ---- the problem of a block with one number more
@@ -103,33 +102,19 @@ next_place width row column rows h k more = elim (cases_Bool (column + 1 == widt
   | inr on ↦ rw on (omega arith)
 ]
 
--- behind so many numbers another is due, the number of a machine or a time
-pub record IsDue (machine : Bool) (layout : Layout) (size : Size) (count : ℕ) (body : Body) : Type 0 where
-  pub follows : FollowsBody layout size count body
-  pub some : body.judged < body.due
-  pub kind : is_machine_due layout body ≡ machine
-
--- behind as many as are due nothing is
-pub due_at-past : (layout : Layout) (size : Size) (place : ℕ) → due_count layout size ≤ place
-    → due_at layout size place ≡ nothing
-unfolding due_at
-due_at-past layout size place all = grind (arith, nat_tests)
-
-module _ {layout : Layout} {size : Size} {count : ℕ} {body : Body} where
-  pub due_at-time : IsDue false layout size count body → due_at layout size count ≡ any_time
+module _ {layout : Layout} {size : Size} {count : ℕ} {body : Body} (f : FollowsBody layout size count body) where
+  -- what the body says is due
+  pub due_is : due_at layout size count ≡ due_next layout body
   unfolding due_at
-  due_at-time due = grind (arith, nat_tests)
-
-  pub due_at-machine : IsDue true layout size count body → due_at layout size count ≡ machine_number body.machine
-  unfolding due_at
-  due_at-machine due = grind (arith, nat_tests, mod-mul-add body.job size.machines body.machine, due.follows.place)
+  due_is = grind (arith, nat_tests, mod-mul-add body.job size.machines body.machine, f.place)
 
   -- behind a time, and behind the number of a machine
-  pub time_behind : IsDue false layout size count body → FollowsBody layout size (count + 1) (after_time layout body)
-  time_behind due = grind (arith, next_place, due.follows.place)
+  pub time_behind : due_next layout body ≡ Due.Time → FollowsBody layout size (count + 1) (after_time layout body)
+  time_behind due = grind (arith, nat_tests, next_place, f.place)
 
-  pub machine_behind : IsDue true layout size count body → FollowsBody layout size (count + 1) (after_machine body)
-  machine_behind due = grind (arith, due.follows.place)
+  pub machine_behind : {machine : ℕ} → due_next layout body ≡ Due.Machine machine
+      → FollowsBody layout size (count + 1) (after_machine body)
+  machine_behind due = grind (arith, nat_tests, f.place)
 
 -- ---- the wanted block's instance
 
@@ -140,16 +125,16 @@ pub record Keeping (layout : Layout) (wanted : Bool) (block : Block) (kept : Opt
 
 module _ {wanted : Bool} {layout : Layout} {size : Size} {ns : List ℕ} (v : ℕ) {body : Body} {instance : Option Problem}
     {held : ℕ} where
-  pub keeping_time : IsDue false layout size (length ns) body
+  pub keeping_time : FollowsBody layout size (length ns) body → due_next layout body ≡ Due.Time
       → Keeping layout wanted (record { size = size; numbers = ns }) instance held
       → Keeping layout wanted (record { size = size; numbers = ns ++ v ∷ [] })
       (option_map (with_problem_time body v) instance) (if is_some instance then held + 1 else held)
-  keeping_time due k = grind (arith, nat_tests, instance_of-time, length_push, due.follows.place)
+  keeping_time f due k = grind (arith, nat_tests, instance_of-time, length_push, f.place)
 
-  pub keeping_machine : IsDue true layout size (length ns) body
-      → Keeping layout wanted (record { size = size; numbers = ns }) instance held
+  pub keeping_machine : {machine : ℕ} → FollowsBody layout size (length ns) body
+      → due_next layout body ≡ Due.Machine machine → Keeping layout wanted (record { size = size; numbers = ns }) instance held
       → Keeping layout wanted (record { size = size; numbers = ns ++ v ∷ [] }) instance held
-  keeping_machine due k = grind (arith, nat_tests, instance_of-machine, length_push)
+  keeping_machine f due k = grind (arith, nat_tests, instance_of-machine, length_push)
 
 -- ---- outcomes
 
@@ -237,72 +222,44 @@ module _ {has_word : Bool} (r : Blocks) (complete : List Block) (block : Block) 
   -- the body has come one number further, and what is kept too
   counted_follows : {body : Body} {instance : Option Problem} {held : ℕ}
       → FollowsBody r.layout block.size (length so_far + 1) body → KeepsOf (so_far ++ v ∷ []) instance held
-      → Counts (counted (record r { instance = instance; held = held }) body) None
+      → Counts (record r { body = body; instance = instance; held = held }) None
   counted_follows behind keeping =
       let wanted = begun_wanted complete r.wanted (inside block) (more ++ v ∷ []) few in
       let count : length block.numbers + length (more ++ v ∷ []) ≡ length so_far + 1 =
       omega (arith, length-append block.numbers more, length_push more v) in
       record {
         complete = f.complete;
-        now = record { phase = refl; few = f.now.few; fits = f.now.fits; body = rw count behind };
+        now = record { phase = f.now.phase; few = f.now.few; fits = f.now.fits; body = rw count behind };
         instance = rw (wanted, ← append_assoc) keeping.instance;
         held = rw (wanted, ← append_assoc) keeping.held;
       }
 
-  is_due : {machine : Bool} → r.body.judged < r.body.due → is_machine_due r.layout r.body ≡ machine
-      → IsDue machine r.layout block.size (length so_far) r.body
-  is_due some kind =
-      record { follows = rw (← length-append block.numbers more) at f.now.body; some = some; kind = kind }
+  follows : FollowsBody r.layout block.size (length so_far) r.body
+  follows = rw (← length-append block.numbers more) at f.now.body
 
-  time_step : (first : ℕ) → IsDue false r.layout block.size (length so_far) r.body
-      → Counts (body_judged r (min CEILING v) first) (misfit any_time v first)
-  time_step first due = elim (cases_lt LONGEST_TIME v) [
-    | inl long ↦
-        rw (due.kind, lt-ltb LONGEST_TIME v long, lt-ltb LONGEST_TIME (min CEILING v) (omega arith)) (refuses r _)
-    | inr short ↦
-        let same : min CEILING v ≡ v = omega arith in
-        rw (due.kind, same, le-ltb LONGEST_TIME v short)
-        (counted_follows (time_behind due) (keeping_time v due keeps))
-  ]
-
-  machine_step : (first : ℕ) → IsDue true r.layout block.size (length so_far) r.body
-      → Counts (body_judged r (min CEILING v) first) (misfit (machine_number r.body.machine) v first)
-  machine_step first due =
-      let within = size_within block.size f.now.fits in
-      let small : r.body.machine < CEILING =
-      omega (arith, f.now.body.machine, f.now.body.machines, within.sizes.few_machines) in
-      elim (cases_eq v r.body.machine) [
-        | inl here ↦
-            let same : min CEILING v ≡ v = omega arith in
-            rw (due.kind, same, eq-eqb v r.body.machine here)
-            (counted_follows (machine_behind due) (keeping_machine v due keeps))
-        | inr other ↦
-            let clipped = ne_eqb (min CEILING v) r.body.machine (λ e. other (omega arith)) in
-            rw (due.kind, ne_eqb v r.body.machine other, clipped) (refuses r _)
-      ]
-
-  due_step : (first : ℕ) → r.body.judged < r.body.due
-      → Counts (body_judged r (min CEILING v) first) (misfit (due_at r.layout block.size (length so_far)) v first)
-  due_step first some = elim (cases_Bool (is_machine_due r.layout r.body)) [
-    | inl machine ↦ let due = is_due some machine in rw (due_at-machine due) (machine_step first due)
-    | inr time ↦ let due = is_due some time in rw (due_at-time due) (time_step first due)
-  ]
+  -- a number that is what is due, and is kept as it is
+  due_counts : (due : Due) → due_next r.layout r.body ≡ due → is_due due v ≡ true
+      → Counts (counted r due (min CEILING v)) None
+  due_counts Due.Time e is =
+      let same : min CEILING v ≡ v = grind (arith, nat_tests) in
+      rw same (counted_follows (time_behind follows e) (keeping_time v follows e keeps))
+  due_counts (Due.Machine machine) e is =
+      counted_follows (machine_behind follows e) (keeping_machine v follows e keeps)
+  due_counts Due.Nothing e is = grind arith
 
   begun_number : (first : ℕ) → Counts (number_ended r (min CEILING v) first)
       (misfit (due_at r.layout block.size (length block.numbers + length more)) v first)
   unfolding number_ended
-  begun_number first = elim (cases_lt r.body.judged r.body.due) [
-    | inl some ↦
-        let is : number_ended r (min CEILING v) first ≡ body_judged r (min CEILING v) first =
-        rw (f.now.phase, lt-ltb r.body.judged r.body.due some) in
-        rw (is, ← length-append block.numbers more) (due_step first some)
-    | inr all ↦
-        let past : due_count r.layout block.size ≤ length block.numbers + length more =
-        omega (arith, f.now.body.due, f.now.body.judged) in
-        let is : number_ended r (min CEILING v) first ≡ refused r (ExtraNumber first) =
-        rw (f.now.phase, le-ltb r.body.judged r.body.due all) in
-        rw (is, due_at-past r.layout block.size _ past) (refuses r _)
-  ]
+  begun_number first =
+      let within = size_within block.size f.now.fits in
+      let due : Due = due_next r.layout r.body in
+      let clip : is_due due (min CEILING v) ≡ is_due due v =
+      grind (arith, nat_tests, follows.machine, follows.machines, within.sizes.few_machines) in
+      let is : number_ended r (min CEILING v) first ≡ body_judged r (min CEILING v) first = rw f.now.phase in
+      rw (is, due_is f.now.body, clip) (elim (cases_Bool (is_due due v)) [
+        | inl is ↦ rw is (due_counts due refl is)
+        | inr other ↦ rw other (refuses r _)
+      ])
 
 -- a number more, wherever it stands
 pub number_step : {has_word : Bool} (r : Blocks) (complete : List Block) (now : Now) (more : List ℕ) (v first : ℕ)

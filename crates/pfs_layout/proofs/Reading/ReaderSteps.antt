@@ -5,7 +5,7 @@ use Rattle.pfs_layout.proofs.Words.{[], ◌∷◌, ◌++◌, count_by, if◌then
 use Rattle.pfs_layout.proofs.Words.{list_any-append, is_digit, is_line_end, is_word_byte, open_line, is_no_digit}
 use Rattle.pfs_layout.proofs.Words.{last_digits, FollowsLine, lt-ltb, Layout, Line, ended_parts, open_part}
 use Rattle.pfs_layout.proofs.Words.{ended_numbers, stand, byte_fault, fields, StandsAfter, sym, ◌∙◌, subst, mul-le-mul}
-use Rattle.pfs_layout.proofs.Words.{nat_tests, length-append, cases_Bool, cases_lt, LONGEST_INPUT, LayoutFault}
+use Rattle.pfs_layout.proofs.Words.{nat_tests, length-append, cases_Bool, LONGEST_INPUT, LayoutFault}
 use Rattle.pfs_layout.proofs.Words.{is_blank, Size, is_within_limits, due_count, Block, seeking, inside, instance_of}
 use Rattle.pfs_layout.proofs.Words.{standing, fault_of_place, min, no_numbers, has_numbers_alone, number_of, IsReady}
 use Rattle.pfs_layout.proofs.Words.{Fields, block_read, FollowsBlocks, Follows, IsReader}
@@ -15,13 +15,14 @@ use Rattle.std.specs.Char.{digit_value}
 use Rattle.std.specs.Str.Parse.{digits_value_after}
 use Rattle.std.proofs.lemmas.List.Sums.{sum_by-append, count_by-le-length}
 use Rattle.pfs_layout.proofs.Files.LineLemmas.{open_part-push}
-use Rattle.pfs_layout.proofs.Options.{cases_option}
+use Rattle.pfs_layout.proofs.Words.{cases_option}
 use Rattle.pfs_layout.proofs.Published.PlaceLemmas.{byte_fault-push}
 use Rattle.pfs_layout.proofs.Files.GoodLemmas.{ended_none, fault_within_limit, place_fault, GoodNow, stand_of, sound}
 use Rattle.pfs_layout.proofs.Files.GoodLemmas.{stand_of-on, stand_of-end, open_line-on, open_line-end}
 use Rattle.pfs_layout.proofs.Files.DueLemmas.{size_within}
 use Rattle.pfs_layout.proofs.Reading.NumberSteps.{Refuses, Outcome, keeping_of}
-use Rattle.pfs_layout.proofs.Reading.ByteSteps.{live_few, judged, judged_gap, byte_on, end_byte, live-memory}
+use Rattle.pfs_layout.proofs.Words.{judged}
+use Rattle.pfs_layout.proofs.Reading.ByteSteps.{live_few, judged_gap, byte_on, end_byte, live-memory}
 use Rattle.pfs_layout.proofs.Reading.ByteSteps.{keeps_last, line_end_keeps}
 
 -- ---- the last line with one byte more
@@ -222,32 +223,23 @@ can_count {r = r} {text = text} f phase =
     let count = length-append block.numbers more in
     let held : r.held ≤ r.body.judged = grind (arith, kept.held, body.judged) in
     let due = due_few r.layout block.size follows.now.fits in
-    elim (cases_lt r.body.judged r.body.due) [
-      | inl less ↦ record {
-        place = record { judged = less; job = body.job; machine = body.machine };
-        held = omega (arith, body.due);
-        instance = rw kept.instance (grind (arith, body.jobs, body.machines));
-      }
-      | inr full ↦ grind (arith, follows.now.phase)
-    ]
+    record {
+      job = body.job;
+      machine = body.machine;
+      held = omega (arith, body.due, body.few);
+      instance = rw kept.instance (grind (arith, body.jobs, body.machines));
+    }
 
-pub follows_ready : {r : Fields} {text : List ℕ} → Follows r text → is_live r.phase ≡ true
-    → length text < LONGEST_INPUT → IsReady r.blocks
-follows_ready {text = text} f live short = record {
+pub follows_ready : {r : Fields} {text : List ℕ} → Follows r text → is_live r.phase ≡ true → IsReady r.blocks
+follows_ready {text = text} f live = record {
   live = live;
   can = can_count f;
-  count = omega (arith, f.few_numbers);
+  count = omega (arith, f.few_numbers, f.short);
   complete = wants_more f live;
-  line = omega (arith, f.line, count_by-le-length is_line_end text);
+  line = omega (arith, f.line, f.short, count_by-le-length is_line_end text);
 }
 
--- what the judgement of the last number needs
-pub record IsEndReady (r : Blocks) : Type 0 where
-  pub can : r.phase ≡ phases.Body → CanCount r
-  pub count : r.size_line.count ≤ LONGEST_INPUT
-
-pub reader_end_ready : {r : Fields} → IsReader r → is_live r.phase ≡ true → IsEndReady r.blocks
-reader_end_ready {r = r} some live =
+pub reader_ready : {r : Fields} → IsReader r → is_live r.phase ≡ true → IsReady r.blocks
+reader_ready {r = r} some live =
     let stands = some.stands (live-memory r.phase live) in
-    let f = live_follows r stands.0 live stands.1 in
-    record { can = can_count f; count = omega (arith, f.few_numbers, f.short) }
+    follows_ready (live_follows r stands.0 live stands.1) live

@@ -1,27 +1,28 @@
 -- Canonical texts: their length, and that they are instance files.
-use Rattle.pfs_layout.proofs.Words.{ℕ, suc, zero, ◌+◌, ◌*◌, ◌<◌, ◌≤◌, List, [], ◌∷◌, length, map, flat_map, codes}
-use Rattle.pfs_layout.proofs.Words.{arith, length-append, mul-le-mul, AllByRecursion, FlowShop, time_of, limits, below}
-use Rattle.pfs_layout.proofs.Words.{spaced, LONGEST_INPUT, Layout, Taillard, OrLib, Size, due_row, row_count, row_width}
-use Rattle.pfs_layout.proofs.Words.{row_line, row_lines, ◌≡◌, ◌-◌, Bool, true, false, not, ◌++◌, Some, refl, sym, inl}
-use Rattle.pfs_layout.proofs.Words.{add-one, append_assoc, append-nil, list_any, list_all, All, nat_tests}
-use Rattle.pfs_layout.proofs.Words.{flat_map-append, All-from_get_or, list_any-append, list_all-append, Problem}
-use Rattle.pfs_layout.proofs.Words.{flat_map_more, due, stated_size, is_line_end, is_word_byte, canonical_text}
-use Rattle.pfs_layout.proofs.Words.{IsInstance, IsBlock, IsInstanceFile, lines, open_line, is_mixed, is_number_line}
-use Rattle.pfs_layout.proofs.Words.{is_no_digit, numbers, size_of}
+use Rattle.pfs_layout.proofs.Words.{false_from_ne_true, flat_map-append, All-from_get_or, list_any-append, append_assoc}
+use Rattle.pfs_layout.proofs.Words.{list_all-append, AllByRecursion, canonical_text, IsInstanceFile, is_number_line, []}
+use Rattle.pfs_layout.proofs.Words.{length-append, LONGEST_INPUT, flat_map_more, is_word_byte, stated_size, is_line_end}
+use Rattle.pfs_layout.proofs.Words.{is_no_digit, ended_parts, mul-le-mul, IsInstance, row_count, row_lines, nat_tests}
+use Rattle.pfs_layout.proofs.Words.{open_part, flat_map, FlowShop, Taillard, row_line, list_any, list_all, is_mixed, ℕ}
+use Rattle.pfs_layout.proofs.Words.{time_of, due_row, add-one, Problem, IsBlock, numbers, size_of, length, limits, zero}
+use Rattle.pfs_layout.proofs.Words.{spaced, Layout, codes, arith, below, OrLib, false, lines, List, Size, Bool, true}
+use Rattle.pfs_layout.proofs.Words.{◌++◌, Some, refl, suc, ◌+◌, ◌*◌, ◌<◌, ◌≤◌, ◌∷◌, map, ◌≡◌, ◌-◌, not, sym, All, due}
 use Rattle.std.proofs.Common.{◌^◌, lit<, decimal}
-use Rattle.pfs_layout.specs.CanonicalText.{head_lines, as_written, CanonicalLaw, TextsFit}
+use Rattle.pfs_layout.specs.CanonicalText.{head_lines, as_written}
+use Rattle.pfs_layout.specs.Laws.{CanonicalLaw, TextsFit}
+use Rattle.pfs_layout.proofs.Files.VerdictLemmas.{all_of}
 use Rattle.std.specs.List.{range_with_len}
 use Rattle.std.proofs.lemmas.Fmt.{length-decimal-le, decimal_is_IsNumeral}
 use Rattle.std.proofs.lemmas.List.Concat.{length-flat_map}
 use Rattle.std.proofs.lemmas.List.FromFn.{length-range_with_len, map-range_with_len_more}
 use Rattle.std.proofs.lemmas.List.Sums.{sum_by-le}
 use Rattle.pfs_base.specs.FlowShop.{IsWithin}
-use Rattle.pfs_layout.proofs.Files.DueLemmas.{length-due_row, short_at}
-use Rattle.std.proofs.lemmas.List.Folds.{list_any_none}
+use Rattle.pfs_layout.proofs.Files.DueLemmas.{length_due_row, row_width, short_at}
+use Rattle.std.proofs.lemmas.List.Folds.{list_any_none, list_any_at}
 use Rattle.std.proofs.lemmas.List.Splits.{slice_split_none, slice_split_at}
 use Rattle.std.proofs.lemmas.Str.Parse.{digit_at}
 use Rattle.pfs_base.specs.Text.{with_line_end}
-use Rattle.pfs_layout.proofs.Files.LineLemmas.{lines-line, lines-none, open_part-part, open_line-none}
+use Rattle.pfs_layout.proofs.Files.LineLemmas.{lines-line, IsOpen}
 use Rattle.pfs_layout.proofs.Files.FileLemmas.{no_numbers}
 
 -- the numbers are of 64 bits
@@ -83,7 +84,7 @@ length-row_line : (layout : Layout) (shop : FlowShop) (row : ℕ) → IsWithin l
     → length (row_line layout shop row) ≤ 21 * row_width layout shop + 1
 length-row_line layout shop row within =
     let numbers = length-spaced (due_row layout shop row) (row_fits layout shop row within) in
-    omega (arith, length-append {A = ℕ}, length-due_row layout shop row)
+    omega (arith, length-append {A = ℕ}, length_due_row layout shop row)
 
 -- the body, with room for the lines before it
 pub length-row_lines : (layout : Layout) (shop : FlowShop) → IsWithin limits shop
@@ -142,17 +143,12 @@ number_line ns some fit =
 
 -- ---- the lines of a text
 
--- a text of ended lines
-record AreLines (text : List ℕ) (parts : List (List ℕ)) : Type 0 where
-  pub are : lines text ≡ parts
-  pub nothing : open_line text ≡ []
-
-more_lines : {line text : List ℕ} {parts : List (List ℕ)} → list_any is_line_end line ≡ false → AreLines text parts
-    → AreLines (with_line_end line ++ text) (line ∷ parts)
-more_lines {line} {text} {parts} none are =
-    let first = lines-line line 10 text none refl in
-    let behind = open_part-part is_line_end line 10 text none refl in
-    rw (append_assoc line (10 ∷ []) text) (grind (arith, are.are, are.nothing))
+-- an ended line, and more lines
+more_lines : (line text : List ℕ) {parts : List (List ℕ)} → list_any is_line_end line ≡ false → lines text ≡ parts
+    → lines (with_line_end line ++ text) ≡ line ∷ parts
+more_lines line text none are =
+    let unended : IsOpen line = λ k d h. false_from_ne_true _ (λ ends. cc (none, list_any_at is_line_end line k d h ends)) in
+    rw (append_assoc line (10 ∷ []) text, lines-line line 10 text unended refl, are)
 
 abbrev row_text : Layout → FlowShop → ℕ → List ℕ
 row_text layout shop row = spaced (due_row layout shop row)
@@ -162,9 +158,10 @@ module _ (layout : Layout) (problem : Problem) (is : IsInstance limits problem) 
   fits row = row_fits layout problem.shop row is.within
 
   rows_are : (rows : List ℕ)
-      → AreLines (flat_map (row_line layout problem.shop) rows) (map (row_text layout problem.shop) rows)
-  rows_are [] = record { are = lines-none; nothing = open_line-none }
-  rows_are (row ∷ rows) = more_lines (no_line_end (due_row layout problem.shop row) (fits row)) (rows_are rows)
+      → lines (flat_map (row_line layout problem.shop) rows) ≡ map (row_text layout problem.shop) rows
+  unfolding lines ended_parts open_part
+  rows_are [] = refl
+  rows_are (row ∷ rows) = more_lines _ _ (no_line_end (due_row layout problem.shop row) (fits row)) (rows_are rows)
 
   rows_unmixed : (rows : List ℕ)
       → list_all (λ line. not (is_mixed line)) (map (row_text layout problem.shop) rows) ≡ true
@@ -197,12 +194,11 @@ module _ (layout : Layout) (problem : Problem) (is : IsInstance limits problem) 
         parts =
             rw (rows, map-range_with_len_more row 0 n n (omega arith), append_assoc between (map row (below n)));
         no_numbers = rw plain;
-        size = grind (arith, number_line sizes some fit, numbers_spaced sizes fit);
-        body = record {
-          front_unmixed = rw (list_all-append, unmixed) (rows_unmixed (below n));
-          last_numbers = number_line last (omega (arith, length-due_row layout problem.shop n)) (fits n);
-          holds = rw (joined, none, rows_numbers (below n), numbers_spaced last (fits n), rows, add-one) (sym all_rows);
-        };
+        number_line = number_line sizes some fit;
+        states = rw (numbers_spaced sizes fit) states;
+        front_unmixed = rw (list_all-append, unmixed) (rows_unmixed (below n));
+        last_numbers = number_line last (omega (arith, length_due_row layout problem.shop n)) (fits n);
+        holds = rw (joined, none, rows_numbers (below n), numbers_spaced last (fits n), rows, add-one) (sym all_rows);
         within = is;
       }
 
@@ -217,15 +213,11 @@ texts_fit layout problem is =
     omega (arith, length-append (head_lines layout (size_of problem)) (row_lines layout problem.shop))
 
 file_is : (layout : Layout) (problem : Problem) → IsInstance limits problem → (own : List (List ℕ))
-    → AreLines (canonical_text layout problem) own → IsBlock limits layout problem own
+    → lines (canonical_text layout problem) ≡ own → IsBlock limits layout problem own
     → IsInstanceFile limits layout (canonical_text layout problem) 1 problem
 file_is layout problem is own are block = record {
-  text = canonical_text layout problem;
-  rest = [];
-  whole = sym (append-nil (canonical_text layout problem));
-  ended = inl are.nothing;
-  short = texts_fit layout problem is;
-  blocks = record { earlier = []; own = own; parts = are.are; count = refl; each = tt; is_own = block };
+  front = all_of (canonical_text layout problem) (texts_fit layout problem is);
+  blocks = record { earlier = []; own = own; parts = are; count = refl; each = tt; is_own = block };
 }
 
 pub canonical_law : CanonicalLaw
@@ -237,7 +229,7 @@ canonical_law Taillard problem is =
     file_is Taillard problem is _
     (rw (append_assoc (with_line_end (title Taillard)) (with_line_end (spaced sizes) ++ with_line_end times_title))
     (rw (append_assoc (with_line_end (spaced sizes)) (with_line_end times_title))
-    (more_lines refl (more_lines (no_line_end sizes fit) (more_lines refl rows)))))
+    (more_lines _ _ refl (more_lines _ _ (no_line_end sizes fit) (more_lines _ _ refl rows)))))
     (block_is Taillard problem is (title Taillard) sizes (times_title ∷ []) (problem.shop.machines - 1)
     (omega (arith, is.within.sizes.some_machine)) (omega (arith, is.within.sizes.some_job)) refl fit (omega arith)
     refl refl refl)
@@ -250,7 +242,7 @@ canonical_law OrLib problem is =
     let rows = rows_are OrLib (as_written OrLib problem) written (below problem.shop.jobs) in
     file_is OrLib (as_written OrLib problem) written _
     (rw (append_assoc (with_line_end (title OrLib)) (with_line_end (spaced sizes)))
-    (more_lines refl (more_lines (no_line_end sizes fit) rows)))
+    (more_lines _ _ refl (more_lines _ _ (no_line_end sizes fit) rows)))
     (block_is OrLib (as_written OrLib problem) written (title OrLib) sizes [] (problem.shop.jobs - 1)
     (omega (arith, is.within.sizes.some_job)) (omega (arith, is.within.sizes.some_machine)) refl fit (omega arith)
     refl refl refl)

@@ -1,13 +1,12 @@
 -- The rows of a body, number by number and line by line.
 use Rattle.pfs_layout.proofs.Words.{◌∙◌, slice_index, if◌then◌else◌, inl, inr, ◌%◌, ◌/◌, ◌==◌, ◌≡◌, ℕ, ◌+◌, ◌*◌, ◌<◌}
-use Rattle.pfs_layout.proofs.Words.{List, [], ◌∷◌, ◌++◌, take, flat_map, refl, add-one, arith, take_all, cases_eq}
+use Rattle.pfs_layout.proofs.Words.{List, [], ◌∷◌, length, ◌++◌, take, flat_map, refl, add-one, arith, take_all, cases_eq}
 use Rattle.pfs_layout.proofs.Words.{get_or-map-range_with_len, FlowShop, time_of, below, spaced, flat_map_more}
-use Rattle.pfs_layout.proofs.Words.{flat_map_from, Layout, Taillard, OrLib, due_row, row_count, row_width, row_line}
-use Rattle.pfs_layout.proofs.Words.{row_lines}
+use Rattle.pfs_layout.proofs.Words.{flat_map_from, Layout, Taillard, OrLib, due_row, row_count, row_line, row_lines}
 use Rattle.pfs_base.specs.Text.{entry}
 use Rattle.pfs_base.proofs.Published.Printing.{line_on}
 use Rattle.pfs_base.proofs.Published.SendsOn.{GoesOn}
-use Rattle.pfs_layout.proofs.Files.DueLemmas.{length-due_row, pairs_of}
+use Rattle.pfs_layout.proofs.Files.DueLemmas.{length_due_row, pairs_of}
 use Rattle.pfs_layout.proofs.Tables.{rows_at}
 
 -- ---- a row, number by number
@@ -17,36 +16,35 @@ abbrev pub row_begun : Layout → FlowShop → ℕ → ℕ → List ℕ
 row_begun layout shop row count = spaced (take count (due_row layout shop row))
 
 -- a row goes on with the number at a place
-pub number_on : (layout : Layout) (shop : FlowShop) (row place : ℕ) → place < row_width layout shop
+pub number_on : (layout : Layout) (shop : FlowShop) (row place : ℕ) → place < length (due_row layout shop row)
     → GoesOn (row_line layout shop row) (row_begun layout shop row place)
     (entry place (slice_index (due_row layout shop row) place)) (row_begun layout shop row (place + 1))
-number_on layout shop row place within =
-    line_on (due_row layout shop row) place (omega (arith, length-due_row layout shop row))
+number_on layout shop row place within = line_on (due_row layout shop row) place within
 
 -- which is a time, or a machine and then its time
 abbrev number : Layout → FlowShop → ℕ → ℕ → ℕ
 number Taillard shop row place = time_of shop place row
 number OrLib shop row place = if place % 2 == 0 then place / 2 else time_of shop row (place / 2)
 
-pub number_is : (layout : Layout) (shop : FlowShop) (row place : ℕ) → place < row_width layout shop
+pub number_is : (layout : Layout) (shop : FlowShop) (row place : ℕ) → place < length (due_row layout shop row)
     → slice_index (due_row layout shop row) place ≡ number layout shop row place
 unfolding due_row
 number_is Taillard shop row place within =
-    get_or-map-range_with_len (λ job. time_of shop job row) 0 shop.jobs place place 0 within (omega arith)
+    get_or-map-range_with_len (λ job. time_of shop job row) 0 shop.jobs place place 0
+    (omega (arith, length_due_row Taillard shop row)) (omega arith)
 number_is OrLib shop row place within =
     let at : place / 2 * 2 + place % 2 ≡ place = omega arith in
-    let pair = rows_at (pairs_of shop row) 2 (λ i. refl) shop.machines (place / 2) (place % 2) 0 (omega arith)
-    (omega arith) in
+    let pair = rows_at (pairs_of shop row) 2 (λ i. refl) shop.machines (place / 2) (place % 2) 0
+    (omega (arith, length_due_row OrLib shop row)) (omega arith) in
     rw at at pair ∙ elim (cases_eq (place % 2) 0) [
       | inl even ↦ rw even
       | inr odd ↦ let one : place % 2 ≡ 1 = omega arith in rw one
     ]
 
 -- a row is all of its numbers, and its end
-pub row_ends : (layout : Layout) (shop : FlowShop) (row count : ℕ) → row_width layout shop ≡ count
+pub row_ends : (layout : Layout) (shop : FlowShop) (row count : ℕ) → length (due_row layout shop row) ≡ count
     → row_line layout shop row ≡ row_begun layout shop row count ++ 10 ∷ []
-row_ends layout shop row count all =
-    rw (take_all count (due_row layout shop row) (omega (arith, length-due_row layout shop row)))
+row_ends layout shop row count all = rw (take_all count (due_row layout shop row) (omega arith))
 
 -- ---- the body, row by row
 

@@ -1,23 +1,12 @@
 -- Each piece takes the reader on, a fault of a piece is one of the whole input, and so is the wanted block.
-use Rattle.pfs_layout.proofs.Words.{refl, rules, ℕ, [], ◌∙◌, arith, length-take, Read, SeedRange}
+use Rattle.pfs_layout.proofs.Words.{refl, rules, ℕ, ◌∙◌, arith, length-take, Read, SeedRange}
 use Rattle.pfs_layout.proofs.Reading.SourceLemmas.{finish_named, feed_named, never_failed, reading_more, reading_fault}
 use Rattle.pfs_layout.proofs.Reading.SourceLemmas.{reading_done, reads_failed, reads_ended, reads_fault}
-use Rattle.pfs_layout.proofs.Reading.PieceLemmas.{same_error}
 use Rattle.pfs_layout.proofs.Reading.ReaderSteps.{live_follows}
 use Rattle.pfs_layout.proofs.reader.read_block.Goals as goal
 
 pub pieces-init : goal.pieces-init
-pieces-init g c = record {
-  working = c.requires.working;
-  reading = record {
-    layout_is = c.new-taker.ensures.layout;
-    wanted_is = c.new-taker.ensures.wanted;
-    live = c.new-taker.ensures.live;
-    front = [];
-    stands = c.new-taker.ensures.stands;
-    told = λ text e. (text, e, refl);
-  };
-}
+pieces-init g c = record { working = c.requires.working; reading = grind (arith, c.new-taker.ensures) }
 
 pub pieces-preserved : goal.pieces-preserved
 pieces-preserved g c =
@@ -44,14 +33,13 @@ returns-in_default-clause-as_far g c = reads_failed c.pieces.invariant.reading _
 pub returns-then-n-eq0 : goal.returns-then-n-eq0
 returns-then-n-eq0 g c =
     let t = c.pieces.invariant.reading in
-    let bytes = c.in-Some.ensures.bytes in
     let ends = c.finish.ensures.meets t.front t.stands in
     record {
       file = search rules;
       refused = search rules;
       read = never_failed (c.in-Some.ensures.failed ∙ c.pieces.invariant.working) (finish_named ends Read refl);
       no_seed = finish_named ends SeedRange refl;
-      as_far = reads_ended t _ _ bytes.1 (omega (arith, length-take {A = ℕ})) ends;
+      as_far = reads_ended t _ _ c.in-Some.ensures.bytes.1 (omega (arith, length-take {A = ℕ})) ends;
     }
 
 -- a byte of the piece has a fault, or memory was refused
@@ -65,8 +53,8 @@ returns-in-Err g c =
       refused = λ read memory. reading_fault t _ _ bytes.1 meets memory;
       read =
           never_failed (c.in-Some.ensures.failed ∙ c.pieces.invariant.working)
-          (λ e. feed_named meets Read (λ z. cc) refl (same_error e));
-      no_seed = λ e. feed_named meets SeedRange (λ z. cc) refl (same_error e);
+          (λ e. feed_named meets Read (λ z. cc) refl (cc));
+      no_seed = λ e. feed_named meets SeedRange (λ z. cc) refl (cc);
       as_far = reads_fault t _ _ bytes.1 (omega (arith, length-take {A = ℕ})) meets;
     }
 
@@ -76,14 +64,12 @@ returns-then-progress g c =
     let t = c.pieces.invariant.reading in
     let bytes = c.in-Some.ensures.bytes in
     let meets = c.in-Ok.ensures.meets t.front t.stands in
-    let ends = c.finish-then-progress.ensures.meets in
+    let ends = c.finish-then-progress.ensures.meets _ meets.ok.1 in
     let done = reading_done t _ _ bytes.1 meets c.if-progress.true ends in
     record {
       file = rw done.1 done.2;
       refused = rw done.1 tt;
-      read =
-          never_failed (c.in-Some.ensures.failed ∙ c.pieces.invariant.working)
-          (finish_named (ends _ meets.ok.1) Read refl);
-      no_seed = finish_named (ends _ meets.ok.1) SeedRange refl;
-      as_far = reads_ended t _ _ bytes.1 (omega (arith, length-take {A = ℕ})) (ends _ meets.ok.1);
+      read = never_failed (c.in-Some.ensures.failed ∙ c.pieces.invariant.working) (finish_named ends Read refl);
+      no_seed = finish_named ends SeedRange refl;
+      as_far = reads_ended t _ _ bytes.1 (omega (arith, length-take {A = ℕ})) ends;
     }

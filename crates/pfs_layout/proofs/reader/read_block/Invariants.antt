@@ -1,5 +1,6 @@
 -- Each piece takes the reader on, and a live reader has read no more than the limit.
-use Rattle.pfs_layout.proofs.Words.{◌≡◌, ◌-◌, false, LONGEST_INPUT, Reading}
+use Rattle.pfs_layout.proofs.Words.{◌≡◌, ◌-◌, false, LONGEST_INPUT}
+use Rattle.pfs_layout.proofs.Reading.SourceLemmas.{Reading}
 use Rattle.pfs_layout.proofs.reader.read_block.Given as goal
 
 abbrev pub invariant-pieces : goal.invariant-pieces

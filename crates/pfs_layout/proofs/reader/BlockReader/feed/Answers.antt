@@ -1,5 +1,5 @@
 -- A reader that was refused memory stands nowhere, and no more times are held behind a piece than the wanted block has.
-use Rattle.pfs_layout.proofs.Words.{◌++◌, subst, Fields, fields, StandsAfter, HoldsFew}
+use Rattle.pfs_layout.proofs.Words.{fields}
 use Rattle.pfs_layout.proofs.Reading.PieceLemmas.{memory_nowhere}
 use Rattle.pfs_layout.proofs.Reading.HeldLemmas.{feed_few}
 use Rattle.pfs_layout.proofs.reader.BlockReader.feed.Goals as goal
@@ -10,9 +10,5 @@ returns-clause-nowhere c e text s =
 
 pub returns-clause-few : goal.returns-clause-few
 returns-clause-few c text =
-    let old : Fields = fields c.self.inside.last c.self.inside.blocks in
-    let new : Fields = fields c.feed.new.last c.feed.new.self in
-    let piece = c.args.piece.now in
-    subst (λ z. StandsAfter z text → HoldsFew z.layout z.wanted (text ++ piece) new.held) c.self.view_is
-    (λ s. feed_few old text piece c.feed.result new (c.feed.ensures.meets text s)
+    rw (← c.self.view_is) (λ s. feed_few _ text c.args.piece.now _ _ (c.feed.ensures.meets text s)
     (λ e. c.feed.ensures.reader.none (rw e at c.feed.ensures.stays)))

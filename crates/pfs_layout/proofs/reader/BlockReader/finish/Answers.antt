@@ -1,30 +1,26 @@
 -- The end of the input is judged as the definitions say, and an accepted instance is there.
-use Rattle.pfs_layout.proofs.Words.{◌≡◌, sym, ◌∙◌, ap, subst, Some, Ok, Err, Blocks, at_end, Fields, fields}
-use Rattle.pfs_layout.proofs.Words.{StandsAfter, FinishMeets}
-use Rattle.std.proofs.lemmas.Option.{same_Some}
-use Rattle.pfs_layout.proofs.Reading.OutcomeLemmas.{finish_tells, end_has_instance}
+use Rattle.pfs_layout.proofs.Words.{◌≡◌, sym, ◌∙◌, line_ended, inl, inr}
+use Rattle.pfs_layout.proofs.Reading.OutcomeLemmas.{finish_tells}
+use Rattle.pfs_layout.proofs.Reading.ByteSteps.{refused_memory}
 use Rattle.pfs_layout.proofs.reader.BlockReader.finish.Goals as goal
 
 pub returns-in-Some-clause-meets : goal.returns-in-Some-clause-meets
 returns-in-Some-clause-meets c text =
-    let r : Fields = fields c.self.inside.last c.self.inside.blocks in
-    let fault = c.in-Some.fault in
-    subst (λ z. StandsAfter z text → FinishMeets z text (Err fault)) c.self.view_is
-    (λ s. (finish_tells r text s).0 fault (sym c.judge_end.ensures.fault ∙ c.in-Some.is))
+    rw (← c.self.view_is) (λ s. (finish_tells _ text s).0 _ (sym c.judge_end.ensures.fault ∙ c.in-Some.is))
 
 -- an input that may end here has the wanted block
 pub unreachable-requires : goal.unreachable-requires
+unfolding line_ended
 unreachable-requires c =
-    end_has_instance (fields c.self.inside.last c.self.inside.blocks) c.self.invariant
-    (sym c.judge_end.ensures.fault ∙ c.in-None.is)
-    (sym (ap (λ (z : Blocks). z.instance) c.judge_end.ensures.blocks) ∙ c.in-None-instance.is)
+    let told = sym c.judge_end.ensures.fault ∙ c.in-None.is in
+    elim (refused_memory c.self.inside.blocks.phase) [
+      | inl e ↦ let refused = rw e at told in cc
+      | inr other ↦ let at = c.self.invariant.stands other in cc (((finish_tells _ at.0 at.1).1 told).1)
+    ]
 
 pub returns-in-Some-instance-clause-meets : goal.returns-in-Some-instance-clause-meets
 returns-in-Some-instance-clause-meets c text =
-    let r : Fields = fields c.self.inside.last c.self.inside.blocks in
-    let instance = c.in-Some-instance.instance in
-    let there : (at_end r.last r.blocks).instance ≡ Some instance =
-    sym (ap (λ (z : Blocks). z.instance) c.judge_end.ensures.blocks) ∙ c.in-Some-instance.is in
-    subst (λ z. StandsAfter z text → FinishMeets z text (Ok instance)) c.self.view_is
-    (λ s. let told = (finish_tells r text s).1 (sym c.judge_end.ensures.fault ∙ c.in-None.is) in
-    rw (same_Some _ _ (sym there ∙ told.1)) told.2)
+    rw (← c.self.view_is) (λ s.
+    let told = (finish_tells _ text s).1 (sym c.judge_end.ensures.fault ∙ c.in-None.is) in
+    let same : c.in-Some-instance.instance ≡ told.0 = cc in
+    rw same told.2)
