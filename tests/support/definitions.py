@@ -47,9 +47,9 @@ def definitions_of(path: pathlib.Path) -> dict[str, str]:
     name = ""
     for line in without_comments(path.read_text()).splitlines():
         head = HEAD.match(line)
-        if head and not line.startswith("pub mod"):
+        if head and not line.startswith(("pub mod ", "pub use ")):
             name = head[1]
-        elif line.startswith(("use ", "pub mod ")):
+        elif line.startswith(("use ", "pub mod ", "pub use ")):
             name = ""
         if name:
             found[name] = found.get(name, "") + line + "\n"
