@@ -18,7 +18,7 @@ use Rattle.pfs_order.specs.Sequence.{IsSequence}
 use Rattle.pfs_order.proofs.Published.Sequences.{IsSequence-nil, IsSequence-head, IsSequence-insert}
 use Rattle.pfs_c.specs.declared.numbers.Refusal.{Refusal}
 use Rattle.pfs_c.specs.declared.numbers.Refusal.TheVariants.{Job, Repeated}
-use Rattle.pfs_c.specs.Numbers.{Judges}
+use Rattle.pfs_c.specs.Private.Refusing.{Judges}
 use Rattle.pfs_c.specs.Judgements.{job_refusal, place_refusal, jobs_refusal}
 
 -- ---- the first of several judgements

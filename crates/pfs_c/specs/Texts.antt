@@ -21,7 +21,7 @@ use Rattle.pfs_order.specs.Sequence.{StatedOrder}
 use Rattle.pfs_order.specs.declared.fault.OrderFault.{OrderFault}
 use Rattle.pfs_order.specs.declared.fault.OrderFault.TheVariants as order
 use Rattle.pfs_c.specs.Judgements.{shop_of, unless, shop_refusal, jobs_refusal}
-use Rattle.pfs_c.specs.Numbers.{number_of}
+use Rattle.pfs_c.specs.Numbers.{refusal_number}
 use Rattle.pfs_c.specs.declared.numbers.Refusal.{Refusal}
 use Rattle.pfs_c.specs.declared.numbers.Refusal.TheVariants as refusal
 use Rattle.pfs_c.specs.declared.numbers.TheConstants.{PFS_OK, PFS_MEMORY}
@@ -42,8 +42,8 @@ abbrev pub machines_stated : ℕ → Option ℕ
 machines_stated machines = if machines == 0 then None else Some machines
 
 -- a problem and an order file, in their parts
-abbrev pub problem_of : ℕ → ℕ → PfsNotes → List ℕ → Problem
-problem_of jobs machines notes times = record { shop = shop_of times jobs machines; notes = notes_of notes }
+abbrev pub given_problem : ℕ → ℕ → PfsNotes → List ℕ → Problem
+given_problem jobs machines notes times = record { shop = shop_of times jobs machines; notes = notes_of notes }
 
 abbrev pub order_file_of : List ℕ → ℕ → ℕ → StatedOrder
 order_file_of jobs machines makespan =
@@ -137,7 +137,7 @@ order_verdict_refusal room (Err fault) = Some (order_refusal fault)
 
 abbrev pub answer_of : Option Refusal → ℤ
 answer_of None = PFS_OK
-answer_of (Some why) = number_of why
+answer_of (Some why) = refusal_number why
 
 -- the layout and the block are judged first, and then the file
 abbrev pub asked_refusal : ℕ → ℕ → Option Refusal
@@ -158,7 +158,7 @@ AnswersFile answer bytes layout block room =
 
 abbrev pub AnswersRead : ℤ → List ℕ → ℕ → ℕ → ℕ → Type 0
 AnswersRead answer bytes layout block room = MatchOption (asked_refusal layout block)
-    (AnswersFile answer bytes layout block room) (λ why. answer ≡ number_of why)
+    (AnswersFile answer bytes layout block room) (λ why. answer ≡ refusal_number why)
 
 -- memory is asked for where the text is one of the grammar, before its jobs are judged
 abbrev pub AnswersReadOrder : ℤ → List ℕ → ℕ → Type 0
@@ -193,5 +193,5 @@ write_order_refusal jobs machines makespan = first_some (order_size_refusal (len
 
 -- what is wrong with what is to be written, or else memory was refused, or the text has room or not
 abbrev pub AnswersWrite : ℤ → Option Refusal → ℕ → ℕ → Type 0
-AnswersWrite answer (Some why) room wanted = answer ≡ number_of why
+AnswersWrite answer (Some why) room wanted = answer ≡ refusal_number why
 AnswersWrite answer None room wanted = (answer ≡ PFS_MEMORY) ⊎ (answer ≡ answer_of (room_refusal room wanted))

@@ -5,7 +5,7 @@ ghost use Rattle.pfs_base.specs.Limits.{limits};
 ghost use Rattle.pfs_order.specs.Sequence.{IsSequence};
 ghost use Rattle.pfs_c.specs.Judgements.{shop_of, sizes_refusal, length_refusal, times_refusal, shop_refusal};
 ghost use Rattle.pfs_c.specs.Judgements.{jobs_refusal, job_refusal};
-ghost use Rattle.pfs_c.specs.Numbers.{Judges};
+ghost use Rattle.pfs_c.specs.Private.Refusing.{Judges};
 ghost use Rattle.pfs_c.specs.Texts.{put_in_front};
 
 use crate::numbers::Refusal;

@@ -1,6 +1,6 @@
 //! The numbers that the functions answer.
 ghost use Rattle.std.specs.Prelude.{◌≡◌, ◌≢◌};
-ghost use Rattle.pfs_c.specs.Numbers.{number_of};
+ghost use Rattle.pfs_c.specs.Numbers.{refusal_number};
 
 /// All is done.
 pub const PFS_OK: i32 = 0;
@@ -121,7 +121,7 @@ pub(crate) enum Refusal {
 impl Refusal {
     /// The number that C is told.
     pub(crate) fn number(self) -> i32
-        ensures value { result ≡ number_of self }
+        ensures value { result ≡ refusal_number self }
         ensures some { result ≢ PFS_OK }
     {
         self as i32

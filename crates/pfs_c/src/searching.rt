@@ -2,7 +2,8 @@
 ghost use Rattle.std.specs.Prelude.{◌≡◌, ◌≢◌, ◌+◌, ◌≤◌, length, IfOk};
 ghost use Rattle.pfs_search.specs.Solution.{IsImproved};
 ghost use Rattle.pfs_c.specs.Judgements.{shop_of};
-ghost use Rattle.pfs_c.specs.Numbers.{Answers, Judges, Refuses};
+ghost use Rattle.pfs_c.specs.Numbers.{Answers};
+ghost use Rattle.pfs_c.specs.Private.Refusing.{Judges, Refuses};
 ghost use Rattle.pfs_c.specs.Searching.{neh_refusal, rounds_refusal, take_refusal, passes_refusal, count_refusal};
 ghost use Rattle.pfs_c.specs.Searching.{IsNeh};
 

@@ -7,8 +7,9 @@ ghost use Rattle.pfs_insert.specs.Inserter.{IsBestPlace};
 ghost use Rattle.pfs_layout.specs.Generator.{generated};
 ghost use Rattle.pfs_c.specs.Judgements.{shop_of, shop_refusal, makespan_refusal, table_refusal, insert_refusal};
 ghost use Rattle.pfs_c.specs.Judgements.{generate_refusal, seed_refusal};
-ghost use Rattle.pfs_c.specs.Numbers.{Answers, Judges, Refuses};
-ghost use Rattle.pfs_c.specs.Tables.{AreEnds, entry};
+ghost use Rattle.pfs_c.specs.Numbers.{Answers};
+ghost use Rattle.pfs_c.specs.Private.Refusing.{Judges, Refuses};
+ghost use Rattle.pfs_c.specs.Tables.{EndAfterTimes, table_entry};
 
 use crate::given::{
     NO_NOTES, instance_of, judge_job, judge_jobs, judge_length, judge_shop, judge_sizes,
@@ -116,8 +117,8 @@ pub extern "C" fn pfs_table(
     ensures number { Answers result
         (table_refusal times.now jobs machines order.now (length starts.old) (length ends.old)) }
     ensures starts { result ≡ PFS_OK →
-        IsLeastSchedule (shop_of times.now jobs machines) order.now (entry machines starts.new) }
-    ensures ends { result ≡ PFS_OK → AreEnds (shop_of times.now jobs machines) order.now starts.new ends.new }
+        IsLeastSchedule (shop_of times.now jobs machines) order.now (table_entry machines starts.new) }
+    ensures ends { result ≡ PFS_OK → EndAfterTimes (shop_of times.now jobs machines) order.now starts.new ends.new }
     ensures kept_starts { result ≢ PFS_OK → starts.new ≡ starts.old }
     ensures kept_ends { result ≢ PFS_OK → ends.new ≡ ends.old }
 {
@@ -153,9 +154,9 @@ fn table_of(
     ensures starts { IfOk result (λ table. length table.starts ≡ starts) }
     ensures ends { IfOk result (λ table. length table.ends ≡ ends) }
     ensures least { IfOk result (λ table.
-        IsLeastSchedule (shop_of times.now jobs machines) order.now (entry machines table.starts)) }
+        IsLeastSchedule (shop_of times.now jobs machines) order.now (table_entry machines table.starts)) }
     ensures timed { IfOk result (λ table.
-        AreEnds (shop_of times.now jobs machines) order.now table.starts table.ends) }
+        EndAfterTimes (shop_of times.now jobs machines) order.now table.starts table.ends) }
 {
     judge_sizes(jobs, machines)?;
     judge_length(times.len(), jobs * machines)?;

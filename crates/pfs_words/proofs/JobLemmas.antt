@@ -18,9 +18,9 @@ use Rattle.clap.specs.declared.builder.value_parser.ValueParser.TheVariants as p
 use Rattle.clap.specs.declared.parser.matches.ArgMatches.{ArgMatches}
 use Rattle.clap.proofs.WalkLemmas.{both, list_any-map}
 use Rattle.pfs_words.specs.Commands.{AreLayoutNames, Names, form_of, layout_rule}
-use Rattle.pfs_words.specs.Jobs.{IsFaultlessLine, AsksFor, AsksForJob, AsksForNothing, SaysMaybeNumber, number_of}
+use Rattle.pfs_words.specs.Jobs.{IsFaultlessLine, AsksFor, AsksForJob, AsksForNothing, SaysMaybeNumber, number_said}
 use Rattle.pfs_words.specs.Jobs.{takes_line}
-use Rattle.pfs_words.specs.Private.Parses.{HasLayout, HasNumber, HasText, IsParseOf, MayHaveNumber}
+use Rattle.pfs_words.specs.Private.Parses.{HasLayout, HasNumber, HasTextAt, IsParseOf, MayHaveNumber}
 use Rattle.pfs_words.specs.declared.job.Job.{Job}
 use Rattle.pfs_layout.specs.declared.layout.Layout.TheVariants.{Taillard, OrLib}
 use Rattle.pfs_words.proofs.FormLemmas.{asks_value, form_has_value, form_passes, has_place}
@@ -78,7 +78,7 @@ any_unsigned : (least most : ℕ) (t : Text) → IsUnsignedIn least most t → I
 any_unsigned least most t passed = let fits = passed.1 in (passed.0, fits, omega arith, omega arith)
 
 within_range : (least most : ℕ) (said : Option Text) → ((t : Text) → said ≡ Some t → IsUnsignedIn least most t)
-    → IfSome (option_map number_of said) (λ n. (least ≤ n) × (n ≤ most))
+    → IfSome (option_map number_said said) (λ n. (least ≤ n) × (n ≤ most))
 within_range least most None passes = tt
 within_range least most (Some t) passes = let passed = passes t refl in (passed.2, passed.3)
 
@@ -86,7 +86,7 @@ within_range least most (Some t) passes = let passed = passes t refl in (passed.
 module _ {command : Command} {form : App} {words : List Text} {m : ArgMatches} (parse : IsParseOf command words m)
     (is : app_of command ≡ form) where
   pub text_given : (k : ℕ) (r : Rule) → slice_get form.top.rules k ≡ Some r → has_place form k r ≡ true
-      → asks_value r ≡ true → HasText m r.id
+      → asks_value r ≡ true → HasTextAt m r.id
   text_given k r = form_has_value command m form k r is parse.facts
 
   pub layout_given : (k : ℕ) (id : Text) (names : Names) → AreLayoutNames names

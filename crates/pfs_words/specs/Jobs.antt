@@ -19,19 +19,19 @@ layout_name Taillard = codes "taillard"
 layout_name OrLib = codes "orlib"
 
 -- the number that a text of digits writes, where a plus may stand first
-abbrev pub number_of : Text → ℕ
-number_of text = digits_value 10 (without_leading_plus text)
+abbrev pub number_said : Text → ℕ
+number_said text = digits_value 10 (without_leading_plus text)
 
 -- the first value that matches have under an id names this layout, writes this number, is this text
 abbrev pub SaysLayout : List Row → Text → Layout → Type 0
 SaysLayout rows id layout = first_of id rows ≡ Some (layout_name layout)
 
 abbrev pub SaysNumber : List Row → Text → ℕ → Type 0
-SaysNumber rows id number = option_map number_of (first_of id rows) ≡ Some number
+SaysNumber rows id number = option_map number_said (first_of id rows) ≡ Some number
 
 -- the same number, or none on either side
 abbrev pub SaysMaybeNumber : List Row → Text → Option ℕ → Type 0
-SaysMaybeNumber rows id number = option_map number_of (first_of id rows) ≡ number
+SaysMaybeNumber rows id number = option_map number_said (first_of id rows) ≡ number
 
 -- a flag that was used has the value `true`
 abbrev pub SaysFlag : List Row → Text → Bool → Type 0

@@ -5,8 +5,8 @@ ghost use Rattle.pfs_base.specs.Limits.{limits};
 ghost use Rattle.pfs_layout.specs.File.{IsInstanceFile};
 ghost use Rattle.pfs_layout.specs.Refuse.{RefusesInstance};
 ghost use Rattle.pfs_layout.specs.declared.fault.LayoutFault.{LayoutFault};
-ghost use Rattle.pfs_c.specs.Numbers.{number_of};
-ghost use Rattle.pfs_c.specs.Texts.{file_refusal, file_place, problem_of};
+ghost use Rattle.pfs_c.specs.Numbers.{refusal_number};
+ghost use Rattle.pfs_c.specs.Texts.{file_refusal, file_place, given_problem};
 ghost use Rattle.pfs_c.specs.Texts.{HoldsProblem, HasFault, WantsMemory, AnswersRead};
 
 use crate::numbers::{PFS_NO_BLOCK, PFS_OK, PFS_ROOM, Refusal};
@@ -37,14 +37,14 @@ pub extern "C" fn pfs_read(
 ) -> i32
     ensures number { AnswersRead result bytes.now layout block (length times.old) }
     ensures done { result ≡ PFS_OK → HoldsProblem bytes.now layout block
-        (problem_of jobs.new machines.new notes.new (take (jobs.new * machines.new) times.new)) }
+        (given_problem jobs.new machines.new notes.new (take (jobs.new * machines.new) times.new)) }
     ensures behind { result ≡ PFS_OK
         → drop (jobs.new * machines.new) times.new ≡ drop (jobs.new * machines.new) times.old }
     ensures room { result ≡ PFS_ROOM → length times.old < jobs.new * machines.new }
     ensures told { result ≡ PFS_ROOM → (all : List ℕ)
-        × HoldsProblem bytes.now layout block (problem_of jobs.new machines.new notes.new all) }
+        × HoldsProblem bytes.now layout block (given_problem jobs.new machines.new notes.new all) }
     ensures fault { PFS_NO_BLOCK ≤ℤ result → (fault : LayoutFault) × (HasFault bytes.now layout block fault
-        × (result ≡ number_of (file_refusal fault)) × (place.new ≡ file_place fault)) }
+        × (result ≡ refusal_number (file_refusal fault)) × (place.new ≡ file_place fault)) }
     ensures times_kept { result ≢ PFS_OK → times.new ≡ times.old }
     ensures sizes_kept { result ≢ PFS_OK → result ≢ PFS_ROOM
         → (jobs.new ≡ jobs.old) × (machines.new ≡ machines.old) × (notes.new ≡ notes.old) }

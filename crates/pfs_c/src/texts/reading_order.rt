@@ -2,7 +2,7 @@
 ghost use Rattle.std.specs.Prelude.{◌≡◌, ◌≢◌, ℕ, ◌<◌, ◌≤◌, ◌<ℤ◌, ◌≤ℤ◌, List, length, take, drop, IfOk, IfErr};
 ghost use Rattle.pfs_order.specs.OrderFile.{IsText, IsOrderFile, RefusesOrder};
 ghost use Rattle.pfs_order.specs.declared.fault.OrderFault.{OrderFault};
-ghost use Rattle.pfs_c.specs.Numbers.{number_of};
+ghost use Rattle.pfs_c.specs.Numbers.{refusal_number};
 ghost use Rattle.pfs_c.specs.Texts.{order_refusal, order_place, order_file_of};
 ghost use Rattle.pfs_c.specs.Texts.{AnswersReadOrder};
 
@@ -38,7 +38,7 @@ pub extern "C" fn pfs_read_order(
     ensures told { result ≡ PFS_ROOM → (all : List ℕ) × ((length all ≡ jobs.new)
         × IsOrderFile bytes.now (order_file_of all machines.new makespan.new)) }
     ensures fault { PFS_SYNTAX ≤ℤ result → (fault : OrderFault) × (RefusesOrder bytes.now fault
-        × (result ≡ number_of (order_refusal fault)) × (place.new ≡ order_place fault)) }
+        × (result ≡ refusal_number (order_refusal fault)) × (place.new ≡ order_place fault)) }
     ensures order_kept { result ≢ PFS_OK → order.new ≡ order.old }
     ensures sizes_kept { result ≢ PFS_OK → result ≢ PFS_ROOM
         → (jobs.new ≡ jobs.old) × (machines.new ≡ machines.old) × (makespan.new ≡ makespan.old) }

@@ -1,7 +1,7 @@
 //! Writing instance files into memory.
 ghost use Rattle.std.specs.Prelude.{◌≡◌, ◌≢◌, length, IfOk};
-ghost use Rattle.pfs_c.specs.Numbers.{Refuses};
-ghost use Rattle.pfs_c.specs.Texts.{write_refusal, problem_of, text_in, put_in_front, AnswersWrite};
+ghost use Rattle.pfs_c.specs.Private.Refusing.{Refuses};
+ghost use Rattle.pfs_c.specs.Texts.{write_refusal, given_problem, text_in, put_in_front, AnswersWrite};
 
 use crate::given::{instance_of, judge_shop};
 use crate::numbers::{PFS_OK, PFS_ROOM, Refusal};
@@ -27,12 +27,12 @@ pub extern "C" fn pfs_write(
     len: &mut usize,
 ) -> i32
     ensures number { AnswersWrite result (write_refusal times.now jobs machines layout) (length text.old)
-        (length (text_in layout (problem_of jobs machines notes.now times.now))) }
+        (length (text_in layout (given_problem jobs machines notes.now times.now))) }
     ensures done { result ≡ PFS_OK
-        → text.new ≡ put_in_front (text_in layout (problem_of jobs machines notes.now times.now)) text.old }
-    ensures told { result ≡ PFS_OK → len.new ≡ length (text_in layout (problem_of jobs machines notes.now times.now)) }
+        → text.new ≡ put_in_front (text_in layout (given_problem jobs machines notes.now times.now)) text.old }
+    ensures told { result ≡ PFS_OK → len.new ≡ length (text_in layout (given_problem jobs machines notes.now times.now)) }
     ensures wanted { result ≡ PFS_ROOM
-        → len.new ≡ length (text_in layout (problem_of jobs machines notes.now times.now)) }
+        → len.new ≡ length (text_in layout (given_problem jobs machines notes.now times.now)) }
     ensures text_kept { result ≢ PFS_OK → text.new ≡ text.old }
     ensures len_kept { result ≢ PFS_OK → result ≢ PFS_ROOM → len.new ≡ len.old }
 {
@@ -52,7 +52,7 @@ fn file_of(
     layout: u32,
 ) -> Result<Vec<u8>, Refusal>
     ensures refused { Refuses result (write_refusal times.now jobs machines layout) }
-    ensures text { IfOk result (λ file. file.items ≡ text_in layout (problem_of jobs machines notes.now times.now)) }
+    ensures text { IfOk result (λ file. file.items ≡ text_in layout (given_problem jobs machines notes.now times.now)) }
 {
     judge_shop(times, jobs, machines)?;
     let named = layout_of(layout).ok_or(Refusal::Layout)?;

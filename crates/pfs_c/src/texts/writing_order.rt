@@ -1,7 +1,7 @@
 //! Writing order files into memory.
 ghost use Rattle.std.specs.Prelude.{◌≡◌, ◌≢◌, length, IfOk};
 ghost use Rattle.pfs_order.specs.OrderText.{file_text};
-ghost use Rattle.pfs_c.specs.Numbers.{Refuses};
+ghost use Rattle.pfs_c.specs.Private.Refusing.{Refuses};
 ghost use Rattle.pfs_c.specs.Texts.{write_order_refusal, machines_stated, put_in_front, AnswersWrite};
 
 use crate::given::{judge_jobs, order_of};

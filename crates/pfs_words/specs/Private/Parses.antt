@@ -17,8 +17,8 @@ pub record IsParseOf (command : Command) (words : List Text) (matches : ArgMatch
   pub faultless : is_simple_and_free (app_of command) ≡ true → fault_of (app_of command) words ≡ []
 
 -- a text, a layout, or a number of 64 bits stands under the id
-abbrev pub HasText : ArgMatches → Text → Type 0
-HasText matches id = (text : Text) × SaysText (rows_of (found_of matches)) id text
+abbrev pub HasTextAt : ArgMatches → Text → Type 0
+HasTextAt matches id = (text : Text) × SaysText (rows_of (found_of matches)) id text
 
 abbrev pub HasLayout : ArgMatches → Text → Type 0
 HasLayout matches id = (layout : Layout) × SaysLayout (rows_of (found_of matches)) id layout

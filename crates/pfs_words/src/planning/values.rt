@@ -2,7 +2,7 @@
 ghost use Rattle.std.specs.Prelude.{◌≡◌, [], IfOk, false, true, map, option_map, string_bytes};
 ghost use Rattle.clap.specs.Words.{app_of, fault_of, first_of, found_of, is_simple_and_free, rows_of, takes};
 ghost use Rattle.pfs_words.specs.Jobs.{SaysFlag, SaysLayout, SaysMaybeNumber, SaysNumber, SaysText};
-ghost use Rattle.pfs_words.specs.Private.Parses.{HasLayout, HasNumber, HasText, IsParseOf, MayHaveNumber};
+ghost use Rattle.pfs_words.specs.Private.Parses.{HasLayout, HasNumber, HasTextAt, IsParseOf, MayHaveNumber};
 
 use super::{ORLIB, TAILLARD};
 use crate::job::PathText;
@@ -34,7 +34,7 @@ fn text_if<'a>(matches: &ArgMatches<'a>, id: &str) -> Option<&'a str>
 }
 
 fn text_in<'a>(matches: &ArgMatches<'a>, id: &str) -> &'a str
-    requires { HasText matches.now id.now }
+    requires { HasTextAt matches.now id.now }
     ensures { SaysText (rows_of (found_of matches.now)) id.now result.now }
 {
     text_if(matches, id).unwrap()
@@ -84,7 +84,7 @@ pub(super) fn path_in(
     matches: &ArgMatches<'_>,
     id: &str,
 ) -> Result<PathText, AllocError>
-    requires { HasText matches.now id.now }
+    requires { HasTextAt matches.now id.now }
     ensures { IfOk result (λ path. SaysText (rows_of (found_of matches.now)) id.now path) }
 {
     PathText::new(alloc, text_in(matches, id))
