@@ -1,8 +1,6 @@
 //! Writing instance files.
-ghost use Rattle.std.specs.Prelude.{◌≡◌, ℕ, ◌+◌, ◌<◌, ◌≤◌, ◌^◌, false, true, length, take, slice_index, IfErr, OnOk};
-ghost use Rattle.std.specs.Prelude.{OnErr};
-ghost use Rattle.std.specs.Io.KnownBytes.{Appends};
-ghost use Rattle.pfs_base.specs.Sends.{Sends};
+ghost use Rattle.std.specs.Prelude.{◌≡◌, ℕ, ◌+◌, ◌<◌, ◌^◌, false, length, slice_index};
+ghost use Rattle.pfs_base.specs.Sends.{Prints, Sends};
 ghost use Rattle.pfs_layout.specs.Block.{due_row, row_count};
 ghost use Rattle.pfs_layout.specs.CanonicalText.{head_lines, row_line, row_lines, canonical_text};
 
@@ -19,13 +17,8 @@ pub fn write_block<W: Sink>(
     layout: Layout,
 ) -> Result<(), WriteFault>
     requires working { W.has_failed writer.old ≡ false }
-    ensures text { OnOk result
-        (Appends (W.written writer.old) (W.written writer.new) (canonical_text layout instance.now)) }
-    ensures working { OnOk result (W.has_failed writer.new ≡ false) }
-    ensures failed { OnErr result (W.has_failed writer.new ≡ true) }
-    ensures within { IfErr result (λ fault. fault.written ≤ length (canonical_text layout instance.now)) }
-    ensures front { IfErr result (λ fault. Appends (W.written writer.old) (W.written writer.new)
-        (take fault.written (canonical_text layout instance.now))) }
+    ensures { Prints (W.written writer.old) (W.written writer.new) (W.has_failed writer.new)
+        (canonical_text layout instance.now) result }
 {
     let jobs = instance.jobs();
     let machines = instance.machines();

@@ -1,6 +1,5 @@
 use Rattle.pfs_layout.proofs.Words.{rules, arith, then_front, front_of, canonical_text, row_lines, Size}
 use Rattle.pfs_base.proofs.Published.SendsLemmas.{then_all}
-use Rattle.pfs_base.proofs.Published.SendsOn.{front_of_whole}
 use Rattle.pfs_layout.proofs.Texts.CanonicalFile.{length-head_lines, length-row_lines}
 use Rattle.pfs_layout.proofs.writing.write_block.Goals as goal
 
@@ -24,22 +23,19 @@ unfolding canonical_text
 returns-in_err-sent g c =
     let head = rw (c.jobs-jobs.ensures.value, c.machines-machines.ensures.value, c.notes-notes.ensures) at
     c.in_err-sent.ensures in
-    let front = front_of (row_lines c.args.layout c.args.instance.now.shop) head in
-    let whole = front_of_whole _ _ _ _ _ front in
-    search rules
+    let front = front_of (row_lines c.args.layout c.args.instance.now.shop) head in search rules
 
 pub returns-in_err-put_rows : goal.returns-in_err-put_rows
 unfolding canonical_text
 returns-in_err-put_rows g c =
     let head = rw (c.jobs-jobs.ensures.value, c.machines-machines.ensures.value, c.notes-notes.ensures) at
     c.in_ok-sent.ensures in
-    let front = then_front head c.in_err-put_rows.ensures in
-    let whole = front_of_whole _ _ _ _ _ front in
-    search rules
+    let front = then_front head c.in_err-put_rows.ensures in search rules
 
-pub returns-clause-text : goal.returns-clause-text
+pub returns : goal.returns
 unfolding canonical_text
-returns-clause-text g c =
+returns g c =
     let head = rw (c.jobs-jobs.ensures.value, c.machines-machines.ensures.value, c.notes-notes.ensures) at
     c.in_ok-sent.ensures in
-    (then_all head c.in_ok-put_rows.ensures).bytes
+    let whole = then_all head c.in_ok-put_rows.ensures in
+    (whole.working, whole.bytes)
