@@ -44,7 +44,7 @@ pub record AreBlocks (limits : Limits) (layout : Layout) (k : ℕ) (problem : Pr
   pub each : AllByRecursion (IsSomeBlock limits layout) earlier
   pub is_own : IsBlock limits layout problem own
 
--- a front of the input, whose last line ends with byte 10 or with the input
+-- a front of the input within its limit, whose last line ends with byte 10 or with the input
 pub record Front (limits : Limits) (input : List ℕ) : Type 0 where
   pub text : List ℕ
   pub rest : List ℕ

@@ -171,17 +171,12 @@ due_number layout size numbers k all h =
     let placed = AllPass-from_list_all test (enumerate_from 0 numbers) all k (0, 0) in
     grind (arith, placed, length-enumerate_from {X = ℕ}, get_or-enumerate_from {X = ℕ})
 
-pub length-due_instance : (layout : Layout) (block : Block)
-    → length (due layout (instance_of layout block).shop) ≡ due_count layout block.size
-unfolding instance_of
-length-due_instance layout block = length-due layout (instance_of layout block)
-
 -- a complete block's numbers are those that are due for its problem
 pub due_instance : (layout : Layout) (block : Block) → are_due layout block.size block.numbers ≡ true
     → length block.numbers ≡ due_count layout block.size → due layout (instance_of layout block).shop ≡ block.numbers
 unfolding instance_of
 due_instance layout block all full =
-    let count = length-due_instance layout block in
+    let count = length-due layout (instance_of layout block) in
     same_number_lists (due layout (instance_of layout block).shop) block.numbers (count ∙ sym full) (λ k h.
     elim (place_is layout (instance_of layout block) k (omega (arith, count))) [
       | a_time job machine j m place ↦
@@ -238,8 +233,10 @@ filled layout size numbers = numbers ++ drop (length numbers) (idle_due layout s
 
 module _ (layout : Layout) (size : Size) (numbers : List ℕ) (all : are_due layout size numbers ≡ true) where
   length-filled : length (filled layout size numbers) ≡ due_count layout size
+  unfolding instance_of
   length-filled =
-      simp (length-append, length-drop, length-due_instance) (omega (arith, no_more_than_due layout size numbers all))
+      let idle = length-due layout (instance_of layout (begun size)) in
+      simp (length-append, length-drop) (omega (arith, no_more_than_due layout size numbers all))
 
   filled_passes : are_due layout size (filled layout size numbers) ≡ true
   unfolding instance_of
@@ -247,7 +244,7 @@ module _ (layout : Layout) (size : Size) (numbers : List ℕ) (all : are_due lay
       let none_long = all_table (λ job machine. 0) size.jobs size.machines (λ time. time ≤ LONGEST_TIME)
       (λ job machine j m. omega arith) in
       let idle_passes = due_passes layout (instance_of layout (begun size)) none_long in
-      grind (arith, elements, length-filled, length-due_instance layout (begun size), due_number))
+      grind (arith, elements, length-filled, length-due layout (instance_of layout (begun size)), due_number))
 
   begin_due : BeginDue layout size numbers
   unfolding instance_of

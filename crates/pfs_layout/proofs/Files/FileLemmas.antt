@@ -246,13 +246,8 @@ file_completes layout input k problem f =
     let count = length_push lead.before own in
     let seeks : Seeks layout input k =
     record { front = f.front; complete = rw stands (omega (arith, lead.as_many, blocks.count)); now = rw stands } in
-    record {
-      seeks = seeks;
-      earlier = lead.before;
-      own = own;
-      parts = rw stands;
-      is = sym (instance_due layout problem blocks.is_own.within.within.every_time);
-    }
+    let is = sym (instance_due layout problem blocks.is_own.within.within.every_time) in
+    record { seeks = seeks; earlier = lead.before; own = own; parts = rw stands; is = is }
 
 -- ---- and back
 

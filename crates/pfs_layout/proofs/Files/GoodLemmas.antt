@@ -116,16 +116,12 @@ pub ended_none : ended_numbers [] ≡ []
 unfolding ended_numbers ended_parts
 ended_none = refl
 
-none_due : (layout : Layout) (size : Size) → are_due layout size [] ≡ true
-unfolding are_due
-none_due layout size = refl
-
 -- a line's end leaves it good exactly where it has no fault
 pub good_end : (layout : Layout) (complete : List Block) (now : Now) (text : List ℕ)
     → is_good layout (after_line layout complete now (open_line text)).now []
     ≡ (is_good layout now (open_line text) && is_none (fault_within_limit layout now text 10))
-unfolding wrong_size
-good_end layout complete seeking text = let none = ended_none in grind (arith, nat_tests, none_due)
+unfolding wrong_size are_due
+good_end layout complete seeking text = let none = ended_none in grind (arith, nat_tests)
 good_end layout complete (inside block) text =
     let numbers = due_line layout block text in
     let none = ended_none in

@@ -94,14 +94,14 @@ module _ (line : List ℕ) (c : ℕ) (rest : List ℕ) (none : IsOpen line) (end
       let s = split_some is_line_end rest in rw (slice_split_at is_line_end line c rest none ends, s.is)
 
 -- a front of a text that is some of its lines
-pub record Front (text : List ℕ) (some : List (List ℕ)) : Type 0 where
+pub record LinesFront (text : List ℕ) (some : List (List ℕ)) : Type 0 where
   pub front : List ℕ
   pub rest : List ℕ
   pub whole : text ≡ front ++ rest
   pub are : lines front ≡ some
   pub ended : (open_line front ≡ []) ⊎ (rest ≡ [])
 
-pub front_of_lines : (text : List ℕ) (some more : List (List ℕ)) → lines text ≡ some ++ more → Front text some
+pub front_of_lines : (text : List ℕ) (some more : List (List ℕ)) → lines text ≡ some ++ more → LinesFront text some
 unfolding lines ended_parts open_part
 front_of_lines text [] more e = record { front = []; rest = text; whole = refl; are = refl; ended = inl refl }
 front_of_lines text (line ∷ some) more e =

@@ -129,10 +129,6 @@ module _ (layout : Layout) (k : ℕ) where
 
   -- ---- without a fault there is a file
 
-  -- some problem whose file it is
-  abbrev pub Holds : List ℕ → Type 0
-  Holds input = (problem : Problem) × Completes layout input k problem
-
   -- behind the line by which k blocks are complete the next is sought
   sought : (text : List ℕ) (reached : Stand) → Few layout k text
       → reached ≡ stand_after layout (stand_of layout text) (open_line text) → k ≤ length reached.complete
@@ -174,14 +170,14 @@ module _ (layout : Layout) (k : ℕ) where
               let same = lines_ended all ended in
               let short = sound_more layout k input b right few in
               let is = sought input (stand_of layout all) few (stand_of-end layout input b ends) enough in
-              let s : Seeks layout all k =
-              record { front = all_of all short; complete = rw same is.0; now = rw same is.1 } in
-              let held = seeks_completes layout all k some s in
+              let held = seeks_completes layout all k some
+              (record { front = all_of all short; complete = rw same is.0; now = rw same is.1 }) in
               (held.0, (held.1, rw held.2 ended))
         ]
       ])
 
-  pub unrefused_holds : 1 ≤ k → (input : List ℕ) → refusal layout input k ≡ None → Holds input
+  pub unrefused_holds : 1 ≤ k → (input : List ℕ) → refusal layout input k ≡ None
+      → (problem : Problem) × Completes layout input k problem
   unrefused_holds some input e =
       let rights = or_none (byte_fault layout k input) (fault_of_place layout k input None) (rw refusal_end at e) in
       elim (cases_lt (length (stand_of layout input).complete) k) [
@@ -191,9 +187,8 @@ module _ (layout : Layout) (k : ℕ) where
             let end = end_is input rights.0 few in
             let reached = sought input (stand layout (lines input)) few (stand_lines layout input is.1)
             (grind (arith, nat_tests)) in
-            let s : Seeks layout input k =
-            record { front = all_of input is.0; complete = reached.0; now = reached.1 } in
-            let held = seeks_completes layout input k some s in
+            let held = seeks_completes layout input k some
+            (record { front = all_of input is.0; complete = reached.0; now = reached.1 }) in
             (held.0, held.1)
       ]
 

@@ -139,7 +139,8 @@ number_line ns some fit =
 more_lines : (line text : List ℕ) {parts : List (List ℕ)} → list_any is_line_end line ≡ false → lines text ≡ parts
     → lines (with_line_end line ++ text) ≡ line ∷ parts
 more_lines line text none are =
-    let unended : IsOpen line = λ k d h. false_from_ne_true _ (λ ends. cc (none, list_any_at is_line_end line k d h ends)) in
+    let unended : IsOpen line = λ k d h.
+    false_from_ne_true _ (λ ends. cc (none, list_any_at is_line_end line k d h ends)) in
     rw (append_assoc line (10 ∷ []) text, lines-line line 10 text unended refl, are)
 
 abbrev row_text : Layout → FlowShop → ℕ → List ℕ

@@ -1,7 +1,7 @@
 -- The rows of a body, number by number and line by line.
 use Rattle.pfs_layout.proofs.Words.{◌∙◌, slice_index, if◌then◌else◌, inl, inr, ◌%◌, ◌/◌, ◌==◌, ◌≡◌, ℕ, ◌+◌, ◌*◌, ◌<◌}
-use Rattle.pfs_layout.proofs.Words.{List, [], ◌∷◌, length, ◌++◌, take, flat_map, refl, add-one, arith, take_all, cases_eq}
-use Rattle.pfs_layout.proofs.Words.{get_or-map-range_with_len, FlowShop, time_of, below, spaced, flat_map_more}
+use Rattle.pfs_layout.proofs.Words.{List, [], ◌∷◌, length, ◌++◌, take, flat_map, refl, add-one, arith, take_all, below}
+use Rattle.pfs_layout.proofs.Words.{cases_eq, get_or-map-range_with_len, FlowShop, time_of, spaced, flat_map_more}
 use Rattle.pfs_layout.proofs.Words.{flat_map_from, Layout, Taillard, OrLib, due_row, row_count, row_line, row_lines}
 use Rattle.pfs_base.specs.Text.{entry}
 use Rattle.pfs_base.proofs.Published.Printing.{line_on}
