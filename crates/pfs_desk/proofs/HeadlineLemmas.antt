@@ -19,16 +19,16 @@ use Rattle.pfs_desk.specs.Engine.{SolveOutput}
 use Rattle.pfs_desk.specs.Headline.{PrintsSolution, ReadsOn, RunsOn, Solves}
 use Rattle.pfs_desk.specs.Solve.{take_for}
 
-abbrev refusal : LayoutFault → Result Outcome DeskFault
-refusal fault = Err (faults.Layout fault)
+abbrev refusing : LayoutFault → Result Outcome DeskFault
+refusing fault = Err (faults.Layout fault)
 
 module _ (layout : Layout) (file : List ℕ) (block : ℕ) (some : 1 ≤ block) (options : SolveOptions)
     (old new : Option (List ℕ)) (reader_failed writer_failed : Bool) where
   abbrev Is : Problem → Type 0
   Is problem = IsInstanceFile limits layout file block problem
 
-  abbrev Answers : Result Outcome DeskFault → Type 0
-  Answers result = Solves layout file block options old new reader_failed writer_failed result
+  abbrev IsAnswer : Result Outcome DeskFault → Type 0
+  IsAnswer result = Solves layout file block options old new reader_failed writer_failed result
 
   -- a block of a file holds one problem
   one_problem : (problem other : Problem) → Is problem → Is other → problem ≡ other
@@ -53,7 +53,7 @@ module _ (layout : Layout) (file : List ℕ) (block : ℕ) (some : 1 ≤ block) 
   -- the file holds a problem with as many jobs as are to be taken out
   held : {result : Result Outcome DeskFault} (problem : Problem) → Is problem
       → take_for options.take problem.shop.jobs ≤ problem.shop.jobs
-      → (RunsOn reader_failed writer_failed result → PrintsSolution problem options old new result) → Answers result
+      → (RunsOn reader_failed writer_failed result → PrintsSolution problem options old new result) → IsAnswer result
   held {result} problem holds within prints = record {
     accepted = λ other holds_other few runs. subst (λ p. PrintsSolution p options old new result)
         (one_problem problem other holds holds_other) (prints runs);
@@ -65,14 +65,14 @@ module _ (layout : Layout) (file : List ℕ) (block : ℕ) (some : 1 ≤ block) 
   -- the file is refused
   refused_file : (fault : LayoutFault) → WritesNothing old new writer_failed
       → (fault ≢ layout_faults.Read → fault ≢ layout_faults.Memory → RefusesInstance layout file block fault)
-      → (refusal fault ≡ refusal layout_faults.Read → reader_failed ≡ true) → Answers (refusal fault)
+      → (refusing fault ≡ refusing layout_faults.Read → reader_failed ≡ true) → IsAnswer (refusing fault)
   refused_file fault nothing refuses failed =
-      let told : ReadsOn reader_failed (refusal fault) → RefusesInstance layout file block fault = λ reads. refuses
-      (λ e. true≢false (sym (failed (ap refusal e)) ∙ reads.reading)) (λ e. reads.room (ap refusal e)) in
+      let told : ReadsOn reader_failed (refusing fault) → RefusesInstance layout file block fault = λ reads. refuses
+      (λ e. true≢false (sym (failed (ap refusing e)) ∙ reads.reading)) (λ e. reads.room (ap refusing e)) in
       record {
         accepted = λ problem holds few runs. absurd (not_both problem fault holds (told runs.reads));
         refused = λ other refuses_other reads. record {
-          told = ap refusal (one_fault layout file block fault other (told reads) refuses_other);
+          told = ap refusing (one_fault layout file block fault other (told reads) refuses_other);
           kept = nothing.kept;
         };
         too_many = λ problem asked holds is above reads. absurd (not_both problem fault holds (told reads));
@@ -81,8 +81,8 @@ module _ (layout : Layout) (file : List ℕ) (block : ℕ) (some : 1 ≤ block) 
   answers : (result : Result Outcome DeskFault)
       → WritesOutput (SolveOutput layout (Some file) block options) old new writer_failed result
       → IfErr result (JudgesFirst layout (Some file) block)
-      → (result ≡ refusal layout_faults.Read → reader_failed ≡ true)
-      → IfErr result RefusesNoOrder → IfErr result (JudgesTake layout (Some file) block options.take) → Answers result
+      → (result ≡ refusing layout_faults.Read → reader_failed ≡ true)
+      → IfErr result RefusesNoOrder → IfErr result (JudgesTake layout (Some file) block options.take) → IsAnswer result
   answers (Ok outcome) writes first read no_order take =
       let output = writes.is_output in
       let solution = output.solution in

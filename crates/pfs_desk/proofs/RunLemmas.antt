@@ -15,18 +15,18 @@ use Rattle.pfs_desk.specs.Engine.{GenerateOutput}
 use Rattle.pfs_desk.specs.Program.{CannotOpen, Writing, StopsAtOpening, RunsAlone, RunsAudit, RunsConvert}
 use Rattle.pfs_desk.specs.Program.{RunsGenerate, RunsJob, RunsSolve, RunsValue, WithFile, WithFiles, ending, writing_of}
 use Rattle.pfs_desk.specs.Standing.{Standing}
-use Rattle.pfs_desk.specs.WholeProgram.{AsksForJob}
+use Rattle.pfs_desk.specs.WholeProgram.{WordsAskFor}
 
 pub asks_for : {A : Type 0} (f : A → List ℕ) (words : List A) (asked : Job)
     → (words ≡ [] → asked ≡ job.Value Taillard 1 None)
     → ((word : List ℕ) (others : List (List ℕ)) → map f words ≡ word ∷ others → AsksFor word others asked)
-    → AsksForJob (map f words) asked
+    → WordsAskFor (map f words) asked
 asks_for f [] asked none some = none refl
 asks_for f (x ∷ xs) asked none some = some (f x) (map f xs) refl
 
 -- a file that is read by an engine
-abbrev Reading : Type 1
-Reading = Option (List ℕ) → Option (List ℕ) → Bool → Result Outcome DeskFault → Type 0
+abbrev ReadingOne : Type 1
+ReadingOne = Option (List ℕ) → Option (List ℕ) → Bool → Result Outcome DeskFault → Type 0
 
 abbrev ReadingTwo : Type 1
 ReadingTwo = Option (List ℕ) → Option (List ℕ) → Bool → Option (List ℕ) → Option (List ℕ) → Bool
@@ -45,7 +45,7 @@ module _ (result : Result Outcome Stop) (U U' : Type 0) (V V' : Writing)
     nothing = stop (standing path) p.closed p.nothing;
   }
 
-  file-map : (path : List ℕ) (runs runs' : Reading)
+  file-map : (path : List ℕ) (runs runs' : ReadingOne)
       → ((file left : Option (List ℕ)) (failed : Bool) (answer : Result Outcome DeskFault) → result ≡ ending answer
       → runs file left failed answer → runs' file left failed answer)
       → WithFile standing asked asked' path U runs result → WithFile standing asked asked' path U' runs' result
@@ -189,7 +189,7 @@ module _ (result : Result Outcome Stop) (U : Type 0) (V : Writing) (P : Type 0)
     (write : (output : Outcome → List ℕ → Type 0) (answer : Result Outcome DeskFault) → result ≡ ending answer
     → V output answer → P)
     (standing : List ℕ → Standing) (asked asked' : Option (List (List ℕ))) where
-  file-shows : (path : List ℕ) (runs : Reading)
+  file-shows : (path : List ℕ) (runs : ReadingOne)
       → ((file left : Option (List ℕ)) (failed : Bool) (answer : Result Outcome DeskFault) → result ≡ ending answer
       → runs file left failed answer → P)
       → WithFile standing asked asked' path U runs result → P

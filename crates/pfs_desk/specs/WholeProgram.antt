@@ -15,9 +15,9 @@ use Rattle.pfs_desk.specs.ProgramText.{Tells, exit_status_of}
 use Rattle.pfs_desk.specs.Standing.{Standing}
 
 -- the words ask for this job; without words it is the value of standard input
-abbrev pub AsksForJob : List (List ℕ) → Job → Type 0
-AsksForJob [] job = job ≡ Value Taillard 1 None
-AsksForJob (word ∷ others) job = AsksFor word others job
+abbrev pub WordsAskFor : List (List ℕ) → Job → Type 0
+WordsAskFor [] job = job ≡ Value Taillard 1 None
+WordsAskFor (word ∷ others) job = AsksFor word others job
 
 -- the words ask for nothing, or memory was refused before that was known
 abbrev pub RefusesWords : List (List ℕ) → Result Outcome Stop → Type 0
@@ -69,7 +69,7 @@ pub record RunsFor (words : List (List ℕ)) (standing : List ℕ → Standing) 
     (ended : Result Outcome Stop) : Type 0 where
   pub job : Job
   pub reached : Result Outcome Stop
-  pub asks : AsksForJob words job
+  pub asks : WordsAskFor words job
   pub runs : RunsJob job standing asked asked' input input' failed ((ended ≡ reached) × (fresh → out ≡ Some []))
       (printing_on fresh out ended) reached
 

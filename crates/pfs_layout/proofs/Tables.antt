@@ -38,16 +38,16 @@ abbrev pub table : (ℕ → ℕ → ℕ) → ℕ → ℕ → List ℕ
 table f rows width = flat_map (λ row. map (λ column. f row column) (below width)) (below rows)
 
 module _ (f : ℕ → ℕ → ℕ) (rows width : ℕ) where
-  abbrev row_of : ℕ → List ℕ
-  row_of row = map (λ column. f row column) (below width)
+  abbrev table_row : ℕ → List ℕ
+  table_row row = map (λ column. f row column) (below width)
 
   pub length-table : length (table f rows width) ≡ rows * width
-  length-table = length-rows row_of width (λ row. length-map-range_with_len (λ column. f row column) 0 width) rows
+  length-table = length-rows table_row width (λ row. length-map-range_with_len (λ column. f row column) 0 width) rows
 
   pub table_at : (row column d : ℕ) → row < rows → column < width
       → get_or (table f rows width) (row * width + column) d ≡ f row column
   table_at row column d r c =
-      rows_at row_of width (λ row. length-map-range_with_len (λ column. f row column) 0 width) rows row column d r c
+      rows_at table_row width (λ row. length-map-range_with_len (λ column. f row column) 0 width) rows row column d r c
       ∙ get_or-map-range_with_len (λ column. f row column) 0 width column column d c (omega arith)
 
   -- a list with those elements is that table

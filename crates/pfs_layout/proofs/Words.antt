@@ -45,8 +45,8 @@ pub use Rattle.pfs_layout.specs.File.{AreBlocks, Front, IsBlock, IsInstance, IsI
 unfoldable pub use Rattle.pfs_layout.specs.Generator.{generated, seed_after}
 pub use Rattle.pfs_layout.specs.Laws.{Completes, Seeks}
 unfoldable pub use Rattle.pfs_layout.specs.Lines.{ended_numbers, ended_parts, lines, numbers, open_part}
-pub use Rattle.pfs_layout.specs.Private.Step.{IsReady, at_end, body_judged, has_numbers_alone, judged}
-pub use Rattle.pfs_layout.specs.Private.Step.{last_number_ended, no_numbers, number_of, refused}
+pub use Rattle.pfs_layout.specs.Private.Step.{IsReady, at_end, body_judged, has_numbers_alone, after_byte}
+pub use Rattle.pfs_layout.specs.Private.Step.{last_number_ended, no_numbers, open_number, refused}
 unfoldable pub use Rattle.pfs_layout.specs.Private.Step.{line_ended, number_ended}
 pub use Rattle.pfs_layout.specs.Reader.{EndsWantedSize, FeedMeets, Fields, FinishMeets, Follows, FollowsBlocks}
 pub use Rattle.pfs_layout.specs.Reader.{FollowsBody, FollowsLine, FollowsNow, HoldsFew, HoldsNumbers, IsReader}

@@ -22,8 +22,8 @@ three_jobs_with last = record {
   notes = record { seed = 0; upper = 0; lower = 0 };
 }
 
-abbrev pub three_jobs : Problem
-three_jobs = three_jobs_with 1
+abbrev pub three_jobs_problem : Problem
+three_jobs_problem = three_jobs_with 1
 
 -- with a carriage return before each line end
 abbrev pub with_returns : List ℕ → List ℕ
@@ -33,5 +33,5 @@ with_returns text = flat_map (λ byte. if is_line_end byte then 13 ∷ byte ∷ 
 abbrev pub two_blocks_file : List ℕ
 two_blocks_file = codes "+++\ninstance one 1\n+++\nfirst\n1 1\n0 7\n+++\nsecond\n3 2\n0 3 1 2\n0 2 1 5\n0 4 1 1\n+++\n"
 
-abbrev pub one_job : Problem
-one_job = problem_of (sized 1 1 0 0 0) (λ job machine. 7)
+abbrev pub one_job_problem : Problem
+one_job_problem = problem_of (sized 1 1 0 0 0) (λ job machine. 7)

@@ -125,8 +125,8 @@ CanonicalLaw = (layout : Layout) (problem : Problem) → IsInstance limits probl
     → IsInstanceFile limits layout (canonical_text layout problem) 1 (as_written layout problem)
 
 -- no text that is written is longer than what is read
-abbrev pub TextsFit : Type 0
-TextsFit = (layout : Layout) (problem : Problem) → IsInstance limits problem
+abbrev pub CanonicalTextsFit : Type 0
+CanonicalTextsFit = (layout : Layout) (problem : Problem) → IsInstance limits problem
     → length (canonical_text layout problem) ≤ limits.input
 
 -- a seed that is drawn is a seed again

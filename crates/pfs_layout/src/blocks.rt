@@ -4,7 +4,7 @@ ghost use Rattle.std.specs.Prelude.{Some, None, IfOk, IfErr, OnOk, OnErr, IfSome
 ghost use Rattle.pfs_layout.specs.Block.{is_within_limits, problem_of};
 ghost use Rattle.pfs_layout.specs.Private.Step.{refused, CanCount, with_problem_time, counted};
 ghost use Rattle.pfs_layout.specs.Private.Step.{body_judged, number_ended, last_number_ended, no_numbers, stated_by};
-ghost use Rattle.pfs_layout.specs.Private.Step.{size_judged, line_ended, mixed_met, judged, TakeMeets};
+ghost use Rattle.pfs_layout.specs.Private.Step.{size_judged, line_ended, mixed_met, after_byte, TakeMeets};
 ghost use Rattle.pfs_layout.specs.Private.Step.{has_numbers_alone, end_fault, at_end, IsReady, LacksMemory};
 ghost use Rattle.pfs_layout.specs.Reader.{is_live as live_test, fields, StandsAfter, IsReader, FeedMeets, progress_of};
 
@@ -99,7 +99,7 @@ impl Blocks {
         }
     }
 
-    // A time is judged, and kept if its block is the wanted one.
+    // A time is after_byte, and kept if its block is the wanted one.
     fn count_time(&mut self, time: u32)
         requires can { CanCount self.old }
         requires some { self.old.body.judged < self.old.body.due }
@@ -262,9 +262,9 @@ impl Blocks {
     #[tactic(auto, using(crate::proofs::Reading::ByteSteps::keeps_last))]
     fn after(&mut self, alloc: Global, last: Line, b: u8)
         requires ready { IsReady self.old }
-        ensures well { self.new.phase ≢ Phase.Refused LayoutFault.Memory → self.new ≡ judged self.old last b }
+        ensures well { self.new.phase ≢ Phase.Refused LayoutFault.Memory → self.new ≡ after_byte self.old last b }
         ensures memory { self.new.phase ≡ Phase.Refused LayoutFault.Memory
-            → LacksMemory self.old (judged self.old last b) self.new }
+            → LacksMemory self.old (after_byte self.old last b) self.new }
     {
         if b == LINE_END {
             self.end_last_number(last.digits.number());

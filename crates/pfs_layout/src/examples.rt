@@ -10,8 +10,8 @@ ghost use Rattle.pfs_layout.specs.File.{IsInstanceFile};
 ghost use Rattle.pfs_layout.specs.Refuse.{refusal, accepted};
 ghost use Rattle.pfs_layout.specs.CanonicalText.{canonical_text};
 ghost use Rattle.pfs_layout.specs.Generator.{generated};
-ghost use Rattle.pfs_layout.specs.Examples.{heading, ending_with, three_jobs_file, three_jobs_with, three_jobs};
-ghost use Rattle.pfs_layout.specs.Examples.{with_returns, two_blocks_file, one_job};
+ghost use Rattle.pfs_layout.specs.Examples.{heading, ending_with, three_jobs_file, three_jobs_with, three_jobs_problem};
+ghost use Rattle.pfs_layout.specs.Examples.{with_returns, two_blocks_file, one_job_problem};
 
 use crate::{Layout, LayoutFault};
 
@@ -26,24 +26,24 @@ pub fn lines_and_numbers()
 /// Three jobs on two machines, as a file.
 pub fn three_jobs()
     ensures length { length three_jobs_file ≡ 121 }
-    ensures by_machine { due Layout.Taillard three_jobs.shop ≡ 3 ∷ 2 ∷ 4 ∷ 2 ∷ 5 ∷ 1 ∷ [] }
-    ensures by_job { due Layout.OrLib three_jobs.shop ≡ 0 ∷ 3 ∷ 1 ∷ 2 ∷ 0 ∷ 2 ∷ 1 ∷ 5 ∷ 0 ∷ 4 ∷ 1 ∷ 1 ∷ [] }
-    ensures file { IsInstanceFile limits Layout.Taillard three_jobs_file 1 three_jobs }
-    ensures accepted { accepted Layout.Taillard three_jobs_file 1 ≡ Some three_jobs }
+    ensures by_machine { due Layout.Taillard three_jobs_problem.shop ≡ 3 ∷ 2 ∷ 4 ∷ 2 ∷ 5 ∷ 1 ∷ [] }
+    ensures by_job { due Layout.OrLib three_jobs_problem.shop ≡ 0 ∷ 3 ∷ 1 ∷ 2 ∷ 0 ∷ 2 ∷ 1 ∷ 5 ∷ 0 ∷ 4 ∷ 1 ∷ 1 ∷ [] }
+    ensures file { IsInstanceFile limits Layout.Taillard three_jobs_file 1 three_jobs_problem }
+    ensures accepted { accepted Layout.Taillard three_jobs_file 1 ≡ Some three_jobs_problem }
 {}
 
 /// Other files of the same three jobs.
 pub fn spellings()
-    ensures unended { accepted Layout.Taillard (take 120 three_jobs_file) 1 ≡ Some three_jobs }
-    ensures no_words { accepted Layout.Taillard (codes "3 2 0 0 0\n3 2\n4\n2 5 1") 1 ≡ Some three_jobs }
-    ensures carriage_returns { accepted Layout.Taillard (with_returns three_jobs_file) 1 ≡ Some three_jobs }
+    ensures unended { accepted Layout.Taillard (take 120 three_jobs_file) 1 ≡ Some three_jobs_problem }
+    ensures no_words { accepted Layout.Taillard (codes "3 2 0 0 0\n3 2\n4\n2 5 1") 1 ≡ Some three_jobs_problem }
+    ensures carriage_returns { accepted Layout.Taillard (with_returns three_jobs_file) 1 ≡ Some three_jobs_problem }
     ensures leading_zeros { accepted Layout.Taillard
         (heading ++ codes "03 2 0 0 0\nprocessing times :\n" ++ replicate 60 48 ++ codes "3 2 4\n2 5 1\n") 1
-        ≡ Some three_jobs }
-    ensures mixed_title { accepted Layout.Taillard (codes "5x " ++ three_jobs_file) 1 ≡ Some three_jobs }
-    ensures mixed_line_before { accepted Layout.Taillard (codes "x 5\n" ++ three_jobs_file) 1 ≡ Some three_jobs }
+        ≡ Some three_jobs_problem }
+    ensures mixed_title { accepted Layout.Taillard (codes "5x " ++ three_jobs_file) 1 ≡ Some three_jobs_problem }
+    ensures mixed_line_before { accepted Layout.Taillard (codes "x 5\n" ++ three_jobs_file) 1 ≡ Some three_jobs_problem }
     ensures one_line { accepted Layout.Taillard (codes "3 2 0 0 0\n3 2 4 2 5 1\nwhat follows is free, 5x") 1
-        ≡ Some three_jobs }
+        ≡ Some three_jobs_problem }
 {}
 
 /// A line of a body with a word byte.
@@ -86,11 +86,11 @@ pub fn size_lines()
 
 /// Several blocks.
 pub fn several_blocks()
-    ensures first { accepted Layout.Taillard (three_jobs_file ++ three_jobs_file) 1 ≡ Some three_jobs }
-    ensures second { accepted Layout.Taillard (three_jobs_file ++ three_jobs_file) 2 ≡ Some three_jobs }
+    ensures first { accepted Layout.Taillard (three_jobs_file ++ three_jobs_file) 1 ≡ Some three_jobs_problem }
+    ensures second { accepted Layout.Taillard (three_jobs_file ++ three_jobs_file) 2 ≡ Some three_jobs_problem }
     ensures third { refusal Layout.Taillard (three_jobs_file ++ three_jobs_file) 3 ≡ Some (LayoutFault.NoBlock 2) }
-    ensures one_job { accepted Layout.OrLib two_blocks_file 1 ≡ Some one_job }
-    ensures three_jobs { accepted Layout.OrLib two_blocks_file 2 ≡ Some three_jobs }
+    ensures one_job { accepted Layout.OrLib two_blocks_file 1 ≡ Some one_job_problem }
+    ensures three_jobs { accepted Layout.OrLib two_blocks_file 2 ≡ Some three_jobs_problem }
     ensures no_third { refusal Layout.OrLib two_blocks_file 3 ≡ Some (LayoutFault.NoBlock 2) }
 {}
 
@@ -116,8 +116,8 @@ pub fn cuts()
 
 /// What is written of the three jobs, in each layout.
 pub fn canonical_texts()
-    ensures by_machine { canonical_text Layout.Taillard three_jobs ≡ three_jobs_file }
-    ensures by_job { canonical_text Layout.OrLib three_jobs
+    ensures by_machine { canonical_text Layout.Taillard three_jobs_problem ≡ three_jobs_file }
+    ensures by_job { canonical_text Layout.OrLib three_jobs_problem
         ≡ codes "flow shop instance\n3 2\n0 3 1 2\n0 2 1 5\n0 4 1 1\n" }
 {}
 

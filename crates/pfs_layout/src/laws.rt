@@ -3,7 +3,8 @@ ghost use Rattle.std.specs.Prelude.{◌≡◌, ℕ, List};
 ghost use Rattle.pfs_layout.specs.Reader.{StandsAfter, FinishMeets};
 ghost use Rattle.pfs_layout.specs.Laws.{FileStands, SomeFile, OneVerdict, RefusalLaw, AcceptedLaw};
 ghost use Rattle.pfs_layout.specs.Laws.{FaultStays, ByteFaultLaw, FreeBehind, WiderLimits, EarlierFiles};
-ghost use Rattle.pfs_layout.specs.Laws.{DueAndBack, DueFronts, CanonicalLaw, TextsFit, SeedsStay, GeneratedWithin};
+ghost use Rattle.pfs_layout.specs.Laws.{DueAndBack, DueFronts, CanonicalLaw, CanonicalTextsFit, SeedsStay};
+ghost use Rattle.pfs_layout.specs.Laws.{GeneratedWithin};
 
 use crate::LayoutFault;
 use crate::reader::BlockReader;
@@ -86,9 +87,9 @@ pub fn canonical_text()
 
 /// What is written of an instance is within the limit of an instance file. The longest text is that of 5,000 jobs which
 /// take 1,000,000,000 on each of 200 machines, in the OR-Library's layout: 14,450,028 bytes.
-#[tactic(auto, using(crate::proofs::Texts::CanonicalFile::texts_fit))]
-pub fn texts_fit()
-    ensures { TextsFit }
+#[tactic(auto, using(crate::proofs::Texts::CanonicalFile::canonical_texts_fit))]
+pub fn canonical_texts_fit()
+    ensures { CanonicalTextsFit }
 {}
 
 /// A seed that is drawn is a seed again.

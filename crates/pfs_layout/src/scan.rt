@@ -4,7 +4,7 @@ ghost use Rattle.std.specs.Prelude.{◌≡◌, ◌<◌, ◌≤◌, ◌&&◌, ◌
 ghost use Rattle.std.specs.Prelude.{if◌then◌else◌};
 ghost use Rattle.pfs_layout.specs.Lines.{is_digit as digit_test, is_blank as blank_test, is_word_byte as word_test};
 ghost use Rattle.pfs_layout.specs.Reader.{FollowsLine};
-ghost use Rattle.pfs_layout.specs.Private.Step.{Pushes, has_numbers_alone, number_of};
+ghost use Rattle.pfs_layout.specs.Private.Step.{Pushes, has_numbers_alone, open_number};
 
 use pfs_base::{GREATEST_NOTE, LONGEST_INPUT};
 
@@ -82,7 +82,7 @@ impl Digits {
     /// The number, if there is one.
     #[inline(always)]
     pub fn number(self) -> Option<Number>
-        ensures { result ≡ number_of self }
+        ensures { result ≡ open_number self }
     {
         if self.first == self.offset {
             None

@@ -30,7 +30,8 @@ pub extern "C" fn pfs_write(
         (length (text_in layout (given_problem jobs machines notes.now times.now))) }
     ensures done { result ≡ PFS_OK
         → text.new ≡ put_in_front (text_in layout (given_problem jobs machines notes.now times.now)) text.old }
-    ensures told { result ≡ PFS_OK → len.new ≡ length (text_in layout (given_problem jobs machines notes.now times.now)) }
+    ensures told { result ≡ PFS_OK
+        → len.new ≡ length (text_in layout (given_problem jobs machines notes.now times.now)) }
     ensures wanted { result ≡ PFS_ROOM
         → len.new ≡ length (text_in layout (given_problem jobs machines notes.now times.now)) }
     ensures text_kept { result ≢ PFS_OK → text.new ≡ text.old }

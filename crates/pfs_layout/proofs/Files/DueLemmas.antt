@@ -148,14 +148,14 @@ module _ (layout : Layout) (block : Block) where
 
 module _ (layout : Layout) (problem : Problem) where
   -- the block of a problem
-  abbrev pub block_of : Block
-  block_of = record { size = size_of problem; numbers = due layout problem.shop }
+  abbrev pub due_block : Block
+  due_block = record { size = size_of problem; numbers = due layout problem.shop }
 
   pub instance_due : length problem.shop.times ≡ problem.shop.jobs * problem.shop.machines
-      → instance_of layout block_of ≡ problem
+      → instance_of layout due_block ≡ problem
   unfolding instance_of
   instance_due every =
-      let number : ℕ → ℕ → ℕ = stands_at layout block_of.size block_of.numbers in
+      let number : ℕ → ℕ → ℕ = stands_at layout due_block.size due_block.numbers in
       let times = same_table number problem.shop.jobs problem.shop.machines problem.shop.times
       every (λ job machine j m. sym (time_due layout problem job machine j m)) in
       rw (← times)

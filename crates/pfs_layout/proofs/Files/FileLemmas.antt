@@ -10,7 +10,7 @@ use Rattle.pfs_layout.proofs.Words.{stand, instance_of, lines, AreBlocks, IsInst
 use Rattle.std.proofs.Common.{fold}
 use Rattle.std.proofs.lemmas.Bool.{false≢true}
 use Rattle.pfs_layout.proofs.Files.LineLemmas.{split_some, front_of_lines}
-use Rattle.pfs_layout.proofs.Files.DueLemmas.{are_due_front, due_passes, length-due, block_of, size_within}
+use Rattle.pfs_layout.proofs.Files.DueLemmas.{are_due_front, due_passes, length-due, due_block, size_within}
 use Rattle.pfs_layout.proofs.Files.DueLemmas.{due_instance, instance_within, instance_due}
 use Rattle.pfs_layout.proofs.Files.GoodLemmas.{stand-push}
 
@@ -50,7 +50,7 @@ module _ (layout : Layout) (complete : List Block) where
 
   -- a block is completed by its lines
   pub block_fold : (problem : Problem) (block : List (List ℕ)) → IsBlock limits layout problem block
-      → fold (stand_after layout) (standing complete seeking) block ≡ completed complete (block_of layout problem)
+      → fold (stand_after layout) (standing complete seeking) block ≡ completed complete (due_block layout problem)
   unfolding stand_after
   block_fold problem block b =
       let tail : List (List ℕ) = b.front ++ b.last ∷ [] in
@@ -69,7 +69,7 @@ pub record LeadsTo (layout : Layout) (complete : List Block) (problem : Problem)
   pub before : List Block
   pub as_many : length before + 1 ≡ count
   pub end : fold (stand_after layout) (standing complete seeking) text
-      ≡ completed (complete ++ before) (block_of layout problem)
+      ≡ completed (complete ++ before) (due_block layout problem)
 
 pub blocks_lead : (layout : Layout) (complete : List Block) (problem : Problem) (earlier : List (List (List ℕ)))
     (own : List (List ℕ)) → AllByRecursion (IsSomeBlock limits layout) earlier → IsBlock limits layout problem own
@@ -77,7 +77,7 @@ pub blocks_lead : (layout : Layout) (complete : List Block) (problem : Problem) 
 blocks_lead layout complete problem [] own each b =
     record { before = []; as_many = refl; end = rw (append-nil complete) (block_fold layout complete problem own b) }
 blocks_lead layout complete problem (block ∷ earlier) own each b =
-    let first : Block = block_of layout each.0.0 in
+    let first : Block = due_block layout each.0.0 in
     let more = blocks_lead layout (complete ++ first ∷ []) problem earlier own each.1 b in
     let rest : List (List ℕ) = flat_map (λ block. block) earlier ++ own in
     let lines = append_assoc block (flat_map (λ block. block) earlier) own in
@@ -119,20 +119,20 @@ pub record IsBegun (layout : Layout) (block : Block) (tail : List (List ℕ)) : 
   pub short : length block.numbers ≡ due_count layout block.size → ⊥
 
 -- what the lines behind the last complete block are
-abbrev pub IsTail : Layout → Now → List (List ℕ) → Type 0
-IsTail layout seeking tail = list_all (λ line. not (is_number_line line)) tail ≡ true
-IsTail layout (inside block) tail = IsBegun layout block tail
-IsTail layout lost tail = Unit {0}
+abbrev pub FitsNow : Layout → Now → List (List ℕ) → Type 0
+FitsNow layout seeking tail = list_all (λ line. not (is_number_line line)) tail ≡ true
+FitsNow layout (inside block) tail = IsBegun layout block tail
+FitsNow layout lost tail = Unit {0}
 
 -- lines are those of complete blocks, one behind the other
-abbrev pub AreOf : Layout → List Block → List (List ℕ) → Type 0
-AreOf layout [] text = text ≡ []
-AreOf layout (block ∷ more) text = (own : List (List ℕ)) × (rest : List (List ℕ)) × (text ≡ own ++ rest)
-    × IsBlock limits layout (instance_of layout block) own × AreOf layout more rest
+abbrev pub AreBlockLines : Layout → List Block → List (List ℕ) → Type 0
+AreBlockLines layout [] text = text ≡ []
+AreBlockLines layout (block ∷ more) text = (own : List (List ℕ)) × (rest : List (List ℕ)) × (text ≡ own ++ rest)
+    × IsBlock limits layout (instance_of layout block) own × AreBlockLines layout more rest
 
 AreOf-push : (layout : Layout) (complete : List Block) (text own : List (List ℕ)) (block : Block)
-    → AreOf layout complete text → IsBlock limits layout (instance_of layout block) own
-    → AreOf layout (complete ++ block ∷ []) (text ++ own)
+    → AreBlockLines layout complete text → IsBlock limits layout (instance_of layout block) own
+    → AreBlockLines layout (complete ++ block ∷ []) (text ++ own)
 AreOf-push layout [] text own block are is = (own, [], rw are (sym (append-nil own)), is, refl)
 AreOf-push layout (first ∷ more) text own block are is =
     let others = AreOf-push layout more are.1 own block are.4 is in
@@ -143,13 +143,13 @@ pub record IsMade (layout : Layout) (text : List (List ℕ)) (reached : Stand) :
   pub front : List (List ℕ)
   pub tail : List (List ℕ)
   pub parts : text ≡ front ++ tail
-  pub each : AreOf layout reached.complete front
-  pub fits : IsTail layout reached.now tail
+  pub each : AreBlockLines layout reached.complete front
+  pub fits : FitsNow layout reached.now tail
 
 module _ (layout : Layout) (text : List (List ℕ)) (complete : List Block) (line : List ℕ) where
   -- one more line behind the complete blocks
   grown : {now : Now} (next : Now) (m : IsMade layout text (standing complete now))
-      → IsTail layout next (m.tail ++ line ∷ []) → IsMade layout (text ++ line ∷ []) (standing complete next)
+      → FitsNow layout next (m.tail ++ line ∷ []) → IsMade layout (text ++ line ∷ []) (standing complete next)
   grown next m fits =
       let parts : text ++ line ∷ [] ≡ m.front ++ (m.tail ++ line ∷ []) =
       rw m.parts (append_assoc m.front m.tail (line ∷ [])) in
@@ -241,7 +241,7 @@ unfolding stand stand_after
 file_completes layout input k problem f =
     let blocks = f.blocks in
     let lead = blocks_lead layout [] problem blocks.earlier blocks.own blocks.each blocks.is_own in
-    let own : Block = block_of layout problem in
+    let own : Block = due_block layout problem in
     let stands : stand layout (lines f.text) ≡ completed lead.before own = rw blocks.parts lead.end in
     let count = length_push lead.before own in
     let seeks : Seeks layout input k =
@@ -252,7 +252,7 @@ file_completes layout input k problem f =
 -- ---- and back
 
 are_blocks : (layout : Layout) (text : List (List ℕ)) (earlier : List Block) (own : Block)
-    → AreOf layout (earlier ++ own ∷ []) text
+    → AreBlockLines layout (earlier ++ own ∷ []) text
     → AreBlocks limits layout (length earlier + 1) (instance_of layout own) text
 are_blocks layout text [] own are = record {
   earlier = [];

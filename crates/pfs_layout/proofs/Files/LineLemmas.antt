@@ -13,12 +13,12 @@ use Rattle.std.proofs.lemmas.List.Splits.{slice_split_none, slice_split_at}
 use Rattle.std.proofs.lemmas.List.Sums.{split_at_first, fails_before_first, passes_at_first}
 
 -- a list of parts that isn't empty
-pub record IsSome (parts : List (List ℕ)) : Type 0 where
+pub record HasLines (parts : List (List ℕ)) : Type 0 where
   pub first : List ℕ
   pub more : List (List ℕ)
   pub is : parts ≡ first ∷ more
 
-pub split_some : (p : ℕ → Bool) (xs : List ℕ) → IsSome (slice_split p xs)
+pub split_some : (p : ℕ → Bool) (xs : List ℕ) → HasLines (slice_split p xs)
 split_some p [] = record { first = []; more = []; is = refl }
 split_some p (x ∷ xs) =
     let s = split_some p xs in

@@ -14,7 +14,7 @@ use Rattle.pfs_layout.proofs.Files.GoodLemmas.{is_good, good_end, fault_within_l
 use Rattle.pfs_layout.proofs.Files.GoodLemmas.{stand_of-end, stand_of-on, open_line-end, one_line, Extends}
 use Rattle.pfs_layout.proofs.Files.GoodLemmas.{line_extends, extends, fewer_before, Few, enough_right, judged, sound}
 use Rattle.pfs_layout.proofs.Files.GoodLemmas.{sound_more, faultless_front}
-use Rattle.pfs_layout.proofs.Files.FileLemmas.{IsTail, made}
+use Rattle.pfs_layout.proofs.Files.FileLemmas.{FitsNow, made}
 use Rattle.pfs_layout.proofs.Files.LineLemmas.{lines-parts}
 
 -- a text within the limit is a front of itself
@@ -30,7 +30,7 @@ nothing_on line e = nil_from_length line (eqb-true (length line) 0 e)
 
 -- an empty line changes nothing
 empty_line : (layout : Layout) (complete : List Block) (now : Now) (tail : List (List ℕ)) → is_good layout now [] ≡ true
-    → IsTail layout now tail → after_line layout complete now [] ≡ standing complete now
+    → FitsNow layout now tail → after_line layout complete now [] ≡ standing complete now
 unfolding numbers ended_numbers ended_parts
 empty_line layout complete seeking tail good is = refl
 empty_line layout complete (inside block) tail good is =

@@ -6,7 +6,7 @@ use Rattle.pfs_layout.proofs.Words.{nat_tests, list_any-append, is_empty, Layout
 use Rattle.pfs_layout.proofs.Words.{is_blank, is_line_end, is_word_byte, open_line, ended_numbers, last_digits}
 use Rattle.pfs_layout.proofs.Words.{open_part, is_mixed, is_no_digit, numbers, Block, Now, seeking, inside, lost}
 use Rattle.pfs_layout.proofs.Words.{standing, Stand, stand_after, mixed_line, wrong_size, last_number_ended, line_ended}
-use Rattle.pfs_layout.proofs.Words.{has_numbers_alone, number_of, judged, is_live, FollowsLine}
+use Rattle.pfs_layout.proofs.Words.{has_numbers_alone, open_number, after_byte, is_live, FollowsLine}
 use Rattle.pfs_layout.proofs.Words.{FollowsNow, FollowsBlocks, digits_value, length_push, by_push, are_due, ◌⊎◌}
 use Rattle.pfs_layout.proofs.Words.{common_steps, Memory, Phase, no_numbers}
 use Rattle.pfs_layout.proofs.Words.{number_ended, HoldsNumbers}
@@ -17,7 +17,7 @@ use Rattle.pfs_layout.proofs.Files.GoodLemmas.{GoodNow, fault_within_limit, wron
 use Rattle.pfs_layout.proofs.Files.GoodLemmas.{no_last, number_fault, due_line, gap_fault}
 use Rattle.pfs_layout.proofs.Files.LineLemmas.{ended_numbers-push, open_part-push}
 use Rattle.pfs_layout.proofs.Words.{cases_option}
-use Rattle.pfs_layout.proofs.Reading.NumberSteps.{Refuses, Outcome, misfit_in, number_step}
+use Rattle.pfs_layout.proofs.Reading.NumberSteps.{IsRefusal, Outcome, misfit_in, number_step}
 use Rattle.pfs_layout.proofs.Reading.LineSteps.{sought_line, body_line}
 use Rattle.pfs_layout.specs.declared.scan.Number.{Number}
 
@@ -84,14 +84,14 @@ FollowsText r text complete now =
     FollowsBlocks (list_any is_word_byte (open_line text)) r (standing complete now) (ended_numbers (open_line text))
 
 pub judged_gap : (r : Blocks) (last : Line) (b : ℕ) → (is_blank b || is_line_end b) ≡ true
-    → judged r last b ≡ (let behind = last_number_ended r (number_of last.digits) in
+    → after_byte r last b ≡ (let behind = last_number_ended r (open_number last.digits) in
     if is_line_end b then line_ended behind (has_numbers_alone last.kinds) else behind)
 judged_gap r last b gap = grind (arith, nat_tests)
 
 -- the outcome of a byte on the line
 abbrev pub FollowsOn : Blocks → Line → List ℕ → ℕ → List Block → Now → Type 0
 FollowsOn r last text b complete now = Outcome r (list_any is_word_byte (open_line text ++ b ∷ []))
-    (standing complete now) (ended_numbers (open_line text ++ b ∷ [])) (judged r last b)
+    (standing complete now) (ended_numbers (open_line text ++ b ∷ [])) (after_byte r last b)
     (fault_within_limit r.layout now text b)
 
 -- ---- a byte that ends neither a number nor a line
@@ -105,13 +105,13 @@ sought_fine layout text b on = rw on
 quiet_sought : (r : Blocks) (last : Line) (text : List ℕ) (b : ℕ) (complete : List Block) (less : Bool) (ns : List ℕ)
     → (is_blank b || is_line_end b) ≡ false → FollowsText r text complete seeking
     → less ≡ list_any is_word_byte (open_line text ++ b ∷ []) → ns ≡ ended_numbers (open_line text ++ b ∷ [])
-    → Outcome r less (standing complete seeking) ns (judged r last b) (fault_within_limit r.layout seeking text b)
+    → Outcome r less (standing complete seeking) ns (after_byte r last b) (fault_within_limit r.layout seeking text b)
 quiet_sought r last text b complete less ns other f words numbers =
     let phase = f.now.phase in
     let pushed = ended_numbers-push (open_line text) b in
     let any = list_any-append is_word_byte (open_line text) (b ∷ []) in
     let sought = sought_fine r.layout text b (or_parts (is_blank b) _ other).1 in
-    let same : judged r last b ≡ r = grind arith in
+    let same : after_byte r last b ≡ r = grind arith in
     let plain : less ≡ false → (is_digit b ≡ true) × (list_any is_word_byte (open_line text) ≡ false) = grind arith in
     let numbers : less ≡ false → HoldsNumbers r.size_line ns =
     λ e. let p = plain e in grind (arith, f.now.numbers) in
@@ -122,7 +122,7 @@ quiet_inside : (r : Blocks) (last : Line) (text : List ℕ) (b : ℕ) (complete 
     → FollowsLine last text → FollowsText r text complete (inside block)
     → GoodNow r.layout (inside block) (open_line text)
     → less ≡ list_any is_word_byte (open_line text ++ b ∷ []) → ns ≡ ended_numbers (open_line text ++ b ∷ [])
-    → Outcome r less (standing complete (inside block)) ns (judged r last b)
+    → Outcome r less (standing complete (inside block)) ns (after_byte r last b)
     (fault_within_limit r.layout (inside block) text b)
 unfolding mixed_line
 quiet_inside r last text b complete block less ns other line f good words numbers =
@@ -152,7 +152,7 @@ pub number_part : (has_word : Bool) (r : Blocks) (last : Line) (text : List ℕ)
     → is_live r.phase ≡ true → length r.size_line.values ≡ 5 → FollowsLine last text
     → FollowsBlocks has_word r (standing complete now) (ended_numbers (open_line text))
     → Outcome r has_word (standing complete now) (numbers (open_line text))
-    (last_number_ended r (number_of last.digits)) (number_fault r.layout now text)
+    (last_number_ended r (open_number last.digits)) (number_fault r.layout now text)
 number_part has_word r last text complete now live five line f = elim (cases_Bool (is_empty (last_digits text))) [
   | inl none ↦
       let right : number_fault r.layout now text ≡ None = grind arith in
@@ -198,8 +198,8 @@ byte_on r last text b complete now on live five line f good = elim (cases_Bool (
 -- ---- the end of a line
 
 -- a line's end changes no refusal
-refused_line : (r next : Blocks) (fault : LayoutFault) (numbered : Bool) → Refuses r fault next
-    → Refuses r fault (line_ended next numbered)
+refused_line : (r next : Blocks) (fault : LayoutFault) (numbered : Bool) → IsRefusal r fault next
+    → IsRefusal r fault (line_ended next numbered)
 unfolding line_ended
 refused_line r next fault numbered refuses = grind arith
 
@@ -213,12 +213,12 @@ pub end_byte : (r : Blocks) (last : Line) (text : List ℕ) (b : ℕ) (complete 
     → is_line_end b ≡ true → is_live r.phase ≡ true
     → length r.size_line.values ≡ 5 → r.line ≡ 1 + count_by is_line_end text
     → FollowsLine last text → FollowsText r text complete now → GoodNow r.layout now (open_line text)
-    → Outcome r false (stand_after r.layout (standing complete now) (open_line text)) [] (judged r last b)
+    → Outcome r false (stand_after r.layout (standing complete now) (open_line text)) [] (after_byte r last b)
     (fault_within_limit r.layout now text b)
 unfolding wrong_size
 end_byte r last text b complete seeking end live five lines line f good =
-    let behind : Blocks = last_number_ended r (number_of last.digits) in
-    let keeps = keeps_last r (number_of last.digits) live in
+    let behind : Blocks = last_number_ended r (open_number last.digits) in
+    let keeps = keeps_last r (open_number last.digits) live in
     let part = number_part _ r last text complete seeking live five line f in
     let before : r.complete < r.wanted = live_few _ r seeking _ f.now live in
     let few : behind.complete < behind.wanted = omega (arith, keeps.complete, keeps.wanted) in
@@ -228,9 +228,9 @@ end_byte r last text b complete seeking end live five lines line f good =
     rw (judged_gap r last b (or_right (is_blank b) _ end), end)
     (outcome_behind r behind _ _ _ keeps (keeps.held sought) (rw (keeps.layout, keeps.line ∙ lines) at outcome))
 end_byte r last text b complete (inside block) end live five lines line f good =
-    let behind : Blocks = last_number_ended r (number_of last.digits) in
+    let behind : Blocks = last_number_ended r (open_number last.digits) in
     let numbered = has_numbers_alone last.kinds in
-    let keeps = keeps_last r (number_of last.digits) live in
+    let keeps = keeps_last r (open_number last.digits) live in
     let gap = or_right (is_blank b) (is_line_end b) end in
     let unmixed : is_mixed (open_line text) ≡ false = grind arith in
     let part = number_part _ r last text complete (inside block) live five line f in

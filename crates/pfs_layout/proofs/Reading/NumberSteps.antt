@@ -140,19 +140,19 @@ module _ {wanted : Bool} {layout : Layout} {size : Size} {ns : List ℕ} (v : �
 -- ---- outcomes
 
 -- only the fault is new
-pub record Refuses (old : Blocks) (fault : LayoutFault) (new : Blocks) : Type 0 where
+pub record IsRefusal (old : Blocks) (fault : LayoutFault) (new : Blocks) : Type 0 where
   pub phase : new.phase ≡ phases.Refused fault
   pub held : new.held ≡ old.held
   pub layout : new.layout ≡ old.layout
   pub wanted : new.wanted ≡ old.wanted
 
-pub refuses : (r : Blocks) (fault : LayoutFault) → Refuses r fault (refused r fault)
+pub refuses : (r : Blocks) (fault : LayoutFault) → IsRefusal r fault (refused r fault)
 refuses r fault = record { phase = refl; held = refl; layout = refl; wanted = refl }
 
 -- the fault, or what the fields say behind these ended numbers of the line, which has a word byte or not
 abbrev pub Outcome : Blocks → Bool → Stand → List ℕ → Blocks → Option LayoutFault → Type 0
 Outcome r has_word stood more next None = FollowsBlocks has_word next stood more
-Outcome r has_word stood more next (Some fault) = Refuses r fault next
+Outcome r has_word stood more next (Some fault) = IsRefusal r fault next
 
 -- the fault of a number behind these
 abbrev pub misfit_in : Layout → Now → List ℕ → ℕ → ℕ → Option LayoutFault
@@ -203,8 +203,8 @@ sought_number r complete more v first f live five =
 module _ {has_word : Bool} (r : Blocks) (complete : List Block) (block : Block) (more : List ℕ) (v : ℕ)
     (f : FollowsBlocks has_word r (standing complete (inside block)) more) where
   -- the fault, or what the fields say with the number
-  abbrev Counts : Blocks → Option LayoutFault → Type 0
-  Counts next fault = Outcome r has_word (standing complete (inside block)) (more ++ v ∷ []) next fault
+  abbrev CountsTo : Blocks → Option LayoutFault → Type 0
+  CountsTo next fault = Outcome r has_word (standing complete (inside block)) (more ++ v ∷ []) next fault
 
   abbrev so_far : List ℕ
   so_far = block.numbers ++ more
@@ -223,7 +223,7 @@ module _ {has_word : Bool} (r : Blocks) (complete : List Block) (block : Block) 
   -- the body has come one number further, and what is kept too
   counted_follows : {body : Body} {instance : Option Problem} {held : ℕ}
       → FollowsBody r.layout block.size (length so_far + 1) body → KeepsOf (so_far ++ v ∷ []) instance held
-      → Counts (record r { body = body; instance = instance; held = held }) None
+      → CountsTo (record r { body = body; instance = instance; held = held }) None
   counted_follows behind keeping =
       let wanted = begun_wanted complete r.wanted (inside block) (more ++ v ∷ []) few in
       let count : length block.numbers + length (more ++ v ∷ []) ≡ length so_far + 1 =
@@ -240,7 +240,7 @@ module _ {has_word : Bool} (r : Blocks) (complete : List Block) (block : Block) 
 
   -- a number that is what is due, and is kept as it is
   due_counts : (due : Due) → due_next r.layout r.body ≡ due → is_due due v ≡ true
-      → Counts (counted r due (min CEILING v)) None
+      → CountsTo (counted r due (min CEILING v)) None
   due_counts Due.Time e is =
       let same : min CEILING v ≡ v = grind (arith, nat_tests) in
       rw same (counted_follows (time_behind follows e) (keeping_time v follows e keeps))
@@ -248,7 +248,7 @@ module _ {has_word : Bool} (r : Blocks) (complete : List Block) (block : Block) 
       counted_follows (machine_behind follows e) (keeping_machine v follows e keeps)
   due_counts Due.Nothing e is = grind arith
 
-  begun_number : (first : ℕ) → Counts (number_ended r (min CEILING v) first)
+  begun_number : (first : ℕ) → CountsTo (number_ended r (min CEILING v) first)
       (misfit (due_at r.layout block.size (length block.numbers + length more)) v first)
   unfolding number_ended
   begun_number first =

@@ -3,7 +3,7 @@ use Rattle.pfs_layout.proofs.Words.{◌≡◌, ℕ, ◌-◌, ◌≤◌, true, Li
 use Rattle.pfs_layout.proofs.Words.{inr, Result, Ok, Err, option_or, result_err, nat_tests, lt-ltb, le-ltb, append-nil}
 use Rattle.pfs_layout.proofs.Words.{Problem, LayoutFault, Phase, Blocks, lines, ends_early, fault_of_place, refusal}
 use Rattle.pfs_layout.proofs.Words.{accepted, line_ended, has_numbers_alone, at_end, is_live, Fields, Follows, StandsIn}
-use Rattle.pfs_layout.proofs.Words.{StandsAfter, FinishMeets, judged}
+use Rattle.pfs_layout.proofs.Words.{StandsAfter, FinishMeets}
 use Rattle.std.specs.Result.{result_ok}
 use Rattle.pfs_layout.specs.declared.blocks.Phase.TheVariants as phases
 use Rattle.pfs_layout.specs.Private.Step.{end_fault}

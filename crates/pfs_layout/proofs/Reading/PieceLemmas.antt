@@ -1,11 +1,11 @@
 -- What a reader owes for a piece.
 use Rattle.pfs_layout.proofs.Words.{nat_tests, ◌≡◌, ◌≢◌, ℕ, ◌+◌, ◌<◌, ◌≤◌, true, not, ◌&&◌, List, [], ◌∷◌, ◌++◌, length}
 use Rattle.pfs_layout.proofs.Words.{take, get_or, refl, ◌∙◌, arith, inl, inr, ◌-◌, cases_eq, append_assoc}
-use Rattle.pfs_layout.proofs.Words.{LONGEST_INPUT, Memory, Line, Blocks, is_digit, judged, IsReady, number_of, is_live}
+use Rattle.pfs_layout.proofs.Words.{LONGEST_INPUT, Memory, Line, Blocks, is_digit, after_byte, IsReady, open_number}
 use Rattle.pfs_layout.proofs.Words.{Fields, fields, Follows, StandsAfter, EndsWantedSize, drop, subst, Some, Option}
 use Rattle.pfs_layout.proofs.Words.{append-nil, take_all, take-append-drop, LayoutFault, TooLong, Phase, byte_fault}
 use Rattle.pfs_layout.proofs.Words.{refused, block_read, number_ended, StandsIn, IsReader, FeedMeets, is_blank}
-use Rattle.pfs_layout.proofs.Words.{last_number_ended}
+use Rattle.pfs_layout.proofs.Words.{last_number_ended, is_live}
 use Rattle.pfs_layout.specs.declared.scan.Number.{Number}
 use Rattle.pfs_layout.specs.Private.Step.{TakeMeets}
 use Rattle.std.proofs.lemmas.List.{take_more, take-take, length-take-le, get_or-take}
@@ -22,7 +22,7 @@ use Rattle.pfs_layout.proofs.Files.VerdictLemmas.{faultless_behind}
 use Rattle.pfs_layout.proofs.Files.EndLemmas.{byte_fault-more}
 
 -- only a line's end begins a block
-ends_line_at : (r new : Blocks) (last : Line) (b : ℕ) → LacksMemory r (judged r last b) new → b ≡ 10
+ends_line_at : (r new : Blocks) (last : Line) (b : ℕ) → LacksMemory r (after_byte r last b) new → b ≡ 10
 unfolding number_ended
 ends_line_at r new last b lacks = grind (arith, nat_tests, lacks.sought, lacks.begins)
 
@@ -30,9 +30,9 @@ ends_line_at r new last b lacks = grind (arith, nat_tests, lacks.sought, lacks.b
 
 wanted_size : {r : Fields} {new : Blocks} {text : List ℕ} {after : Line} (b : ℕ) → Follows r text
     → is_live r.phase ≡ true → length text < LONGEST_INPUT → Pushes r.last b after
-    → LacksMemory r.blocks (judged r.blocks r.last b) new → EndsWantedSize r.layout r.wanted text b
+    → LacksMemory r.blocks (after_byte r.blocks r.last b) new → EndsWantedSize r.layout r.wanted text b
 wanted_size {r = r} {new = new} {text = text} {after = after} b f live short pushes lacks =
-    let next : Fields = fields after (judged r.blocks r.last b) in
+    let next : Fields = fields after (after_byte r.blocks r.last b) in
     let follows = live_follows next (text ++ b ∷ []) (rw lacks.begins) (step_stands b f live short pushes) in
     let begun = begun_now follows lacks.begins in
     let line = ends_line_at r.blocks new r.last b lacks in
@@ -60,12 +60,12 @@ pub record TakenTo (old now : Fields) (piece : List ℕ) (i : ℕ) : Type 0 wher
 module _ {old now : Fields} {piece : List ℕ} {i : ℕ} (t : TakenTo old now piece i) where
   -- a digit that doesn't mix the line means nothing
   pub digit_judged : (is_digit (get_or piece i 0) && not now.kinds.has_word) ≡ true
-      → now.blocks ≡ judged now.blocks now.last (get_or piece i 0)
+      → now.blocks ≡ after_byte now.blocks now.last (get_or piece i 0)
   digit_judged quiet = grind (arith, nat_tests)
 
   -- a blank ends the last number, if there is one
-  pub blank_judged : {number : Option Number} → is_blank (get_or piece i 0) ≡ true → number ≡ number_of now.digits
-      → last_number_ended now.blocks number ≡ judged now.blocks now.last (get_or piece i 0)
+  pub blank_judged : {number : Option Number} → is_blank (get_or piece i 0) ≡ true → number ≡ open_number now.digits
+      → last_number_ended now.blocks number ≡ after_byte now.blocks now.last (get_or piece i 0)
   blank_judged blank is = rw (blank, is)
 
 module _ {old now : Fields} {piece : List ℕ} {i : ℕ} (t : TakenTo old now piece i) (within : i < length piece)
@@ -83,7 +83,7 @@ module _ {old now : Fields} {piece : List ℕ} {i : ℕ} (t : TakenTo old now pi
   taken_ready some = follows_ready (t.follows some.0 some.1) t.live
 
   module _ {after : Line} {next : Blocks} (on : Pushes now.last (get_or piece i 0) after)
-      (judges : next.phase ≢ phases.Refused Memory → next ≡ judged now.blocks now.last (get_or piece i 0)) where
+      (judges : next.phase ≢ phases.Refused Memory → next ≡ after_byte now.blocks now.last (get_or piece i 0)) where
     -- but for want of memory, the blocks are those behind the byte
     well_then : next.phase ≢ phases.Refused Memory → (next.layout ≡ old.layout) × (next.wanted ≡ old.wanted)
         × ((text : List ℕ) → StandsAfter old text → StandsAfter (fields after next) (text ++ take (i + 1) piece))
@@ -107,7 +107,7 @@ module _ {old now : Fields} {piece : List ℕ} {i : ℕ} (t : TakenTo old now pi
 
     -- the last byte
     pub taken_end : (next.phase ≡ phases.Refused Memory
-        → LacksMemory now.blocks (judged now.blocks now.last (get_or piece i 0)) next)
+        → LacksMemory now.blocks (after_byte now.blocks now.last (get_or piece i 0)) next)
         → (text : List ℕ) → StandsAfter old text
         → TakeMeets old text piece (after.digits.offset - old.digits.offset) (fields after next)
     taken_end wants text s =
@@ -124,7 +124,8 @@ module _ {old now : Fields} {piece : List ℕ} {i : ℕ} (t : TakenTo old now pi
 
   -- a byte that means nothing
   pub taken_quiet : {after : Line} → Pushes now.last (get_or piece i 0) after
-      → now.blocks ≡ judged now.blocks now.last (get_or piece i 0) → TakenTo old (fields after now.blocks) piece (i + 1)
+      → now.blocks ≡ after_byte now.blocks now.last (get_or piece i 0)
+      → TakenTo old (fields after now.blocks) piece (i + 1)
   taken_quiet on same = taken_on on (λ well. same) t.live
 
 -- ---- behind a fault, and behind the wanted block

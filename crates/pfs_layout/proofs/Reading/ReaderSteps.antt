@@ -7,7 +7,7 @@ use Rattle.pfs_layout.proofs.Words.{last_digits, FollowsLine, lt-ltb, Layout, Li
 use Rattle.pfs_layout.proofs.Words.{ended_numbers, stand, byte_fault, fields, StandsAfter, sym, ◌∙◌, subst, mul-le-mul}
 use Rattle.pfs_layout.proofs.Words.{nat_tests, length-append, cases_Bool, LONGEST_INPUT, LayoutFault}
 use Rattle.pfs_layout.proofs.Words.{is_blank, Size, is_within_limits, due_count, Block, seeking, inside, instance_of}
-use Rattle.pfs_layout.proofs.Words.{standing, fault_of_place, min, no_numbers, has_numbers_alone, number_of, IsReady}
+use Rattle.pfs_layout.proofs.Words.{standing, fault_of_place, min, no_numbers, has_numbers_alone, open_number, IsReady}
 use Rattle.pfs_layout.proofs.Words.{Fields, block_read, FollowsBlocks, Follows, IsReader}
 use Rattle.pfs_layout.specs.declared.blocks.Phase.TheVariants as phases
 use Rattle.pfs_layout.specs.Private.Step.{Pushes, CanCount}
@@ -20,8 +20,8 @@ use Rattle.pfs_layout.proofs.Published.PlaceLemmas.{byte_fault-push}
 use Rattle.pfs_layout.proofs.Files.GoodLemmas.{ended_none, fault_within_limit, place_fault, GoodNow, stand_of, sound}
 use Rattle.pfs_layout.proofs.Files.GoodLemmas.{stand_of-on, stand_of-end, open_line-on, open_line-end}
 use Rattle.pfs_layout.proofs.Files.DueLemmas.{size_within}
-use Rattle.pfs_layout.proofs.Reading.NumberSteps.{Refuses, Outcome, keeping_of}
-use Rattle.pfs_layout.proofs.Words.{judged}
+use Rattle.pfs_layout.proofs.Reading.NumberSteps.{IsRefusal, Outcome, keeping_of}
+use Rattle.pfs_layout.proofs.Words.{after_byte}
 use Rattle.pfs_layout.proofs.Reading.ByteSteps.{live_few, judged_gap, byte_on, end_byte, live-memory}
 use Rattle.pfs_layout.proofs.Reading.ByteSteps.{keeps_last, line_end_keeps}
 
@@ -103,9 +103,10 @@ pub record Carries (old new : Blocks) (ends : Bool) : Type 0 where
   pub few : new.size_line.count ≤ old.size_line.count + 1
   pub five : length new.size_line.values ≡ length old.size_line.values ⊎ (length new.size_line.values ≡ 5)
 
-pub carries : (r : Blocks) (last : Line) (b : ℕ) → is_live r.phase ≡ true → Carries r (judged r last b) (is_line_end b)
+pub carries : (r : Blocks) (last : Line) (b : ℕ) → is_live r.phase ≡ true
+    → Carries r (after_byte r last b) (is_line_end b)
 carries r last b live =
-    let number = number_of last.digits in
+    let number = open_number last.digits in
     let ends = line_end_keeps (last_number_ended r number) (has_numbers_alone last.kinds) in
     elim (cases_Bool (is_blank b || is_line_end b)) [
       | inl gap ↦ rw (judged_gap r last b gap) (grind (arith, keeps_last r number live, ends))
@@ -122,7 +123,7 @@ OutcomeBehind r layout text next fault = Outcome r (list_any is_word_byte (open_
 -- a byte more of a live reader, by its kind
 outcome : (r : Fields) (text : List ℕ) (b : ℕ) → Follows r text → is_live r.phase ≡ true
     → GoodNow r.layout (stand_of r.layout text).now (open_line text)
-    → OutcomeBehind r.blocks r.layout (text ++ b ∷ []) (judged r.blocks r.last b)
+    → OutcomeBehind r.blocks r.layout (text ++ b ∷ []) (after_byte r.blocks r.last b)
     (fault_within_limit r.layout (stand_of r.layout text).now text b)
 outcome r text b f live good = elim (cases_Bool (is_line_end b)) [
   | inr on ↦ rw (stand_of-on r.layout text b on, open_line-on text b on)
@@ -147,7 +148,7 @@ wants_more f live = live_few _ _ _ _ f.blocks.now live
 
 module _ {r : Fields} {text : List ℕ} (f : Follows r text) (last : Line) (next : Blocks) (b : ℕ) where
   stands_refused : (fault : LayoutFault) → fault_of_place r.layout r.wanted text (Some b) ≡ Some fault
-      → Refuses r.blocks fault next → StandsAfter (fields last next) (text ++ b ∷ [])
+      → IsRefusal r.blocks fault next → StandsAfter (fields last next) (text ++ b ∷ [])
   unfolding block_read
   stands_refused fault here n = rw n.phase (record {
     front = text;
@@ -179,9 +180,9 @@ module _ {r : Fields} {text : List ℕ} (f : Follows r text) (last : Line) (next
 -- one byte more
 pub step_stands : {r : Fields} {text : List ℕ} {after : Line} (b : ℕ) → Follows r text → is_live r.phase ≡ true
     → length text < LONGEST_INPUT → Pushes r.last b after
-    → StandsAfter (fields after (judged r.blocks r.last b)) (text ++ b ∷ [])
+    → StandsAfter (fields after (after_byte r.blocks r.last b)) (text ++ b ∷ [])
 step_stands {r = r} {text = text} {after = after} b f live short pushes =
-    let next : Blocks = judged r.blocks r.last b in
+    let next : Blocks = after_byte r.blocks r.last b in
     let few : length (stand_of r.layout text).complete < r.wanted =
     omega (arith, f.blocks.complete, wants_more f live) in
     let place = place_fault r.layout r.wanted text b few short in

@@ -9,7 +9,7 @@ use Rattle.pfs_layout.proofs.Words.{Layout, arith, below, OrLib, false, lines, L
 use Rattle.pfs_layout.proofs.Words.{suc, ◌+◌, ◌*◌, ◌<◌, ◌≤◌, ◌∷◌, map, ◌≡◌, ◌-◌, not, sym, All, due, get_or, ◌/◌}
 use Rattle.std.proofs.Common.{◌^◌, lit<, decimal}
 use Rattle.pfs_layout.specs.CanonicalText.{head_lines, as_written}
-use Rattle.pfs_layout.specs.Laws.{CanonicalLaw, TextsFit}
+use Rattle.pfs_layout.specs.Laws.{CanonicalLaw, CanonicalTextsFit}
 use Rattle.pfs_layout.proofs.Files.VerdictLemmas.{all_of}
 use Rattle.std.proofs.lemmas.Fmt.{length-decimal-le, decimal_is_IsNumeral}
 use Rattle.std.proofs.lemmas.List.Concat.{length-flat_map}
@@ -26,11 +26,11 @@ use Rattle.pfs_layout.proofs.Files.FileLemmas.{no_numbers}
 use Rattle.pfs_layout.proofs.Texts.WritingLemmas.{number_is}
 
 -- the numbers are of 64 bits
-abbrev pub AllFit : List ℕ → Type 0
-AllFit ns = AllByRecursion (λ n. n < 2 ^ 64) ns
+abbrev pub NumeralsFit : List ℕ → Type 0
+NumeralsFit ns = AllByRecursion (λ n. n < 2 ^ 64) ns
 
 -- a line has at most 21 bytes for each number
-length-spaced : (ns : List ℕ) → AllFit ns → length (spaced ns) ≤ 21 * length ns
+length-spaced : (ns : List ℕ) → NumeralsFit ns → length (spaced ns) ≤ 21 * length ns
 length-spaced [] fit = omega arith
 length-spaced (n ∷ []) fit = omega (arith, length-decimal-le 20 n (lit< tt) (omega arith) fit.0)
 length-spaced (n ∷ m ∷ ns) fit =
@@ -52,7 +52,7 @@ abbrev pub times_title : List ℕ
 times_title = codes "processing times :"
 
 -- where all numbers of a size are of 64 bits
-pub length-head_lines : (layout : Layout) (size : Size) → AllFit (size_numbers Taillard size)
+pub length-head_lines : (layout : Layout) (size : Size) → NumeralsFit (size_numbers Taillard size)
     → length (head_lines layout size) ≤ 1000
 length-head_lines Taillard size fit =
     grind (arith, length-append {A = ℕ}, length-spaced (size_numbers Taillard size) fit)
@@ -61,11 +61,12 @@ length-head_lines OrLib size fit =
 
 -- ---- the rows
 
-fit_by_place : (ns : List ℕ) → ((k : ℕ) → k < length ns → get_or ns k 0 < 2 ^ 64) → AllFit ns
+fit_by_place : (ns : List ℕ) → ((k : ℕ) → k < length ns → get_or ns k 0 < 2 ^ 64) → NumeralsFit ns
 fit_by_place [] each = tt
 fit_by_place (n ∷ ns) each = (each 0 (omega arith), fit_by_place ns (λ k h. each (suc k) (omega arith)))
 
-pub row_fits : (layout : Layout) (shop : FlowShop) (row : ℕ) → IsWithin limits shop → AllFit (due_row layout shop row)
+pub row_fits : (layout : Layout) (shop : FlowShop) (row : ℕ) → IsWithin limits shop
+    → NumeralsFit (due_row layout shop row)
 row_fits Taillard shop row within = fit_by_place (due_row Taillard shop row) (λ k h.
     omega (arith, number_is Taillard shop row k h, short_at shop.times within.short_times (k * shop.machines + row)))
 row_fits OrLib shop row within = fit_by_place (due_row OrLib shop row) (λ k h.
@@ -100,17 +101,17 @@ module _ (test : ℕ → Bool) (digit : (b : ℕ) → 48 ≤ b → b ≤ 57 → 
       let range = digit_at (decimal n) i (decimal_is_IsNumeral n h).0.1 within in digit _ range.0 range.1)
 
   -- and if it fails at a space, at each byte of a line of numbers
-  line_fails : test 32 ≡ false → (ns : List ℕ) → AllFit ns → list_any test (spaced ns) ≡ false
+  line_fails : test 32 ≡ false → (ns : List ℕ) → NumeralsFit ns → list_any test (spaced ns) ≡ false
   line_fails space [] fit = refl
   line_fails space (n ∷ []) fit = list_any_none test (decimal n) (numeral_fails n fit.0)
   line_fails space (n ∷ m ∷ ns) fit =
       rw (list_any-append, list_any_none test (decimal n) (numeral_fails n fit.0), space)
       (line_fails space (m ∷ ns) fit.1)
 
-no_word_byte : (ns : List ℕ) → AllFit ns → list_any is_word_byte (spaced ns) ≡ false
+no_word_byte : (ns : List ℕ) → NumeralsFit ns → list_any is_word_byte (spaced ns) ≡ false
 no_word_byte = line_fails is_word_byte (λ b low high. grind (arith, nat_tests)) refl
 
-no_line_end : (ns : List ℕ) → AllFit ns → list_any is_line_end (spaced ns) ≡ false
+no_line_end : (ns : List ℕ) → NumeralsFit ns → list_any is_line_end (spaced ns) ≡ false
 no_line_end = line_fails is_line_end (λ b low high. grind (arith, nat_tests)) refl
 
 numeral_run : (n : ℕ) → n < 2 ^ 64 → All (λ b. is_no_digit b ≡ false) (decimal n)
@@ -118,7 +119,7 @@ numeral_run = numeral_fails is_no_digit (λ b low high. grind (arith, nat_tests)
 
 -- ---- numbers and kind of a line of numbers
 
-numbers_spaced : (ns : List ℕ) → AllFit ns → numbers (spaced ns) ≡ ns
+numbers_spaced : (ns : List ℕ) → NumeralsFit ns → numbers (spaced ns) ≡ ns
 unfolding numbers
 numbers_spaced [] fit = refl
 numbers_spaced (n ∷ []) fit =
@@ -129,7 +130,7 @@ numbers_spaced (n ∷ m ∷ ns) fit =
     rw (slice_split_at is_no_digit (decimal n) 32 (spaced (m ∷ ns)) (numeral_run n fit.0) refl)
     (grind (arith, numeral.0.0, numeral.1, numbers_spaced (m ∷ ns) fit.1))
 
-number_line : (ns : List ℕ) → 0 < length ns → AllFit ns → is_number_line (spaced ns) ≡ true
+number_line : (ns : List ℕ) → 0 < length ns → NumeralsFit ns → is_number_line (spaced ns) ≡ true
 number_line ns some fit =
     grind (arith, numbers_spaced ns fit, no_numbers (spaced ns), no_word_byte ns fit)
 
@@ -143,39 +144,39 @@ more_lines line text none are =
     false_from_ne_true _ (λ ends. cc (none, list_any_at is_line_end line k d h ends)) in
     rw (append_assoc line (10 ∷ []) text, lines-line line 10 text unended refl, are)
 
-abbrev row_text : Layout → FlowShop → ℕ → List ℕ
-row_text layout shop row = spaced (due_row layout shop row)
+abbrev row_numerals : Layout → FlowShop → ℕ → List ℕ
+row_numerals layout shop row = spaced (due_row layout shop row)
 
 module _ (layout : Layout) (problem : Problem) (is : IsInstance limits problem) where
-  fits : (row : ℕ) → AllFit (due_row layout problem.shop row)
+  fits : (row : ℕ) → NumeralsFit (due_row layout problem.shop row)
   fits row = row_fits layout problem.shop row is.within
 
   rows_are : (rows : List ℕ)
-      → lines (flat_map (row_line layout problem.shop) rows) ≡ map (row_text layout problem.shop) rows
+      → lines (flat_map (row_line layout problem.shop) rows) ≡ map (row_numerals layout problem.shop) rows
   unfolding lines ended_parts open_part
   rows_are [] = refl
   rows_are (row ∷ rows) = more_lines _ _ (no_line_end (due_row layout problem.shop row) (fits row)) (rows_are rows)
 
   rows_unmixed : (rows : List ℕ)
-      → list_all (λ line. not (is_mixed line)) (map (row_text layout problem.shop) rows) ≡ true
+      → list_all (λ line. not (is_mixed line)) (map (row_numerals layout problem.shop) rows) ≡ true
   rows_unmixed [] = refl
   rows_unmixed (row ∷ rows) =
       grind (arith, no_word_byte (due_row layout problem.shop row) (fits row), rows_unmixed rows)
 
   rows_numbers : (rows : List ℕ)
-      → flat_map numbers (map (row_text layout problem.shop) rows) ≡ flat_map (due_row layout problem.shop) rows
+      → flat_map numbers (map (row_numerals layout problem.shop) rows) ≡ flat_map (due_row layout problem.shop) rows
   rows_numbers [] = refl
   rows_numbers (row ∷ rows) = rw (numbers_spaced (due_row layout problem.shop row) (fits row), rows_numbers rows)
 
   -- a title, a size line, lines without numbers, and the rows
   block_is : (heading sizes : List ℕ) (between : List (List ℕ)) (n : ℕ) → row_count layout problem.shop ≡ n + 1
-      → 0 < row_width layout problem.shop → is_number_line heading ≡ false → AllFit sizes → 0 < length sizes
+      → 0 < row_width layout problem.shop → is_number_line heading ≡ false → NumeralsFit sizes → 0 < length sizes
       → stated_size layout sizes ≡ Some (size_of problem) → list_all (λ line. not (is_mixed line)) between ≡ true
       → flat_map numbers between ≡ [] → IsBlock limits layout problem (heading ∷ spaced sizes
-      ∷ (between ++ map (row_text layout problem.shop) (below (row_count layout problem.shop))))
+      ∷ (between ++ map (row_numerals layout problem.shop) (below (row_count layout problem.shop))))
   unfolding due
   block_is heading sizes between n rows columns plain fit some states unmixed none =
-      let row : ℕ → List ℕ = row_text layout problem.shop in
+      let row : ℕ → List ℕ = row_numerals layout problem.shop in
       let last : List ℕ = due_row layout problem.shop n in
       let joined = flat_map-append numbers between (map row (below n)) in
       let all_rows = flat_map_more (due_row layout problem.shop) n in
@@ -195,12 +196,12 @@ module _ (layout : Layout) (problem : Problem) (is : IsInstance limits problem) 
         within = is;
       }
 
-numbers_fit : (problem : Problem) → IsInstance limits problem → AllFit (size_numbers Taillard (size_of problem))
+numbers_fit : (problem : Problem) → IsInstance limits problem → NumeralsFit (size_numbers Taillard (size_of problem))
 numbers_fit problem is = omega arith
 
-pub texts_fit : TextsFit
+pub canonical_texts_fit : CanonicalTextsFit
 unfolding canonical_text
-texts_fit layout problem is =
+canonical_texts_fit layout problem is =
     let head = length-head_lines layout (size_of problem) (numbers_fit problem is) in
     let rows = length-row_lines layout problem.shop is.within in
     omega (arith, length-append (head_lines layout (size_of problem)) (row_lines layout problem.shop))
@@ -209,7 +210,7 @@ file_is : (layout : Layout) (problem : Problem) → IsInstance limits problem �
     → lines (canonical_text layout problem) ≡ own → IsBlock limits layout problem own
     → IsInstanceFile limits layout (canonical_text layout problem) 1 problem
 file_is layout problem is own are block = record {
-  front = all_of (canonical_text layout problem) (texts_fit layout problem is);
+  front = all_of (canonical_text layout problem) (canonical_texts_fit layout problem is);
   blocks = record { earlier = []; own = own; parts = are; count = refl; each = tt; is_own = block };
 }
 
@@ -229,7 +230,7 @@ canonical_law Taillard problem is =
 canonical_law OrLib problem is =
     let sizes : List ℕ = size_numbers OrLib (size_of problem) in
     let all = numbers_fit problem is in
-    let fit : AllFit sizes = (all.0, (all.1.0, tt)) in
+    let fit : NumeralsFit sizes = (all.0, (all.1.0, tt)) in
     let written : IsInstance limits (as_written OrLib problem) =
     record { within = is.within; seed = omega arith; upper = omega arith; lower = omega arith } in
     let rows = rows_are OrLib (as_written OrLib problem) written (below problem.shop.jobs) in

@@ -1,5 +1,5 @@
 -- What bytes do to what a reader keeps. What its fields say of the bytes that it has read stands in `Reader`.
-use Rattle.std.specs.Prelude.{◌≡◌, ◌≢◌, ℕ, ◌+◌, ◌*◌, ◌%◌, ◌<◌, ◌≤◌, Bool, true, not, ◌&&◌}
+use Rattle.std.specs.Prelude.{◌≡◌, ◌≢◌, ℕ, ◌+◌, ◌*◌, ◌<◌, ◌≤◌, Bool, true, not, ◌&&◌}
 use Rattle.std.specs.Prelude.{◌==◌, nat_lt, replicate, slice_index, slice_set, Option, Some, None, is_some, option_map}
 use Rattle.std.specs.Prelude.{IfSome, if◌then◌else◌, List, [], ◌∷◌, ◌++◌, length, take}
 use Rattle.std.specs.Bool.{then_some}
@@ -33,8 +33,8 @@ abbrev pub has_numbers_alone : Kinds → Bool
 has_numbers_alone k = k.has_digit && not k.has_word
 
 -- the number that no byte has ended, if there is one
-abbrev pub number_of : Digits → Option Number
-number_of d = if d.first == d.offset then None else Some (record { value = d.value; first = d.first })
+abbrev pub open_number : Digits → Option Number
+open_number d = if d.first == d.offset then None else Some (record { value = d.value; first = d.first })
 
 -- ---- a line that may be a size line
 
@@ -164,9 +164,9 @@ mixed_met Phase.Body r offset = refused r (LayoutFault.MixedLine offset)
 mixed_met other r offset = r
 
 -- behind this byte, where this is the last line before it
-abbrev pub judged : Blocks → Line → ℕ → Blocks
-judged r last b =
-    let behind = last_number_ended r (number_of last.digits) in
+abbrev pub after_byte : Blocks → Line → ℕ → Blocks
+after_byte r last b =
+    let behind = last_number_ended r (open_number last.digits) in
     if is_blank b then behind
     else (if is_line_end b then line_ended behind (has_numbers_alone last.kinds)
     else (if (if is_digit b then last.kinds.has_word else last.kinds.has_digit)
@@ -184,7 +184,7 @@ end_fault r = end_fault_in r.phase r
 
 -- behind the last number of an input that ends behind this line
 abbrev pub at_end : Line → Blocks → Blocks
-at_end last r = if is_live r.phase then last_number_ended r (number_of last.digits) else r
+at_end last r = if is_live r.phase then last_number_ended r (open_number last.digits) else r
 
 -- the memory for the wanted block was refused, where its size line ends
 pub record LacksMemory (old next new : Blocks) : Type 0 where
