@@ -22,6 +22,24 @@ def test_what_is_private_is_not_reached(top: pathlib.Path) -> None:
     assert {each for each in reached(top / "crates") if each.file.startswith("Private.")} == set()
 
 
+# What a type or an implementation is to contracts, in its braces.
+MEMBER = re.compile(r"^ *ghost \w+ = \{([^}]*)\}", re.MULTILINE)
+# Worked examples, and one that stands beside its like for NEH and rounds.
+EXAMPLES = {"Examples", "Shops"}
+BESIDE_ITS_LIKE = {"pass_cost_on"}
+
+
+def test_what_only_proofs_and_private_functions_use_is_private(top: pathlib.Path) -> None:
+    """Each definition outside `specs/Private` is reached, or is what a type is to contracts."""
+    crates = top / "crates"
+    members = {(path.relative_to(crates).parts[0], word) for path in crates.glob("*/src/**/*.rt")
+               for inside in MEMBER.findall(path.read_text()) for word in WORD.findall(inside)}
+    others = {each for each in set(all_definitions(crates)) - reached(crates)
+              if not each.file.startswith("Private.") and each.file not in EXAMPLES
+              and (each.crate, each.name) not in members and each.name not in BESIDE_ITS_LIKE}
+    assert others == set()
+
+
 @pytest.mark.parametrize("name", HEADLINE)
 def test_this_word_is_reached(name: str, top: pathlib.Path) -> None:
     assert name in {each.name for each in reached(top / "crates")}
