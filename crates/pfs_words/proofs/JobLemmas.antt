@@ -1,5 +1,5 @@
 -- What the readers of a job are given by a parse of a form.
-use Rattle.std.proofs.Common.{◌≡◌, ◌∙◌, ◌⊎◌, ◌≤◌, ◌||◌, ℕ, true, false, ap, codes, inl, inr, List, [], ◌∷◌}
+use Rattle.std.proofs.Common.{◌≡◌, ◌∙◌, ◌⊎◌, ◌≤◌, ◌||◌, ℕ, true, false, ap, inl, inr, List, [], ◌∷◌}
 use Rattle.std.proofs.Common.{Option, Some, None, arith, option_map, refl, subst, sym, unwrap_or}
 use Rattle.std.specs.Prelude.{IfSome, slice_get}
 use Rattle.std.specs.Borrow.{Bor}
@@ -17,7 +17,7 @@ use Rattle.clap.specs.declared.builder.command.Command.{Command}
 use Rattle.clap.specs.declared.builder.value_parser.ValueParser.TheVariants as parser
 use Rattle.clap.specs.declared.parser.matches.ArgMatches.{ArgMatches}
 use Rattle.clap.proofs.WalkLemmas.{both, list_any-map}
-use Rattle.pfs_words.specs.Commands.{AreLayoutNames, Names, form_of, layout_rule}
+use Rattle.pfs_words.specs.Commands.{AreLayoutNames, Names, form_of, layout_name, layout_rule}
 use Rattle.pfs_words.specs.Jobs.{IsFaultlessLine, AsksFor, AsksForJob, AsksForNothing, SaysMaybeNumber, number_said}
 use Rattle.pfs_words.specs.Jobs.{takes_line}
 use Rattle.pfs_words.specs.Private.Parses.{HasLayout, HasNumber, HasTextAt, IsParseOf, MayHaveNumber}
@@ -29,7 +29,8 @@ use Rattle.pfs_words.proofs.FormLemmas.{asks_value, form_has_value, form_passes,
 abbrev pub some_names : Names
 some_names = record {
   ref_ptr = (0, 0);
-  now = (record { ref_ptr = (0, 0); now = codes "taillard" }) ∷ (record { ref_ptr = (0, 0); now = codes "orlib" }) ∷ [];
+  now = record { ref_ptr = (0, 0); now = layout_name Taillard } ∷ record { ref_ptr = (0, 0); now = layout_name OrLib }
+      ∷ [];
 }
 
 -- ---- the two answers
@@ -96,7 +97,7 @@ module _ {command : Command} {form : App} {words : List Text} {m : ArgMatches} (
       let rule = layout_rule names id in
       let (t, said) = text_given k rule at place refl in
       let passed = form_passes command m form k rule is parse.facts at place t said (parser.Names names) refl in
-      elim (listed names.now (codes "taillard") (codes "orlib") t are passed) [
+      elim (listed names.now (layout_name Taillard) (layout_name OrLib) t are passed) [
         | inl taillard ↦ (Taillard, said ∙ ap Some taillard)
         | inr orlib ↦ (OrLib, said ∙ ap Some orlib)
       ]

@@ -8,6 +8,7 @@ use Rattle.clap.specs.declared.builder.action.ArgAction.TheVariants.{Set, SetTru
 use Rattle.clap.specs.declared.builder.value_parser.ValueParser.TheVariants as parser
 use Rattle.pfs_base.specs.declared.limits.TheConstants.{MOST_BLOCKS, MOST_JOBS, MOST_MACHINES, MOST_PASSES}
 use Rattle.pfs_base.specs.declared.limits.TheConstants.{MOST_ROUNDS}
+use Rattle.pfs_layout.specs.declared.layout.Layout.{Layout}
 
 -- these arguments, and no program's name before them; no subcommands, and no groups
 abbrev pub flat_form : Text → List Rule → App
@@ -17,8 +18,12 @@ flat_form name rules = record { top = record (new_shape name) { rules = rules; n
 abbrev pub Names : Type 0
 Names = Bor (List (Bor Text))
 
+abbrev pub layout_name : Layout → Text
+layout_name Layout.Taillard = codes "taillard"
+layout_name Layout.OrLib = codes "orlib"
+
 abbrev pub AreLayoutNames : Names → Type 0
-AreLayoutNames names = texts names.now ≡ codes "taillard" ∷ codes "orlib" ∷ []
+AreLayoutNames names = texts names.now ≡ layout_name Layout.Taillard ∷ layout_name Layout.OrLib ∷ []
 
 -- `--ID L`, one of the layouts
 abbrev pub layout_rule : Names → Text → Rule

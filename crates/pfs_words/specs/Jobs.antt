@@ -7,16 +7,11 @@ use Rattle.clap.specs.Words.{App, Row, Text, fault_of, first_of, matches_of, tak
 use Rattle.pfs_base.specs.declared.limits.TheConstants.{MOST_BLOCKS, MOST_JOBS, MOST_MACHINES, MOST_PASSES}
 use Rattle.pfs_base.specs.declared.limits.TheConstants.{MOST_ROUNDS}
 use Rattle.pfs_layout.specs.declared.layout.Layout.{Layout}
-use Rattle.pfs_layout.specs.declared.layout.Layout.TheVariants.{Taillard, OrLib}
 use Rattle.pfs_words.specs.declared.solve_options.SolveOptions.{SolveOptions}
 use Rattle.pfs_words.specs.declared.job.Job.{Job}
 use Rattle.pfs_words.specs.declared.job.Job.TheVariants as job
 use Rattle.pfs_words.specs.Commands.{AreLayoutNames, Names, value_form, solve_form, audit_form, convert_form}
-use Rattle.pfs_words.specs.Commands.{generate_form, form_of}
-
-abbrev pub layout_name : Layout → Text
-layout_name Taillard = codes "taillard"
-layout_name OrLib = codes "orlib"
+use Rattle.pfs_words.specs.Commands.{generate_form, form_of, layout_name}
 
 -- the number that a text of digits writes, where a plus may stand first
 abbrev pub number_said : Text → ℕ
