@@ -2,6 +2,8 @@
 ghost use Rattle.std.specs.Prelude.{◌≡◌, ◌≢◌, ◌+◌, ◌-◌, ◌*◌, ◌<◌, ◌≤◌, true, false, ◌==◌, ℕ, List, length, replicate};
 ghost use Rattle.std.specs.Prelude.{Some, None, IfOk, IfErr, OnOk, OnErr, IfSome, option_map, is_some, if◌then◌else◌};
 ghost use Rattle.pfs_layout.specs.Block.{is_within_limits, problem_of};
+ghost use Rattle.std.specs.Prelude.{◌&&◌, not};
+ghost use Rattle.pfs_layout.specs.Lines.{is_digit as digit_test, is_blank as blank_test, is_word_byte as word_test};
 ghost use Rattle.pfs_layout.specs.Private.Step.{refused, CanCount, with_problem_time, counted};
 ghost use Rattle.pfs_layout.specs.Private.Step.{body_judged, number_ended, last_number_ended, no_numbers, stated_by};
 ghost use Rattle.pfs_layout.specs.Private.Step.{size_judged, line_ended, mixed_met, after_byte, TakeMeets};
@@ -257,11 +259,14 @@ impl Blocks {
         }
     }
 
-    // Judges a byte behind this line.
+    // Judges a byte behind this line that ends it or mixes it.
     #[inline(always)]
     #[tactic(auto, using(crate::proofs::Reading::ByteSteps::keeps_last))]
     fn after(&mut self, alloc: Global, last: Line, b: u8)
         requires ready { IsReady self.old }
+        requires digit { (digit_test b && not last.kinds.has_word) ≡ false }
+        requires blank { blank_test b ≡ false }
+        requires word { (word_test b && not last.kinds.has_digit) ≡ false }
         ensures well { self.new.phase ≢ Phase.Refused LayoutFault.Memory → self.new ≡ after_byte self.old last b }
         ensures memory { self.new.phase ≡ Phase.Refused LayoutFault.Memory
             → LacksMemory self.old (after_byte self.old last b) self.new }
@@ -269,9 +274,7 @@ impl Blocks {
         if b == LINE_END {
             self.end_last_number(last.digits.number());
             self.end_line(alloc, last.kinds.is_number_line());
-        } else if is_blank(b) {
-            self.end_last_number(last.digits.number());
-        } else if last.is_mixed_by(b) {
+        } else {
             self.meet_mixed_line(last.digits.offset);
         }
     }
@@ -325,8 +328,9 @@ impl Blocks {
                 line.push_word_byte();
                 continue;
             }
-            self.after(alloc, line, b);
+            let before = line;
             line.push(b);
+            self.after(alloc, before, b);
             if !self.is_live() {
                 break;
             }

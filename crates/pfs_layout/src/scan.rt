@@ -207,16 +207,4 @@ impl Line {
     {
         is_word_byte(b) && !self.kinds.has_digit
     }
-
-    /// Whether a digit or a word byte mixes the line: it has a byte of the other kind.
-    #[inline(always)]
-    pub fn is_mixed_by(self, b: u8) -> bool
-        ensures { result ≡ (if digit_test b then self.kinds.has_word else self.kinds.has_digit) }
-    {
-        if is_digit(b) {
-            self.kinds.has_word
-        } else {
-            self.kinds.has_digit
-        }
-    }
 }

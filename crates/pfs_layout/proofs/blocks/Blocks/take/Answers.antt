@@ -45,9 +45,8 @@ returns-then-not-is_live-clause-meets c =
 
 -- ---- any other byte
 
-pub after-requires : goal.after-requires
-after-requires c =
-    record { ready = taken_ready c.loop-b.invariant (omega arith) c.requires.room c.requires.stands }
+pub after-requires-clause-ready : goal.after-requires-clause-ready
+after-requires-clause-ready c = taken_ready c.loop-b.invariant (omega arith) c.requires.room c.requires.stands
 
 pub loop-b-preserved : goal.loop-b-preserved
 loop-b-preserved c =
