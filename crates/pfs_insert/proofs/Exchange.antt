@@ -52,8 +52,9 @@ module _ (shop : FlowShop) (jobs : List ℕ) (job place : ℕ) (within : place �
       ∙ ap (λ n. head weigh n last) (length-insert jobs place job within ∙ add-one (length jobs))
 
   -- the sum at a machine
-  abbrev sum_at : ℕ → ℕ
-  sum_at machine = heaviest_front shop (insert jobs place job) place machine + heaviest_back shop jobs place machine
+  abbrev sum_through : ℕ → ℕ
+  sum_through machine =
+      heaviest_front shop (insert jobs place job) place machine + heaviest_back shop jobs place machine
 
   back_onward : place < length jobs → (machine : ℕ) →
       heaviest_back shop jobs place machine ≡ onward weigh (length jobs - 1 - place) (suc place) last machine
@@ -65,7 +66,7 @@ module _ (shop : FlowShop) (jobs : List ℕ) (job place : ℕ) (within : place �
       ap (λ r. weigh r m) e ∙ operation_behind (place + k) m (omega arith))))
 
   -- a path leaves the row of the inserted job at one machine
-  exchange_to : most weigh (length jobs) last 0 0 ≡ greatest_to sum_at last
+  exchange_to : most weigh (length jobs) last 0 0 ≡ greatest_to sum_through last
   exchange_to =
       elim (cases_lt place (length jobs)) [
         | inl inside ↦
@@ -74,19 +75,19 @@ module _ (shop : FlowShop) (jobs : List ℕ) (job place : ℕ) (within : place �
             let one_more : length jobs ≡ suc total = omega arith in
             ap (λ n. most weigh n last 0 0) one_more
             ∙ most_by_exit weigh rest (suc place) last place last 0 0 total (omega arith) (omega arith) (omega arith)
-            ∙ greatest_to_same (by_exit weigh rest (suc place) last place 0 0) sum_at last
+            ∙ greatest_to_same (by_exit weigh rest (suc place) last place 0 0) sum_through last
             (λ x le. rw zero-add (omega (arith, heaviest_is weigh place x, back_onward inside x)))
         | inr behind ↦
             let all : length jobs ≡ place = omega arith in
             ap (λ n. most weigh n last 0 0) all
             ∙ sym (greatest_to_last (λ x. most weigh place x 0 0) last (rises weigh place))
-            ∙ greatest_to_same (λ x. most weigh place x 0 0) sum_at last
+            ∙ greatest_to_same (λ x. most weigh place x 0 0) sum_through last
             (λ x le. omega (arith, heaviest_is weigh place x, back_none shop jobs place x behind))
       ]
 
 pub exchange_law : ExchangeLaw
 exchange_law shop jobs job place some within =
-    let sum = sum_at shop jobs job place within in
+    let sum = sum_through shop jobs job place within in
     let machines : suc (shop.machines - 1) ≡ shop.machines = omega arith in
     with_is shop jobs job place within ∙ exchange_to shop jobs job place within
     ∙ greatest_to_same sum (λ x. sum (0 + x)) (shop.machines - 1) (λ x le. rw zero-add refl)

@@ -153,7 +153,7 @@ module _ (shop : FlowShop) (jobs : List ℕ) (job place : ℕ) (within : place �
       ∙ next_row_heads shop (insert jobs place job) place machine ∙ sym (heaviest_is weigh place machine)
 
 -- values that are the heads of the jobs before a place
-pub record IsHead (shop : FlowShop) (jobs : List ℕ) (values : ℕ → ℕ) (place : ℕ) : Type 0 where
+pub record AreHeads (shop : FlowShop) (jobs : List ℕ) (values : ℕ → ℕ) (place : ℕ) : Type 0 where
   pub same : (machine : ℕ) → values machine ≡ head_of shop jobs place machine
 
 module _ (shop : FlowShop) (jobs : List ℕ) where
@@ -161,16 +161,16 @@ module _ (shop : FlowShop) (jobs : List ℕ) where
   head_of_is zero machine = refl
   head_of_is (suc place) machine = heaviest_is (operation shop jobs) place machine
 
-  pub head_first : (place : ℕ) → IsHead shop jobs (head_of shop jobs place) place
+  pub head_first : (place : ℕ) → AreHeads shop jobs (head_of shop jobs place) place
   head_first place = record { same = λ machine. refl }
 
-module _ {shop : FlowShop} {jobs : List ℕ} {values : ℕ → ℕ} {place : ℕ} (is : IsHead shop jobs values place) where
+module _ {shop : FlowShop} {jobs : List ℕ} {values : ℕ → ℕ} {place : ℕ} (is : AreHeads shop jobs values place) where
   same_values : (m : ℕ) → values m ≡ head (operation shop jobs) place m
   same_values m = is.same m ∙ head_of_is shop jobs place m
 
   -- the row of heads behind the job of a place
   pub head_next : {job next : ℕ} → next ≡ place + 1 → job ≡ get_or jobs place 0 →
-      IsHead shop jobs (head_row shop job values) next
+      AreHeads shop jobs (head_row shop job values) next
   head_next {job} later job_is = record {
     same = λ machine.
         next_row_same (time_of shop job) (operation shop jobs place) values (head (operation shop jobs) place) machine

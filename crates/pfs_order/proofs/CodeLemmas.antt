@@ -7,7 +7,7 @@ use Rattle.std.proofs.lemmas.Bool.{cases_lt, eq-eqb, ne_eqb}
 use Rattle.std.proofs.lemmas.Bool.Decides.{nat_tests}
 use Rattle.std.proofs.lemmas.List.{append_assoc, append-nil, take_all, take_more_set, length-drop, drop_all, drop_more}
 use Rattle.pfs_order.specs.declared.fault.OrderFault.{OrderFault}
-use Rattle.pfs_order.specs.Private.Reading.{behind, Stops, byte_at, word_at, ended, longer, or_else}
+use Rattle.pfs_order.specs.Private.Reading.{then_read, Stops, byte_at, word_at, ended, longer, or_else}
 use Rattle.pfs_order.specs.Private.Reading.{numeral_on, numeral_at}
 use Rattle.pfs_order.specs.Private.Reading.{job_end, jobs_at, yields, first_line_at, makespan_at, lines_at}
 use Rattle.pfs_order.specs.Private.Reading.{text_at}
@@ -77,7 +77,7 @@ module _ (count place : ℕ) (front text bytes : List ℕ) (h : place < count) w
       rw (more, left, e) (of (jobs_at (count - place - 1) rest))
     where
       of : (others : Result (List ℕ × List ℕ) (List ℕ))
-          → with_front front (behind (λ jobs. yields (job ∷ jobs)) others) ≡ with_front (front ++ job ∷ []) others
+          → with_front front (then_read (λ jobs. yields (job ∷ jobs)) others) ≡ with_front (front ++ job ∷ []) others
       of (Ok (jobs, after)) = rw append_assoc
       of (Err after) = refl
 

@@ -17,8 +17,8 @@ use Rattle.pfs_order.specs.declared.reading.Version.{Version}
 use Rattle.pfs_order.specs.declared.reading.Version.TheVariants.{One, Two}
 use Rattle.pfs_order.proofs.Faults.{fault_where_front_ends}
 use Rattle.pfs_order.proofs.NumeralScan.{number_reads, number_ends}
-use Rattle.pfs_order.proofs.Scanning.{Spelling, Verdict, found, stuck, Finds, Reads, then_reads, then_joined, map_reads}
-use Rattle.pfs_order.proofs.Scanning.{none_reads, word_reads, same_read, spells_read, with_tail-same}
+use Rattle.pfs_order.proofs.Scanning.{Spelling, ScanVerdict, found, stuck, Finds, Scans, then_reads, then_joined}
+use Rattle.pfs_order.proofs.Scanning.{map_reads, none_reads, word_reads, same_read, spells_read, with_tail-same}
 
 -- a job numeral of at most nine digits
 abbrev pub IsShort : ℕ → Type 0
@@ -33,7 +33,7 @@ version_ending Two = codes "2 "
 abbrev IsEnding : Spelling Version
 IsEnding version text = text ≡ version_ending version
 
-version_end_reads : Reads IsEnding version_end
+version_end_reads : Scans IsEnding version_end
 unfolding version_end word_at byte_at
 version_end_reads = record { some = (One, (codes " ", one)); verdict = verdict }
   where
@@ -43,14 +43,14 @@ version_end_reads = record { some = (One, (codes " ", one)); verdict = verdict }
     two : Finds IsEnding version_end Two (codes "2 ")
     two = record { spelled = refl; read = λ other. refl }
 
-    behind_two : (text : List ℕ) → Verdict IsEnding version_end (50 ∷ text)
+    behind_two : (text : List ℕ) → ScanVerdict IsEnding version_end (50 ∷ text)
     behind_two [] = stuck Two (codes "2") (codes " ") [] refl two (λ other. refl)
     behind_two (b ∷ text) = elim (cases_eq b 32) [
       | inl space ↦ rw space (found Two (codes "2 ") text refl two)
       | inr other ↦ stuck Two (codes "2") (codes " ") (b ∷ text) refl two (λ more. rw (ne_eqb b 32 other) refl)
     ]
 
-    verdict : (text : List ℕ) → Verdict IsEnding version_end text
+    verdict : (text : List ℕ) → ScanVerdict IsEnding version_end text
     verdict [] = stuck One [] (codes " ") [] refl one (λ other. refl)
     verdict (b ∷ text) = elim (cases_eq b 32) [
       | inl space ↦ rw space (found One (codes " ") text refl one)
@@ -64,7 +64,7 @@ version_end_reads = record { some = (One, (codes " ", one)); verdict = verdict }
 abbrev opening : Version → List ℕ
 opening version = codes "order" ++ version_ending version
 
-version_reads : Reads (λ version text. text ≡ opening version) version_at
+version_reads : Scans (λ version text. text ≡ opening version) version_at
 unfolding version_at
 version_reads = then_reads (word_reads (codes "order")) (λ _. version_end_reads) (λ _ version s t w e. rw (w, e) refl)
 
@@ -72,7 +72,7 @@ version_reads = then_reads (word_reads (codes "order")) (λ _. version_end_reads
 abbrev pub IsFirstLine : Spelling (ℕ × Option ℕ)
 IsFirstLine head text = IsHead head.0 head.1 × (text ≡ first_line head.0 head.1)
 
-counts_read : (version : Version) → Reads (λ head text. IsFirstLine head (opening version ++ text)) (counts_at version)
+counts_read : (version : Version) → Scans (λ head text. IsFirstLine head (opening version ++ text)) (counts_at version)
 counts_read One = map_reads (λ n. (n, None)) (number_reads 1 MOST_JOBS 10 (lit≤ tt) (lit≤ tt) (lit< tt) (lit< tt))
     (λ n text (within, e). (record { some = within.0; few = within.1; stated = tt }, rw e refl))
 counts_read Two = then_joined (number_reads 1 MOST_JOBS 32 (lit≤ tt) (lit≤ tt) (lit< tt) (lit< tt)) (λ n.
@@ -80,7 +80,7 @@ counts_read Two = then_joined (number_reads 1 MOST_JOBS 32 (lit≤ tt) (lit≤ t
     (λ m text (stated, e) s (within, f).
     (record { some = within.0; few = within.1; stated = stated }, rw (e, f) (simp append_assoc))))
 
-first_line_reads : Reads IsFirstLine first_line_at
+first_line_reads : Scans IsFirstLine first_line_at
 unfolding first_line_at
 first_line_reads = then_reads version_reads counts_read (λ version head s t o (h, e). (h, rw o e))
 
@@ -114,7 +114,7 @@ no_digit zero = lit< tt
 no_digit (suc more) = lit< tt
 
 row_reads : (count : ℕ)
-    → Reads (λ jobs text. (length jobs ≡ count) × All IsShort jobs × (text ≡ row jobs)) (jobs_at count)
+    → Scans (λ jobs text. (length jobs ≡ count) × All IsShort jobs × (text ≡ row jobs)) (jobs_at count)
 unfolding jobs_at
 row_reads zero = none_reads [] (refl, All-nil IsShort, refl)
 row_reads (suc more) =
@@ -134,7 +134,7 @@ row_found (job ∷ jobs) other h =
 -- ---- the last line
 
 makespan_reads :
-    Reads (λ makespan text. (makespan < 10 ^ 18) × (text ≡ named_number (codes "makespan") makespan)) makespan_at
+    Scans (λ makespan text. (makespan < 10 ^ 18) × (text ≡ named_number (codes "makespan") makespan)) makespan_at
 unfolding makespan_at
 makespan_reads = then_reads (word_reads (codes "makespan "))
     (λ _. number_reads 0 (10 ^ 18 - 1) 10 (lit≤ tt) (lit≤ tt) (lit< tt) (lit< tt))
@@ -155,7 +155,7 @@ unfolding order_text
 text_parts jobs machines makespan = append_assoc (first_line (length jobs) machines) (with_line_end (spaced jobs))
     (named_number (codes "makespan") makespan)
 
-lines_read : Reads (λ stated text. HasText text stated.0 stated.1 stated.2) lines_at
+lines_read : Scans (λ stated text. HasText text stated.0 stated.1 stated.2) lines_at
 unfolding lines_at
 lines_read = then_joined first_line_reads (λ head. then_joined (row_reads head.0) (λ jobs.
     map_reads (λ makespan. (jobs, head.1, makespan)) makespan_reads

@@ -16,7 +16,7 @@ use Rattle.pfs_order.specs.Sequence.{StatedOrder}
 use Rattle.pfs_order.specs.OrderFile.{IsOrderFile, IsText, RefusesOrder, RefusesUnlessFailed, IsUnlessFailed}
 use Rattle.pfs_order.specs.OrderFile.{ReadsOrderAsFar}
 use Rattle.pfs_order.specs.Private.Reading.{FillsBelow, JudgesText}
-use Rattle.pfs_order.proofs.Published.OrderVerdicts.{one_refusal, not_both, one_file, Verdict, text_verdict}
+use Rattle.pfs_order.proofs.Published.OrderVerdicts.{one_refusal, not_both, one_file, OrderVerdict, text_verdict}
 
 -- ---- bytes that are read into a part of a buffer
 
@@ -63,9 +63,9 @@ Says (Err fault) input = RefusesUnlessFailed input fault
 
 judged_says : (bytes : List ℕ) (answer : Result StatedOrder OrderFault) → length bytes ≤ LONGEST_ORDER_FILE
     → JudgesText bytes answer → Says answer bytes
-judged_says bytes (Ok file) few e = subst (Verdict bytes) e (text_verdict bytes few)
+judged_says bytes (Ok file) few e = subst (OrderVerdict bytes) e (text_verdict bytes few)
 judged_says bytes (Err fault) few (inl (memory, h)) = rw memory tt
-judged_says bytes (Err fault) few (inr e) = of fault (subst (Verdict bytes) e (text_verdict bytes few))
+judged_says bytes (Err fault) few (inr e) = of fault (subst (OrderVerdict bytes) e (text_verdict bytes few))
   where
     of : (told : OrderFault) → RefusesOrder bytes told → RefusesUnlessFailed bytes told
     of Read h = tt
@@ -90,7 +90,8 @@ refused (Ok file) told = tt
 refused (Err fault) told = says told
 
 -- no other answer is the right one
-one_answer : (input : List ℕ) (answer right : Result StatedOrder OrderFault) → Says answer input → Verdict input right
+one_answer : (input : List ℕ) (answer right : Result StatedOrder OrderFault) → Says answer input
+    → OrderVerdict input right
     → IsUnlessFailed answer right
 one_answer input (Ok file) (Ok other) h k = inl (ap Ok (one_file input file other h k))
 one_answer input (Ok file) (Err fault) h k = absurd (not_both input file fault h k)
@@ -141,21 +142,21 @@ reads answer (whole bytes c end few j) =
     never_long (Ok file) k is = cc
     never_long (Err fault) (inl (memory, h)) is = absurd (cc)
     never_long (Err TooLong) (inr e) is =
-        let long = subst (Verdict bytes) e (text_verdict bytes few) in absurd (omega arith)
+        let long = subst (OrderVerdict bytes) e (text_verdict bytes few) in absurd (omega arith)
     never_long (Err fault) (inr e) is = absurd (cc)
 
     of_memory : (read : Result StatedOrder OrderFault) → JudgesText bytes read → result_err read ≡ Some Memory
         → IsText bytes
     of_memory (Ok file) k is = absurd (cc)
     of_memory (Err fault) (inl (memory, h)) is = h
-    of_memory (Err Memory) (inr e) is = absurd (subst (Verdict bytes) e (text_verdict bytes few))
+    of_memory (Err Memory) (inr e) is = absurd (subst (OrderVerdict bytes) e (text_verdict bytes few))
     of_memory (Err fault) (inr e) is = absurd (cc)
 
 pub never_read : (bytes : List ℕ) (answer : Result StatedOrder OrderFault) → length bytes ≤ LONGEST_ORDER_FILE
     → JudgesText bytes answer → answer ≢ Err Read
 never_read bytes (Ok file) few j is = absurd (cc)
 never_read bytes (Err fault) few (inl (memory, h)) is = absurd (cc)
-never_read bytes (Err Read) few (inr e) is = subst (Verdict bytes) e (text_verdict bytes few)
+never_read bytes (Err Read) few (inr e) is = subst (OrderVerdict bytes) e (text_verdict bytes few)
 never_read bytes (Err fault) few (inr e) is = absurd (cc)
 
 -- the clauses of read_order, where a failed read is told just where the device has failed

@@ -21,38 +21,38 @@ use Rattle.pfs_order.specs.OrderFile.{IsRepeated, AreRightBefore, IsJobFault}
 use Rattle.pfs_order.specs.Private.Reading.{on_ok, take_job, take_jobs, none_of}
 use Rattle.pfs_order.proofs.Published.Sequences.{IsSequence-nil, IsSequence-insert, cases_Contains}
 
-abbrev pub with_job : Sequence → ℕ → Sequence
-with_job seq job = record seq { jobs = seq.jobs ++ job ∷ [] }
+abbrev pub job_added : Sequence → ℕ → Sequence
+job_added seq job = record seq { jobs = seq.jobs ++ job ∷ [] }
 
-abbrev pub IsNumber : Sequence → ℕ → Type 0
-IsNumber seq number = (1 ≤ number) × (number ≤ seq.size)
+abbrev pub IsJobNumber : Sequence → ℕ → Type 0
+IsJobNumber seq number = (1 ≤ number) × (number ≤ seq.size)
 
 module _ (seq : Sequence) (number : ℕ) where
-  pub out_of_range : ¬ IsNumber seq number → take_job seq number ≡ Err (JobRange (length seq.jobs + 1))
+  pub out_of_range : ¬ IsJobNumber seq number → take_job seq number ≡ Err (JobRange (length seq.jobs + 1))
   unfolding take_job
   out_of_range out = grind (arith, nat_tests)
 
-  pub repeated : IsNumber seq number → Contains seq.jobs (number - 1)
+  pub repeated : IsJobNumber seq number → Contains seq.jobs (number - 1)
       → take_job seq number ≡ Err (Repeated (length seq.jobs + 1))
   unfolding take_job
   repeated (some, few) among =
       let found = list_any-from_Contains nat_eq_equiv (number - 1) seq.jobs among in
       grind (arith, nat_tests)
 
-  pub taken : IsNumber seq number → ¬ Contains seq.jobs (number - 1)
-      → take_job seq number ≡ Ok (with_job seq (number - 1))
+  pub taken : IsJobNumber seq number → ¬ Contains seq.jobs (number - 1)
+      → take_job seq number ≡ Ok (job_added seq (number - 1))
   unfolding take_job
   taken (some, few) absent =
       let none : list_any (eqb (number - 1)) seq.jobs ≡ false =
       false_from_ne_true _ (λ found. absent (Contains-from_any eqb-true (number - 1) seq.jobs found)) in
       grind (arith, nat_tests)
 
-  number_cases : (¬ IsNumber seq number) ⊎ ((IsNumber seq number × Contains seq.jobs (number - 1))
-      ⊎ (IsNumber seq number × ¬ Contains seq.jobs (number - 1)))
+  number_cases : (¬ IsJobNumber seq number) ⊎ ((IsJobNumber seq number × Contains seq.jobs (number - 1))
+      ⊎ (IsJobNumber seq number × ¬ Contains seq.jobs (number - 1)))
   number_cases = elim (cases_Bool (nat_lt number 1 || nat_lt seq.size number)) [
     | inl out ↦ inl (λ within. grind (arith, nat_tests))
     | inr among ↦
-        let within : IsNumber seq number = grind (arith, nat_tests) in
+        let within : IsJobNumber seq number = grind (arith, nat_tests) in
         elim (cases_Contains seq.jobs (number - 1)) [
           | inl there ↦ inr (inl (within, there))
           | inr absent ↦ inr (inr (within, absent))
@@ -145,7 +145,7 @@ judged_from (n ∷ rest) numbers seq whole size h = elim (number_cases seq n) [
     ),
   )
   | inr (inr (within, absent)) ↦ rw (taken seq n within absent)
-      (judged_from rest numbers (with_job seq (n - 1)) (longer within.0) size
+      (judged_from rest numbers (job_added seq (n - 1)) (longer within.0) size
       (rw insert_end at
       (IsSequence-insert seq.size (length seq.jobs) (n - 1) seq.jobs (omega (arith, within.0, within.1))
       absent h)))

@@ -26,19 +26,20 @@ pub record Finds {A : Type 0} (L : Spelling A) (scan : Scan A) (a : A) (text : L
 
 -- what stands at the start of a text: a spelling; or a front that some spelling has, while none goes on with
 -- the byte behind it
-pub data Verdict {A : Type 0} (L : Spelling A) (scan : Scan A) (text : List ℕ) : Type 0 where
-  found : (a : A) (front rest : List ℕ) → text ≡ front ++ rest → Finds L scan a front → Verdict L scan text
+pub data ScanVerdict {A : Type 0} (L : Spelling A) (scan : Scan A) (text : List ℕ) : Type 0 where
+  found : (a : A) (front rest : List ℕ) → text ≡ front ++ rest → Finds L scan a front → ScanVerdict L scan text
   stuck : (a : A) (front more after : List ℕ) → text ≡ front ++ after → Finds L scan a (front ++ more)
-      → ((other : List ℕ) → scan (front ++ with_tail after other) ≡ Err (with_tail after other)) → Verdict L scan text
+      → ((other : List ℕ) → scan (front ++ with_tail after other) ≡ Err (with_tail after other))
+      → ScanVerdict L scan text
 
 -- what is read is the spelling that stands there, and there is one
-pub record Reads {A : Type 0} (L : Spelling A) (scan : Scan A) : Type 0 where
+pub record Scans {A : Type 0} (L : Spelling A) (scan : Scan A) : Type 0 where
   pub some : (a : A) × ((text : List ℕ) × Finds L scan a text)
-  pub verdict : (text : List ℕ) → Verdict L scan text
+  pub verdict : (text : List ℕ) → ScanVerdict L scan text
 
 -- one piece, and then another, whose spellings are joined
 module _ {A B : Type 0} {L : Spelling A} {M : A → Spelling B} {N : Spelling B} {scan : Scan A} {next : A → Scan B}
-    (h : Reads L scan) (k : (a : A) → Reads (M a) (next a))
+    (h : Scans L scan) (k : (a : A) → Scans (M a) (next a))
     (join : (a : A) (b : B) (s t : List ℕ) → L a s → M a b t → N b (s ++ t)) where
   then_finds : (a : A) (b : B) (s t : List ℕ) → Finds L scan a s → Finds (M a) (next a) b t
       → Finds N (scan >>= next) b (s ++ t)
@@ -47,7 +48,7 @@ module _ {A B : Type 0} {L : Spelling A} {M : A → Spelling B} {N : Spelling B}
     read = λ other. rw (append_assoc, l.read (t ++ other), m.read other) refl;
   }
 
-  then_verdict : (text : List ℕ) → Verdict N (scan >>= next) text
+  then_verdict : (text : List ℕ) → ScanVerdict N (scan >>= next) text
   then_verdict text = elim (h.verdict text) [
     | stuck a front more after whole l stops ↦
         let (b, (t, m)) = (k a).some in
@@ -62,26 +63,26 @@ module _ {A B : Type 0} {L : Spelling A} {M : A → Spelling B} {N : Spelling B}
     ]
   ]
 
-  pub then_reads : Reads N (scan >>= next)
+  pub then_reads : Scans N (scan >>= next)
   then_reads =
       let (a, (s, l)) = h.some in
       let (b, (t, m)) = (k a).some in
       record { some = (b, (s ++ t, then_finds a b s t l m)); verdict = then_verdict }
 
 -- nothing is read of the text, and the value is that of no bytes
-pub none_reads : {A : Type 0} {L : Spelling A} (value : A) → L value [] → Reads L (yields value)
+pub none_reads : {A : Type 0} {L : Spelling A} (value : A) → L value [] → Scans L (yields value)
 none_reads {A} {L} value l =
     let here : Finds L (yields value) value [] = record { spelled = l; read = λ other. refl } in
     record { some = (value, ([], here)); verdict = λ text. found value [] text refl here }
 
 -- the second one's spellings are those that make one of the whole behind any of the first
-pub then_joined : {A B : Type 0} {L : Spelling A} {N : Spelling B} {scan : Scan A} {next : A → Scan B} → Reads L scan
-    → ((a : A) → Reads (λ b t. (s : List ℕ) → L a s → N b (s ++ t)) (next a)) → Reads N (scan >>= next)
+pub then_joined : {A B : Type 0} {L : Spelling A} {N : Spelling B} {scan : Scan A} {next : A → Scan B} → Scans L scan
+    → ((a : A) → Scans (λ b t. (s : List ℕ) → L a s → N b (s ++ t)) (next a)) → Scans N (scan >>= next)
 then_joined h k = then_reads h k (λ a b s t l m. m s l)
 
 -- another value of what is read
-pub map_reads : {A B : Type 0} {L : Spelling A} {N : Spelling B} {scan : Scan A} (value : A → B) → Reads L scan
-    → ((a : A) (text : List ℕ) → L a text → N (value a) text) → Reads N (scan >>= λ a. yields (value a))
+pub map_reads : {A B : Type 0} {L : Spelling A} {N : Spelling B} {scan : Scan A} (value : A → B) → Scans L scan
+    → ((a : A) (text : List ℕ) → L a text → N (value a) text) → Scans N (scan >>= λ a. yields (value a))
 map_reads value h to = then_joined h (λ a. none_reads (value a) (λ s l. rw append-nil (to a s l)))
 
 pub same_read : {A : Type 0} (one other : A × List ℕ) (scan : Scan A) (text : List ℕ) → scan text ≡ Ok one
@@ -89,7 +90,7 @@ pub same_read : {A : Type 0} (one other : A × List ℕ) (scan : Scan A) (text :
 same_read one other scan text e f = cc
 
 -- what is read to the end is spelled there
-pub spells_read : {A : Type 0} {L : Spelling A} {scan : Scan A} → Reads L scan → (text : List ℕ) (a : A)
+pub spells_read : {A : Type 0} {L : Spelling A} {scan : Scan A} → Scans L scan → (text : List ℕ) (a : A)
     → scan text ≡ Ok (a, []) → L a text
 spells_read {A} {L} {scan} h text a e = elim (h.verdict text) [
   | found b front rest whole l ↦
@@ -105,21 +106,21 @@ spells_read {A} {L} {scan} h text a e = elim (h.verdict text) [
 abbrev pub IsWord : List ℕ → Spelling (Unit {0})
 IsWord word _ text = text ≡ word
 
-byte_reads : (c : ℕ) → Reads (IsWord (c ∷ [])) (byte_at c)
+byte_reads : (c : ℕ) → Scans (IsWord (c ∷ [])) (byte_at c)
 unfolding byte_at
 byte_reads c = record { some = (tt, (c ∷ [], here)); verdict = verdict }
   where
     here : Finds (IsWord (c ∷ [])) (byte_at c) tt (c ∷ [])
     here = record { spelled = refl; read = λ other. rw (eq-eqb c c refl) refl }
 
-    verdict : (text : List ℕ) → Verdict (IsWord (c ∷ [])) (byte_at c) text
+    verdict : (text : List ℕ) → ScanVerdict (IsWord (c ∷ [])) (byte_at c) text
     verdict [] = stuck tt [] (c ∷ []) [] refl here (λ other. refl)
     verdict (b ∷ text) = elim (cases_eq b c) [
       | inl same ↦ found tt (c ∷ []) text (rw same refl) here
       | inr other ↦ stuck tt [] (c ∷ []) (b ∷ text) refl here (λ more. rw (ne_eqb b c other) refl)
     ]
 
-pub word_reads : (word : List ℕ) → Reads (IsWord word) (word_at word)
+pub word_reads : (word : List ℕ) → Scans (IsWord word) (word_at word)
 unfolding word_at
 word_reads [] = none_reads tt refl
 word_reads (c ∷ word) = then_reads (byte_reads c) (λ _. word_reads word) (λ a b s t w v. rw (w, v) refl)

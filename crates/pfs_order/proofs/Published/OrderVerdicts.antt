@@ -190,9 +190,9 @@ written_file order machines makespan size h stated small =
 
 -- ---- what is read of a text is the verdict on it
 
-abbrev pub Verdict : List ℕ → Result StatedOrder OrderFault → Type 0
-Verdict text (Ok file) = IsOrderFile text file
-Verdict text (Err fault) = RefusesOrder text fault
+abbrev pub OrderVerdict : List ℕ → Result StatedOrder OrderFault → Type 0
+OrderVerdict text (Ok file) = IsOrderFile text file
+OrderVerdict text (Err fault) = RefusesOrder text fault
 
 job_refused : (text jobs : List ℕ) (machines : Option ℕ) (makespan : ℕ) (fault : OrderFault)
     → HasText text jobs machines makespan → IsJobFault jobs fault → RefusesOrder text fault
@@ -200,19 +200,19 @@ job_refused text jobs machines makespan (JobRange p) h f = (jobs, (machines, (ma
 job_refused text jobs machines makespan (Repeated p) h f = (jobs, (machines, (makespan, (h, f))))
 job_refused text jobs machines makespan fault h f = absurd f
 
-pub text_verdict : (text : List ℕ) → length text ≤ LONGEST_ORDER_FILE → Verdict text (read_text text)
+pub text_verdict : (text : List ℕ) → length text ≤ LONGEST_ORDER_FILE → OrderVerdict text (read_text text)
 unfolding read_text
 text_verdict text few = of (text_is_read text)
   where
     of_jobs : (jobs : List ℕ) (machines : Option ℕ) (makespan : ℕ) → HasText text jobs machines makespan
         → (read : Result Sequence OrderFault) → JudgesJobs jobs read
-        → Verdict text (on_ok (λ seq. Ok (stated_order seq.jobs machines makespan)) read)
+        → OrderVerdict text (on_ok (λ seq. Ok (stated_order seq.jobs machines makespan)) read)
     of_jobs jobs machines makespan h (Err fault) j = job_refused text jobs machines makespan fault h j
     of_jobs jobs machines makespan h (Ok seq) (sequence, numbers) =
         let size : length jobs ≡ length seq.jobs = ap length numbers ∙ length-numbered seq.jobs in
         record { is_order = rw size at sequence; has_text = rw numbers at h }
 
-    of : TextRead text → Verdict text (read_text text)
+    of : TextRead text → OrderVerdict text (read_text text)
     of (read_whole jobs machines makespan h e) =
         rw e (of_jobs jobs machines makespan h (take_jobs jobs (none_of (length jobs))) (jobs_judged jobs))
     of (read_to front rest whole f e) =
@@ -228,7 +228,7 @@ some_verdict input = elim (cases_lt LONGEST_ORDER_FILE (length input)) [
   | inr few ↦ of (read_text input) (text_verdict input few)
 ]
   where
-    of : (read : Result StatedOrder OrderFault) → Verdict input read
+    of : (read : Result StatedOrder OrderFault) → OrderVerdict input read
         → ((file : StatedOrder) × IsOrderFile input file) ⊎ ((fault : OrderFault) × RefusesOrder input fault)
     of (Ok file) h = inl (file, h)
     of (Err fault) h = inr (fault, h)

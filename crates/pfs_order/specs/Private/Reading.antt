@@ -17,12 +17,12 @@ use Rattle.pfs_order.specs.OrderFile.{IsText}
 abbrev pub Scan : Type 0 → Type 0
 Scan A = List ℕ → Result (A × List ℕ) (List ℕ)
 
-abbrev pub behind : {A B : Type 0} → (A → Scan B) → Result (A × List ℕ) (List ℕ) → Result (B × List ℕ) (List ℕ)
-behind next (Ok (read, rest)) = next read rest
-behind next (Err rest) = Err rest
+abbrev pub then_read : {A B : Type 0} → (A → Scan B) → Result (A × List ℕ) (List ℕ) → Result (B × List ℕ) (List ℕ)
+then_read next (Ok (read, rest)) = next read rest
+then_read next (Err rest) = Err rest
 
 abbrev pub and_then : {A B : Type 0} → Scan A → (A → Scan B) → Scan B
-and_then scan next text = behind next (scan text)
+and_then scan next text = then_read next (scan text)
 
 infixl 10 ◌>>=◌
 abbrev pub ◌>>=◌ : {A B : Type 0} → Scan A → (A → Scan B) → Scan B

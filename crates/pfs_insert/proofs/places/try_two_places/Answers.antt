@@ -3,7 +3,7 @@ use Rattle.std.proofs.lemmas.List.{length-take-le, length-append, append_assoc}
 use Rattle.pfs_insert.specs.Insertion.{makespan_with}
 use Rattle.pfs_insert.proofs.FlatRows.{row_fits}
 use Rattle.pfs_insert.proofs.HeadTables.{HoldsHeads, heads_above, head_behind, heads_kept, short_heads}
-use Rattle.pfs_insert.proofs.TailRows.{IsHead, head_first, head_next, put_row}
+use Rattle.pfs_insert.proofs.TailRows.{AreHeads, head_first, head_next, put_row}
 use Rattle.pfs_insert.proofs.places.try_two_places.Given.{Over}
 use Rattle.pfs_insert.proofs.places.try_two_places.Goals.{After-at-2, After-fill_two_places}
 use Rattle.pfs_insert.proofs.places.try_two_places.Goals as goal
@@ -95,7 +95,7 @@ returns-clause-head g c =
     let front_long = rw wide at c.split_at_mut-front.ensures.front_len in
     let both : length (front ++ next) ≡ (place + 2) * shop.machines = omega (arith, length-append front next) in
     let between = head_next (head_first shop jobs place) refl c.at.ensures.value in
-    let after : IsHead shop jobs _ (place + 2) = head_next between (omega arith) c.at-2.ensures.value in
+    let after : AreHeads shop jobs _ (place + 2) = head_next between (omega arith) c.at-2.ensures.value in
     let told = c.fill_two_places.ensures.head _ (above_told g here) in
     rw append_assoc at (head_behind g.B.Span.Length.number shop jobs (front ++ next) new (drop width behind) (place + 2)
     both new_long (λ machine d lt. told machine d lt ∙ after.same machine))
