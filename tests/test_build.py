@@ -18,7 +18,7 @@ for_c staticlib: low
 # What stands for rt: it wants each crate that crates.txt names; it holds its crate's folder and that of `low`, as rt holds
 # all crates below; it notes its words and its niceness, says that it has proved the crate, if it isn't built (of a
 # program on standard error, as rt does), and fails where it is told to. In a first build each of `left` and `right`
-# waits until the other has begun.
+# waits until the other has begun. What it keeps of a check are links to a file that all checkouts share.
 RT = """#!/bin/sh
 crate=${PWD##*/}
 for named in $(sed 's/[ :#].*//' ../../crates.txt); do
@@ -40,6 +40,7 @@ if test $1 = run; then exec 3>&2; else exec 3>&1; fi
 test -e out/rlib/stamp || echo 'logic=proved functions=3' >&3
 if test -e failing; then echo 'goal left open' >&3; exit 1; fi
 touch out/rlib/stamp
+if test -e "$KEPT"; then mkdir -p out/incremental; ln -f "$KEPT" out/incremental/part; fi
 echo "end $crate $1" >> "$NOTES"
 if test $1 = run; then cat; fi
 """
@@ -62,7 +63,7 @@ def repository(folder: pathlib.Path, top: pathlib.Path) -> pathlib.Path:
 
 def build(repository: pathlib.Path, *words: str, path: str | None = None) -> subprocess.CompletedProcess[str]:
     env = dict(os.environ, PATH=f"{repository / 'bin'}:{os.environ['PATH']}" if path is None else path,
-               NOTES=str(repository / "notes"))
+               NOTES=str(repository / "notes"), KEPT=str(repository / "kept"))
     return subprocess.run([repository / "tools" / "build", *words], env=env, capture_output=True, text=True, timeout=30)
 
 
@@ -104,6 +105,19 @@ def test_what_was_built_before_is_not_told(repository: pathlib.Path) -> None:
     (repository / "crates" / "app" / "out" / "rlib" / "stamp").unlink()
     told = build(repository, "app").stderr
     assert re.fullmatch(r"app: proved and built in \d+:\d\d minutes, 0 left\n", told)
+
+
+def test_crates_may_have_been_checked_before_they_are_built(repository: pathlib.Path) -> None:
+    """What a check kept of a crate and what its build in a copy keeps may be links to the same files."""
+    (repository / "kept").write_text("what was checked\n")
+    parts = [repository / "crates" / crate / "out" / "incremental" / "part" for crate in ("left", "right")]
+    for part in parts:
+        part.parent.mkdir(parents=True)
+        os.link(repository / "kept", part)
+    done = build(repository, "app")
+    assert done.returncode == 0, done.stderr
+    assert all(part.samefile(repository / "kept") for part in parts)
+    assert all((part.parent.parent / "rlib" / "stamp").exists() for part in parts)
 
 
 def test_crates_that_were_built_before_wait_for_each_other(repository: pathlib.Path) -> None:
