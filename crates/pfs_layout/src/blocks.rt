@@ -11,7 +11,7 @@ ghost use Rattle.pfs_layout.specs.Private.Step.{has_numbers_alone, end_fault, at
 ghost use Rattle.pfs_layout.specs.Reader.{is_live as live_test, fields, StandsAfter, IsReader, FeedMeets, progress_of};
 
 use crate::body::{Body, Due};
-use crate::scan::{Kinds, LINE_END, Line, Number, is_blank};
+use crate::scan::{Kinds, LINE_END, Line, Number, is_blank, is_digit};
 use crate::size_line::{Size, SizeLine};
 use crate::{Layout, LayoutFault};
 use pfs_base::{BaseFault, Instance, LONGEST_INPUT, LONGEST_TIME};
@@ -85,6 +85,7 @@ impl Blocks {
 
     /// Refuses the input: the fault is told from now on, and no byte is wanted.
     #[cold]
+    #[inline(never)]
     pub fn refuse(&mut self, fault: LayoutFault)
         ensures { self.new ≡ refused self.old fault }
     {
@@ -280,6 +281,7 @@ impl Blocks {
     }
 
     // What is told of so many bytes that were used.
+    #[inline(never)]
     fn progress(&self, used: usize) -> Result<Progress, LayoutFault>
         ensures { result ≡ progress_of self.now.phase used }
     {
@@ -304,15 +306,20 @@ impl Blocks {
             → TakeMeets (fields last.old self.old) text piece.now
             (last.new.digits.offset - last.old.digits.offset) (fields last.new self.new) }
     {
-        let mut line = *last;
-        // Each branch steps on by itself: so the compiler makes a short loop of each.
+        // The parts one by one: the padding behind the flags is never copied.
+        let mut line = Line {
+            digits: last.digits,
+            kinds: last.kinds,
+        };
+        // What means nothing steps on by itself: so the compiler makes a short loop of each such branch.
         for b in piece {
             let b = *b;
-            if line.is_quiet_digit(b) {
-                line.push(b);
-                continue;
-            }
-            if is_blank(b) {
+            if is_digit(b) {
+                if !line.kinds.has_word {
+                    line.push(b);
+                    continue;
+                }
+            } else if is_blank(b) {
                 let number = line.digits.number();
                 line.push_blank();
                 if number.is_none() {
@@ -323,11 +330,11 @@ impl Blocks {
                     break;
                 }
                 continue;
-            }
-            if line.is_quiet_word_byte(b) {
+            } else if b != LINE_END && !line.kinds.has_digit {
                 line.push_word_byte();
                 continue;
             }
+            // The byte ends the line or mixes it.
             let before = line;
             line.push(b);
             self.after(alloc, before, b);
@@ -339,6 +346,7 @@ impl Blocks {
     }
 
     /// Takes a piece behind the last line, up to the end of the wanted block or a refusal.
+    #[inline(never)]
     pub fn feed(
         &mut self,
         alloc: Global,

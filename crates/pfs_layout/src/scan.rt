@@ -30,14 +30,6 @@ pub fn is_blank(b: u8) -> bool
     b == 32 || b == 9 || b == 13
 }
 
-/// Neither a digit, nor a blank, nor the byte that ends a line.
-#[inline(always)]
-pub fn is_word_byte(b: u8) -> bool
-    ensures { result ≡ word_test b }
-{
-    !(is_digit(b) || is_blank(b) || b == LINE_END)
-}
-
 /// The number that no byte has ended.
 #[derive(Clone, Copy)]
 pub struct Digits {
@@ -190,21 +182,5 @@ impl Line {
     {
         self.push_blank();
         self.kinds.has_word = true;
-    }
-
-    /// Whether a byte is a digit of a line without a word byte: it means nothing.
-    #[inline(always)]
-    pub fn is_quiet_digit(self, b: u8) -> bool
-        ensures { result ≡ (digit_test b && not self.kinds.has_word) }
-    {
-        is_digit(b) && !self.kinds.has_word
-    }
-
-    /// Whether a byte is a word byte of a line without a digit: it means nothing.
-    #[inline(always)]
-    pub fn is_quiet_word_byte(self, b: u8) -> bool
-        ensures { result ≡ (word_test b && not self.kinds.has_digit) }
-    {
-        is_word_byte(b) && !self.kinds.has_digit
     }
 }

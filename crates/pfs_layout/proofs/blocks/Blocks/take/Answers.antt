@@ -1,5 +1,5 @@
 -- Each byte leads on, and the last one ends the piece or the reading.
-use Rattle.pfs_layout.proofs.Words.{sym, ◌∙◌, arith, and_parts}
+use Rattle.pfs_layout.proofs.Words.{sym, ◌∙◌, arith, ne_eqb}
 use Rattle.pfs_layout.proofs.Reading.PieceLemmas.{digit_judged, blank_judged, taken_ready, taken_quiet, taken_on}
 use Rattle.pfs_layout.proofs.Reading.PieceLemmas.{taken_end}
 use Rattle.pfs_layout.proofs.Reading.ByteSteps.{keeps_last}
@@ -7,16 +7,19 @@ use Rattle.pfs_layout.proofs.blocks.Blocks.take.Goals as goal
 
 -- ---- a digit, or a word byte, that means nothing
 
-pub loop-b-preserved-then-is_quiet_digit : goal.loop-b-preserved-then-is_quiet_digit
-loop-b-preserved-then-is_quiet_digit c =
-    let quiet = sym c.is_quiet_digit.ensures ∙ c.if-is_quiet_digit.true in
-    taken_quiet c.loop-b.invariant (omega arith) c.requires.room c.push.ensures (digit_judged c.loop-b.invariant quiet)
+pub loop-b-preserved-then-not-line : goal.loop-b-preserved-then-not-line
+loop-b-preserved-then-not-line c =
+    let digit = sym c.is_digit.ensures ∙ c.if-is_digit.true in
+    taken_quiet c.loop-b.invariant (omega arith) c.requires.room c.push.ensures
+    (digit_judged c.loop-b.invariant (rw (digit, c.if-not-line.true)))
 
-pub loop-b-preserved-then-is_quiet_word_byte : goal.loop-b-preserved-then-is_quiet_word_byte
-loop-b-preserved-then-is_quiet_word_byte c =
-    let quiet = sym c.is_quiet_word_byte.ensures ∙ c.if-is_quiet_word_byte.true in
-    taken_quiet c.loop-b.invariant (omega arith) c.requires.room
-    (c.push_word_byte.ensures _ (and_parts _ _ quiet).0) (grind arith)
+pub loop-b-preserved-then-not-line-2 : goal.loop-b-preserved-then-not-line-2
+loop-b-preserved-then-not-line-2 c =
+    let digit = sym c.is_digit.ensures ∙ c.if-is_digit.false in
+    let blank = sym c.is_blank.ensures ∙ c.if-is_blank.false in
+    let other = ne_eqb _ 10 c.if-b-ne-LINE_END.true in
+    taken_quiet c.loop-b.invariant (omega arith) c.requires.room (c.push_word_byte.ensures _ (rw (digit, blank, other)))
+    (rw (digit, blank, other, c.if-not-line-2.true))
 
 -- ---- a blank
 
