@@ -40,6 +40,23 @@ def test_what_only_proofs_and_private_functions_use_is_private(top: pathlib.Path
     assert others == set()
 
 
+DEFINED = re.compile(r"^ *(?:pub )?(?:abbrev|unfoldable|record|data) (?:pub )?([^\s:({]+)", re.MULTILINE)
+# What each function's own proof is named after.
+OWN = {"Answers.antt", "Invariants.antt"}
+# Short for the same within modules that several proofs have: the weights of the jobs, and the last machine.
+SHORT = {"weigh", "last"}
+
+
+def test_no_name_of_a_definition_stands_for_two_things(top: pathlib.Path) -> None:
+    files: dict[str, set[pathlib.Path]] = {}
+    for path in (top / "crates").glob("*/*/**/*.antt"):
+        if path.relative_to(top / "crates").parts[1] in ("specs", "proofs") and path.name not in OWN:
+            for name in DEFINED.findall(path.read_text()):
+                files.setdefault(name, set()).add(path)
+    assert len(files) > 300
+    assert {name for name, places in files.items() if len(places) > 1} == SHORT
+
+
 @pytest.mark.parametrize("name", HEADLINE)
 def test_this_word_is_reached(name: str, top: pathlib.Path) -> None:
     assert name in {each.name for each in reached(top / "crates")}
