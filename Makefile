@@ -1,20 +1,23 @@
-# make run    proves and builds pfs, and runs it on the stored instance (crates/pfs/stdin)
-# make lib    proves and builds the library for C: lib/out/libpfs.a and lib/out/libpfs.so.0 (docs/LIBRARY.md)
-# make test   the merge gate: proves everything from nothing, tries the must-fail edits, runs the tests and
-#             programs; then pytest runs the tests of the built programs, one on each processor
-# make fuzz   compares the built program with a second program on random input, for so many MINUTES
-# make install    puts the program, the tools, their manual pages, the completions and the pages below PREFIX, an
-#                 absolute path (and that below DESTDIR), and the library for C where `make lib` has built it; it
-#                 proves and builds first where the program isn't there or a source is newer
-# make install-lib  puts the library for C there and nothing else; it proves and builds it first
-# make uninstall  takes away all that these put there, and the folders that they made
-# make dist       a tarball and Debian packages for machines without the kit, in the folder DIST (needs the kit, git,
-#                 dpkg-deb and binutils); the library's packages too, where it is built
-# make wheel      a wheel of the package for Python, with the built library in it, in the folder DIST (needs
-#                 python3-build)
-# make taillard   writes Taillard's 120 instances into experiments/out/taillard
-.PHONY: run test fuzz install uninstall dist wheel taillard
+## make help       this list
+## make try        runs pfs on the stored instance (crates/pfs/stdin) without proofs: half a minute
+## make run        proves and builds pfs, and runs it on the stored instance: 12 to 17 minutes the first time
+## make lib        proves and builds the library for C: lib/out/libpfs.a and lib/out/libpfs.so.0 (docs/LIBRARY.md)
+## make check      what to run before each commit: layout, types, scripts and pages, in less than a minute
+## make test       everything that a change has to pass (tools/test): an hour and more
+## make fuzz       compares the built program with a second program on random input, for MINUTES (5)
+## make install    installs the program, the tools, the manual pages, the completions and the pages below PREFIX, an
+##                 absolute path (and that below DESTDIR), and the library for C if `make lib` has built it. It proves
+##                 and builds the program first if it is missing or older than a source
+## make install-lib  installs the library for C alone. It proves and builds it first
+## make uninstall  removes what these two have installed, and the folders that they made
+## make docs       one site of the pages, the package for Python and the library's header: out/site/index.html
+## make dist       a tarball and Debian packages for machines without the kit, in the folder DIST (needs the kit, git,
+##                 dpkg-deb and binutils), with the library's packages if it is built
+## make wheel      a wheel of the package for Python with the built library, in the folder DIST (needs python3-build)
+## make taillard   writes Taillard's 120 instances into experiments/out/taillard
+.PHONY: help try run check test fuzz install uninstall docs dist wheel taillard
 MINUTES = 5
+PYTEST = /usr/bin/python3 -m pytest
 DIST = dist
 PREFIX = /usr/local
 # Places below PREFIX; for Debian's packages they are others.
@@ -24,7 +27,8 @@ PROGRAM = crates/pfs/out/pfs
 LIBRARY = lib/out/libpfs.so.0
 # What tools/gantt and the scripts of experiments/ consist of: scripts, modules of Python and tables.
 GANTT = gantt $(notdir $(wildcard tools/*.py))
-EXPERIMENTS = one report run slurm taillard taillard.csv $(notdir $(wildcard experiments/*.py experiments/check))
+EXPERIMENTS = one report run slurm taillard task taillard.csv best_known.csv \
+    $(notdir $(wildcard experiments/*.py experiments/check))
 
 PLANS = example.toml quality.toml best_known.csv
 
@@ -38,7 +42,9 @@ $(PROGRAM) bin/pfs
 tools/pfs-experiments bin/pfs-experiments
 -> ../libexec/pfs/tools/gantt bin/pfs-gantt
 $(foreach name,$(GANTT),tools/$(name) libexec/pfs/tools/$(name)$(newline))
+python/src/pfs/_whole.py libexec/pfs/tools/_whole.py
 $(foreach name,$(EXPERIMENTS),experiments/$(name) libexec/pfs/experiments/$(name)$(newline))
+python/src/pfs/_whole.py libexec/pfs/experiments/_whole.py
 $(foreach name,pfs pfs-gantt pfs-experiments,share/$(name).1 share/man/man1/$(name).1$(newline))
 share/completions/pfs.bash share/bash-completion/completions/pfs
 share/completions/_pfs $(ZSH)/_pfs
@@ -60,16 +66,25 @@ export PROGRAM_FILES LIBRARY_FILES
 # The library where it is built, so that the program's installation doesn't wait for its proofs.
 BUILT_LIBRARY = $(wildcard $(LIBRARY))
 
+help:
+	@sed -n 's/^## \?//p' Makefile
+
+try:
+	@echo 'pfs on the stored instance, compiled with checks but not proved; this takes half a minute:' >&2
+	cd crates/pfs && rt try < stdin
+	@echo '`make run` proves every crate and leaves a fast program in $(PROGRAM).' >&2
+
 run:
 	tools/build
 
 .PHONY: lib
 lib: $(LIBRARY)
 
+check:
+	$(PYTEST) -n auto -q -m check tests
+
 test:
-	rt ci
-	$(MAKE) lib
-	pytest -n auto
+	tools/test
 
 fuzz: run
 	tests/fuzz.py --seconds $$((60 * $(MINUTES)))
@@ -95,6 +110,9 @@ install-lib: $(LIBRARY)
 
 uninstall:
 	printf '%s\n' "$$PROGRAM_FILES" "$$LIBRARY_FILES" | tools/install take "$(DESTDIR)" "$(PREFIX)" "$(LIB)"
+
+docs:
+	tools/site/build
 
 dist: $(PROGRAM) $(BUILT_LIBRARY)
 	tools/dist "$(DIST)"

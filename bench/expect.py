@@ -73,7 +73,8 @@ def shop_of(source):
     """A shop, job by job; some have many equal times and some have times of 0 or of the limit."""
     jobs = source.randrange(2, 15)
     machines = source.randrange(1, 8)
-    draw = source.choice([lambda: source.randrange(1, 100), lambda: source.randrange(0, 4), lambda: source.choice([0, 1, 1000000])])
+    draw = source.choice([lambda: source.randrange(1, 100), lambda: source.randrange(0, 4),
+                          lambda: source.choice([0, 1, 1000000])])
     return [[draw() for _ in range(machines)] for _ in range(jobs)]
 
 
@@ -100,8 +101,10 @@ def main():
             jobs = " ".join(str(job + 1) for job in order)
             each = take * (2 * len(times) - take) + passes * len(times) * (2 * len(times) - 1)
             cells = 2 * len(times[0]) * (len(times) ** 2 + rounds * each)
-            assert printed == f"order2 {len(order)} {len(times[0])}\n{jobs}\nmakespan {length}\ncells {cells}\n", (case, printed)
-            entries.append({"file": text_of(times), "rounds": rounds, "take": take, "seed": seed, "passes": passes, "printed": printed})
+            wanted = f"order2 {len(order)} {len(times[0])}\n{jobs}\nmakespan {length}\ncells {cells}\n"
+            assert printed == wanted, (case, printed)
+            entries.append({"file": text_of(times), "rounds": rounds, "take": take, "seed": seed, "passes": passes,
+                            "printed": printed})
     (HERE / "expected").mkdir(exist_ok=True)
     (HERE / "expected" / "searches.json").write_text(json.dumps(entries, indent=1) + "\n")
 

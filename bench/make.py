@@ -62,7 +62,10 @@ def blank(random_source):
 # name: (layout, block, what it is, text)
 FILES = {
     "large": ("taillard", 30, "30 blocks of 2000 x 200", lambda: blocks(30, lambda b: taillard(2000, 200, seed_of(b)))),
-    "small": ("taillard", 1000, "1000 blocks of 500 x 20", lambda: blocks(1000, lambda b: taillard(500, 20, seed_of(b)))),
+    "small": (
+        "taillard", 1000, "1000 blocks of 500 x 20",
+        lambda: blocks(1000, lambda b: taillard(500, 20, seed_of(b))),
+    ),
     "wide": (
         "taillard",
         12,
@@ -75,7 +78,8 @@ FILES = {
         "taillard",
         1,
         "one block of 20 x 5 behind 300,000 lines of words",
-        lambda: "a title, of an instance without a number, as it may stand in front of a block : some words more\n" * 300000
+        lambda: 300000
+        * "a title, of an instance without a number, as it may stand in front of a block : some words more\n"
         + taillard(20, 5, 873654221),
     ),
     "padded": (
@@ -94,6 +98,8 @@ FILES = {
 
 # The shops of the search: jobs, machines, seed.
 SHOPS = {
+    "20x5": (20, 5, 873654221),
+    "50x10": (50, 10, 1958948863),
     "100x10": (100, 10, 1539989115),
     "200x20": (200, 20, 471503978),
     "500x20": (500, 20, 1368624604),
@@ -107,6 +113,8 @@ def make(folder):
     folder.mkdir(parents=True, exist_ok=True)
     texts = {name: text for name, (_, _, _, text) in FILES.items()}
     texts.update({name: lambda shop=shop: taillard(*shop) for name, shop in SHOPS.items()})
+    # times of up to 990,000, whose paths fit into 32 bits but not into 16
+    texts["100x20 long"] = lambda: taillard(100, 20, 450926852, lambda time: f"{time}0000")
     for name, text in texts.items():
         path = folder / name
         if not path.exists():

@@ -1,4 +1,4 @@
-// solve [FORM] LAYOUT BLOCK ROUNDS TAKE SEED PASSES [FILE]: NEH's order of a block, and rounds of iterated greedy behind
+// solve [FORM] LAYOUT BLOCK ROUNDS TAKE SEED PASSES [FILE]: NEH's order of a block, and rounds of iterated greedy after
 // it, as `pfs solve --cells` prints them; a TAKE of 0 is the smaller of 4 and the number of jobs. Without FILE it
 // reads standard input. It is written from the definitions, over flat tables of integers. FORM says how the best place
 // is found: `plain64` and `plain32` by one row in a loop over the machines, `rows64` and `rows32` by the loops of pfs,
@@ -127,7 +127,9 @@ public:
 private:
     const uint32_t* times(uint32_t job) const { return &shop.times[job * shop.machines]; }
 
-    Length* tail(const Jobs& order, size_t place) { return tails + (shop.jobs - 1 - order.size() + place) * shop.machines; }
+    Length* tail(const Jobs& order, size_t place) {
+        return tails + (shop.jobs - 1 - order.size() + place) * shop.machines;
+    }
 
     Placed best(const Jobs& order, uint32_t job) {
         size_t jobs = order.size();

@@ -1,9 +1,9 @@
-"""CSVs that the scripts of experiments read: those of runs, of methods of others, and references."""
+"""CSVs: those of runs, of other methods, and of references."""
 from __future__ import annotations
 
 import argparse
 import csv
-import pathlib
+import math
 import re
 from collections.abc import Iterable
 
@@ -13,15 +13,19 @@ class Refused(Exception):
 
 
 Row = dict[str, str]
+# The greatest number of any column: a seed.
+MOST = 2 ** 64 - 1
+# The greatest makespan that an order file can state.
+MOST_MAKESPAN = 10 ** 18 - 1
 
 
 def rows_of(path: str, needed: Iterable[str]) -> list[Row]:
-    """The rows of a CSV that has these columns. What it leaves out at the end of a row is empty."""
+    """The rows of a CSV, which must have these columns. Cells that are missing at the end of a row are empty."""
     try:
         with open(path, newline="", encoding="utf-8-sig") as file:
             reader = csv.DictReader(file, restval="")
             columns, rows = reader.fieldnames or [], list(reader)
-    except (OSError, UnicodeDecodeError, csv.Error) as error:
+    except (OSError, ValueError, csv.Error) as error:
         raise Refused(f"{path}: {getattr(error, 'strerror', None) or error}") from None
     missing = [column for column in needed if column not in columns]
     if missing:
@@ -33,25 +37,42 @@ def rows_of(path: str, needed: Iterable[str]) -> list[Row]:
     return rows
 
 
-def whole(text: str) -> int:
-    """A whole number from 0, also as `5.0`, which is how other programs write it."""
+def whole(text: str, most: int = MOST) -> int:
+    """A whole number from 0, also in the form `5.0`, which other programs write."""
     text = text.strip()
-    front, point, behind = text.partition(".")
-    if not text.isascii() or not front.isdigit() or (point and behind.strip("0")):
-        raise ValueError(f"{text!r} is no whole number")
-    return int(front)
+    found = re.fullmatch(r"0*([0-9]{1,20})(?:\.0*)?", text, re.ASCII)
+    if not found:
+        raise ValueError(f"{shortened(text)} is not a whole number of at most 20 digits")
+    if int(found[1]) > most:
+        raise ValueError(f"{text} is greater than {most}")
+    return int(found[1])
+
+
+def finite(text: str, least: float, most: float) -> float:
+    """A number from the least one to the greatest one."""
+    try:
+        number = float(text)
+    except ValueError:
+        number = math.nan
+    if not least <= number <= most:
+        raise ValueError(f"{shortened(text)} is not a number from {least:g} to {most:g}")
+    return number
+
+
+def shortened(text: str) -> str:
+    return repr(text if len(text) <= 40 else f"{text[:40]}..")
 
 
 def reference_of(path: str) -> dict[str, tuple[int, str]]:
-    """The makespan to which those of an instance are compared, and where it is from, by the instance."""
+    """The makespan to which those of an instance are compared, and its source, by the instance."""
     found: dict[str, tuple[int, str]] = {}
     for row in rows_of(path, ["instance", "makespan"]):
         try:
-            told = whole(row["makespan"]), row.get("source", "")
+            told = whole(row["makespan"], MOST_MAKESPAN), row.get("source", "")
         except ValueError as error:
             raise Refused(f"{path}: {error}") from None
         if found.setdefault(row["instance"], told) != told:
-            raise Refused(f"{path}: {row['instance']} stands there twice")
+            raise Refused(f"{path}: two makespans of {row['instance']}")
     return found
 
 
@@ -60,20 +81,30 @@ def referred(reference: dict[str, tuple[int, str]], instance: str) -> tuple[int,
     return reference.get(instance) or reference.get(instance.rpartition("/")[2])
 
 
-def write_rows(path: pathlib.Path, rows: list[list[str]]) -> None:
-    with open(path, "w", newline="") as file:
-        csv.writer(file, lineterminator="\n").writerows(rows)
+# Cells that a spreadsheet takes for formulas
+
+FORMULA = re.compile("[=+@\t\r-]")
+
+
+def path_cell(path: str) -> str:
+    """A path that a spreadsheet shows as text. It is the same path."""
+    return f"./{path}" if FORMULA.match(path) else path
+
+
+def text_cell(text: str) -> str:
+    """A text that a spreadsheet shows as text."""
+    return f"'{text}" if FORMULA.match(text) else text
 
 
 # Words of a command line
 
 def inches(text: str) -> float:
     if not re.fullmatch(r"[0-9]{1,2}(?:\.[0-9]{1,4})?", text, re.ASCII) or not 2 <= float(text) <= 50:
-        raise argparse.ArgumentTypeError(f"{text!r} is no number of inches from 2 to 50")
+        raise argparse.ArgumentTypeError(f"{text!r} is not a number of inches from 2 to 50")
     return float(text)
 
 
 def dots(text: str) -> int:
     if not re.fullmatch("[0-9]{2,4}", text, re.ASCII) or not 20 <= int(text) <= 1200:
-        raise argparse.ArgumentTypeError(f"{text!r} is no number from 20 to 1200")
+        raise argparse.ArgumentTypeError(f"{text!r} is not a number from 20 to 1200")
     return int(text)

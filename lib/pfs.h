@@ -15,7 +15,9 @@
  * malloc, and is given back before the call ends; a function that was refused some answers PFS_MEMORY. None may be
  * called from a signal handler.
  *
- * What the functions of this header answer is proved for each input, except pfs_version and pfs_message.
+ * For every input, what each function does with its arguments is proved, except pfs_version and pfs_message: the number
+ * that it returns, and what it writes. That the declarations below agree with the proved functions (the order and types
+ * of the parameters, the fields of pfs_notes, the numbers of the macros) is tested.
  */
 #ifndef PFS_H
 #define PFS_H
@@ -36,8 +38,8 @@ extern "C" {
 #define PFS_MOST_ROUNDS 1000000
 #define PFS_MOST_PASSES 100
 #define PFS_MOST_BLOCKS 1000
-#define PFS_LONGEST_INPUT 67108864     /* bytes of an instance file, up to the end of the block */
-#define PFS_LONGEST_ORDER_FILE 65536   /* bytes */
+#define PFS_LONGEST_INPUT 67108864                     /* bytes of an instance file, up to the end of the block */
+#define PFS_LONGEST_ORDER_FILE 65536                   /* bytes */
 #define PFS_MOST_MAKESPAN UINT64_C(999999999999999999) /* that an order file can state */
 
 /* The layouts of instance files. */
@@ -62,15 +64,15 @@ extern "C" {
 #define PFS_ROOM 14     /* too little room for the answer; how much is wanted is told */
 
 /* Faults of instance files, and the number that goes with each: lines count from 1, offsets count bytes from 0. */
-#define PFS_NO_BLOCK 20        /* the file ends before the block; how many complete blocks there are */
-#define PFS_SIZE_COUNT 21      /* a size line has too few or too many numbers; its line */
-#define PFS_SIZE_RANGE 22      /* a number of a size line is out of its limit; its line */
-#define PFS_MIXED_LINE 23      /* a line of times has a word too; the offset of the byte that makes it so */
-#define PFS_TIME_RANGE 24      /* a time is greater than PFS_LONGEST_TIME; the offset of its first digit */
-#define PFS_MACHINE_NUMBER 25  /* another machine's number is due; the offset of its first digit */
-#define PFS_EXTRA_NUMBER 26    /* a number behind a block's last time; the offset of its first digit */
-#define PFS_TRUNCATED 27       /* the file ends inside a block; how many times it has */
-#define PFS_INPUT_TOO_LONG 28  /* the block doesn't end within PFS_LONGEST_INPUT bytes; 0 */
+#define PFS_NO_BLOCK 20       /* the file ends before the block; how many complete blocks there are */
+#define PFS_SIZE_COUNT 21     /* a size line has too few or too many numbers; its line */
+#define PFS_SIZE_RANGE 22     /* a number of a size line is out of its limit; its line */
+#define PFS_MIXED_LINE 23     /* a line of times has a word too; the offset of the byte that makes it so */
+#define PFS_TIME_RANGE 24     /* a time is greater than PFS_LONGEST_TIME; the offset of its first digit */
+#define PFS_MACHINE_NUMBER 25 /* another machine's number is due; the offset of its first digit */
+#define PFS_EXTRA_NUMBER 26   /* a number behind a block's last time; the offset of its first digit */
+#define PFS_TRUNCATED 27      /* the file ends inside a block; how many times it has */
+#define PFS_INPUT_TOO_LONG 28 /* the block doesn't end within PFS_LONGEST_INPUT bytes; 0 */
 
 /* Faults of order files: the offset counts bytes from 0, places count from 1. */
 #define PFS_SYNTAX 30        /* no order file; how many bytes one could begin with */
@@ -87,8 +89,8 @@ const char *pfs_message(int number);
 /* The makespan of a sequence of distinct jobs, which need not be all; of no job it is 0.
  * Judged: sizes (PFS_SIZE), times_length (PFS_LENGTH), times (PFS_TIME), the jobs from the left (PFS_JOB,
  * PFS_REPEATED). */
-int pfs_makespan(const uint32_t *times, size_t times_length, size_t jobs, size_t machines,
-                 const uint32_t *sequence, size_t sequence_length, uint64_t *makespan);
+int pfs_makespan(const uint32_t *times, size_t times_length, size_t jobs, size_t machines, const uint32_t *sequence,
+                 size_t sequence_length, uint64_t *makespan);
 
 /* A length of time below which no order's makespan goes (Taillard 1993): the greatest over the jobs of their totals,
  * and over the machines of their loads with the least times before and after them.
@@ -99,16 +101,15 @@ int pfs_bound(const uint32_t *times, size_t times_length, size_t jobs, size_t ma
  * the job at this place of the order on this machine.
  * Judged: sizes (PFS_SIZE), times_length, order_length, which is `jobs`, starts_length and ends_length, which are
  * jobs * machines (PFS_LENGTH), times (PFS_TIME), the jobs from the left (PFS_JOB, PFS_REPEATED). */
-int pfs_table(const uint32_t *times, size_t times_length, size_t jobs, size_t machines,
-              const uint32_t *order, size_t order_length, uint64_t *starts, size_t starts_length,
-              uint64_t *ends, size_t ends_length);
+int pfs_table(const uint32_t *times, size_t times_length, size_t jobs, size_t machines, const uint32_t *order,
+              size_t order_length, uint64_t *starts, size_t starts_length, uint64_t *ends, size_t ends_length);
 
 /* The order of NEH (Nawaz, Enscore, Ham 1983): the jobs by decreasing total time, of equal totals the lower number
  * first, each put at its best place, of equal ones the first. Its makespan, and how many cells of tables were computed,
  * which are 2 * machines * jobs * jobs (heads and tails, Taillard 1990).
  * Judged: sizes (PFS_SIZE), times_length, order_length, which is `jobs` (PFS_LENGTH), times (PFS_TIME). */
-int pfs_neh(const uint32_t *times, size_t times_length, size_t jobs, size_t machines,
-            uint32_t *order, size_t order_length, uint64_t *makespan, uint64_t *cells);
+int pfs_neh(const uint32_t *times, size_t times_length, size_t jobs, size_t machines, uint32_t *order,
+            size_t order_length, uint64_t *makespan, uint64_t *cells);
 
 /* Makes the rounds `first` to `first + count - 1` of the iterated greedy search (Ruiz and Stützle 2007) of a seed from
  * the order that is handed in, which may be anybody's, and leaves the order that they end in. A round takes `take` jobs
@@ -120,16 +121,16 @@ int pfs_neh(const uint32_t *times, size_t times_length, size_t jobs, size_t mach
  * insertion.
  * Judged: sizes (PFS_SIZE), times_length, order_length, which is `jobs` (PFS_LENGTH), times (PFS_TIME), the jobs from
  * the left (PFS_JOB, PFS_REPEATED), take (PFS_TAKE), passes (PFS_PASSES), first + count (PFS_ROUNDS). */
-int pfs_rounds(const uint32_t *times, size_t times_length, size_t jobs, size_t machines,
-               uint32_t *order, size_t order_length, uint32_t first, uint32_t count, size_t take, uint32_t passes,
-               uint64_t seed, uint64_t *makespan, uint64_t *cells);
+int pfs_rounds(const uint32_t *times, size_t times_length, size_t jobs, size_t machines, uint32_t *order,
+               size_t order_length, uint32_t first, uint32_t count, size_t take, uint32_t passes, uint64_t seed,
+               uint64_t *makespan, uint64_t *cells);
 
 /* The best place of a job in a sequence of others: the first that gives the least makespan, and that makespan. The job
  * goes before the one that stands at the place, or behind the last.
  * Judged: sizes (PFS_SIZE), times_length (PFS_LENGTH), times (PFS_TIME), the jobs of the sequence from the left
  * (PFS_JOB, PFS_REPEATED), the job (PFS_JOB, PFS_REPEATED). */
-int pfs_insert(const uint32_t *times, size_t times_length, size_t jobs, size_t machines,
-               const uint32_t *sequence, size_t sequence_length, uint32_t job, size_t *place, uint64_t *makespan);
+int pfs_insert(const uint32_t *times, size_t times_length, size_t jobs, size_t machines, const uint32_t *sequence,
+               size_t sequence_length, uint32_t job, size_t *place, uint64_t *makespan);
 
 /* Draws times from 1 to 99 from a seed, as Taillard (1993) does for his benchmark.
  * Judged: sizes (PFS_SIZE), seed (PFS_SEED), times_length, which is jobs * machines (PFS_LENGTH). */
@@ -147,14 +148,14 @@ struct pfs_notes {
  * PFS_OK the times stand in the front of `times`. Notes of PFS_ORLIB are 0. Nothing behind the block is looked at.
  * Judged: layout (PFS_LAYOUT), block (PFS_BLOCK), then the file (PFS_NO_BLOCK to PFS_INPUT_TOO_LONG, with its number in
  * *place). */
-int pfs_read(const uint8_t *bytes, size_t bytes_length, uint32_t layout, size_t block, size_t *jobs,
-             size_t *machines, struct pfs_notes *notes, uint32_t *times, size_t room, uint64_t *place);
+int pfs_read(const uint8_t *bytes, size_t bytes_length, uint32_t layout, size_t block, size_t *jobs, size_t *machines,
+             struct pfs_notes *notes, uint32_t *times, size_t room, uint64_t *place);
 
 /* Writes an instance as a file of one block into the front of `text`, with single spaces and no leading zeros; the
  * layout PFS_ORLIB leaves the notes out. *length is how many bytes it has, on PFS_OK and on PFS_ROOM.
  * Judged: sizes (PFS_SIZE), times_length (PFS_LENGTH), times (PFS_TIME), layout (PFS_LAYOUT). */
-int pfs_write(const uint32_t *times, size_t times_length, size_t jobs, size_t machines,
-              const struct pfs_notes *notes, uint32_t layout, uint8_t *text, size_t room, size_t *length);
+int pfs_write(const uint32_t *times, size_t times_length, size_t jobs, size_t machines, const struct pfs_notes *notes,
+              uint32_t layout, uint8_t *text, size_t room, size_t *length);
 
 /* Reads an order file, of version 1 or 2, that stands in memory. Where `room` is less than its jobs the answer is
  * PFS_ROOM, and jobs, machines and makespan are told. On PFS_OK the order stands in the front of `order`, in which jobs
@@ -167,8 +168,8 @@ int pfs_read_order(const uint8_t *bytes, size_t bytes_length, uint32_t *order, s
  * version 2, or where machines is 0 of version 1. *length is how many bytes it has, on PFS_OK and on PFS_ROOM.
  * Judged: order_length and machines (PFS_SIZE), the jobs from the left (PFS_JOB, PFS_REPEATED), makespan
  * (PFS_MAKESPAN). */
-int pfs_write_order(const uint32_t *order, size_t order_length, size_t machines, uint64_t makespan,
-                    uint8_t *text, size_t room, size_t *length);
+int pfs_write_order(const uint32_t *order, size_t order_length, size_t machines, uint64_t makespan, uint8_t *text,
+                    size_t room, size_t *length);
 
 #ifdef __cplusplus
 }

@@ -1,7 +1,9 @@
 """The options and the fixtures of all tests."""
 import contextlib
+import os
 import pathlib
 import shutil
+import signal
 from collections.abc import Iterator
 
 import pytest
@@ -12,10 +14,12 @@ from support.library import Library
 from support.needs import missing
 from support.program import Program
 
-pytest_plugins = ["support.needs", "support.fixtures"]
+pytest_plugins = ["support.needs", "support.fixtures", "support.shuffle", "support.slowest"]
 
 TOP = pathlib.Path(__file__).resolve().parent.parent
 LIBRARY = TOP / "lib" / "out" / "libpfs.so.0"
+# The fixtures of what is proved and built.
+BUILT = {"pfs", "pfs_calls", "libpfs"}
 
 
 def pytest_addoption(parser: pytest.Parser) -> None:
@@ -30,14 +34,31 @@ def pytest_addoption(parser: pytest.Parser) -> None:
 
 
 def pytest_configure(config: pytest.Config) -> None:
+    # What runs in the background of a shell ignores it, and so would all that the tests start.
+    if signal.getsignal(signal.SIGINT) == signal.SIG_IGN:
+        signal.signal(signal.SIGINT, signal.default_int_handler)
+    # It would hide that a script doesn't flush what it prints.
+    os.environ.pop("PYTHONUNBUFFERED", None)
+    if config.option.collectonly or config.option.markexpr == "check":
+        return
     path = config.getoption("pfs").resolve()
-    if not path.is_file() and not config.option.collectonly:
+    if not path.is_file():
         raise pytest.UsageError(f"no program {path}: `make run` proves and builds it, or --pfs=PATH names another one")
 
 
+@pytest.hookimpl(tryfirst=True)  # type: ignore[misc]  # pluggy has no types
 def pytest_collection_modifyitems(items: list[pytest.Item]) -> None:
-    """The longest tests begin first."""
+    """Marks the tests that `make check` runs, and puts the longest tests first."""
+    for item in items:
+        if needs_nothing_built(item) and item.get_closest_marker("long") is None:
+            item.add_marker("check")
     items.sort(key=seconds_of, reverse=True)
+
+
+def needs_nothing_built(item: pytest.Item) -> bool:
+    """Whether this test of this folder uses no program or library. The package for Python loads the library."""
+    is_here = isinstance(item, pytest.Function) and item.path.parent == TOP / "tests"
+    return is_here and not BUILT.intersection(getattr(item, "fixturenames", ()))
 
 
 def seconds_of(item: pytest.Item) -> float:

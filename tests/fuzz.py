@@ -242,10 +242,11 @@ class Writer:
         return [self.random.choice(titles) for _ in range(self.random.choice([0, 0, 1, 1, 2, 3]))]
 
     def shop(self) -> Instance:
-        most_jobs, most_machines = self.random.choice([(300, 20), (5_000, 2), (4, 200)]) if self.is_great else (9, 5)
+        great, small = [(300, 20), (5_000, 2), (4, 200)], [(9, 5), (9, 5), (12, 26)]
+        most_jobs, most_machines = self.random.choice(great if self.is_great else small)
         jobs, machines = self.random.randint(1, most_jobs), self.random.randint(1, most_machines)
         shop = Instance(jobs, machines, [self.random.choice(NOTES) for _ in range(3)])
-        most = self.random.choice([1, 9, 99, 1_000_000_000])
+        most = self.random.choice([1, 9, 99, 3_000, 1_000_000_000])
         for row in shop.times:
             for job in range(jobs):
                 row[job] = self.random.choice(TIMES) if self.chance(0.05) else self.random.randint(0, most)

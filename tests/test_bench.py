@@ -1,7 +1,7 @@
-"""Functions over any bench that must not compile, and why. What a function over any bench computes with times it can
-only have from the bench that it was handed, so that it is counted there: it can't add lengths, take a length or a
-time for a number, or copy the bench. One that has its sum from the bench stands in `crates/pfs_tests`, where it is
-proved."""
+"""Functions over any bench that must not compile, and why. A function over any bench computes with times only by calls
+of the bench, which counts them: it can't add lengths, take a length or a time for a number, or copy the bench. Over a
+bench of lanes it can't add lanes or read them in the tables or the bench. A function that has its sum from the bench
+is in `crates/pfs_tests`, where it is proved."""
 import pathlib
 import re
 import shutil
@@ -10,6 +10,7 @@ from typing import NamedTuple
 
 import pytest
 
+pytestmark = pytest.mark.long
 # The functions, each with its error.
 REFUSED = {
     "adds_lengths": ("""/// The sum of two lengths.
@@ -43,6 +44,33 @@ pub fn copy<B: Bench>(bench: &B) -> Result<B, std::alloc::AllocError> {
 }
 """, "error[unsatisfied-bound]: the trait bound `B: Clone` is not satisfied"),
 }
+# The same over a bench of lanes.
+REFUSED_LANES = {
+    "adds_lanes": ("""/// The sum of two rows of lanes.
+pub fn sum<B: LaneBench>(_bench: &B, a: B::Lanes, b: B::Lanes) -> B::Lanes {
+    a + b
+}
+""", "error[invalid-operand-type]: `+` cannot be applied to `<B as LaneBench>::Lanes`"),
+    "reads_tails": ("""/// The last tail of the first step.
+pub fn tail<B: LaneBench>(_bench: &B, tables: &Tables<B::Lanes>) -> u16 {
+    tables.tails[0].last()
+}
+""", "error[private-field]: field `tails` of struct `Tables` is private"),
+    "reads_sums": ("""/// The sum of the first step.
+pub fn sum<B: LaneBench>(_bench: &B, tables: &Tables<B::Lanes>) -> u16 {
+    tables.sums[0]
+}
+""", "error[private-field]: field `sums` of struct `Tables` is private"),
+    "reads_skewed_times": ("""/// The last time of the first step.
+pub fn time<B: LaneBench>(bench: &B) -> u16 {
+    bench.skewed.times()[0].last()
+}
+""", "error[unknown-field]: no field `skewed` on type `&B`"),
+}
+LANES_HEAD = """//! A function over any bench of lanes.
+use pfs_wave::{LaneBench, Lanes, Tables};
+
+"""
 
 # The root file of a crate that has such functions, and a test, so that `rt try` compiles it.
 ROOT = """//! Functions over any bench.
@@ -64,12 +92,13 @@ class Compiled(NamedTuple):
     has_run: bool
 
 
-def compiled(top: pathlib.Path, folder: pathlib.Path, modules: dict[str, str]) -> Compiled:
-    """What comes of a crate with modules of these names and texts, which stands on pfs_base."""
-    shutil.copytree(top / "crates" / "pfs_base", folder / "crates" / "pfs_base",
-                    ignore=shutil.ignore_patterns("out", "must-fail"))
-    base = [line for line in (top / "crates.txt").read_text().splitlines() if line.startswith("pfs_base:")]
-    (folder / "crates.txt").write_text("\n".join([*base, "any_bench: pfs_base"]))
+def compiled(top: pathlib.Path, folder: pathlib.Path, modules: dict[str, str], below: list[str]) -> Compiled:
+    """What comes of a crate with modules of these names and texts, which uses these crates."""
+    for name in below:
+        shutil.copytree(top / "crates" / name, folder / "crates" / name,
+                        ignore=shutil.ignore_patterns("out", "must-fail"))
+    lines = [line for line in (top / "crates.txt").read_text().splitlines() if line.partition(":")[0] in below]
+    (folder / "crates.txt").write_text("\n".join([*lines, f"any_bench: {' '.join(below)}"]))
     crate = folder / "crates" / "any_bench"
     (crate / "src").mkdir(parents=True)
     (crate / "src" / "lib.rt").write_text(ROOT % "".join(f"pub mod {name};\n" for name in modules))
@@ -89,18 +118,39 @@ def proved(top: pathlib.Path) -> str:
 
 @pytest.fixture(scope="session")
 def refused(top: pathlib.Path, proved: str, tmp_path_factory: pytest.TempPathFactory) -> Compiled:
-    """What comes of a crate in which all functions stand that must not compile, each in a module of its own."""
+    """What comes of a crate that has all functions over any bench that must not compile, each in a module."""
     head = proved[:proved.index("\n/// ") + 1]
-    return compiled(top, tmp_path_factory.mktemp("refused"), {name: head + text for name, (text, _) in REFUSED.items()})
+    return compiled(top, tmp_path_factory.mktemp("refused"), {name: head + text for name, (text, _) in REFUSED.items()},
+                    ["pfs_base"])
+
+
+@pytest.fixture(scope="session")
+def refused_lanes(top: pathlib.Path, tmp_path_factory: pytest.TempPathFactory) -> Compiled:
+    """The same of the functions over any bench of lanes."""
+    modules = {name: LANES_HEAD + text for name, (text, _) in REFUSED_LANES.items()}
+    return compiled(top, tmp_path_factory.mktemp("refused_lanes"), modules,
+                    ["pfs_base", "pfs_order", "pfs_audit", "pfs_insert", "pfs_wave"])
+
+
+def errors_of(compilation: Compiled, name: str) -> list[str]:
+    """The errors in a module."""
+    return [error for module, error in compilation.errors if module == name]
 
 
 @pytest.mark.seconds(10)
 def test_a_sum_by_the_bench_compiles(top: pathlib.Path, folder: pathlib.Path, proved: str) -> None:
-    assert compiled(top, folder, {"any_bench": proved}) == Compiled([], True)
+    assert compiled(top, folder, {"any_bench": proved}, ["pfs_base"]) == Compiled([], True)
 
 
 @pytest.mark.seconds(10)
 @pytest.mark.xdist_group("bench")
 @pytest.mark.parametrize("name", REFUSED)
 def test_no_compilation(refused: Compiled, name: str) -> None:
-    assert [error for module, error in refused.errors if module == name] == [REFUSED[name][1]]
+    assert errors_of(refused, name) == [REFUSED[name][1]]
+
+
+@pytest.mark.seconds(20)
+@pytest.mark.xdist_group("lanes")
+@pytest.mark.parametrize("name", REFUSED_LANES)
+def test_no_compilation_over_lanes(refused_lanes: Compiled, name: str) -> None:
+    assert errors_of(refused_lanes, name) == [REFUSED_LANES[name][1]]

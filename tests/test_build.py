@@ -1,12 +1,19 @@
 """tools/build over a small repository, with a program in the place of `rt` that notes each call: crates are built
 behind those that they stand on, side by side where they may be, and how it ended is told."""
+import importlib.machinery
+import importlib.util
 import os
 import pathlib
 import re
 import shutil
 import subprocess
+import sys
+from collections.abc import Callable
+from concurrent.futures import Future
+from typing import Any
 
 import pytest
+from support.tools import write_script
 
 CRATES = """low: thiserror
 left: low
@@ -15,10 +22,10 @@ app: left right
 other: low
 for_c staticlib: low
 """
-# What stands for rt: it wants each crate that crates.txt names; it holds its crate's folder and that of `low`, as rt holds
-# all crates below; it notes its words and its niceness, says that it has proved the crate, if it isn't built (of a
-# program on standard error, as rt does), and fails where it is told to. In a first build each of `left` and `right`
-# waits until the other has begun. What it keeps of a check are links to a file that all checkouts share.
+# What stands for rt: it needs each crate that crates.txt names; it holds its crate's folder and that of `low`, as rt
+# holds all crates below; it notes its words and whether `nice` ran it, says that it has proved the crate, if it isn't
+# built (of a program on standard error, as rt does), and fails where it is told to. In a first build each of `left` and
+# `right` waits until the other has begun. What it keeps of a check are links to a file that all checkouts share.
 RT = """#!/bin/sh
 crate=${PWD##*/}
 for named in $(sed 's/[ :#].*//' ../../crates.txt); do
@@ -28,13 +35,19 @@ exec 8< . 9< ../low
 flock 8
 test $crate = low || flock 9
 echo "begin $crate $1" >> "$NOTES"
-echo "$crate $(nice)" >> "$NOTES.nice"
+echo "$crate ${NICE:-no}" >> "$NOTES.nice"
 mkdir -p out/rlib
 if ! test -e out/rlib/stamp; then
     case $crate in
-    left) until grep -q 'begin right' "$NOTES"; do sleep 0.01; done;;
-    right) until grep -q 'begin left' "$NOTES"; do sleep 0.01; done;;
+    left) other=right;;
+    right) other=left;;
+    *) other=$crate;;
     esac
+    for at in $(seq 1000); do
+        if grep -q "begin $other" "$NOTES"; then break; fi
+        test $at != 1000 || { echo "$other doesn't begin beside $crate"; exit 3; }
+        sleep 0.01
+    done
 fi
 if test $1 = run; then exec 3>&2; else exec 3>&1; fi
 test -e out/rlib/stamp || echo 'logic=proved functions=3' >&3
@@ -43,6 +56,15 @@ touch out/rlib/stamp
 if test -e "$KEPT"; then mkdir -p out/incremental; ln -f "$KEPT" out/incremental/part; fi
 echo "end $crate $1" >> "$NOTES"
 if test $1 = run; then cat; fi
+"""
+
+
+# What is run by it knows that. The tests themselves may be run with any niceness.
+NICE = """#!/bin/sh
+test "$1" = -n || exit 2
+NICE=$2; export NICE
+shift 2
+exec "$@"
 """
 
 
@@ -56,8 +78,8 @@ def repository(folder: pathlib.Path, top: pathlib.Path) -> pathlib.Path:
     for name in ("tools", "bin"):
         (folder / name).mkdir()
     shutil.copy(top / "tools" / "build", folder / "tools")
-    (folder / "bin" / "rt").write_text(RT)
-    (folder / "bin" / "rt").chmod(0o755)
+    write_script(folder / "bin" / "rt", RT)
+    write_script(folder / "bin" / "nice", NICE)
     return folder
 
 
@@ -89,8 +111,64 @@ def test_the_crate_with_the_longest_chain_above_it_goes_first(repository: pathli
     (repository / "crates" / "above").mkdir()
     assert build(repository, "app").returncode == 0
     niceness = dict(line.split() for line in (repository / "notes.nice").read_text().splitlines())
-    assert {crate: value == niceness["low"] for crate, value in niceness.items()} == {
-        "low": True, "left": True, "right": False, "above": True, "app": True}
+    assert niceness == {"low": "no", "left": "no", "right": "19", "above": "no", "app": "no"}
+
+
+class AtOnce:
+    """In the place of a pool of threads: what is submitted is done before anything else is."""
+
+    def __init__(self, _: int) -> None:
+        """As many threads as there are crates."""
+
+    def __enter__(self) -> "AtOnce":
+        return self
+
+    def __exit__(self, *_: object) -> None:
+        """Nothing is left to wait for."""
+
+    def submit(self, call: Callable[..., Any], *words: Any) -> "Future[Any]":
+        future: Future[Any] = Future()
+        future.set_result(call(*words))
+        return future
+
+
+@pytest.mark.parametrize(("crates", "due"), [
+    ("low: left: low, right: low, above: left, app: above right", "low left right+ above app"),
+    ("low: right: low, left: low, above: left, app: above right", "low left right+ above app"),
+    ("low: a: low, b: low, c: low, d: c, e: d, f: b, app: a e f", "low c b+ a+ d f+ e app"),
+    ("one: two: three: app: one two three", "one two three app"),
+])
+def test_of_crates_that_may_begin_the_one_with_the_longest_chain_goes_first(
+        top: pathlib.Path, monkeypatch: pytest.MonkeyPatch, crates: str, due: str) -> None:
+    """The others, with a plus here, take what it leaves."""
+    module = imported(top / "tools" / "build")
+    begun: list[str] = []
+
+    def build_noting(name: str, program: str | None, may_wait: bool) -> Any:
+        begun.append(name + "+" * may_wait)
+        return module.Build(0, 0.0, pathlib.Path(os.devnull))
+
+    monkeypatch.setattr(module, "build", build_noting)
+    monkeypatch.setattr(module, "ThreadPoolExecutor", AtOnce)
+    below: dict[str, list[str]] = {}
+    for part in re.findall(r"(\w+):((?: \w+(?![\w:]))*)", crates):
+        below[part[0]] = part[1].split()
+    assert module.build_all("app", below) == 0
+    assert " ".join(begun) == due
+
+
+def imported(path: pathlib.Path) -> Any:
+    """A script as a module."""
+    loader = importlib.machinery.SourceFileLoader("build_script", str(path))
+    spec = importlib.util.spec_from_loader("build_script", loader)
+    assert spec is not None
+    module = importlib.util.module_from_spec(spec)
+    before, sys.dont_write_bytecode = sys.dont_write_bytecode, True
+    try:
+        loader.exec_module(module)
+    finally:
+        sys.dont_write_bytecode = before
+    return module
 
 
 def test_each_crate_is_told_with_its_time_and_how_many_are_left(repository: pathlib.Path) -> None:

@@ -1,5 +1,6 @@
-"""The scripts of the repository, also those whose names have no ending: Python is typed, and neither pyflakes nor
-shellcheck finds anything wrong."""
+"""The texts of the repository. Of the scripts, also those whose names have no ending, Python is typed, and neither
+pyflakes nor shellcheck finds anything wrong; C and C++ is laid out by clang-format; all files keep the rules of
+.editorconfig."""
 import functools
 import pathlib
 import re
@@ -24,8 +25,12 @@ def scripts(kind: str) -> list[str]:
     return sorted(str(path.relative_to(TOP)) for path in files_below(TOP, is_passed_over) if kind_of(path) == kind)
 
 
+def is_hidden(folder: str) -> bool:
+    return folder.startswith(".") and folder != ".ci"
+
+
 def is_passed_over(folder: str) -> bool:
-    return folder in PASSED_OVER or (folder.startswith(".") and folder != ".ci")
+    return folder in PASSED_OVER or is_hidden(folder)
 
 
 def kind_of(path: pathlib.Path) -> str:
@@ -53,7 +58,7 @@ def test_scripts_are_found_by_their_first_lines() -> None:
 @pytest.mark.seconds(20)
 def test_python_is_typed() -> None:
     typed = [path for path in scripts("python") if path.startswith(TYPED)]
-    words = [need("mypy"), "--strict", "--scripts-are-modules", "--no-error-summary", "--cache-dir=/dev/null"]
+    words = [need("mypy"), "--strict", "--scripts-are-modules", "--no-error-summary", f"--cache-dir={TOP}/out/mypy"]
     done = subprocess.run([*words, *typed], cwd=TOP, capture_output=True, text=True)
     assert done.stdout + done.stderr == ""
     assert done.returncode == 0
@@ -62,7 +67,7 @@ def test_python_is_typed() -> None:
 @pytest.mark.seconds(20)
 def test_the_package_for_python_is_typed() -> None:
     """By its own settings: its tests have names that those here have too."""
-    words = [need("mypy"), "--no-error-summary", "--cache-dir=/dev/null", "src", "tests", "examples"]
+    words = [need("mypy"), "--no-error-summary", f"--cache-dir={TOP}/out/mypy-python", "src", "tests", "examples"]
     done = subprocess.run(words, cwd=TOP / "python", capture_output=True, text=True)
     assert (done.stdout + done.stderr, done.returncode) == ("", 0)
 
@@ -79,3 +84,56 @@ def test_shellcheck_finds_nothing(path: str) -> None:
 @pytest.mark.parametrize(("shell", "path"), [(shell, path) for shell in ("zsh", "fish") for path in scripts(shell)])
 def test_a_shell_reads_its_completion(shell: str, path: str) -> None:
     assert_silent([need(shell), "-n", path])
+
+
+# The rules of the editors
+
+def c_files() -> list[str]:
+    """The files that .clang-format is for."""
+    return sorted(str(path.relative_to(TOP)) for folder in ("lib", "examples", "bench")
+                  for path in (TOP / folder).iterdir() if path.suffix in (".c", ".cpp", ".h", ".hpp"))
+
+
+@pytest.mark.parametrize("path", c_files())
+def test_clang_format_changes_nothing(path: str) -> None:
+    assert_silent([need("clang-format"), "--dry-run", "--Werror", "--style=file", path])
+
+
+def test_there_are_c_files() -> None:
+    assert {"lib/pfs.h", "examples/neh_ties.c", "bench/solve.cpp"} <= set(c_files())
+
+
+def faults_of(path: pathlib.Path) -> list[str]:
+    """What of a file is against .editorconfig, line by line. `rt fmt` lays out what is in crates/."""
+    try:
+        text = path.read_bytes().decode()
+    except UnicodeDecodeError:
+        return ["no UTF-8"] if path.suffix != ".png" else []
+    is_long = path.suffix in (".json", ".md") or "crates" in path.parts
+    rules = {"more than 120 columns": r".{121}" if not is_long else r"(?!)",
+             "a blank or a carriage return at the end": r".*\s$",
+             "a tab": r".*\t" if path.name != "Makefile" else r"(?!)"}
+    faults = [f"{number}: {fault}" for number, line in enumerate(text.split("\n"), 1)
+              for fault, pattern in rules.items() if re.match(pattern, line)]
+    return faults + ["no line end at the end"] * (text != "" and not text.endswith("\n"))
+
+
+def test_each_file_keeps_the_rules_of_editorconfig() -> None:
+    paths = [*files_below(TOP, lambda folder: folder in ("out", "dist", "__pycache__") or is_hidden(folder))]
+    faults = {str(path.relative_to(TOP)): faults_of(path) for path in paths}
+    assert len(faults) > 500
+    assert {path: found for path, found in faults.items() if found} == {}
+
+
+@pytest.mark.parametrize(("text", "faults"), [
+    ("x" * 120 + "\n", []),
+    ("x" * 121 + "\n", ["1: more than 120 columns"]),
+    ("x \n", ["1: a blank or a carriage return at the end"]),
+    ("x\r\n", ["1: a blank or a carriage return at the end"]),
+    ("x\n\ty\n", ["2: a tab"]),
+    ("x", ["no line end at the end"]),
+    ("", []),
+])
+def test_a_fault_of_a_file(text: str, faults: list[str], folder: pathlib.Path) -> None:
+    (folder / "file.py").write_bytes(text.encode())
+    assert faults_of(folder / "file.py") == faults

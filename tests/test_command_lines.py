@@ -43,6 +43,7 @@ def worked_once(tmp_path_factory: pytest.TempPathFactory) -> pathlib.Path:
     return made
 
 
+@pytest.mark.quick
 @pytest.mark.parametrize("line", ANSWERS)
 def test_line(pfs: Program, worked: pathlib.Path, line: str) -> None:
     assert pfs.run(line, worked) == ANSWERS[line]

@@ -94,6 +94,9 @@ def option_lines(command: str, options: dict[str, str]) -> Iterator[Line]:
         yield Line(f"pfs {command} {option[:4]}", {other for other in options if other.startswith(option[:4])})
         if not value:
             yield Line(f"pfs {command} {option} --", others)
+            # It takes no value: a path may follow.
+            yield Line(f"pfs {command} {option} ", set(FILES) | {"folder"})
+            yield Line(f"pfs {command} {option} b", {"best"})
             continue
         values = LAYOUTS if value == "L" else set()
         yield Line(f"pfs {command} {option} ", values)
@@ -227,6 +230,17 @@ def test_offers(shell: str, line: Line, answers: Answers) -> None:
 @pytest.mark.parametrize("layout", sorted(LAYOUTS))
 def test_each_layout_that_is_offered_is_taken(layout: str, pfs: Program, folder: pathlib.Path) -> None:
     assert pfs.run(["value", "--layout", layout, ""], folder) == Ran(b"", b"pfs: cannot open\n", 4)
+
+
+@pytest.mark.parametrize("option", sorted({option for options, _ in commands().values() for option in options}))
+def test_fish_is_told_which_options_have_a_value(top: pathlib.Path, option: str) -> None:
+    """By -x, which no other option has: then a word that follows it would be its value."""
+    values = {name: value for options, _ in commands().values() for name, value in options.items()}
+    text = (top / "share" / "completions" / "pfs.fish").read_text().replace("\\\n", " ")
+    found = [line.split(" -d ")[0].split() for line in text.splitlines()
+             if line.startswith("complete ") and f" -l {option[2:]} " in line]
+    assert found and {"-x" in words for words in found} == {bool(values[option])}, f"-x of {option}"
+    assert not any("-r" in words for words in found)
 
 
 # What is said

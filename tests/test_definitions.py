@@ -1,5 +1,6 @@
 """What has to be believed is listed: DEFINITIONS.md has each definition that the contract of a public function cites,
-but for the laws, which stand there by the names of their functions, and REACHED.md each on which one of these rests."""
+but for the laws, which are there by the names of their functions. A page of the site lists each on which one of these
+rests."""
 import pathlib
 import re
 
@@ -12,9 +13,9 @@ HEADLINE = ["take_for", "words_for", "neh_cells", "rounds_cells", "solution_text
             "AreLayoutNames", "makespan", "neh_order", "best_place", "after_round", "first_least", "paths", "greatest"]
 
 
-def test_the_page_of_what_is_reached_is_made_of_the_sources(top: pathlib.Path) -> None:
-    made = page(top / "crates")
-    assert (top / "docs" / "REACHED.md").read_text() == made, "tests/support/definitions.py > docs/REACHED.md makes it"
+def test_the_page_of_what_is_reached_has_each(top: pathlib.Path) -> None:
+    rows = re.findall(r"^\| (\S+) \| `([^`]+)` \| .*\|$", page(top / "crates"), re.MULTILINE)
+    assert sorted(rows) == sorted((each.file, each.name) for each in reached(top / "crates")) and len(rows) > 300
 
 
 def test_what_is_private_is_not_reached(top: pathlib.Path) -> None:
@@ -23,7 +24,7 @@ def test_what_is_private_is_not_reached(top: pathlib.Path) -> None:
 
 
 # What a type or an implementation is to contracts, in its braces.
-MEMBER = re.compile(r"^ *ghost \w+ = \{([^}]*)\}", re.MULTILINE)
+MEMBER = re.compile(r"^ *ghost \w+ ?[=:] \{([^}]*)\}", re.MULTILINE)
 # Worked examples, and one that stands beside its like for NEH and rounds.
 EXAMPLES = {"Examples", "Shops"}
 BESIDE_ITS_LIKE = {"pass_cost_on"}

@@ -17,6 +17,8 @@ from support.pipes import PAGE, first_opened, opened_for_writing, page_pipe, unr
 from support.program import Program, Ran, Words, ended
 
 NOBODY = 65_534
+# How often a program is started that has to be stopped in time.
+MOST_STARTS = 100
 # The longest word that Linux passes on, without its end, and how many words are many.
 LONGEST_WORD = 131_071
 MANY = 100_000
@@ -346,20 +348,20 @@ def test_a_file_that_shrinks_while_it_is_read(pfs: Program, folder: pathlib.Path
 
 
 def stopped_while_reading(pfs: Program, file: pathlib.Path) -> tuple[subprocess.Popen[bytes], int]:
-    """The program, which stands somewhere in the first half of a file, and how far it has read. It is started again
-    where it was further before it stood."""
+    """The program, which is stopped somewhere in the first half of a file, and how far it has read. It is started again
+    if it was further before it stopped, or had ended."""
     half = file.stat().st_size // 2
-    while True:
+    for _ in range(MOST_STARTS):
         child = pfs.start(f"value --layout taillard {file.name}", file.parent)
-        while child.poll() is None:
-            if opened_position(child.pid, file.name):
-                stop(child)
-                position = opened_position(child.pid, file.name)
-                if position and position < half:
-                    return child, position
-                child.send_signal(signal.SIGCONT)
-                break
+        wait_for("a part of the file is read",
+                 lambda: child.poll() is not None or bool(opened_position(child.pid, file.name)))
+        stop(child)
+        position = opened_position(child.pid, file.name)
+        if position and position < half:
+            return child, position
+        child.send_signal(signal.SIGCONT)
         ended(child)
+    pytest.fail(f"in {MOST_STARTS} starts the program was never stopped in the first half of the file")
 
 
 def opened_position(process: int, name: str) -> int | None:

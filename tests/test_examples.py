@@ -16,6 +16,7 @@ from support.tools import Told, printed_by, told_by, with_path
 EXAMPLES = HEADER.parent.parent / "examples"
 PAGE = (EXAMPLES / "README.md").read_text()
 SOURCES = sorted(path for path in EXAMPLES.iterdir() if path.suffix in (".c", ".cpp"))
+VERSION = (HEADER.parent.parent / "VERSION").read_text().strip()
 STRICT = {"cc": "-std=c99", "c++": "-std=c++17"}
 SEED = 873654221
 
@@ -31,7 +32,7 @@ def installed(libpfs: Library, tmp_path_factory: pytest.TempPathFactory) -> path
     shutil.copy(HEADER, prefix / "include")
     shutil.copy(libpfs.path, prefix / "lib" / "libpfs.so.0")
     (prefix / "lib" / "libpfs.so").symlink_to("libpfs.so.0")
-    lines = {"prefix=.*": f"prefix={prefix}", "libdir=.*": "libdir=${prefix}/lib", "Version:.*": "Version: 1.0.0"}
+    lines = {"prefix=.*": f"prefix={prefix}", "libdir=.*": "libdir=${prefix}/lib", "Version:.*": f"Version: {VERSION}"}
     text = HEADER.with_name("pfs.pc.in").read_text()
     for line, filled in lines.items():
         text = re.sub(f"^{line}$", filled, text, flags=re.MULTILINE)
@@ -127,6 +128,11 @@ def test_audits(built: pathlib.Path, folder: pathlib.Path) -> None:
     told = run(built, "audit_orders", "shop", *texts, cwd=folder)
     assert told == Told(1, f"right: {valid}one: {valid}wrong: states 7, takes {makespan}\nother: of another instance\n"
                            "shorter: of another instance\ntwice: a job of the order file stands twice (3)\n", "")
+    # At any place of the wrong one.
+    for names in (["wrong", "right"], ["right", "wrong"], ["one", "twice", "right"], ["other", "one"], ["wrong"] * 2):
+        status = run(built, "audit_orders", "shop", *names, cwd=folder).status
+        assert status == 1, f"the status of the files {names}"
+    assert run(built, "audit_orders", "shop", "right", "right", "one", cwd=folder).status == 0
 
 
 @pytest.mark.parametrize("name", [path.stem for path in SOURCES])

@@ -1,6 +1,8 @@
 """The CSV of an experiment is what pfs itself gives: by GNU parallel, here and over ssh, and on a Slurm cluster of one
 node; also where its runs were killed at several moments and made again, and where two are started at once."""
+import ast
 import csv
+import json
 import os
 import pathlib
 import re
@@ -12,12 +14,13 @@ from typing import IO, Any, NamedTuple
 
 import pytest
 from support.experiments import HEAD, OLD_HEAD, PLAN, Experiment, planned
+from support.library import Library
 from support.needs import missing, need
 from support.program import Program
 from support.slurm import Cluster
 from support.ssh import Server
 from support.terminals import Terminal
-from support.tools import Told, told_by, wait_until, with_path, write_script
+from support.tools import Told, printed_by, told_by, wait_until, with_path, write_script
 
 # A program in the place of pfs, whose searches with some of the seeds go wrong.
 FAILING = """#!/bin/sh
@@ -70,6 +73,28 @@ REFUSED = {
     "a block 1,001": ("instances = [\"shops/*\"]\nblocks = [1001]\n", "blocks"),
     "a reference that is a number": ("instances = [\"shops/*\"]\nreference = 1\n", "reference"),
     "a reference that is missing": ("instances = [\"shops/*\"]\nreference = \"none.csv\"\n", "none.csv"),
+    "values that are nested too deeply": ("x = " + "[" * 5000 + "]" * 5000, "plan.toml"),
+    "an instance with a zero byte in its name": ("instances = [\"shops/\\u0000\"]\n", "shops/"),
+    "a reference with a zero byte in its name": ("instances = [\"shops/*\"]\nreference = \"\\u0000\"\n", "reference"),
+    "more bytes than a plan has": ("#" * 1_048_577, "plan.toml"),
+    "a time factor of 0": ("instances = [\"shops/*\"]\ntime_factors = [0]\n", "time_factors"),
+    "a time factor that is no number": ("instances = [\"shops/*\"]\ntime_factors = [nan]\n", "time_factors"),
+    "no time factors": ("instances = [\"shops/*\"]\ntime_factors = []\n", "time_factors"),
+    "a command without a method": ("instances = [\"shops/*\"]\ncommand = \"a {instance}\"\n", "method"),
+    "a command without the instance": ("instances = [\"shops/*\"]\nmethod = \"m\"\ncommand = \"a\"\n", "{instance}"),
+    "a command with another word": (
+        "instances = [\"shops/*\"]\nmethod = \"m\"\ncommand = \"a {instance} {x}\"\n", "{x}"),
+    "seconds without a time": (
+        "instances = [\"shops/*\"]\nmethod = \"m\"\ncommand = \"a {instance} {seconds}\"\n", "time_factors"),
+    "a command with rounds": (
+        "instances = [\"shops/*\"]\nrounds = [1]\nmethod = \"m\"\ncommand = \"a {instance}\"\n", "rounds"),
+    "a command that is cut": ("instances = [\"shops/*\"]\nmethod = \"m\"\ncommand = \"a '{instance}\"\n", "command"),
+    "a command that is missing": (
+        "instances = [\"shops/*\"]\nmethod = \"m\"\ncommand = \"./a {instance}\"\n", "no file is a"),
+    "files without a command": ("instances = [\"shops/*\"]\nmethod = \"m\"\nfiles = [\"shops/*\"]\n", "files"),
+    "files of another folder": (
+        "instances = [\"shops/*\"]\nmethod = \"m\"\ncommand = \"a {instance}\"\nfiles = [\"/etc/passwd\"]\n", "/etc"),
+    "a method with a line end": ("instances = [\"shops/*\"]\nmethod = \"a\\nb\"\n", "method"),
     "a reference without makespans": ("instances = [\"shops/*\"]\nreference = \"plan.toml\"\n", "instance, makespan"),
 }
 
@@ -79,7 +104,7 @@ def test_a_plan_is_refused_by_what_is_wrong_in_it(text: str, named: str, experim
     (experiment.folder / "plan.toml").write_text(text)
     told = experiment.run()
     assert (told.status, told.stdout) == (2, "")
-    assert re.fullmatch(f"experiments/run: .*{re.escape(named)}.*\n", told.stderr), told.stderr
+    assert re.fullmatch(f"experiments/run: .*{re.escape(named)}.*\n", told.stderr), told.stderr[-500:]
     assert sorted(os.listdir(experiment.folder)) == ["plan.toml", "shops"]
 
 
@@ -93,7 +118,7 @@ def test_a_missing_plan_is_refused(experiment: Experiment) -> None:
 def test_the_greatest_values_that_pfs_takes_are_planned(experiment: Experiment) -> None:
     (experiment.folder / "plan.toml").write_text(
         "instances = [\"shops/b\"]\nrounds = [0]\ntakes = [1, 3]\npasses = [100]\nseeds = [18446744073709551615]\n")
-    assert experiment.run() == Told(0, "", "out.csv: 2 runs, 0 of them failed, 0 still to be made\n")
+    assert experiment.run() == Told(0, "", "out.csv: 1 runs, 0 of them failed, 0 still to be made\n")
 
 
 PATHS = {"a folder": "shops", "below a file": "plan.toml/out.csv", "a name that is too long": "x" * 255}
@@ -153,8 +178,143 @@ def small_program(experiment: Experiment) -> pathlib.Path:
     return write_script(experiment.folder / "program", f"#!/bin/sh\nexec {experiment.pfs.path} \"$@\"\n")
 
 
+# Programs and files that are damaged
+
+NO_PFS = {"a program that prints nothing": "#!/bin/sh\n", "one that prints its words": "#!/bin/sh\necho \"$@\"\n",
+          "one that prints without end": "#!/bin/sh\nyes\n", "a text": "some words\n",
+          "a binary of another machine": "\x7fELF"}
+
+
+@pytest.mark.parametrize("text", NO_PFS.values(), ids=NO_PFS)
+def test_a_program_that_is_not_pfs_is_rejected(text: str, experiment: Experiment) -> None:
+    """On one line, by `run` and by `check`, before anything is written."""
+    assert experiment.run("other.csv").status == 0
+    program = write_script(experiment.folder / "program", text)
+    before = sorted(os.listdir(experiment.folder))
+    for told in (experiment.run(program=program), experiment.script("check", "other.csv", program=program)):
+        assert (told.status, told.stdout) == (2, "")
+        assert re.fullmatch("experiments/(run|check): .*/program is not pfs: .*\n", told.stderr), told.stderr[-500:]
+    assert sorted(os.listdir(experiment.folder)) == before
+
+
+DAMAGED = {
+    "a plan that is no JSON": ("plan.json", b"{"),
+    "a plan that is a list": ("plan.json", b"[]"),
+    "a plan of another kind": ("plan.json", b'{"places": 1}'),
+    "a plan nested too deeply": ("plan.json", b"[" * 100_000),
+    "a plan that is not UTF-8": ("plan.json", b'{"layout": "\xff"}'),
+    "a list of runs that is cut": ("runs.tsv", b"1\tinstances/1"),
+    "a list of runs with a short line": ("runs.tsv", b"1\tinstances/1\n"),
+    "a list of runs that is not UTF-8": ("runs.tsv", b"\xff\n"),
+}
+
+
+@pytest.mark.parametrize(("name", "data"), DAMAGED.values(), ids=DAMAGED)
+def test_a_damaged_list_is_reported_on_one_line(name: str, data: bytes, experiment: Experiment) -> None:
+    assert experiment.run().status == 0
+    before = (experiment.folder / "out.csv").read_text()
+    (experiment.runs / name).write_bytes(data)
+    (experiment.folder / "plan.toml").write_text(PLAN + "repetitions = 2\n")
+    told = experiment.run()
+    assert (told.status, told.stdout) == (2, "")
+    assert re.fullmatch("experiments/run: [^\n]*out\\.csv[^\n]*\n", told.stderr), told.stderr[-500:]
+    assert (experiment.folder / "out.csv").read_text() == before
+
+
+def test_a_sequence_of_other_runs_is_reported_on_one_line(experiment: Experiment) -> None:
+    assert experiment.run().status == 0
+    begun = json.loads((experiment.runs / "plan.json").read_text())
+    for sequence in ([1, 2], [1] * 12, list(range(12)), ["x"] * 12, 5):
+        (experiment.runs / "plan.json").write_text(json.dumps({**begun, "sequence": sequence}))
+        told = experiment.run()
+        assert (told.status, told.stdout, told.stderr.count("\n"), "plan.json is damaged" in told.stderr) \
+            == (2, "", 1, True), f"{sequence}: {told.stderr[-500:]}"
+
+
+def test_a_folder_without_its_program_is_reported_on_one_line(experiment: Experiment) -> None:
+    assert experiment.run().status == 0
+    stage, = experiment.runs.glob("pfs-experiment-*")
+    stage.rename(experiment.folder / "elsewhere")
+    told = experiment.run()
+    assert (told.status, told.stdout, told.stderr.count("\n"), "no copy of the program" in told.stderr) \
+        == (2, "", 1, True), told.stderr[-500:]
+
+
+RESULTS = {
+    "not UTF-8": b"\xff\n", "a quote": b'1,"\n', "a zero byte": b"1,\0\n", "no numbers": b"o\n1,x,y,z,t,ok\n",
+    "a number of 5,000 digits": b"o\n1,%s,1,1,1.000000,ok\n" % (b"9" * 5000), "no order": b"1,1,1,1,1.000000,ok\n",
+}
+
+
+@pytest.mark.parametrize("data", RESULTS.values(), ids=RESULTS)
+def test_a_run_whose_result_is_damaged_is_repeated(data: bytes, experiment: Experiment) -> None:
+    (experiment.folder / "plan.toml").write_text(PLAN.replace("[10, 30]", "[10]"))
+    assert experiment.run().status == 0
+    (experiment.runs / "results" / "1").write_bytes(data)
+    assert experiment.run() == Told(0, "", "out.csv: 6 runs, 0 of them failed, 0 still to be made\n")
+    assert experiment.rows() == experiment.wanted(rounds=(10,))
+
+
+@pytest.mark.parametrize("data", [b"\xff\n" * 3, b"", b"1\t2\n" * 20, b"1\t" * 20 + b"\n"],
+                         ids=["not UTF-8", "empty", "short lines", "words for numbers"])
+def test_after_damage_to_the_log_the_csv_is_the_same(data: bytes, experiment: Experiment) -> None:
+    (experiment.folder / "plan.toml").write_text(PLAN.replace("[10, 30]", "[10]"))
+    assert experiment.run().status == 0
+    (experiment.runs / "joblog").write_bytes(data)
+    assert experiment.run() == Told(0, "", "out.csv: 6 runs, 0 of them failed, 0 still to be made\n")
+    assert experiment.rows() == experiment.wanted(rounds=(10,))
+
+
+def test_names_that_are_not_utf8_are_reported_on_one_line(experiment: Experiment) -> None:
+    """Of an instance, of the plan and of the CSV."""
+    name = os.fsdecode(b"shops/\xff")
+    shutil.copy(experiment.folder / "shops" / "b", experiment.folder / name)
+    told = experiment.run()
+    assert told == Told(2, "", "experiments/run: plan.toml: the name b'shops/\\xff' is not UTF-8\n")
+    (experiment.folder / name).rename(experiment.folder / os.fsdecode(b"plan\xff"))
+    for words in (["plan\udcff", "out.csv"], ["plan.toml", "\udcff.csv"]):
+        told = told_by(experiment.words("run", *words), experiment.folder)
+        assert (told.status, told.stdout, told.stderr.count("\n")) == (2, "", 1), told.stderr[-500:]
+
+
+# Files that are replaced as a whole
+
+def test_the_csv_and_the_lists_are_synced_before_they_are_renamed(experiment: Experiment) -> None:
+    """And their folder after that. Nothing opens them for writing."""
+    strace = need("strace")
+    words = [strace, "-f", "-y", "-o", "trace", "-e", "trace=open,openat,fsync,rename,renameat,renameat2",
+             *experiment.words("run", "plan.toml", "out.csv")]
+    assert told_by(words, experiment.folder).status == 0
+    calls = (experiment.folder / "trace").read_text().splitlines()
+    for name in ("out.csv", "out.csv.d/runs.tsv", "out.csv.d/plan.json"):
+        path = str(experiment.folder / name)
+        written = [call for call in calls if f'"{path}", O_' in call and ("O_WRONLY" in call or "O_RDWR" in call)]
+        assert written == [], f"{name} is opened for writing"
+        renamed = [at for at, call in enumerate(calls) if "rename" in call and call.count(f'{path}"') == 1]
+        assert len(renamed) == 1, f"how often {name} is renamed"
+        new = re.findall(r'"([^"]*)"', calls[renamed[0]])[0]
+        assert any("fsync(" in call and f"<{new}>" in call for call in calls[:renamed[0]]), f"{name} is not synced"
+        assert any("fsync(" in call and f"<{os.path.dirname(path)}>" in call for call in calls[renamed[0]:]), \
+            f"the folder of {name} is not synced after the rename"
+
+
+def test_no_link_is_followed(experiment: Experiment) -> None:
+    """In the place of the lock and of new files."""
+    (experiment.folder / "victim").write_text("kept\n")
+    experiment.runs.mkdir()
+    for name in ("lock", "plan.json.new", "runs.tsv.new"):
+        (experiment.runs / name).symlink_to(experiment.folder / "victim")
+    (experiment.folder / "out.csv.new").symlink_to(experiment.folder / "victim")
+    told = experiment.run()
+    assert (told.status, told.stderr.count("\n")) == (2, 1), told.stderr[-500:]
+    (experiment.runs / "lock").unlink()
+    assert experiment.run() == Told(0, "", TWELVE)
+    assert (experiment.folder / "victim").read_text() == "kept\n"
+
+
 # Whole experiments
 
+@pytest.mark.quick
 def test_the_csv_is_what_pfs_gives(experiment: Experiment) -> None:
     assert experiment.run() == Told(0, "", TWELVE)
     assert experiment.rows() == experiment.wanted()
@@ -162,24 +322,41 @@ def test_the_csv_is_what_pfs_gives(experiment: Experiment) -> None:
 
 
 def test_readme_names_the_columns_of_the_csv(top: pathlib.Path) -> None:
-    text = (top / "experiments" / "README.md").read_text().partition("## CSV")[2]
+    text = (top / "experiments" / "README.md").read_text().partition("## CSV")[2].partition("\n## ")[0]
     rows = re.findall(r"^\| (`.*`) \|", text, re.MULTILINE)
     assert ",".join(name for cell in rows for name in re.findall("`([^`]+)`", cell)) == HEAD
 
 
 def test_a_second_start_makes_nothing_again(experiment: Experiment) -> None:
-    (experiment.folder / "plan.toml").write_text(PLAN.replace("[0, 30]", "[0]"))
+    (experiment.folder / "plan.toml").write_text(PLAN.replace("[10, 30]", "[10]"))
     assert experiment.run().status == 0
     first = (experiment.folder / "out.csv").read_text()
     (experiment.folder / "out.csv").unlink()
     assert experiment.run().status == 0
     assert (experiment.folder / "out.csv").read_text() == first
-    for other in (PLAN.replace("[0, 30]", "[30]"), PLAN.replace("1, 2, 3", "1, 2"), PLAN.replace("*", "a"),
+    for other in (PLAN.replace("[10, 30]", "[30]"), PLAN.replace("1, 2, 3", "1, 2"), PLAN.replace("*", "a"),
                   PLAN + "layout = \"orlib\"\n"):
         (experiment.folder / "plan.toml").write_text(other)
         told = experiment.run()
         assert (told.status, told.stderr.count("\n"), "another plan" in told.stderr) == (2, 1, True), other
         assert (experiment.folder / "out.csv").read_text() == first
+
+
+def test_readme_names_the_keys_of_a_plan_and_their_defaults(top: pathlib.Path) -> None:
+    """By the table of its keys: the default of each is that of the module that reads plans."""
+    text = (top / "experiments" / "README.md").read_text().partition("## Plan")[2].partition("## CSV")[0]
+    cells = [[cell.strip() for cell in re.split(r"(?<!\\)\|", line)[1:-1]] for line in text.splitlines()
+             if line.startswith("| `")]
+    told = {key: cell for names, _, cell in cells for key, cell in
+            zip(re.findall("`(\\w+)`", names), [each.strip() for each in cell.split(",")] * 9)}
+    shown = printed_by(["/usr/bin/python3", "-c", "import plan; print(sorted(plan.KEYS), plan.NUMBERS)"],
+                       top / "experiments", env=dict(os.environ, PYTHONDONTWRITEBYTECODE="1"))
+    keys, numbers = (ast.literal_eval(part) for part in re.split(r"(?<=\]) (?=\{)", shown.strip()))
+    assert sorted(told) == keys, "the keys in experiments/README.md"
+    for key, usual in numbers.items():
+        wanted = f"`{usual}`" if usual is not None else "that of `pfs solve`"
+        assert told[key] == wanted, f"the default of {key} in experiments/README.md"
+    assert (told["layout"], told["repetitions"]) == ('`"taillard"`', "`1`"), "defaults in experiments/README.md"
 
 
 def test_what_a_plan_leaves_out_is_as_readme_says(experiment: Experiment) -> None:
@@ -206,7 +383,9 @@ def test_layouts_blocks_takes_passes_and_repetitions(experiment: Experiment) -> 
     (experiment.folder / "two.or").write_text("".join(shops))
     (experiment.folder / "bad.or").write_text("3 2\n0 1 1 x\n")
     told = experiment.run()
-    assert told == Told(1, "", "out.csv: 16 runs, 8 of them failed, 0 still to be made\n")
+    assert told == Told(1, "", "bad.or:2 (rounds 5, take 2, passes 1, seed 7) failed, as 7 more: "
+                               "solve: exit 2, pfs: mixed line at 10\n"
+                               "out.csv: 16 runs, 8 of them failed, 0 still to be made\n")
     rows = experiment.rows()
     wanted = [(f"two.or:{block}", *size, "5", take, "1", "7", again, "ok")
               for block, size in ((2, ("3", "2")), (1, ("20", "5"))) for take in "21" for again in "12"]
@@ -243,13 +422,15 @@ def test_check_audits_the_orders_again(experiment: Experiment) -> None:
     (experiment.folder / orders[8]).write_text("order2 3 2\n1 2 3\nmakespan 1\n")
     lines = text.splitlines(keepends=True)
     lines[12] = re.sub(r",(\d+),(\d+),(\d+\.\d{4})", r",\1,1,\3", lines[12])
+    lines[6] = re.sub(r",out[^,]*,", ",,", lines[6])
     (experiment.folder / "out.csv").write_text("".join(lines))
     told = experiment.script("check", "out.csv")
     *wrong, last = told.stdout.splitlines()
     assert (told.status, told.stderr) == (1, "")
     names = [re.search(r"run-(\d+)", line) for line in wrong]
     numbers = [int(name[1]) for name in names if name]
-    assert (numbers, last) in [([1, 4, 9, 12], "out.csv: 12 orders audited, 4 of them wrong")], told.stdout
+    assert (numbers, last) == ([1, 4, 9, 12], "out.csv: 12 orders audited, 5 of them wrong"), told.stdout
+    assert [line for line in wrong if line.endswith(": no order was kept")] == [wrong[2]], "a row without an order"
 
 
 def test_check_refuses_a_csv_without_orders(experiment: Experiment) -> None:
@@ -270,7 +451,7 @@ def test_the_reference_of_a_plan_stands_in_the_csv(experiment: Experiment) -> No
 
 
 GROWN = {
-    "rounds": PLAN.replace("[0, 30]", "[0, 30, 50]"),
+    "rounds": PLAN.replace("[10, 30]", "[10, 30, 50]"),
     "seeds": PLAN.replace("[1, 2, 3]", "[4, 3, 2, 1]"),
     "takes": PLAN + "takes = [1, 3, 4]\n",
     "repetitions": PLAN + "repetitions = 2\n",
@@ -297,6 +478,290 @@ def test_a_plan_may_grow(what: str, experiment: Experiment) -> None:
     assert experiment.script("check", "out.csv").status == 0
 
 
+def test_a_search_of_0_rounds_is_made_once(experiment: Experiment) -> None:
+    """Take, passes and seed don't change it. Repetitions are made."""
+    (experiment.folder / "plan.toml").write_text(
+        "instances = [\"shops/*\"]\nrounds = [0, 1]\ntakes = [2, 3]\npasses = [0, 1]\nseeds = [5, 6]\n"
+        "repetitions = 2\n")
+    assert experiment.run(program=experiment.waiting()).status == 0
+    zeros = [row[:8] for row in experiment.rows() if row.rounds == "0"]
+    assert zeros == [(shop, *size, "0", "2", "0", "5", again)
+                     for shop, size in (("shops/a", ("20", "5")), ("shops/b", ("3", "2"))) for again in "12"]
+    assert len(experiment.rows()) == len(experiment.started()) == 4 + 2 * 16
+
+
+def test_runs_of_0_rounds_that_an_earlier_version_listed_stay(experiment: Experiment) -> None:
+    (experiment.folder / "plan.toml").write_text("instances = [\"shops/b\"]\nrounds = [1]\nseeds = [1, 2]\n")
+    assert experiment.run().status == 0
+    for path, old, new in (("runs.tsv", "\t1\t1\t3\t0\t", "\t1\t0\t3\t0\t"),
+                           ("plan.json", '"rounds": [1]', '"rounds": [0]')):
+        text = (experiment.runs / path).read_text()
+        assert old in text
+        (experiment.runs / path).write_text(text.replace(old, new))
+    (experiment.folder / "plan.toml").write_text("instances = [\"shops/b\"]\nrounds = [0, 2]\nseeds = [1, 2]\n")
+    assert experiment.run().status == 0
+    assert [(row.rounds, row.seed) for row in experiment.rows()] == [("0", "1"), ("0", "2"), ("2", "1"), ("2", "2")]
+
+
+HOSTILE = ["=1+1", "+1", "-1", "@SUM(1)", "=cmd|' /C calc'!A0", "a=b", "<b>&", "a|b", "\x1b[31m", "a,b", 'a"b', "$x$"]
+
+
+def test_names_of_instances_are_no_formulas_of_a_spreadsheet(experiment: Experiment) -> None:
+    """They stay the paths of their files, and `check` finds them."""
+    (experiment.folder / "shops" / "deep").mkdir()
+    for name in HOSTILE:
+        shutil.copy(experiment.folder / "shops" / "b", experiment.folder / name.replace("/", "_"))
+    names = [name.replace("/", "_") for name in HOSTILE]
+    listed = ", ".join(json.dumps(re.sub(r"([\[*?])", r"[\1]", name)) for name in names)
+    (experiment.folder / "plan.toml").write_text(f"instances = [{listed}]\n")
+    assert experiment.run("=out.csv").status == 0
+    with open(experiment.folder / "=out.csv", newline="") as file:
+        rows = list(csv.DictReader(file))
+    formulas = [cell for row in rows for cell in row.values() if re.match(r"[=+@\t\r-]", cell)]
+    assert formulas == [], "cells that begin as formulas do"
+    assert [os.path.normpath(row["instance"]) for row in rows] == names
+    assert [(experiment.folder / row["order"]).exists() for row in rows] == [True] * len(names)
+    assert experiment.script("check", "=out.csv").status == 0
+
+
+# Runs by time
+
+BY_TIME = "instances = [\"shops/*\"]\ntime_factors = [1, 2.5]\nseeds = [1, 2]\ntakes = [2]\n"
+
+
+@pytest.fixture
+def with_library(libpfs: Library) -> dict[str, str]:
+    return dict(os.environ, PFS_LIBRARY=str(libpfs.path))
+
+
+def test_runs_by_time_take_their_time(experiment: Experiment, with_library: dict[str, str]) -> None:
+    """Jobs times half the machines times the factor, in milliseconds. The order is that of the rounds in the CSV."""
+    (experiment.folder / "plan.toml").write_text(BY_TIME)
+    assert experiment.run(env=with_library) == Told(0, "", "out.csv: 8 runs, 0 of them failed, 0 still to be made\n")
+    names = ("instance", "time_factor", "take", "passes", "seed", "rounds", "seconds", "makespan", "cells", "order")
+    rows = experiment.columns(*names)
+    assert [row[:5] for row in rows] == [(shop, factor, "2", "0", seed) for shop in ("shops/a", "shops/b")
+                                         for factor in ("1", "2.5") for seed in "12"]
+    for shop, factor, take, _, seed, rounds, seconds, makespan, cells, order in rows:
+        given = (20 * 5 if shop == "shops/a" else 3 * 2) / 2 * float(factor) / 1000
+        assert 0.5 * given <= float(seconds) <= given + 0.05, f"seconds of {shop} with factor {factor}"
+        wanted = experiment.printed("solve", "--layout", "taillard", "--rounds", rounds, "--take", take, "--seed", seed,
+                                    "--cells", shop)
+        assert (experiment.folder / order).read_text() + f"cells {cells}\n" == wanted
+        assert f"makespan {makespan}\n" in wanted
+    assert experiment.script("check", "out.csv") == Told(0, "out.csv: 8 orders audited, 0 of them wrong\n", "")
+
+
+def test_a_plan_has_rounds_and_times(experiment: Experiment, with_library: dict[str, str], matplotlib: None) -> None:
+    """It may grow by either. What is done stays, and the report tells them apart."""
+    plan = "instances = [\"shops/b\"]\nrounds = [5]\n"
+    (experiment.folder / "plan.toml").write_text(plan)
+    assert experiment.run().status == 0
+    before, = experiment.columns(*HEAD.split(","))
+    (experiment.folder / "plan.toml").write_text(plan + "time_factors = [1]\n")
+    assert experiment.run(env=with_library).status == 0
+    assert experiment.columns(*HEAD.split(","))[0] == before
+    assert experiment.columns("time_factor") == [("",), ("1",)]
+    told = told_by([experiment.top / "experiments" / "report", "out.csv", "report"], experiment.folder)
+    assert (told.status, told.stderr) == (0, "")
+    with open(experiment.folder / "report" / "table.csv", newline="") as file:
+        assert [(row["rounds"], row["time_factor"], row["runs"]) for row in csv.DictReader(file)] \
+            == [("", "1", "1"), ("5", "", "1")]
+
+
+def test_after_a_million_rounds_a_search_by_time_continues_with_another_seed(
+        top: pathlib.Path, libpfs: Library, folder: pathlib.Path) -> None:
+    """Rounds of the library are made in the place of time: 3 rounds to the end of a seed, and 3 of the next one."""
+    for name, path in (("timed.py", top / "experiments" / "timed.py"), ("libpfs.so.0", libpfs.path)):
+        shutil.copy(path, folder / name)
+    (folder / "try.py").write_text("""
+import timed
+times = [at * at % 97 for at in range(1, 201)]
+def last(first, seed, count, order=None):
+    made = timed.Search(times, 20, 10, 4, 0, seed)
+    made.neh()
+    made.order[:] = order or made.order[:]
+    made.rounds = first
+    while made.rounds < first + count:
+        made.make(min(2, timed.MOST_ROUNDS - made.rounds % timed.MOST_ROUNDS))
+    return made.order[:]
+seed = 2 ** 64 - 5
+before = last(999_996, seed, 4)
+for other in (seed + 11400714819323198485, seed + 1, seed):
+    print(last(999_996, seed, 6) == last(0, other % 2 ** 64, 2, before))
+""")
+    assert printed_by(["/usr/bin/python3", "try.py"], folder) == "True\nFalse\nFalse\n", "the seed of the second part"
+
+
+def test_an_instance_that_pfs_rejects_fails_by_time_too(experiment: Experiment, with_library: dict[str, str]) -> None:
+    (experiment.folder / "shops" / "c").write_text("no instance\n")
+    (experiment.folder / "plan.toml").write_text("instances = [\"shops/c\"]\ntime_factors = [0.001]\n")
+    told = experiment.run(env=with_library)
+    assert told == Told(1, "", "shops/c (time factor 0.001, passes 0, seed 0) failed: "
+                               "convert: exit 2, pfs: no block, found 0\n"
+                               "out.csv: 1 runs, 1 of them failed, 0 still to be made\n")
+
+
+@pytest.mark.parametrize("path", ["none.so", "plan.toml"], ids=["missing", "no library"])
+def test_a_library_that_is_none_is_reported(path: str, experiment: Experiment) -> None:
+    (experiment.folder / "plan.toml").write_text(BY_TIME)
+    told = experiment.run(env=dict(os.environ, PFS_LIBRARY=str(experiment.folder / path)))
+    if path == "none.so":
+        assert (told.status, told.stdout, told.stderr.count("\n")) == (2, "", 1), told.stderr[-500:]
+        assert not experiment.runs.exists()
+    else:
+        statuses = {status.partition(" ")[0] for status, in experiment.columns("status")}
+        assert (told.status, statuses) == (1, {"libpfs:"})
+
+
+# Other programs
+
+# It orders the jobs by their numbers, takes the time that the seed is for, and notes its words.
+MINE = """#!/usr/bin/env python3
+import os, signal, sys, time
+path, seed, seconds = sys.argv[1:]
+with open(path) as file:
+    jobs = int(file.readlines()[1].split()[0])
+line = " ".join(map(str, range(1, jobs + 1)))
+if seed == "1":
+    print(line)
+elif seed == "2":
+    print("order", jobs)
+    print(line)
+    print("makespan 1448" if jobs == 20 else "makespan 1")
+elif seed == "3":
+    os.kill(os.getpid(), signal.SIGSEGV)
+elif seed == "4":
+    print("Traceback: something", file=sys.stderr)
+    sys.exit(3)
+elif seed == "5":
+    print("the best order is 3 2 1")
+elif seed == "6":
+    pass
+elif seed == "7":
+    print("1 1 1")
+elif seed == "8":
+    os.fork()
+    while True:
+        pass
+elif seed == "9":
+    while True:
+        print(line)
+elif seed == "10":
+    print(line.replace(" ", ", "))
+"""
+OTHER = """instances = ["shops/a"]
+time_factors = [10]
+seeds = [1, 2, 3, 4, 5, 6, 7, 8, 9, 10]
+method = "mine"
+command = "./mine.py {instance} {seed} {seconds}"
+"""
+STATUSES = [
+    "ok", "ok", "mine: signal 11", "mine: exit 3, Traceback: something",
+    "mine: no order printed: 'the best order is 3 2 1'", "mine: nothing printed",
+    "check: exit 2, pfs: order file job repeated at place 2",
+    r"mine: over its time: \d+\.\d\d s, where 0.5 s were given", "mine: more than 1,048,576 bytes printed", "ok",
+]
+
+
+def with_other(experiment: Experiment, plan: str = OTHER) -> Experiment:
+    write_script(experiment.folder / "mine.py", MINE)
+    (experiment.folder / "plan.toml").write_text(plan)
+    return experiment
+
+
+def other_is_right(experiment: Experiment, told: Told) -> None:
+    """The runs of the other program are in the CSV, with their orders or with what is wrong."""
+    assert told.status == 1
+    assert told.stderr.splitlines()[-1] == "out.csv: 10 runs, 7 of them failed, 0 still to be made"
+    rows = experiment.columns("seed", "status", "method", "time_factor", "rounds", "take", "passes", "cells")
+    assert [row[0] for row in rows] == [str(seed) for seed in range(1, 11)]
+    assert [(row[1], wanted) for row, wanted in zip(rows, STATUSES)
+            if not re.fullmatch(wanted, row[1])] == []
+    assert {row[2:] for row in rows} == {("mine", "10", "", "", "", "")}
+    told = experiment.script("check", "out.csv")
+    assert (told.status, told.stdout) == (0, "out.csv: 3 orders audited, 0 of them wrong\n")
+    makespans = {row for row in experiment.columns("status", "makespan", "bound") if row[0] == "ok"}
+    assert makespans == {("ok", "1448", "1232")}, "the makespan of the order by numbers"
+
+
+def test_another_program_is_run_and_audited(experiment: Experiment) -> None:
+    """An order file, or the jobs on one line. A run that crashes, prints no order or takes too long has failed."""
+    other_is_right(experiment, with_other(experiment).run())
+
+
+def test_orders_of_another_program_are_audited(experiment: Experiment) -> None:
+    """One whose makespan is wrong has failed, and nothing is made again."""
+    with_other(experiment, OTHER.replace("shops/a", "shops/b").replace("[1, 2, 3, 4, 5, 6, 7, 8, 9, 10]", "[1, 2]")
+               .replace("[10]", "[100]"))
+    assert experiment.run().status == 1
+    before = experiment.columns("seed", "status", "seconds")
+    assert [row[:2] for row in before] == [("1", "ok"), ("2", "check: exit 1, wrong makespan")]
+    assert experiment.run().status == 1
+    assert experiment.columns("seed", "status", "seconds") == before
+    (experiment.folder / "plan.toml").write_text((experiment.folder / "plan.toml").read_text().replace("{seed}", "1"))
+    told = experiment.run()
+    assert (told.status, told.stderr.count("\n"), "another command" in told.stderr) == (2, 1, True), told.stderr
+
+
+@over_ssh
+def test_over_ssh_another_program_is_run(ssh_server: Server, experiment: Experiment) -> None:
+    (experiment.folder / "machines").write_text(ssh_server.line)
+    other_is_right(experiment, with_other(experiment).run("out.csv", "--sshloginfile", "machines"))
+
+
+@on_slurm
+def test_on_slurm_another_program_is_run(slurm: Cluster, experiment: Experiment) -> None:
+    told = with_other(experiment).script("slurm", "--tasks", "3", "plan.toml", "out.csv", "--time=5", env=slurm.env)
+    other_is_right(experiment, told)
+
+
+def test_another_program_is_reported_beside_pfs(experiment: Experiment, matplotlib: None) -> None:
+    assert experiment.run("pfs.csv").status == 0
+    with_other(experiment).run()
+    told = told_by([experiment.top / "experiments" / "report", "pfs.csv", "out.csv", "report"], experiment.folder)
+    assert (told.status, told.stderr) == (0, "")
+    with open(experiment.folder / "report" / "comparison.csv", newline="") as file:
+        rows = [row for row in csv.DictReader(file) if row["method"] != row["other_method"]]
+    assert {(row["method"], row["other_method"], row["instances"]) for row in rows} == {("mine", "pfs", "1")}
+
+
+def test_a_program_that_waits_is_ended(top: pathlib.Path, folder: pathlib.Path) -> None:
+    """It uses no processor time. With it end the processes that it has started."""
+    write_script(folder / "waits", "#!/bin/sh\nsleep 1000 & echo $! > child\nsleep 1000\n")
+    (folder / "try.py").write_text(f"import sys\nsys.path.insert(0, {str(top / 'experiments')!r})\nimport others\n"
+                                   "others.PATIENCE = 0.5\ntry:\n    others.printed(['./waits'], '.', 0.01)\n"
+                                   "except others.Failed as failure:\n    print(failure)\n")
+    told = printed_by(["/usr/bin/python3", "-B", "try.py"], folder)
+    assert re.fullmatch(r"no end after \d s, where 0.01 s of processor time were given\n", told), told
+    child = (folder / "child").read_text().strip()
+    wait_until(lambda: not pathlib.Path(f"/proc/{child}").exists() or "Z" in pathlib.Path(
+        f"/proc/{child}/stat").read_text().split(")")[1][:3], "the process that it has started is ended")
+
+
+def test_a_program_that_closes_its_streams_is_ended(top: pathlib.Path, folder: pathlib.Path) -> None:
+    """And so is one that has ended, but has left a process with open streams."""
+    (folder / "try.py").write_text(f"import sys\nsys.path.insert(0, {str(top / 'experiments')!r})\nimport others\n"
+                                   "others.PATIENCE = 0.5\n"
+                                   "for words in ('exec >&- 2>&-; sleep 1000', 'sleep 1000 & echo 1'):\n    try:\n"
+                                   "        print(others.printed(['sh', '-c', words], '.', 0.1)[0].strip())\n"
+                                   "    except others.Failed as failure:\n        print(failure)\n")
+    told = printed_by(["/usr/bin/python3", "-B", "try.py"], folder)
+    assert re.fullmatch(r"no end after \d s, where 0.1 s of processor time were given\n1\n", told), told
+
+
+def test_time_is_measured_at_the_end_too(top: pathlib.Path, folder: pathlib.Path) -> None:
+    """Of a program that ends before the time is looked at, with the processes that it has waited for."""
+    (folder / "try.py").write_text(f"import sys\nsys.path.insert(0, {str(top / 'experiments')!r})\nimport others\n"
+                                   "others.check_time = lambda *_: None\nwork = 'i=0; while [ $i -lt 100000 ]; do "
+                                   "i=$((i+1)); done'\nfor words in (work, f'({work})'):\n    try:\n"
+                                   "        others.printed(['sh', '-c', f'{words}; echo 1'], '.', 0.001)\n"
+                                   "    except others.Failed as failure:\n        print(failure)\n")
+    told = printed_by(["/usr/bin/python3", "-B", "try.py"], folder)
+    failed = re.fullmatch(r"(over its time: \d+\.\d\d s, where 0.001 s were given\n){2}", told)
+    assert failed, f"two programs that took too long: {told!r}"
+
+
 # Runs that fail
 
 @pytest.fixture(scope="module")
@@ -310,9 +775,12 @@ def failing(top: pathlib.Path, pfs: Program, tmp_path_factory: pytest.TempPathFa
 @pytest.mark.xdist_group("failing")
 def test_a_run_that_fails_stands_in_the_csv_with_its_status(failing: tuple[Experiment, Told]) -> None:
     experiment, told = failing
-    assert told == Told(1, "", "out.csv: 20 runs, 16 of them failed, 0 still to be made\n")
     statuses = ["ok", "check: exit 1, wrong makespan", "solve: signal 9", "solve: exit 4, no memory, perhaps",
                 "solve: no cells are told"]
+    *lines, last = told.stderr.splitlines()
+    assert (told.status, told.stdout, last) == (1, "", "out.csv: 20 runs, 16 of them failed, 0 still to be made")
+    assert lines == [f"shops/a (rounds 10, take 4, passes 0, seed {seed}) failed, as 3 more: {statuses[seed]}"
+                     for seed in (1, 2, 3, 4)]
     rows = experiment.rows()
     assert [row.status for row in rows] == statuses * 4
     assert [row for row in rows if row.status == "ok"] == experiment.wanted(seeds=(0,))
@@ -339,7 +807,9 @@ def test_a_run_that_is_killed_is_told_and_made_by_the_next_start(experiment: Exp
     program = write_script(experiment.folder / "killing",
                            KILLING.format(folder=experiment.folder, pfs=experiment.pfs.path))
     told = experiment.run(program=program)
-    assert told == Told(1, "", "out.csv: 12 runs, 4 of them failed, 0 still to be made\n")
+    assert told == Told(1, "", "shops/a (rounds 10, take 4, passes 0, seed 2) failed, as 3 more: "
+                               "lost: exit 137, signal 0\n"
+                               "out.csv: 12 runs, 4 of them failed, 0 still to be made\n")
     assert {row[8:] for row in experiment.rows() if row.seed == "2"} == {("", "", "", "", "lost: exit 137, signal 0")}
     (experiment.folder / "fixed").touch()
     assert experiment.run().status == 0
@@ -475,8 +945,8 @@ KILLS: dict[str, Kills] = {
 @pytest.mark.parametrize("kills", KILLS.values(), ids=KILLS)
 def test_no_run_is_lost_or_made_again(kills: Kills, experiment: Experiment) -> None:
     """Each run is in the CSV once, and none that was logged before a kill is made again."""
-    (experiment.folder / "plan.toml").write_text(PLAN.replace("[0, 30]", "[0]"))
-    wanted, made = experiment.wanted(rounds=(0,)), {}
+    (experiment.folder / "plan.toml").write_text(PLAN.replace("[10, 30]", "[10]"))
+    wanted, made = experiment.wanted(rounds=(10,)), {}
     # as a start leaves it that was killed while it made copies
     (experiment.runs / "pfs-experiment-begun" / "instances").mkdir(parents=True)
     for most, kill in kills:
@@ -499,7 +969,7 @@ def test_no_run_is_lost_or_made_again(kills: Kills, experiment: Experiment) -> N
 
 
 def test_two_starts_at_once_make_each_run_once(experiment: Experiment) -> None:
-    (experiment.folder / "plan.toml").write_text(PLAN.replace("[0, 30]", "[0]"))
+    (experiment.folder / "plan.toml").write_text(PLAN.replace("[10, 30]", "[10]"))
     with experiment.gate() as gate, open(experiment.folder / "told", "wb") as told:
         first = start(experiment, "plan.toml", "out.csv", "--jobs", "1")
         wait_until(lambda: len(experiment.started()) == 1, "the first start makes a run")
@@ -513,7 +983,7 @@ def test_two_starts_at_once_make_each_run_once(experiment: Experiment) -> None:
     assert line == "waiting for runs of out.csv that were started before\n"
     assert statuses == [0, 0]
     assert set(experiment.searches().values()) == {1}, "how often each run was made"
-    assert experiment.rows() == experiment.wanted(rounds=(0,))
+    assert experiment.rows() == experiment.wanted(rounds=(10,))
 
 
 # GNU parallel on a terminal and on another machine
@@ -613,7 +1083,7 @@ def test_on_slurm_runs_whose_results_are_gone_are_made_again_and_no_others(made_
 @on_slurm
 def test_on_slurm_a_second_start_waits_for_the_array_of_the_first(experiment: Experiment, slurm: Cluster) -> None:
     """Also where the first one was killed while it waited for its array. A result is there only once it is whole."""
-    (experiment.folder / "plan.toml").write_text(PLAN.replace("[0, 30]", "[0]"))
+    (experiment.folder / "plan.toml").write_text(PLAN.replace("[10, 30]", "[10]"))
     words = ["--tasks", "1", "plan.toml", "out.csv", "--time=5"]
     with experiment.gate() as gate, open(experiment.folder / "told", "wb") as told:
         first = start(experiment, *words, name="slurm", env=slurm.env)
@@ -629,7 +1099,7 @@ def test_on_slurm_a_second_start_waits_for_the_array_of_the_first(experiment: Ex
     assert why == "Dependency", "why the second array waits"
     assert status == 0, "the second start, which waits for the first array and makes what is left"
     assert set(experiment.searches().values()) == {1}, "how often each run was made"
-    assert experiment.rows() == experiment.wanted(rounds=(0,))
+    assert experiment.rows() == experiment.wanted(rounds=(10,))
 
 
 def waiting_for(experiment: Experiment, slurm: Cluster) -> str:
@@ -661,7 +1131,7 @@ def run_out_of_time(slurm: Cluster, number: str) -> None:
 def test_what_slurm_says_of_a_task_that_it_ended_stands_in_the_csv(
         experiment: Experiment, slurm: Cluster, end: Callable[[Cluster, str], None], why: str) -> None:
     """And the next start makes its runs."""
-    (experiment.folder / "plan.toml").write_text(PLAN.replace("[0, 30]", "[0]"))
+    (experiment.folder / "plan.toml").write_text(PLAN.replace("[10, 30]", "[10]"))
     words = ["--tasks", "2", "plan.toml", "out.csv", "--time=5"]
     with experiment.gate(), open(experiment.folder / "told", "wb") as told:
         begun = start(experiment, *words, name="slurm", env=slurm.env, stderr=told)
@@ -673,13 +1143,14 @@ def test_what_slurm_says_of_a_task_that_it_ended_stands_in_the_csv(
     said = rf"lost: \*\*\* JOB \d+ ON \S+ CANCELLED AT \S+ {why}\*\*\*"
     assert [row.status for row in lost if not re.fullmatch(said, row.status)] == []
     assert experiment.script("slurm", *words, env=slurm.env, program=experiment.waiting()).status == 0
-    assert experiment.rows() == experiment.wanted(rounds=(0,))
+    assert experiment.rows() == experiment.wanted(rounds=(10,))
 
 
 # A task of Slurm, made here, of which Slurm says that it ran out of time.
 OUT_OF_TIME = """#!/bin/sh
 for word; do case $word in --output=*) log=$(echo "${word#--output=}" | sed 's/%A/7/; s/%a/1/');; esac; done
-SLURM_ARRAY_TASK_ID=1 SLURM_ARRAY_TASK_COUNT=6 sh > "$log" 2>&1
+while [ $# -gt 2 ]; do shift; done
+SLURM_ARRAY_TASK_ID=1 SLURM_ARRAY_TASK_COUNT=6 sh "$@" > "$log" 2>&1
 echo "slurmstepd: error: *** JOB 7 ON host CANCELLED AT 2026-11-23T19:00:00 DUE TO TIME LIMIT ***" >> "$log"
 rm results/7
 """
@@ -693,8 +1164,19 @@ def test_a_task_that_ran_out_of_time_is_told_by_its_last_run(experiment: Experim
     assert told.status == 1 and told.stderr.endswith("out.csv: 2 runs, 1 of them failed, 10 still to be made\n")
     first, second = experiment.rows()
     assert (first.instance, first.status) == ("shops/a", "ok")
-    assert (second.instance, second.rounds, second.seed) == ("shops/b", "0", "1")
+    assert (second.instance, second.rounds, second.seed) == ("shops/b", "10", "1")
     assert second.status == "lost: *** JOB 7 ON host CANCELLED AT 2026-11-23T19:00:00 DUE TO TIME LIMIT ***"
+
+
+@on_slurm
+def test_on_slurm_the_line_of_a_dry_run_makes_the_runs(experiment: Experiment, slurm: Cluster) -> None:
+    """In one task, as they are short. The same command then writes the CSV, and submits nothing."""
+    told = experiment.script("slurm", "--dry-run", "plan.toml", "out.csv", "--time=5", env=slurm.env)
+    assert told.status == 0 and "--array=1-1 " in told.stdout, told
+    made = told_by(["sh", "-c", told.stdout], experiment.folder, env=slurm.env)
+    assert made.status == 0 and number_of(made.stdout)
+    assert experiment.script("slurm", "plan.toml", "out.csv", "--time=5", env=slurm.env) == Told(0, "", TWELVE)
+    assert experiment.rows() == experiment.wanted()
 
 
 # Slurm without a cluster: what it is asked
@@ -712,26 +1194,112 @@ def asked(experiment: Experiment) -> Callable[..., list[str]]:
     return ask
 
 
-MANY = f"instances = [\"shops/b\"]\nseeds = {list(range(1100))}\n"
+# A run of the first shop takes minutes with as many passes as there may be, and one of the second less than a second.
+LONG = "instances = [\"shops/a\"]\nrounds = [1000000]\npasses = [100]\nseeds = {}\n"
+SHORT = f"instances = [\"shops/b\"]\nrounds = [1]\nseeds = {list(range(1100))}\n"
 
 
 @pytest.mark.parametrize(("plan", "words", "array"), [
-    (PLAN, [], "1-12"), (PLAN, ["--tasks", "5"], "1-5"), (MANY, [], "1-1000"), (MANY, ["--tasks", "2000"], "1-1100"),
-], ids=["fewer runs than tasks", "more runs than tasks", "the usual tasks", "more tasks"])
+    (LONG.format([1, 2, 3]), [], "1-3"), (LONG.format(list(range(1100))), [], "1-1000"), (SHORT, [], "1-1"),
+    (SHORT.replace("[1]", "[1000000]").replace("shops/b", "shops/a"), ["--retry"], "1-27"),
+    (PLAN, ["--tasks", "5"], "1-5"), (PLAN, ["--tasks", "50"], "1-12"), (SHORT, ["--tasks", "2000"], "1-1100"),
+], ids=["long runs", "many long runs", "short runs share a task", "runs of more than a second", "fewer tasks",
+        "more tasks", "as many tasks as runs"])
 def test_slurm_is_asked_for_an_array_of(plan: str, words: list[str], array: str,
                                         asked: Callable[..., list[str]]) -> None:
+    """A run of 1,000,000 rounds on the first shop has 1.44 thousand million cells."""
     assert f"--array={array}" in asked(plan, *words)
+
+
+def test_a_dry_run_prints_the_line_of_slurm(experiment: Experiment) -> None:
+    """And submits nothing. The line makes the runs."""
+    (experiment.folder / "bin").mkdir()
+    write_script(experiment.folder / "bin" / "sbatch", "#!/bin/sh\necho \"$@\" > submitted\n")
+    env = with_path(experiment.folder / "bin")
+    told = experiment.script("slurm", "--dry-run", "plan.toml", "out.csv", "--time=5", env=env)
+    assert (told.status, told.stderr) == (0, "out.csv: 12 runs still to be made\n")
+    assert not (experiment.runs / "submitted").exists() and not (experiment.folder / "out.csv").exists()
+    assert told_by(["sh", "-c", told.stdout], experiment.folder, env=env).status == 0
+    words = (experiment.runs / "submitted").read_text().split()
+    stage, = (path.name for path in experiment.runs.glob("pfs-experiment-*"))
+    assert words[-2:] == [str(experiment.top / "experiments" / "task"), stage] and "--time=5" in words
 
 
 def test_readme_tells_the_usual_number_of_tasks(top: pathlib.Path) -> None:
     told = re.search(r"Each of at most ([\d,]+) tasks \(`--tasks`\)", (top / "experiments" / "README.md").read_text())
-    assert told and told[1] == "1,000"
+    script = (top / "experiments" / "slurm").read_text()
+    most = re.search(r"^MOST_TASKS, LEAST_SECONDS = (\d+), 60$", script, re.MULTILINE)
+    assert told and most, "the number of tasks"
+    assert told[1] == f"{int(most[1]):,}", "the usual number of tasks in experiments/README.md"
 
 
 def test_slurm_is_asked_to_wait_for_arrays_of_the_same_csv(asked: Callable[..., list[str]]) -> None:
     words = asked(PLAN)
     assert "--dependency=singleton" in words and "--wait" in words
     assert [word for word in words if word.startswith("--job-name=pfs-experiment-")], words
+
+
+# The manual page
+
+@pytest.fixture(scope="module")
+def page(top: pathlib.Path) -> str:
+    return (top / "share" / "pfs-experiments.1").read_text()
+
+
+def test_the_manual_page_has_the_exit_statuses(page: str, experiment: Experiment) -> None:
+    """Of runs that succeed and of those that fail, of audits and of reports, and of what is rejected."""
+    told = dict(re.findall(r"^\.It (\d)\n([^.]*\.)", page.partition(".Sh EXIT STATUS")[2].partition(".Sh ")[0],
+                           re.MULTILINE))
+    assert list(told) == ["0", "1", "2"], "statuses in the manual page"
+    made = experiment.run()
+    (experiment.folder / "shops" / "c").write_text("no instance\n")
+    failed = experiment.run("failed.csv")
+    rows = (experiment.folder / "out.csv").read_text()
+    (experiment.folder / "out.csv").write_text(rows.replace(",ok,out.csv.d", ",ok,no.csv.d"))
+    wrong = experiment.script("check", "out.csv")
+    (experiment.folder / "plan.toml").write_text("x = 1\n")
+    rejected = [experiment.run(), experiment.script("run"), experiment.script("check", "none.csv"),
+                told_by([experiment.top / "experiments" / "taillard"], experiment.folder)]
+    assert told[str(made.status)] == "Done.", "the status of a plan whose runs succeed"
+    assert "failed" in told[str(failed.status)], "the status of a plan with runs that fail"
+    assert "wrong" in " ".join(told[str(wrong.status)].split()), "the status of an audit that finds a wrong order"
+    for each in rejected:
+        assert "rejected" in told[str(each.status)], f"the status of what is rejected: {each}"
+        assert each.stderr.count("\n") == 1, each.stderr
+
+
+@pytest.mark.seconds(20)
+def test_the_examples_of_the_manual_page_lead_to_a_report(page: str, top: pathlib.Path, pfs: Program,
+                                                          folder: pathlib.Path, matplotlib: None) -> None:
+    """With the plan of the repository in the place of the installed one, and fewer rounds."""
+    lines = re.findall(r"^\$ (.*)$", page.partition(".Sh EXAMPLES")[2].partition(".Sh ")[0], re.MULTILINE)
+    assert len(lines) == 4 and lines[0].split()[0] == "cp", lines
+    name = pathlib.Path(lines[0].split()[1]).name
+    (folder / name).write_text((top / "experiments" / name).read_text().replace("1000]", "20]"))
+    (folder / "bin").mkdir()
+    shutil.copy(pfs.path, folder / "bin" / "pfs")
+    write_script(folder / "bin" / "pfs-experiments", f"#!/bin/sh\nexec {top}/tools/pfs-experiments \"$@\"\n")
+    for line in lines[1:]:
+        told = told_by(["sh", "-c", line], folder, env=with_path(folder / "bin"))
+        assert told.status == 0, f"{line}: {told.stderr[-500:]}"
+    assert (folder / "report" / "table.md").exists(), "the report of the manual page"
+
+
+@pytest.mark.parametrize("script", ["run", "slurm", "check", "report", "taillard"])
+def test_a_script_without_words_prints_its_usage(script: str, top: pathlib.Path, folder: pathlib.Path) -> None:
+    """By the name by which it was called: in the repository, and where it is installed."""
+    shutil.copytree(top / "experiments", folder / "libexec" / "pfs" / "experiments",
+                    ignore=shutil.ignore_patterns("out", "__pycache__"))
+    shutil.copy(top / "python" / "src" / "pfs" / "_whole.py", folder / "libexec" / "pfs" / "experiments")
+    (folder / "bin").mkdir()
+    shutil.copy(top / "tools" / "pfs-experiments", folder / "bin")
+    lines: list[tuple[list[str | pathlib.Path], str]] = [
+        ([top / "experiments" / script], f"experiments/{script}"),
+        ([folder / "bin" / "pfs-experiments", script], f"pfs-experiments {script}")]
+    for line, name in lines:
+        told = told_by(line, folder)
+        assert (told.status, told.stdout, told.stderr.count("\n")) == (2, "", 1), told.stderr
+        assert f"usage: {name} " in told.stderr, told.stderr
 
 
 # The whole way
@@ -752,13 +1320,15 @@ def test_the_lines_of_the_way_lead_to_the_reports_plots(top: pathlib.Path, pfs: 
                                                         matplotlib: None) -> None:
     """In a copy that has the built program, which is taken as it is."""
     shutil.copytree(top / "experiments", folder / "experiments", ignore=shutil.ignore_patterns("out", "__pycache__"))
-    for name in ("Makefile", "crates.txt"):
-        shutil.copy(top / name, folder)
+    (folder / "python" / "src" / "pfs").mkdir(parents=True)
+    for name in ("Makefile", "crates.txt", "python/src/pfs/_whole.py"):
+        shutil.copy(top / name, folder / name)
     (folder / "crates" / "pfs" / "out").mkdir(parents=True)
     shutil.copy(pfs.path, folder / "crates" / "pfs" / "out" / "pfs")
     for line in lines_of_way(top / "README.md")[1:]:
         assert told_by([*line.split(" ")], folder).status == 0, line
     assert sorted(os.listdir(folder / "report")) \
-        == ["gap.png", "rpd.png", "seconds.png", "table.csv", "table.md", "time.png"]
+        == ["gap.png", "means.png", "rpd.png", "seconds.png", "sizes.csv", "sizes.md", "sizes.tex", "table.csv",
+            "table.md", "time.png"]
     with open(folder / "report" / "table.csv", newline="") as file:
-        assert sum(int(row["runs"]) for row in csv.DictReader(file)) == 108
+        assert sum(int(row["runs"]) for row in csv.DictReader(file)) == 90

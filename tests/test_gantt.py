@@ -13,8 +13,11 @@ import pytest
 from support.colours import Lab, difference, least_difference
 from support.files import generated
 from support.pictures import Letters, Picture, contrast, value_of
+from support.needs import need
 from support.program import Program, Ran, ended
+from support.tools import Told, told_by, with_path
 
+pytestmark = pytest.mark.long
 THREE = "table 3 2\n2 0 2 2 7\n1 2 5 7 9\n3 5 9 9 10\nmakespan 10\n"
 IDLE = "#d9d9d9"
 # The size of the letters on bars, and in these sizes how far below its middle the base line of a digit is, and how
@@ -77,6 +80,14 @@ BAD_WORDS = {
     "a unit with a line end": ["--unit", "a\nb", "picture.svg"],
     "a unit with a byte that XML doesn't have": ["--unit", "a\x01b", "picture.svg"],
     "a table that is missing": ["missing", "picture.svg"],
+    "a table whose name a terminal would take for a command": ["missing\x1b[2J", "picture.svg"],
+    "such an ending": ["picture.\x1b[2J"],
+    "such an option": ["--x\x1b[2J", "picture.svg"],
+    "such a word too many": ["a", "\x9b2J", "picture.svg"],
+    "such a unit": ["--unit", "\x1b[2J", "picture.svg"],
+    "such a width": ["--width", "\x1b[2J", "picture.svg"],
+    "such a folder": ["\x1b[2J/picture.svg"],
+    "a name that is not UTF-8": [os.fsdecode(b"ch\xe4rt.gif")],
 }
 
 
@@ -275,24 +286,61 @@ def colours_in_turn(case: Case, picture: Picture) -> list[str]:
     return [fill for job in case.order for fill in found.get(job, ())]
 
 
-@pytest.mark.parametrize(("jobs", "least"), [(8, 14.3), (20, 8.9), (60, 4.6)])
-def test_any_two_of_few_jobs_can_be_told_apart(jobs: int, least: float, drawn: Drawn) -> None:
-    """By all eyes, and each of them from idle time."""
+README = (pathlib.Path(__file__).resolve().parent.parent / "README.md").read_text()
+
+
+class Colours(NamedTuple):
+    """How much the colours of jobs differ, as README tells it."""
+    few: int
+    least: float
+    some: int
+    least_of_some: float
+    neighbours: float
+
+
+def told_of_colours() -> Colours:
+    told = re.search(r"Any two of up to (\d+) jobs have colours that differ by ([\d.]+) or more \(CIEDE2000; of (\d+) "
+                     r"jobs by ([\d.]+)\).* Of more jobs, neighbours in the order differ by ([\d.]+) or more", README)
+    assert told, "no sentence on the colours"
+    return Colours(int(told[1]), float(told[2]), int(told[3]), float(told[4]), float(told[5]))
+
+
+COLOURS = told_of_colours()
+
+
+def difference_of_any_two(jobs: int, drawn: Drawn) -> float:
+    """The least one for all eyes, also to the grey of idle time."""
     case = Case(f"colours of {jobs}", list(range(1, jobs + 1)), schedule_of([[1]] * jobs), ())
     fills = [*colours_in_turn(case, drawn(case)), IDLE]
     assert len(fills) == jobs + 1
-    pairs = {(one, other): least_difference(one, other) for at, one in enumerate(fills) for other in fills[:at]}
-    assert {pair: told for pair, told in pairs.items() if told < least} == {}
+    return min(least_difference(one, other) for at, one in enumerate(fills) for other in fills[:at])
 
 
-@pytest.mark.parametrize("jobs", [61, 62, 63, 500])
+@pytest.mark.parametrize(("jobs", "told"), [(COLOURS.some, COLOURS.least_of_some), (COLOURS.few, COLOURS.least)])
+def test_any_two_of_few_jobs_differ_as_much_as_readme_tells(jobs: int, told: float, drawn: Drawn) -> None:
+    """Rounded to a tenth."""
+    assert round(difference_of_any_two(jobs, drawn), 1) == told, f"the colours of {jobs} jobs"
+
+
+def test_any_two_of_eight_jobs_can_be_told_apart(drawn: Drawn) -> None:
+    assert difference_of_any_two(8, drawn) >= 14.3
+
+
+def test_the_numbers_beside_the_colours_are_readmes(top: pathlib.Path) -> None:
+    comment = " ".join((top / "tools" / "chart.py").read_text().replace("#", " ").split())
+    assert f"of so few jobs differ by {COLOURS.least} (CIEDE2000)" in comment
+    assert f"{COLOURS.some} of them by {COLOURS.least_of_some}" in comment and f" FEW = {COLOURS.few} " in comment
+
+
+@pytest.mark.parametrize("jobs", [COLOURS.few + 1, COLOURS.few + 2, COLOURS.few + 3, 500])
 def test_neighbours_of_many_jobs_can_be_told_apart(jobs: int, drawn: Drawn) -> None:
     """Also where one that takes no time stands between them; and each of them from idle time."""
     case = Case(f"colours of {jobs}", list(range(jobs, 0, -1)), schedule_of([[1]] * jobs), ())
     fills = colours_in_turn(case, drawn(case))
     assert len(fills) == jobs
     for apart in (1, 2):
-        assert min(map(least_difference, fills, fills[apart:])) >= 12, f"colours of jobs that are {apart} apart"
+        least = min(map(least_difference, fills, fills[apart:]))
+        assert least >= COLOURS.neighbours, f"colours of jobs that are {apart} apart differ by {least}"
     assert min(least_difference(fill, IDLE) for fill in fills) >= 5
 
 
@@ -542,6 +590,65 @@ def test_a_png_has_so_many_pixels(words: tuple[str, ...], size: tuple[int, int],
     assert found == pytest.approx(size, abs=1)
 
 
+MANUAL = (pathlib.Path(__file__).resolve().parent.parent / "share" / "pfs-gantt.1").read_text()
+
+
+def defaults_of_manual() -> dict[str, str]:
+    """What the manual page tells as the default of each option that has one."""
+    items = re.findall(r"^\.It Fl -(\w+)[^\n]*\n(.*?)(?=^\.It|^\.El)", MANUAL, re.MULTILINE | re.DOTALL)
+    told = {option: re.search(r"^The default is (.*)\.$", text, re.MULTILINE) for option, text in items}
+    return {option: found[1] for option, found in told.items() if found}
+
+
+def defaults_of_readme() -> dict[str, str]:
+    told = re.search(r"`--width [\d.]+` \(([\d.]+) inches where it is left out\), `--dpi \d+` \((\d+)\)", README)
+    assert told, "no sentence on the width and the dots"
+    return {"width": told[1], "dpi": told[2]}
+
+
+@pytest.mark.parametrize("told", [defaults_of_manual(), defaults_of_readme()], ids=["pfs-gantt.1", "README.md"])
+def test_a_default_that_a_page_tells_is_the_options(told: dict[str, str], gantt: Gantt, folder: pathlib.Path) -> None:
+    """The same picture comes of it, and another one of another value."""
+    assert told.keys() == {"width", "dpi"}
+    assert gantt(folder, "usual.png") == Ran(b"", b"", 0)
+    usual = (folder / "usual.png").read_bytes()
+    for option, value in told.items():
+        for number, is_usual in ((value, True), (str(int(value) - 1), False)):
+            assert gantt(folder, f"--{option}", number, "picture.png") == Ran(b"", b"", 0)
+            is_same = bool((folder / "picture.png").read_bytes() == usual)
+            assert is_same == is_usual, f"--{option} {number}, where the page tells {value} as its default"
+
+
+# When an exit status is returned, as the manual page says it.
+STATUSES: dict[str, list[tuple[list[str], str]]] = {
+    "The picture is written.": [(["picture.svg"], THREE), (["--critical", "picture.png"], THREE)],
+    "The time table or the command line is refused.": [
+        (["picture.svg"], "no table\n"), (["picture.gif"], THREE), (["--unknown", "picture.svg"], THREE),
+        (["missing", "picture.svg"], THREE), (["nowhere/picture.svg"], THREE)]}
+
+
+def test_an_exit_status_of_the_manual_page_is_that_of_gantt(gantt: Gantt, folder: pathlib.Path) -> None:
+    source = MANUAL.partition("\n.Sh EXIT STATUS\n")[2].partition("\n.Sh ")[0]
+    told = {text: int(status) for status, text in re.findall(r"^\.It (\d)\n(.*)$", source, re.MULTILINE)}
+    assert told.keys() == STATUSES.keys()
+    for text, status in told.items():
+        for words, table in STATUSES[text]:
+            assert gantt(folder, *words, text=table).status == status, f"{words}, where the page says: {text}"
+    refused = re.findall(r"refused by one line on standard error and status (\d)", README)
+    assert refused == [str(told["The time table or the command line is refused."])], "the status that README tells"
+
+
+def test_the_example_of_the_manual_page(gantt: Gantt, folder: pathlib.Path, pfs: Program, top: pathlib.Path) -> None:
+    line = re.search(r"^\.Dl \$ (.*)$", MANUAL, re.MULTILINE)
+    assert line
+    (folder / "instance").write_bytes(generated(20, 5, 873654221))
+    (folder / "order").write_bytes(pfs.run("solve --layout taillard instance", folder).stdout)
+    for name, path in (("pfs", pfs.path), ("pfs-gantt", top / "tools" / "gantt")):
+        (folder / name).symlink_to(path)
+    assert told_by(["sh", "-c", line[1]], folder, env=with_path(folder)) == Told(0, "", "")
+    assert {"critical-1", "critical-5"} <= Picture(folder / "chart.svg").groups.keys()
+
+
 def test_the_fonts_of_a_pdf_are_truetype(gantt: Gantt, folder: pathlib.Path) -> None:
     assert gantt(folder, "picture.pdf") == Ran(b"", b"", 0)
     pdf = (folder / "picture.pdf").read_bytes()
@@ -554,6 +661,45 @@ def steps(jobs: int) -> Case:
     """Jobs of one unit on each of two machines, but for one of 600 on the first one, for which the second one waits."""
     times = [[600, 1] if job == jobs // 2 else [1, 1] for job in range(jobs)]
     return Case(f"an image of {jobs}", list(range(1, jobs + 1)), schedule_of(times), ())
+
+
+@pytest.mark.parametrize("size", ["5001 1", "1 201", "5001 201", "20 1000", "100000 1"])
+def test_more_than_pfs_has_is_refused_at_once(gantt: Gantt, folder: pathlib.Path, size: str) -> None:
+    ran = gantt(folder, "picture.svg", text=THREE.replace("3 2", size, 1))
+    assert ran == Ran(b"", b"gantt: a time table has at most 5,000 jobs and 200 machines\n", 2)
+
+
+@pytest.mark.parametrize("path", ["/dev/zero", "long"])
+def test_a_table_without_end(top: pathlib.Path, folder: pathlib.Path, matplotlib: None, path: str) -> None:
+    with open(folder / "long", "wb") as file:
+        file.truncate(67_108_865)
+    words: list[str | pathlib.Path] = [need("prlimit"), "--as=4000000000", top / "tools" / "gantt", path, "picture.svg"]
+    assert told_by(words, folder) == Told(2, "", "gantt: no time table: longer than 67,108,864 bytes\n")
+
+
+@pytest.mark.parametrize("module", ["numpy", "matplotlib"])
+def test_what_is_to_be_installed_is_named(top: pathlib.Path, folder: pathlib.Path, matplotlib: None,
+                                          module: str) -> None:
+    (folder / "without").mkdir()
+    (folder / "without" / f"{module}.py").write_text(f"raise ModuleNotFoundError(\"No module named '{module}'\")\n")
+    (folder / "table").write_text(THREE)
+    told = told_by([top / "tools" / "gantt", "table", "picture.svg"], folder,
+                   env=dict(os.environ, PYTHONPATH=str(folder / "without"), PYTHONDONTWRITEBYTECODE="1"))
+    assert told == Told(2, "", f"gantt: No module named '{module}': it needs numpy and matplotlib "
+                               "(Debian: python3-matplotlib)\n")
+    assert not (folder / "picture.svg").exists()
+
+
+@pytest.mark.parametrize("ending", BEGINNINGS)
+def test_where_the_disk_is_full_the_old_picture_stays(top: pathlib.Path, folder: pathlib.Path, matplotlib: None,
+                                                      ending: str) -> None:
+    (folder / "table").write_text(THREE)
+    (folder / f"picture.{ending}").write_text("the old one")
+    words: list[str | pathlib.Path] = [need("prlimit"), "--fsize=1000"]
+    words += [top / "tools" / "gantt", "table", f"picture.{ending}"]
+    assert told_by(words, folder) == Told(2, "", f"gantt: [Errno 27] File too large: 'picture.{ending}'\n")
+    assert (folder / f"picture.{ending}").read_text() == "the old one", "the picture was written in place"
+    assert sorted(os.listdir(folder)) == [f"picture.{ending}", "table"]
 
 
 @pytest.fixture
@@ -588,11 +734,22 @@ def test_a_pixel_of_an_image_has_the_mean_of_the_colours_at_its_time(image: Pict
     assert {fill for line in (pixels[0], pixels[each - 1], pixels[-1]) for fill in line} == {"#ffffff"}, "between rows"
 
 
-@pytest.mark.parametrize("case", [steps(10_000), Case("many", list(range(1, 1051)), schedule_of([[1] * 20] * 1050))],
-                         ids=["20,000 of 10,000 jobs", "21,000 of 1,050 jobs"])
+@pytest.mark.parametrize("case", [steps(5_000), Case("many", list(range(1, 1051)), schedule_of([[1] * 20] * 1050))],
+                         ids=["10,000 of 5,000 jobs", "21,000 of 1,050 jobs"])
 def test_very_many_operations_are_an_image(case: Case, gantt: Gantt, folder: pathlib.Path) -> None:
     assert b"are an image" in gantt(folder, "picture.svg", text=case.text()).stderr
     assert len(list(Picture(folder / "picture.svg").root.iter("{http://www.w3.org/2000/svg}image"))) == 1
+
+
+@pytest.mark.seconds(8)
+def test_from_so_many_operations_on_as_readme_tells_the_rows_are_an_image(gantt: Gantt, folder: pathlib.Path) -> None:
+    told = re.search(r"^- Of more than ([\d,]+) operations", README, re.MULTILINE)
+    assert told, "no sentence on the operations"
+    jobs = int(told[1].replace(",", "")) // 20
+    for count, is_image in ((jobs, False), (jobs + 1, True)):
+        case = Case("many", list(range(1, count + 1)), schedule_of([[1] * 20] * count), ())
+        ran = gantt(folder, "picture.svg", text=case.text())
+        assert (b"are an image" in ran.stderr) == is_image, f"{20 * count:,} operations"
 
 
 @pytest.fixture(scope="module")
@@ -629,6 +786,7 @@ def test_the_greatest_table_is_drawn_soon_and_small(ending: str, top: pathlib.Pa
 
 # Files
 
+@pytest.mark.quick
 def test_what_pfs_prints_is_drawn(pfs: Program, gantt: Gantt, folder: pathlib.Path) -> None:
     (folder / "shop").write_bytes(generated(60, 5, 5))
     (folder / "order").write_bytes(pfs.run("solve --layout taillard shop", folder).stdout)
@@ -647,7 +805,7 @@ def test_a_kind_of_picture_is_the_same_each_time(ending: str, gantt: Gantt, fold
         assert gantt(folder, "--critical", "table", f"picture.{ending}") == Ran(b"", b"", 0)
         texts.append((folder / f"picture.{ending}").read_bytes())
     assert texts[0].startswith(BEGINNINGS[ending])
-    assert texts[0] == texts[1]
+    assert [hash(texts[0]), len(texts[0])] == [hash(texts[1]), len(texts[1])], "the second picture has other bytes"
     assert sorted(path.name for path in folder.iterdir()) == [f"picture.{ending}", "table"]
 
 
@@ -655,6 +813,7 @@ def assert_refused(ran: Ran, folder: pathlib.Path, before: list[pathlib.Path]) -
     """Nothing but one line on standard error, and no file is left."""
     assert (ran.status, ran.stdout) == (2, b"")
     assert re.fullmatch("gantt: [^\n]+\n", ran.stderr.decode()), ran.stderr
+    assert ran.stderr.decode()[:-1].isprintable(), f"a terminal takes a part of this for a command: {ran.stderr!r}"
     assert sorted(folder.iterdir()) == before
 
 

@@ -2,7 +2,9 @@
 nothing when it is taken away. The tarball and the Debian package are made twice, compared, unpacked and installed into
 empty folders, and the program runs there. All of it happens in a copy of the repository that is a repository of git of
 its own, with a kit that only tells its version and notes what it is asked."""
+import contextlib
 import csv
+import datetime
 import gzip
 import hashlib
 import io
@@ -32,7 +34,7 @@ PAGES = ["README.md", "CHANGELOG.md", "CITATION.cff", "CONTRIBUTING.md", "SECURI
 # The tools, but for what is only of the repository.
 TOOLS = [path for path in (TOP / "tools" / "gantt", *sorted((TOP / "tools").glob("*.py")),
                            *sorted((TOP / "experiments").iterdir()))
-         if path.is_file() and (path.suffix in (".py", "") or path.name == "taillard.csv")]
+         if path.is_file() and path.suffix in (".py", "", ".csv")]
 # Where each file goes below the prefix, and which one it is.
 PLACES = {
     "bin/pfs": PROGRAM,
@@ -51,6 +53,7 @@ PLACES = {
     **{f"share/doc/pfs/python/examples/{page.name}": f"python/examples/{page.name}"
        for page in sorted((TOP / "python" / "examples").glob("*.py"))},
     **{f"libexec/pfs/{path.relative_to(TOP)}": str(path.relative_to(TOP)) for path in TOOLS},
+    **{f"libexec/pfs/{folder}/_whole.py": "python/src/pfs/_whole.py" for folder in ("experiments", "tools")},
 }
 # Which folders the installation has made.
 NOTES = "libexec/pfs/installed-folders"
@@ -129,7 +132,9 @@ def copy(top: pathlib.Path, pfs: Program, tmp_path_factory: pytest.TempPathFacto
         else:
             shutil.copy(top / name, made.top / name)
     (made.top / ".gitignore").write_text("out/\ndist/\n")
+    # As after `git clone` by somebody whose files nobody else can read.
     for path in made.top.rglob("*"):
+        path.chmod(path.stat().st_mode & 0o700)
         os.utime(path, (OLD, OLD))
     (made.top / PROGRAM).parent.mkdir()
     shutil.copy(pfs.path, made.top / PROGRAM)
@@ -187,8 +192,37 @@ class Installed(NamedTuple):
 
 
 def install(copy: Copy, prefix: str, root: pathlib.Path) -> Installed:
-    assert copy.make("install", *variables(prefix, root)) == Told(0, "", "")
+    """Under a mask that leaves nothing to others: modes are the usual ones whoever installs."""
+    with private_files():
+        assert copy.make("install", *variables(prefix, root)) == Told(0, "", "")
     return Installed(root, root / prefix[1:])
+
+
+@contextlib.contextmanager
+def private_files() -> Iterator[None]:
+    """What is made meanwhile nobody else can read, unless its mode is set."""
+    old = os.umask(0o077)
+    try:
+        yield
+    finally:
+        os.umask(old)
+
+
+def modes_below(folder: pathlib.Path) -> dict[str, int]:
+    """The mode of each file and folder below a folder."""
+    return {str(path.relative_to(folder)): path.stat().st_mode & 0o7777 for path in sorted(folder.rglob("*"))
+            if not path.is_symlink()}
+
+
+def assert_usual_modes(folder: pathlib.Path) -> None:
+    """Programs and scripts are run by all, and all else is read by all."""
+    wrong = {}
+    for path, mode in modes_below(folder).items():
+        is_script = "/libexec/" in f"/{path}" and not path.endswith((".py", ".csv", "/task", "installed-folders"))
+        is_run = (folder / path).is_dir() or is_script or re.search(r"(^|/)bin/", path)
+        if mode != (0o755 if is_run else 0o644):
+            wrong[path] = oct(mode)
+    assert wrong == {}, "modes that aren't the usual ones"
 
 
 PREFIXES = ["/usr/local", "/opt/pfs"]
@@ -213,8 +247,13 @@ def test_an_installation_has_these_files(installed: Installed, copy: Copy) -> No
 
 @pytest.mark.parametrize("place", PLACES)
 def test_an_installed_file_has_the_usual_mode(installed: Installed, place: str) -> None:
-    is_run = place.startswith("bin/") or "libexec" in place and not place.endswith((".py", ".csv"))
+    is_run = place.startswith("bin/") or "libexec" in place and not place.endswith((".py", ".csv", "/task"))
     assert (installed.prefix / place).stat().st_mode & 0o777 == (0o755 if is_run else 0o644)
+
+
+def test_all_that_is_installed_has_the_usual_mode(installed: Installed) -> None:
+    """Folders too."""
+    assert_usual_modes(installed.prefix)
 
 
 def test_each_manual_page_stands_in_its_own_section_and_is_of_a_program(installed: Installed) -> None:
@@ -374,7 +413,8 @@ def with_library(request: pytest.FixtureRequest, library: pathlib.Path, copy: Co
                  folder: pathlib.Path) -> pathlib.Path:
     """The prefix of an installation that has the library, with the program or alone."""
     assert library.is_dir()
-    assert copy.make(request.param, f"PREFIX={folder}/place") == Told(0, "", "")
+    with private_files():
+        assert copy.make(request.param, f"PREFIX={folder}/place") == Told(0, "", "")
     return folder / "place"
 
 
@@ -384,7 +424,7 @@ def test_the_librarys_installation_has_these_files(with_library: pathlib.Path, c
     assert_same_files(found, {place: (copy.top / file).read_bytes() for place, file in LIBRARY.items()})
     assert f"prefix={with_library}\n" in config and f"\nVersion: {VERSION}\n" in config and "@" not in config
     assert os.readlink(with_library / "lib" / "libpfs.so") == "libpfs.so.0"
-    assert {(with_library / path).stat().st_mode & 0o777 for path in LIBRARY} == {0o644}
+    assert_usual_modes(with_library)
     assert set(files_below(with_library)) >= set(PLACES) or not (with_library / "bin").exists()
 
 
@@ -462,6 +502,20 @@ def newest_libc(program: pathlib.Path) -> str:
     versions = re.findall(rb"GLIBC_([0-9.]+)", program.read_bytes())
     newest: bytes = max(versions, key=lambda version: [int(part) for part in version.split(b".")])
     return newest.decode()
+
+
+@pytest.mark.parametrize(("content", "package"), [
+    (b"GLIBC_2.4\0GLIBC_2.34\0", "libc6 (>= 2.34)"), (b"GLIBC_2.34\0GLIBC_2.4\0", "libc6 (>= 2.34)"),
+    (b"x\0GLIBC_2.9\0\xff\0GLIBC_2.10.1\n", "libc6 (>= 2.10.1)"), (b"GLIBC_2.17", "libc6 (>= 2.17)"),
+    (b"no symbol", "libc6")])
+def test_versions_of_the_c_library_are_compared_as_numbers(top: pathlib.Path, folder: pathlib.Path, content: bytes,
+                                                          package: str) -> None:
+    """By the function of tools/dist that says what a package depends on."""
+    function = re.search(r"^libc_of\(\) \{.*?^\}$", (top / "tools" / "dist").read_text(), re.MULTILINE | re.DOTALL)
+    assert function
+    (folder / "program").write_bytes(content)
+    script = f"export LC_ALL=C\n{function[0]}\nlibc_of program"
+    assert printed_by(["sh", "-euc", script], folder) == f"{package}\n"
 
 
 def test_readme_names_the_c_library_that_the_program_needs(top: pathlib.Path, pfs: Program) -> None:
@@ -549,6 +603,29 @@ def names(told: str, *libraries: str) -> list[str]:
                    *([f"python3-pfs_{told}-1_all.deb"] if libraries else [])])
 
 
+@pytest.mark.parametrize("goal", ["dist", "wheel"])
+def test_a_source_tree_that_git_does_not_trust(copy: Copy, folder: pathlib.Path, goal: str) -> None:
+    """One line says what to do, and nothing is made."""
+    env = {"GIT_CONFIG_COUNT": "0", "GIT_TEST_ASSUME_DIFFERENT_OWNER": "1", "HOME": str(folder)}
+    words: list[str | pathlib.Path] = [copy.top / "tools" / goal, folder / "made"]
+    words += [copy.top / "Makefile"] if goal == "wheel" else []
+    told = told_by(words, folder, env=copy.env | env)
+    [line] = [line for line in told.stderr.splitlines() if line.startswith(f"tools/{goal}: ")]
+    assert told.status == 1 and f"git config --global --add safe.directory '{copy.top}'" in line
+    assert not (folder / "made").exists()
+
+
+@pytest.mark.parametrize("goal", ["dist", "wheel"])
+def test_a_source_tree_without_git(copy: Copy, folder: pathlib.Path, goal: str) -> None:
+    shutil.copytree(copy.top / "tools", folder / "tree" / "tools")
+    words: list[str | pathlib.Path] = [folder / "tree" / "tools" / goal, folder / "made"]
+    words += [copy.top / "Makefile"] if goal == "wheel" else []
+    told = told_by(words, folder, env=copy.env)
+    assert told.status == 1 and not (folder / "made").exists()
+    due = "SOURCE_DATE_EPOCH=" if goal == "wheel" else "clone the repository"
+    assert due in told.stderr.splitlines()[-1]
+
+
 def test_a_tarball_packages_and_their_sums_are_made(made: Made, copy: Copy) -> None:
     assert sorted(made.files) == names(version(copy))
 
@@ -576,6 +653,17 @@ def test_the_library_has_packages_where_it_is_built(library: pathlib.Path, copy:
     assert "prefix=/usr\nlibdir=${prefix}/lib/x86_64-linux-gnu\n" in config
     assert printed_by(["dpkg-deb", "--field", made.path("libpfs-dev"), "Depends"], folder) \
         == f"libpfs0 (= {version(copy)}-1)\n"
+    assert_usual_modes(folder / "root")
+    fields = {name: fields_of(made.path(f"/{name}_")) for name in ("libpfs0", "libpfs-dev")}
+    assert {(each["Multi-Arch"], each["Architecture"], each["Source"]) for each in fields.values()} \
+        == {("same", "amd64", "pfs")}
+    assert [each["Section"] for each in fields.values()] == ["libs", "libdevel"]
+    stripped = folder / "root" / libraries / "libpfs.so.0"
+    needed = f" (>= {newest_libc(stripped)})" if b"GLIBC_" in stripped.read_bytes() else ""
+    assert fields["libpfs0"]["Depends"] == f"libc6{needed}"
+    printed_by(["dpkg-deb", "--control", made.path("/libpfs0_"), "control"], folder)
+    assert (folder / "control" / "shlibs").read_text() == f"libpfs 0 libpfs0 (>= {VERSION}~)\n"
+    assert (folder / "control" / "triggers").read_text() == "activate-noawait ldconfig\n"
 
 
 @pytest.mark.seconds(20)
@@ -585,20 +673,37 @@ def test_the_package_for_python_runs(library: pathlib.Path, copy: Copy, folder: 
     made = made_in(copy, folder / "dist")
     printed_by(["dpkg-deb", "--extract", made.path("python3-pfs"), "root"], folder)
     assert errors_of_lintian(made.path("python3-pfs")) == ""
+    module = folder / "root" / "usr/lib/python3/dist-packages/pfs"
+    sources = {path.name: path.read_bytes() for path in (copy.top / "python/src/pfs").iterdir() if path.is_file()}
+    sources["_gantt.py"] = (copy.top / "tools/chart.py").read_bytes()
+    assert_same_files(files_below(module), sources)
+    pages = {path: text for path, text in files_below(folder / "root/usr/share/doc/python3-pfs").items()
+             if path not in DEBIAN_PAGES}
+    examples = {f"examples/{path.name}": path.read_bytes() for path in (copy.top / "python/examples").glob("*.py")}
+    assert_same_files(pages, {"README.md": (copy.top / "python/README.md").read_bytes()} | examples)
+    fields = fields_of(made.path("python3-pfs"))
+    assert (fields["Recommends"], fields["Suggests"]) == ("python3-matplotlib, python3-pandas", "python3-tqdm")
+    assert (fields["Section"], fields["Architecture"]) == ("python", "all")
+    assert_usual_modes(folder / "root")
     assert printed_by(["dpkg-deb", "--field", made.path("python3-pfs"), "Depends"], folder) \
         == f"libpfs0 (>= {VERSION}~), python3 (>= 3.11), python3-numpy\n"
     env = dict(os.environ, PYTHONPATH=str(folder / "root" / "usr/lib/python3/dist-packages"),
                PFS_LIBRARY=str(libpfs.path))
     told = printed_by(["/usr/bin/python3", "-c", "import pfs; shop = pfs.Instance([[3, 2], [2, 5], [4, 1]]); "
-                       "print(shop.makespan([0, 1, 2])); shop.schedule([0, 1, 2]).plot('chart.svg')"], folder, env=env)
-    assert told == "11\n"
-    assert (folder / "chart.svg").stat().st_size > 0
+                       "print(shop.makespan([0, 1, 2])); made = shop.schedule([0, 1, 2]); made.plot('chart.svg'); "
+                       "made.plot('chart.html'); print(pfs.taillard(1).jobs)"], folder, env=env)
+    assert told == "11\n20\n"
+    assert (folder / "chart.svg").stat().st_size > 0 and (folder / "chart.html").stat().st_size > 0
 
 
 @pytest.mark.parametrize("ending", [".tar.gz", "/pfs_", "/pfs-tools", "SHA256SUMS"])
 def test_made_again_it_has_the_same_bytes(ending: str, made: Made, made_again: Made) -> None:
     assert made_again.path(ending).name == made.path(ending).name
-    assert made_again.path(ending).read_bytes() == made.path(ending).read_bytes()
+    again, first = (each.path(ending).read_bytes() for each in (made_again, made))
+    # A comparison of the bytes themselves would be explained at length.
+    assert len(again) == len(first)
+    differs = next((at for at, pair in enumerate(zip(again, first)) if pair[0] != pair[1]), None)
+    assert differs is None, f"made again, {made.path(ending).name} has another byte at {differs}"
 
 
 def test_the_names_are_by_the_time_of_the_sources(copy: Copy, folder: pathlib.Path) -> None:
@@ -799,6 +904,11 @@ def test_lintian_finds_no_error(package: str, made: Made) -> None:
     assert errors_of_lintian(made.path(package)) == ""
 
 
+def test_all_in_the_packages_has_the_usual_mode(extracted: pathlib.Path, unpacked: pathlib.Path) -> None:
+    for folder in (extracted, unpacked):
+        assert_usual_modes(folder)
+
+
 def test_lintian_tells_an_error_where_there_is_one(made: Made, folder: pathlib.Path) -> None:
     printed_by(["dpkg-deb", "--raw-extract", made.path("/pfs_"), "root"], folder)
     (folder / "root" / "usr" / "share" / "doc" / "pfs" / "copyright").unlink()
@@ -865,6 +975,31 @@ def test_the_package_needs_the_programs_c_library(made: Made, pfs: Program) -> N
     assert field(made, "Depends") == f"libc6 (>= {newest_libc(pfs.path)})"
 
 
+def fields_of(package: pathlib.Path) -> dict[str, str]:
+    """The fields of a package, each by its first line."""
+    lines = printed_by(["dpkg-deb", "--field", package], package.parent).splitlines()
+    return dict(line.split(": ", 1) for line in lines if not line.startswith(" "))
+
+
+# The fields of each package, but for those that all of them have.
+FIELDS = {
+    "pfs": {"Depends": "libc6 (>= {libc})", "Suggests": "pfs-tools", "Section": "science", "Architecture": "amd64"},
+    "pfs-tools": {"Depends": "pfs (= {version}-1), python3 (>= 3.11)", "Recommends": "parallel, python3-matplotlib",
+                  "Suggests": "openssh-client, python3-scipy, rsync, slurm-client", "Section": "science",
+                  "Architecture": "all", "Source": "pfs"}}
+
+
+@pytest.mark.parametrize("package", FIELDS)
+def test_a_package_has_these_fields(package: str, made: Made, copy: Copy, pfs: Program) -> None:
+    found = fields_of(made.path(f"/{package}_"))
+    for name in ("Installed-Size", "Description"):
+        assert found.pop(name)
+    due = {name: value.format(libc=newest_libc(pfs.path), version=version(copy))
+           for name, value in FIELDS[package].items()}
+    assert found == due | {"Package": package, "Version": f"{version(copy)}-1", "Priority": "optional",
+                           "Maintainer": "A Tester <tester@example.org>"}
+
+
 def test_the_packages_version_is_that_of_its_name(made: Made) -> None:
     assert f"pfs_{field(made, 'Version')}_amd64.deb" in made.files
 
@@ -885,11 +1020,36 @@ def test_all_that_tells_a_version_tells_the_same(top: pathlib.Path) -> None:
     assert numbers_told(top) == dict.fromkeys(numbers_told(top), [VERSION])
 
 
+def test_the_release_has_one_date(top: pathlib.Path) -> None:
+    """That of the changelog, of the citation and, unless a page has changed since, of the manual pages."""
+    dates = re.findall(rf"^## \[{re.escape(VERSION)}\] - (\d{{4}}-\d\d-\d\d)$", (top / "CHANGELOG.md").read_text(),
+                       re.MULTILINE)
+    assert len(dates) == 1
+    assert re.findall(r'^date-released: "(.*)"$', (top / "CITATION.cff").read_text(), re.MULTILINE) == dates
+    for page in (top / "share").glob("*.1"):
+        told = re.search(r"^\.Dd (\w+ \d+, \d{4})$", page.read_text(), re.MULTILINE)
+        assert told and datetime.datetime.strptime(told[1], "%B %d, %Y").date().isoformat() >= dates[0], page.name
+
+
 def test_a_tag_of_a_version_is_of_a_version_that_the_changelog_has(top: pathlib.Path) -> None:
     if (top / ".git").exists():
-        tags = printed_by([need("git"), "tag", "--list", "v[0-9]*"], top).split()
-        listed = re.findall(r"^## \[(\d.*?)\]", (top / "CHANGELOG.md").read_text(), re.MULTILINE)
-        assert set(tags) <= {f"v{number}" for number in listed}
+        assert unlisted_tags(top, dict(os.environ)) == set()
+
+
+def unlisted_tags(top: pathlib.Path, env: dict[str, str]) -> set[str]:
+    """The tags of versions that the changelog doesn't have."""
+    tags = printed_by([need("git"), "tag", "--list", "v[0-9]*"], top, env=env).split()
+    listed = re.findall(r"^## \[(\d.*?)\]", (top / "CHANGELOG.md").read_text(), re.MULTILINE)
+    return set(tags) - {f"v{number}" for number in listed}
+
+
+def test_a_tag_of_another_version_is_found(copy: Copy) -> None:
+    for tag in (f"v{VERSION}", "v99.0.1", "another"):
+        copy.git("tag", tag)
+    try:
+        assert unlisted_tags(copy.top, copy.env) == {"v99.0.1"}
+    finally:
+        copy.git("tag", "-d", f"v{VERSION}", "v99.0.1", "another")
 
 
 def test_all_in_the_package_is_roots_at_the_commits_time(made: Made, copy: Copy) -> None:

@@ -1,6 +1,7 @@
 """The library for C: its header and what the files of it show; each function on each wrong argument
 (support/library_calls.c), also with memory refused, under valgrind and with gcc's sanitizers; and on random shops and
 files against the program and a second implementation (support/second_library.cpp)."""
+import ctypes
 import pathlib
 import re
 from random import Random
@@ -72,6 +73,82 @@ def test_the_numbers_are_those_of_the_crate(top: pathlib.Path) -> None:
     assert sorted(answered.values()) == [*range(15), *range(20, 29), *range(30, 34)]
 
 
+def test_the_header_names_the_parameters_as_the_functions_do(top: pathlib.Path) -> None:
+    """In their order: two of them may have the same type. A slice is a pointer and a length in C."""
+    source = "\n".join(path.read_text() for path in sorted((top / "crates" / "pfs_c" / "src").rglob("*.rt")))
+    others = {"span": "makespan", "least": "bound", "len": "length"}
+    header = re.sub(r"/\*.*?\*/", "", HEADER.read_text(), flags=re.DOTALL)
+    declared = dict(re.findall(r"^int (pfs_\w+)\((.*?)\);", header, re.MULTILINE | re.DOTALL))
+    assert declared.keys() == NAMES - TEXTS
+    for name, parameters in declared.items():
+        told = [re.findall(r"\w+", each)[-1] for each in parameters.split(",")]
+        proved = re.search(rf'^pub extern "C" fn {name}\((.*?)^\) -> i32', source, re.MULTILINE | re.DOTALL)
+        assert proved, name
+        due = []
+        for parameter, kind in re.findall(r"^    (\w+): ([^\n]*),$", proved[1], re.MULTILINE):
+            if parameter != "alloc":
+                due.append(others.get(parameter, parameter))
+            if "[" in kind:
+                due.append("room" if told[len(due):len(due) + 1] == ["room"] else f"{due[-1]}_length")
+        assert told == due, f"the parameters of {name}"
+
+
+# What the texts of the numbers say, a few words each, which no other text has.
+MEANT = {
+    0: "done", 1: "memory", 2: "number of jobs or of machines", 3: "list", 4: "^a time is greater",
+    5: "^a job isn't below", 6: "^a job stands twice", 7: "destruction size", 8: "passes", 9: "rounds", 10: "seed",
+    11: "layout", 12: "block isn't from 1", 13: "makespan", 14: "room", 20: "ends before the block",
+    21: "too few or too many", 22: "number of a size line is out", 23: "has a word", 24: "time of the file is greater",
+    25: "machine's number", 26: "behind the last time", 27: "ends inside a block", 28: "doesn't end within",
+    30: "not an order file", 31: "0 or greater than the number of jobs", 32: "job of the order file stands twice",
+    33: "order file of more than"}
+LIMITS_TOLD = {4: ["LONGEST_TIME"], 8: ["MOST_PASSES"], 9: ["MOST_ROUNDS"], 12: ["MOST_BLOCKS"], 24: ["LONGEST_TIME"],
+               28: ["LONGEST_INPUT"], 33: ["LONGEST_ORDER_FILE"]}
+
+
+@pytest.fixture(scope="session")
+def texts(tmp_path_factory: pytest.TempPathFactory) -> dict[int, str]:
+    """The text of each number from -2 to 99."""
+    path = tmp_path_factory.mktemp("texts") / "libtexts.so"
+    compile_quietly([need("gcc"), "-std=c99", "-Wall", "-Wextra", "-Werror", "-fPIC", "-shared", "-o", path,
+                     HEADER.with_name("pfs_text.c")])
+    message = ctypes.CDLL(str(path)).pfs_message
+    message.restype = ctypes.c_char_p
+    return {number: message(number).decode() for number in range(-2, 100)}
+
+
+@pytest.mark.parametrize("number", MEANT)
+def test_a_number_has_its_own_text(texts: dict[int, str], number: int) -> None:
+    assert re.search(MEANT[number], texts[number]), f"the text of {number} is {texts[number]!r}"
+    assert [other for other, text in texts.items() if re.search(MEANT[number], text)] == [number]
+    limits = [str(defined()[f"PFS_{name}"]) for name in LIMITS_TOLD.get(number, [])]
+    assert [limit for limit in limits if limit not in texts[number]] == [], "the limit that the text tells"
+
+
+def test_other_numbers_have_no_text(texts: dict[int, str]) -> None:
+    numbers = {value for name, value in defined().items() if not re.match("PFS_(MOST|LONGEST)_", name)}
+    assert MEANT.keys() == numbers
+    assert {text for number, text in texts.items() if number not in MEANT} == {"unknown number"}
+
+
+# What the comments of pfs.h say of the numbers, a few words each.
+COMMENTS = {
+    1: "memory was refused", 2: "PFS_MOST_JOBS.*PFS_MOST_MACHINES", 3: "a list hasn't", 4: "a time.*PFS_LONGEST_TIME$",
+    5: "a job isn't below", 6: "a job stands twice", 7: "takes out", 8: "PFS_MOST_PASSES", 9: "PFS_MOST_ROUNDS",
+    10: "2147483646", 11: "PFS_TAILLARD nor PFS_ORLIB", 12: "PFS_MOST_BLOCKS", 13: "PFS_MOST_MAKESPAN", 14: "room",
+    20: "before the block", 21: "too few or too many", 22: "out of its limit", 23: "a word", 24: "PFS_LONGEST_TIME;",
+    25: "another machine", 26: "last time", 27: "inside a block", 28: "PFS_LONGEST_INPUT", 30: "no order file",
+    31: "0 or greater", 32: "at an earlier place", 33: "PFS_LONGEST_ORDER_FILE"}
+
+
+def test_the_header_says_what_each_number_means() -> None:
+    comments = {int(value): comment for value, comment in
+                re.findall(r"^#define PFS_[A-Z_]+ (\d+) +/\* (.*?) \*/$", HEADER.read_text(), re.MULTILINE)}
+    assert COMMENTS.keys() == MEANT.keys() - {0}
+    for number, words in COMMENTS.items():
+        assert re.search(words, comments[number]), f"the comment of {number} in pfs.h"
+
+
 # The files
 
 def test_only_its_names_can_be_seen(libpfs: Library) -> None:
@@ -102,6 +179,7 @@ def calls(libpfs: Library, tmp_path_factory: pytest.TempPathFactory) -> Program:
     return compiled(tmp_path_factory.mktemp("calls") / "library_calls", [CALLS], libpfs)
 
 
+@pytest.mark.quick
 @pytest.mark.parametrize("compiler", ["gcc", "clang"])
 @pytest.mark.parametrize("is_static", [False, True], ids=["shared", "static"])
 def test_each_call(libpfs: Library, folder: pathlib.Path, compiler: str, is_static: bool) -> None:
@@ -122,7 +200,7 @@ def test_each_call_with_sanitizers(libpfs: Library, folder: pathlib.Path) -> Non
 def test_each_call_under_valgrind(calls: Program, folder: pathlib.Path, word: str) -> None:
     valgrind = ["-q", "--error-exitcode=9", "--leak-check=full", "--show-leak-kinds=all", "--errors-for-leak-kinds=all"]
     ran = Program(pathlib.Path(need("valgrind"))).run([*valgrind, str(calls.path), word], folder)
-    assert (ran.stderr, ran.status) == (b"", 0)
+    assert (ran.stderr, ran.status) == (b"", 0), f"the calls say {ran.stdout.decode()}"
 
 
 def test_four_threads(calls: Program, folder: pathlib.Path) -> None:
@@ -168,10 +246,16 @@ def by_job(shop: Instance) -> list[int]:
     return [shop.times[machine][job] for job in range(shop.jobs) for machine in range(shop.machines)]
 
 
+# No text of these shops is longer: 12 jobs on 26 machines have 312 times, each of 10 digits, with its machine.
+ROOM = 10_000
+
+
 def shop_of(random: Random) -> Instance:
     """A random shop, often one with many equal sums."""
-    shop = Instance(random.randint(1, 9), random.randint(1, 5), [random.choice(fuzz.NOTES) for _ in range(3)])
-    most = random.choice([0, 1, 3, 9, 99, 1_000_000_000])
+    most_jobs, most_machines = random.choice([(9, 5), (9, 5), (12, 26)])
+    notes = [random.choice(fuzz.NOTES) for _ in range(3)]
+    shop = Instance(random.randint(1, most_jobs), random.randint(1, most_machines), notes)
+    most = random.choice([0, 1, 3, 9, 99, 3_000, 1_000_000_000])
     shop.times = [[random.randint(0, most) for _ in range(shop.jobs)] for _ in range(shop.machines)]
     return shop
 
@@ -351,18 +435,19 @@ class Desk:
         read = self.call("pfs_read", *text(by_jobs), Number(1, 32), Number(1), out64(), out64(), out32(3),
                          *list32([0] * size), out64()).memory
         assert read32(read[4]) == by_job(self.shop)
-        wrote = self.call("pfs_write", *given(self.shop), u32s(self.shop.notes), Number(1, 32), Memory(bytes(2_000)),
-                          Number(2_000), out64()).memory
+        wrote = self.call("pfs_write", *given(self.shop), u32s(self.shop.notes), Number(1, 32), Memory(bytes(ROOM)),
+                          Number(ROOM), out64()).memory
         assert wrote[2][:read64(wrote[3])[0]] == by_jobs
         drawn = self.call("pfs_generate", Number(self.shop.jobs), Number(self.shop.machines), Number(77),
                           *list32([0] * size)).memory
         notes = u32s([77, 0, 0])
         wrote = self.call("pfs_write", Memory(drawn[0]), Number(size), Number(self.shop.jobs),
-                          Number(self.shop.machines), notes, Number(0, 32), Memory(bytes(2_000)), Number(2_000),
+                          Number(self.shop.machines), notes, Number(0, 32), Memory(bytes(ROOM)), Number(ROOM),
                           out64()).memory
         assert wrote[2][:read64(wrote[3])[0]] == self.print(f"generate {self.shop.jobs} {self.shop.machines} 77")
 
 
+@pytest.mark.quick
 @pytest.mark.seconds(10)
 def test_random_shops_by_the_program(pfs: Program, libpfs: Library, folder: pathlib.Path) -> None:
     random = Random(3)

@@ -47,6 +47,10 @@ PLACES = {
         r"One at least, and ([\d,]+) at most": "MOST_BLOCKS",
         r"seed : int 1 to ([\d,]+)\.": "GREATEST_SEED",
     },
+    "tools/gantt": {
+        r"^MOST_JOBS, MOST_MACHINES, LONGEST = ([\d_]+), ": "MOST_JOBS",
+        r"^MOST_JOBS, MOST_MACHINES, LONGEST = [\d_]+, ([\d_]+), ": "MOST_MACHINES",
+    },
     "python/src/pfs/_instance.py": {
         r"``first \+ rounds`` is at most ([\d,]+)\.": "MOST_ROUNDS",
         r"a row for each of 1 to ([\d,]+) jobs": "MOST_JOBS",

@@ -132,6 +132,7 @@ def run_line(line: str, folder: pathlib.Path) -> str:
     return done.stdout
 
 
+@pytest.mark.quick
 @pytest.mark.parametrize("example", [
     pytest.param(example, id=f"{page}: {example.command[:60]}", marks=pytest.mark.xdist_group(f"examples of {page}"))
     for page, found in EXAMPLES.items() for example in found])
@@ -680,12 +681,30 @@ def test_mandoc_finds_nothing_wrong_in_the_pages_of_the_tools(name: str) -> None
     assert (done.stdout, done.stderr, done.returncode) == ("", "", 0)
 
 
+def test_pages_name_the_library_as_it_is_called() -> None:
+    """By its soname, and the files by their names."""
+    soname = re.findall(r"-soname,(\S+)", (TOP / "tools" / "library").read_text())
+    named = {str(path.relative_to(TOP)): set(re.findall(r"libpfs\.so\.\w+", path.read_text())) - set(soname)
+             for path in [*PAGES, *TOP.glob("*.md"), *TOP.glob("python/**/*.md"), *TOP.glob("examples/*.md"),
+                          TOP / "Makefile", *(TOP / "lib").glob("*.*"), *(TOP / "share").glob("*.1"),
+                          *(TOP / "python" / "src" / "pfs").glob("*.py")]}
+    assert len(soname) == 1 and {name: found for name, found in named.items() if found} == {}
+    for name in ("libpfs.a", soname[0]):
+        assert f"lib/out/{name}" in (TOP / "docs" / "LIBRARY.md").read_text()
+    assert {soname[0]} == {each for path in PAGES for each in re.findall(r"libpfs\.so\.\w+", path.read_text())}
+
+
 def test_the_page_of_gantt_has_its_options() -> None:
     usage = (TOP / "tools" / "gantt").read_text().partition("usage: ")[2].partition('"""')[0]
     options = re.findall(r"--([\w-]+)", usage)
     for macro in ("It", "Op"):
         told = re.findall(rf"^\.{macro} Fl -([\w-]+)", TOOL_PAGES["pfs-gantt"], re.MULTILINE)
         assert sorted(told) == sorted(options), f"the options of .{macro} in pfs-gantt.1"
+    lines = re.findall(r"^\.Op Fl -([\w-]+)(?: Ar (\w+))?$", TOOL_PAGES["pfs-gantt"], re.MULTILINE)
+    assert " ".join(f"[--{option}{' ' * bool(value)}{value}]" for option, value in lines) \
+        == usage.removeprefix("tools/gantt ").partition(" [TABLE]")[0], "the synopsis of pfs-gantt.1"
+    listed = re.findall(r"^\.It Fl -([\w-]+)(?: Ar (\w+))?$", TOOL_PAGES["pfs-gantt"], re.MULTILINE)
+    assert listed == lines, "the list of the options in pfs-gantt.1"
 
 
 def test_the_page_of_experiments_has_its_scripts() -> None:

@@ -1,23 +1,33 @@
-"""The paths that the pages for maintainers name: each is there."""
+"""The paths that the pages name exist, and the names between backquotes are names of the sources."""
+import functools
 import pathlib
 import re
 
 import pytest
 from support.tree import files_below
 
-PAGES = ["ARCHITECTURE", "DECISIONS", "DEFINITIONS", "GATE", "PROOFS", "SPEED"]
+TOP = pathlib.Path(__file__).resolve().parent.parent
+PAGES = sorted(str(page.relative_to(TOP)) for page in (*TOP.glob("*.md"), *TOP.glob("*/*.md")))
 # A path, or the name of a file, in backquotes.
 NAMED = re.compile(r"`((?:[\w.-]+/)+[\w.-]*|[\w-]+\.(?:antt|cpp|edit|hpp|md|py|rt))`")
 # Modules stand in the pages without these endings too.
 MODULES = {".antt", ".edit", ".py", ".rt"}
-# What a build makes, a word that stands for any crate's name, and what a wheel calls a file of tools/.
-ELSEWHERE = re.compile(r"\bout/|\bNAME/|^_gantt\.py$")
+# What a build, a report or a wheel makes, any crate's name, a page of the kit, and a folder of an example.
+ELSEWHERE = re.compile(r"\bout(?:/|$)|\bNAME/|^START-HERE\.md$|/PROVED$|^(?:table|sizes|comparison)\.md$|^_gantt\.py$"
+                       r"|^instances/$|^\./$")
+# A name of more than one word, or of a function that is called.
+NAME = re.compile(r"[A-Za-z]\w*(?:_|[a-z][A-Z])\w*|[a-z]\w*(?=\(\))")
+TEXTS = {".antt", ".c", ".cpp", ".edit", ".fish", ".h", ".hpp", ".html", ".in", ".py", ".rt", ".toml", ".txt", ".1", ""}
+
+
+def is_passed_over(folder: str) -> bool:
+    return folder in ("out", "dist", "__pycache__") or (folder.startswith(".") and folder != ".ci")
 
 
 def missing_of(page: str, top: pathlib.Path) -> list[str]:
     """The paths that a page names and no path of the repository ends with."""
     there = set[str]()
-    for path in files_below(top, lambda folder: folder == "out" or folder.startswith(".")):
+    for path in files_below(top, is_passed_over):
         parts = path.relative_to(top).parts
         named = [parts, *(parts[:count] for count in range(1, len(parts)))]
         if path.suffix in MODULES:
@@ -28,7 +38,7 @@ def missing_of(page: str, top: pathlib.Path) -> list[str]:
 
 @pytest.mark.parametrize("page", PAGES)
 def test_the_paths_of_this_page_are_there(page: str, top: pathlib.Path) -> None:
-    assert missing_of((top / "docs" / f"{page}.md").read_text(), top) == []
+    assert missing_of((top / page).read_text(), top) == []
 
 
 @pytest.mark.parametrize("named, missing", [
@@ -47,3 +57,41 @@ def test_a_path(folder: pathlib.Path, named: str, missing: list[str]) -> None:
     (folder / "low" / "src").mkdir(parents=True)
     (folder / "low" / "src" / "rows.rt").touch()
     assert missing_of(f"The rows stand in `{named}`.", folder) == missing
+
+
+@functools.cache
+def names_of_sources() -> set[str]:
+    """Each word of the sources and of their paths, but for the words of this file."""
+    paths = [path for path in files_below(TOP, is_passed_over) if path.suffix in TEXTS]
+    texts = [*map(str, paths), *(path.read_text() for path in paths if path.name != "test_paths.py")]
+    return {word for text in texts for word in re.findall(r"[A-Za-z]\w*", text)}
+
+
+def unknown_of(page: str) -> list[str]:
+    """The names between backquotes that aren't in the sources."""
+    codes = re.findall(r"`([^`\n]+)`", re.sub(r"^```.*?^```$", "", page, flags=re.MULTILINE | re.DOTALL))
+    return [name for code in codes for name in NAME.findall(code) if name not in names_of_sources()]
+
+
+@pytest.mark.parametrize("page", PAGES)
+def test_the_names_of_this_page_are_in_the_sources(page: str, top: pathlib.Path) -> None:
+    assert unknown_of((top / page).read_text()) == []
+
+
+@pytest.mark.parametrize(("code", "unknown"), [
+    ("read_block", []),
+    ("pfs_layout::laws::earlier_files", []),
+    ("read_blok", ["read_blok"]),
+    ("HeadsTails::new", []),
+    ("HeadTails::new(jobs)", ["HeadTails"]),
+    ("finish()", []),
+    ("finisch()", ["finisch"]),
+    ("pfs solve --layout taillard shop", []),
+])
+def test_a_name(code: str, unknown: list[str]) -> None:
+    """One with a slip is found."""
+    assert unknown_of(f"It is computed by `{code}`.\n```\nany_name\n```\n") == unknown
+
+
+def test_there_are_pages() -> None:
+    assert {"README.md", "CONTRIBUTING.md", "docs/ARCHITECTURE.md", "python/README.md"} <= set(PAGES)

@@ -1,10 +1,13 @@
 """The report of experiments: its tables, and what its plots show, read back from SVG by the axes' own marks."""
 import csv
 import io
+import itertools
 import math
 import os
 import pathlib
 import re
+import statistics
+import time
 from collections.abc import Callable
 
 import pytest
@@ -13,6 +16,7 @@ from support.experiments import OLD_HEAD
 from support.pictures import Picture, Scale, value_of
 from support.tools import Told, told_by
 
+pytestmark = pytest.mark.long
 # By hand: the best makespans are 101 of a, 103 of b and 200 of c, from which the RPD of a's first run is 900 / 101.
 REPORTED = OLD_HEAD + """
 a,20,5,0,4,0,1,1,110,100,10.0000,1000,0.001000,ok
@@ -62,6 +66,18 @@ BAD = {
     "rounds that are not whole": REPORTED.replace("20,5,0", "20,5,0.5"),
     "a row that is too long": REPORTED.replace("ok\n", "ok,a,b,c,d\n"),
     "no makespan": REPORTED.replace("makespan", "length", 1),
+    "a makespan of 25 digits": REPORTED.replace(",110,", f",{'1' * 25},"),
+    "a makespan of 320 digits": REPORTED.replace(",110,", f",{'1' * 320},"),
+    "a makespan that no order file states": REPORTED.replace(",110,", ",1000000000000000000,"),
+    "jobs of 25 digits": REPORTED.replace("a,20,5,0", f"a,{'2' * 25},5,0"),
+    "cells of 320 digits": REPORTED.replace(",1000,0.001", f",{'1' * 320},0.001"),
+    "a gap of 1e308": REPORTED.replace("10.0000", "1e308"),
+    "a gap that is not a number": REPORTED.replace("10.0000", "nan"),
+    "seconds that are not a number": REPORTED.replace("0.001000", "nan"),
+    "seconds without end": REPORTED.replace("0.001000", "inf"),
+    "seconds of 1e308": REPORTED.replace("0.001000", "1e308"),
+    "seconds below 0": REPORTED.replace("0.001000", "-0.1"),
+    "a zero byte": REPORTED.replace("0.001000", "0.001\0"),
 }
 
 Reported = Callable[..., Told]
@@ -93,7 +109,8 @@ def test_a_report_has_its_table_and_its_plots(ending: str, report: Reported, fol
 def test_pictures_are_png_where_nothing_is_said(report: Reported, folder: pathlib.Path) -> None:
     assert report(REPORTED).status == 0
     made = sorted(path.name for path in (folder / "report").iterdir())
-    assert made == ["gap.png", "rpd.png", "seconds.png", "table.csv", "table.md", "time.png"]
+    assert made == ["gap.png", "means.png", "rpd.png", "seconds.png", "sizes.csv", "sizes.md", "sizes.tex", "table.csv",
+                    "table.md", "time.png"]
 
 
 @pytest.mark.parametrize("text", BAD.values(), ids=BAD)
@@ -102,6 +119,48 @@ def test_a_bad_csv_is_refused_and_nothing_is_left(text: str, report: Reported, f
     assert (told.status, told.stdout) == (2, "")
     assert re.fullmatch("experiments/report: out.csv: [^\n]+\n", told.stderr), told.stderr
     assert not (folder / "report").exists()
+
+
+def test_the_greatest_numbers_are_reported(report: Reported, folder: pathlib.Path) -> None:
+    """And the least seconds."""
+    rows = [f"a,5000,200,{rounds},5000,100,18446744073709551615,1,{makespan},1,{gap},{cells},{seconds},ok\n"
+            for rounds, makespan, gap, cells, seconds in (
+                (0, 1, "0.0000", 1, "1e-320"), (0, 999999999999999999, "99999999999999999800.0000", 2, "1e-9"),
+                (1000000, 999999999999999999, "1e20", 18446744073709551615, "1e12"))]
+    told = report(OLD_HEAD + "\n" + "".join(rows), "--format", "svg")
+    assert (told.status, told.stderr) == (0, "")
+    assert [float(percent) for percent in percents(folder, "greatest_rpd_percent")] == pytest.approx([1e20] * 2)
+    assert len(Picture(folder / "report" / "seconds.svg", "axes_1").marks("xtick", ".*?([0-9]+).*")) >= 2
+
+
+# Names of methods from a CSV of somebody else.
+NAMES = ["a|b", "<img src=x>", "two\nlines", "_x_", "[l](http://x)", "\x1b[31mred", "=1+1", "-1+1", "@SUM(1)", "$x^^$",
+         "a&amp;b", "x" * 500, "`code`", "*bold*", "~~gone~~", "back\\slash"]
+
+
+def test_names_stay_in_their_cells(top: pathlib.Path, matplotlib: None, folder: pathlib.Path) -> None:
+    """In Markdown they are no marks, no formulas in a spreadsheet, and no codes on a terminal or in a picture."""
+    with open(folder / "out.csv", "w", newline="") as file:
+        writer = csv.writer(file)
+        writer.writerows([["instance", "makespan", "method", "seconds", "jobs", "machines", "rounds", "take", "passes"],
+                          *([f"{name}/i", at, name, "0.5", 3, 2, 1, 1, 0] for at, name in enumerate(NAMES, 10))])
+    told = told_by([top / "experiments" / "report", "--format", "svg", "out.csv", "report"], folder)
+    assert told.status == 0 and "\x1b" not in told.stdout + told.stderr, told.stderr
+    for name in ("table.md", "comparison.md", "sizes.md"):
+        text = (folder / "report" / name).read_text()
+        lines = text.partition("\n\n")[0].splitlines()
+        assert {len(re.findall(r"(?<!\\)\|", line)) for line in lines} == {lines[1].count("|")}, f"cells in {name}"
+        marks = re.findall(r"(?<!\\)[<`*\[~&]|(?<![\\A-Za-z0-9])_", text.replace("column `reference`", ""))
+        assert marks == [], f"marks in {name}"
+    for name in ("table.csv", "comparison.csv", "sizes.csv"):
+        with open(folder / "report" / name, newline="") as file:
+            cells = [cell for row in csv.reader(file) for cell in row]
+        assert [cell for cell in cells if re.match(r"[=+@\t\r]|-[^0-9]|-1\+", cell)] == [], f"formulas in {name}"
+    shown = [letters.text for name in ("gap", "rpd", "seconds", "means")
+             if (folder / "report" / f"{name}.svg").exists()
+             for letters in Picture(folder / "report" / f"{name}.svg").texts()]
+    for name in ("a|b", "<img src=x>", r"two\nlines", r"\x1b[31mred", "$x^^$", "\u200b_x_"):
+        assert any(name in text for text in shown), f"{name} is in no picture"
 
 
 def test_a_missing_csv_is_refused(top: pathlib.Path, matplotlib: None, folder: pathlib.Path) -> None:
@@ -153,14 +212,15 @@ def percents(folder: pathlib.Path, name: str = "mean_rpd_percent") -> list[str]:
 
 
 def test_the_rpd_is_relative_to_the_reference(report: Reported, folder: pathlib.Path) -> None:
-    """By the last part of an instance's path, and where it has no instance, relative to the best one of the runs."""
+    """By the last part of an instance's path. An instance that it lacks has no RPD."""
     (folder / "best.csv").write_text("instance,makespan,source\na,100,a paper\nb,50.0,another\n")
     told = report(REPORTED.replace("\na,", "\nsome/folder/a,"), "--reference", "best.csv")
     assert told.status == 0
-    # (10 + 140) / 2 at 0 rounds; 1, 106, 5 and 114 at 100 rounds; c relative to its own 200
-    assert percents(folder) == ["", "75.000", "56.500", "", "0.000"]
-    assert percents(folder, "greatest_rpd_percent") == ["", "140.000", "114.000", "", "0.000"]
-    assert "best.csv" in told.stdout
+    # (10 + 140) / 2 at 0 rounds; 1, 106, 5 and 114 at 100 rounds
+    assert percents(folder) == ["", "75.000", "56.500", "", ""]
+    assert percents(folder, "greatest_rpd_percent") == ["", "140.000", "114.000", "", ""]
+    assert told.stdout.endswith("\n\nRPD: above the makespan that best.csv has.\n"
+                                "1 runs of 1 instances have no reference, and no RPD: c.\n")
 
 
 def test_the_rpd_is_relative_to_the_column_of_the_csv(report: Reported, folder: pathlib.Path) -> None:
@@ -168,7 +228,11 @@ def test_the_rpd_is_relative_to_the_column_of_the_csv(report: Reported, folder: 
     text = "".join(line + (",reference,source" if at == 0 else ",100,x" if line[0] in "ab" else ",,") + "\n"
                    for at, line in enumerate(lines))
     assert report(text).status == 0
-    assert percents(folder) == ["", "15.000", "4.000", "", "0.000"]
+    assert percents(folder) == ["", "15.000", "4.000", "", ""], "relative to the column"
+    (folder / "best.csv").write_text("instance,makespan\na,50\n")
+    assert report(text, "--reference", "best.csv").status == 0
+    # of a 120 at 0 rounds, and 102 and 110 at 100; of b 20, and 3 and 7, by the column
+    assert percents(folder) == ["", "70.000", "55.500", "", ""], "relative to --reference, and else to the column"
 
 
 # Several methods
@@ -222,10 +286,12 @@ def test_each_setting_of_a_method_is_compared_by_means_of_the_instances_that_bot
 def test_where_scipy_is_missing_that_is_said(top: pathlib.Path, matplotlib: None, folder: pathlib.Path) -> None:
     (folder / "scipy").mkdir()
     (folder / "scipy" / "__init__.py").write_text("raise ImportError('none')\n")
-    told = methods(top, folder, FEW + "a,1,1,1\n", FEW + "a,2,1,1\n", env=dict(os.environ, PYTHONPATH=str(folder)))
-    assert (told.status, "SciPy isn't there" in told.stdout) == (0, True)
-    row, = compared(folder)
-    assert (row["won"], row["p"]) == ("1", "")
+    for count, wanted, is_said in ((50, f"{2 / 2 ** 50:.4g}", False), (51, "", True)):
+        texts = [FEW + "".join(f"i{at},{1000 + more * at},1,1\n" for at in range(1, count + 1)) for more in (1, 2)]
+        told = methods(top, folder, *texts, env=dict(os.environ, PYTHONPATH=str(folder)))
+        assert (told.status, told.stderr, "SciPy isn't there" in told.stdout) == (0, "", is_said)
+        row, = compared(folder)
+        assert (row["won"], row["p"]) == (str(count), wanted)
 
 
 @pytest.mark.parametrize(("text", "named"), [
@@ -259,6 +325,159 @@ def test_files_of_one_name_are_methods_by_their_paths(top: pathlib.Path, matplot
         (folder / name / "out.csv").write_text("instance,makespan\na,1\n")
     assert told_by([top / "experiments" / "report", "x/out.csv", "y/out.csv", "report"], folder).status == 0
     assert [row["method"] + " " + row["other_method"] for row in compared(folder)] == ["x/out.csv y/out.csv"]
+
+
+def test_instances_without_a_reference_have_no_rpd(top: pathlib.Path, matplotlib: None, folder: pathlib.Path) -> None:
+    """Where others have one: `Ta001` is not `ta001`. It is said which, and that the methods can't be compared."""
+    head = "instance,makespan,seed,reference\n"
+    texts = [head + "".join(f"{name}{at},{1100 + seed},{seed},{reference}\n" for at in range(3) for seed in (1, 2))
+             for name, reference in (("i", "1000"), ("I", ""))]
+    told = methods(top, folder, *texts)
+    assert (told.status, told.stderr) == (0, "experiments/report: first and second have no instance in common\n")
+    assert percents(folder) == ["10.150", ""]
+    assert "\n6 runs of 3 instances have no reference, and no RPD: I0, I1, I2.\n" in told.stdout
+    assert compared(folder) == []
+
+
+def test_a_reference_has_one_makespan_of_an_instance(report: Reported, folder: pathlib.Path) -> None:
+    """The same one twice is no fault."""
+    (folder / "best.csv").write_text("instance,makespan\na,100\nb,50\na,101\n")
+    told = report(REPORTED, "--reference", "best.csv")
+    assert (told.status, told.stderr) == (2, "experiments/report: best.csv: two makespans of a\n"), "one is taken"
+    (folder / "best.csv").write_text("instance,makespan\na,100\nb,50\na,100\n")
+    assert report(REPORTED, "--reference", "best.csv").status == 0
+    assert percents(folder)[1] == "75.000"
+
+
+def test_the_rpd_is_that_of_the_pages_formula(top: pathlib.Path, report: Reported, folder: pathlib.Path) -> None:
+    text = (top / "experiments" / "README.md").read_text()
+    formula = re.search(r"RPD is the relative percentage deviation from the reference, ([^.]*)\.", text)
+    assert formula, "no formula in experiments/README.md"
+    told = formula[1].replace("·", "*").replace("\N{MINUS SIGN}", "-")
+    assert re.fullmatch(r"[\s()*/+0-9-]*", re.sub("makespan|reference", "", told)), told
+    (folder / "best.csv").write_text("instance,makespan\na,80\n")
+    assert report("instance,makespan\na,113\n", "--reference", "best.csv").status == 0
+    wanted = eval(told, {"__builtins__": {}}, {"makespan": 113, "reference": 80})
+    assert percents(folder) == [f"{wanted:.3f}"], "the RPD by the formula of experiments/README.md"
+
+
+def test_taillards_instances_are_compared_with_the_best_known_makespans(report: Reported, folder: pathlib.Path) -> None:
+    """By their names and sizes, unless a reference is given. The best known ones of these are 1278 and 26040."""
+    text = ("instance,jobs,machines,makespan\nout/ta001,20,5,1291\nta111,500,20,26301\nta002,50,5,2724\n"
+            "mine,20,5,1000\n")
+    told = report(text)
+    assert (told.status, percents(folder)) == (0, [f"{100 * 13 / 1278:.3f}", "", f"{100 * 261 / 26040:.3f}"])
+    assert "RPD: above the makespan that is the best known one of Taillard's instance.\n" \
+        "2 runs of 2 instances have no reference, and no RPD: ta002, mine.\n" in told.stdout
+    (folder / "other.csv").write_text("instance,makespan\nta001,1000\n")
+    assert report(text, "--reference", "other.csv").status == 0
+    assert percents(folder) == ["29.100", "", f"{100 * 261 / 26040:.3f}"]
+
+
+# Statistics of two settings
+
+def all_signs(differences: list[float]) -> float:
+    """The probability by Wilcoxon's test, by each choice of signs."""
+    sizes = sorted(abs(each) for each in differences)
+    ranks = [statistics.fmean(at for at, size in enumerate(sizes, 1) if size == abs(each)) for each in differences]
+    middle = sum(ranks) / 2
+    found = abs(sum(rank for rank, each in zip(ranks, differences) if each > 0) - middle)
+    sums = [sum(itertools.compress(ranks, signs)) for signs in itertools.product((0, 1), repeat=len(ranks))]
+    return sum(abs(each - middle) >= found - 1e-9 for each in sums) / len(sums)
+
+
+def test_ties_have_no_part_in_the_test(top: pathlib.Path, matplotlib: None, folder: pathlib.Path) -> None:
+    """Of 11 pairs 4 are tied. The others are all won, with equal differences among them: 2 of 128 choices of signs."""
+    differences = [0, 0, 0, 0, 10, 10, 20, 20, 20, 30, 40]
+    texts = [FEW + "".join(f"i{at},{1000 + times * each},1,0.5\n" for at, each in enumerate(differences))
+             for times in (0, 1)]
+    told = methods(top, folder, *texts)
+    assert (told.status, told.stderr) == (0, "")
+    row, = compared(folder)
+    assert [row[name] for name in ("instances", "won", "tied", "lost", "pairs")] == ["11", "7", "4", "0", "7"]
+    assert float(row["p"]) == pytest.approx(2 / 128, rel=1e-3), "p of the pairs that are not tied"
+    assert float(row["median_difference_percent"]) == -1.0, "the median difference of all pairs"
+    # the first one's are all 0; the second one's are more for 7 of 11, and tied for 4
+    assert float(row["vargha_delaney_a"]) == pytest.approx((7 + 4 / 2) / 11, abs=0.001), "A, of which ties are a half"
+
+
+def test_the_probability_is_that_of_all_choices_of_signs(top: pathlib.Path, matplotlib: None,
+                                                         folder: pathlib.Path) -> None:
+    """Of the differences in RPD: the scales of the instances differ, and so do the ranks of their makespans."""
+    scales, differences = [100, 100, 1000, 1000, 10000, 10000, 500], [9, 7, 50, 30, -100, -120, 15]
+    texts = [FEW + "".join(f"i{at},{scale + max(0, times * each)},1,0.5\n"
+                           for at, (scale, each) in enumerate(zip(scales, differences))) for times in (1, -1)]
+    assert methods(top, folder, *texts).status == 0
+    row, = compared(folder)
+    wanted = all_signs([100 * each / scale for scale, each in zip(scales, differences)])
+    assert wanted != all_signs([float(each) for each in differences]), "the data tell RPD from makespans"
+    assert float(row["p"]) == pytest.approx(wanted, rel=1e-3), "p of the differences in RPD"
+
+
+def test_holms_correction_is_for_all_pairs(top: pathlib.Path, matplotlib: None, folder: pathlib.Path) -> None:
+    """Three methods: the least p is taken 3 times, the next one twice, and none is less than one before."""
+    text = "instance,makespan,method\n" + "".join(
+        f"i{at},{makespan},{method}\n" for method, makespans in (
+            ("a", [1000] * 6), ("b", list(range(1001, 1007))), ("c", [1010, 1011, 1012, 1013, 1014, 990]))
+        for at, makespan in enumerate(makespans))
+    (folder / "out.csv").write_text(text)
+    assert told_by([top / "experiments" / "report", "out.csv", "report"], folder).status == 0
+    rows = sorted(compared(folder), key=lambda row: float(row["p"]))
+    given, corrected = ([float(row[name]) for row in rows] for name in ("p", "p_holm"))
+    assert given == pytest.approx([2 / 64, 6 / 64, 34 / 64], rel=1e-3)
+    assert corrected == pytest.approx([6 / 64, 12 / 64, 34 / 64], rel=1e-3), "p with Holm's correction"
+
+
+def test_settings_of_one_method_are_compared(report: Reported, folder: pathlib.Path) -> None:
+    """Take 2 and take 4 of the same rounds. Other rounds of a search are no comparison."""
+    text = OLD_HEAD + "\n" + "".join(f"i{at},20,5,{rounds},{take},0,1,1,{1000 + take * at - rounds},900,1.0,1,0.1,ok\n"
+                                     for at in range(1, 5) for rounds in (1, 2) for take in (2, 4))
+    told = report(text)
+    assert (told.status, told.stderr) == (0, "")
+    names = ("method", "rounds", "take", "other_method", "other_rounds", "other_take", "won")
+    rows = [tuple(row[name] for name in names) for row in compared(folder)]
+    assert rows == [("out", rounds, "2", "out", rounds, "4", "4") for rounds in "12"]
+    assert (folder / "report" / "comparison.md").read_text() in told.stdout
+
+
+# Tables as papers have them
+
+PAPER = "instance,jobs,machines,makespan,method,reference\n" + "".join(
+    f"{size}-{at},{size},5,{100 + rpd},{method},100\n" for size, method, rpds in (
+        (20, "mine_1", (1, 2, 3)), (50, "mine_1", (4, 6)), (20, "5% & more", (0, 1, 5)), (50, "5% & more", (1, 2)),
+        (20, "part", (9,))) for at, rpd in enumerate(rpds))
+
+
+def test_the_table_of_sizes_has_a_column_for_each_method(report: Reported, folder: pathlib.Path) -> None:
+    """And a row of means, which a method that lacks a size has not."""
+    assert report(PAPER).status == 0
+    wanted = [["jobs×machines", "5% & more", "mine_1", "part"], ["20×5", "2.000", "2.000", "9.000"],
+              ["50×5", "1.500", "5.000", ""], ["mean", "1.750", "3.500", ""]]
+    with open(folder / "report" / "sizes.csv", newline="") as file:
+        assert list(csv.reader(file)) == wanted, "means by size and method"
+    lines = (folder / "report" / "sizes.md").read_text().splitlines()
+    cells = [line.replace("\\&", "&")[2:-2].split(" | ") for line in lines[:1] + lines[2:5]]
+    assert [[cell.strip() for cell in row] for row in cells] == wanted
+    tex = (folder / "report" / "sizes.tex").read_text()
+    assert re.findall(r"\\(?:top|mid|bottom)rule", tex) == ["\\toprule", "\\midrule", "\\midrule", "\\bottomrule"]
+    assert r"jobs$\times$machines & 5\% \& more & mine\_1 & part \\" in tex
+    assert r"mean & 1.750 & 3.500 &  \\" in tex and r"\begin{tabular}{lrrr}" in tex
+
+
+def test_the_plot_of_means_has_intervals_of_students_distribution(report: Reported, scipy: None,
+                                                                  folder: pathlib.Path) -> None:
+    """For 5 instances the quantile is 2.776 and for 2 it is 12.706, as tables of it say."""
+    text = "instance,makespan,method,reference\n" + "".join(
+        f"i{at},{100 + rpd},{method},100\n" for method, rpds in (("a", (1, 2, 3, 4, 5)), ("b", (6, 7)), ("c", (3,)))
+        for at, rpd in enumerate(rpds))
+    assert report(text, "--format", "svg").status == 0
+    picture = Picture(folder / "report" / "means.svg", "axes_1")
+    scale = picture.down()
+    halves = [2.776 * math.sqrt(2.5) / math.sqrt(5), 12.706 * math.sqrt(0.5) / math.sqrt(2), 0.0]
+    for at, (mean, half) in enumerate(zip((3.0, 6.5, 3.0), halves)):
+        assert scale(picture.line(f"mean-{at}")[0][1]) == pytest.approx(mean, abs=0.01)
+        ends = sorted(scale(y) for _, y in picture.line(f"interval-{at}"))
+        assert ends == pytest.approx([mean - half, mean + half], abs=0.02)
 
 
 # The gaps and the deviations
@@ -302,6 +521,88 @@ def test_the_rpd_by_seconds(report: Reported, folder: pathlib.Path) -> None:
               for x, y in picture.line("seconds-20-5-0")]
     assert [seconds for seconds, _ in points] == pytest.approx([0.002, 0.5], rel=0.01)
     assert [rpd for _, rpd in points] == pytest.approx([12.708, 1.961], abs=0.002)
+
+
+def box_of(picture: Picture) -> tuple[float, float, float, float]:
+    """The axes of a panel on the picture: left, right, top and bottom."""
+    points = [point for name in picture.groups if name.startswith("patch_") for each, _ in picture.shapes(name)
+              for point in each]
+    return (min(x for x, _ in points), max(x for x, _ in points), min(y for _, y in points), max(y for _, y in points))
+
+
+# A method with good makespans comes before one with worse ones, on one, two and three sizes.
+GOOD_FIRST = [FEW.replace("\n", ",rounds,jobs,machines,reference\n") + "".join(
+    f"i{size}{at},{1000 + each},1,{0.001 * 10 ** at:g},{at},{size},5,1000\n"
+    for size in (20, 50, 100) for at, each in enumerate(makespans))
+    for makespans in ((6, 5, 3, 1), (90, 80, 60, 50, 20))]
+
+
+@pytest.mark.parametrize("width", ["3.5", "7", "12"])
+@pytest.mark.parametrize("sizes", [1, 3])
+def test_all_lines_by_seconds_are_in_their_axes(width: str, sizes: int, top: pathlib.Path, matplotlib: None,
+                                                folder: pathlib.Path) -> None:
+    """The better method is first. The time has two marks at least, whose labels do not overlap, and the legend is
+    whole."""
+    texts = ["".join(line for line in text.splitlines(True) if sizes == 3 or not re.search(",(50|100),5,", line))
+             for text in GOOD_FIRST]
+    told = methods(top, folder, *texts, "--format", "svg", "--width", width)
+    assert (told.status, told.stderr) == (0, "")
+    path = folder / "report" / "seconds.svg"
+    for number in range(sizes):
+        picture = Picture(path, f"axes_{number + 1}")
+        left, right, above, below = box_of(picture)
+        size = (20, 50, 100)[number]
+        for kind, highest in ((0, 0.6), (1, 9.0)):
+            points = picture.line(f"seconds-{size}-5-{kind}")
+            assert all(left <= x <= right and above <= y <= below for x, y in points), f"the line {kind} of {size}"
+            assert max(picture.down()(y) for _, y in points) == pytest.approx(highest, abs=0.01)
+        assert picture.down()(below) == pytest.approx(0, abs=0.01), f"the axis of {size} does not begin at 0"
+        labels = [letters for name in picture.groups if name.startswith("xtick")
+                  for letters in picture.texts(name) if letters.text]
+        assert len(labels) >= 2, f"marks of the time at {size}"
+        halves = [0.3 * letters.size * len(letters.text) for letters in labels]
+        ends = sorted((letters.x - half, letters.x + half) for letters, half in zip(labels, halves))
+        assert [one for one, other in zip(ends, ends[1:]) if one[1] > other[0]] == [], f"labels that overlap at {size}"
+    whole = Picture(path)
+    for name in ("first", "second"):
+        letters, = whole.find(name)
+        assert 0 <= letters.x and letters.x + 0.6 * letters.size * len(name) <= 72 * float(width), "the legend"
+
+
+@pytest.mark.parametrize("width", ["3.5", "7"])
+def test_a_legend_of_long_names_is_whole(width: str, report: Reported, folder: pathlib.Path) -> None:
+    names = [f"the method of somebody, number {at}" for at in range(3)]
+    text = "instance,makespan,seconds,rounds,take,passes,jobs,machines,method\n" + "".join(
+        f'i,{100 + at},{rounds / 10},{rounds},1,0,{20 + at},5,"{name}"\n' for at, name in enumerate(names)
+        for rounds in (1, 10))
+    assert report(text, "--format", "svg", "--width", width).status == 0
+    whole = Picture(folder / "report" / "seconds.svg")
+    for name in names:
+        letters, = whole.find(f"{name}, take 1")
+        end = letters.x + 0.45 * letters.size * len(letters.text)
+        assert 0 <= letters.x and end <= 72 * float(width), f"{name} is cut in the legend"
+
+
+def test_rounds_have_a_logarithmic_scale(report: Reported, folder: pathlib.Path) -> None:
+    """From the first rounds on: tenfold rounds are always as far apart."""
+    text = OLD_HEAD + "\n" + "".join(f"a,20,5,{rounds},4,0,1,1,{200 - at},100,{100 - at}.0,1,0.1,ok\n"
+                                     for at, rounds in enumerate((0, 10, 100, 1000, 10000)))
+    assert report(text, "--format", "svg").status == 0
+    for name in ("gap", "rpd"):
+        across = [x for x, _ in Picture(folder / "report" / f"{name}.svg", "axes_1").line(f"{name}-20-5-4-0")]
+        steps = [later - x for x, later in zip(across[1:], across[2:])]
+        assert steps == pytest.approx([steps[0]] * 3, rel=0.01), f"distances in {name}.svg"
+
+
+@pytest.mark.parametrize("ending", ["svg", "pdf"])
+def test_a_report_made_again_has_the_same_bytes(ending: str, report: Reported, folder: pathlib.Path) -> None:
+    """At another second, and where the tools are told another one."""
+    made = []
+    for _ in range(2):
+        assert report(REPORTED, "--format", ending).status == 0
+        made.append({path.name: path.read_bytes() for path in (folder / "report").iterdir()})
+        time.sleep(1.1)
+    assert [name for name in made[0] if made[0][name] != made[1][name]] == [], "files that differ"
 
 
 @pytest.mark.parametrize(("name", "line"), [("gap", "gap-20-5-4-0"), ("rpd", "rpd-20-5-4-0"),

@@ -15,6 +15,7 @@ def test_there_are_searches() -> None:
     assert len(SEARCHES) == 50
 
 
+@pytest.mark.quick
 @pytest.mark.parametrize("search", SEARCHES, ids=lambda search: LINE.format(**search))
 def test_search(pfs: Program, folder: pathlib.Path, search: dict[str, Any]) -> None:
     (folder / "shop").write_text(search["file"])

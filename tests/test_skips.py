@@ -6,7 +6,7 @@ import sys
 
 import pytest
 
-LACKING = "nonesuch isn't installed (Debian: nonesuch)"
+LACKING = "nonesuch isn't installed"
 # Tests that are skipped in each of these ways, and the reasons.
 SKIPPING = {
     "a command": ("def test_it() -> None:\n    need('nonesuch')\n", LACKING),

@@ -152,9 +152,9 @@ def test_the_bound_of_equal_times(pfs: Program, folder: pathlib.Path) -> None:
 
 
 def write_endlessly(path: pathlib.Path, text: bytes) -> None:
-    """Writes a text into a pipe again and again, until it is read no more."""
+    """Writes a text into a pipe again and again, until it is read no more, or 64 MiB are written."""
     with contextlib.suppress(BrokenPipeError), path.open("wb", buffering=0) as pipe:
-        while True:
+        for _ in range(2**26 // len(text)):
             pipe.write(text)
 
 

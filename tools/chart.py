@@ -4,6 +4,7 @@ python3-matplotlib), with which numpy comes."""
 from __future__ import annotations
 
 import importlib
+import io
 import itertools
 import logging
 import math
@@ -277,7 +278,9 @@ def scales(axis: Axis, table: Table, look: Look) -> None:
     axis.text(1.005, 1, "idle", transform=axis.transAxes, va="bottom", bbox=box)
 
 
-def save(figure: Figure, path: str, ending: str, look: Look) -> None:
-    """Writes a figure as svg, png or pdf. No dates, so that the same picture has the same bytes."""
+def picture_of(figure: Figure, ending: str, look: Look) -> bytes:
+    """Return a figure as svg, png or pdf. No dates, so that the same picture has the same bytes."""
     dates = {"svg": {"Date": None}, "pdf": {"CreationDate": None}}
-    figure.savefig(path, format=ending, dpi=look.dpi, metadata=dates.get(ending))
+    picture = io.BytesIO()
+    figure.savefig(picture, format=ending, dpi=look.dpi, metadata=dates.get(ending))
+    return picture.getvalue()

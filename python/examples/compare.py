@@ -71,7 +71,7 @@ def draw(results: pandas.DataFrame, path: pathlib.Path) -> None:
     axis.set_xlabel("")
     axis.set_ylabel("% above the published bound")
     axis.spines[["top", "right"]].set_visible(False)
-    axis.legend(frameon=False, title="")
+    axis.legend(loc="upper right", frameon=False, title="")
     figure.savefig(path, dpi=150)
 
 

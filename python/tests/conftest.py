@@ -3,6 +3,7 @@ import importlib.util
 import os
 import pathlib
 import shutil
+import signal
 
 import pytest
 from hypothesis import HealthCheck, settings
@@ -27,6 +28,11 @@ def pytest_addoption(parser: pytest.Parser) -> None:
 
 def pytest_configure(config: pytest.Config) -> None:
     """In a checkout the library is the one that was built there, where no variable names another one."""
+    # What runs in the background of a shell ignores it.
+    if signal.getsignal(signal.SIGINT) == signal.SIG_IGN:
+        signal.signal(signal.SIGINT, signal.default_int_handler)
+    # It would hide that a command doesn't flush what it prints.
+    os.environ.pop("PYTHONUNBUFFERED", None)
     found = importlib.util.find_spec("pfs")
     built = pathlib.Path(config.getoption("libpfs", TOP / "lib" / "out" / "libpfs.so.0"))
     if found and found.origin and pathlib.Path(found.origin).is_relative_to(SOURCES) and built.exists():
@@ -35,6 +41,19 @@ def pytest_configure(config: pytest.Config) -> None:
         importlib.import_module("pfs")
     except ImportError as error:
         raise pytest.UsageError(f"{error}; `make lib` proves and builds {built}") from None
+
+
+def pytest_assertrepr_compare(op: str, left: object, right: object) -> list[str] | None:
+    """What differs of two solutions or instances, whose texts leave most of it out."""
+    names = {"Solution": ["order", "makespan", "cells", "machines", "rounds"],
+             "Instance": ["times", "name", "job_names", "machine_names", "unit", "decimals", "seed", "upper", "lower"]}
+    kind = type(left).__name__
+    if op != "==" or type(left) is not type(right) or kind not in names:
+        return None
+    pairs = {name: (getattr(left, name), getattr(right, name)) for name in names[kind]}
+    lists = {name: [value.tolist() if hasattr(value, "tolist") else value for value in pair]
+             for name, pair in pairs.items()}
+    return [f"{kind} == {kind}", *(f"{name}: {one} != {other}" for name, (one, other) in lists.items() if one != other)]
 
 
 def missing(why: str) -> None:

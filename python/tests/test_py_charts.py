@@ -1,15 +1,17 @@
 """Charts: pictures by the drawing of tools/gantt, and pages that are looked at in a browser."""
-import html
 import json
-import logging
+import os
 import pathlib
 import re
 import subprocess
+import sys
 from typing import Any
+from xml.etree import ElementTree
 
 import numpy as np
 import pfs
 import pytest
+from browser import PEN, looked_at
 
 BEGINNINGS = {"svg": b"<?xml", "png": b"\x89PNG\r\n", "pdf": b"%PDF-", "html": b"<!DOCTYPE html>"}
 TIMES = [[30, 25, 0], [20, 50, 15], [40, 10, 20]]
@@ -30,7 +32,8 @@ def test_each_ending(tmp_path: pathlib.Path, named: pfs.Schedule, ending: str) -
     assert (figure is None) == (ending == "html")
     first = (tmp_path / f"chart.{ending.upper()}").read_bytes()
     named.plot(str(tmp_path / f"again.{ending}"), critical=True, bound=True)
-    assert (tmp_path / f"again.{ending}").read_bytes() == first
+    again = (tmp_path / f"again.{ending}").read_bytes()
+    assert (len(again), hash(again)) == (len(first), hash(first)), "a chart that is drawn again has other bytes"
 
 
 def test_another_ending(tmp_path: pathlib.Path, named: pfs.Schedule) -> None:
@@ -72,23 +75,41 @@ def test_jobs_and_machines_count_from_0_where_they_have_no_names() -> None:
     assert axis.get_xlabel() == "time (units of the instance)"
 
 
-def test_settings_stay_as_they_are(named: pfs.Schedule) -> None:
-    matplotlib = pytest.importorskip("matplotlib")
-    before, level = dict(matplotlib.rcParams), logging.getLogger("matplotlib").level
-    named.plot()
-    assert dict(matplotlib.rcParams) == before and logging.getLogger("matplotlib").level == level
+# Prints what of the settings of the process is another one after a chart.
+SETTINGS = """
+import json, locale, logging, os, sys, warnings
+import matplotlib
+import pfs
+
+def settings():
+    found = {f"rcParams {name}": repr(value) for name, value in matplotlib.rcParams.items()}
+    found |= {f"level of {name}": logging.getLogger(name).level for name in ("matplotlib", "")}
+    found |= {"backend": matplotlib.get_backend(), "environment": dict(os.environ), "path": list(sys.path)}
+    return found | {"warnings": repr(warnings.filters), "locale": locale.setlocale(locale.LC_ALL), "at": os.getcwd()}
+
+made = pfs.Instance([[3, 2], [2, 5]]).schedule([1, 0])
+before = settings()
+try:
+    made.plot(sys.argv[1], critical=True, bound=True)
+except OSError as error:
+    print(error, file=sys.stderr)
+print(json.dumps({name: [before[name], now] for name, now in settings().items() if before[name] != now}))
+"""
 
 
-# Runs behind the script of a page: for each operation, or of many for ten on each machine, what the page says when one
-# points at its middle, then the same zoomed in by the wheel, moved, and shown whole again.
-LOOKING = """
-<script>
-const canvas_ = document.getElementById("chart");
-function send(kind, type, x, y, more) {
-  const box = canvas_.getBoundingClientRect();
-  (kind === "pointerup" ? window : canvas_).dispatchEvent(
-    new type(kind, {clientX: box.left + x, clientY: box.top + y, bubbles: true, cancelable: true, ...more}));
-}
+@pytest.mark.parametrize("path", ["chart.svg", "chart.png", "chart.pdf", "chart.html", "none/chart.svg"])
+def test_settings_stay_as_they_are(tmp_path: pathlib.Path, path: str) -> None:
+    """In another process: an earlier test may have changed them in this one."""
+    pytest.importorskip("matplotlib")
+    env = os.environ | {"PYTHONPATH": str(pathlib.Path(pfs.__file__).parents[1]), "PYTHONDONTWRITEBYTECODE": "1"}
+    done = subprocess.run([sys.executable, "-c", SETTINGS, path], cwd=tmp_path, env=env, capture_output=True, text=True)
+    assert done.returncode == 0 and (tmp_path / path).exists() == (path[:4] != "none"), done.stderr
+    assert json.loads(done.stdout) == {}, "settings of the process that a chart has changed"
+
+
+# For each operation, or of many for ten on each machine, what the page says when one points at its middle, then the
+# same zoomed in by the wheel, moved, and shown whole again.
+LOOKING = PEN + """
 function said(machine, place) {
   const middle = (table.starts[machine][place] + table.ends[machine][place]) / 2;
   send("pointermove", PointerEvent, xOf(middle), yOf(machine) + ROW / 2);
@@ -109,41 +130,18 @@ send("pointermove", PointerEvent, x - 50, 5);
 send("pointerup", PointerEvent, x - 50, 5);
 seen.moved = [from, to];
 send("dblclick", MouseEvent, x, 5);
-seen.whole = [from, to, canvas_.getBoundingClientRect().width];
-const pixels = pen.getImageData(0, 0, canvas.width, canvas.height).data;
-const colours_ = new Set();
-for (let at = 0; at < pixels.length; at += 4) {
-  colours_.add([...pixels.slice(at, at + 3)].map(part => part.toString(16).padStart(2, "0")).join(""));
-}
-seen.fills = table.fills.map(fill => colours_.has(fill.slice(1)));
-const told_ = document.createElement("pre");
-told_.id = "seen";
-told_.textContent = JSON.stringify(seen);
-document.body.append(told_);
-</script>
+seen.whole = [from, to, canvas.getBoundingClientRect().width];
+said(0, 0);
+send("pointerleave", PointerEvent, x, -5);
+seen.left = tip.style.display;
+tell(seen);
 """
-
-
-def looked_at(chromium: str, page: pathlib.Path, folder: pathlib.Path) -> dict[str, Any]:
-    """What a browser sees of a page."""
-    copy = folder / "looked_at.html"
-    text = page.read_text("utf-8")
-    assert text.count("</body>") == 1
-    copy.write_text(text.replace("</body>", LOOKING + "</body>"), "utf-8")
-    words = [chromium, "--headless", "--no-sandbox", "--disable-gpu", "--disable-dev-shm-usage",
-             f"--user-data-dir={folder / 'profile'}", "--window-size=1000,600", "--virtual-time-budget=5000",
-             "--dump-dom", copy.as_uri()]
-    done = subprocess.run(words, capture_output=True, text=True, timeout=120)
-    found = re.search(r'<pre id="seen">(.*?)</pre>', done.stdout, re.DOTALL)
-    assert found, done
-    seen: dict[str, Any] = json.loads(html.unescape(found[1]))
-    return seen
 
 
 @pytest.mark.seconds(5)
 def test_a_page_says_what_one_points_at(chromium: str, tmp_path: pathlib.Path, named: pfs.Schedule) -> None:
     named.plot(tmp_path / "chart.html", critical=True, bound=True)
-    seen = looked_at(chromium, tmp_path / "chart.html", tmp_path)
+    seen = looked_at(chromium, tmp_path / "chart.html", tmp_path, LOOKING)
     shop = named.instance
     expected = [
         f"job {shop.job_name(int(job))}\nmachine {shop.machine_name(machine)}\nstart {start / 10}\nend {end / 10}"
@@ -162,7 +160,7 @@ def test_a_page_says_what_one_points_at(chromium: str, tmp_path: pathlib.Path, n
     assert last - first == pytest.approx(named.makespan * np.exp(-1))
     assert seen["moved"][0] > first and seen["moved"][1] - seen["moved"][0] == pytest.approx(last - first)
     assert seen["whole"][:2] == [0, named.makespan] and seen["whole"][2] > 800
-    assert all(seen["fills"])
+    assert seen["left"] == "none", "what was said of an operation is still shown when one points beside the chart"
 
 
 @pytest.mark.seconds(8)
@@ -170,10 +168,104 @@ def test_a_large_page(chromium: str, tmp_path: pathlib.Path) -> None:
     shop = pfs.generate(500, 20, 7)
     made = shop.schedule(shop.neh())
     made.plot(tmp_path / "chart.html")
-    seen = looked_at(chromium, tmp_path / "chart.html", tmp_path)
+    seen = looked_at(chromium, tmp_path / "chart.html", tmp_path, LOOKING)
     rows = [f"job {job}\nmachine {machine}\nstart {start:,}\nend {end:,}" for machine in range(20)
             for job, start, end in list(zip(made.order, made.starts[:, machine], made.ends[:, machine]))[::50]]
     assert seen["pointed"] == rows
+
+
+# Names that a page, a formula, a template or a replacement could take for something else.
+DANGEROUS = [
+    "{{data}}", "{{title}}", "{{policy}}", "x autofocus onfocus=document.title=/PWNED/.source y", "</script><b id=x>",
+    "<script>document.title='PWNED'</script>", "\"><img src=x onerror=\"document.title='PWNED'\">", "' onload='x",
+    "<!--<script>", "]]>", "&lt;b&gt;&amp;", "\\u003cb\\u003e", "\\g<0> \\1 $& $1", "a\u2028b\u2029c", "__proto__",
+    "${document.title='PWNED'}", "javascript:document.title='PWNED'", "\u202eright to left", "</title><b>",
+]
+# The page's title, heading, elements with their attributes, and what it says of each operation.
+STRUCTURE = """
+const seen = {title: document.title, heading: document.querySelector("h1").textContent,
+              label: canvas.getAttribute("aria-label"), focus: document.activeElement.tagName, tips: []};
+seen.elements = [...document.querySelectorAll("*")].filter(one => one !== document.currentScript && one.id !== "extra")
+  .map(one => [one.tagName, [...one.attributes].map(kept => kept.name)]);
+for (let place = 0; place < jobs; ++place) {
+  const box = canvas.getBoundingClientRect();
+  const middle = (table.starts[0][place] + table.ends[0][place]) / 2;
+  canvas.dispatchEvent(new PointerEvent("pointermove", {clientX: box.left + xOf(middle), clientY: box.top + ROW / 2}));
+  seen.tips.push(tip.textContent);
+}
+const told_ = document.createElement("pre");
+told_.id = "seen";
+told_.textContent = JSON.stringify(seen);
+document.body.append(told_);
+"""
+
+
+# Names that are shown by escapes: what moves a cursor, ends a line, turns its direction, or is no character of XML.
+ESCAPED = {"saw\x1b[2J\x07": "saw\\x1b[2J\\x07", "two\nlines": "two\\nlines", "car\rriage": "car\\rriage",
+           "a\u2028b\u2029c": "a\\u2028b\\u2029c", "\u202eright to left": "\\u202eright to left", "\x9b5m": "\\x9b5m",
+           "p\udce4rt": "p\\udce4rt", "\ufffe": "\\ufffe", "nul\0": "nul\\x00"}
+
+
+@pytest.mark.parametrize("ending", ["svg", "html", "png", "pdf"])
+def test_names_with_control_characters(tmp_path: pathlib.Path, ending: str) -> None:
+    """Whoever reads a chart sees them; a picture is XML."""
+    names = [*ESCAPED, "Z\xfcrich", "plain"]
+    shop = pfs.Instance([[90] * len(names)] * 2, job_names=[names[0], names[-2]], machine_names=names,
+                        unit="\x1b[1mh", name="pl\udce4n\x1b.csv")
+    (tmp_path / f"chart.{ending}").write_text("the old one")
+    shop.schedule([0, 1]).plot(tmp_path / f"chart.{ending}")
+    due = [*ESCAPED.values(), "Z\xfcrich", "plain"]
+    if ending == "svg":
+        picture = ElementTree.parse(tmp_path / "chart.svg")
+        texts = {text.text for text in picture.iter("{http://www.w3.org/2000/svg}text")}
+        assert set(due) <= texts and "time (\\x1b[1mh)" in texts
+    if ending == "html":
+        page = (tmp_path / "chart.html").read_text("utf-8")
+        found = re.search(r'id="data">(.*?)</script>', page)
+        assert found and json.loads(found[1])["machines"] == due
+        assert json.loads(found[1])["jobs"] == [due[0], due[-2]]
+        assert "<title>pl\\udce4n\\x1b.csv: 2 jobs on 11 machines: makespan 1080 \\x1b[1mh<" in page
+
+
+def page_with(names: list[str], path: pathlib.Path, name: str, unit: str) -> pfs.Schedule:
+    """Writes the page of jobs with these names, on two machines."""
+    shop = pfs.Instance([[20 + at, 10] for at in range(len(names))], name=name, unit=unit, job_names=names,
+                        machine_names=[f"saw {names[0]}", f"drill {names[-1]}"])
+    made = shop.schedule(range(len(names)))
+    made.plot(path, critical=True, bound=True)
+    return made
+
+
+@pytest.mark.seconds(30)
+@pytest.mark.parametrize("unit", ["{{data}}", "\"><b onclick=x>", "</title><script>document.title='PWNED'</script>"])
+def test_no_name_becomes_a_part_of_the_page(chromium: str, tmp_path: pathlib.Path, unit: str) -> None:
+    plain = [f"job {at}" for at in range(len(DANGEROUS))]
+    page_with(plain, tmp_path / "plain.html", "plan.csv", "h")
+    due = looked_at(chromium, tmp_path / "plain.html", tmp_path, STRUCTURE)
+    name = f"{unit}.csv"
+    made = page_with(DANGEROUS, tmp_path / "chart.html", name, unit)
+    seen = looked_at(chromium, tmp_path / "chart.html", tmp_path, STRUCTURE)
+    title = due["title"].removeprefix("plan.csv").replace(" h,", f" {unit},")
+    assert seen["title"] == seen["heading"] == seen["label"] == name + title
+    assert seen["elements"] == due["elements"], "a name has made an element or an attribute"
+    assert seen["focus"] == due["focus"] == "BODY"
+    assert seen["tips"] == [
+        f"job {ESCAPED.get(job, job)}\nmachine saw {DANGEROUS[0]}\nstart {start}\nend {end}"
+        for job, start, end in zip(DANGEROUS, made.starts[:, 0], made.ends[:, 0])]
+
+
+def test_the_policy_keeps_other_scripts_and_styles_out(chromium: str, tmp_path: pathlib.Path,
+                                                       named: pfs.Schedule) -> None:
+    named.plot(tmp_path / "chart.html")
+    assert "unsafe" not in (tmp_path / "chart.html").read_text("utf-8")
+    injected = ("<div id=extra><script>document.title = 'PWNED'</script><style>h1 { display: none }</style>"
+                "<img src='data:image/png;base64,x' onerror=\"document.title = 'PWNED'\"></div>")
+    script = STRUCTURE + 'told_.textContent = JSON.stringify([document.title, getComputedStyle(' \
+                         'document.querySelector("h1")).display, getComputedStyle(canvas).display]);'
+    title, heading, chart = looked_at(chromium, tmp_path / "chart.html", tmp_path, script, injected)
+    assert title.startswith("plan: 3 jobs"), "the page's policy lets a foreign script in"
+    assert heading == "block", "the page's policy lets a foreign style in"
+    assert chart == "block", "the page's policy keeps its own style out"
 
 
 def test_a_page_asks_for_nothing(tmp_path: pathlib.Path, named: pfs.Schedule) -> None:

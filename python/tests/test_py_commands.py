@@ -1,18 +1,26 @@
 """`python3 -m pfs search` and `python3 -m pfs plan`."""
+import contextlib
+import hashlib
 import json
 import os
 import pathlib
 import pty
 import random
+import re
+import select
+import shlex
+import shutil
 import signal
 import subprocess
 import sys
 import time
 from collections.abc import Callable, Iterator
+from typing import Any
 
 import pfs
 import plainly
 import pytest
+from pfs import _commands, _library
 
 # A search that would take minutes.
 LONG = ["search", "shop", "--layout", "taillard"]
@@ -29,10 +37,15 @@ def shop_in(folder: pathlib.Path) -> pfs.Instance:
     return pfs.read(folder / "shop", "taillard")
 
 
-def start(words: list[str], folder: pathlib.Path) -> "subprocess.Popen[bytes]":
-    env = os.environ | {"PYTHONPATH": str(pathlib.Path(pfs.__file__).parents[1]), "PYTHONDONTWRITEBYTECODE": "1"}
-    return subprocess.Popen([sys.executable, "-m", "pfs", *words], cwd=folder, env=env, stdin=subprocess.DEVNULL,
-                            stdout=subprocess.PIPE, stderr=subprocess.PIPE)
+def environment(*first: pathlib.Path) -> dict[str, str]:
+    """What a child needs to find the package. Modules in the first folders come before those of the system."""
+    places = [*map(str, first), str(pathlib.Path(pfs.__file__).parents[1])]
+    return os.environ | {"PYTHONPATH": os.pathsep.join(places), "PYTHONDONTWRITEBYTECODE": "1"}
+
+
+def start(words: list[str], folder: pathlib.Path, env: dict[str, str] | None = None) -> "subprocess.Popen[bytes]":
+    return subprocess.Popen([sys.executable, "-m", "pfs", *words], cwd=folder, env=env or environment(),
+                            stdin=subprocess.DEVNULL, stdout=subprocess.PIPE, stderr=subprocess.PIPE)
 
 
 def run(words: list[str], folder: pathlib.Path, status: int = 0, error: str = "") -> str:
@@ -61,10 +74,13 @@ def rounds_in(folder: pathlib.Path) -> int:
     path = folder / "state"
     if not path.exists():
         return -1
-    rounds: int = json.loads(path.read_text())["rounds"]
-    return rounds
+    text = path.read_text()
+    found = re.fullmatch(r'\{"state": .*"rounds": (\d+), .*\}\n', text)
+    assert found, f"a state that isn't whole: {text[:200]!r}"
+    return int(found[1])
 
 
+@pytest.mark.quick
 @pytest.mark.parametrize("words", [
     "--rounds 0", "--rounds 300", "--rounds 100 --take 7 --passes 1 --seed 18446744073709551615"])
 def test_search_prints_what_the_program_does(folder: pathlib.Path, program: str, words: str) -> None:
@@ -95,7 +111,7 @@ def test_a_block_in_the_other_layout(folder: pathlib.Path) -> None:
 def test_a_time_limit(folder: pathlib.Path, program: str) -> None:
     begun = time.monotonic()
     printed = run([*LONG, "--seconds", "0.7", "--state", "state"], folder)
-    assert 0.6 < time.monotonic() - begun < 15
+    assert time.monotonic() - begun > 0.6
     (folder / "order").write_text(printed)
     told = plainly.run([program, "check", "--layout", "taillard", str(folder / "shop"), str(folder / "order")])
     assert told.startswith("valid\n")
@@ -123,6 +139,39 @@ def test_a_signal_ends_it_with_the_best_order(folder: pathlib.Path, program: str
     assert run([*LONG, "--rounds", rounds, "--state", "state"], folder) == printed_on
 
 
+@pytest.mark.parametrize("numbers", [(signal.SIGINT, signal.SIGTERM), (signal.SIGTERM, signal.SIGINT),
+                                     (signal.SIGINT, signal.SIGTERM, signal.SIGTERM)])
+def test_the_status_is_that_of_the_first_signal(numbers: tuple[signal.Signals, ...]) -> None:
+    with _commands.Stop() as stop:
+        assert stop.status() == 0
+        for number in numbers:
+            signal.raise_signal(number)
+        assert stop.status() == 128 + numbers[0], "the status isn't that of the first signal"
+    assert signal.getsignal(signal.SIGINT) is signal.default_int_handler
+    assert signal.getsignal(signal.SIGTERM) == signal.SIG_DFL
+
+
+def test_two_signals_at_once(folder: pathlib.Path) -> None:
+    """While the search is stopped both come; Python looks at the one with the lower number first."""
+    child = start([*LONG, "--state", "state"], folder)
+    wait_until(lambda: rounds_in(folder) > 0)
+    for number in (signal.SIGSTOP, signal.SIGINT, signal.SIGTERM, signal.SIGCONT):
+        child.send_signal(number)
+    printed, told = child.communicate(timeout=60)
+    assert (child.returncode, told) == (128 + signal.SIGINT, b"")
+    assert printed.decode() == shop_in(folder).solve(rounds_in(folder)).to_text()
+
+
+def test_a_search_that_ignores_signals_at_first_is_ended_by_them(folder: pathlib.Path) -> None:
+    """As one in the background of a shell."""
+    words = [sys.executable, "-m", "pfs", *LONG, "--state", "state"]
+    child = subprocess.Popen(["sh", "-c", 'trap "" INT; exec "$@"', "sh", *words], cwd=folder, env=environment(),
+                             stdin=subprocess.DEVNULL, stdout=subprocess.PIPE, stderr=subprocess.PIPE)
+    wait_until(lambda: rounds_in(folder) > 0)
+    child.send_signal(signal.SIGINT)
+    assert child.communicate(timeout=60)[1] == b"" and child.returncode == 128 + signal.SIGINT
+
+
 @pytest.mark.seconds(10)
 def test_kill_leaves_a_whole_state(folder: pathlib.Path) -> None:
     """Whenever it is killed: what was done is kept, and the end is the same."""
@@ -138,26 +187,172 @@ def test_kill_leaves_a_whole_state(folder: pathlib.Path) -> None:
         done = rounds_in(folder)
     printed = run([*LONG, "--rounds", str(done + 10), "--state", "state"], folder)
     assert printed == shop_in(folder).solve(done + 10).to_text()
-    assert {path.name for path in folder.iterdir()} <= {"shop", "state", "state.new"}
+    assert {path.name for path in folder.iterdir()} <= {"shop", "state", "state.new"}, "a lock is left"
 
 
-@pytest.mark.parametrize(("text", "why"), [
-    ("", "not the state of a search"), ("[1]", "not the state of a search"),
-    ('{"state": 2}', "not the state of a search"),
-    (None, "the state of another search: another seed, its is 0"),
-    ("-", "the state of a search, but its order isn't one of the instance")])
-def test_other_states_are_refused(folder: pathlib.Path, text: str | None, why: str) -> None:
+def summed(state: dict[str, Any]) -> str:
+    """The text of a state with the checksum of its other fields."""
+    fields = {name: value for name, value in state.items() if name != "sum"}
+    return json.dumps(fields | {"sum": hashlib.sha256(json.dumps(fields, sort_keys=True).encode()).hexdigest()})
+
+
+NOT_THE_INSTANCES = "the state of a search, but its order isn't one of the instance"
+DAMAGED = "the state of a search, but it is damaged: its checksum is wrong"
+# What is made of the fields of a state, or its text, and why it is rejected then.
+OTHER_STATES: dict[str, tuple[Callable[[dict[str, Any]], str], str]] = {
+    "nothing": (lambda state: "", "not the state of a search"),
+    "a list": (lambda state: "[1]", "not the state of a search"),
+    "another object": (lambda state: '{"state": 2}', "not the state of a search"),
+    "half a state": (lambda state: summed(state)[:90], "not the state of a search"),
+    "deep nesting": (lambda state: "[" * 100_000, "not the state of a search"),
+    "bytes": (lambda state: "\udcff\udcfe", "not the state of a search"),
+    "an earlier version": (lambda state: summed(state | {"state": "pfs search 1"}),
+                           "the state of a search by another version of pfs"),
+    "other rounds": (lambda state: json.dumps(state | {"rounds": 3}), DAMAGED),
+    "other cells": (lambda state: json.dumps(state | {"cells": 3}), DAMAGED),
+    "another order": (lambda state: json.dumps(state | {"order": state["order"][::-1]}), DAMAGED),
+    "no checksum": (lambda state: json.dumps({name: state[name] for name in state if name != "sum"}), DAMAGED),
+    "another seed": (lambda state: summed(state | {"seed": 7}),
+                     "the state of another search: another seed, its is 7"),
+    "another order's makespan": (lambda state: summed(state | {"order": state["order"][::-1]}), NOT_THE_INSTANCES),
+    "another makespan": (lambda state: summed(state | {"makespan": state["makespan"] - 1}), NOT_THE_INSTANCES),
+    "a job twice": (lambda state: summed(state | {"order": [state["order"][1], *state["order"][1:]]}),
+                    NOT_THE_INSTANCES),
+    "a job less": (lambda state: summed(state | {"order": state["order"][1:]}), NOT_THE_INSTANCES),
+    "no order": (lambda state: summed(state | {"order": None}), NOT_THE_INSTANCES),
+    "no rounds": (lambda state: summed({name: state[name] for name in state if name != "rounds"}), NOT_THE_INSTANCES),
+    "rounds below 0": (lambda state: summed(state | {"rounds": -1}), NOT_THE_INSTANCES),
+    "a fraction": (lambda state: summed(state | {"rounds": 2.5}), NOT_THE_INSTANCES),
+    "more rounds than there are": (lambda state: summed(state | {"rounds": 1_000_001}), NOT_THE_INSTANCES),
+}
+
+
+@pytest.mark.parametrize("case", OTHER_STATES)
+def test_other_states_are_rejected(folder: pathlib.Path, case: str) -> None:
     run([*LONG, "--rounds", "5", "--state", "state"], folder)
-    seed = "0" if text is not None else "7"
-    if text == "-":
-        state = json.loads((folder / "state").read_text())
-        state["order"][0] = state["order"][1]
-        text = json.dumps(state)
-    if text is not None:
-        (folder / "state").write_text(text)
+    change, why = OTHER_STATES[case]
+    fields = json.loads((folder / "state").read_text())
+    assert summed(fields) == (folder / "state").read_text().strip()
+    (folder / "state").write_text(change(fields), "utf-8", "surrogateescape")
     kept = (folder / "state").read_bytes()
-    run([*LONG, "--rounds", "9", "--seed", seed, "--state", "state"], folder, 2, f"pfs: state: {why}\n")
+    run([*LONG, "--rounds", "9", "--state", "state"], folder, 2, f"pfs: state: {why}\n")
     assert (folder / "state").read_bytes() == kept
+    assert {path.name for path in folder.iterdir()} == {"shop", "state"}
+
+
+@pytest.mark.parametrize(("before", "after", "why"), [
+    ([], ["--seed", "7"], "another seed, its is 0"), (["--seed", "7"], [], "another seed, its is 7"),
+    ([], ["--take", "5"], "another take, its is 4"), (["--take", "5"], [], "another take, its is 5"),
+    ([], ["--passes", "1"], "another passes, its is 0"), (["--passes", "1"], [], "another passes, its is 1"),
+    (["--start", "order"], [], "another start"), ([], ["--start", "order"], "another start"),
+])
+def test_a_state_is_for_the_options_of_its_search(folder: pathlib.Path, before: list[str], after: list[str],
+                                                  why: str) -> None:
+    (folder / "order").write_text(plainly.order_file(range(60), 10, 1))
+    run([*LONG, *before, "--rounds", "5", "--state", "state"], folder)
+    kept = (folder / "state").read_bytes()
+    error = f"pfs: state: the state of another search: {why}\n"
+    run([*LONG, *after, "--rounds", "9", "--state", "state"], folder, 2, error)
+    assert (folder / "state").read_bytes() == kept
+    # The default is the option's value.
+    if "--take" in before or "--take" in after:
+        run([*LONG, *before, "--take", (before or ["", "4"])[1], "--rounds", "9", "--state", "state"], folder)
+
+
+def test_a_state_with_more_rounds_than_are_due(folder: pathlib.Path) -> None:
+    printed = run([*LONG, "--rounds", "30", "--state", "state"], folder)
+    error = "pfs: state: the search has made 30 rounds, more than 29\n"
+    run([*LONG, "--rounds", "29", "--state", "state"], folder, 2, error)
+    assert run([*LONG, "--rounds", "30", "--state", "state"], folder) == printed
+
+
+@pytest.mark.parametrize("path", ["/dev/full", "/dev/zero", "long"])
+def test_a_state_without_end(folder: pathlib.Path, path: str) -> None:
+    with open(folder / "long", "wb") as file:
+        file.truncate(67_108_865)
+    error = f"pfs: {path}: not the state of a search: longer than 67,108,864 bytes\n"
+    run([*LONG, "--rounds", "9", "--state", path], folder, 2, error)
+    assert os.path.getsize(folder / "long") == 67_108_865
+
+
+@pytest.mark.parametrize("path", ["/dev/zero", "long"])
+def test_a_table_without_end(folder: pathlib.Path, path: str) -> None:
+    with open(folder / "long", "wb") as file:
+        file.truncate(67_108_865)
+    error = f"pfs: {path}: line 1, the table has more than 67,108,864 bytes\n"
+    child = subprocess.run(["prlimit", "--as=4000000000", sys.executable, "-m", "pfs", "plan", path], cwd=folder,
+                           env=environment(), capture_output=True, text=True, timeout=60)
+    assert (child.returncode, child.stdout, child.stderr) == (2, "", error)
+
+
+@pytest.mark.parametrize("words", [["search", "/dev/zero", "--layout", "taillard"],
+                                   [*LONG, "--start", "/dev/zero"]])
+def test_other_files_without_end(folder: pathlib.Path, words: list[str]) -> None:
+    """They have limits of their own, or their first bytes are wrong."""
+    child = start(words, folder)
+    printed, told = child.communicate(timeout=60)
+    assert (child.returncode, printed, told.count(b"\n")) == (2, b"", 1), told
+
+
+def test_two_searches_with_one_state(folder: pathlib.Path) -> None:
+    first = start([*LONG, "--state", "state"], folder)
+    wait_until(lambda: rounds_in(folder) > 0)
+    run([*LONG, "--state", "state"], folder, 4, "pfs: state: another search uses this state\n")
+    run([*LONG, "--state", "other", "--rounds", "2"], folder)
+    assert first.poll() is None, "the second search has ended the first"
+    first.send_signal(signal.SIGTERM)
+    printed, told = first.communicate(timeout=60)
+    assert (first.returncode, told) == (128 + signal.SIGTERM, b"")
+    done = rounds_in(folder)
+    assert printed.decode() == shop_in(folder).solve(done).to_text()
+    assert {path.name for path in folder.iterdir()} == {"shop", "state", "other"}
+    # A lock that a search left which was killed is none.
+    (folder / "state.lock").write_text("")
+    run([*LONG, "--state", "state", "--rounds", str(done + 1)], folder)
+
+
+@pytest.mark.parametrize("name", ["state.new", "state.lock"])
+def test_links_in_the_place_of_other_files_are_not_followed(folder: pathlib.Path, name: str) -> None:
+    (folder / "precious").write_text("kept")
+    (folder / name).symlink_to("precious")
+    child = start([*LONG, "--rounds", "3", "--state", "state"], folder)
+    printed, told = child.communicate(timeout=60)
+    assert (folder / "precious").read_text() == "kept", f"{name} was written through a link"
+    if name == "state.new":
+        assert (child.returncode, told, rounds_in(folder)) == (0, b"", 3)
+    else:
+        assert child.returncode == 4 and told.startswith(b"pfs: [Errno 40] Too many levels of symbolic links: 'state'")
+        assert printed.decode() == shop_in(folder).neh().to_text()
+
+
+def test_a_state_stays_where_a_link_leads(folder: pathlib.Path) -> None:
+    (folder / "folder").mkdir()
+    (folder / "state").symlink_to("folder/kept")
+    run([*LONG, "--rounds", "3", "--state", "state"], folder)
+    os.chmod(folder / "folder" / "kept", 0o640)
+    run([*LONG, "--rounds", "4", "--state", "state"], folder)
+    assert (folder / "state").is_symlink() and rounds_in(folder) == 4
+    assert (folder / "folder" / "kept").stat().st_mode & 0o777 == 0o640, "the permissions have changed"
+    assert [path.name for path in (folder / "folder").iterdir()] == ["kept"]
+
+
+def test_a_state_is_on_the_disk_before_it_replaces_the_old_one(folder: pathlib.Path) -> None:
+    """The bytes before the renaming, and the name after it."""
+    strace = shutil.which("strace")
+    if strace is None:
+        pytest.skip("strace isn't installed (Debian: strace)")
+    words = [strace, "-f", "-y", "-o", "calls", "-e", "trace=openat,write,fsync,rename,renameat,renameat2,ftruncate",
+             sys.executable, "-m", "pfs", *LONG, "--rounds", "1", "--state", "state"]
+    subprocess.run(words, cwd=folder, env=environment(), check=True, stdout=subprocess.DEVNULL, timeout=60)
+    calls = [line for line in (folder / "calls").read_text().splitlines() if "ENOENT" not in line]
+    for at in [at for at, line in enumerate(calls) if " rename" in line]:
+        before, after = calls[:at], calls[at + 1:]
+        last = max(place for place, line in enumerate(before) if "write(" in line and "/state.new>" in line)
+        assert any("fsync(" in line and "/state.new>" in line for line in before[last:]), "the bytes aren't synced"
+        assert f"{folder}>" in next(line for line in after if "fsync(" in line), "the folder isn't synced"
+    assert [line for line in calls if " rename" in line], calls
+    opened = [line for line in calls if "openat(" in line and '/state"' in line.replace('"state"', '/state"')]
+    assert not any("O_WRONLY" in line or "O_RDWR" in line or "O_TRUNC" in line for line in opened), opened
 
 
 def test_the_state_of_another_instance(folder: pathlib.Path) -> None:
@@ -170,19 +365,13 @@ def test_the_state_of_another_instance(folder: pathlib.Path) -> None:
 def on_a_terminal(words: list[str], folder: pathlib.Path) -> tuple[str, str]:
     """What goes to standard output, and what to standard error, which is a terminal."""
     ours, theirs = pty.openpty()
-    env = os.environ | {"PYTHONPATH": str(pathlib.Path(pfs.__file__).parents[1]), "PYTHONDONTWRITEBYTECODE": "1"}
-    child = subprocess.Popen([sys.executable, "-m", "pfs", *words], cwd=folder, env=env, stdin=subprocess.DEVNULL,
-                             stdout=subprocess.PIPE, stderr=theirs)
+    child = subprocess.Popen([sys.executable, "-m", "pfs", *words], cwd=folder, env=environment(),
+                             stdin=subprocess.DEVNULL, stdout=subprocess.PIPE, stderr=theirs)
     os.close(theirs)
-    told = b""
-    while True:
-        try:
-            part = os.read(ours, 65536)
-        except OSError:
-            break
-        if not part:
-            break
-        told += part
+    told, end = b"", time.monotonic() + 60
+    with contextlib.suppress(OSError):
+        while select.select([ours], [], [], end - time.monotonic())[0]:
+            told += os.read(ours, 65536)
     os.close(ours)
     printed = child.communicate(timeout=30)[0]
     assert child.returncode == 0
@@ -219,6 +408,102 @@ def test_what_is_refused(folder: pathlib.Path, words: list[str], status: int, er
     assert run(words, folder, status, error) == ""
 
 
+@pytest.mark.parametrize(("words", "status", "error"), [
+    (["plan", "large.csv", "--chart", "x.jpg"], 3, "the name of a chart ends with .svg, .png, .pdf or .html"),
+    ([*LONG, "--state", "state", "--start", "none"], 4, "No such file or directory: 'none'"),
+    ([*LONG, "--state", "other"], 2, "not the state of a search"),
+    (["search", "shop", "--layout", "taillard", "--take", "61"], 3, "take is 61"),
+])
+def test_what_is_refused_is_refused_before_the_search(folder: pathlib.Path, words: list[str], status: int,
+                                                      error: str) -> None:
+    rows = [f"j{at}," + ",".join(map(str, row)) for at, row in enumerate(shop_in(folder).times.tolist())]
+    (folder / "large.csv").write_text("\n".join(["job," + ",".join(f"m{at}" for at in range(10)), *rows]))
+    (folder / "other").write_text("another file")
+    child = start([*words, "--rounds", "1000000"], folder)
+    try:
+        told = child.communicate(timeout=30)[1].decode()
+    except subprocess.TimeoutExpired:
+        pytest.fail(f"a search is made before {words} are refused")
+    finally:
+        child.kill()
+    assert child.returncode == status and error in told and told.count("\n") == 1, told
+
+
+def asked(folder: pathlib.Path, monkeypatch: pytest.MonkeyPatch, words: list[str]) -> dict[str, Any]:
+    """What a command line asks for, which is not searched."""
+    found: dict[str, Any] = {}
+
+    def searched(search: Any, rounds: int, seconds: float | None, *_: Any) -> tuple[pfs.Solution, None]:
+        found.update(take=search.take, passes=search.passes, seed=search.seed, rounds=rounds, seconds=seconds,
+                     block=search.shop.to_text())
+        return search.solution(), None
+
+    monkeypatch.setattr(_commands, "searched", searched)
+    monkeypatch.chdir(folder)
+    assert _commands.main(words) == 0
+    return found
+
+
+# Another value of each option that has a default.
+OTHERS = {"rounds": "7", "take": "5", "passes": "1", "seed": "3", "block": "2"}
+
+
+@pytest.mark.parametrize("command", ["search", "plan"])
+def test_the_defaults_that_the_help_tells(folder: pathlib.Path, monkeypatch: pytest.MonkeyPatch, command: str) -> None:
+    """Each is what the option's absence means, and another value means something else."""
+    (folder / "shop").write_text(pfs.generate(9, 3, 1).to_text() + pfs.generate(9, 3, 2).to_text())
+    (folder / "times.csv").write_text(TABLE.replace("box", "box;1;1;6\nbin"))
+    line = {"search": ["search", "shop", "--layout", "taillard"], "plan": ["plan", "times.csv"]}[command]
+    text = re.sub(r"\s+", " ", run([command, "--help"], folder))
+    told = dict(re.findall(r"--(rounds|take|passes|seed) \w (?:(?! --).)*?\belse ([\d,]+)", text))
+    if command == "search":
+        assert "--block K counted from 1" in text
+        told["block"] = "1"
+    if command == "plan":
+        told["rounds"] = re.findall(r"a plan without a time limit ([\d,]+)", text)[0]
+    assert told.keys() == OTHERS.keys() - ({"block"} if command == "plan" else set()), f"defaults in the help: {told}"
+    usual = asked(folder, monkeypatch, line)
+    for name, value in told.items():
+        given = asked(folder, monkeypatch, [*line, f"--{name}", value.replace(",", "")])
+        assert given == usual, f"the help of {command} tells {value} as the default of --{name}"
+        assert asked(folder, monkeypatch, [*line, f"--{name}", OTHERS[name]])[name] != usual[name]
+    limited = asked(folder, monkeypatch, [*line, "--seconds", "5"])
+    assert limited["rounds"] == 1_000_000 == int(re.findall(r"else ([\d,]+), and", text)[0].replace(",", ""))
+
+
+def test_the_help_tells_the_ranges(folder: pathlib.Path) -> None:
+    """The ends are taken, and what is beyond them isn't."""
+    text = re.sub(r"\s+", " ", run(["search", "--help"], folder))
+    found = {name: (int(least), int(most)) for name, least, most in
+             re.findall(r"--(\w+) \w (?:(?! --).)*?(\d+) to (\d+)", text)}
+    assert found == {"passes": (0, 100)}
+    for name, ends in {"passes": (0, 100), "seed": (0, 2**64 - 1), "rounds": (0, 1_000_000), "take": (1, 5_000),
+                       "block": (1, 1_000)}.items():
+        taken = [is_taken([*LONG, f"--{name}", str(value)]) for value in (ends[0] - 1, *ends, ends[1] + 1)]
+        assert taken == [False, True, True, False], f"the ends of --{name}"
+
+
+def is_taken(words: list[str]) -> bool:
+    try:
+        _commands.words().parse_args(words)
+    except SystemExit:
+        return False
+    return True
+
+
+def test_memory_that_is_refused_is_told_on_one_line(folder: pathlib.Path, monkeypatch: pytest.MonkeyPatch,
+                                                    capsys: pytest.CaptureFixture[str]) -> None:
+    monkeypatch.chdir(folder)
+    monkeypatch.setattr(_library.library, "pfs_neh", lambda *_: _library.MEMORY)
+    assert _commands.main([*LONG, "--rounds", "3"]) == 4
+    assert capsys.readouterr() == ("", "pfs: no memory\n")
+    monkeypatch.undo()
+    monkeypatch.chdir(folder)
+    monkeypatch.setattr(_library.library, "pfs_rounds", lambda *_: _library.MEMORY)
+    assert _commands.main([*LONG, "--rounds", "3"]) == 4
+    assert capsys.readouterr() == (shop_in(folder).neh().to_text(), "pfs: no memory\n"), "the order is lost"
+
+
 @pytest.mark.parametrize("words", [
     [], ["solve"], ["search"], LONG[:2], [*LONG, "--rounds", "-1"], [*LONG, "--rounds", "1000001"],
     [*LONG, "--rounds", "1.5"], [*LONG, "--seconds", "-1"], [*LONG, "--seconds", "nan"], [*LONG, "--seconds", "x"],
@@ -232,11 +517,45 @@ def test_words_that_no_command_takes(folder: pathlib.Path, words: list[str]) -> 
 
 def test_a_full_disk(folder: pathlib.Path) -> None:
     with open("/dev/full", "wb") as full:
-        env = os.environ | {"PYTHONPATH": str(pathlib.Path(pfs.__file__).parents[1])}
         done = subprocess.run([sys.executable, "-m", "pfs", *LONG, "--rounds", "1", "--state", "state"], cwd=folder,
-                              stdout=full, stderr=subprocess.PIPE, env=env)
+                              stdout=full, stderr=subprocess.PIPE, env=environment())
     assert (done.returncode, done.stderr) == (4, b"pfs: [Errno 28] No space left on device\n")
     assert rounds_in(folder) == 1
+
+
+def in_shell(line: str, folder: pathlib.Path) -> tuple[int, str, str]:
+    """The status, the output and the errors of the commands, with the shell's redirections."""
+    done = subprocess.run(["sh", "-c", f"exec {shlex.quote(sys.executable)} -m pfs {line}"], cwd=folder,
+                          env=environment(), capture_output=True, text=True, timeout=60, stdin=subprocess.DEVNULL)
+    return done.returncode, done.stdout, done.stderr
+
+
+@pytest.mark.parametrize("words", ["search shop --layout taillard --rounds 9", "plan times.csv --rounds 9"])
+def test_closed_streams(folder: pathlib.Path, words: str) -> None:
+    (folder / "times.csv").write_text(TABLE)
+    printed = run(words.split(), folder)
+    assert in_shell(f"{words} 2>&-", folder) == (0, printed, "")
+    assert in_shell(f"{words} <&-", folder) == (0, printed, "")
+    assert in_shell(f"{words} >&-", folder) == (4, "", "pfs: standard output is closed\n")
+    assert in_shell(f"{words} <&- >&- 2>&-", folder) == (4, "", "")
+    assert in_shell(f"{words} >&- 2>/dev/full", folder) == (4, "", "")
+    assert in_shell(f"{words} --rounds x 2>&-", folder) == (3, "", "")
+    assert in_shell(f"{words} --rounds x 2>/dev/full", folder) == (3, "", "")
+    wrong = words.replace("shop", "none").replace("times.csv", "none")
+    assert in_shell(f"{wrong} 2>&-", folder) == in_shell(f"{wrong} 2>/dev/full", folder) == (4, "", "")
+
+
+def test_a_terminal_that_goes_away(folder: pathlib.Path) -> None:
+    """Progress isn't shown any more; the search continues."""
+    ours, theirs = pty.openpty()
+    child = subprocess.Popen([sys.executable, "-m", "pfs", *LONG, "--seconds", "2", "--state", "state"], cwd=folder,
+                             env=environment(), stdin=subprocess.DEVNULL, stdout=subprocess.PIPE, stderr=theirs)
+    os.close(theirs)
+    os.read(ours, 10)
+    os.close(ours)
+    printed = child.communicate(timeout=60)[0].decode()
+    assert child.returncode == 0
+    assert printed == shop_in(folder).solve(rounds_in(folder)).to_text()
 
 
 TABLE = "job [h];saw;drill;paint\ntable;3;2,5;4\nchair;2;5;1,5\n\"shelf; oak\";4;1;2\nbox;1;1;6\n"
@@ -259,8 +578,124 @@ def test_a_plan(folder: pathlib.Path) -> None:
             for job, row in zip(order, plainly.schedule(times, order))
             for machine, (start, end) in zip(["saw", "drill", "paint"], row)]
     assert (folder / "out.csv").read_text().splitlines() == ["job;machine;start;end", *rows]
-    assert ">drill<" in (folder / "out.svg").read_text() and ">table<" in (folder / "out.svg").read_text()
+    picture = (folder / "out.svg").read_text()
+    assert ">drill<" in picture and ">table<" in picture
+    groups = set(re.findall(r'<g id="([\w-]+)"', picture))
+    assert {"bound", "critical-1", "critical-3"} <= groups, "a plan's chart has no bound or no critical path"
+    assert f"makespan {best / 10}, bound {plainly.bound(times) / 10} (dashed), critical path outlined" in picture
+    assert run(["plan", "times.csv", "--chart", "out.html"], folder) == printed
+    page = re.search(r'id="data">(.*?)</script>', (folder / "out.html").read_text())
+    assert page
+    data = json.loads(page[1])
+    assert (data["bound"], data["makespan"], data["unit"]) == (plainly.bound(times), best, "h")
+    assert data["jobs"] == [names[job] for job in order] and data["machines"] == ["saw", "drill", "paint"]
+    assert data["critical"][0] == [0, 0] and data["critical"][-1] == [3, 2]
     assert run(["plan", "times.csv", "--unit", "min", "--rounds", "0"], folder).startswith("makespan ")
+
+
+@pytest.mark.parametrize(("options", "error"), [
+    (["--schedule", "none/out.csv"], "pfs: [Errno 2] No such file or directory: 'none/out.csv"),
+    (["--chart", "none/out.svg"], "pfs: [Errno 2] No such file or directory: 'none/out.svg"),
+    (["--chart", "none/out.html"], "pfs: [Errno 2] No such file or directory: 'none/out.html"),
+    (["--schedule", "/dev/full"], "pfs: [Errno 28] No space left on device"),
+    (["--chart", "no-matplotlib.svg"], "pfs: plot wants matplotlib (Debian: python3-matplotlib)"),
+])
+def test_what_cant_be_written_loses_no_order(folder: pathlib.Path, options: list[str], error: str) -> None:
+    (folder / "times.csv").write_text(TABLE)
+    printed = run(["plan", "times.csv"], folder)
+    (folder / "without").mkdir()
+    (folder / "without" / "matplotlib.py").write_text("raise ImportError('no matplotlib')\n")
+    env = environment(folder / "without") if options[1].startswith("no-") else None
+    # What can be written besides is written.
+    others = ["--chart", "well.html"] if options[0] == "--schedule" else ["--schedule", "well.csv"]
+    child = start(["plan", "times.csv", *options, *others], folder, env)
+    out, told = child.communicate(timeout=60)
+    assert (child.returncode, out.decode()) == (4, printed)
+    assert told.decode().startswith(error) and told.count(b"\n") == 1, told
+    assert (folder / others[1]).stat().st_size > 0
+
+
+@pytest.mark.parametrize("kind", [OSError, MemoryError, ImportError, ValueError])
+@pytest.mark.parametrize("failing", ["to_csv", "plot"])
+def test_an_output_that_fails_keeps_no_other_one_back(folder: pathlib.Path, monkeypatch: pytest.MonkeyPatch,
+                                                      capsys: pytest.CaptureFixture[str], kind: type[Exception],
+                                                      failing: str) -> None:
+    (folder / "times.csv").write_text(TABLE)
+    printed = run(["plan", "times.csv"], folder)
+    monkeypatch.chdir(folder)
+
+    def fail(*_: object, **__: object) -> None:
+        raise kind("it fails")
+
+    monkeypatch.setattr(pfs.Schedule, failing, fail)
+    assert _commands.main(["plan", "times.csv", "--schedule", "out.csv", "--chart", "out.html"]) == 4
+    line = "pfs: no memory\n" if kind is MemoryError else "pfs: it fails\n"
+    assert capsys.readouterr() == (printed, line)
+    other = {"to_csv": "out.html", "plot": "out.csv"}[failing]
+    assert (folder / other).exists(), f"{other} isn't written where {failing} raises {kind.__name__}"
+
+
+def test_a_state_that_cant_be_written_loses_no_order(folder: pathlib.Path) -> None:
+    """The search ends there with what it has."""
+    child = start([*LONG, "--state", "none/state"], folder)
+    printed, told = child.communicate(timeout=60)
+    assert (child.returncode, printed.decode()) == (4, shop_in(folder).neh().to_text())
+    assert told.decode().startswith("pfs: [Errno 2] No such file or directory: 'none/state")
+    assert told.count(b"\n") == 1
+    # Later, when some rounds are done.
+    (folder / "kept").mkdir()
+    child = start([*LONG, "--state", "kept/state"], folder)
+    wait_until(lambda: rounds_in(folder / "kept") > 20)
+    (folder / "kept").rename(folder / "moved")
+    printed, told = child.communicate(timeout=60)
+    assert child.returncode == 4 and told.count(b"\n") == 1, told
+    (folder / "order").write_bytes(printed)
+    best = pfs.read_order(folder / "order")
+    assert shop_in(folder).solve(rounds_in(folder / "moved")).makespan >= best.makespan
+    assert best.makespan == shop_in(folder).makespan(best.order)
+
+
+def test_names_that_a_terminal_would_take_for_commands(folder: pathlib.Path) -> None:
+    table = 'job,saw\nchair\x1b[2J,3\n"two\nlines",1\n\x9b5m,1\n\u202eab,1\nM\xfcller,1\n'
+    (folder / "times.csv").write_text(table, "utf-8")
+    lines = run(["plan", "times.csv", "--rounds", "0", "--unit", "\x1b[1mh"], folder).splitlines()
+    assert lines[:3] == ["makespan 7 \\x1b[1mh", "bound 7 \\x1b[1mh", "optimal"]
+    assert {line[2:] for line in lines[3:]} == {"chair\\x1b[2J", "two\\nlines", "\\x9b5m", "\\u202eab", "M\xfcller"}
+    child = start(["plan", "\x1b[2J.csv", "--rounds", "0"], folder)
+    assert child.communicate(timeout=60)[1] == b"pfs: [Errno 2] No such file or directory: '\\x1b[2J.csv'\n"
+    (folder / "\x1b[2J.csv").write_text("job,saw\na,x\n")
+    child = start(["plan", "\x1b[2J.csv", "--rounds", "0"], folder)
+    assert child.communicate(timeout=60)[1] == b"pfs: \\x1b[2J.csv: line 2, column 2: 'x' is no time\n"
+
+
+@pytest.mark.parametrize("words", [["plan", "x.csv", "--\x1b[2J"], ["plan", "x.csv", "\x1b[2J"], ["\x1b[2J"],
+                                   ["plan", "x.csv", "--chart", "\x1b[2J"], ["plan", "x.csv", "--take", "\x9b2J"],
+                                   ["plan", "x.csv", "--schedule", "none/\x1b[2J"], [*LONG, "--state", "\x1b[2J/x"],
+                                   ["search", "shop", "--layout", "\x1b[2J"], [*LONG, "--start", "\x1b[2J"]])
+def test_words_that_a_terminal_would_take_for_commands(folder: pathlib.Path, words: list[str]) -> None:
+    (folder / "x.csv").write_text("job,saw\na,1\n")
+    child = start(words, folder)
+    told = child.communicate(timeout=60)[1].decode()
+    assert child.returncode in (3, 4) and all(line.isprintable() for line in told.splitlines()), repr(told)
+
+
+def test_names_that_standard_output_has_no_letters_for(folder: pathlib.Path) -> None:
+    (folder / "times.csv").write_text("job,saw\nM\xfcller,3\n", "utf-8")
+    child = start(["plan", "times.csv"], folder, environment() | {"PYTHONIOENCODING": "ascii"})
+    printed, told = child.communicate(timeout=60)
+    assert (child.returncode, told) == (0, b"") and printed.splitlines()[-1] == b"1 M\\xfcller"
+
+
+@pytest.mark.parametrize("ending", ["svg", "html", "png"])
+def test_a_table_whose_name_is_not_utf_8(folder: pathlib.Path, ending: str) -> None:
+    """Neither the order nor a chart that was there is lost."""
+    name = os.fsdecode(b"pl\xe4n.csv")
+    (folder / name).write_text(TABLE)
+    chart = folder / os.fsdecode(b"ch\xe4rt." + ending.encode())
+    chart.write_text("the old one")
+    printed = run(["plan", name, "--chart", chart.name, "--schedule", os.fsdecode(b"s\xe4.csv")], folder)
+    assert printed.splitlines()[-4:] == ["1 box", "2 table", "3 chair", "4 shelf; oak"]
+    assert chart.stat().st_size > 1000 and (folder / os.fsdecode(b"s\xe4.csv")).exists()
 
 
 def test_a_plan_that_is_interrupted(folder: pathlib.Path) -> None:
@@ -273,7 +708,7 @@ def test_a_plan_that_is_interrupted(folder: pathlib.Path) -> None:
     child.send_signal(signal.SIGTERM)
     printed, told = child.communicate(timeout=30)
     assert (child.returncode, told) == (128 + signal.SIGTERM, b"")
-    order = [int(line.split()[-1]) for line in printed.decode().splitlines()[2:]]
+    order = [int(job) for job in re.findall(r"^\d+ job (\d+)$", printed.decode(), re.MULTILINE)]
     assert sorted(order) == list(range(60))
     assert printed.decode().startswith(f"makespan {pfs.generate(60, 10, 4).makespan(order)}\n")
     assert len((folder / "out.csv").read_text().splitlines()) == 601

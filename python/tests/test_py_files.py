@@ -1,9 +1,14 @@
 """Files: instances, order files, Taillard's benchmark and tables, against the program and byte for byte."""
+import contextlib
 import io
+import os
 import pathlib
 import pickle
+import socket
 import subprocess
-from collections.abc import Callable
+import threading
+import time
+from collections.abc import Callable, Iterator
 from typing import Any
 
 import pfs
@@ -39,6 +44,8 @@ TABLES = {
     "semicolons": "job;saw;drill\ntable;3;2\nchair;2;5\n",
     "blanks, quotes and empty lines": '\n job , "saw",drill\r\n\r\n"table",3, 2 \r\n,,\r\nchair,2,5\r\n',
     "a mark in front": "\ufeffjob,saw,drill\ntable,3,2\nchair,2,5",
+    "a mark in front of a quote": '\ufeff"job, [h]x",saw,drill\ntable,3,2\nchair,2,5',
+    "a mark in front of a spreadsheet's first line": "\ufeffsep=;\njob;saw;drill\ntable;3;2\nchair;2;5\n",
     "a spreadsheet's first line": "sep=;\njob;saw;drill\ntable;3;2\nchair;2;5\n",
     "points without meaning": "job,saw,drill\ntable,3.0,2.00\nchair,2,5\n",
 }
@@ -66,6 +73,12 @@ BAD_TABLES = {
     "a long time": ("job,saw\na,1000000001\n", 2, 2, "the time is above 1,000,000,000"),
     "a time too long with decimals": ("job,saw\na,1000000\nb,0.0001\n", 2, 2,
                                       "the time is above 1,000,000,000, counted in 4 decimals"),
+    "a fault after a cell of two lines": ('job,saw\n"a\nb",3\nc,x\n', 4, 2, "'x' is no time"),
+    "a fault after cells of many lines": ('"job\n\n",saw\n\n"a\r\nb",3\r\n"c\n",3\nd,x\n', 9, 2, "'x' is no time"),
+    "a name twice after a cell of two lines": ('job,saw\n"a\nb",3\nc,1\nc,1\n', 5, 1,
+                                              "the job 'c' stands in line 4, column 1 too"),
+    "an open quote before other lines": ('job,saw\na,"3\nb,4\nc,5\n', 4, 0,
+                                         "isn't a row of a table: unexpected end of data"),
     "an open quote": ('job,saw\na,"3\n', 2, 0, "isn't a row of a table: unexpected end of data"),
 }
 
@@ -92,6 +105,77 @@ def test_a_file_in_text_mode_is_refused() -> None:
         pfs.read(io.StringIO(THREE), "taillard")  # type: ignore[arg-type]
 
 
+class Drops(io.RawIOBase):
+    """A file whose reads return a few bytes at a time, as those of an unbuffered pipe may."""
+
+    def __init__(self, text: bytes, most: int) -> None:
+        self.left = text
+        self.most = most
+
+    def readable(self) -> bool:
+        return True
+
+    def readinto(self, place: Any) -> int:
+        count = min(len(place), self.most, len(self.left))
+        place[:count], self.left = self.left[:count], self.left[count:]
+        return count
+
+
+@contextlib.contextmanager
+def slow(text: bytes, kind: str) -> Iterator[Any]:
+    """An unbuffered pipe or socket into which a thread writes a text in two pieces, cut inside the last number."""
+    ends: list[Any] = list(socket.socketpair()) if kind == "socket" else list(os.pipe())
+    cut = len(text.rstrip()) - 1
+
+    def write() -> None:
+        for piece in (text[:cut], text[cut:]):
+            ends[1].sendall(piece) if kind == "socket" else os.write(ends[1], piece)
+            time.sleep(0.1)
+        ends[1].close() if kind == "socket" else os.close(ends[1])
+
+    thread = threading.Thread(target=write)
+    thread.start()
+    with (ends[0].makefile("rb", buffering=0) if kind == "socket" else open(ends[0], "rb", buffering=0)) as file:
+        yield file
+    thread.join()
+    if kind == "socket":
+        ends[0].close()
+
+
+FORTY = b"2 2\n0 3 1 2\n0 2 1 40\n"
+ORDER = b"order2 12 2\n2 1 3 4 5 6 7 8 9 10 12 11\nmakespan 140\n"
+
+
+@pytest.mark.parametrize("kind", ["pipe", "socket"])
+def test_a_file_that_comes_in_pieces_is_read_to_its_end(kind: str) -> None:
+    with slow(FORTY, kind) as file:
+        assert pfs.read(file, "orlib").times.tolist() == [[3, 2], [2, 40]]
+    with slow(2 * FORTY, kind) as file:
+        assert [shop.times.tolist() for shop in pfs.read_all(file, "orlib")] == 2 * [[[3, 2], [2, 40]]]
+    with slow(ORDER, kind) as file:
+        assert pfs.read_order(file).makespan == 140
+
+
+@pytest.mark.parametrize("most", [1, 2, 7, 1000])
+def test_reads_of_a_few_bytes(most: int) -> None:
+    reads: list[Any] = [Drops(FORTY, most), Drops(TWO_BLOCKS.encode(), most), Drops(ORDER, most)]
+    assert pfs.read(reads[0], "orlib").times.tolist() == [[3, 2], [2, 40]]
+    assert [shop.jobs for shop in pfs.read_all(reads[1], "orlib")] == [1, 3]
+    assert pfs.read_order(reads[2]).order.tolist() == [1, 0, 2, 3, 4, 5, 6, 7, 8, 9, 11, 10]
+    endless: Any = Drops(b"order " + b"1" * 70_000, most)
+    with pytest.raises(pfs.OrderFault, match="order file too long"):
+        pfs.read_order(endless)
+    assert len(endless.left) == 70_006 - 65_537, "no more is read than one byte above the limit"
+
+
+def test_a_pipe_that_has_nothing_yet_is_an_error() -> None:
+    ends = os.pipe()
+    os.set_blocking(ends[0], False)
+    with open(ends[0], "rb", buffering=0) as file, pytest.raises(BlockingIOError):
+        pfs.read(file, "orlib")
+    os.close(ends[1])
+
+
 def test_blocks(tmp_path: pathlib.Path) -> None:
     path = written(tmp_path, TWO_BLOCKS, "two")
     assert [shop.times.tolist() for shop in pfs.read_all(path, "orlib")] == [[[7]], [[3, 2], [2, 5], [4, 1]]]
@@ -108,6 +192,87 @@ def test_read_all_reads_to_the_end() -> None:
     with pytest.raises(pfs.FileFault, match="no block, found 0"):
         pfs.read_all(io.BytesIO(b"nothing\n"), "orlib")
     assert len(pfs.read_all(io.BytesIO(b"1 1\n0 7\n" * 1000), "orlib")) == 1000
+
+
+LINES = st.text(alphabet="ab+ \t\r0123456789\xe4", max_size=12).map(str.encode)
+# Lines that aren't number lines, so that blocks around them stay as they are.
+TITLES = [b"", b" \t", b"title", b"instance 7", b"+++", b"x1 2", b"\r", b"\xff\xe4"]
+SKIPPED = st.lists(st.sampled_from(TITLES), max_size=3)
+
+
+@st.composite
+def blocks(draw: st.DrawFn, layout: str) -> bytes:
+    """A block with other blanks, leading zeros, and its numbers on other lines; it may have a fault."""
+    times = draw(plainly.shops(4, 3))
+    jobs, machines = len(times), len(times[0])
+    head = [jobs, machines, 7, 9, 8] if layout == "taillard" else [jobs, machines]
+    body = [row[at] for at in range(machines) for row in times] if layout == "taillard" else [
+        number for row in times for at, time in enumerate(row) for number in (at, time)]
+    between = st.sampled_from([b" ", b"\t", b"  ", b"\r\n", b"\n", b"\n\n", b"\nplain\n", b" \n 0", b" " + b"0" * 90])
+    text = draw(st.sampled_from([b"", b" \t", b"\r"])) + b" ".join(b"%d" % number for number in head)
+    text += draw(st.sampled_from([b"\n", b" \r\n"]))
+    text += b"".join(b"%d" % number + draw(between) for number in body[:-1]) + b"%d" % body[-1]
+    cut = draw(st.sampled_from([None] * 9 + [-1, -4]))
+    return text[:cut] + draw(st.sampled_from([b"\n"] * 9 + [b" \r\n", b" 5\n", b"x\n"]))
+
+
+def one_by_one(text: bytes, layout: str) -> tuple[list[pfs.Instance], pfs.FileFault]:
+    """The blocks up to the first fault, each read from the start of the file, and that fault."""
+    found: list[pfs.Instance] = []
+    for block in range(1, 1_001):
+        try:
+            found.append(pfs.read(io.BytesIO(text), layout, block))
+        except pfs.FileFault as fault:
+            return found, fault
+    pytest.fail("a file of more than 1,000 blocks")
+
+
+@given(st.sampled_from(["taillard", "orlib"]), st.data())
+def test_all_blocks_are_those_that_are_read_one_by_one(layout: str, data: st.DataObject) -> None:
+    parts = data.draw(st.lists(SKIPPED.map(lambda lines: b"".join(line + b"\n" for line in lines)) | blocks(layout)
+                               | LINES, max_size=6))
+    text = b"".join(parts)
+    text = data.draw(st.sampled_from([text, text.removesuffix(b"\n")]))
+    due, fault = one_by_one(text, layout)
+    if fault.name == "no block" and due:
+        found = pfs.read_all(io.BytesIO(text), layout)
+        for shop, other in zip(found, due, strict=True):
+            shop.name = ""
+            assert shop == other, "read_all has another block than read"
+    else:
+        with pytest.raises(pfs.FileFault) as again:
+            pfs.read_all(io.BytesIO(text), layout)
+        assert (again.value.number, again.value.place) == (fault.number, fault.place)
+
+
+@pytest.mark.seconds(8)
+@pytest.mark.parametrize("layout", ["taillard", "orlib"])
+def test_all_blocks_of_60_megabytes_take_at_most_5_seconds(layout: str) -> None:
+    """Of processor time: other programs run besides."""
+    one = pfs.generate(200, 100, 3)
+    block = one.to_text(layout).encode()
+    count = min(1000, 60_000_000 // len(block))
+    text = block * count
+    begun = time.process_time()
+    shops = pfs.read_all(io.BytesIO(text), layout)
+    seconds = time.process_time() - begun
+    assert len(shops) == count and (shops[-1].times == one.times).all()
+    assert seconds < 5, f"{len(text) / 1e6:.0f} MB took {seconds:.1f} s"
+
+
+def test_all_blocks_up_to_the_limit() -> None:
+    """One byte more than the limit is a fault, before the end of a block or after it; not so after 1,000 blocks."""
+    block = b"1 1\n0 7\n"
+    spaces = 67_108_864 - 2 * len(block)
+    assert len(pfs.read_all(io.BytesIO(block + b" " * spaces + block), "orlib")) == 2
+    with pytest.raises(pfs.FileFault, match="input too long"):
+        pfs.read_all(io.BytesIO(block + b" " * (spaces + 1) + block), "orlib")
+    with pytest.raises(pfs.FileFault, match="input too long"):
+        pfs.read_all(io.BytesIO(block + b" " * spaces + block + b"title\n"), "orlib")
+    many = b" " * (67_108_864 - 1000 * len(block))
+    assert len(pfs.read_all(io.BytesIO(block * 999 + many + block + b"title\n"), "orlib")) == 1000
+    with pytest.raises(pfs.FileFault, match="input too long"):
+        pfs.read_all(io.BytesIO(block * 999 + many + b" " + block), "orlib")
 
 
 @pytest.mark.parametrize("case", BAD)
@@ -255,6 +420,27 @@ def test_tables_that_are_refused(tmp_path: pathlib.Path, case: str) -> None:
     assert (fault.value.line, fault.value.column, fault.value.text) == (line, column, why)
     assert str(fault.value) == f"{path}: line {line}, {f'column {column}: ' if column else ''}{why}"
     assert pickle.loads(pickle.dumps(fault.value)).text == why
+
+
+@pytest.mark.parametrize(("cell", "time", "decimals"), [
+    ("1000000000", 1_000_000_000, 0), ("0", 0, 0), ("1.000000000", 1, 0), ("0.999999999", 999_999_999, 9),
+    ("1.00000001", 100_000_001, 8), ("00000000007", 7, 0), ("99999999.9", 999_999_999, 1)])
+def test_the_least_and_the_longest_times_of_tables(tmp_path: pathlib.Path, cell: str, time: int,
+                                                   decimals: int) -> None:
+    shop = pfs.read_csv(written(tmp_path, f"job,saw\na,{cell}\n"))
+    assert (shop.times.tolist(), shop.decimals) == ([[time]], decimals)
+
+
+@pytest.mark.parametrize("cell", ["1000000001", "1000000000.1", "10000000000"])
+def test_times_of_tables_above_the_longest_one(tmp_path: pathlib.Path, cell: str) -> None:
+    with pytest.raises(pfs.TableFault, match="line 2, column 2: the time is above 1,000,000,000"):
+        pfs.read_csv(written(tmp_path, f"job,saw\na,{cell}\n"))
+
+
+def test_the_largest_tables(tmp_path: pathlib.Path) -> None:
+    rows = ["job," + ",".join(f"m{at}" for at in range(200)), *(f"j{at}" + ",1" * 200 for at in range(5_000))]
+    shop = pfs.read_csv(written(tmp_path, "\n".join(rows)))
+    assert (shop.jobs, shop.machines) == (5_000, 200)
 
 
 def test_a_table_that_is_no_text(tmp_path: pathlib.Path) -> None:

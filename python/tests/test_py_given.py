@@ -1,6 +1,7 @@
 """What callers hand in: arrays of any make are read as they are meant, or refused with what is wrong and where. Nothing
 is read out of bounds."""
 import ctypes
+import functools
 import io
 import threading
 from collections.abc import Callable
@@ -14,6 +15,7 @@ import pytest
 from hypothesis import given
 from hypothesis import strategies as st
 from hypothesis.extra import numpy as arrays
+from pfs import _given, _instance, _library
 
 TIMES = [[3, 2], [2, 5], [4, 1]]
 KINDS = ["<u1", "<i1", "<u2", ">u2", "<i4", ">i4", "<u4", ">u4", "<i8", ">i8", "<u8", ">u8", "<f2", ">f4", "<f8", ">f8"]
@@ -78,7 +80,15 @@ def test_lists_of_each_make() -> None:
     ([[1, 2**40 + 1.0]], ValueError, "job 0, machine 1 isn't 0 to"),
     ([[1, 2**70]], ValueError, "times: 1180591620717411303424 at job 0, machine 1 isn't 0 to"),
     ([[1, None]], TypeError, "times: None at job 0, machine 1 isn't a whole number"),
+    (np.array([[2**32]], dtype=np.float32), ValueError, "times: 42949[.0-9]+ at job 0, machine 0 isn't 0 to"),
+    (np.array([[np.inf]], dtype=np.float16), ValueError, "times: inf at job 0, machine 0 isn't a whole number"),
+    (np.array([[2**63]], dtype=np.uint64), ValueError, "times: 9223372036854775808 at job 0"),
+    (np.array([[-1]], dtype=np.int8), ValueError, "times: -1 at job 0, machine 0 isn't 0 to"),
     ([["1", "2"]], TypeError, "times should be whole numbers, not of the kind <U1"),
+    ([[True, 2], [3, 4]], TypeError, "times should be whole numbers, not of the kind bool"),
+    ([[1, 2], (3, np.False_)], TypeError, "times should be whole numbers, not of the kind bool"),
+    (np.array([[True, 2]], dtype=object), TypeError, "times: True at job 0, machine 0 isn't a whole number"),
+    (np.array([[1, np.True_]], dtype=object), TypeError, "times: True at job 0, machine 1 isn't a whole number"),
     ([[True, False]], TypeError, "not of the kind bool"),
     ([[1j]], TypeError, "not of the kind complex"),
     (np.array([[1]], dtype="M8[s]"), TypeError, "not of the kind datetime"),
@@ -107,6 +117,18 @@ def test_times_that_are_refused(times: Any, kind: type[Exception], why: str) -> 
     ([0, "1"], TypeError, "order should be whole numbers"),
     ([0, None], TypeError, "order: None at place 1 isn't a whole number"),
     (np.array([True, False]), TypeError, "order should be whole numbers, not of the kind bool"),
+    ([True, False], TypeError, "order should be whole numbers, not of the kind bool"),
+    ((2, True, False), TypeError, "order should be whole numbers, not of the kind bool"),
+    ([np.True_, np.False_], TypeError, "order should be whole numbers, not of the kind bool"),
+    ([2, np.True_, 0], TypeError, "order should be whole numbers, not of the kind bool"),
+    (np.array([2, True, 0], dtype=object), TypeError, "order: True at place 1 isn't a whole number"),
+    (np.array([1, 2**32], dtype=np.float32), ValueError, "order: 42949[.0-9]+ at place 1 isn't a job"),
+    (np.array([1, 2**32], dtype=np.float64), ValueError, "order: 42949[.0-9]+ at place 1 isn't a job"),
+    (np.array([1, 2**32], dtype=np.longdouble), ValueError, "order: 42949[.0-9]+ at place 1 isn't a job"),
+    (np.array([0, 2**33], dtype=np.float32), ValueError, "at place 1 isn't a job"),
+    (np.array([0, 200], dtype=np.uint8), ValueError, "order: 200 at place 1 isn't a job: they are 0 to 2"),
+    (np.array([0, -1], dtype=np.int8), ValueError, "order: -1 at place 1 isn't a job"),
+    (np.array([np.int8(-1)], dtype=object), ValueError, "order: -1 at place 0 isn't a job"),
     ([[0, 1, 2]], ValueError, r"order should be a list of jobs, not of the shape \(1, 3\)"),
     (0, ValueError, r"not of the shape \(\)"),
     (None, ValueError, r"not of the shape \(\)"),
@@ -156,6 +178,28 @@ def test_insertions_that_are_refused(sequence: list[int], job: Any, kind: type[E
 def test_instances_that_are_not_generated(words: Any, kind: type[Exception], why: str) -> None:
     with pytest.raises(kind, match=why):
         pfs.generate(*words)
+
+
+@pytest.mark.parametrize("truth", [True, np.True_])
+def test_truth_values_are_no_numbers(truth: Any) -> None:
+    shop = pfs.Instance(TIMES)
+    calls: dict[str, Callable[[], Any]] = {
+        "rounds": lambda: shop.solve(truth), "take": lambda: shop.solve(1, take=truth),
+        "passes": lambda: shop.solve(1, passes=truth), "seed": lambda: shop.solve(1, seed=truth),
+        "first": lambda: shop.solve(1, first=truth), "time_limit": lambda: shop.solve(1, time_limit=truth),
+        "job": lambda: shop.best_place([0], truth), "number": lambda: pfs.taillard(truth),
+        "jobs": lambda: pfs.generate(truth, 1, 1), "machines": lambda: pfs.generate(1, truth, 1),
+        "seed of a generator": lambda: pfs.generate(1, 1, truth),
+        **{f"{name} of an instance": functools.partial(pfs.Instance, TIMES, **{name: truth})
+           for name in ("decimals", "seed", "upper", "lower")},
+        **{f"{name} of a solution": functools.partial(pfs.Solution, [0], **({"makespan": 1} | {name: truth}))
+           for name in ("makespan", "cells", "machines", "rounds")},
+        "block": lambda: pfs.read(io.BytesIO(b""), "orlib", truth),
+        "order": lambda: pfs.Solution([truth], 1), "start": lambda: shop.solve(1, start=[0, truth, 2]),
+        "sequence": lambda: shop.best_place([truth], 0)}
+    for name, call in calls.items():
+        with pytest.raises(TypeError, match=f"^{name.split()[0]} should be "):
+            pytest.fail(f"{name} is {call()!r} for {truth!r}")
 
 
 def test_other_words_that_are_refused() -> None:
@@ -228,16 +272,17 @@ def test_anything_as_a_file(text: bytes) -> None:
         assert 0 <= fault.place <= len(text)
 
 
-def test_arrays_that_another_thread_changes() -> None:
+@pytest.mark.parametrize("kind", [np.uint32, np.int64, np.uint64])
+def test_arrays_that_another_thread_changes(kind: Any) -> None:
     """The order is copied before it is judged: the answer is that of some order, or a refusal."""
-    shop = pfs.generate(200, 5, 1)
-    order = np.arange(200, dtype=np.uint32)
+    shop = pfs.generate(400, 5, 1)
+    order = np.arange(400, dtype=kind)
     ended = threading.Event()
 
     def spoil() -> None:
         while not ended.is_set():
             ctypes.memset(order.ctypes.data, 255, order.nbytes)
-            order[:] = np.arange(200)
+            order[:] = np.arange(400)
 
     thread = threading.Thread(target=spoil)
     thread.start()
@@ -250,6 +295,45 @@ def test_arrays_that_another_thread_changes() -> None:
     finally:
         ended.set()
         thread.join()
+
+
+@pytest.mark.parametrize("kind", KINDS)
+def test_what_is_validated_is_a_copy(kind: str) -> None:
+    """So nothing that another thread writes afterwards counts."""
+    for times in makes(TIMES, kind):
+        own = _given.copied(times, "times")
+        assert not np.shares_memory(own, times), f"times of the kind {kind} are validated in the caller's memory"
+        assert own.tolist() == TIMES
+
+
+@pytest.mark.parametrize("kind", [np.uint32, np.int64])
+@pytest.mark.parametrize("jobs", [3, 300])
+def test_an_order_that_changes_while_it_is_used_is_validated_as_a_copy(monkeypatch: pytest.MonkeyPatch, jobs: int,
+                                                                      kind: Any) -> None:
+    """What the library is called with isn't the caller's memory, however long the order is."""
+    shop = pfs.generate(jobs, 2, 1)
+    order = np.arange(jobs, dtype=kind)
+    seen: list[tuple[object, ...]] = []
+
+    def noting(real: Callable[..., int]) -> Callable[..., int]:
+        def call(*words: object) -> int:
+            seen.append(words)
+            return real(*words)
+
+        return call
+
+    for name in ("pfs_makespan", "pfs_table", "pfs_rounds", "pfs_insert"):
+        monkeypatch.setattr(_library.library, name, noting(getattr(_library.library, name)))
+    monkeypatch.setattr(_instance, "_pfs_makespan", _library.library.pfs_makespan)
+    calls: list[Callable[[], object]] = [
+        lambda: shop.makespan(order), lambda: shop.schedule(order), lambda: shop.solve(1, start=order),
+        lambda: shop.best_place(order[:-1], jobs - 1)]
+    for each in calls:
+        each()
+    own = {order.ctypes.data, id(order)}
+    assert len(seen) >= 4
+    assert not [words for words in seen if not own.isdisjoint(map(id, words)) or not own.isdisjoint(
+        word for word in words if isinstance(word, int))], "the library reads the caller's memory"
 
 
 def test_objects_that_change_their_minds() -> None:
@@ -274,3 +358,36 @@ def test_objects_that_change_their_minds() -> None:
             assert call()
         except (TypeError, ValueError):
             pass
+
+
+def refused_everywhere(shop: pfs.Instance) -> dict[str, Callable[[], Any]]:
+    """A call of each function of the library."""
+    return {
+        "pfs_makespan": lambda: shop.makespan([0, 1, 2]), "pfs_bound": shop.bound, "pfs_neh": shop.neh,
+        "pfs_table": lambda: shop.schedule([0, 1, 2]), "pfs_rounds": lambda: shop.solve(1, start=[0, 1, 2]),
+        "pfs_insert": lambda: shop.best_place([0, 1], 2), "pfs_generate": lambda: pfs.generate(2, 2, 1),
+        "pfs_read": lambda: pfs.read(io.BytesIO(b"1 1 0 0 0\n1\n"), "taillard"), "pfs_write": shop.to_text,
+        "pfs_read_order": lambda: pfs.read_order(io.BytesIO(b"order 1\n1\nmakespan 1\n")),
+        "pfs_write_order": lambda: pfs.Solution([0], 1).to_text()}
+
+
+@pytest.mark.parametrize("name", _library.PROTOTYPES)
+def test_memory_that_is_refused_is_a_memory_error(monkeypatch: pytest.MonkeyPatch, name: str) -> None:
+    """Each function may return this number."""
+    shop = pfs.Instance(TIMES)
+    call = refused_everywhere(shop)[name]
+    assert call() is not None
+    monkeypatch.setattr(_library.library, name, lambda *_: _library.MEMORY)
+    monkeypatch.setattr(_instance, "_pfs_makespan", _library.library.pfs_makespan)
+    with pytest.raises(MemoryError, match="^pfs: memory was refused$"):
+        call()
+
+
+@pytest.mark.parametrize("name", _library.PROTOTYPES)
+def test_another_answer_of_the_library_is_told(monkeypatch: pytest.MonkeyPatch, name: str) -> None:
+    """By its text, where no argument explains it."""
+    call = refused_everywhere(pfs.Instance(TIMES))[name]
+    monkeypatch.setattr(_library.library, name, lambda *_: 12)
+    monkeypatch.setattr(_instance, "_pfs_makespan", _library.library.pfs_makespan)
+    with pytest.raises(ValueError, match="^the block isn't from 1 to 1000$"):
+        call()

@@ -1,6 +1,7 @@
 """The examples of the README, of the docstrings and of the folder `examples`."""
 import doctest
 import importlib
+import inspect
 import os
 import pathlib
 import pkgutil
@@ -11,6 +12,7 @@ import sys
 
 import pfs
 import pytest
+from pfs import _library, _search
 
 HERE = pathlib.Path(__file__).resolve().parents[1]
 PAGE = HERE / "README.md"
@@ -22,10 +24,89 @@ def test_docstrings(name: str) -> None:
     assert doctest.testmod(importlib.import_module(name)).failed == 0
 
 
-def test_each_public_function_has_an_example_or_parameters() -> None:
+def public() -> dict[str, object]:
+    """What users call or read: the package's names and the public methods of its classes."""
+    found: dict[str, object] = {}
     for name in pfs.__all__:
-        text = getattr(pfs, name).__doc__ if name != "__version__" else ">>>"
-        assert text and (">>>" in text or "Attributes" in text or name == "Place" or "isn't" in text), name
+        thing = getattr(pfs, name)
+        if inspect.isclass(thing) or inspect.isfunction(thing):
+            found[name] = thing
+        if inspect.isclass(thing):
+            found |= {f"{name}.{each}": method for each, method in vars(thing).items()
+                      if inspect.isfunction(method) and not each.startswith("_")}
+    return found
+
+
+@pytest.mark.parametrize("name", public())
+def test_each_public_name_is_described(name: str) -> None:
+    """Each parameter on a separate line, where there is more than one of them, and each attribute."""
+    thing = public()[name]
+    text = inspect.getdoc(thing) or ""
+    assert re.match(r"[A-Z][^\n]+", text), f"{name} has no docstring"
+    parameters = [each for each in inspect.signature(thing).parameters if each != "self"]  # type: ignore[arg-type]
+    described = {each for line in re.findall(r"^([\w, ]+) : ", text, re.MULTILINE) for each in line.split(", ")}
+    if inspect.isfunction(thing):
+        assert len(parameters) + ("\n" in text) < 2 or set(parameters) <= described, f"parameters of {name}"
+    kept = [each for each in getattr(thing, "__slots__", ()) if not each.startswith("_")]
+    assert set(kept) <= described, f"attributes of {name}"
+
+
+# Texts of docstrings and of README, and the numbers that they tell.
+DEFAULTS = {
+    "Instance.solve": {"rounds": "it is left out: 1,000", "take": "left out 4", "passes": "0 to 100",
+                       "first": "at most 1,000,000"},
+    "Instance": {"decimals": "0 to 9", "times": "1 to 5,000 jobs and a column for each of 1 to 200 machines"},
+    "generate": {"seed": "1 to 2,147,483,646"}, "taillard": {"number": "1 to 120"}}
+
+
+def test_the_numbers_of_docstrings_are_the_packages() -> None:
+    """Read from the texts, and compared with what is taken."""
+    texts = {name: " ".join((inspect.getdoc(public()[name]) or "").split()) for name in DEFAULTS}
+    for name, told in DEFAULTS.items():
+        for parameter, text in told.items():
+            assert text in texts[name], f"the docstring of {name} tells another number of {parameter}"
+    assert (_search.ROUNDS, _library.MOST_ROUNDS, _library.MOST_PASSES) == (1_000, 1_000_000, 100)
+    shop = pfs.Instance([[1]] * 9)
+    assert shop.solve(3) == shop.solve(3, take=4) and pfs.Instance([[1]], decimals=9).decimals == 9
+    assert pfs.taillard(120).jobs == 500 and pfs.generate(1, 1, 2_147_483_646).seed == 2_147_483_646
+
+
+def test_the_names_that_readme_tells_are_the_packages() -> None:
+    """Names of the package, and the attributes of what is raised for a file."""
+    text = PAGE.read_text()
+    named = set(re.findall(r"`pfs\.(\w+)", text)) | set(re.findall(r"\bpfs\.(\w+)\(", text))
+    assert len(named) > 8 and sorted(named - set(pfs.__all__)) == []
+    raised: dict[str, ValueError] = {"FileFault": pfs.FileFault("f", 24, 17), "OrderFault": pfs.OrderFault("f", 31, 3),
+                                     "TableFault": pfs.TableFault("f", 4, 2, "x")}
+    rows = dict(re.findall(r"^\| (.*?) \| `pfs\.(\w+)`", text, re.MULTILINE))
+    assert list(rows.values()) == list(raised)
+    assert [name for what, name in rows.items() if "order" in what] == ["OrderFault"]
+    assert [name for what, name in rows.items() if "table" in what] == ["TableFault"]
+    for name, attributes in re.findall(r"\| `pfs\.(\w+)`: (.*) \|$", text, re.MULTILINE):
+        told = re.findall(r"`(\w+)`(?! prints)", attributes)
+        assert len(told) > 2 and [each for each in told if each not in vars(raised[name])] == [], name
+
+
+# What ends with which status, in README's words.
+STATUSES = {"a file that is invalid": "search wrong --layout taillard", "a command line that is invalid": "search",
+            "the system's errors": "search none --layout taillard"}
+
+
+@pytest.mark.parametrize("what", STATUSES)
+def test_a_status_that_readme_tells_is_the_commands(tmp_path: pathlib.Path, what: str) -> None:
+    (tmp_path / "wrong").write_text("no instance\n")
+    sentence = re.search(r"Other statuses are those of `pfs`: (.*?)\.\s", PAGE.read_text())
+    assert sentence
+    told = dict(re.findall(r"(\d) for ([\w' ]+)", sentence[1]))
+    assert sorted(told.values()) == sorted(STATUSES) and len(told) == 3
+    status, = [int(number) for number, text in told.items() if text == what]
+    env = os.environ | {"PYTHONPATH": str(pathlib.Path(pfs.__file__).parents[1]), "PYTHONDONTWRITEBYTECODE": "1"}
+    done = subprocess.run([sys.executable, "-m", "pfs", *STATUSES[what].split()], cwd=tmp_path, env=env,
+                          capture_output=True, text=True)
+    assert done.returncode == status, f"README tells status {status} for {what}: {done.stderr}"
+    text = PAGE.read_text()
+    assert "after a signal the exit status is 128 and the signal's number" in text
+    assert "the order is never lost, and the status is 4" in text
 
 
 def test_the_readme(tmp_path: pathlib.Path, monkeypatch: pytest.MonkeyPatch) -> None:

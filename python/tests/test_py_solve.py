@@ -1,11 +1,14 @@
 """Searches: the same end however they are cut into parts, progress, limits, interruptions, threads."""
 import io
+import itertools
 import os
 import pathlib
 import pickle
 import signal
+import sys
 import threading
 import time
+import types
 from collections.abc import Callable
 from typing import Any
 
@@ -13,9 +16,10 @@ import numpy as np
 import pfs
 import plainly
 import pytest
+from clocks import Clock
 from hypothesis import given
 from hypothesis import strategies as st
-from pfs import _library, _search
+from pfs import _commands, _library, _search
 
 
 class Cut:
@@ -145,33 +149,118 @@ def test_tqdm() -> None:
     assert f"makespan={found.makespan}" in told.getvalue() and "500/500" in told.getvalue()
 
 
-def test_what_progress_raises_is_raised() -> None:
+@pytest.mark.parametrize("kind", [KeyError, OSError, SystemExit, MemoryError])
+def test_what_progress_raises_has_the_solution(cut: Callable[[list[int]], None], kind: type[BaseException]) -> None:
+    cut([10])
+    shop = pfs.taillard(1)
+    raised = kind("enough")
+
     def refuse(made: int, makespan: int) -> None:
-        raise KeyError("enough")
+        if made == 20:
+            raise raised
 
-    with pytest.raises(KeyError, match="enough"):
-        pfs.taillard(1).solve(10, progress=refuse)
+    with pytest.raises(kind, match="enough") as stop:
+        shop.solve(50, progress=refuse)
+    best = getattr(stop.value, "solution", None)
+    assert stop.value is raised and best == shop.solve(20), "the exception of `progress` has no solution"
+    assert shop.solve(30, start=best, first=best.rounds).to_text() == shop.solve(50).to_text()
 
 
-def test_parts_take_about_a_tenth_of_a_second() -> None:
-    shop = pfs.generate(100, 20, 5)
-    ends: list[float] = []
-    shop.solve(time_limit=1.5, progress=lambda made, makespan: ends.append(time.monotonic()))
-    gaps = np.diff(ends[4:])
-    assert 0.02 < np.median(gaps) < 0.4, gaps
-    assert len(ends) < 60
+def test_what_a_bar_raises_has_the_solution(cut: Callable[[list[int]], None]) -> None:
+    cut([10])
+    shop = pfs.taillard(1)
+
+    class Bar(Closing):
+        def close(self) -> None:
+            raise RuntimeError("can't close")
+
+    with pytest.raises(RuntimeError, match="can't close") as stop:
+        shop.solve(50, progress=Bar)
+    assert getattr(stop.value, "solution", None) == shop.solve(50), "an error of `close` has no solution"
+
+
+def test_an_option_that_is_refused_has_no_solution() -> None:
+    refused: list[dict[str, Any]] = [{"rounds": -1}, {"time_limit": -1}, {"progress": 3}, {"start": [0] * 20}]
+    for words in refused:
+        with pytest.raises((TypeError, ValueError)) as fault:
+            pfs.taillard(1).solve(**words)
+        assert not hasattr(fault.value, "solution")
+
+
+def test_memory_that_is_refused_loses_nothing(cut: Callable[[list[int]], None],
+                                              monkeypatch: pytest.MonkeyPatch) -> None:
+    """The rounds before are kept, and nothing is allocated to hand them out."""
+    cut([10])
+    shop = pfs.taillard(1)
+    whole = shop.solve(30)
+    calls, real = 0, _library.library
+
+    class Library:
+        def __getattr__(self, name: str) -> Any:
+            return refusing if name == "pfs_rounds" else getattr(real, name)
+
+    def refusing(*given: Any) -> int:
+        nonlocal calls
+        calls += 1
+        if calls == 4:
+            monkeypatch.setattr(_search, "Solution", lambda *_: pytest.fail("a solution is made where memory is short"))
+            return 1
+        return int(real.pfs_rounds(*given))
+
+    monkeypatch.setattr(_library, "library", Library())
+    with pytest.raises(MemoryError) as stop:
+        shop.solve(50)
+    assert getattr(stop.value, "solution", None) == whole
+
+
+# The rounds of the parts by the limit in rounds, of which each takes a 1,024th of a second: parts of a tenth of a
+# second, each at most four times as long as the one before it, and a last one that ends by the limit.
+LIMITS: dict[float, list[int]] = {
+    0: [], 0.5: [1], 20: [1, 4, 15], 100: [1, 4, 16, 64, 15], 354: [1, 4, 16, 64, 102, 102, 65],
+    392: [1, 4, 16, 64, 102, 102, 102, 1]}
+
+
+@pytest.mark.parametrize("limit", LIMITS)
+def test_parts_take_a_tenth_of_a_second_and_the_last_one_ends_by_the_limit(monkeypatch: pytest.MonkeyPatch,
+                                                                          limit: float) -> None:
+    clock = Clock(1 / 1024)
+    clock.patch(monkeypatch)
+    told: list[int] = []
+    shop = pfs.generate(6, 3, 1)
+    found = shop.solve(time_limit=limit / 1024, progress=lambda made, makespan: told.append(made))
+    assert clock.parts == LIMITS[limit], f"the parts within the time of {limit} rounds"
+    assert told == list(itertools.accumulate(LIMITS[limit])) and found.rounds == sum(LIMITS[limit])
+    # From the command line too.
+    clock.parts.clear()
+    ends: list[int] = []
+    search = _search.Search(shop, None, 0, None, 0, 0)
+    best, fault = _commands.searched(search, 1_000_000, limit / 1024, _commands.Stop(),
+                                     lambda kept: ends.append(kept.rounds))
+    assert clock.parts == LIMITS[limit] and ends == [0, *told] and (best.rounds, fault) == (found.rounds, None)
+
+
+@pytest.mark.parametrize(("seconds", "due"), [(1 / 1024, [1, 4, 16, 64, 102, 102, 11]), (2, [1] * 300),
+                                             (1 / 32, [1, *[3] * 99, 2]), (0, [1, 4, 16, 64, 215])])
+def test_parts_without_a_limit(monkeypatch: pytest.MonkeyPatch, seconds: float, due: list[int]) -> None:
+    """A part has a round at least, and no more than are due."""
+    clock = Clock(seconds)
+    clock.patch(monkeypatch)
+    pfs.generate(6, 3, 1).solve(300)
+    assert clock.parts == due, f"the parts of 300 rounds, of {seconds} seconds each"
 
 
 def test_a_time_limit_ends_between_two_parts() -> None:
+    """The time itself is that of the machine, which other programs use too."""
     shop = pfs.generate(100, 20, 5)
     begun = time.monotonic()
     found = shop.solve(time_limit=0.5)
-    assert 0.4 < time.monotonic() - begun < 2
+    assert time.monotonic() - begun > 0.4
     assert 0 < found.rounds < 1_000_000
     assert found.to_text() == shop.solve(found.rounds).to_text()
     assert shop.solve(time_limit=0) == shop.neh()
     assert shop.solve(3, time_limit=60) == shop.solve(3)
     assert shop.solve(time_limit=float("inf"), rounds=2).rounds == 2
+    assert shop.solve(time_limit=10**400, rounds=2) == shop.solve(2), "a limit longer than any float"
 
 
 @pytest.mark.parametrize("at", range(0, 4))
@@ -255,6 +344,120 @@ def test_a_signal_right_around_a_call(monkeypatch: pytest.MonkeyPatch, call: str
     assert calls > 1
 
 
+class Closing:
+    """A progress bar that counts how often it is closed."""
+    closed = 0
+    made = 0
+
+    def __init__(self, total: int) -> None:
+        type(self).closed = type(self).made = 0
+
+    def update(self, n: int = 1) -> None:
+        type(self).made += n
+
+    def close(self) -> None:
+        for _ in range(3):
+            pass
+        type(self).closed += 1
+
+
+TRACED = {str(pathlib.Path(pfs.__file__).with_name(f"_{name}.py")) for name in ("search", "solution", "faults")}
+
+
+class Interrupting:
+    """Traces the bytecodes of the package's searches and of the progress bar, and raises KeyboardInterrupt at one."""
+
+    def __init__(self, at: int, begins_at_once: bool = True) -> None:
+        self.left = at
+        self.begins_at_once = begins_at_once
+        self.runs = False
+        self.has_come = False
+
+    def __call__(self, frame: types.FrameType, event: str, _: Any) -> Callable[..., Any] | None:
+        """Called for each frame."""
+        code = frame.f_code
+        if code.co_filename not in TRACED and code.co_name != "close":
+            return None
+        frame.f_trace_opcodes = True
+        self.runs |= self.begins_at_once and code is _search.solve.__code__
+        return self.step
+
+    def step(self, frame: types.FrameType, event: str, _: Any) -> Callable[..., Any]:
+        """Called for each bytecode."""
+        if event == "opcode" and self.runs:
+            self.left -= 1
+            if self.left < 0:
+                self.has_come = True
+                raise KeyboardInterrupt
+        return self.step
+
+
+def interrupted(shop: pfs.Instance, tracer: Interrupting, progress: Any) -> pfs.Solution:
+    """The solution that `solve` returns, or that its exception has."""
+    sys.settrace(tracer)
+    try:
+        return shop.solve(ROUNDS, progress=progress)
+    except KeyboardInterrupt as stop:
+        assert isinstance(stop, pfs.Interrupted), f"interrupted at a bytecode, it is no pfs.Interrupted: {stop!r}"
+        return stop.solution
+    finally:
+        sys.settrace(None)
+
+
+ROUNDS, PARTS = 65, 13
+# More than such a search has.
+MOST_BYTECODES = 50_000
+
+
+@pytest.fixture
+def ends(cut: Callable[[list[int]], None]) -> dict[int, pfs.Solution]:
+    """The solution after each part."""
+    cut([ROUNDS // PARTS])
+    shop = pfs.generate(6, 2, 1)
+    found = {rounds: shop.solve(rounds) for rounds in range(0, ROUNDS + 1, ROUNDS // PARTS)}
+    for rounds, best in found.items():
+        rest = shop.solve(ROUNDS - rounds, start=best, first=best.rounds)
+        assert rest.to_text() == found[ROUNDS].to_text()
+    return found
+
+
+@pytest.mark.seconds(20)
+def test_an_interruption_at_each_bytecode_loses_nothing(ends: dict[int, pfs.Solution]) -> None:
+    shop = pfs.generate(6, 2, 1)
+    for at in range(MOST_BYTECODES):
+        tracer = Interrupting(at)
+        best = interrupted(shop, tracer, Closing)
+        if not tracer.has_come:
+            break
+        assert best == ends[best.rounds], f"interrupted at bytecode {at}: not where so many rounds end"
+        assert best.rounds >= Closing.made, f"interrupted at bytecode {at}: a part that was told is lost"
+    assert best == ends[ROUNDS]
+    assert 5000 < at < MOST_BYTECODES - 1, f"{at} bytecodes"
+
+
+@pytest.mark.parametrize("first", [1, PARTS // 2, PARTS])
+def test_a_second_interruption_at_each_bytecode_loses_nothing(ends: dict[int, pfs.Solution], first: int) -> None:
+    """The first one comes from `progress` after a part, the second one at any bytecode after that."""
+    shop = pfs.generate(6, 2, 1)
+    due = first * ROUNDS // PARTS
+
+    class Bar(Closing):
+        def update(self, n: int = 1) -> None:
+            super().update(n)
+            if self.made == due:
+                tracer.runs = True
+                raise KeyboardInterrupt
+
+    for at in range(MOST_BYTECODES):
+        tracer = Interrupting(at, begins_at_once=False)
+        best = interrupted(shop, tracer, Bar)
+        assert best == ends[due], f"interrupted again at bytecode {at} after the first time"
+        if not tracer.has_come:
+            break
+    assert 10 < at < MOST_BYTECODES - 1, f"{at} bytecodes"
+    assert Bar.closed == 1
+
+
 @pytest.mark.seconds(8)
 def test_four_threads_search_side_by_side() -> None:
     """The interpreter's lock is free meanwhile: the threads' processor time is more than the time that passes."""
@@ -318,6 +521,7 @@ def test_a_call_frees_the_lock() -> None:
     ({"start": [0] * 20}, ValueError, "start: job 0 stands at place 0 and again at place 1"),
     ({"time_limit": -1}, ValueError, "time_limit is -1.0"),
     ({"time_limit": float("nan")}, ValueError, "time_limit is nan"),
+    ({"time_limit": -10**400}, ValueError, "time_limit is -inf, and should be 0 or more seconds"),
     ({"time_limit": "1"}, TypeError, "time_limit should be seconds, not '1'"),
     ({"progress": 3}, TypeError, "progress should be called"),
 ])

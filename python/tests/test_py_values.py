@@ -1,10 +1,14 @@
 """What the package answers is what the definitions say, and what the program prints."""
+import copy
 import csv
+import inspect
 import io
 import itertools
 import pathlib
 import pickle
 import random
+import re
+from collections.abc import Callable
 from typing import Any
 
 import numpy as np
@@ -15,6 +19,7 @@ from hypothesis import given
 from hypothesis import strategies as st
 
 
+@pytest.mark.quick
 @given(plainly.shops_and_sequences())
 def test_makespan(case: tuple[plainly.Table, list[int]]) -> None:
     times, sequence = case
@@ -44,6 +49,7 @@ def test_bound(times: plainly.Table) -> None:
     assert pfs.Instance(times).bound() == plainly.bound(times)
 
 
+@pytest.mark.quick
 @given(plainly.shops())
 def test_neh(times: plainly.Table) -> None:
     found = pfs.Instance(times).neh()
@@ -94,6 +100,21 @@ def test_schedule_is_told_by_names(tmp_path: pathlib.Path) -> None:
         ["table", "saw", 2.0, 5.0], ["table", "drill", 7.0, 9.5]]
 
 
+@pytest.mark.parametrize("delimiter", [",", ";", "\t"])
+@pytest.mark.parametrize("name", ["car\rriage", "two\nlines", "both\r\n", '"quoted"', "a,b;c\td", " ", "", "=1", "\r"])
+def test_a_name_is_one_cell(tmp_path: pathlib.Path, name: str, delimiter: str) -> None:
+    """A reader of CSV finds the rows, with each name as it is."""
+    shop = pfs.Instance([[1, 2]], job_names=[name], machine_names=["saw", f"{name}2"])
+    shop.schedule([0]).to_csv(tmp_path / "plan.csv", delimiter)
+    with open(tmp_path / "plan.csv", newline="", encoding="utf-8") as file:
+        rows = list(csv.reader(file, delimiter=delimiter, strict=True))
+    due = [["job", "machine", "start", "end"], [name, "saw", "0", "1"], [name, f"{name}2", "1", "3"]]
+    assert rows == due, f"the name {name!r} has broken a row"
+    text = (tmp_path / "plan.csv").read_bytes().decode()
+    # Spreadsheets end rows at a carriage return that isn't quoted.
+    assert re.sub('"[^"]*"', "", text).count("\r") == 0 and text.endswith("3\n")
+
+
 def test_the_greatest_shop() -> None:
     shop = pfs.Instance(np.full((5000, 200), 1_000_000_000))
     assert shop.makespan(range(5000)) == shop.bound() == 5199 * 10**9
@@ -118,15 +139,94 @@ def test_nothing_that_is_handed_out_can_be_written_to() -> None:
             setattr(shop, name, getattr(shop, name))
 
 
-def test_instances_and_solutions_are_compared_and_pickled() -> None:
+# Each parameter of a class whose objects are compared, with two values. The first ones make an object in which no
+# attribute has its default.
+INSTANCES: dict[str, tuple[Any, Any]] = {
+    "times": ([[3, 2], [2, 5]], [[3, 2], [2, 6]]), "name": ("plan", "other"), "unit": ("h", "min"),
+    "job_names": (("table", "chair"), ("table", "box")), "machine_names": (("saw", "drill"), ("saw", "paint")),
+    "decimals": (2, 3), "seed": (7, 8), "upper": (19, 20), "lower": (11, 12)}
+SOLUTIONS: dict[str, tuple[Any, Any]] = {
+    "order": ([1, 0], [0, 1]), "makespan": (9, 10), "cells": (16, 17), "machines": (2, 3), "rounds": (5, 6)}
+COMPARED = {pfs.Instance: INSTANCES, pfs.Solution: SOLUTIONS}
+CASES = [(kind, name) for kind, values in COMPARED.items() for name in values]
+
+
+def made_of(kind: type[Any], changed: str = "") -> Any:
+    """An object of the first values, but for one."""
+    return kind(**{name: values[name == changed] for name, values in COMPARED[kind].items()})
+
+
+def fields_of(thing: Any) -> dict[str, Any]:
+    """What the object is made of, as lists, texts and numbers."""
+    found = {name: getattr(thing, name) for name in COMPARED[type(thing)]}
+    return {name: value.tolist() if isinstance(value, np.ndarray) else value for name, value in found.items()}
+
+
+def by_protocol(number: int) -> Callable[[Any], Any]:
+    return lambda thing: pickle.loads(pickle.dumps(thing, number))
+
+
+COPIES = {f"pickled by protocol {number}": by_protocol(number) for number in range(pickle.HIGHEST_PROTOCOL + 1)}
+COPIES |= {"copied": copy.copy, "copied deeply": copy.deepcopy}
+
+
+@pytest.mark.parametrize("kind", COMPARED)
+def test_each_parameter_is_compared(kind: type[Any]) -> None:
+    assert set(inspect.signature(kind).parameters) == COMPARED[kind].keys()
+    assert fields_of(made_of(kind)) == {name: values[0] for name, values in COMPARED[kind].items()}
+    defaults = {name: parameter.default for name, parameter in inspect.signature(kind).parameters.items()}
+    assert not [name for name, value in fields_of(made_of(kind)).items() if value == defaults[name]], "a default"
+
+
+@pytest.mark.parametrize(("kind", "name"), CASES)
+def test_objects_of_which_one_attribute_is_another_are_unequal(kind: type[Any], name: str) -> None:
+    one, other = made_of(kind), made_of(kind, name)
+    assert not one == other and one != other, f"two of another {name} are equal"
+
+
+@pytest.mark.parametrize("how", COPIES)
+@pytest.mark.parametrize("kind", COMPARED)
+def test_a_copy_has_each_attribute(kind: type[Any], how: str) -> None:
+    one = made_of(kind)
+    other = COPIES[how](one)
+    assert fields_of(other) == fields_of(one), f"an attribute is lost where one is {how}"
+    assert other == one and hash(other) == hash(one) and type(other) is kind
+    assert one != 1 and one != fields_of(one)
+
+
+@pytest.mark.parametrize("how", [how for how in COPIES if how[-1] not in "01"])
+def test_a_copy_of_a_schedule_has_each_attribute(how: str) -> None:
+    made = made_of(pfs.Instance).schedule([1, 0])
+    other = COPIES[how](made)
+    assert other.instance == made.instance and other.makespan == made.makespan
+    for name in ("order", "starts", "ends"):
+        assert getattr(other, name).tolist() == getattr(made, name).tolist(), name
+    assert other.to_csv() == made.to_csv()
+
+
+FAULTS: list[BaseException] = [
+    pfs.FileFault("file", 24, 17), pfs.OrderFault("order", 31, 3), pfs.TableFault("plan.csv", 4, 2, "no time"),
+    pfs.Interrupted(pfs.Solution([1, 0], 9, 16, 2, 5))]
+
+
+@pytest.mark.parametrize("how", COPIES)
+@pytest.mark.parametrize("fault", FAULTS, ids=[type(fault).__name__ for fault in FAULTS])
+def test_a_copy_of_an_exception_has_each_attribute(fault: BaseException, how: str) -> None:
+    other = COPIES[how](fault)
+    assert (type(other), str(other), vars(other)) == (type(fault), str(fault), vars(fault))
+    assert len(vars(fault)) == {"FileFault": 5, "OrderFault": 5, "TableFault": 4, "Interrupted": 1}[
+        type(fault).__name__]
+
+
+def test_instances_and_solutions_are_shown() -> None:
     shop = pfs.taillard(1)
-    for kept in (shop, shop.neh()):
-        assert pickle.loads(pickle.dumps(kept)) == kept and hash(pickle.loads(pickle.dumps(kept))) == hash(kept)
-        assert kept != 1
     assert shop != pfs.taillard(2) and shop.neh() != shop.solve(100)
     assert repr(shop) == "<Instance ta001: 20 jobs, 5 machines>"
+    assert repr(pfs.Instance([[1]])) == "<Instance 1 jobs, 1 machines>"
     shown = "0, 1, 2, 3, 4, 5, 6, 7, ..., 22, 23, 24, 25, 26, 27, 28, 29"
     assert repr(pfs.Solution(range(30), 7)) == f"Solution(order=[{shown}], makespan=7)"
+    assert repr(pfs.Solution(range(3), 7)) == "Solution(order=[0, 1, 2], makespan=7)"
+    assert repr(shop.schedule(range(20))) == f"Schedule(20 jobs, 5 machines, makespan={shop.makespan(range(20))})"
 
 
 def test_an_instance_of_a_frame() -> None:

@@ -1,11 +1,15 @@
 """The wheel: it holds the library, installs into a clean environment without the network, and passes the tests
 there."""
+import email
+import hashlib
 import importlib
 import os
 import pathlib
+import re
 import shutil
 import subprocess
 import sys
+import tomllib
 import zipfile
 
 import pytest
@@ -13,7 +17,8 @@ from pfs import _library
 
 TOP = pathlib.Path(__file__).resolve().parents[2]
 HERE = TOP / "python"
-WHEEL = "pfs-1.0.0-py3-none-linux_x86_64.whl"
+VERSION = (TOP / "VERSION").read_text().strip()
+WHEEL = f"pfs-{VERSION}-py3-none-linux_x86_64.whl"
 
 
 def test_charts_of_a_checkout_are_drawn_by_the_tools_module() -> None:
@@ -27,8 +32,13 @@ def run(words: list[str | pathlib.Path], cwd: pathlib.Path, **more: str) -> str:
     env = {name: value for name, value in os.environ.items() if name not in ("PFS_LIBRARY", "PYTHONPATH")}
     done = subprocess.run([str(word) for word in words], cwd=cwd, env=env | {"PYTHONDONTWRITEBYTECODE": "1"} | more,
                           capture_output=True, text=True, timeout=500)
-    assert done.returncode == 0, done
+    assert done.returncode == 0, f"{words[0]} ended with {done.returncode}:\n{(done.stdout + done.stderr)[-5000:]}"
     return done.stdout
+
+
+def sum_of(data: bytes) -> str:
+    """A sum to compare: pytest would explain at length how many bytes differ."""
+    return hashlib.sha256(data).hexdigest()
 
 
 @pytest.fixture(scope="module")
@@ -38,7 +48,8 @@ def wheel(tmp_path_factory: pytest.TempPathFactory) -> pathlib.Path:
         pytest.skip("build isn't installed (Debian: python3-build python3-wheel)")
     folder = tmp_path_factory.mktemp("wheel")
     library = pathlib.Path(_library.PATH).resolve()
-    told = run([TOP / "tools" / "wheel", folder, library], TOP)
+    # Modes don't depend on the mask.
+    told = run(["sh", "-c", 'umask 077; exec "$@"', "sh", TOP / "tools" / "wheel", folder, library], TOP)
     assert told == f"{folder / WHEEL}\n"
     return folder / WHEEL
 
@@ -52,14 +63,45 @@ def test_what_a_wheel_holds(wheel: pathlib.Path) -> None:
         passed_over = {"__pycache__", _library.FILE}
         assert held == {f"pfs/{name}" for name in sources.keys() - passed_over | {_library.FILE}}
         for name in sources.keys() - passed_over:
-            assert archive.read(f"pfs/{name}") == sources[name].read_bytes()
-        assert archive.read(f"pfs/{_library.FILE}") == pathlib.Path(_library.PATH).resolve().read_bytes()
+            assert sum_of(archive.read(f"pfs/{name}")) == sum_of(sources[name].read_bytes()), f"other bytes in {name}"
+        library = pathlib.Path(_library.PATH).resolve().read_bytes()
+        assert sum_of(archive.read(f"pfs/{_library.FILE}")) == sum_of(library), "another library"
 
 
 @pytest.mark.seconds(5)
 def test_a_wheel_has_the_same_bytes_again(wheel: pathlib.Path, tmp_path: pathlib.Path) -> None:
-    run([TOP / "tools" / "wheel", tmp_path, pathlib.Path(_library.PATH).resolve()], TOP)
-    assert (tmp_path / WHEEL).read_bytes() == wheel.read_bytes()
+    """Also of a checkout that only its owner can read."""
+    for name in ("python", "tools"):
+        shutil.copytree(TOP / name, tmp_path / "tree" / name, ignore=shutil.ignore_patterns("__pycache__"))
+    for path in (tmp_path / "tree").rglob("*"):
+        path.chmod(path.stat().st_mode & 0o700)
+    seconds = os.environ.get("SOURCE_DATE_EPOCH") or run(["git", "log", "-1", "--format=%ct"], TOP).strip()
+    run([tmp_path / "tree" / "tools" / "wheel", tmp_path, pathlib.Path(_library.PATH).resolve()], tmp_path / "tree",
+        SOURCE_DATE_EPOCH=seconds)
+    sums = [sum_of(path.read_bytes()) for path in (tmp_path / WHEEL, wheel)]
+    assert sums[0] == sums[1], "a wheel that is made again has other bytes"
+
+
+@pytest.mark.seconds(5)
+def test_what_a_wheel_asks_for(wheel: pathlib.Path) -> None:
+    """It is what the settings say, and README."""
+    with zipfile.ZipFile(wheel) as archive:
+        named, = [name for name in archive.namelist() if name.endswith(".dist-info/METADATA")]
+        fields = email.message_from_bytes(archive.read(named))
+        modes = {name: archive.getinfo(name).external_attr >> 16 & 0o777 for name in archive.namelist()}
+    project = tomllib.loads((HERE / "pyproject.toml").read_text())["project"]
+    assert (fields["Name"], fields["Version"], fields["Requires-Python"]) == ("pfs", VERSION, ">=3.11")
+    assert fields["Requires-Python"] == project["requires-python"]
+    needed = [re.sub("[ ()]", "", str(each)) for each in fields.get_all("Requires-Dist") or []]
+    assert [each for each in needed if "extra" not in each] == ["numpy>=1.24"], "what a wheel needs"
+    assert {each.split(";")[0] for each in needed} == {
+        *project["dependencies"], *(each for extra in project["optional-dependencies"].values() for each in extra)}
+    readme = (HERE / "README.md").read_text()
+    told = re.search(r"(?:Wants|Needs) Python ([\d.]+) or newer and NumPy", readme)
+    assert told and fields["Requires-Python"] == f">={told[1]}", "the Python that README tells"
+    assert str(fields.get_payload()).strip() == readme.strip()
+    # All users can read each file, and only its owner or group writes it.
+    assert {name: mode for name, mode in modes.items() if mode & 0o444 != 0o444 or mode & 0o002} == {}
 
 
 def test_no_library_no_wheel(tmp_path: pathlib.Path) -> None:

@@ -1,8 +1,8 @@
 #!/usr/bin/env python3
 """The definitions of the crates, and which of them the contracts of public functions rest on: those that such a
-contract cites, and those that these are written with. Run alone it prints docs/REACHED.md, which lists them.
+contract cites, and those that these are written with. Run alone it prints a page that lists them.
 
-usage: tests/support/definitions.py > docs/REACHED.md"""
+usage: tests/support/definitions.py"""
 import pathlib
 import re
 from collections.abc import Callable
@@ -148,8 +148,7 @@ HEADING = """# What the contracts rest on
 
 Each definition that the contracts of public functions cite, and each that these are written with, down to std and \
 the kit's crates, with its comment in the source. [DEFINITIONS.md](DEFINITIONS.md) has those that are cited in plain \
-words, and is the page to begin with. This page is made by `tests/support/definitions.py > docs/REACHED.md`, and \
-compared by the tests.
+words, and is the page to begin with. `tests/support/definitions.py` makes this page of the sources.
 """
 
 

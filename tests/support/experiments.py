@@ -13,7 +13,7 @@ from support.program import Program
 from support.tools import Told, told_by, write_script
 
 PLAN = """instances = ["shops/*"]
-rounds = [0, 30]
+rounds = [10, 30]
 seeds = [1, 2, 3]
 """
 SHOPS = {"a": (20, 5, 873654221), "b": (3, 2, 7)}
@@ -70,7 +70,7 @@ class Experiment(NamedTuple):
         assert ran.status == 0, ran
         return ran.stdout.decode()
 
-    def wanted(self, rounds: Sequence[int] = (0, 30), seeds: Sequence[int] = (1, 2, 3)) -> list[Row]:
+    def wanted(self, rounds: Sequence[int] = (10, 30), seeds: Sequence[int] = (1, 2, 3)) -> list[Row]:
         """The rows of the plan, each by its own search and audit."""
         return [self.wanted_row(f"shops/{name}", SHOPS[name], many, seed)
                 for name, many, seed in itertools.product(SHOPS, rounds, seeds)]

@@ -44,6 +44,9 @@ ANSWERS: dict[str, Ran] = {
     "solve three --layout=taillard --cells --rounds=5": Ran(b"order2 3 2\n2 1 3\nmakespan 10\ncells 216\n", b"", 0),
     "solve --layout taillard --cells ones": Ran(b"order2 3 2\n3 2 1\nmakespan 4\ncells 36\n", b"", 0),
     "solve --layout taillard --cells one": Ran(b"order2 1 1\n1\nmakespan 0\ncells 2\n", b"", 0),
+    "solve --layout taillard --cells eight": Ran(b"order2 8 3\n3 1 5 8 4 2 6 7\nmakespan 564\ncells 384\n", b"", 0),
+    "solve --layout taillard --rounds 5 --take 2 --seed 7 --passes 1 --cells eight": Ran(
+        b"order2 8 3\n3 5 8 1 4 2 7 6\nmakespan 564\ncells 4824\n", b"", 0),
     "solve --layout taillard --take 4 three": Ran(b"", b"pfs: take 4 exceeds 3 jobs\n", 3),
     "solve --layout taillard --take 4 --rounds 5 three": Ran(b"", b"pfs: take 4 exceeds 3 jobs\n", 3),
     "solve --layout taillard --take 4 mixed": Ran(b"", b"pfs: mixed line at 118\n", 2),

@@ -1,6 +1,6 @@
-"""What a test needs beside the built program. Where it isn't there the test is skipped, and says what to install. In CI
-(where the variable CI is `true`) all of it has to be there: any skip is a failure then. A plugin of pytest, which
-conftest.py names."""
+"""What a test needs besides the built program. If it is missing, the test is skipped, with the package to install as
+the reason. In CI (with the variable CI set to `true`) nothing may be missing: any skip is a failure. A plugin of
+pytest, which conftest.py names."""
 import importlib.util
 import os
 import shutil
@@ -8,23 +8,7 @@ from collections.abc import Generator
 from typing import Any, NoReturn
 
 import pytest
-
-# Debian's package of a command or of a module of Python, where its name is another one.
-PACKAGES = {
-    "bash_completion": "bash-completion",
-    "cc": "gcc",
-    "ar": "binutils",
-    "dpkg-deb": "dpkg",
-    "matplotlib": "python3-matplotlib",
-    "munged": "munge",
-    "nm": "binutils",
-    "prlimit": "util-linux",
-    "readelf": "binutils",
-    "scipy": "python3-scipy",
-    "slurmctld": "slurm-wlm",
-    "ssh": "openssh-client",
-    "sshd": "openssh-server",
-}
+from support.packages import package_of
 
 
 def need(command: str) -> str:
@@ -40,8 +24,9 @@ def need_module(name: str) -> None:
 
 
 def not_installed(name: str) -> NoReturn:
-    """Skips the test, for want of a command or a module of this name."""
-    missing(f"{name} isn't installed (Debian: {PACKAGES.get(name, name)})")
+    """Skips the test, with the package of this command or module as the reason."""
+    package = package_of(name)
+    missing(f"{name} isn't installed" + (f" (Debian: {package})" if package else ""))
 
 
 def missing(why: str) -> NoReturn:

@@ -22,7 +22,7 @@ impl Files for SystemFiles<'_> {
 
     ghost standing = { λ files path. untold };
 
-    ghost asked = { λ files. None };
+    ghost log = { λ files. None };
 
     fn open(&mut self, path: &PathText) -> Result<FromRead<File>, OpenFault> {
         match File::open(self.rt, path.as_str()) {
@@ -31,6 +31,8 @@ impl Files for SystemFiles<'_> {
             Err(_) => Err(OpenFault::Closed),
         }
     }
+
+    fn close(&mut self, _file: FromRead<File>) {}
 }
 
 fn main(rt: HostRuntime) -> ExitCode {

@@ -1,5 +1,6 @@
 -- Lemmas that the proofs of crates above may cite.
 pub mod BufferLemmas
+pub mod Ends
 pub mod Heads
 pub mod Heaviest
 pub mod Lists

@@ -1,23 +1,26 @@
 //! Readers and writers that may fail.
 ghost use Rattle.std.specs.Prelude.{◌≡◌, ℕ, ◌+◌, ◌<◌, ◌^◌, List, Option, length, Bool, false};
-ghost use Rattle.pfs_base.specs.Device.{Reads, Writes, fails_after};
+ghost use Rattle.pfs_base.specs.Device.{Reads, Writes, ends_after, fails_after};
 ghost use Rattle.pfs_base.specs.Sends.{Sends};
 
 use thiserror::Error;
 
-/// A reader of bytes. Contracts see the bytes that are left, where they are told, and whether a read has
-/// failed.
+/// A reader of bytes. Contracts see the bytes that are left, where they are known, whether a read has
+/// failed, and whether a read has reported the end of the bytes.
 pub trait Source {
     ghost left: { Self → Option (List ℕ) };
 
     ghost has_failed: { Self → Bool };
 
-    /// Reads some bytes into the front of `buf`, and says how many; 0 is the end of the bytes, if `buf`
-    /// isn't empty. `None` is a failure, and moves no byte. A source that has failed isn't read again.
+    ghost has_ended: { Self → Bool };
+
+    /// Reads some bytes into the front of `buf` and returns their number; 0 reports the end of the bytes, if
+    /// `buf` isn't empty. `None` is a failure, and moves no byte. A source that has failed isn't read again.
     fn read(&mut self, buf: &mut [u8]) -> Option<usize>
         requires working { has_failed self.old ≡ false }
         ensures bytes { Reads (left self.old) (left self.new) result buf.new }
-        ensures failed { has_failed self.new ≡ fails_after (has_failed self.old) result };
+        ensures failed { has_failed self.new ≡ fails_after (has_failed self.old) result }
+        ensures ended { has_ended self.new ≡ ends_after (has_ended self.old) result (length buf.new) };
 
     /// Whether a read has failed.
     fn failed(&self) -> bool

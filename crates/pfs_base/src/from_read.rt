@@ -4,23 +4,26 @@ ghost use Rattle.std.specs.Prelude.{◌≡◌, false};
 use crate::device::Source;
 use std::io::Read;
 
-/// A source over a reader of std. A read fails where the reader's call answers an error, an interrupted
+/// A source over a reader of std. A read fails where the reader's call returns an error, an interrupted
 /// call too: nothing is tried again.
 #[derive(Drop)]
 pub struct FromRead<R> {
     reader: R,
     failed: bool,
+    ended: bool,
 }
 
 impl<R: Read> FromRead<R> {
-    /// A source of the bytes that the reader has left, which hasn't failed.
+    /// A source of the bytes that the reader has left. It hasn't failed, and hasn't reported the end.
     pub fn new(reader: R) -> FromRead<R>
         ensures left { ⟦<FromRead<R> as Source>⟧.left result ≡ R.remaining reader }
         ensures failed { ⟦<FromRead<R> as Source>⟧.has_failed result ≡ false }
+        ensures ended { ⟦<FromRead<R> as Source>⟧.has_ended result ≡ false }
     {
         FromRead {
             reader,
             failed: false,
+            ended: false,
         }
     }
 }
@@ -30,9 +33,16 @@ impl<R: Read> Source for FromRead<R> {
 
     ghost has_failed = { λ s. s.failed };
 
+    ghost has_ended = { λ s. s.ended };
+
     fn read(&mut self, buf: &mut [u8]) -> Option<usize> {
         match self.reader.read(buf) {
-            Ok(n) => Some(n),
+            Ok(n) => {
+                if n == 0 && !buf.is_empty() {
+                    self.ended = true;
+                }
+                Some(n)
+            }
             Err(_) => {
                 self.failed = true;
                 None

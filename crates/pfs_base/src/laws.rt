@@ -4,6 +4,10 @@ ghost use Rattle.pfs_base.specs.Longest.{longest_makespan, NoneLonger};
 ghost use Rattle.pfs_base.specs.Paths.{HeaviestLaw, MakespanLaw, OneMakespan, RecurrenceLaw};
 
 use crate::bench::SPAN_MAX;
+use crate::limits::{
+    GREATEST_NOTE, LONGEST_INPUT, LONGEST_ORDER_FILE, LONGEST_TIME, MOST_BLOCKS, MOST_JOBS,
+    MOST_MACHINES, MOST_PASSES, MOST_ROUNDS,
+};
 
 /// Between any two cells, of which the second is neither above nor before the first, some path has the weight of the
 /// heaviest path, and no path weighs more.
@@ -33,4 +37,18 @@ pub fn makespans_fit()
     ensures none_longer { NoneLonger }
     ensures number { longest_makespan ≡ 5199000000000 }
     ensures in_limit { longest_makespan ≤ SPAN_MAX }
+{}
+
+/// The limits, in numerals. Definitions name them, so a changed limit changes what they say.
+pub fn numbers()
+    ensures jobs { MOST_JOBS ≡ 5_000 }
+    ensures machines { MOST_MACHINES ≡ 200 }
+    ensures time { LONGEST_TIME ≡ 1_000_000_000 }
+    ensures note { GREATEST_NOTE ≡ 4_294_967_295 }
+    ensures input { LONGEST_INPUT ≡ 67_108_864 }
+    ensures order_file { LONGEST_ORDER_FILE ≡ 65_536 }
+    ensures blocks { MOST_BLOCKS ≡ 1_000 }
+    ensures passes { MOST_PASSES ≡ 100 }
+    ensures rounds { MOST_ROUNDS ≡ 1_000_000 }
+    ensures span { SPAN_MAX ≡ 1_000_000_000_000_000 }
 {}

@@ -1,5 +1,5 @@
 //! A bench over an instance.
-ghost use Rattle.std.specs.Prelude.{◌≡◌, ℕ, ◌+◌, ◌≤◌, length, map, max, refl};
+ghost use Rattle.std.specs.Prelude.{◌≡◌, ℕ, ◌+◌, ◌<◌, ◌≤◌, ◌^◌, length, map, max, refl};
 ghost use Rattle.std.specs.Int.{cast_signed, cast_unsigned, w64};
 ghost use Rattle.std.specs.Simd.Lanes.{chunk};
 ghost use Rattle.pfs_base.specs.Joins.{greatest_join};
@@ -128,6 +128,23 @@ impl<'a> Metered<'a> {
             times,
             cells: 0,
         }
+    }
+
+    /// Counts cells that another bench computes over the same instance.
+    pub fn count(&mut self, cells: u64)
+        requires room { ⟦<Metered<'a> as Bench>⟧.counted self.old + cells < 2 ^ 64 }
+        ensures counted { ⟦<Metered<'a> as Bench>⟧.counted self.new
+            ≡ ⟦<Metered<'a> as Bench>⟧.counted self.old + cells }
+        ensures shop { ⟦<Metered<'a> as Bench>⟧.shop self.new ≡ ⟦<Metered<'a> as Bench>⟧.shop self.old }
+    {
+        self.cells += cells;
+    }
+
+    /// The length of a number that another bench computed. It counts nothing.
+    pub fn length(&self, number: u64) -> Span
+        ensures { result ≡ number }
+    {
+        Span { number }
     }
 
     /// The number of a length, for printing. It counts nothing.

@@ -1,4 +1,5 @@
 pub mod Answering
+pub mod BestPlaces
 pub mod Jobs
 pub mod MemoryLemmas
 pub mod Rooms

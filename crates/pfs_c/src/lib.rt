@@ -5,6 +5,7 @@
 #![tactic(auto)]
 
 mod given;
+mod inserting;
 mod numbers;
 mod searching;
 mod shop;

@@ -1,5 +1,5 @@
 //! The numbers that the functions answer.
-ghost use Rattle.std.specs.Prelude.{◌≡◌, ◌≢◌};
+ghost use Rattle.std.specs.Prelude.{◌≡◌, ◌≢◌, pos};
 ghost use Rattle.pfs_c.specs.Numbers.{refusal_number};
 
 /// All is done.
@@ -85,6 +85,38 @@ pub const PFS_JOB_TWICE: i32 = 32;
 
 /// The order file is too long.
 pub const PFS_FILE_TOO_LONG: i32 = 33;
+
+/// The numbers, in numerals, as `lib/pfs.h` has them.
+pub fn numbers()
+    ensures ok { PFS_OK ≡ pos 0 }
+    ensures memory { PFS_MEMORY ≡ pos 1 }
+    ensures size { PFS_SIZE ≡ pos 2 }
+    ensures length { PFS_LENGTH ≡ pos 3 }
+    ensures time { PFS_TIME ≡ pos 4 }
+    ensures job { PFS_JOB ≡ pos 5 }
+    ensures repeated { PFS_REPEATED ≡ pos 6 }
+    ensures take { PFS_TAKE ≡ pos 7 }
+    ensures passes { PFS_PASSES ≡ pos 8 }
+    ensures rounds { PFS_ROUNDS ≡ pos 9 }
+    ensures seed { PFS_SEED ≡ pos 10 }
+    ensures layout { PFS_LAYOUT ≡ pos 11 }
+    ensures block { PFS_BLOCK ≡ pos 12 }
+    ensures makespan { PFS_MAKESPAN ≡ pos 13 }
+    ensures room { PFS_ROOM ≡ pos 14 }
+    ensures no_block { PFS_NO_BLOCK ≡ pos 20 }
+    ensures size_count { PFS_SIZE_COUNT ≡ pos 21 }
+    ensures size_range { PFS_SIZE_RANGE ≡ pos 22 }
+    ensures mixed_line { PFS_MIXED_LINE ≡ pos 23 }
+    ensures time_range { PFS_TIME_RANGE ≡ pos 24 }
+    ensures machine_number { PFS_MACHINE_NUMBER ≡ pos 25 }
+    ensures extra_number { PFS_EXTRA_NUMBER ≡ pos 26 }
+    ensures truncated { PFS_TRUNCATED ≡ pos 27 }
+    ensures input_too_long { PFS_INPUT_TOO_LONG ≡ pos 28 }
+    ensures syntax { PFS_SYNTAX ≡ pos 30 }
+    ensures job_range { PFS_JOB_RANGE ≡ pos 31 }
+    ensures job_twice { PFS_JOB_TWICE ≡ pos 32 }
+    ensures file_too_long { PFS_FILE_TOO_LONG ≡ pos 33 }
+{}
 
 /// Why a function doesn't do what it is asked for, with the number that C is told.
 #[derive(Clone, Copy)]

@@ -15,10 +15,11 @@ use crate::given::{
     NO_NOTES, instance_of, judge_job, judge_jobs, judge_length, judge_shop, judge_sizes,
     judge_times, order_of, sequence_of,
 };
+use crate::inserting::best_place;
 use crate::numbers::{PFS_OK, Refusal};
 use pfs_audit::{TimeTable, bound, makespan, table};
 use pfs_base::Instance;
-use pfs_insert::{HeadsTails, Inserter, Placed};
+use pfs_insert::Placed;
 use pfs_layout::generate;
 use std::alloc::Global;
 
@@ -216,15 +217,7 @@ fn best_of(
     judge_job(jobs, sequence, job)?;
     let instance = instance_of(alloc, times, jobs, machines, NO_NOTES)?;
     let sequence = sequence_of(alloc, jobs, sequence)?;
-    let mut bench = instance.metered();
-    let mut inserter = HeadsTails::new(alloc, &bench).or(Err(Refusal::Memory))?;
-    let best = inserter
-        .best(alloc, &mut bench, &sequence, job as usize)
-        .or(Err(Refusal::Memory))?;
-    Ok(Placed {
-        place: best.place,
-        span: bench.reveal(best.span),
-    })
+    best_place(alloc, &instance, &sequence, job as usize)
 }
 
 /// Draws times from 1 to 99 from a seed, as Taillard (1993) does for his benchmark.

@@ -16,8 +16,8 @@ pub(crate) fn insertions_call(rt: &HostRuntime, words: &[String]) -> Result<(), 
     insert_all(rt, &instance)
 }
 
-// That a job can be inserted.
-fn insertable(instance: &Instance, seq: &Seq, job: usize) -> Result<(), Stop>
+/// That a job can be inserted.
+pub(crate) fn insertable(instance: &Instance, seq: &Seq, job: usize) -> Result<(), Stop>
     ensures sizes { OnOk result (seq.now.size ≡ instance.now.shop.jobs) }
     ensures job { OnOk result (job < seq.now.size) }
     ensures absent { OnOk result (Contains seq.now.jobs job → ⊥) }

@@ -12,6 +12,7 @@ mod plans;
 mod rounds;
 mod search;
 mod still;
+mod wavefronts;
 mod words;
 
 use blocks::{cuts_call, pieces_call};
@@ -41,6 +42,7 @@ use still::{
     still_audit, still_best, still_feed, still_generate, still_put, still_read_block,
     still_read_order, still_search, still_write,
 };
+use wavefronts::wavefronts_call;
 
 const FILE: &[u8] = b"title :\n3 2 0 0 0\nprocessing times :\n3 2 4\n2 5 1\n";
 
@@ -162,6 +164,7 @@ fn answer_of(rt: &HostRuntime, words: &[String]) -> Result<(), Stop> {
         "cuts" => cuts_call(rt, rest),
         "pieces" => pieces_call(rt, rest),
         "insertions" => insertions_call(rt, rest),
+        "wavefronts" => wavefronts_call(rt, rest),
         "one_round" => one_round_call(rt, rest),
         name => worked_call(rt, name),
     }

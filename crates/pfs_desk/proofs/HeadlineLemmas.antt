@@ -14,7 +14,7 @@ use Rattle.pfs_desk.specs.declared.fault.DeskFault.{DeskFault}
 use Rattle.pfs_desk.specs.declared.fault.DeskFault.TheVariants as faults
 use Rattle.pfs_desk.specs.declared.fault.Outcome.{Outcome}
 use Rattle.pfs_words.specs.declared.solve_options.SolveOptions.{SolveOptions}
-use Rattle.pfs_desk.specs.Engine.{JudgesFirst, JudgesTake, ReadsBlock, RefusesNoOrder, WritesOutput, WritesNothing}
+use Rattle.pfs_desk.specs.Engine.{IsSolveFault, WritesOutput, WritesNothing, layout_fault_of}
 use Rattle.pfs_desk.specs.Engine.{SolveOutput}
 use Rattle.pfs_desk.specs.Headline.{PrintsSolution, ReadsOn, RunsOn, Solves}
 use Rattle.pfs_desk.specs.Solve.{take_for}
@@ -65,10 +65,10 @@ module _ (layout : Layout) (file : List ℕ) (block : ℕ) (some : 1 ≤ block) 
   -- the file is refused
   refused_file : (fault : LayoutFault) → WritesNothing old new writer_failed
       → (fault ≢ layout_faults.Read → fault ≢ layout_faults.Memory → RefusesInstance layout file block fault)
-      → (refusing fault ≡ refusing layout_faults.Read → reader_failed ≡ true) → IsAnswer (refusing fault)
+      → (Some fault ≡ Some layout_faults.Read → reader_failed ≡ true) → IsAnswer (refusing fault)
   refused_file fault nothing refuses failed =
       let told : ReadsOn reader_failed (refusing fault) → RefusesInstance layout file block fault = λ reads. refuses
-      (λ e. true≢false (sym (failed (ap refusing e)) ∙ reads.reading)) (λ e. reads.room (ap refusing e)) in
+      (λ e. true≢false (sym (failed (ap Some e)) ∙ reads.reading)) (λ e. reads.room (ap refusing e)) in
       record {
         accepted = λ problem holds few runs. absurd (not_both problem fault holds (told runs.reads));
         refused = λ other refuses_other reads. record {
@@ -80,18 +80,17 @@ module _ (layout : Layout) (file : List ℕ) (block : ℕ) (some : 1 ≤ block) 
 
   answers : (result : Result Outcome DeskFault)
       → WritesOutput (SolveOutput layout (Some file) block options) old new writer_failed result
-      → IfErr result (JudgesFirst layout (Some file) block)
-      → (result ≡ refusing layout_faults.Read → reader_failed ≡ true)
-      → IfErr result RefusesNoOrder → IfErr result (JudgesTake layout (Some file) block options.take) → IsAnswer result
-  answers (Ok outcome) writes first read no_order take =
+      → IfErr result (IsSolveFault layout (Some file) block options.take)
+      → (layout_fault_of result ≡ Some layout_faults.Read → reader_failed ≡ true) → IsAnswer result
+  answers (Ok outcome) writes fault read =
       let output = writes.is_output in
       let solution = output.solution in
       let few = solution.few_taken in
       held output.problem output.holds (rw solution.taken at few)
       (λ runs. record { done = ap Ok output.done; text = writes.text; solution = solution; bytes = writes.bytes })
-  answers (Err (faults.Layout fault)) nothing first read no_order take = refused_file fault nothing first read
-  answers (Err (faults.Order fault)) nothing first read no_order take = absurd no_order
-  answers (Err (faults.TakeRange taken jobs)) nothing first read no_order refused = record {
+  answers (Err (faults.Layout fault)) nothing first read = refused_file fault nothing first.1 read
+  answers (Err (faults.Order fault)) nothing refused read = absurd refused
+  answers (Err (faults.TakeRange taken jobs)) nothing refused read = record {
     accepted = λ problem holds few runs.
         absurd (too_many_taken refused.problem problem taken refused.holds holds few refused.above.0 refused.above.1);
     refused = λ told refuses reads. absurd (not_both refused.problem told refused.holds refuses);
@@ -103,23 +102,21 @@ module _ (layout : Layout) (file : List ℕ) (block : ℕ) (some : 1 ≤ block) 
       kept = nothing.kept;
     };
   }
-  answers (Err (faults.Write fault)) front first read no_order take =
+  answers (Err (faults.Write fault)) front refused read =
       let solution = front.is_output.solution in
       let few = solution.few_taken in
       held front.is_output.problem front.is_output.holds (rw solution.taken at few)
       (λ runs. absurd (true≢false (sym front.front.stopped ∙ runs.writing)))
-  answers (Err faults.Memory) writes first read no_order allowed =
+  answers (Err faults.Memory) writes allowed read =
       held allowed.problem allowed.holds allowed.within (λ runs. absurd (runs.room refl))
 
 -- what a `solve` does that writes its output or nothing, and judges the file and then the take
-pub solves : (file left : Option (List ℕ)) (layout : Layout) (block : ℕ) (options : SolveOptions)
+pub solves : (file : Option (List ℕ)) (layout : Layout) (block : ℕ) (options : SolveOptions)
     (old new : Option (List ℕ)) (reader_failed writer_failed : Bool) (result : Result Outcome DeskFault)
     → 1 ≤ block → WritesOutput (SolveOutput layout file block options) old new writer_failed result
-    → ReadsBlock layout block file left reader_failed result → IfErr result RefusesNoOrder
-    → IfErr result (JudgesTake layout file block options.take)
+    → IfErr result (IsSolveFault layout file block options.take)
+    → (layout_fault_of result ≡ Some layout_faults.Read → reader_failed ≡ true)
     → IfSome file (λ bytes. Solves layout bytes block options old new reader_failed writer_failed result)
-solves None left layout block options old new reader_failed writer_failed result some writes reads no_order take = tt
-solves (Some file) left layout block options old new reader_failed writer_failed result
-    some writes reads no_order take =
-    answers layout file block some options old new reader_failed writer_failed result
-    writes reads.refused reads.read.0 no_order take
+solves None layout block options old new reader_failed writer_failed result some writes fault read = tt
+solves (Some file) layout block options old new reader_failed writer_failed result some writes fault read =
+    answers layout file block some options old new reader_failed writer_failed result writes fault read

@@ -1,21 +1,34 @@
 -- From what is written into a buffer to what stands behind it once it was let out.
-use Rattle.std.proofs.Common.{◌≡◌, ℕ, ◌≤◌, Bool, List, [], ◌∷◌, ◌++◌, Option, None, Some, Result, Ok, Err}
-use Rattle.std.proofs.Common.{length, take, sym, ap, subst, ◌∙◌, refl, arith, take-take}
+use Rattle.std.proofs.Common.{◌≡◌, ℕ, ◌≤◌, Bool, false, List, [], ◌∷◌, ◌++◌, Option, None, Some, Result, Ok, Err}
+use Rattle.std.proofs.Common.{length, map, take, sym, ap, subst, ◌∙◌, refl, arith, take-take, inl, inr, true≢false}
 use Rattle.std.proofs.Common.{length-append, length-take}
 use Rattle.std.proofs.Math.Seq.{take-append_seam, take-length}
 use Rattle.std.specs.Io.KnownBytes.{Appends, Keeps}
 use Rattle.pfs_base.specs.Buffer.{Buffering, IsNew, bytes_given}
 use Rattle.pfs_base.proofs.Published.BufferLemmas.{Parts, new_given, given_parts, given_all}
-use Rattle.pfs_desk.specs.declared.fault.DeskFault.{DeskFault}
+use Rattle.pfs_layout.specs.declared.layout.Layout.TheVariants.{Taillard}
+use Rattle.pfs_words.specs.declared.job.Job.{Job}
+use Rattle.pfs_words.specs.declared.job.Job.TheVariants as job
+use Rattle.pfs_words.specs.Jobs.{AsksFor, AsksForNothing}
+use Rattle.pfs_words.specs.declared.usage.UsageFault.{UsageFault}
+use Rattle.pfs_words.specs.declared.usage.UsageFault.TheVariants as usage_faults
 use Rattle.pfs_desk.specs.declared.fault.DeskFault.TheVariants as faults
 use Rattle.pfs_desk.specs.declared.fault.Outcome.{Outcome}
 use Rattle.pfs_desk.specs.declared.stop.Stop.{Stop}
-use Rattle.pfs_desk.specs.declared.stop.Stop.TheVariants as stops
-use Rattle.pfs_desk.specs.Engine.{WritesOutput, WritesAll, WritesFront, WritesNothing}
-use Rattle.pfs_desk.specs.Private.LetsOut.{EndsOutput}
-use Rattle.pfs_desk.specs.Program.{CannotOpen, ending}
-use Rattle.pfs_desk.specs.Standing.{Standing}
-use Rattle.pfs_desk.specs.WholeProgram.{PrintsOn, IsFront, FrontStands}
+use Rattle.pfs_desk.specs.declared.stop.Stop.TheVariants as stops_for
+use Rattle.pfs_desk.specs.Private.LetsOut.{EndsOutput, TellsSent}
+use Rattle.pfs_desk.specs.Engine.{IsUnread, SourceUse}
+use Rattle.pfs_desk.specs.Program.{Answer, prints, stops, WritesAnswer, reports_write}
+use Rattle.pfs_desk.specs.ProgramText.{usage_stop}
+use Rattle.pfs_desk.specs.Standing.{FileEvent, Standing}
+use Rattle.pfs_desk.specs.WholeProgram.{FrontStands, IsFront, RefusesWords, Runs, Stands, WordsAskFor}
+
+pub asks_for : {A : Type 0} (f : A → List ℕ) (words : List A) (asked : Job)
+    → (words ≡ [] → asked ≡ job.Value Taillard 1 None)
+    → ((word : List ℕ) (others : List (List ℕ)) → map f words ≡ word ∷ others → AsksFor word others asked)
+    → WordsAskFor (map f words) asked
+asks_for f [] asked none some = none refl
+asks_for f (x ∷ xs) asked none some = some (f x) (map f xs) refl
 
 appended : (b c : Option (List ℕ)) (text : List ℕ) → Appends (Some []) b text → Keeps b c → c ≡ Some text
 appended None c text p q = absurd p
@@ -43,100 +56,80 @@ none_of_none : (bytes held : List ℕ) → bytes ++ held ≡ [] → bytes ≡ []
 none_of_none [] held p = refl
 none_of_none (x ∷ xs) held p = cc
 
+-- where no write is told, what was answered stays
+stays : (stop : Stop) (held : List ℕ) (sent : ℕ) (ended : Result Outcome Stop) → reports_write (Err stop) ≡ false
+    → EndsOutput (Err stop) held sent ended → ended ≡ Err stop
+stays stops_for.Usage held sent ended untold q = q
+stays stops_for.Open held sent ended untold q = q
+stays (stops_for.Fault (faults.Layout fault)) held sent ended untold q = q
+stays (stops_for.Fault (faults.Order fault)) held sent ended untold q = q
+stays (stops_for.Fault (faults.TakeRange taken jobs)) held sent ended untold q = q
+stays (stops_for.Fault (faults.Write fault)) held sent ended untold q = absurd (true≢false untold)
+stays (stops_for.Fault faults.Memory) held sent ended untold q = q
+
 module _ {W : Type 0} (written : W → Option (List ℕ)) (old mid new : Buffering W)
     (kept : Keeps (bytes_given written mid) (bytes_given written new)) where
   given-text : (text : List ℕ) → Appends (bytes_given written old) (bytes_given written mid) text
       → IsNew written old → bytes_given written new ≡ Some text
   given-text text p fresh = appended _ _ text (rw (new_given written old fresh) at p) kept
 
-  given-nothing : (failed : Bool) → WritesNothing (bytes_given written old) (bytes_given written mid) failed
-      → IsNew written old → written new.writer ≡ Some []
-  given-nothing failed p fresh =
+  given-nothing : bytes_given written mid ≡ bytes_given written old → IsNew written old
+      → written new.writer ≡ Some []
+  given-nothing p fresh =
       let none : Appends (bytes_given written old) (bytes_given written mid) [] =
-      rw (p.kept, new_given written old fresh) refl in
+      rw (p, new_given written old fresh) refl in
       let parts = given_parts written new [] (given-text [] none fresh) in
       parts.told ∙ ap Some (none_of_none parts.bytes new.held parts.whole)
 
-  told-front : (output : Outcome → List ℕ → Type 0) (failed : Bool) (before told : ℕ)
-      → WritesFront output (bytes_given written old) (bytes_given written mid) failed before → told ≡ new.sent
-      → FrontStands output (IsNew written old) (written new.writer) told
-  told-front output failed before told p same = record {
-    outcome = p.outcome;
-    text = p.text;
-    is_output = p.is_output;
-    front = λ fresh. front_of_parts _ new.held new.sent _ told p.text
-        (given_parts written new _ (given-text _ p.front.bytes fresh)) same;
+  front_told : (text : List ℕ) (k : ℕ) (ended : Result Outcome Stop)
+      → Appends (bytes_given written old) (bytes_given written mid) (take k text) → TellsSent new.sent ended
+      → FrontStands text (IsNew written old) (written new.writer) ended
+  front_told text k ended p q = record {
+    fault = q.fault;
+    told = q.told;
+    front = λ fresh. front_of_parts _ new.held new.sent k _ text (given_parts written new _ (given-text _ p fresh))
+        q.counted;
   }
 
-  told-all : (output : Outcome → List ℕ → Type 0) (failed : Bool) (outcome : Outcome) (told : ℕ)
-      → WritesAll output (bytes_given written old) (bytes_given written mid) failed outcome → told ≡ new.sent
-      → FrontStands output (IsNew written old) (written new.writer) told
-  told-all output failed outcome told p same = record {
-    outcome = outcome;
-    text = p.text;
-    is_output = p.is_output;
-    front = λ fresh. front_of_parts _ new.held new.sent (length p.text) told p.text
-        (given_parts written new _ (given-text p.text p.bytes fresh ∙ ap Some (sym (take-length p.text)))) same;
-  }
-
-  told-fault : (output : Outcome → List ℕ → Type 0) (failed : Bool) (ended : Result Outcome Stop) (fault : Stop)
-      → WritesNothing (bytes_given written old) (bytes_given written mid) failed → ended ≡ Err fault
-      → (ended ≡ Err fault) × (IsNew written old → written new.writer ≡ Some [])
-  told-fault output failed ended fault p same = (same, given-nothing failed p)
-
-  pub writes-on : (output : Outcome → List ℕ → Type 0) (failed : Bool) (answer : Result Outcome DeskFault)
-      (ended : Result Outcome Stop)
-      → WritesOutput output (bytes_given written old) (bytes_given written mid) failed answer
-      → EndsOutput (ending answer) new.held new.sent ended
-      → PrintsOn output (IsNew written old) (written new.writer) answer ended
-  writes-on output failed (Ok outcome) (Ok ended) p q = (
-    q.0,
-    record {
-      text = p.text;
-      is_output = p.is_output;
-      stands = λ fresh. given_all written new p.text (given-text p.text p.bytes fresh) q.1;
-    },
-  )
-  writes-on output failed (Ok outcome) (Err stops.Usage) p q = absurd q
-  writes-on output failed (Ok outcome) (Err stops.Open) p q = absurd q
-  writes-on output failed (Ok outcome) (Err (stops.Fault (faults.Layout fault))) p q = absurd q
-  writes-on output failed (Ok outcome) (Err (stops.Fault (faults.Order fault))) p q = absurd q
-  writes-on output failed (Ok outcome) (Err (stops.Fault (faults.TakeRange take jobs))) p q = absurd q
-  writes-on output failed (Ok outcome) (Err (stops.Fault (faults.Write fault))) p q =
-      told-all output failed outcome fault.written p q
-  writes-on output failed (Ok outcome) (Err (stops.Fault faults.Memory)) p q = absurd q
-  writes-on output failed (Err (faults.Write before)) (Ok ended) p q = absurd q
-  writes-on output failed (Err (faults.Write before)) (Err stops.Usage) p q = absurd q
-  writes-on output failed (Err (faults.Write before)) (Err stops.Open) p q = absurd q
-  writes-on output failed (Err (faults.Write before)) (Err (stops.Fault (faults.Layout fault))) p q = absurd q
-  writes-on output failed (Err (faults.Write before)) (Err (stops.Fault (faults.Order fault))) p q = absurd q
-  writes-on output failed (Err (faults.Write before)) (Err (stops.Fault (faults.TakeRange take jobs))) p q = absurd q
-  writes-on output failed (Err (faults.Write before)) (Err (stops.Fault (faults.Write fault))) p q =
-      told-front output failed before.written fault.written p q
-  writes-on output failed (Err (faults.Write before)) (Err (stops.Fault faults.Memory)) p q = absurd q
-  writes-on output failed (Err (faults.Layout fault)) ended p q =
-      subst (PrintsOn output (IsNew written old) (written new.writer) (Err (faults.Layout fault))) (sym q)
-      (refl, given-nothing failed p)
-  writes-on output failed (Err (faults.Order fault)) ended p q =
-      subst (PrintsOn output (IsNew written old) (written new.writer) (Err (faults.Order fault))) (sym q)
-      (refl, given-nothing failed p)
-  writes-on output failed (Err (faults.TakeRange take jobs)) ended p q =
-      subst (PrintsOn output (IsNew written old) (written new.writer) (Err (faults.TakeRange take jobs))) (sym q)
-      (refl, given-nothing failed p)
-  writes-on output failed (Err faults.Memory) ended p q =
-      subst (PrintsOn output (IsNew written old) (written new.writer) (Err faults.Memory)) (sym q)
-      (refl, given-nothing failed p)
-
-  pub stops-on : (standing : Standing) (failed : Bool) (reached ended : Result Outcome Stop)
-      → CannotOpen standing reached
-      → WritesNothing (bytes_given written old) (bytes_given written mid) failed
+  pub stands : (failed failed' : Bool) (answer : Answer) (reached ended : Result Outcome Stop)
+      → failed ≡ reports_write reached → failed' ≡ reports_write ended
+      → WritesAnswer (bytes_given written old) (bytes_given written mid) failed answer reached
       → EndsOutput reached new.held new.sent ended
-      → (ended ≡ reached) × (IsNew written old → written new.writer ≡ Some [])
-  stops-on standing failed (Ok outcome) ended c p q = absurd c
-  stops-on standing failed (Err stops.Usage) ended c p q = absurd c
-  stops-on standing failed (Err stops.Open) ended c p q = (q, given-nothing failed p)
-  stops-on standing failed (Err (stops.Fault (faults.Layout fault))) ended c p q = absurd c
-  stops-on standing failed (Err (stops.Fault (faults.Order fault))) ended c p q = absurd c
-  stops-on standing failed (Err (stops.Fault (faults.TakeRange take jobs))) ended c p q = absurd c
-  stops-on standing failed (Err (stops.Fault (faults.Write fault))) ended c p q = absurd c
-  stops-on standing failed (Err (stops.Fault faults.Memory)) ended c p q = (q, given-nothing failed p)
+      → Stands (IsNew written old) (written new.writer) failed' answer ended
+  stands failed failed' (prints outcome text) reached ended t t' (inl p) q =
+      all-stand (subst (λ r. EndsOutput r new.held new.sent ended) p.0 q) where
+        all-stand : EndsOutput (Ok outcome) new.held new.sent ended
+            → Stands (IsNew written old) (written new.writer) failed' (prints outcome text) ended
+        all-stand (inl r) = inl (r.0, λ fresh. given_all written new text (given-text text p.1 fresh) r.1)
+        all-stand (inr r) = inr (front_told text (length text) ended (rw (take-length text) p.1) r)
+  stands failed failed' (prints outcome text) reached ended t t' (inr p) q =
+      inr (front_told text _ ended p.front.bytes (subst (λ r. EndsOutput r new.held new.sent ended) p.reported q))
+  stands failed failed' (stops stop) reached ended t t' p q =
+      let untold : reports_write (Err stop) ≡ false = subst (λ r. reports_write r ≡ false) p.0 (sym t ∙ p.1) in
+      let same = stays stop new.held new.sent ended untold (subst (λ r. EndsOutput r new.held new.sent ended) p.0 q) in
+      (same, t' ∙ subst (λ r. reports_write r ≡ false) (sym same) untold, given-nothing p.2)
+
+-- the words ask for nothing, or memory was refused
+refuses_words : {A : Type 0} (f : A → List ℕ) (words : List A) (fault : UsageFault) → (words ≡ [] → ⊥)
+    → ((word : List ℕ) (others : List (List ℕ)) → map f words ≡ word ∷ others → fault ≡ usage_faults.Usage
+    → AsksForNothing word others) → RefusesWords (map f words) (stops (usage_stop fault))
+refuses_words f [] fault some usage = absurd (some refl)
+refuses_words f (x ∷ xs) usage_faults.Usage some usage = usage (f x) (map f xs) refl refl
+refuses_words f (x ∷ xs) usage_faults.Memory some usage = tt
+
+usage_tells : (fault : UsageFault) → reports_write (Err (usage_stop fault)) ≡ false
+usage_tells usage_faults.Usage = refl
+usage_tells usage_faults.Memory = refl
+
+pub gives_refusal : {A : Type 0} (f : A → List ℕ) (words : List A) (standing : List ℕ → Standing)
+    (log : Option (List FileEvent)) (input : SourceUse) (fresh : Type 0) (out : Option (List ℕ)) (failed : Bool)
+    (fault : UsageFault) (ended : Result Outcome Stop) → ended ≡ Err (usage_stop fault) → IsUnread input
+    → failed ≡ false → (fresh → out ≡ Some []) → (words ≡ [] → ⊥)
+    → ((word : List ℕ) (others : List (List ℕ)) → map f words ≡ word ∷ others → fault ≡ usage_faults.Usage
+    → AsksForNothing word others) → Runs (map f words) standing log log input fresh out failed ended
+gives_refusal f words standing log input fresh out failed fault ended e unread working nothing some usage = record {
+  answer = stops (usage_stop fault);
+  is_answer = inl (record { refused = refuses_words f words fault some usage; none_opened = refl; unread = unread });
+  is_written = (e, working, nothing);
+  write_failed = working ∙ sym (subst (λ r. reports_write r ≡ false) (sym e) (usage_tells fault));
+}

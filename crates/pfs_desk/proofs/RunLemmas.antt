@@ -1,251 +1,250 @@
--- What a job's run says of its output, said of another one: each engine's other clauses stay as they are.
-use Rattle.std.proofs.Common.{◌≡◌, ℕ, Bool, false, List, [], ◌∷◌, Option, None, Some, Result, Ok, Err, IfOk}
-use Rattle.std.proofs.Common.{map, inl, inr, sym, subst, refl}
+-- From what an engine answers to what its job comes to.
+use Rattle.std.proofs.Common.{◌≡◌, ℕ, Bool, false, List, [], ◌∷◌, ◌++◌, Option, None, Some, Result, Ok, Err, IfErr}
+use Rattle.std.proofs.Common.{inl, inr, sym, subst, refl, ◌∙◌, ap, append_assoc, append-nil}
 use Rattle.pfs_layout.specs.declared.layout.Layout.{Layout}
-use Rattle.pfs_layout.specs.declared.layout.Layout.TheVariants.{Taillard}
+use Rattle.pfs_layout.specs.declared.fault.LayoutFault.{LayoutFault}
 use Rattle.pfs_words.specs.declared.job.Job.{Job}
-use Rattle.pfs_words.specs.declared.job.Job.TheVariants as job
-use Rattle.pfs_words.specs.declared.solve_options.SolveOptions.{SolveOptions}
-use Rattle.pfs_words.specs.Jobs.{AsksFor}
 use Rattle.pfs_desk.specs.declared.fault.DeskFault.{DeskFault}
+use Rattle.pfs_desk.specs.declared.fault.DeskFault.TheVariants as faults
 use Rattle.pfs_desk.specs.declared.fault.Outcome.{Outcome}
+use Rattle.pfs_desk.specs.declared.files.OpenFault.{OpenFault}
+use Rattle.pfs_desk.specs.declared.files.OpenFault.TheVariants as open_faults
 use Rattle.pfs_desk.specs.declared.stop.Stop.{Stop}
-use Rattle.pfs_desk.specs.Engine.{WritesOutput, ValueOutput, SolveOutput, CheckOutput, TableOutput, ConvertOutput}
-use Rattle.pfs_desk.specs.Engine.{GenerateOutput}
-use Rattle.pfs_desk.specs.Program.{CannotOpen, Writing, StopsAtOpening, RunsAlone, RunsAudit, RunsConvert}
-use Rattle.pfs_desk.specs.Program.{RunsGenerate, RunsJob, RunsSolve, RunsValue, WithFile, WithFiles, ending, writing_of}
-use Rattle.pfs_desk.specs.Standing.{Standing}
-use Rattle.pfs_desk.specs.WholeProgram.{WordsAskFor}
+use Rattle.pfs_desk.specs.declared.stop.Stop.TheVariants.{Fault}
+use Rattle.pfs_desk.specs.Engine.{WritesOutput, IsAuditFault, SourceUse, IsUnread, ReadsBlock, ReadsOrder}
+use Rattle.pfs_desk.specs.Engine.{layout_fault_of, order_fault_of}
+use Rattle.pfs_desk.specs.Private.LetsOut.{ending, OpensBoth, RefusesOne}
+use Rattle.pfs_desk.specs.Program.{Answer, prints, stops, layout_fault_in, order_fault_in, closing}
+use Rattle.pfs_desk.specs.Program.{StopsAtPath, ReadsFiles, IsAnswerOf, AnswersOn, AnswersOnBoth, AnswersJob, RunsJob}
+use Rattle.pfs_desk.specs.Program.{Delivers}
+use Rattle.pfs_desk.specs.Program.{paths_of, WritesAnswer, reports_write}
+use Rattle.pfs_desk.specs.ProgramText.{open_stop}
+use Rattle.pfs_desk.specs.Standing.{Standing, FileEvent, opened, refused, Logs, MayOpen, MayRefuse}
 
-pub asks_for : {A : Type 0} (f : A → List ℕ) (words : List A) (asked : Job)
-    → (words ≡ [] → asked ≡ job.Value Taillard 1 None)
-    → ((word : List ℕ) (others : List (List ℕ)) → map f words ≡ word ∷ others → AsksFor word others asked)
-    → WordsAskFor (map f words) asked
-asks_for f [] asked none some = none refl
-asks_for f (x ∷ xs) asked none some = some (f x) (map f xs) refl
+pub logs_then : (a b c : Option (List FileEvent)) (xs ys : List FileEvent) → Logs a b xs → Logs b c ys
+    → Logs a c (xs ++ ys)
+logs_then None b c xs ys p q = tt
+logs_then (Some x) b c xs ys p q = (rw p at q) ∙ ap Some (append_assoc x xs ys)
 
--- a file that is read by an engine
-abbrev ReadingOne : Type 1
-ReadingOne = Option (List ℕ) → Option (List ℕ) → Bool → Result Outcome DeskFault → Type 0
+pub logs_none : (a : Option (List FileEvent)) → Logs a a []
+logs_none None = tt
+logs_none (Some x) = ap Some (sym (append-nil x))
 
-abbrev ReadingTwo : Type 1
-ReadingTwo = Option (List ℕ) → Option (List ℕ) → Bool → Option (List ℕ) → Option (List ℕ) → Bool
-    → Result Outcome DeskFault → Type 0
+-- no file was opened
+pub reads_none : (standing : List ℕ → Standing) (log : Option (List FileEvent)) → ReadsFiles standing log log [] []
+reads_none standing log = record { give = tt; events = logs_none log }
 
-module _ (result : Result Outcome Stop) (U U' : Type 0) (V V' : Writing)
-    (stop : (standing : Standing) → CannotOpen standing result → U → U')
-    (write : (output : Outcome → List ℕ → Type 0) (answer : Result Outcome DeskFault) → result ≡ ending answer
-    → V output answer → V' output answer)
-    (standing : List ℕ → Standing) (asked asked' : Option (List (List ℕ))) where
-  stops-map : (path : List ℕ) (between : Option (List (List ℕ))) → StopsAtOpening standing between asked' path U result
-      → StopsAtOpening standing between asked' path U' result
-  stops-map path between p = record {
-    closed = p.closed;
-    asks = p.asks;
-    nothing = stop (standing path) p.closed p.nothing;
+-- one file was opened, read and given back
+pub reads_file : (standing : List ℕ → Standing) (log between log' : Option (List FileEvent)) (path : List ℕ)
+    (file : SourceUse) → MayOpen (standing path) file.given → file.was_ended ≡ false
+    → Logs log between (opened path ∷ []) → Logs between log' (closing file ∷ [])
+    → ReadsFiles standing log log' (path ∷ []) (file ∷ [])
+reads_file standing log between log' path file give fresh opens closes =
+    record { give = (give, fresh, tt); events = logs_then log between log' _ _ opens closes }
+
+-- or two were
+pub reads_files : (standing : List ℕ → Standing) (log opens closes log' : Option (List FileEvent))
+    (path order_path : List ℕ) (file orders : SourceUse)
+    → OpensBoth standing log opens path order_path file.given orders.given → file.was_ended ≡ false
+    → orders.was_ended ≡ false → Logs opens closes (closing file ∷ [])
+    → Logs closes log' (closing orders ∷ [])
+    → ReadsFiles standing log log' (path ∷ order_path ∷ []) (file ∷ orders ∷ [])
+reads_files standing log opens closes log' path order_path file orders both fresh fresh_orders p q = record {
+  give = (both.give, fresh, (both.give_orders, fresh_orders, tt));
+  events = logs_then log opens log' _ _ both.events (logs_then opens closes log' _ _ p q);
+}
+
+-- a fault that tells no write
+pub gives_stop : (Comes : Answer → Type 0) (old : Option (List ℕ)) (failed : Bool) (stop : Stop)
+    (ended : Result Outcome Stop) → ended ≡ Err stop → reports_write (Err stop) ≡ false → failed ≡ false
+    → Comes (stops stop) → Delivers Comes (WritesAnswer old old failed) failed ended
+gives_stop Comes old failed stop ended e tells working comes = record {
+  answer = stops stop;
+  is_answer = comes;
+  is_written = (e, working, refl);
+  write_failed = working ∙ sym (subst (λ r. reports_write r ≡ false) (sym e) tells);
+}
+
+opening_tells : (fault : OpenFault) → reports_write (Err (open_stop fault)) ≡ false
+opening_tells open_faults.Closed = refl
+opening_tells open_faults.Memory = refl
+
+module _ (standing : List ℕ → Standing) (log log' : Option (List FileEvent)) where
+  stops_first : (path : List ℕ) (behind : List (List ℕ)) (fault : OpenFault) → MayRefuse (standing path) fault
+      → Logs log log' (refused path fault ∷ [])
+      → StopsAtPath standing log log' (path ∷ behind) (stops (open_stop fault))
+  stops_first path behind fault may events = record {
+    before = [];
+    path = path;
+    after = behind;
+    given = [];
+    fault = fault;
+    parts = refl;
+    give = tt;
+    may_refuse = may;
+    events = events;
+    reported = refl;
   }
 
-  file-map : (path : List ℕ) (runs runs' : ReadingOne)
-      → ((file left : Option (List ℕ)) (failed : Bool) (answer : Result Outcome DeskFault) → result ≡ ending answer
-      → runs file left failed answer → runs' file left failed answer)
-      → WithFile standing asked asked' path U runs result → WithFile standing asked asked' path U' runs' result
-  file-map path runs runs' f (inl p) = inl (stops-map path asked p)
-  file-map path runs runs' f (inr p) = inr (record {
-    file = p.file;
-    left = p.left;
-    failed = p.failed;
-    answer = p.answer;
-    opened = p.opened;
-    asks = p.asks;
-    ran = f p.file p.left p.failed p.answer p.ends p.ran;
-    ends = p.ends;
-  })
-
-  files-map : (path order_path : List ℕ) (runs runs' : ReadingTwo)
-      → ((file left : Option (List ℕ)) (failed : Bool) (orders orders_left : Option (List ℕ)) (orders_failed : Bool)
-      (answer : Result Outcome DeskFault) → result ≡ ending answer
-      → runs file left failed orders orders_left orders_failed answer
-      → runs' file left failed orders orders_left orders_failed answer)
-      → WithFiles standing asked asked' path order_path U runs result
-      → WithFiles standing asked asked' path order_path U' runs' result
-  files-map path order_path runs runs' f (inl p) = inl (stops-map path asked p)
-  files-map path order_path runs runs' f (inr (inl p)) = inr (inl (record {
-    file = p.file;
-    between = p.between;
-    opened = p.opened;
-    asks = p.asks;
-    stops = stops-map order_path p.between p.stops;
-  }))
-  files-map path order_path runs runs' f (inr (inr p)) = inr (inr (record {
-    file = p.file;
-    left = p.left;
-    failed = p.failed;
-    orders = p.orders;
-    orders_left = p.orders_left;
-    orders_failed = p.orders_failed;
-    between = p.between;
-    answer = p.answer;
-    opened = p.opened;
-    opened_orders = p.opened_orders;
-    asks = p.asks;
-    asks_next = p.asks_next;
-    ran = f p.file p.left p.failed p.orders p.orders_left p.orders_failed p.answer p.ends p.ran;
-    ends = p.ends;
-  }))
-
-  alone-map : (runs runs' : Result Outcome DeskFault → Type 0)
-      → ((answer : Result Outcome DeskFault) → result ≡ ending answer → runs answer → runs' answer)
-      → RunsAlone asked asked' runs result → RunsAlone asked asked' runs' result
-  alone-map runs runs' f p = record {
-    answer = p.answer;
-    none_asked = p.none_asked;
-    ran = f p.answer p.ends p.ran;
-    ends = p.ends;
+  stops_one : (path order_path : List ℕ) (fault : OpenFault) → RefusesOne standing log log' path order_path fault
+      → StopsAtPath standing log log' (path ∷ order_path ∷ []) (stops (open_stop fault))
+  stops_one path order_path fault (inl p) = stops_first path (order_path ∷ []) fault p.may_refuse p.events
+  stops_one path order_path fault (inr p) = record {
+    before = path ∷ [];
+    path = order_path;
+    after = [];
+    given = p.file ∷ [];
+    fault = fault;
+    parts = refl;
+    give = (p.give, refl, tt);
+    may_refuse = p.may_refuse;
+    events = p.events;
+    reported = refl;
   }
 
-  value-map : (layout : Layout) (block : ℕ) (file left : Option (List ℕ)) (failed : Bool)
-      (answer : Result Outcome DeskFault) → result ≡ ending answer
-      → RunsValue layout block V file left failed answer → RunsValue layout block V' file left failed answer
-  value-map layout block file left failed answer e p = record {
-    written = write (ValueOutput layout file block) answer e p.written;
-    reads = p.reads;
-    one_file = p.one_file;
-    no_take = p.no_take;
-    memory = p.memory;
+  -- the only path of a job, or the first of two, or the second, was not opened
+  pub gives_closed : (asked : Job) (path : List ℕ) (input : SourceUse) (old : Option (List ℕ)) (failed : Bool)
+      (fault : OpenFault) (ended : Result Outcome Stop) → paths_of asked ≡ path ∷ [] → IsUnread input → failed ≡ false
+      → ended ≡ Err (open_stop fault) → MayRefuse (standing path) fault → Logs log log' (refused path fault ∷ [])
+      → Delivers (RunsJob asked standing log log' input) (WritesAnswer old old failed) failed ended
+  gives_closed asked path input old failed fault ended one unread working e may events =
+      gives_stop _ old failed (open_stop fault) ended e (opening_tells fault) working (inl (
+        unread,
+        subst (λ paths. StopsAtPath standing log log' paths (stops (open_stop fault))) (sym one)
+            (stops_first path [] fault may events),
+      ))
+
+  pub gives_one_closed : (asked : Job) (path order_path : List ℕ) (input : SourceUse) (old : Option (List ℕ))
+      (failed : Bool) (fault : OpenFault) (ended : Result Outcome Stop) → paths_of asked ≡ path ∷ order_path ∷ []
+      → IsUnread input → failed ≡ false → ended ≡ Err (open_stop fault)
+      → RefusesOne standing log log' path order_path fault
+      → Delivers (RunsJob asked standing log log' input) (WritesAnswer old old failed) failed ended
+  gives_one_closed asked path order_path input old failed fault ended two unread working e refuses =
+      gives_stop _ old failed (open_stop fault) ended e (opening_tells fault) working (inl (
+        unread,
+        subst (λ paths. StopsAtPath standing log log' paths (stops (open_stop fault))) (sym two)
+            (stops_one path order_path fault refuses),
+      ))
+
+-- what an engine answers, as an answer
+module _ (Output : Outcome → List ℕ → Type 0) (IsFault : DeskFault → Type 0) (old new : Option (List ℕ)) (failed : Bool)
+    (Comes : Answer → Type 0) where
+  abbrev Reaches : Result Outcome DeskFault → Type 0
+  Reaches result = (answer : Answer) → IsAnswerOf Output IsFault answer → layout_fault_in answer
+      ≡ layout_fault_of result
+      → order_fault_in answer ≡ order_fault_of result → Comes answer
+
+  gives_ending : (result : Result Outcome DeskFault) → WritesOutput Output old new failed result
+      → IfErr result IsFault → Reaches result → Delivers Comes (WritesAnswer old new failed) failed (ending result)
+  gives_ending (Ok outcome) w f comes = record {
+    answer = prints outcome w.text;
+    is_answer = comes (prints outcome w.text) w.is_output refl refl;
+    is_written = inl (refl, w.bytes);
+    write_failed = w.working;
   }
-
-  solve-map : (layout : Layout) (block : ℕ) (options : SolveOptions) (file left : Option (List ℕ)) (failed : Bool)
-      (answer : Result Outcome DeskFault) → result ≡ ending answer
-      → RunsSolve layout block options V file left failed answer
-      → RunsSolve layout block options V' file left failed answer
-  solve-map layout block options file left failed answer e p = record {
-    written = write (SolveOutput layout file block options) answer e p.written;
-    reads = p.reads;
-    one_file = p.one_file;
-    take = p.take;
+  gives_ending (Err (faults.Write fault)) w f comes = record {
+    answer = prints w.outcome w.text;
+    is_answer = comes (prints w.outcome w.text) w.is_output refl refl;
+    is_written = inr (record { fault = fault; reported = refl; front = w.front });
+    write_failed = w.front.stopped;
   }
+  gives_ending (Err (faults.Layout fault)) w f comes =
+      let answer = stops (Fault (faults.Layout fault)) in
+      record {
+        answer = answer;
+        is_answer = comes answer f refl refl;
+        is_written = (refl, w.working, w.kept);
+        write_failed = w.working;
+      }
+  gives_ending (Err (faults.Order fault)) w f comes =
+      let answer = stops (Fault (faults.Order fault)) in
+      record {
+        answer = answer;
+        is_answer = comes answer f refl refl;
+        is_written = (refl, w.working, w.kept);
+        write_failed = w.working;
+      }
+  gives_ending (Err (faults.TakeRange take jobs)) w f comes =
+      let answer = stops (Fault (faults.TakeRange take jobs)) in
+      record {
+        answer = answer;
+        is_answer = comes answer f refl refl;
+        is_written = (refl, w.working, w.kept);
+        write_failed = w.working;
+      }
+  gives_ending (Err faults.Memory) w f comes =
+      let answer = stops (Fault faults.Memory) in
+      record {
+        answer = answer;
+        is_answer = comes answer f refl refl;
+        is_written = (refl, w.working, w.kept);
+        write_failed = w.working;
+      }
 
-  audit-map : (layout : Layout) (block : ℕ)
-      (output : Option (List ℕ) → Option (List ℕ) → Outcome → List ℕ → Type 0)
-      (file left : Option (List ℕ)) (failed : Bool) (orders orders_left : Option (List ℕ)) (orders_failed : Bool)
-      (answer : Result Outcome DeskFault) → result ≡ ending answer
-      → RunsAudit layout block output V file left failed orders orders_left orders_failed answer
-      → RunsAudit layout block output V' file left failed orders orders_left orders_failed answer
-  audit-map layout block output file left failed orders orders_left orders_failed answer e p = record {
-    written = write (output file orders) answer e p.written;
-    reads = p.reads;
-    reads_order = p.reads_order;
-    no_take = p.no_take;
-    memory = p.memory;
-  }
+  pub gives : (result : Result Outcome DeskFault) (ended : Result Outcome Stop) → ended ≡ ending result
+      → WritesOutput Output old new failed result → IfErr result IsFault → Reaches result
+      → Delivers Comes (WritesAnswer old new failed) failed ended
+  gives result ended e w f comes =
+      subst (Delivers Comes (WritesAnswer old new failed) failed) (sym e) (gives_ending result w f comes)
 
-  convert-map : (source target : Layout) (block : ℕ) (file left : Option (List ℕ)) (failed : Bool)
-      (answer : Result Outcome DeskFault) → result ≡ ending answer
-      → RunsConvert source target block V file left failed answer
-      → RunsConvert source target block V' file left failed answer
-  convert-map source target block file left failed answer e p = record {
-    written = write (ConvertOutput source target file block) answer e p.written;
-    reads = p.reads;
-    one_file = p.one_file;
-    no_take = p.no_take;
-    no_more_memory = p.no_more_memory;
-  }
+-- the same of the same job
+pub gives_job : (asked other : Job) (standing : List ℕ → Standing) (log log' : Option (List FileEvent))
+    (input : SourceUse) (Goes : Answer → Result Outcome Stop → Type 0) (failed : Bool) (ended : Result Outcome Stop)
+    → other ≡ asked → Delivers (RunsJob asked standing log log' input) Goes failed ended
+    → Delivers (RunsJob other standing log log' input) Goes failed ended
+gives_job asked other standing log log' input Goes failed ended e =
+    subst (λ j. Delivers (RunsJob j standing log log' input) Goes failed ended) (sym e)
 
-  generate-map : (jobs machines seed : ℕ) (answer : Result Outcome DeskFault) → result ≡ ending answer
-      → RunsGenerate jobs machines seed V answer → RunsGenerate jobs machines seed V' answer
-  generate-map jobs machines seed answer e p = record {
-    written = write (GenerateOutput jobs machines seed) answer e p.written;
-    seed_range = p.seed_range;
-    fault = p.fault;
-  }
+-- of an engine that reads one input
+module _ (asked : Job) (standing : List ℕ → Standing) (log log' : Option (List FileEvent)) (input : SourceUse)
+    (layout : Layout) (block : ℕ) (Output : Outcome → List ℕ → Type 0) (old new : Option (List ℕ)) (failed : Bool)
+    (result : Result Outcome DeskFault) (ended : Result Outcome Stop) (e : ended ≡ ending result)
+    (w : WritesOutput Output old new failed result) (file : SourceUse)
+    (r : ReadsBlock layout block file (layout_fault_of result)) where
+  abbrev ReadsAll : List SourceUse → Type 0
+  ReadsAll files = ReadsFiles standing log log' (paths_of asked) files
 
-  pub job-map : (asks : Job) (input input' : Option (List ℕ)) (failed : Bool)
-      → RunsJob asks standing asked asked' input input' failed U V result
-      → RunsJob asks standing asked asked' input input' failed U' V' result
-  job-map (job.Value layout block None) input input' failed p =
-      alone-map _ _ (value-map layout block input input' failed) p
-  job-map (job.Value layout block (Some path)) input input' failed p =
-      (p.0, file-map path _ _ (value-map layout block) p.1)
-  job-map (job.Solve layout block options path) input input' failed p =
-      (p.0, file-map path _ _ (solve-map layout block options) p.1)
-  job-map (job.Check layout block path order_path) input input' failed p = (
-    p.0,
-    files-map path order_path _ _
-        (audit-map layout block (λ file orders. CheckOutput layout file block orders)) p.1,
-  )
-  job-map (job.Table layout block path order_path) input input' failed p = (
-    p.0,
-    files-map path order_path _ _
-        (audit-map layout block (λ file orders. TableOutput layout file block orders)) p.1,
-  )
-  job-map (job.Convert source target block path) input input' failed p =
-      (p.0, file-map path _ _ (convert-map source target block) p.1)
-  job-map (job.Generate jobs machines seed) input input' failed p =
-      (p.0, alone-map _ _ (generate-map jobs machines seed) p.1)
+  abbrev Given : Type 0
+  Given = Delivers (RunsJob asked standing log log' input) (WritesAnswer old new failed) failed ended
 
--- a fact that each end of a job's run shows
-module _ (result : Result Outcome Stop) (U : Type 0) (V : Writing) (P : Type 0)
-    (stop : (standing : Standing) → CannotOpen standing result → P)
-    (write : (output : Outcome → List ℕ → Type 0) (answer : Result Outcome DeskFault) → result ≡ ending answer
-    → V output answer → P)
-    (standing : List ℕ → Standing) (asked asked' : Option (List (List ℕ))) where
-  file-shows : (path : List ℕ) (runs : ReadingOne)
-      → ((file left : Option (List ℕ)) (failed : Bool) (answer : Result Outcome DeskFault) → result ≡ ending answer
-      → runs file left failed answer → P)
-      → WithFile standing asked asked' path U runs result → P
-  file-shows path runs f (inl p) = stop (standing path) p.closed
-  file-shows path runs f (inr p) = f p.file p.left p.failed p.answer p.ends p.ran
+  first_reads : (answer : Answer) → layout_fault_in answer ≡ layout_fault_of result
+      → ReadsBlock layout block file (layout_fault_in answer)
+  first_reads answer first = subst (ReadsBlock layout block file) (sym first) r
 
-  files-show : (path order_path : List ℕ) (runs : ReadingTwo)
-      → ((file left : Option (List ℕ)) (failed : Bool) (orders orders_left : Option (List ℕ)) (orders_failed : Bool)
-      (answer : Result Outcome DeskFault) → result ≡ ending answer
-      → runs file left failed orders orders_left orders_failed answer → P)
-      → WithFiles standing asked asked' path order_path U runs result → P
-  files-show path order_path runs f (inl p) = stop (standing path) p.closed
-  files-show path order_path runs f (inr (inl p)) = stop (standing order_path) p.stops.closed
-  files-show path order_path runs f (inr (inr p)) =
-      f p.file p.left p.failed p.orders p.orders_left p.orders_failed p.answer p.ends p.ran
+  pub gives_on : (IsFault : DeskFault → Type 0) (files : List SourceUse) → IfErr result IsFault → ReadsAll files
+      → ((answer : Answer) → AnswersOn layout block Output IsFault file answer → AnswersJob asked input files answer)
+      → Given
+  gives_on IsFault files f runs answers = gives Output IsFault old new failed _ result ended e w f
+      (λ answer is first second. inr (record {
+        files = files;
+        reads = runs;
+        answers = answers answer (record { is = is; reads = first_reads answer first });
+      }))
 
-  pub job-shows : (asks : Job) (input input' : Option (List ℕ)) (failed : Bool)
-      → RunsJob asks standing asked asked' input input' failed U V result → P
-  job-shows (job.Value layout block None) input input' failed p =
-      write (ValueOutput layout input block) p.answer p.ends p.ran.written
-  job-shows (job.Value layout block (Some path)) input input' failed p =
-      file-shows path _ (λ file left failed answer e r. write (ValueOutput layout file block) answer e r.written) p.1
-  job-shows (job.Solve layout block options path) input input' failed p = file-shows path _
-      (λ file left failed answer e r. write (SolveOutput layout file block options) answer e r.written) p.1
-  job-shows (job.Check layout block path order_path) input input' failed p = files-show path order_path _
-      (λ file left failed orders orders_left orders_failed answer e r.
-      write (CheckOutput layout file block orders) answer e r.written) p.1
-  job-shows (job.Table layout block path order_path) input input' failed p = files-show path order_path _
-      (λ file left failed orders orders_left orders_failed answer e r.
-      write (TableOutput layout file block orders) answer e r.written) p.1
-  job-shows (job.Convert source target block path) input input' failed p = file-shows path _
-      (λ file left failed answer e r. write (ConvertOutput source target file block) answer e r.written) p.1
-  job-shows (job.Generate jobs machines seed) input input' failed p =
-      write (GenerateOutput jobs machines seed) p.1.answer p.1.ends p.1.ran.written
+  -- and of one that reads an order file behind it
+  pub gives_on_both : (orders : SourceUse) (files : List SourceUse)
+      → IfErr result (IsAuditFault layout file.given block orders.given) → ReadsAll files
+      → ReadsOrder orders (layout_fault_of result) (order_fault_of result)
+      → ((answer : Answer) → AnswersOnBoth layout block Output file orders answer → AnswersJob asked input files answer)
+      → Given
+  gives_on_both orders files f runs reads answers =
+      gives Output (IsAuditFault layout file.given block orders.given) old new failed _ result ended e w f
+      (λ answer is first second. inr (record {
+        files = files;
+        reads = runs;
+        answers = answers answer (record {
+          first = record { is = is; reads = first_reads answer first };
+          reads_order = subst (ReadsOrder orders (layout_fault_in answer)) (sym second)
+              (subst (λ fault. ReadsOrder orders fault (order_fault_of result)) (sym first) reads);
+        });
+      }))
 
--- an outcome is answered only where no write failed
-abbrev Works : Result Outcome Stop → Bool → Type 0
-Works result failed = IfOk result (λ outcome. failed ≡ false)
-
-works_stopped : (failed : Bool) (result : Result Outcome Stop) (standing : Standing) → CannotOpen standing result
-    → Works result failed
-works_stopped failed (Ok outcome) standing p = absurd p
-works_stopped failed (Err fault) standing p = tt
-
-works_written : (old new : Option (List ℕ)) (failed : Bool) (result : Result Outcome Stop)
-    (output : Outcome → List ℕ → Type 0) (answer : Result Outcome DeskFault) → result ≡ ending answer
-    → WritesOutput output old new failed answer → Works result failed
-works_written old new failed result output (Ok outcome) e p =
-    subst (λ ended. Works ended failed) (sym e) p.working
-works_written old new failed result output (Err fault) e p = subst (λ ended. Works ended failed) (sym e) tt
-
-pub job-works : (asks : Job) (standing : List ℕ → Standing) (asked asked' : Option (List (List ℕ)))
-    (input input' : Option (List ℕ)) (read_failed : Bool) (U : Type 0) (old new : Option (List ℕ)) (failed : Bool)
-    (result : Result Outcome Stop)
-    → RunsJob asks standing asked asked' input input' read_failed U (writing_of old new failed) result
-    → IfOk result (λ outcome. failed ≡ false)
-job-works asks standing asked asked' input input' read_failed U old new failed result p =
-    job-shows result U (writing_of old new failed) (Works result failed) (works_stopped failed result)
-    (works_written old new failed result) standing asked asked' asks input input' read_failed p
+-- a fault of the instance file is told by one result alone
+pub told_by : (fault : LayoutFault) (result : Result Outcome DeskFault) → layout_fault_of result ≡ Some fault
+    → result ≡ Err (faults.Layout fault)
+told_by fault (Ok outcome) e = cc
+told_by fault (Err (faults.Layout other)) e = cc
+told_by fault (Err (faults.Order other)) e = cc
+told_by fault (Err (faults.TakeRange take jobs)) e = cc
+told_by fault (Err (faults.Write other)) e = cc
+told_by fault (Err faults.Memory) e = cc

@@ -1,6 +1,6 @@
--- What an engine answers and writes. Bytes are those that a reader has left, where they are told.
+-- What an engine returns and writes. Bytes are those that a reader has left, where they are known.
 use Rattle.std.specs.Prelude.{⊤, ◌≡◌, ◌≢◌, ◌↔◌, ℕ, ◌≤◌, Bool, true, false, List, Option, Some, None, Result, Ok, Err}
-use Rattle.std.specs.Prelude.{◌⊎◌, IfSome, IfErr}
+use Rattle.std.specs.Prelude.{◌⊎◌, IfSome}
 use Rattle.std.specs.Io.KnownBytes.{Appends}
 use Rattle.pfs_base.specs.Limits.{limits}
 use Rattle.pfs_base.specs.Problem.{Problem}
@@ -32,107 +32,33 @@ use Rattle.pfs_desk.specs.OutputText.{value_text, verdict_text, outcome_of, Tabl
 abbrev pub Holds : Layout → Option (List ℕ) → ℕ → Problem → Type 0
 Holds layout file block problem = IfSome file (λ bytes. IsInstanceFile limits layout bytes block problem)
 
--- an instance file has this fault in front of the end of the block, unless its reading failed or wanted memory
+-- an instance file has this fault in front of the end of the block, unless a read or a memory allocation failed; the
+-- fault is never that of a seed, since no seed is given
 abbrev pub RefusesFirst : Layout → Option (List ℕ) → ℕ → LayoutFault → Type 0
-RefusesFirst layout file block fault = fault ≢ layout_faults.Read → fault ≢ layout_faults.Memory
-    → IfSome file (λ bytes. RefusesInstance layout bytes block fault)
-
--- the instance file is judged first
-abbrev pub JudgesFirst : Layout → Option (List ℕ) → ℕ → DeskFault → Type 0
-JudgesFirst layout file block (faults.Layout fault) = RefusesFirst layout file block fault
-JudgesFirst layout file block others = ⊤
-
--- no order file was asked for, and none is refused
-abbrev pub RefusesNoOrder : DeskFault → Type 0
-RefusesNoOrder (faults.Order fault) = ⊥
-RefusesNoOrder others = ⊤
-
--- no take was asked for, and none is refused
-abbrev pub RefusesNoTake : DeskFault → Type 0
-RefusesNoTake (faults.TakeRange take jobs) = ⊥
-RefusesNoTake others = ⊤
+RefusesFirst layout file block fault = (fault ≢ layout_faults.SeedRange)
+    × (fault ≢ layout_faults.Read → fault ≢ layout_faults.Memory
+    → IfSome file (λ bytes. RefusesInstance layout bytes block fault))
 
 -- an order file states this order and this makespan
 abbrev pub States : Option (List ℕ) → StatedOrder → Type 0
 States file stated = IfSome file (λ bytes. IsOrderFile bytes stated)
 
--- a block of the instance file holds a problem, and the order file is refused for this fault, or its
--- reading failed or wanted memory
+-- a block of the instance file holds a problem, and the order file is rejected for this fault, or a read of it or a
+-- memory allocation failed
 pub record RefusesSecond (layout : Layout) (file : Option (List ℕ)) (block : ℕ) (order_file : Option (List ℕ))
     (fault : OrderFault) : Type 0 where
   pub problem : Problem
   pub holds : Holds layout file block problem
   pub refused : IfSome order_file (λ bytes. RefusesUnlessFailed bytes fault)
 
--- the order file is judged behind the instance file
-abbrev pub JudgesSecond : Layout → Option (List ℕ) → ℕ → Option (List ℕ) → DeskFault → Type 0
-JudgesSecond layout file block order_file (Order fault) = RefusesSecond layout file block order_file fault
-JudgesSecond layout file block order_file others = ⊤
-
--- the fault of the instance file, or of the order file, that a result tells
-abbrev pub layout_fault_of : {A : Type 0} → Result A DeskFault → Option LayoutFault
-layout_fault_of (Err (faults.Layout fault)) = Some fault
-layout_fault_of others = None
-
-abbrev pub order_fault_of : {A : Type 0} → Result A DeskFault → Option OrderFault
-order_fault_of (Err (Order fault)) = Some fault
-order_fault_of others = None
-
--- a failed read of the instance file is told, and none is told where none failed
-abbrev pub TellsRead : Bool → Result Outcome DeskFault → Type 0
-TellsRead failed result = (result ≡ Err (faults.Layout layout_faults.Read)) ↔ (failed ≡ true)
-
--- the same of the order file
-abbrev pub TellsOrderRead : Bool → Result Outcome DeskFault → Type 0
-TellsOrderRead failed result = (result ≡ Err (Order order_faults.Read)) ↔ (failed ≡ true)
-
--- no seed was asked for, and none is refused
-abbrev pub RefusesNoSeed : Result Outcome DeskFault → Type 0
-RefusesNoSeed result = result ≢ Err (faults.Layout layout_faults.SeedRange)
-
--- how far the instance file was read
-abbrev pub ReadsFirst : Layout → ℕ → Option (List ℕ) → Option (List ℕ) → Result Outcome DeskFault → Type 0
-ReadsFirst layout block file left result = IfSome file
-    (λ bytes. ReadsAsFar layout block bytes left (layout_fault_of result))
-
--- how far the order file was read: not at all where the instance file has a fault
-abbrev pub ReadsSecond : Option (List ℕ) → Option (List ℕ) → Result Outcome DeskFault → Type 0
-ReadsSecond order_file left (Err (faults.Layout fault)) = left ≡ order_file
-ReadsSecond order_file left others = IfSome order_file (λ bytes. ReadsOrderAsFar bytes left (order_fault_of others))
-
--- what an engine owes of the instance file, of which it reads a block
-pub record ReadsBlock (layout : Layout) (block : ℕ) (file left : Option (List ℕ)) (failed : Bool)
-    (result : Result Outcome DeskFault) : Type 0 where
-  -- the file is judged first
-  pub refused : IfErr result (JudgesFirst layout file block)
-  -- a failed read is told, and none is told where none failed
-  pub read : TellsRead failed result
-  -- it is read up to a last piece, before which more was wanted, and no further
-  pub as_far : ReadsFirst layout block file left result
-  -- no seed was asked for, and none is refused
-  pub no_seed : RefusesNoSeed result
-
--- what it owes of the order file that it reads behind that block
-pub record ReadsOrder (layout : Layout) (block : ℕ) (file order_file left : Option (List ℕ)) (failed : Bool)
-    (result : Result Outcome DeskFault) : Type 0 where
-  -- the order file is judged behind the instance file
-  pub refused : IfErr result (JudgesSecond layout file block order_file)
-  -- a failed read is told, and none is told where none failed
-  pub read : TellsOrderRead failed result
-  -- it is read as far as order files are, and not at all where the instance file has a fault
-  pub as_far : ReadsSecond order_file left result
-
--- memory is asked for behind the instance file, which holds a problem
-abbrev pub WantsBehindFirst : Layout → Option (List ℕ) → ℕ → DeskFault → Type 0
-WantsBehindFirst layout file block faults.Memory = (problem : Problem) × Holds layout file block problem
-WantsBehindFirst layout file block others = ⊤
-
--- memory is asked for behind both files, and the order file states an order that fits the instance
-abbrev pub WantsBehindSecond : Layout → Option (List ℕ) → ℕ → Option (List ℕ) → DeskFault → Type 0
-WantsBehindSecond layout file block order_file faults.Memory =
-    (problem : Problem) × (stated : StatedOrder) × Holds layout file block problem × States order_file stated
-    × SizesMatch problem.shop stated
-WantsBehindSecond layout file block order_file others = ⊤
+-- memory is requested after both files were read, and the order file states an order that fits the instance
+pub record WantsBehindBoth (layout : Layout) (file : Option (List ℕ)) (block : ℕ) (order_file : Option (List ℕ))
+    : Type 0 where
+  pub problem : Problem
+  pub stated : StatedOrder
+  pub holds : Holds layout file block problem
+  pub states : States order_file stated
+  pub fits : SizesMatch problem.shop stated
 
 -- a block of the instance file holds a problem with fewer jobs than are to be taken out in a round
 pub record RefusesTake (layout : Layout) (file : Option (List ℕ)) (block : ℕ) (asked : Option ℕ) (fault : DeskFault)
@@ -147,12 +73,84 @@ pub record AllowsTake (layout : Layout) (file : Option (List ℕ)) (block : ℕ)
   pub holds : Holds layout file block problem
   pub within : take_for asked problem.shop.jobs ≤ problem.shop.jobs
 
--- the take is judged behind the instance file, and before memory is asked for
-abbrev pub JudgesTake : Layout → Option (List ℕ) → ℕ → Option ℕ → DeskFault → Type 0
-JudgesTake layout file block asked (faults.TakeRange take jobs) = RefusesTake layout file block asked
-    (faults.TakeRange take jobs)
-JudgesTake layout file block asked faults.Memory = AllowsTake layout file block asked
-JudgesTake layout file block asked others = ⊤
+-- the faults in which each command may end, and when; that of a write comes where one failed, as below
+abbrev pub IsValueFault : Layout → Option (List ℕ) → ℕ → DeskFault → Type 0
+IsValueFault layout file block (faults.Layout fault) = RefusesFirst layout file block fault
+IsValueFault layout file block faults.Memory = (problem : Problem) × Holds layout file block problem
+IsValueFault layout file block (Write fault) = ⊤
+IsValueFault layout file block others = ⊥
+
+-- the number of jobs that leave in a round is validated after the instance file, and before more memory is requested
+abbrev pub IsSolveFault : Layout → Option (List ℕ) → ℕ → Option ℕ → DeskFault → Type 0
+IsSolveFault layout file block asked (faults.Layout fault) = RefusesFirst layout file block fault
+IsSolveFault layout file block asked (faults.TakeRange take jobs) =
+    RefusesTake layout file block asked (faults.TakeRange take jobs)
+IsSolveFault layout file block asked faults.Memory = AllowsTake layout file block asked
+IsSolveFault layout file block asked (Write fault) = ⊤
+IsSolveFault layout file block asked others = ⊥
+
+-- of `check` and of `table`: the order file is validated after the instance file
+abbrev pub IsAuditFault : Layout → Option (List ℕ) → ℕ → Option (List ℕ) → DeskFault → Type 0
+IsAuditFault layout file block order_file (faults.Layout fault) = RefusesFirst layout file block fault
+IsAuditFault layout file block order_file (Order fault) = RefusesSecond layout file block order_file fault
+IsAuditFault layout file block order_file faults.Memory = WantsBehindBoth layout file block order_file
+IsAuditFault layout file block order_file (Write fault) = ⊤
+IsAuditFault layout file block order_file others = ⊥
+
+abbrev pub IsConvertFault : Layout → Option (List ℕ) → ℕ → DeskFault → Type 0
+IsConvertFault layout file block (faults.Layout fault) = RefusesFirst layout file block fault
+IsConvertFault layout file block (Write fault) = ⊤
+IsConvertFault layout file block others = ⊥
+
+-- the fault of the instance file, or of the order file, that a result tells
+abbrev pub layout_fault_of : {A : Type 0} → Result A DeskFault → Option LayoutFault
+layout_fault_of (Err (faults.Layout fault)) = Some fault
+layout_fault_of others = None
+
+abbrev pub order_fault_of : {A : Type 0} → Result A DeskFault → Option OrderFault
+order_fault_of (Err (Order fault)) = Some fault
+order_fault_of others = None
+
+-- what a call did with a source: the bytes that the source had and has left, where they are known, whether a read
+-- failed, and whether the end of the bytes was reported before the call, and by the end of it
+pub record SourceUse : Type 0 where
+  pub given : Option (List ℕ)
+  pub left : Option (List ℕ)
+  pub failed : Bool
+  pub was_ended : Bool
+  pub ended : Bool
+
+abbrev pub source_use : Option (List ℕ) → Option (List ℕ) → Bool → Bool → Bool → SourceUse
+source_use given left failed was_ended ended =
+    record { given = given; left = left; failed = failed; was_ended = was_ended; ended = ended }
+
+-- nothing was read: no byte is gone, no read failed, and none reported the end
+pub record IsUnread (source : SourceUse) : Type 0 where
+  pub kept : source.left ≡ source.given
+  pub working : source.failed ≡ false
+  pub no_end : source.ended ≡ source.was_ended
+
+-- how the instance file is read, where this fault of it is reported, if any
+pub record ReadsBlock (layout : Layout) (block : ℕ) (source : SourceUse) (fault : Option LayoutFault) : Type 0 where
+  -- a failed read is reported, and none is reported where none failed
+  pub read : (fault ≡ Some layout_faults.Read) ↔ (source.failed ≡ true)
+  -- nor is one after the end
+  pub before_end : fault ≡ Some layout_faults.Read → source.ended ≡ source.was_ended
+  -- up to a last piece, before which more was needed, and no further
+  pub as_far : IfSome source.given (λ bytes. ReadsAsFar layout block bytes source.left fault)
+
+-- how far the order file is read: not at all where the instance file has a fault
+abbrev pub ReadsSecond : SourceUse → Option LayoutFault → Option OrderFault → Type 0
+ReadsSecond source (Some first) fault = IsUnread source
+ReadsSecond source None fault = IfSome source.given (λ bytes. ReadsOrderAsFar bytes source.left fault)
+
+-- how the order file is read after the instance file
+pub record ReadsOrder (source : SourceUse) (first : Option LayoutFault) (fault : Option OrderFault) : Type 0 where
+  -- a failed read is reported, and none is reported where none failed
+  pub read : (fault ≡ Some order_faults.Read) ↔ (source.failed ≡ true)
+  -- nor is one after the end
+  pub before_end : fault ≡ Some order_faults.Read → source.ended ≡ source.was_ended
+  pub as_far : ReadsSecond source first fault
 
 -- all of an output went out
 pub record WritesAll (output : Outcome → List ℕ → Type 0) (old new : Option (List ℕ)) (failed : Bool)
@@ -198,7 +196,7 @@ pub record SolveOutput (layout : Layout) (file : Option (List ℕ)) (block : ℕ
   pub done : outcome ≡ Done
   pub solution : IsSolution problem.shop options text
 
--- the block, written as a file of its own in the target layout
+-- the block, written as a file with one block in the target layout
 pub record ConvertOutput (source target : Layout) (file : Option (List ℕ)) (block : ℕ) (outcome : Outcome)
     (text : List ℕ) : Type 0 where
   pub problem : Problem
@@ -211,7 +209,7 @@ pub record GenerateOutput (jobs machines seed : ℕ) (outcome : Outcome) (text :
   pub done : outcome ≡ Done
   pub spelled : text ≡ canonical_text Taillard (generated jobs machines seed)
 
--- drawing an instance fails by its seed, by want of memory for its times, or by a write
+-- generating an instance fails for its seed, when memory for its times cannot be allocated, or when a write fails
 abbrev pub IsGenerateFault : DeskFault → Type 0
 IsGenerateFault (faults.Layout fault) = (fault ≡ layout_faults.SeedRange) ⊎ (fault ≡ layout_faults.Memory)
 IsGenerateFault (Write fault) = ⊤

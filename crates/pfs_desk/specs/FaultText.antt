@@ -66,8 +66,8 @@ order_status_of order.TooLong = 2
 order_status_of order.Read = 4
 order_status_of order.Memory = 4
 
--- 2 where a file is refused, 3 where more jobs are to be taken out than there are, and 4 where a read, a write or
--- memory failed
+-- 2 where a file is rejected, 3 where more jobs are to leave in a round than there are, and 4 where a read, a write or
+-- a memory allocation failed
 abbrev pub status_of : DeskFault → ℕ
 status_of (Layout fault) = layout_status_of fault
 status_of (Order fault) = order_status_of fault

@@ -15,12 +15,12 @@ use Rattle.pfs_desk.specs.declared.fault.Outcome.TheVariants.{Done}
 use Rattle.pfs_words.specs.declared.solve_options.SolveOptions.{SolveOptions}
 use Rattle.pfs_desk.specs.Solve.{take_for, IsSolution}
 
--- no read failed, and the memory for the instance was not refused
+-- no read failed, and memory for the instance was allocated
 pub record ReadsOn (reader_failed : Bool) (result : Result Outcome DeskFault) : Type 0 where
   pub reading : reader_failed ≡ false
   pub room : result ≢ Err (faults.Layout layout_faults.Memory)
 
--- nor did a write fail, nor was other memory refused
+-- nor did a write or another memory allocation fail
 pub record RunsOn (reader_failed writer_failed : Bool) (result : Result Outcome DeskFault) : Type 0 where
   pub reads : ReadsOn reader_failed result
   pub writing : writer_failed ≡ false
@@ -34,7 +34,7 @@ pub record PrintsSolution (problem : Problem) (options : SolveOptions) (old new 
   pub solution : IsSolution problem.shop options text
   pub bytes : Appends old new text
 
--- this fault was answered, and nothing was written
+-- this fault was returned, and nothing was written
 pub record TellsFault (fault : DeskFault) (old new : Option (List ℕ)) (result : Result Outcome DeskFault) : Type 0 where
   pub told : result ≡ Err fault
   pub kept : new ≡ old
@@ -45,10 +45,10 @@ pub record Solves (layout : Layout) (file : List ℕ) (block : ℕ) (options : S
   pub accepted : (problem : Problem) → IsInstanceFile limits layout file block problem
       → take_for options.take problem.shop.jobs ≤ problem.shop.jobs
       → RunsOn reader_failed writer_failed result → PrintsSolution problem options old new result
-  -- every other file is refused by its fault
+  -- every other file is rejected with its fault
   pub refused : (fault : LayoutFault) → RefusesInstance layout file block fault
       → ReadsOn reader_failed result → TellsFault (faults.Layout fault) old new result
-  -- and so is a take that is asked for, of more jobs than there are
+  -- and so are options that let more jobs leave in a round than there are
   pub too_many : (problem : Problem) (asked : ℕ) → IsInstanceFile limits layout file block problem
       → options.take ≡ Some asked → problem.shop.jobs < asked
       → ReadsOn reader_failed result → TellsFault (faults.TakeRange asked problem.shop.jobs) old new result

@@ -1,188 +1,171 @@
--- What the program does for a job: which files it opens, in which order, and what the engine does with them. What is
--- written is judged by the output and the engine's answer.
-use Rattle.std.specs.Prelude.{⊤, ◌≡◌, ◌≢◌, ◌↔◌, ℕ, Bool, false, List, Option, None, Some, Result, Ok}
-use Rattle.std.specs.Prelude.{Err, ◌⊎◌, IfErr}
-use Rattle.pfs_layout.specs.declared.fault.LayoutFault.TheVariants as layout_faults
+-- What the program does for a job: which files it opens and closes, in which order, how far its engine reads them, and
+-- what it prints or which fault it reports.
+use Rattle.std.specs.Prelude.{⊤, ◌≡◌, ◌↔◌, ℕ, Bool, true, false, List, [], ◌∷◌, ◌++◌, map, Option, None, Some}
+use Rattle.std.specs.Prelude.{Result, Ok, Err, ◌⊎◌}
+use Rattle.std.specs.Io.KnownBytes.{Appends}
+use Rattle.pfs_base.specs.declared.device.WriteFault.{WriteFault}
+use Rattle.pfs_base.specs.Sends.{SendsFront}
+use Rattle.pfs_layout.specs.declared.fault.LayoutFault.{LayoutFault}
+use Rattle.pfs_layout.specs.declared.fault.LayoutFault.TheVariants.{SeedRange}
 use Rattle.pfs_layout.specs.declared.layout.Layout.{Layout}
 use Rattle.pfs_layout.specs.Generator.{IsSeed}
+use Rattle.pfs_order.specs.declared.fault.OrderFault.{OrderFault}
 use Rattle.pfs_words.specs.declared.job.Job.{Job}
 use Rattle.pfs_words.specs.declared.job.Job.TheVariants as job
-use Rattle.pfs_words.specs.declared.solve_options.SolveOptions.{SolveOptions}
 use Rattle.pfs_desk.specs.declared.fault.DeskFault.{DeskFault}
 use Rattle.pfs_desk.specs.declared.fault.DeskFault.TheVariants as faults
 use Rattle.pfs_desk.specs.declared.fault.Outcome.{Outcome}
-use Rattle.pfs_desk.specs.declared.files.OpenFault.TheVariants.{Closed}
+use Rattle.pfs_desk.specs.declared.files.OpenFault.{OpenFault}
 use Rattle.pfs_desk.specs.declared.stop.Stop.{Stop}
-use Rattle.pfs_desk.specs.declared.stop.Stop.TheVariants as stops
+use Rattle.pfs_desk.specs.declared.stop.Stop.TheVariants.{Fault}
 use Rattle.pfs_desk.specs.Engine.{ValueOutput, SolveOutput, CheckOutput, TableOutput, ConvertOutput, GenerateOutput}
-use Rattle.pfs_desk.specs.Engine.{ReadsBlock, ReadsOrder, RefusesNoOrder, RefusesNoTake, JudgesTake, IsGenerateFault}
-use Rattle.pfs_desk.specs.Engine.{WritesOutput, WantsBehindFirst, WantsBehindSecond}
-use Rattle.pfs_desk.specs.Standing.{Standing, Asks, MayOpen, MayRefuse}
+use Rattle.pfs_desk.specs.Engine.{IsValueFault, IsSolveFault, IsAuditFault, IsConvertFault, IsGenerateFault}
+use Rattle.pfs_desk.specs.Engine.{SourceUse, source_use, IsUnread, ReadsBlock, ReadsOrder}
+use Rattle.pfs_desk.specs.ProgramText.{open_stop}
+use Rattle.pfs_desk.specs.Standing.{Standing, MayOpen, MayRefuse, FileEvent, opened, refused, closed, Logs}
 
--- how an engine that answers this has written its output
-abbrev pub Writing : Type 1
-Writing = (Outcome → List ℕ → Type 0) → Result Outcome DeskFault → Type 0
+-- the result of a job: a text to print and the outcome after it, or why the program stops without one
+pub data Answer : Type 0 where
+  prints : Outcome → List ℕ → Answer
+  stops : Stop → Answer
 
--- what an engine answers, as the program ends with it
-abbrev pub ending : Result Outcome DeskFault → Result Outcome Stop
-ending (Ok outcome) = Ok outcome
-ending (Err fault) = Err (stops.Fault fault)
+-- the fault of the instance file, or of the order file, that it reports
+abbrev pub layout_fault_in : Answer → Option LayoutFault
+layout_fault_in (stops (Fault (faults.Layout fault))) = Some fault
+layout_fault_in others = None
 
--- an output that was written directly
-abbrev pub writing_of : Option (List ℕ) → Option (List ℕ) → Bool → Writing
-writing_of old new failed = λ output answer. WritesOutput output old new failed answer
+abbrev pub order_fault_in : Answer → Option OrderFault
+order_fault_in (stops (Fault (faults.Order fault))) = Some fault
+order_fault_in others = None
 
--- a path can't be opened, or memory for that was refused
-abbrev pub CannotOpen : Standing → Result Outcome Stop → Type 0
-CannotOpen standing (Err stops.Open) = MayRefuse standing Closed
-CannotOpen standing (Err (stops.Fault faults.Memory)) = ⊤
-CannotOpen standing others = ⊥
+-- ---- what is read
 
--- a path was asked for that could not be opened, and nothing was written
-pub record StopsAtOpening (standing : List ℕ → Standing) (asked asked' : Option (List (List ℕ))) (path : List ℕ)
-    (unwritten : Type 0) (result : Result Outcome Stop) : Type 0 where
-  pub closed : CannotOpen (standing path) result
-  pub asks : Asks asked asked' path
-  pub nothing : unwritten
+-- an open file of which nothing was read
+abbrev pub unread : Option (List ℕ) → SourceUse
+unread given = source_use given given false false false
 
--- the same of a second path, where the first was opened
-pub record StopsAtSecond (standing : List ℕ → Standing) (asked asked' : Option (List (List ℕ)))
-    (path order_path : List ℕ) (unwritten : Type 0) (result : Result Outcome Stop) : Type 0 where
-  pub file : Option (List ℕ)
-  pub between : Option (List (List ℕ))
-  pub opened : MayOpen (standing path) file
-  pub asks : Asks asked between path
-  pub stops : StopsAtOpening standing between asked' order_path unwritten result
+-- the paths that a job names
+abbrev pub paths_of : Job → List (List ℕ)
+paths_of (job.Value layout block None) = []
+paths_of (job.Value layout block (Some path)) = path ∷ []
+paths_of (job.Solve layout block options path) = path ∷ []
+paths_of (job.Check layout block path order_path) = path ∷ order_path ∷ []
+paths_of (job.Table layout block path order_path) = path ∷ order_path ∷ []
+paths_of (job.Convert source target block path) = path ∷ []
+paths_of (job.Generate jobs machines seed) = []
 
--- no file was opened, and an engine ran
-pub record RunsAlone (asked asked' : Option (List (List ℕ))) (runs : Result Outcome DeskFault → Type 0)
+-- each of these opened files has the bytes at its path, and no read of it had reported the end
+abbrev pub GiveStanding : (List ℕ → Standing) → List (List ℕ) → List SourceUse → Type 0
+GiveStanding standing [] [] = ⊤
+GiveStanding standing (path ∷ paths) (file ∷ files) =
+    MayOpen (standing path) file.given × (file.was_ended ≡ false) × GiveStanding standing paths files
+GiveStanding standing paths files = ⊥
+
+abbrev pub closing : SourceUse → FileEvent
+closing file = closed file.left file.failed file.ended
+
+-- all paths were opened, one after the other; then the files were read, and closed
+pub record ReadsFiles (standing : List ℕ → Standing) (log log' : Option (List FileEvent)) (paths : List (List ℕ))
+    (files : List SourceUse) : Type 0 where
+  pub give : GiveStanding standing paths files
+  pub events : Logs log log' (map opened paths ++ map closing files)
+
+-- a path could not be opened: those before it were, and their files were closed unread
+pub record StopsAtPath (standing : List ℕ → Standing) (log log' : Option (List FileEvent)) (paths : List (List ℕ))
+    (answer : Answer) : Type 0 where
+  pub before : List (List ℕ)
+  pub path : List ℕ
+  pub after : List (List ℕ)
+  pub given : List (Option (List ℕ))
+  pub fault : OpenFault
+  pub parts : paths ≡ before ++ path ∷ after
+  pub give : GiveStanding standing before (map unread given)
+  pub may_refuse : MayRefuse (standing path) fault
+  pub events : Logs log log' (map opened before ++ refused path fault ∷ map closing (map unread given))
+  pub reported : answer ≡ stops (open_stop fault)
+
+-- ---- what an engine returns
+
+-- one of its outputs, or one of its faults other than a failed write, which any output may meet
+abbrev pub IsAnswerOf : (Outcome → List ℕ → Type 0) → (DeskFault → Type 0) → Answer → Type 0
+IsAnswerOf Output IsFault (prints outcome text) = Output outcome text
+IsAnswerOf Output IsFault (stops (Fault (faults.Write fault))) = ⊥
+IsAnswerOf Output IsFault (stops (Fault fault)) = IsFault fault
+IsAnswerOf Output IsFault (stops others) = ⊥
+
+-- the result for a block of an instance file, which was read as far as needed
+pub record AnswersOn (layout : Layout) (block : ℕ) (Output : Outcome → List ℕ → Type 0) (IsFault : DeskFault → Type 0)
+    (file : SourceUse) (answer : Answer) : Type 0 where
+  pub is : IsAnswerOf Output IsFault answer
+  pub reads : ReadsBlock layout block file (layout_fault_in answer)
+
+-- the result for a block and an order file
+pub record AnswersOnBoth (layout : Layout) (block : ℕ) (Output : Outcome → List ℕ → Type 0) (file orders : SourceUse)
+    (answer : Answer) : Type 0 where
+  pub first : AnswersOn layout block Output (IsAuditFault layout file.given block orders.given) file answer
+  pub reads_order : ReadsOrder orders (layout_fault_in answer) (order_fault_in answer)
+
+abbrev pub AnswersValue : Layout → ℕ → SourceUse → Answer → Type 0
+AnswersValue layout block file answer =
+    AnswersOn layout block (ValueOutput layout file.given block) (IsValueFault layout file.given block) file answer
+
+-- the engine of a job has this result on standard input, or on the files at the job's paths
+abbrev pub AnswersJob : Job → SourceUse → List SourceUse → Answer → Type 0
+AnswersJob (job.Value layout block None) input [] answer = AnswersValue layout block input answer
+AnswersJob (job.Value layout block (Some path)) input (file ∷ []) answer =
+    IsUnread input × AnswersValue layout block file answer
+AnswersJob (job.Solve layout block options path) input (file ∷ []) answer = IsUnread input
+    × AnswersOn layout block (SolveOutput layout file.given block options)
+    (IsSolveFault layout file.given block options.take) file answer
+AnswersJob (job.Check layout block path order_path) input (file ∷ orders ∷ []) answer = IsUnread input
+    × AnswersOnBoth layout block (CheckOutput layout file.given block orders.given) file orders answer
+AnswersJob (job.Table layout block path order_path) input (file ∷ orders ∷ []) answer = IsUnread input
+    × AnswersOnBoth layout block (TableOutput layout file.given block orders.given) file orders answer
+AnswersJob (job.Convert source target block path) input (file ∷ []) answer = IsUnread input
+    × AnswersOn source block (ConvertOutput source target file.given block) (IsConvertFault source file.given block)
+    file answer
+AnswersJob (job.Generate jobs machines seed) input [] answer = IsUnread input
+    × IsAnswerOf (GenerateOutput jobs machines seed) IsGenerateFault answer
+    × ((layout_fault_in answer ≡ Some SeedRange) ↔ (¬ IsSeed seed))
+AnswersJob others input files answer = ⊥
+
+pub record RunsEngine (asked : Job) (standing : List ℕ → Standing) (log log' : Option (List FileEvent))
+    (input : SourceUse) (answer : Answer) : Type 0 where
+  pub files : List SourceUse
+  pub reads : ReadsFiles standing log log' (paths_of asked) files
+  pub answers : AnswersJob asked input files answer
+
+-- what the program does for a job, and the job's result; log and log' are the log before and after
+abbrev pub RunsJob : Job → (List ℕ → Standing) → Option (List FileEvent) → Option (List FileEvent) → SourceUse → Answer
+    → Type 0
+RunsJob asked standing log log' input answer =
+    (IsUnread input × StopsAtPath standing log log' (paths_of asked) answer)
+    ⊎ RunsEngine asked standing log log' input answer
+
+-- ---- what is written of the result
+
+-- whether a result reports a failed write
+abbrev pub reports_write : Result Outcome Stop → Bool
+reports_write (Err (Fault (faults.Write fault))) = true
+reports_write others = false
+
+-- some result has its text written, and a failed write is reported exactly where a write failed
+pub record Delivers (IsAnswer : Answer → Type 0) (IsWritten : Answer → Result Outcome Stop → Type 0) (failed : Bool)
     (result : Result Outcome Stop) : Type 0 where
-  pub answer : Result Outcome DeskFault
-  pub none_asked : asked' ≡ asked
-  pub ran : runs answer
-  pub ends : result ≡ ending answer
+  pub answer : Answer
+  pub is_answer : IsAnswer answer
+  pub is_written : IsWritten answer result
+  pub write_failed : failed ≡ reports_write result
 
--- one file was opened, and an engine ran on it
-pub record RunsOnFile (standing : List ℕ → Standing) (asked asked' : Option (List (List ℕ))) (path : List ℕ)
-    (runs : Option (List ℕ) → Option (List ℕ) → Bool → Result Outcome DeskFault → Type 0)
-    (result : Result Outcome Stop) : Type 0 where
-  pub file : Option (List ℕ)
-  pub left : Option (List ℕ)
-  pub failed : Bool
-  pub answer : Result Outcome DeskFault
-  pub opened : MayOpen (standing path) file
-  pub asks : Asks asked asked' path
-  pub ran : runs file left failed answer
-  pub ends : result ≡ ending answer
-
--- two files were opened, one after the other, and then an engine ran on them
-pub record RunsOnFiles (standing : List ℕ → Standing) (asked asked' : Option (List (List ℕ))) (path order_path : List ℕ)
-    (runs : Option (List ℕ) → Option (List ℕ) → Bool → Option (List ℕ) → Option (List ℕ) → Bool
-    → Result Outcome DeskFault → Type 0)
-    (result : Result Outcome Stop) : Type 0 where
-  pub file : Option (List ℕ)
-  pub left : Option (List ℕ)
-  pub failed : Bool
-  pub orders : Option (List ℕ)
-  pub orders_left : Option (List ℕ)
-  pub orders_failed : Bool
-  pub between : Option (List (List ℕ))
-  pub answer : Result Outcome DeskFault
-  pub opened : MayOpen (standing path) file
-  pub opened_orders : MayOpen (standing order_path) orders
-  pub asks : Asks asked between path
-  pub asks_next : Asks between asked' order_path
-  pub ran : runs file left failed orders orders_left orders_failed answer
-  pub ends : result ≡ ending answer
-
-abbrev pub WithFile : (List ℕ → Standing) → Option (List (List ℕ)) → Option (List (List ℕ)) → List ℕ → Type 0
-    → (Option (List ℕ) → Option (List ℕ) → Bool → Result Outcome DeskFault → Type 0) → Result Outcome Stop → Type 0
-WithFile standing asked asked' path unwritten runs result =
-    StopsAtOpening standing asked asked' path unwritten result
-    ⊎ RunsOnFile standing asked asked' path runs result
-
-abbrev pub WithFiles : (List ℕ → Standing) → Option (List (List ℕ)) → Option (List (List ℕ)) → List ℕ → List ℕ → Type 0
-    → (Option (List ℕ) → Option (List ℕ) → Bool → Option (List ℕ) → Option (List ℕ) → Bool
-    → Result Outcome DeskFault → Type 0)
-    → Result Outcome Stop → Type 0
-WithFiles standing asked asked' path order_path unwritten runs result =
-    StopsAtOpening standing asked asked' path unwritten result
-    ⊎ (StopsAtSecond standing asked asked' path order_path unwritten result
-    ⊎ RunsOnFiles standing asked asked' path order_path runs result)
-
--- what each engine owes, as its contract says it
-pub record RunsValue (layout : Layout) (block : ℕ) (writing : Writing) (file left : Option (List ℕ)) (failed : Bool)
-    (answer : Result Outcome DeskFault) : Type 0 where
-  pub written : writing (ValueOutput layout file block) answer
-  pub reads : ReadsBlock layout block file left failed answer
-  pub one_file : IfErr answer RefusesNoOrder
-  pub no_take : IfErr answer RefusesNoTake
-  pub memory : IfErr answer (WantsBehindFirst layout file block)
-
-pub record RunsSolve (layout : Layout) (block : ℕ) (options : SolveOptions) (writing : Writing)
-    (file left : Option (List ℕ)) (failed : Bool) (answer : Result Outcome DeskFault) : Type 0 where
-  pub written : writing (SolveOutput layout file block options) answer
-  pub reads : ReadsBlock layout block file left failed answer
-  pub one_file : IfErr answer RefusesNoOrder
-  pub take : IfErr answer (JudgesTake layout file block options.take)
-
-pub record RunsAudit (layout : Layout) (block : ℕ)
-    (output : Option (List ℕ) → Option (List ℕ) → Outcome → List ℕ → Type 0) (writing : Writing)
-    (file left : Option (List ℕ)) (failed : Bool) (orders orders_left : Option (List ℕ)) (orders_failed : Bool)
-    (answer : Result Outcome DeskFault) : Type 0 where
-  pub written : writing (output file orders) answer
-  pub reads : ReadsBlock layout block file left failed answer
-  pub reads_order : ReadsOrder layout block file orders orders_left orders_failed answer
-  pub no_take : IfErr answer RefusesNoTake
-  pub memory : IfErr answer (WantsBehindSecond layout file block orders)
-
-abbrev pub RunsCheck : Layout → ℕ → Writing → Option (List ℕ) → Option (List ℕ) → Bool
-    → Option (List ℕ) → Option (List ℕ) → Bool → Result Outcome DeskFault → Type 0
-RunsCheck layout block writing = RunsAudit layout block (λ file orders. CheckOutput layout file block orders) writing
-
-abbrev pub RunsTable : Layout → ℕ → Writing → Option (List ℕ) → Option (List ℕ) → Bool
-    → Option (List ℕ) → Option (List ℕ) → Bool → Result Outcome DeskFault → Type 0
-RunsTable layout block writing = RunsAudit layout block (λ file orders. TableOutput layout file block orders) writing
-
-pub record RunsConvert (source target : Layout) (block : ℕ) (writing : Writing) (file left : Option (List ℕ))
-    (failed : Bool) (answer : Result Outcome DeskFault) : Type 0 where
-  pub written : writing (ConvertOutput source target file block) answer
-  pub reads : ReadsBlock source block file left failed answer
-  pub one_file : IfErr answer RefusesNoOrder
-  pub no_take : IfErr answer RefusesNoTake
-  pub no_more_memory : answer ≢ Err faults.Memory
-
-pub record RunsGenerate (jobs machines seed : ℕ) (writing : Writing) (answer : Result Outcome DeskFault)
+-- a write failed after a first part of the text
+pub record WritesFrontOf (text : List ℕ) (old new : Option (List ℕ)) (failed : Bool) (result : Result Outcome Stop)
     : Type 0 where
-  pub written : writing (GenerateOutput jobs machines seed) answer
-  pub seed_range : answer ≡ Err (faults.Layout layout_faults.SeedRange) ↔ (¬ IsSeed seed)
-  pub fault : IfErr answer IsGenerateFault
+  pub fault : WriteFault
+  pub reported : result ≡ Err (Fault (faults.Write fault))
+  pub front : SendsFront old new failed 0 text fault.written
 
--- standard input was not read
-abbrev pub Unread : Option (List ℕ) → Option (List ℕ) → Bool → Type 0
-Unread input input' failed = (input' ≡ input) × (failed ≡ false)
-
--- what the program does for a job, where `asked` are the paths that were asked for before and `input` is what standard
--- input gives, and both have a dash behind them as they are afterwards
-abbrev pub RunsJob : Job → (List ℕ → Standing) → Option (List (List ℕ)) → Option (List (List ℕ)) → Option (List ℕ)
-    → Option (List ℕ) → Bool → Type 0 → Writing → Result Outcome Stop → Type 0
-RunsJob (job.Value layout block None) standing asked asked' input input' failed unwritten writing result =
-    RunsAlone asked asked' (RunsValue layout block writing input input' failed) result
-RunsJob (job.Value layout block (Some path)) standing asked asked' input input' failed unwritten writing result =
-    Unread input input' failed
-    × WithFile standing asked asked' path unwritten (RunsValue layout block writing) result
-RunsJob (job.Solve layout block options path) standing asked asked' input input' failed unwritten writing result =
-    Unread input input' failed
-    × WithFile standing asked asked' path unwritten (RunsSolve layout block options writing) result
-RunsJob (job.Check layout block path order_path) standing asked asked' input input' failed unwritten writing result =
-    Unread input input' failed
-    × WithFiles standing asked asked' path order_path unwritten (RunsCheck layout block writing) result
-RunsJob (job.Table layout block path order_path) standing asked asked' input input' failed unwritten writing result =
-    Unread input input' failed
-    × WithFiles standing asked asked' path order_path unwritten (RunsTable layout block writing) result
-RunsJob (job.Convert source target block path) standing asked asked' input input' failed unwritten writing result =
-    Unread input input' failed
-    × WithFile standing asked asked' path unwritten (RunsConvert source target block writing) result
-RunsJob (job.Generate jobs machines seed) standing asked asked' input input' failed unwritten writing result =
-    Unread input input' failed
-    × RunsAlone asked asked' (RunsGenerate jobs machines seed writing) result
+-- all of the text is written, or a first part of it, and nothing where there is none
+abbrev pub WritesAnswer : Option (List ℕ) → Option (List ℕ) → Bool → Answer → Result Outcome Stop → Type 0
+WritesAnswer old new failed (prints outcome text) result =
+    ((result ≡ Ok outcome) × Appends old new text) ⊎ WritesFrontOf text old new failed result
+WritesAnswer old new failed (stops stop) result = (result ≡ Err stop) × (failed ≡ false) × (new ≡ old)

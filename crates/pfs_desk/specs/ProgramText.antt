@@ -15,7 +15,7 @@ use Rattle.pfs_words.specs.declared.usage.UsageFault.{UsageFault}
 use Rattle.pfs_words.specs.declared.usage.UsageFault.TheVariants as usage_faults
 use Rattle.pfs_desk.specs.FaultText.{fault_text, status_of}
 
--- the line of each command, behind a first line
+-- the line of each command, after a first line
 unfoldable pub usage_text : List ℕ
 usage_text = flat_map with_line_end (
     codes "pfs: usage"
@@ -27,29 +27,29 @@ usage_text = flat_map with_line_end (
     ∷ codes "pfs generate N M SEED"
     ∷ [])
 
--- the words ask for nothing, or memory was refused
+-- the arguments are invalid, or a memory allocation failed
 abbrev pub usage_stop : UsageFault → Stop
 usage_stop usage_faults.Usage = stops.Usage
 usage_stop usage_faults.Memory = stops.Fault faults.Memory
 
--- a file can't be opened, or memory was refused
+-- a file can't be opened, or a memory allocation failed
 abbrev pub open_stop : OpenFault → Stop
 open_stop open_faults.Closed = stops.Open
 open_stop open_faults.Memory = stops.Fault faults.Memory
 
--- what the error output is told
+-- the text on the error output
 abbrev pub stop_text : Stop → List ℕ
 stop_text stops.Usage = usage_text
 stop_text stops.Open = with_line_end (codes "pfs: cannot open")
 stop_text (stops.Fault fault) = fault_text fault
 
--- 3 where the words ask for nothing, and 4 where a file can't be opened
+-- 3 where the arguments are invalid, and 4 where a file can't be opened
 abbrev pub stop_status_of : Stop → ℕ
 stop_status_of stops.Usage = 3
 stop_status_of stops.Open = 4
 stop_status_of (stops.Fault fault) = status_of fault
 
--- 0 where all was printed that was asked for, and 1 where a check failed
+-- 0 where the whole result was printed, and 1 where a check failed
 abbrev pub exit_status_of : Result Outcome Stop → ℕ
 exit_status_of (Ok Done) = 0
 exit_status_of (Ok CheckFailed) = 1
@@ -60,7 +60,7 @@ pub record TellsText (text : List ℕ) (old new : Option (List ℕ)) (failed : B
   pub answer : Result (Unit {0}) WriteFault
   pub printed : Prints old new failed text answer
 
--- the error output is told why the program stopped, and else nothing
+-- the error output has the reason why the program stopped, if it stopped, and else nothing
 abbrev pub Tells : Result Outcome Stop → Option (List ℕ) → Option (List ℕ) → Bool → Type 0
 Tells (Ok outcome) old new failed = (failed ≡ false) × (new ≡ old)
 Tells (Err stop) old new failed = TellsText (stop_text stop) old new failed

@@ -10,18 +10,18 @@ use Rattle.pfs_desk.specs.declared.fault.DeskFault.TheVariants.{TakeRange}
 use Rattle.pfs_words.specs.declared.solve_options.SolveOptions.{SolveOptions}
 use Rattle.pfs_words.specs.declared.solve_options.TheConstants.{DEFAULT_TAKE}
 
--- how many jobs a round takes out of so many: as asked for, or else the default, but no more than there are
+-- the number of jobs that leave in a round: the given number, or else the default, but at most all jobs
 abbrev pub take_for : Option ℕ → ℕ → ℕ
 take_for (Some asked) jobs = asked
 take_for None jobs = min DEFAULT_TAKE jobs
 
--- an order and its makespan as an order file that states the machines too, and behind it, where that is asked for, a
--- count of cells
+-- an order and its makespan as an order file that states the machines too, followed, with `--cells`, by the count of
+-- cells
 unfoldable pub solution_text : List ℕ → ℕ → ℕ → Bool → ℕ → List ℕ
 solution_text order machines makespan with_cells cells =
     file_text order (Some machines) makespan ++ (if with_cells then named_number (codes "cells") cells else [])
 
--- more jobs are asked for than there are, and the fault tells both numbers
+-- the given number is above that of all jobs, and the fault has both numbers
 abbrev pub IsTakeFault : Option ℕ → ℕ → DeskFault → Type 0
 IsTakeFault asked jobs (TakeRange take others) = (asked ≡ Some take) × (jobs < take) × (others ≡ jobs)
 IsTakeFault asked jobs others = ⊥

@@ -1,11 +1,11 @@
 //! Which job runs: the files that it names are opened, and its engine runs.
-ghost use Rattle.std.specs.Prelude.{◌≡◌, false};
+ghost use Rattle.std.specs.Prelude.{◌≡◌, false, IfOk, IfErr};
 ghost use Rattle.pfs_base.specs.declared.limits.TheConstants.{MOST_BLOCKS};
 ghost use Rattle.pfs_words.specs.Jobs.{AreOptions, IsFrom1To, IsWithinLimits};
-ghost use Rattle.pfs_desk.specs.Engine.{WritesNothing};
-ghost use Rattle.pfs_desk.specs.Program.{RunsJob, RunsSolve, RunsCheck, RunsTable, RunsConvert};
-ghost use Rattle.pfs_desk.specs.Program.{WithFile, WithFiles, writing_of};
-ghost use Rattle.pfs_desk.specs.Program.{ending as ending_of};
+ghost use Rattle.pfs_desk.specs.Engine.{IsUnread, SourceUse, source_use};
+ghost use Rattle.pfs_desk.specs.Program.{Delivers, RunsJob, WritesAnswer};
+ghost use Rattle.pfs_desk.specs.Private.LetsOut.{OpensBoth, RefusesOne};
+ghost use Rattle.pfs_desk.specs.Private.LetsOut.{ending as ending_of};
 
 use crate::engines::check::run_check;
 use crate::engines::convert::run_convert;
@@ -14,7 +14,7 @@ use crate::engines::solve::run_solve;
 use crate::engines::table::run_table;
 use crate::engines::value::run_value;
 use crate::fault::{DeskFault, Outcome};
-use crate::files::Files;
+use crate::files::{Files, OpenFault};
 use crate::stop::Stop;
 use pfs_base::{Sink, Source};
 use pfs_layout::Layout;
@@ -32,10 +32,11 @@ pub fn run_job<F: Files, R: Source, W: Sink>(
     requires within { IsWithinLimits job.now }
     requires reading { R.has_failed input.old ≡ false }
     requires writing { W.has_failed writer.old ≡ false }
-    ensures { RunsJob job.now (F.standing files.old) (F.asked files.old) (F.asked files.new)
-        (R.left input.old) (R.left input.new) (R.has_failed input.new)
-        (WritesNothing (W.written writer.old) (W.written writer.new) (W.has_failed writer.new))
-        (writing_of (W.written writer.old) (W.written writer.new) (W.has_failed writer.new)) result }
+    ensures { Delivers (RunsJob job.now (F.standing files.old) (F.log files.old) (F.log files.new)
+        (source_use (R.left input.old) (R.left input.new) (R.has_failed input.new)
+        (R.has_ended input.old) (R.has_ended input.new)))
+        (WritesAnswer (W.written writer.old) (W.written writer.new) (W.has_failed writer.new))
+        (W.has_failed writer.new) result }
 {
     match job {
         Job::Value {
@@ -95,16 +96,22 @@ fn print_value<F: Files, R: Source, W: Sink>(
     requires within { IsFrom1To MOST_BLOCKS block }
     requires reading { R.has_failed input.old ≡ false }
     requires writing { W.has_failed writer.old ≡ false }
-    ensures { RunsJob (Job.Value layout block path.now) (F.standing files.old) (F.asked files.old) (F.asked files.new)
-        (R.left input.old) (R.left input.new) (R.has_failed input.new)
-        (WritesNothing (W.written writer.old) (W.written writer.new) (W.has_failed writer.new))
-        (writing_of (W.written writer.old) (W.written writer.new) (W.has_failed writer.new)) result }
+    ensures { Delivers (RunsJob (Job.Value layout block path.now)
+        (F.standing files.old) (F.log files.old) (F.log files.new)
+        (source_use (R.left input.old) (R.left input.new) (R.has_failed input.new)
+        (R.has_ended input.old) (R.has_ended input.new)))
+        (WritesAnswer (W.written writer.old) (W.written writer.new) (W.has_failed writer.new))
+        (W.has_failed writer.new) result }
 {
-    let Some(path) = path else {
-        return ending(run_value(alloc, input, layout, block, writer));
-    };
-    let mut file = files.open(path)?;
-    ending(run_value(alloc, &mut file, layout, block, writer))
+    match path {
+        None => ending(run_value(alloc, input, layout, block, writer)),
+        Some(path) => {
+            let mut file = files.open(path)?;
+            let answer = run_value(alloc, &mut file, layout, block, writer);
+            files.close(file);
+            ending(answer)
+        }
+    }
 }
 
 // Prints the order that a search finds.
@@ -120,13 +127,41 @@ fn print_order<F: Files, W: Sink>(
     requires within { IsFrom1To MOST_BLOCKS block }
     requires options { AreOptions options.now }
     requires writing { W.has_failed writer.old ≡ false }
-    ensures { WithFile (F.standing files.old) (F.asked files.old) (F.asked files.new) path.now
-        (WritesNothing (W.written writer.old) (W.written writer.new) (W.has_failed writer.new))
-        (RunsSolve layout block options.now
-        (writing_of (W.written writer.old) (W.written writer.new) (W.has_failed writer.new))) result }
+    ensures { (input : SourceUse) → IsUnread input → Delivers (RunsJob (Job.Solve layout block options.now path.now)
+        (F.standing files.old) (F.log files.old) (F.log files.new) input)
+        (WritesAnswer (W.written writer.old) (W.written writer.new) (W.has_failed writer.new))
+        (W.has_failed writer.new) result }
 {
     let mut file = files.open(path)?;
-    ending(run_solve(alloc, &mut file, layout, block, options, writer))
+    let answer = run_solve(alloc, &mut file, layout, block, options, writer);
+    files.close(file);
+    ending(answer)
+}
+
+// Opens two files, one after the other. Where the second can't be opened, the first is closed unread.
+fn open_both<F: Files>(
+    files: &mut F,
+    path: &PathText,
+    order_path: &PathText,
+) -> Result<(F::File, F::File), OpenFault>
+    ensures kept { F.standing files.new ≡ F.standing files.old }
+    ensures both { IfOk result (λ both. OpensBoth (F.standing files.old) (F.log files.old) (F.log files.new)
+        path.now order_path.now (F.File.left both.0) (F.File.left both.1)) }
+    ensures working { IfOk result (λ both. F.File.has_failed both.0 ≡ false) }
+    ensures working_orders { IfOk result (λ both. F.File.has_failed both.1 ≡ false) }
+    ensures fresh { IfOk result (λ both. F.File.has_ended both.0 ≡ false) }
+    ensures fresh_orders { IfOk result (λ both. F.File.has_ended both.1 ≡ false) }
+    ensures refused { IfErr result (RefusesOne (F.standing files.old) (F.log files.old) (F.log files.new)
+        path.now order_path.now) }
+{
+    let file = files.open(path)?;
+    match files.open(order_path) {
+        Ok(orders) => Ok((file, orders)),
+        Err(fault) => {
+            files.close(file);
+            Err(fault)
+        }
+    }
 }
 
 // Prints the verdict on an order file.
@@ -141,14 +176,16 @@ fn print_verdict<F: Files, W: Sink>(
 ) -> Result<Outcome, Stop>
     requires within { IsFrom1To MOST_BLOCKS block }
     requires writing { W.has_failed writer.old ≡ false }
-    ensures { WithFiles (F.standing files.old) (F.asked files.old) (F.asked files.new) path.now order_path.now
-        (WritesNothing (W.written writer.old) (W.written writer.new) (W.has_failed writer.new))
-        (RunsCheck layout block
-        (writing_of (W.written writer.old) (W.written writer.new) (W.has_failed writer.new))) result }
+    ensures { (input : SourceUse) → IsUnread input → Delivers (RunsJob (Job.Check layout block path.now order_path.now)
+        (F.standing files.old) (F.log files.old) (F.log files.new) input)
+        (WritesAnswer (W.written writer.old) (W.written writer.new) (W.has_failed writer.new))
+        (W.has_failed writer.new) result }
 {
-    let mut file = files.open(path)?;
-    let mut orders = files.open(order_path)?;
-    ending(run_check(alloc, &mut file, layout, block, &mut orders, writer))
+    let (mut file, mut orders) = open_both(files, path, order_path)?;
+    let answer = run_check(alloc, &mut file, layout, block, &mut orders, writer);
+    files.close(file);
+    files.close(orders);
+    ending(answer)
 }
 
 // Prints the time table of an order file.
@@ -163,14 +200,16 @@ fn print_table<F: Files, W: Sink>(
 ) -> Result<Outcome, Stop>
     requires within { IsFrom1To MOST_BLOCKS block }
     requires writing { W.has_failed writer.old ≡ false }
-    ensures { WithFiles (F.standing files.old) (F.asked files.old) (F.asked files.new) path.now order_path.now
-        (WritesNothing (W.written writer.old) (W.written writer.new) (W.has_failed writer.new))
-        (RunsTable layout block
-        (writing_of (W.written writer.old) (W.written writer.new) (W.has_failed writer.new))) result }
+    ensures { (input : SourceUse) → IsUnread input → Delivers (RunsJob (Job.Table layout block path.now order_path.now)
+        (F.standing files.old) (F.log files.old) (F.log files.new) input)
+        (WritesAnswer (W.written writer.old) (W.written writer.new) (W.has_failed writer.new))
+        (W.has_failed writer.new) result }
 {
-    let mut file = files.open(path)?;
-    let mut orders = files.open(order_path)?;
-    ending(run_table(alloc, &mut file, layout, block, &mut orders, writer))
+    let (mut file, mut orders) = open_both(files, path, order_path)?;
+    let answer = run_table(alloc, &mut file, layout, block, &mut orders, writer);
+    files.close(file);
+    files.close(orders);
+    ending(answer)
 }
 
 // Prints the instance of a file in another layout.
@@ -185,11 +224,13 @@ fn print_converted<F: Files, W: Sink>(
 ) -> Result<Outcome, Stop>
     requires within { IsFrom1To MOST_BLOCKS block }
     requires writing { W.has_failed writer.old ≡ false }
-    ensures { WithFile (F.standing files.old) (F.asked files.old) (F.asked files.new) path.now
-        (WritesNothing (W.written writer.old) (W.written writer.new) (W.has_failed writer.new))
-        (RunsConvert source target block
-        (writing_of (W.written writer.old) (W.written writer.new) (W.has_failed writer.new))) result }
+    ensures { (input : SourceUse) → IsUnread input → Delivers (RunsJob (Job.Convert source target block path.now)
+        (F.standing files.old) (F.log files.old) (F.log files.new) input)
+        (WritesAnswer (W.written writer.old) (W.written writer.new) (W.has_failed writer.new))
+        (W.has_failed writer.new) result }
 {
     let mut file = files.open(path)?;
-    ending(run_convert(alloc, &mut file, source, target, block, writer))
+    let answer = run_convert(alloc, &mut file, source, target, block, writer);
+    files.close(file);
+    ending(answer)
 }

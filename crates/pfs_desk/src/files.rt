@@ -1,6 +1,6 @@
 //! Files that are opened for reading.
-ghost use Rattle.std.specs.Prelude.{◌≡◌, ℕ, List, Option, false, IfOk, IfErr};
-ghost use Rattle.pfs_desk.specs.Standing.{Standing, Asks, MayOpen, MayRefuse};
+ghost use Rattle.std.specs.Prelude.{◌≡◌, ℕ, ◌∷◌, [], List, Option, false, IfOk, IfErr};
+ghost use Rattle.pfs_desk.specs.Standing.{Standing, MayOpen, MayRefuse, FileEvent, closed, open_event, Logs};
 
 use pfs_base::Source;
 use pfs_words::PathText;
@@ -10,25 +10,32 @@ use pfs_words::PathText;
 pub enum OpenFault {
     /// It can't be opened.
     Closed,
-    /// Memory was refused.
+    /// Memory allocation failed.
     Memory,
 }
 
-/// What opens files for reading. Contracts see, where that is told, what stands at each path, and which paths
-/// were asked for, in their order.
+/// Opens files for reading, and closes them. Contracts see, where they are known, what is at each path, and the log of
+/// what was done with files, in order.
 pub trait Files {
     /// A file that is open.
     type File: Source + Drop;
 
     ghost standing: { Self → List ℕ → Standing };
 
-    ghost asked: { Self → Option (List (List ℕ)) };
+    ghost log: { Self → Option (List FileEvent) };
 
     /// Opens the file at a path.
     fn open(&mut self, path: &PathText) -> Result<Self::File, OpenFault>
-        ensures asked { Asks (asked self.old) (asked self.new) path.now }
+        ensures log { Logs (log self.old) (log self.new) (open_event path.now result ∷ []) }
         ensures kept { standing self.new ≡ standing self.old }
-        ensures opened { IfOk result (λ file. MayOpen (standing self.old path.now) (Self.File.left file)) }
+        ensures given { IfOk result (λ file. MayOpen (standing self.old path.now) (Self.File.left file)) }
         ensures working { IfOk result (λ file. Self.File.has_failed file ≡ false) }
+        ensures fresh { IfOk result (λ file. Self.File.has_ended file ≡ false) }
         ensures refused { IfErr result (MayRefuse (standing self.old path.now)) };
+
+    /// Closes an open file.
+    fn close(&mut self, file: Self::File)
+        ensures log { Logs (log self.old) (log self.new)
+            (closed (Self.File.left file) (Self.File.has_failed file) (Self.File.has_ended file) ∷ []) }
+        ensures kept { standing self.new ≡ standing self.old };
 }

@@ -1,7 +1,9 @@
 //! The whole program, from the words of its command line to its exit status.
-ghost use Rattle.std.specs.Prelude.{◌≡◌, false, IfOk, map, string_bytes};
+ghost use Rattle.std.specs.Prelude.{◌≡◌, false, map, string_bytes};
 ghost use Rattle.std.specs.Io.KnownBytes.{Keeps};
 ghost use Rattle.pfs_base.specs.Buffer.{IsNew, bytes_given};
+ghost use Rattle.pfs_desk.specs.Engine.{source_use};
+ghost use Rattle.pfs_desk.specs.Program.{reports_write};
 ghost use Rattle.pfs_desk.specs.WholeProgram.{Ends, Runs};
 ghost use Rattle.pfs_desk.specs.Private.LetsOut.{EndsOutput};
 
@@ -26,9 +28,10 @@ pub fn run_program<F: Files, R: Source, W: Sink, E: Sink>(
     requires reading { R.has_failed input.old ≡ false }
     requires writing { W.has_failed output.old.writer ≡ false }
     requires telling { E.has_failed errors.old ≡ false }
-    ensures { Ends (map string_bytes words.now) (F.standing files.old) (F.asked files.old) (F.asked files.new)
-        (R.left input.old) (R.left input.new) (R.has_failed input.new)
-        (IsNew W.written output.old) (W.written output.new.writer)
+    ensures { Ends (map string_bytes words.now) (F.standing files.old) (F.log files.old) (F.log files.new)
+        (source_use (R.left input.old) (R.left input.new) (R.has_failed input.new)
+        (R.has_ended input.old) (R.has_ended input.new))
+        (IsNew W.written output.old) (W.written output.new.writer) (W.has_failed output.new.writer)
         (E.written errors.old) (E.written errors.new) (E.has_failed errors.new) result }
 {
     let ended = run(alloc, words, files, input, output);
@@ -45,9 +48,10 @@ fn run<F: Files, R: Source, W: Sink>(
 ) -> Result<Outcome, Stop>
     requires reading { R.has_failed input.old ≡ false }
     requires writing { W.has_failed output.old.writer ≡ false }
-    ensures { Runs (map string_bytes words.now) (F.standing files.old) (F.asked files.old) (F.asked files.new)
-        (R.left input.old) (R.left input.new) (R.has_failed input.new)
-        (IsNew W.written output.old) (W.written output.new.writer) result }
+    ensures { Runs (map string_bytes words.now) (F.standing files.old) (F.log files.old) (F.log files.new)
+        (source_use (R.left input.old) (R.left input.new) (R.has_failed input.new)
+        (R.has_ended input.old) (R.has_ended input.new))
+        (IsNew W.written output.old) (W.written output.new.writer) (W.has_failed output.new.writer) result }
 {
     let job = plan(alloc, words)?;
     let answer = run_job(alloc, &job, files, input, output);
@@ -60,8 +64,9 @@ fn let_out<W: Sink>(
     output: &mut Buffered<W>,
     answer: Result<Outcome, Stop>,
 ) -> Result<Outcome, Stop>
-    requires { IfOk answer (λ _. W.has_failed output.old.writer ≡ false) }
+    requires { W.has_failed output.old.writer ≡ reports_write answer }
     ensures kept { Keeps (bytes_given W.written output.old) (bytes_given W.written output.new) }
+    ensures failed { W.has_failed output.new.writer ≡ reports_write result }
     ensures ends { EndsOutput answer output.new.held output.new.sent result }
 {
     match answer {

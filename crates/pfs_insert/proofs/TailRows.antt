@@ -52,7 +52,7 @@ module _ (shop : FlowShop) (jobs : List ℕ) where
       rw (lt-ltb row (length jobs) (omega arith), down, on) refl
 
   -- tails on the last machine
-  back_last : (row machine : ℕ) → row < length jobs → machine ≡ last →
+  pub back_last : (row machine : ℕ) → row < length jobs → machine ≡ last →
       heaviest_back shop jobs row machine ≡ heaviest_back shop jobs (suc row) machine + weigh row machine
   back_last row machine inside at_end =
       elim (cases_lt (suc row) (length jobs)) [
@@ -74,7 +74,7 @@ module _ (shop : FlowShop) (jobs : List ℕ) where
       ]
 
   -- and on one before it
-  back_more : (row machine : ℕ) → row < length jobs → machine < last → heaviest_back shop jobs row machine
+  pub back_more : (row machine : ℕ) → row < length jobs → machine < last → heaviest_back shop jobs row machine
       ≡ max (heaviest_back shop jobs (suc row) machine) (heaviest_back shop jobs row (suc machine)) + weigh row machine
   back_more row machine inside before =
       let ons = last - suc machine in
@@ -137,7 +137,7 @@ module _ {shop : FlowShop} {jobs : List ℕ} {values : ℕ → ℕ} {row next jo
 
 module _ (shop : FlowShop) (jobs : List ℕ) (job place : ℕ) (within : place ≤ length jobs) where
   -- the heads of the rows before the inserted one are those of the sequence
-  same_heads : (row machine : ℕ) → row ≤ place →
+  pub same_heads : (row machine : ℕ) → row ≤ place →
       head (operation shop jobs) row machine ≡ head (operation shop (insert jobs place job)) row machine
   same_heads zero machine le = refl
   same_heads (suc row) machine le =

@@ -7,7 +7,8 @@ ghost use Rattle.pfs_layout.specs.Laws.{DueAndBack, DueFronts, CanonicalLaw, Can
 ghost use Rattle.pfs_layout.specs.Laws.{GeneratedWithin};
 
 use crate::LayoutFault;
-use crate::reader::BlockReader;
+use crate::reader::{BlockReader, PIECE};
+use crate::scan::CEILING;
 use pfs_base::Instance;
 
 /// An input holds a problem's file exactly where the lines of a front of it lead to the wanted number of
@@ -118,3 +119,10 @@ pub fn cutting(
 {
     (one.finish(), other.finish())
 }
+
+/// The numbers of this crate that definitions name, in numerals: the most bytes that are read at once, and the number
+/// that stands for every greater one.
+pub fn numbers()
+    ensures piece { PIECE ≡ 4_096 }
+    ensures ceiling { CEILING ≡ 4_294_967_296 }
+{}

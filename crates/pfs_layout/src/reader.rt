@@ -105,11 +105,12 @@ impl BlockReader {
     }
 }
 
-/// How many bytes of a file are read at once, at most: behind the byte that ends the wanted block, or has
+/// How many bytes of a file are read at once, at most: after the byte that ends the wanted block, or has
 /// a fault, no more than the rest of such a piece is read.
 pub const PIECE: usize = 4096;
 
-/// Reads one block of an instance file, counted from 1, up to its end.
+/// Reads one block of an instance file, counted from 1, up to its end. A failed read is reported only where the
+/// source has not reported its end before.
 pub fn read_block<R: Source>(
     alloc: Global,
     reader: &mut R,
@@ -124,6 +125,7 @@ pub fn read_block<R: Source>(
     ensures refused { IfErr result (λ fault. fault ≢ LayoutFault.Read → fault ≢ LayoutFault.Memory
         → IfSome (R.left reader.old) (λ bytes. RefusesInstance layout bytes block fault)) }
     ensures read { result ≡ Err LayoutFault.Read ↔ (R.has_failed reader.new ≡ true) }
+    ensures before_end { result ≡ Err LayoutFault.Read → R.has_ended reader.new ≡ R.has_ended reader.old }
     ensures no_seed { result ≢ Err LayoutFault.SeedRange }
     ensures as_far { IfSome (R.left reader.old)
         (λ bytes. ReadsAsFar layout block bytes (R.left reader.new) (result_err result)) }

@@ -160,8 +160,9 @@ never_read bytes (Err Read) few (inr e) is = subst (OrderVerdict bytes) e (text_
 never_read bytes (Err fault) few (inr e) is = absurd (cc)
 
 -- the clauses of read_order, where a failed read is told just where the device has failed
-pub owed : {old new : Option (List ℕ)} {broken : Bool} (answer : Result StatedOrder OrderFault) → Told old new answer
-    → (answer ≡ Err Read → broken ≡ true) → (broken ≡ true → answer ≡ Err Read) → record {
+pub owed : {old new : Option (List ℕ)} {broken late late' : Bool} (answer : Result StatedOrder OrderFault)
+    → Told old new answer → (answer ≡ Err Read → broken ≡ true) → (broken ≡ true → answer ≡ Err Read)
+    → (answer ≡ Err Read → late' ≡ late) → record {
       accepted : IfOk answer (λ file. IfSome old (λ input. IsOrderFile input file));
       refused : IfErr answer (λ fault. IfSome old (λ input. RefusesUnlessFailed input fault));
       accepts : IfSome old (λ input. (file : StatedOrder) → IsOrderFile input file → IsUnlessFailed answer (Ok file));
@@ -171,8 +172,9 @@ pub owed : {old new : Option (List ℕ)} {broken : Bool} (answer : Result Stated
       reads : IfSome old (λ input. ReadsOrderAsFar input new (result_err answer));
       failed : answer ≡ Err Read → broken ≡ true;
       working : broken ≡ true → answer ≡ Err Read;
+      before_end : answer ≡ Err Read → late' ≡ late;
     }
-owed {old} answer told failed working = record {
+owed {old} answer told failed working before_end = record {
   accepted = accepted answer told;
   refused = refused answer told;
   accepts = IfSome_then old (says told) (λ input h file. one_answer input answer (Ok file) h);
@@ -181,4 +183,5 @@ owed {old} answer told failed working = record {
   reads = reads answer told;
   failed = failed;
   working = working;
+  before_end = before_end;
 }

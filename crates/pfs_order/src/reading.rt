@@ -47,7 +47,8 @@ struct Head {
 /// Reads an order file of version 1 or 2 to the end of the input, of which nothing else may be left. While
 /// it reads, a failed read and byte `LONGEST_ORDER_FILE` + 1 are told as they come; then the syntax of the
 /// whole, then want of memory, and then the jobs from the left, at each place out of range before repeated.
-/// The bytes stand in its frame, and the one memory that it asks for is that of the order.
+/// The bytes stand in its frame, and the one memory that it asks for is that of the order. A failed read is reported
+/// only where the source has not reported its end before.
 pub fn read_order<R: Source>(alloc: Global, reader: &mut R) -> Result<OrderFile, OrderFault>
     requires { R.has_failed reader.old ≡ false }
     ensures accepted { IfOk result (λ file.
@@ -63,6 +64,7 @@ pub fn read_order<R: Source>(alloc: Global, reader: &mut R) -> Result<OrderFile,
         ReadsOrderAsFar input (R.left reader.new) (result_err result)) }
     ensures failed { result ≡ Err OrderFault.Read → R.has_failed reader.new ≡ true }
     ensures working { R.has_failed reader.new ≡ true → result ≡ Err OrderFault.Read }
+    ensures before_end { result ≡ Err OrderFault.Read → R.has_ended reader.new ≡ R.has_ended reader.old }
 {
     let mut buffer = [0; ROOM];
     let filled = fill(reader, &mut buffer)?;
@@ -72,7 +74,7 @@ pub fn read_order<R: Source>(alloc: Global, reader: &mut R) -> Result<OrderFile,
     parse(alloc, &buffer[..filled])
 }
 
-// Reads to the end of the input or of the buffer, and answers how many bytes were read.
+// Reads to the end of the input or of the buffer, and returns how many bytes were read.
 fn fill<R: Source>(reader: &mut R, buffer: &mut [u8]) -> Result<usize, OrderFault>
     requires { R.has_failed reader.old ≡ false }
     ensures within { IfOk result (λ filled. filled ≤ length buffer.new) }
@@ -83,6 +85,7 @@ fn fill<R: Source>(reader: &mut R, buffer: &mut [u8]) -> Result<usize, OrderFaul
     ensures failed { OnErr result (R.has_failed reader.new ≡ true) }
     ensures fault { IfErr result (λ fault. fault ≡ OrderFault.Read) }
     ensures stopped { OnErr result (FillsBelow (length buffer.new) (R.left reader.old) (R.left reader.new)) }
+    ensures before_end { OnErr result (R.has_ended reader.new ≡ R.has_ended reader.old) }
 {
     let mut filled = 0;
     while filled < buffer.len() {

@@ -79,6 +79,14 @@ impl Seq {
         self.jobs[place]
     }
 
+    /// The jobs in order.
+    pub fn as_slice(&self) -> &[usize]
+        ensures value { result.now ≡ self.now.jobs }
+        ensures sequence { IsSequence self.now.size self.now.jobs }
+    {
+        self.jobs.as_slice()
+    }
+
     /// Whether a job stands in the sequence. It looks at every place.
     pub fn has(&self, job: usize) -> bool
         ensures { IsTrue result ↔ Contains self.now.jobs job }

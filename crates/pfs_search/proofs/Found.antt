@@ -1,5 +1,5 @@
 -- What a search finds and counts, and what rounds of it make of an order.
-use Rattle.std.proofs.Common.{◌≡◌, ℕ, ◌+◌, ◌-◌, ◌*◌, ◌<◌, ◌≤◌, ◌^◌, List, length, refl, ap₂, ◌∙◌, arith, lit<}
+use Rattle.std.proofs.Common.{◌≡◌, ℕ, ◌+◌, ◌-◌, ◌*◌, ◌<◌, ◌≤◌, ◌^◌, List, length, refl, ap, ap₂, ◌∙◌, arith, lit<}
 use Rattle.std.proofs.Math.Nat.{mul-le-mul, mul-le-mul_left, zero-add}
 use Rattle.rand_core.specs.Pcg32Seed.{pcg32_seed}
 use Rattle.rand_core.specs.Steps.{stream_of, steps_u32}
@@ -13,7 +13,7 @@ use Rattle.pfs_base.specs.Paths.{makespan}
 use Rattle.pfs_base.proofs.Published.Heads.{none_longer}
 use Rattle.pfs_order.specs.Sequence.{IsSequence}
 use Rattle.pfs_insert.specs.Insertion.{heads_tails_cost}
-use Rattle.pfs_search.specs.Costs.{neh_cost, round_cost, HasClosedCosts}
+use Rattle.pfs_search.specs.Costs.{neh_cost, neh_cost_on, round_cost, round_cost_on, HasClosedCosts}
 use Rattle.pfs_search.specs.Greedy.{after_rounds, words_of}
 use Rattle.pfs_search.specs.MostCells.{most_neh_cells, most_rounds_cells, FewNehCells, FewRoundsCells}
 use Rattle.pfs_search.specs.Neh.{neh_order}
@@ -102,6 +102,15 @@ pub rounds_room : (shop : FlowShop) (rounds take passes : ℕ) → IsWithin limi
     → rounds * round_cost heads_tails_cost shop.jobs shop.machines take passes < 2 ^ 62
 rounds_room shop rounds take passes within few short scarce = rw (rounds_cells_are shop rounds take passes few)
     (below_room _ most_rounds_cells (few_rounds_cells shop rounds take passes within few short scarce) (lit< tt))
+
+-- the same costs, of insertions that cost as much as those by heads and tails
+pub same_neh : {cost : ℕ → ℕ → ℕ} (shop : FlowShop) → cost ≡ heads_tails_cost
+    → neh_cost_on cost shop ≡ neh_cost_on heads_tails_cost shop
+same_neh shop same = ap (λ c. neh_cost_on c shop) same
+
+pub same_rounds : {cost : ℕ → ℕ → ℕ} (shop : FlowShop) (rounds take passes : ℕ) → cost ≡ heads_tails_cost
+    → rounds * round_cost_on cost shop take passes ≡ rounds * round_cost_on heads_tails_cost shop take passes
+same_rounds shop rounds take passes same = ap (λ c. rounds * round_cost_on c shop take passes) same
 
 -- ---- makespans
 

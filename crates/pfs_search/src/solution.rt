@@ -1,6 +1,8 @@
-//! What a search finds, by heads and tails, and what rounds of it make of an order.
-ghost use Rattle.std.specs.Prelude.{◌≡◌, ℕ, ◌+◌, ◌<◌, ◌≤◌, ◌^◌, length, IfOk, IfErr};
+//! The order that a search finds, and the one that some of its rounds make of a given order.
+ghost use Rattle.std.specs.Prelude.{◌≡◌, ℕ, ◌+◌, ◌<◌, ◌≤◌, ◌^◌, length, false, IfOk, IfErr};
 ghost use Rattle.pfs_base.specs.Paths.{makespan as makespan_of};
+ghost use Rattle.pfs_insert.specs.Insertion.{heads_tails_cost};
+ghost use Rattle.pfs_wave.specs.Served.{IsServed};
 ghost use Rattle.pfs_search.specs.Solution.{IsFound, IsImproved};
 
 use crate::fault::SearchFault;
@@ -8,8 +10,9 @@ use crate::kept::Kept;
 use crate::searcher::Searcher;
 use pfs_audit::makespan;
 use pfs_base::{Bench, Instance, Length, MOST_PASSES, MOST_ROUNDS, Shop, Span};
-use pfs_insert::HeadsTails;
+use pfs_insert::{HeadsTails, Inserter};
 use pfs_order::Order;
+use pfs_wave::{Lanes, MeteredLanes, Method, OneBand, ThreeBands, TwoBands, Wavefront, method_for};
 use rand_core::SeedableRng;
 use rand_pcg::Pcg32;
 use std::alloc::Global;
@@ -25,9 +28,11 @@ pub struct Solution {
     pub cells: u64,
 }
 
-/// NEH's order (Nawaz, Enscore, Ham 1983), followed by so many rounds of iterated greedy (Ruiz, Stützle 2007), each of
-/// which takes `take` jobs out by the next words of the seed's Pcg32 and makes so many passes, by heads and tails
-/// (Taillard 1990). Memory is asked for before NEH begins, and not again.
+/// NEH's order (Nawaz, Enscore, Ham 1983), followed by `rounds` rounds of iterated greedy (Ruiz, Stützle 2007). Each
+/// round removes `take` jobs, chosen by the next random numbers of the seed's Pcg32, inserts each at its best place,
+/// and makes `passes` passes. Best places are found by heads and tails (Taillard 1990): along anti-diagonals where a
+/// wavefront serves the instance (`method_for`), and else by rows. Memory is reserved before NEH begins, and not again;
+/// where that fails the fault is `Memory`.
 pub fn solve(
     alloc: Global,
     instance: &Instance,
@@ -45,18 +50,19 @@ pub fn solve(
     ensures short { IfOk result (λ found. found.makespan < 10 ^ 18) }
     ensures fault { IfErr result (λ fault. fault ≡ SearchFault.Memory 0) }
 {
-    let mut bench = instance.metered();
-    let kept = search(alloc, &mut bench, rounds, take, passes, seed)?;
-    Ok(Solution {
-        order: kept.order,
-        makespan: bench.reveal(kept.span),
-        cells: bench.cells(),
-    })
+    match method_for(instance) {
+        Method::HeadsTails => solve_by_rows(alloc, instance, rounds, take, passes, seed),
+        Method::OneBand => solve_in_lanes::<OneBand>(alloc, instance, rounds, take, passes, seed),
+        Method::TwoBands => solve_in_lanes::<TwoBands>(alloc, instance, rounds, take, passes, seed),
+        Method::ThreeBands => {
+            solve_in_lanes::<ThreeBands>(alloc, instance, rounds, take, passes, seed)
+        }
+    }
 }
 
-/// Rounds `first` to `first + count - 1` of the search of a seed, counted from 0, from an order that is handed in.
-/// The cells are those of these rounds alone: the makespan of the order handed in isn't counted. Memory is asked for
-/// before the first of them, and not again.
+/// Rounds `first` to `first + count - 1` of the search of a seed, counted from 0, from a given order. The
+/// cells are those of these rounds alone: the makespan of the given order isn't counted. The rounds are computed by the
+/// same method as in `solve`. Memory is reserved before the first of them, and not again.
 pub fn improve(
     alloc: Global,
     instance: &Instance,
@@ -78,8 +84,45 @@ pub fn improve(
     ensures fault { IfErr result (λ fault. fault ≡ SearchFault.Memory 0) }
 {
     let start = measure(alloc, instance, order)?;
+    match method_for(instance) {
+        Method::HeadsTails => {
+            improve_by_rows(alloc, instance, start, first, count, take, passes, seed)
+        }
+        Method::OneBand => {
+            improve_in_lanes::<OneBand>(alloc, instance, start, first, count, take, passes, seed)
+        }
+        Method::TwoBands => {
+            improve_in_lanes::<TwoBands>(alloc, instance, start, first, count, take, passes, seed)
+        }
+        Method::ThreeBands => {
+            improve_in_lanes::<ThreeBands>(alloc, instance, start, first, count, take, passes, seed)
+        }
+    }
+}
+
+// What `solve` returns, by `HeadsTails`.
+fn solve_by_rows(
+    alloc: Global,
+    instance: &Instance,
+    rounds: u32,
+    take: usize,
+    passes: u32,
+    seed: u64,
+) -> Result<Solution, SearchFault>
+    requires some { 1 ≤ take }
+    requires few { take ≤ instance.now.shop.jobs }
+    requires rounds { rounds ≤ MOST_ROUNDS }
+    requires passes { passes ≤ MOST_PASSES }
+    ensures found { IfOk result (λ found.
+        IsFound instance.now.shop rounds take passes seed found.order found.makespan found.cells) }
+    ensures short { IfOk result (λ found. found.makespan < 10 ^ 18) }
+    ensures fault { IfErr result (λ fault. fault ≡ SearchFault.Memory 0) }
+{
     let mut bench = instance.metered();
-    let kept = go_on(alloc, &mut bench, start, first, count, take, passes, seed)?;
+    let Ok(inserter) = HeadsTails::new(alloc, &bench) else {
+        return Err(SearchFault::Memory { done: 0 });
+    };
+    let kept = search(alloc, &mut bench, inserter, rounds, take, passes, seed)?;
     Ok(Solution {
         order: kept.order,
         makespan: bench.reveal(kept.span),
@@ -87,17 +130,129 @@ pub fn improve(
     })
 }
 
-// NEH's order, and then so many rounds, each of which takes so many jobs out and makes so many passes, on a bench
-// that has counted nothing.
+// What `solve` returns, by a wavefront.
+fn solve_in_lanes<L: Lanes>(
+    alloc: Global,
+    instance: &Instance,
+    rounds: u32,
+    take: usize,
+    passes: u32,
+    seed: u64,
+) -> Result<Solution, SearchFault>
+    requires served { IsServed instance.now.shop L.WIDTH }
+    requires some { 1 ≤ take }
+    requires few { take ≤ instance.now.shop.jobs }
+    requires rounds { rounds ≤ MOST_ROUNDS }
+    requires passes { passes ≤ MOST_PASSES }
+    ensures found { IfOk result (λ found.
+        IsFound instance.now.shop rounds take passes seed found.order found.makespan found.cells) }
+    ensures short { IfOk result (λ found. found.makespan < 10 ^ 18) }
+    ensures fault { IfErr result (λ fault. fault ≡ SearchFault.Memory 0) }
+{
+    let Ok(mut bench) = MeteredLanes::<L>::new(alloc, instance) else {
+        return Err(SearchFault::Memory { done: 0 });
+    };
+    let Ok(inserter) = Wavefront::new(alloc, &bench) else {
+        return Err(SearchFault::Memory { done: 0 });
+    };
+    let found = search(alloc, &mut bench, inserter, rounds, take, passes, seed)?;
+    Ok(Solution {
+        order: found.order,
+        makespan: bench.reveal(found.span),
+        cells: bench.cells(),
+    })
+}
+
+// What `improve` returns, by `HeadsTails`, from an order and its makespan.
+fn improve_by_rows(
+    alloc: Global,
+    instance: &Instance,
+    start: Kept<Span>,
+    first: u32,
+    count: u32,
+    take: usize,
+    passes: u32,
+    seed: u64,
+) -> Result<Solution, SearchFault>
+    requires order_jobs { length start.order ≡ instance.now.shop.jobs }
+    requires span { start.span ≡ makespan_of instance.now.shop start.order }
+    requires some { 1 ≤ take }
+    requires few { take ≤ instance.now.shop.jobs }
+    requires rounds { first + count ≤ MOST_ROUNDS }
+    requires passes { passes ≤ MOST_PASSES }
+    ensures found { IfOk result (λ found. IsImproved instance.now.shop start.order first count take passes seed
+        found.order found.makespan found.cells) }
+    ensures short { IfOk result (λ found. found.makespan < 10 ^ 18) }
+    ensures fault { IfErr result (λ fault. fault ≡ SearchFault.Memory 0) }
+{
+    let mut bench = instance.metered();
+    let Ok(inserter) = HeadsTails::new(alloc, &bench) else {
+        return Err(SearchFault::Memory { done: 0 });
+    };
+    let improved = go_on(
+        alloc, &mut bench, inserter, start, first, count, take, passes, seed,
+    )?;
+    Ok(Solution {
+        order: improved.order,
+        makespan: bench.reveal(improved.span),
+        cells: bench.cells(),
+    })
+}
+
+// What `improve` returns, by a wavefront, from an order and its makespan.
+fn improve_in_lanes<L: Lanes>(
+    alloc: Global,
+    instance: &Instance,
+    start: Kept<Span>,
+    first: u32,
+    count: u32,
+    take: usize,
+    passes: u32,
+    seed: u64,
+) -> Result<Solution, SearchFault>
+    requires served { IsServed instance.now.shop L.WIDTH }
+    requires order_jobs { length start.order ≡ instance.now.shop.jobs }
+    requires span { start.span ≡ makespan_of instance.now.shop start.order }
+    requires some { 1 ≤ take }
+    requires few { take ≤ instance.now.shop.jobs }
+    requires rounds { first + count ≤ MOST_ROUNDS }
+    requires passes { passes ≤ MOST_PASSES }
+    ensures found { IfOk result (λ found. IsImproved instance.now.shop start.order first count take passes seed
+        found.order found.makespan found.cells) }
+    ensures short { IfOk result (λ found. found.makespan < 10 ^ 18) }
+    ensures fault { IfErr result (λ fault. fault ≡ SearchFault.Memory 0) }
+{
+    let Ok(mut bench) = MeteredLanes::<L>::new(alloc, instance) else {
+        return Err(SearchFault::Memory { done: 0 });
+    };
+    let Ok(wavefront) = Wavefront::new(alloc, &bench) else {
+        return Err(SearchFault::Memory { done: 0 });
+    };
+    let shorter = go_on(
+        alloc, &mut bench, wavefront, start, first, count, take, passes, seed,
+    )?;
+    Ok(Solution {
+        order: shorter.order,
+        makespan: bench.reveal(shorter.span),
+        cells: bench.cells(),
+    })
+}
+
+// NEH's order, and then the rounds of a search, on a bench that has counted nothing.
 #[inline(always)]
-fn search<B: Shop>(
+fn search<B: Shop, I: Inserter<B> + Drop>(
     alloc: Global,
     bench: &mut B,
+    inserter: I,
     rounds: u32,
     take: usize,
     passes: u32,
     seed: u64,
 ) -> Result<Kept<B::Span>, SearchFault>
+    requires jobs { (I.sizes inserter).jobs ≡ (B.shop bench.old).jobs }
+    requires machines { (I.sizes inserter).machines ≡ (B.shop bench.old).machines }
+    requires cost { I.cost ≡ heads_tails_cost }
+    requires sure { I.can_refuse ≡ false }
     requires fresh { B.counted bench.old ≡ 0 }
     requires some { 1 ≤ take }
     requires few { take ≤ (B.shop bench.old).jobs }
@@ -111,9 +266,6 @@ fn search<B: Shop>(
     let Ok(order) = Order::identity(alloc, bench.jobs()) else {
         return Err(SearchFault::Memory { done: 0 });
     };
-    let Ok(inserter) = HeadsTails::new(alloc, bench) else {
-        return Err(SearchFault::Memory { done: 0 });
-    };
     let mut searcher = Searcher::new(alloc, bench.jobs(), inserter)?;
     let mut kept = Kept::new(order, bench.zero());
     searcher.neh(alloc, bench, &mut kept)?;
@@ -124,7 +276,7 @@ fn search<B: Shop>(
     Ok(kept)
 }
 
-// An order with its makespan, which is counted on a bench of its own.
+// An order with its makespan, which is counted on another bench.
 fn measure(alloc: Global, instance: &Instance, order: Order) -> Result<Kept<Span>, SearchFault>
     requires order_jobs { length order ≡ instance.now.shop.jobs }
     ensures order { IfOk result (λ kept. kept.order ≡ order) }
@@ -138,12 +290,13 @@ fn measure(alloc: Global, instance: &Instance, order: Order) -> Result<Kept<Span
     Ok(Kept::new(order, span))
 }
 
-// So many rounds of the search of a seed behind the first so many, from an order whose makespan is told, on a bench
-// that has counted nothing.
+// Rounds `first` to `first + count - 1` of the search of a seed, from an order with its makespan, on a bench that has
+// counted nothing.
 #[inline(always)]
-fn go_on<B: Shop>(
+fn go_on<B: Shop, I: Inserter<B> + Drop>(
     alloc: Global,
     bench: &mut B,
+    inserter: I,
     start: Kept<B::Span>,
     first: u32,
     count: u32,
@@ -151,6 +304,10 @@ fn go_on<B: Shop>(
     passes: u32,
     seed: u64,
 ) -> Result<Kept<B::Span>, SearchFault>
+    requires jobs { (I.sizes inserter).jobs ≡ (B.shop bench.old).jobs }
+    requires machines { (I.sizes inserter).machines ≡ (B.shop bench.old).machines }
+    requires cost { I.cost ≡ heads_tails_cost }
+    requires sure { I.can_refuse ≡ false }
     requires fresh { B.counted bench.old ≡ 0 }
     requires order_jobs { length start.order ≡ (B.shop bench.old).jobs }
     requires span { B.Span.number start.span ≡ makespan_of (B.shop bench.old) start.order }
@@ -164,9 +321,6 @@ fn go_on<B: Shop>(
     ensures fault { IfErr result (λ fault. fault ≡ SearchFault.Memory 0) }
 {
     let mut kept = start;
-    let Ok(inserter) = HeadsTails::new(alloc, bench) else {
-        return Err(SearchFault::Memory { done: 0 });
-    };
     let mut searcher = Searcher::new(alloc, bench.jobs(), inserter)?;
     let mut rng = Pcg32::seed_from_u64(seed);
     rng.advance(first as u64 * take as u64);

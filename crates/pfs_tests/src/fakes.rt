@@ -14,6 +14,7 @@ pub struct Pieces<'a> {
     calls: u64,
     fails_at: Option<u64>,
     failed: bool,
+    ended: bool,
     ghost some: { 0 < most },
 }
 
@@ -22,6 +23,7 @@ impl<'a> Pieces<'a> {
     pub fn new(text: &'a [u8], most: usize, fails_at: Option<u64>) -> Pieces<'a>
         ensures left { ⟦<Pieces<'a> as Source>⟧.left result ≡ Some text.now }
         ensures working { ⟦<Pieces<'a> as Source>⟧.has_failed result ≡ false }
+        ensures fresh { ⟦<Pieces<'a> as Source>⟧.has_ended result ≡ false }
     {
         Pieces {
             rest: text,
@@ -29,6 +31,7 @@ impl<'a> Pieces<'a> {
             calls: 0,
             fails_at,
             failed: false,
+            ended: false,
         }
     }
 
@@ -44,12 +47,28 @@ impl<'a> Pieces<'a> {
     pub fn calls(&self) -> u64 {
         self.calls
     }
+
+    /// The bytes that are left.
+    pub fn rest(&self) -> &'a [u8]
+        ensures { ⟦<Pieces<'a> as Source>⟧.left self.now ≡ Some result.now }
+    {
+        self.rest
+    }
+
+    /// Whether a read has reported the end.
+    pub fn ended(&self) -> bool
+        ensures { result ≡ ⟦<Pieces<'a> as Source>⟧.has_ended self.now }
+    {
+        self.ended
+    }
 }
 
 impl Source for Pieces<'_> {
     ghost left = { λ s. Some s.rest.now };
 
     ghost has_failed = { λ s. s.failed };
+
+    ghost has_ended = { λ s. s.ended };
 
     fn read(&mut self, buf: &mut [u8]) -> Option<usize> {
         self.calls = self.calls.saturating_add(1);
@@ -61,6 +80,9 @@ impl Source for Pieces<'_> {
         let (front, rest) = self.rest.split_at(count);
         buf[..count].copy_from_slice(front);
         self.rest = rest;
+        if count == 0 && !buf.is_empty() {
+            self.ended = true;
+        }
         Some(count)
     }
 
@@ -76,6 +98,7 @@ pub struct Endless {
     left: usize,
     fails: bool,
     failed: bool,
+    ended: bool,
 }
 
 impl Endless {
@@ -88,6 +111,7 @@ impl Endless {
             left,
             fails,
             failed: false,
+            ended: false,
         }
     }
 }
@@ -97,6 +121,8 @@ impl Source for Endless {
 
     ghost has_failed = { λ s. s.failed };
 
+    ghost has_ended = { λ s. s.ended };
+
     fn read(&mut self, buf: &mut [u8]) -> Option<usize> {
         if self.left == 0 && self.fails {
             self.failed = true;
@@ -105,6 +131,9 @@ impl Source for Endless {
         let count = buf.len().min(self.left);
         buf[..count].fill(self.byte);
         self.left -= count;
+        if count == 0 && !buf.is_empty() {
+            self.ended = true;
+        }
         Some(count)
     }
 

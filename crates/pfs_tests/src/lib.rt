@@ -7,6 +7,7 @@ pub mod any_bench;
 mod base;
 #[cfg(test)]
 mod buffers;
+pub mod events;
 #[cfg(test)]
 mod failing;
 #[cfg(test)]
@@ -15,7 +16,11 @@ pub mod fakes;
 #[cfg(test)]
 mod fronts;
 #[cfg(test)]
+mod logs;
+#[cfg(test)]
 mod long_inputs;
+#[cfg(test)]
+mod memory_files;
 #[cfg(test)]
 mod sequences;
 pub mod shops;

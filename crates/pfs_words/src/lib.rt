@@ -3,6 +3,7 @@
 
 mod examples;
 mod job;
+pub mod laws;
 mod planning;
 mod solve_options;
 mod usage;

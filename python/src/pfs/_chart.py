@@ -1,6 +1,8 @@
 """The chart of a schedule: a picture, by the code that tools/gantt draws with, or a page."""
 from __future__ import annotations
 
+import base64
+import hashlib
 import html
 import importlib.resources
 import importlib.util
@@ -8,10 +10,12 @@ import json
 import logging
 import os
 import pathlib
+import re
 import sys
 from typing import TYPE_CHECKING, Any
 
-from pfs._names import amount
+from pfs._names import amount, shown
+from pfs._whole import write_whole
 
 if TYPE_CHECKING:
     from pfs._schedule import Schedule
@@ -44,14 +48,14 @@ def plot(schedule: Schedule, path: str | os.PathLike[str] | None, critical: bool
     """The figure, or, where the path is that of a page, none."""
     shop = schedule.instance
     ending = None if path is None else ending_of(path)
-    look = _gantt.Look(critical=critical, bound=shop.bound() if bound else None, unit=unit or shop.unit or UNIT,
-                       decimals=shop.decimals)
-    table = _gantt.Table([job + 1 for job in schedule.order.tolist()], schedule.starts, schedule.ends,
-                         shop.job_names or counted(shop.jobs), shop.machine_names or counted(shop.machines))
+    look = _gantt.Look(critical=critical, bound=shop.bound() if bound else None,
+                       unit=shown(unit or shop.unit or UNIT), decimals=shop.decimals)
+    jobs, machines = ([shown(name) for name in names or counted(count)]
+                      for names, count in ((shop.job_names, shop.jobs), (shop.machine_names, shop.machines)))
+    table = _gantt.Table([job + 1 for job in schedule.order.tolist()], schedule.starts, schedule.ends, jobs, machines)
     if ending == "html":
         assert path is not None
-        with open(path, "w", encoding="utf-8", newline="") as file:
-            file.write(page_of(table, look, shop.name))
+        write_whole(path, page_of(table, look, shown(shop.name)).encode("utf-8"))
         return None
     return drawn(table, look, path, ending)
 
@@ -82,7 +86,7 @@ def drawn(table: _gantt.Table, look: _gantt.Look, path: str | os.PathLike[str] |
             figure = _gantt.new_figure(table, look)
             _gantt.draw(figure, table, look)
             if path is not None:
-                _gantt.save(figure, os.fspath(path), str(ending), look)
+                write_whole(path, _gantt.picture_of(figure, str(ending), look))
             return figure
     finally:
         logger.setLevel(level)
@@ -109,7 +113,22 @@ def page_of(table: _gantt.Table, look: _gantt.Look, name: str) -> str:
         "decimals": look.decimals,
         "unit": look.unit,
     }
-    template = importlib.resources.files("pfs").joinpath("chart.html").read_text("utf-8")
-    shown = html.escape(f"{name}: {title}" if name else title)
     text = json.dumps(data, ensure_ascii=False, separators=(",", ":")).replace("<", "\\u003c")
-    return template.replace("{{title}}", shown).replace("{{data}}", text)
+    return filled({"title": html.escape(f"{name}: {title}" if name else title), "data": text})
+
+
+def filled(values: dict[str, str]) -> str:
+    """Return the template with its placeholders replaced. One pass: a value may look like a placeholder."""
+    template = importlib.resources.files("pfs").joinpath("chart.html").read_text("utf-8")
+    values = values | {"policy": policy_of(template)}
+    return re.sub(r"\{\{(\w+)\}\}", lambda found: values[found[1]], template)
+
+
+def policy_of(template: str) -> str:
+    """Return the page's content security policy: only the template's own style and script apply."""
+    hashes = {}
+    for element in ("style", "script"):
+        own = template.partition(f"<{element}>")[2].partition(f"</{element}>")[0]
+        digest = base64.b64encode(hashlib.sha256(own.encode()).digest()).decode()
+        hashes[element] = f"{element}-src 'sha256-{digest}'"
+    return f"default-src 'none'; {hashes['style']}; {hashes['script']}; base-uri 'none'; form-action 'none'"

@@ -8,17 +8,17 @@ import signal
 import sys
 import time
 from collections.abc import Callable
-from typing import Any, NoReturn
+from typing import Any, NoReturn, TextIO
 
 from pfs import _library as c
 from pfs._chart import ending_of
 from pfs._faults import Fault, TableFault
 from pfs._files import read, read_order, table_of
 from pfs._instance import Instance
-from pfs._names import amount
+from pfs._names import amount, shown
 from pfs._search import ROUNDS, Pace, Search, limit_of
 from pfs._solution import Solution
-from pfs._state import StateFault, asked_for, read_state, text_of, write_whole
+from pfs._state import State, StateFault
 
 # Exit statuses, as those of the program.
 REFUSED, USAGE, SYSTEM = 2, 3, 4
@@ -29,8 +29,7 @@ class Words(argparse.ArgumentParser):
     """A command line; wrong words end with the status that the program has for them."""
 
     def error(self, message: str) -> NoReturn:
-        self.print_usage(sys.stderr)
-        self.exit(USAGE, f"pfs: {message}\n")
+        sys.exit(told(f"{self.format_usage()}pfs: {shown(message)}", USAGE))
 
 
 class Stop:
@@ -59,7 +58,7 @@ class Told:
     """The line about the progress of a search, on a terminal."""
 
     def __init__(self, shop: Instance, rounds: int, pace: Pace) -> None:
-        self.shown = sys.stderr.isatty()
+        self.shown = sys.stderr is not None and sys.stderr.isatty()
         self.shop, self.rounds, self.pace = shop, rounds, pace
         self.bound = shop.bound() if self.shown else 0
         self.begun, self.first = time.monotonic(), -1
@@ -74,12 +73,16 @@ class Told:
         spans = [amount(span, self.shop.decimals) for span in (makespan, self.bound)]
         line = f"round {rounds:,} of {self.rounds:,}, makespan {spans[0]}, bound {spans[1]}"
         line += f", {clock(left)} left" if left < 10**7 else ""
-        print(f"\r{line}\x1b[K", end="", file=sys.stderr, flush=True)
+        self.show(line)
 
     def end(self) -> None:
-        """Takes the line away."""
+        """Clear the line."""
         if self.shown:
-            print("\r\x1b[K", end="", file=sys.stderr, flush=True)
+            self.show("")
+
+    def show(self, line: str) -> None:
+        """Replace the line. A terminal that is gone ends no search."""
+        self.shown = written(sys.stderr, f"\r{line}\x1b[K")
 
 
 def clock(seconds: float) -> str:
@@ -95,23 +98,26 @@ def clock(seconds: float) -> str:
 
 
 def searched(search: Search, rounds: int, seconds: float | None, stop: Stop,
-             keep: Callable[[Solution], None]) -> Solution:
-    """The rounds up to this one, made in parts: what is found behind each of them is kept."""
+             keep: Callable[[Solution], None]) -> tuple[Solution, Exception | None]:
+    """Search up to a round, in parts, and call `keep` with the best order after each of them. Return the best order,
+    and the error that ended the search early."""
     pace = Pace(seconds)
     told = Told(search.shop, rounds, pace)
+    search.begin()
+    best = search.solution()
     try:
-        search.begin()
-        best = search.solution()
         while True:
             keep(best)
             told.tell(best.rounds, best.makespan)
             count = 0 if stop.signal or best.rounds >= rounds else pace.next(rounds - best.rounds)
             if count == 0:
-                return best
+                return best, None
             begun = time.perf_counter()
             search.go_on(count)
             pace.took(count, time.perf_counter() - begun)
             best = search.solution()
+    except (OSError, MemoryError) as fault:
+        return best, fault
     finally:
         told.end()
 
@@ -123,47 +129,59 @@ def search_command(given: argparse.Namespace) -> int:
     if start is not None and start.machines not in (0, shop.machines):
         raise ValueError(f"{given.start}: an order for {start.machines} machines, and the instance has {shop.machines}")
     search = Search(shop, start, 0, given.take, given.passes, given.seed)
-    asked = asked_for(shop, search)
-    before = None if given.state is None else read_state(given.state, shop, asked)
-    cells = before.cells if before else 0
-    if before is not None:
-        search = Search(shop, before, before.rounds, given.take, given.passes, given.seed)
-
-    def keep(best: Solution) -> None:
-        if given.state is not None:
-            write_whole(given.state, text_of(asked, best, cells + best.cells))
-
-    with Stop() as stop:
-        best = searched(search, given.rounds, given.seconds, stop, keep)
+    with Stop() as stop, State(given.state, shop, search) as state:
+        before = state.read(given.rounds)
+        if before is not None:
+            search = Search(shop, before, before.rounds, given.take, given.passes, given.seed)
+        best, fault = searched(search, given.rounds, given.seconds, stop, state.write)
         printed(best.to_text())
+        if fault is not None:
+            raise fault
     return stop.status()
 
 
 def plan_command(given: argparse.Namespace) -> int:
-    """Finds an order for a table with names, and prints it."""
+    """Finds an order for a table with names, and prints it. The order comes first: no other output can lose it."""
     shop, delimiter = table_of(given.table, given.unit)
     if given.chart is not None:
         ending_of(given.chart)
     search = Search(shop, None, 0, given.take, given.passes, given.seed)
     with Stop() as stop:
-        best = searched(search, given.rounds, given.seconds, stop, lambda _: None)
-        schedule, bound = shop.schedule(best), shop.bound()
+        best, fault = searched(search, given.rounds, given.seconds, stop, lambda _: None)
+        outputs: list[Callable[[], object]] = [lambda: printed(listed(shop, best))]
         if given.schedule is not None:
-            schedule.to_csv(given.schedule, delimiter)
+            outputs.append(lambda: shop.schedule(best).to_csv(given.schedule, delimiter))
         if given.chart is not None:
-            schedule.plot(given.chart, critical=True, bound=True)
-        unit = f" {shop.unit}" if shop.unit else ""
-        told = {"makespan": best.makespan, "bound": bound}
-        lines = [f"{name} {amount(span, shop.decimals)}{unit}" for name, span in told.items()]
-        lines += ["optimal"] if best.makespan == bound else []
-        lines += [f"{place} {shop.job_name(job)}" for place, job in enumerate(best.order.tolist(), 1)]
-        printed("\n".join(lines) + "\n")
-    return stop.status()
+            outputs.append(lambda: shop.schedule(best).plot(given.chart, critical=True, bound=True))
+        faults = [fault, *(failure_of(output) for output in outputs)]
+    statuses = [told(line_of(each), SYSTEM) for each in faults if each is not None]
+    return statuses[0] if statuses else stop.status()
+
+
+def listed(shop: Instance, best: Solution) -> str:
+    """The text of a plan."""
+    bound = shop.bound()
+    unit = f" {shown(shop.unit)}" if shop.unit else ""
+    spans = {"makespan": best.makespan, "bound": bound}
+    lines = [f"{name} {amount(span, shop.decimals)}{unit}" for name, span in spans.items()]
+    lines += ["optimal"] if best.makespan == bound else []
+    lines += [f"{place} {shown(shop.job_name(job))}" for place, job in enumerate(best.order.tolist(), 1)]
+    return "\n".join(lines) + "\n"
+
+
+def failure_of(output: Callable[[], object]) -> Exception | None:
+    """Make an output, and return why it failed."""
+    try:
+        output()
+    except (OSError, MemoryError, ImportError, ValueError) as fault:
+        return fault
+    return None
 
 
 def printed(text: str) -> None:
-    """Writes all of a text to standard output."""
-    sys.stdout.write(text)
+    """Write a text to standard output. A character that its encoding lacks is written by its number."""
+    encoding = sys.stdout.encoding or "utf-8"
+    sys.stdout.write(text.encode(encoding, "backslashreplace").decode(encoding))
     sys.stdout.flush()
 
 
@@ -216,33 +234,51 @@ def words() -> argparse.ArgumentParser:
 
 
 def main(line: list[str]) -> int:
-    """Runs a command line, and tells its exit status."""
+    """Run a command line, and return its exit status."""
     given = words().parse_args(line)
     if given.rounds is None:
         given.rounds = ROUNDS if given.run is plan_command and given.seconds is None else c.MOST_ROUNDS
     try:
+        if sys.stdout is None:
+            raise OSError("standard output is closed")
         status: Any = given.run(given)
         return int(status)
     except Fault as fault:
-        return told(f"{fault.text}", REFUSED)
+        return told(fault.text, REFUSED)
     except (TableFault, StateFault) as fault:
-        return told(f"pfs: {fault}", REFUSED)
+        return told(line_of(fault), REFUSED)
     except ValueError as fault:
-        return told(f"pfs: {fault}", USAGE)
+        return told(line_of(fault), USAGE)
     except (OSError, MemoryError, ImportError) as fault:
-        return told(f"pfs: {fault}", SYSTEM)
+        return told(line_of(fault), SYSTEM)
+    except KeyboardInterrupt:
+        return 128 + signal.SIGINT
+
+
+def line_of(fault: Exception) -> str:
+    """Return what is printed for an error."""
+    return "pfs: no memory" if isinstance(fault, MemoryError) else f"pfs: {shown(str(fault))}"
 
 
 def told(line: str, status: int) -> int:
-    """Says what is wrong."""
-    if sys.stderr is not None:
-        try:
-            print(line, file=sys.stderr, flush=True)
-        except OSError:
-            """Nobody hears it."""
-    if status == SYSTEM and sys.stdout is not None:
-        try:
-            sys.stdout.flush()
-        except OSError:
-            os.dup2(os.open(os.devnull, os.O_WRONLY), 1)
+    """Report a fault on standard error, and return the status. Where nobody hears it, the status is the same."""
+    written(sys.stderr, f"{line}\n")
+    if status == SYSTEM:
+        written(sys.stdout, "")
     return status
+
+
+def written(stream: TextIO | None, text: str) -> bool:
+    """Write a text, and return whether that worked. A stream that fails is closed off, so that flushing it when the
+    interpreter ends is no second error."""
+    if stream is None:
+        return False
+    try:
+        stream.write(text)
+        stream.flush()
+    except OSError:
+        null = os.open(os.devnull, os.O_WRONLY)
+        os.dup2(null, stream.fileno())
+        os.close(null)
+        return False
+    return True

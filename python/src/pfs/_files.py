@@ -1,13 +1,15 @@
 """Instances from files, generators and tables, and order files."""
 from __future__ import annotations
 
+import contextlib
 import csv
 import functools
 import importlib.resources
 import io
 import os
 import re
-from ctypes import byref, c_size_t, c_uint64
+from collections.abc import Callable
+from ctypes import byref, c_char_p, c_size_t, c_uint64, c_void_p, cast
 from typing import IO, TypeAlias
 
 import numpy as np
@@ -22,28 +24,77 @@ Source: TypeAlias = "str | os.PathLike[str] | IO[bytes]"
 
 
 def bytes_of(source: Source, most: int) -> tuple[bytes, str]:
-    """What a file has, but no more than one byte above `most`, and its name."""
+    """Return the bytes of a file, at most one more than `most`, and its name."""
     if hasattr(source, "read"):
-        text = source.read(most + 1)
-        if not isinstance(text, bytes):
-            raise TypeError("the file should be opened in binary mode")
-        return text, str(getattr(source, "name", ""))
+        return read_up_to(source.read, most + 1), str(getattr(source, "name", ""))
     with open(source, "rb") as file:
-        return file.read(most + 1), os.fspath(source)
+        return read_up_to(file.read, most + 1), os.fspath(source)
 
 
-def block_of(text: bytes, path: str, layout: int, block: int) -> Instance:
-    """A block of a file."""
+def read_up_to(read_some: Callable[[int], bytes | None], most: int) -> bytes:
+    """Read a file to its end, or the first `most` bytes. A read of an unbuffered pipe may return fewer bytes than it
+    was called with, also before the end."""
+    text = bytearray()
+    while len(text) < most:
+        part = read_some(most - len(text))
+        if part is None:
+            raise BlockingIOError("the file has no bytes yet, and doesn't wait for them")
+        if not isinstance(part, bytes):
+            raise TypeError("the file should be opened in binary mode")
+        if not part:
+            break
+        text += part
+    return bytes(text)
+
+
+def block_of(text: bytes, path: str, layout: int, block: int, start: int = 0) -> Instance:
+    """Read a block of a file from this offset on."""
     jobs, machines, place, notes = c_size_t(), c_size_t(), c_uint64(), c.Notes()
-    # Each time has a digit, and but for the last a byte behind it.
-    times = np.empty(min(len(text) // 2 + 1, c.MOST_JOBS * c.MOST_MACHINES), dtype=np.uint32)
-    number = c.library.pfs_read(text, len(text), layout, block, byref(jobs), byref(machines), byref(notes),
+    length = len(text) - start
+    # Each time has a digit, and all but the last a byte after it.
+    times = np.empty(min(length // 2 + 1, c.MOST_JOBS * c.MOST_MACHINES), dtype=np.uint32)
+    address = cast(c_char_p(text), c_void_p).value or 0
+    number = c.library.pfs_read(address + start, length, layout, block, byref(jobs), byref(machines), byref(notes),
                                 times.ctypes.data, times.size, byref(place))
     if number in INSTANCE_FAULTS:
         raise FileFault(path, number, place.value)
     c.done(number)
     table = times[:jobs.value * machines.value].reshape(jobs.value, machines.value)
     return Instance(table, name=os.path.basename(path), seed=notes.seed, upper=notes.upper, lower=notes.lower)
+
+
+# A line of numbers alone. The first one of a block is its size line.
+NUMBER_LINE = re.compile(rb"^[ \t\r]*[0-9][0-9 \t\r]*$", re.MULTILINE)
+
+
+def end_of_block(text: bytes, start: int, numbers: int) -> int:
+    """Return where the next block begins: after the line with the last number of this one, which has a size line and
+    then as many numbers. The library has read the block, so its lines are as they should be."""
+    size_line = NUMBER_LINE.search(text, start)
+    assert size_line is not None
+    at, is_inside = size_line.end(), False
+    while True:
+        part = np.frombuffer(text, dtype=np.uint8, count=min(4 * numbers + 64, len(text) - at), offset=at)
+        is_digit = part - np.uint8(ord("0")) < 10
+        begins = np.flatnonzero(is_digit & ~np.append(np.bool_(is_inside), is_digit[:-1]))
+        if len(begins) >= numbers:
+            end = text.find(b"\n", at + int(begins[numbers - 1]))
+            return len(text) if end < 0 else end + 1
+        at, is_inside, numbers = at + len(part), bool(is_digit[-1]), numbers - len(begins)
+
+
+def blocks_of(text: bytes, path: str, layout: int) -> list[Instance]:
+    """Read the blocks before the first fault, each from the end of the one before it."""
+    shops: list[Instance] = []
+    start, numbers = 0, 2 if layout == c.LAYOUTS["orlib"] else 1
+    with contextlib.suppress(FileFault):
+        while len(shops) < c.MOST_BLOCKS:
+            shop = block_of(text, path, layout, 1, start)
+            start = end_of_block(text, start, numbers * shop.times.size)
+            if start > c.LONGEST_INPUT:
+                break
+            shops.append(shop)
+    return shops
 
 
 def read(source: Source, layout: str, block: int = 1) -> Instance:
@@ -114,15 +165,14 @@ def read_all(source: Source, layout: str) -> list[Instance]:
     """
     number = layout_of(layout)
     text, path = bytes_of(source, c.LONGEST_INPUT)
-    shops: list[Instance] = []
-    while len(shops) < c.MOST_BLOCKS:
+    shops = blocks_of(text, path, number)
+    if len(shops) < c.MOST_BLOCKS:
         try:
-            shop = block_of(text, path, number, len(shops) + 1)
+            # From the start of the file, so that the fault has the right place.
+            block_of(text, path, number, len(shops) + 1)
         except FileFault as fault:
-            if fault.number == c.NO_BLOCK and shops:
-                break
-            raise
-        shops.append(shop)
+            if fault.number != c.NO_BLOCK or not shops:
+                raise
     for block, shop in enumerate(shops, 1):
         shop.name = f"{shop.name} {block}".strip()
     return shops
@@ -236,8 +286,8 @@ def read_csv(source: str | os.PathLike[str], unit: str = "") -> Instance:
     Parameters
     ----------
     source : str or os.PathLike
-        The file, in UTF-8. The first row names the machines and the first column the jobs. Commas or semicolons stand
-        between the columns; behind semicolons a decimal comma is as good as a point. Empty rows are passed over.
+        The file, in UTF-8, of at most 64 MiB. The first row names the machines and the first column the jobs. Commas or
+        semicolons separate the columns; with semicolons, decimals may have a comma or a point. Empty rows are skipped.
     unit : str
         The unit of all times. The table can name it in its first cell, in brackets: ``job [min]``.
 
@@ -276,8 +326,10 @@ def table_of(source: str | os.PathLike[str], unit: str) -> tuple[Instance, str]:
     """The instance of a table, and what stands between its columns."""
     path = os.fspath(source)
     with open(path, "rb") as file:
-        text = text_of(file.read(), path)
-    rows, delimiter = rows_of(text, path)
+        content = read_up_to(file.read, c.LONGEST_INPUT + 1)
+    if len(content) > c.LONGEST_INPUT:
+        raise TableFault(path, 1, 0, f"the table has more than {c.LONGEST_INPUT:,} bytes")
+    rows, delimiter = rows_of(text_of(content, path), path)
     head_line, head = rows[0]
     machines = names_in(path, [(head_line, at, cell) for at, cell in enumerate(head[1:], 2)], "machine")
     jobs = names_in(path, [(line, 1, row[0]) for line, row in rows[1:]], "job")

@@ -21,13 +21,16 @@ Times: TypeAlias = "npt.NDArray[np.uint32]"
 Order: TypeAlias = "npt.NDArray[np.int64]"
 
 UINT32 = np.dtype(np.uint32)
+WIDEST = {"i": np.int64, "u": np.uint64, "f": np.float64, "O": np.object_}
+# These count as numbers to Python and NumPy, and are none here.
+TRUTHS = {bool, np.bool_}
 # Up to so many jobs a list is the faster way.
 SMALL = 256
 
 
 def whole(value: Any, name: str, least: int, most: int) -> int:
     """A whole number of these."""
-    if isinstance(value, (bool, np.bool_)):
+    if type(value) in TRUTHS:
         raise TypeError(f"{name} should be a whole number, not {value!r}")
     try:
         number = operator.index(value)
@@ -48,13 +51,23 @@ def layout_of(layout: Any) -> int:
 
 
 def copied(given: Any, what: str) -> npt.NDArray[Any]:
-    """An array of one's own."""
+    """Return a copy as an array."""
     if isinstance(given, np.ma.MaskedArray):
         raise TypeError(f"{what} should be numbers, not a masked array")
+    if has_truths(given):
+        raise TypeError(f"{what} should be whole numbers, not of the kind bool")
     try:
         return np.array(given, order="C", copy=True, subok=False)
     except ValueError as error:
         raise ValueError(f"{what} can't be made an array: {error}") from None
+
+
+def has_truths(given: Any) -> bool:
+    """Whether a list, or one of its rows, has True or False. An array of all its numbers has them as 1 and 0."""
+    if not isinstance(given, (list, tuple)):
+        return False
+    rows = [given, *(row for row in given if isinstance(row, (list, tuple)))]
+    return any(not TRUTHS.isdisjoint(map(type, row)) for row in rows)
 
 
 def first_where(wrong: npt.NDArray[np.bool_]) -> tuple[int, ...]:
@@ -63,8 +76,8 @@ def first_where(wrong: npt.NDArray[np.bool_]) -> tuple[int, ...]:
 
 
 def whole_numbers(own: npt.NDArray[Any], most: int, what: str, where: str, limits: str) -> npt.NDArray[np.uint32]:
-    """The numbers of an array, each 0 to `most`: integers, or floats without a fraction. `where` says a place, and
-    `limits` what a number isn't that is none of these."""
+    """Return the numbers of an array, each 0 to `most`: integers, or floats without a fraction. `where` says a place,
+    and `limits` what a number isn't that is none of these."""
 
     def refused(kind: type[Exception], wrong: npt.NDArray[np.bool_], text: str) -> Exception:
         at = first_where(wrong)
@@ -78,13 +91,18 @@ def whole_numbers(own: npt.NDArray[Any], most: int, what: str, where: str, limit
         wrong = ~np.array(is_number, dtype=np.bool_).reshape(own.shape)
         if wrong.any():
             raise refused(TypeError, wrong, "isn't a whole number")
+        # Numbers of Python, whose values nothing changes.
+        exact = [int.__int__(number) if isinstance(number, int) else int(number) for number in own.flat]
+        own = np.array(exact, dtype=np.object_).reshape(own.shape)
     elif kind == "f":
         wrong = ~np.isfinite(own) | (own != np.floor(own))
         if wrong.any():
             raise refused(ValueError, wrong, "isn't a whole number")
     elif kind not in "iu":
         raise TypeError(f"{what} should be whole numbers, not of the kind {own.dtype}")
-    wrong = np.asarray((own < 0) | (own > most), dtype=np.bool_)
+    # Compared in the widest type of its kind: in NumPy 2 the limit would become a number of a narrow type.
+    wide: npt.NDArray[Any] = own.astype(WIDEST[kind])
+    wrong = np.asarray((wide < 0) | (wide > most), dtype=np.bool_)
     if wrong.any():
         raise refused(ValueError, wrong, limits)
     return own.astype(np.uint32)
@@ -114,7 +132,7 @@ def packed(given: Any, what: str = "order") -> tuple[bytes, int]:
             if given.size <= SMALL and given.dtype.kind in "iu":
                 own = array("I", given.tolist()).tobytes()
                 return own, len(own) >> 2
-        elif kind is list or kind is tuple:
+        elif (kind is list or kind is tuple) and TRUTHS.isdisjoint(map(type, given)):
             own = array("I", given).tobytes()
             return own, len(own) >> 2
     except (TypeError, OverflowError):

@@ -11,12 +11,14 @@ import numpy.typing as npt
 
 from pfs import _library as c
 from pfs import _search
+from pfs._faults import Interrupted
 from pfs._given import Jobs, Times, layout_of, order_of, packed, refused_jobs, times_of, whole
 from pfs._library import library
 from pfs._names import names_of
 from pfs._schedule import Schedule
 from pfs._search import Progress, Search
 from pfs._solution import Solution, order_given
+from pfs._whole import write_whole
 
 _pfs_makespan = library.pfs_makespan
 
@@ -257,6 +259,8 @@ class Instance:
         Interrupted
             A ``KeyboardInterrupt`` whose ``solution`` is the best so far. A search in parts ends where one at once
             does: ``solve(.., start=stop.solution, first=stop.solution.rounds)`` with the rounds that are left.
+        Exception
+            What ``progress`` raises. Its attribute ``solution`` is the best so far.
 
         Examples
         --------
@@ -269,7 +273,13 @@ class Instance:
         True
         """
         search = Search(self, start, first, take, passes, seed)
-        return _search.solve(search, rounds, progress, time_limit)
+        try:
+            return _search.solve(search, rounds, progress, time_limit)
+        except Interrupted:
+            raise
+        except KeyboardInterrupt:
+            # A second interruption, during the handling of the first one.
+            raise Interrupted(search.solution()) from None
 
     def schedule(self, order: Jobs) -> Schedule:
         """When each operation of an order starts and ends, each as early as it can.
@@ -321,13 +331,11 @@ class Instance:
         Parameters
         ----------
         path : str or os.PathLike
-            The file, which is written anew.
+            The file. It is replaced as a whole.
         layout : str
             ``"taillard"``, or ``"orlib"``, which leaves the notes out.
         """
-        text = self.to_text(layout)
-        with open(path, "w", encoding="ascii", newline="") as file:
-            file.write(text)
+        write_whole(path, self.to_text(layout).encode("ascii"))
 
 
 def _instance_of(times: npt.NDArray[np.uint32], described: dict[str, Any]) -> Instance:

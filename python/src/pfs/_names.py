@@ -1,7 +1,22 @@
 """Names of jobs and machines, and times as they are written in a table."""
 from __future__ import annotations
 
+import re
 from collections.abc import Iterable
+
+# Characters that move the cursor of a terminal, end a line or change its direction, and what is not a character of XML.
+UNSHOWN = re.compile("[\0-\x1f\x7f-\x9f\u2028-\u202e\u2066-\u2069\ud800-\udfff\ufffe\uffff]")
+
+
+def shown(name: str) -> str:
+    """Return a name as charts and terminals show it: some characters by their escapes.
+
+    Examples
+    --------
+    >>> print(shown("saw 2\\x1b[2J\\n"))
+    saw 2\\x1b[2J\\n
+    """
+    return UNSHOWN.sub(lambda found: found[0].encode("unicode_escape").decode(), name)
 
 
 def amount(time: int, decimals: int) -> str:

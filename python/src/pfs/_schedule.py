@@ -2,7 +2,6 @@
 from __future__ import annotations
 
 import csv
-import io
 import os
 from collections.abc import Iterator
 from typing import TYPE_CHECKING, Any
@@ -11,9 +10,21 @@ import numpy as np
 
 from pfs._given import Order
 from pfs._names import amount
+from pfs._whole import write_whole
 
 if TYPE_CHECKING:
     from pfs._instance import Instance
+
+
+class Lines:
+    """The rows that a writer of CSV makes, each with a line end of its own."""
+
+    def __init__(self) -> None:
+        self.written: list[str] = []
+
+    def write(self, row: str) -> None:
+        """Called once for each row."""
+        self.written.append(row.removesuffix("\r\n") + "\n")
 
 
 class Schedule:
@@ -119,7 +130,7 @@ class Schedule:
         Parameters
         ----------
         path : str or os.PathLike, optional
-            The file, which is written anew.
+            The file. It is replaced as a whole.
         delimiter : str
             What stands between the columns; behind ``;`` decimals have a comma.
 
@@ -129,17 +140,18 @@ class Schedule:
             The text, where there is no path.
         """
         shop = self.instance
-        text = io.StringIO()
-        rows = csv.writer(text, delimiter=delimiter, lineterminator="\n")
+        lines = Lines()
+        # The end of the lines says which characters are quoted in a cell.
+        rows = csv.writer(lines, delimiter=delimiter, lineterminator="\r\n")
         rows.writerow(["job", "machine", "start", "end"])
         for job, machine, start, end in self._operations():
             times = (amount(time, shop.decimals) for time in (start, end))
             shown = (time.replace(".", ",") if delimiter == ";" else time for time in times)
             rows.writerow([shop.job_name(job), shop.machine_name(machine), *shown])
+        text = "".join(lines.written)
         if path is None:
-            return text.getvalue()
-        with open(path, "w", encoding="utf-8", newline="") as file:
-            file.write(text.getvalue())
+            return text
+        write_whole(path, text.encode("utf-8"))
         return None
 
     def plot(self, path: str | os.PathLike[str] | None = None, *, critical: bool = False, bound: bool = False,

@@ -11,7 +11,7 @@ import numpy.typing as npt
 
 from pfs import _library as c
 from pfs._faults import Interrupted
-from pfs._given import Jobs, order_of, refused_jobs, whole
+from pfs._given import TRUTHS, Jobs, order_of, refused_jobs, whole
 from pfs._solution import Solution, order_given
 
 if TYPE_CHECKING:
@@ -51,7 +51,7 @@ class Part:
 
 
 class Search:
-    """Iterated greedy on an instance. `solution` is the best order so far, also behind an interruption."""
+    """Iterated greedy on an instance. `solution` is the best order so far, also after an interruption."""
 
     def __init__(self, shop: Instance, start: Jobs | None, first: int, take: int | None, passes: int,
                  seed: int) -> None:
@@ -63,6 +63,8 @@ class Search:
         self.start = None if start is None else order_of(order_given(start), shop.jobs, "start")
         self.last: Part | None = None
         self.running: Part | None = None
+        # The solution of the last part. It is made right after the part, so that running out of memory doesn't lose it.
+        self.ready: tuple[Part, Solution] | None = None
 
     def begin(self) -> None:
         """The start order, and its makespan: NEH's, where none was handed in."""
@@ -77,6 +79,7 @@ class Search:
             if number != c.OK:
                 raise refused_jobs(number, shop.jobs, self.start, "start")
         self.last = part
+        self.solution()
 
     def go_on(self, count: int) -> None:
         """Makes the next rounds, so many."""
@@ -86,6 +89,7 @@ class Search:
         c.done(c.library.pfs_rounds(*self.shop._given, part.order.ctypes.data, self.shop.jobs, before.rounds, count,
                                     self.take, self.passes, self.seed, byref(part.makespan), byref(part.cells)))
         self.last = part
+        self.solution()
 
     def finished(self) -> Part:
         """The last part that was made."""
@@ -97,10 +101,12 @@ class Search:
         return self.last
 
     def solution(self) -> Solution:
-        """What the parts that were made come to."""
+        """Return the best order after the last part that was made."""
         part = self.finished()
-        cells = part.cells_before + part.cells.value
-        return Solution(part.order, part.makespan.value, cells, self.shop.machines, part.rounds)
+        if self.ready is None or self.ready[0] is not part:
+            cells = part.cells_before + part.cells.value
+            self.ready = part, Solution(part.order, part.makespan.value, cells, self.shop.machines, part.rounds)
+        return self.ready[1]
 
 
 class Pace:
@@ -158,19 +164,34 @@ def limit_of(time_limit: Any) -> float | None:
     """A time limit in seconds."""
     if time_limit is None:
         return None
-    if isinstance(time_limit, (str, bytes, bool)):
+    if isinstance(time_limit, (str, bytes)) or type(time_limit) in TRUTHS:
         raise TypeError(f"time_limit should be seconds, not {time_limit!r}")
     try:
         seconds = float(time_limit)
     except (TypeError, ValueError):
         raise TypeError(f"time_limit should be seconds, not {time_limit!r}") from None
+    except OverflowError:
+        seconds = float("inf") if time_limit > 0 else float("-inf")
     if not seconds >= 0:
         raise ValueError(f"time_limit is {seconds}, and should be 0 or more seconds")
     return seconds
 
 
 def solve(search: Search, rounds: int | None, progress: Progress | None, time_limit: Any) -> Solution:
-    """Makes a search, part by part."""
+    """Run a search, part by part. Every exception after the first order has the best order so far: an interruption as
+    `Interrupted`, and one of `progress` or of a bar in its attribute `solution`."""
+    try:
+        return in_parts(search, rounds, progress, time_limit)
+    except KeyboardInterrupt:
+        raise Interrupted(search.solution()) from None
+    except BaseException as error:
+        if search.last is not None:
+            error.solution = search.solution()  # type: ignore[attr-defined]
+        raise
+
+
+def in_parts(search: Search, rounds: int | None, progress: Progress | None, time_limit: Any) -> Solution:
+    """Validate the options, and run the search."""
     seconds = limit_of(time_limit)
     if rounds is None:
         rounds = c.MOST_ROUNDS - search.first if seconds is not None else min(ROUNDS, c.MOST_ROUNDS - search.first)
@@ -189,9 +210,7 @@ def solve(search: Search, rounds: int | None, progress: Progress | None, time_li
             search.go_on(count)
             pace.took(count, time.perf_counter() - begun)
             made += count
-            tell(count, made, search.finished().makespan.value)
+            tell(count, made, search.solution().makespan)
         return search.solution()
-    except KeyboardInterrupt:
-        raise Interrupted(search.solution()) from None
     finally:
         close()

@@ -10,6 +10,7 @@ import numpy.typing as npt
 
 from pfs import _library as c
 from pfs._given import Order, jobs_of, refused_jobs, whole
+from pfs._whole import write_whole
 
 
 class Solution:
@@ -100,11 +101,9 @@ class Solution:
         Parameters
         ----------
         path : str or os.PathLike
-            The file, which is written anew.
+            The file. It is replaced as a whole.
         """
-        text = self.to_text()
-        with open(path, "w", encoding="ascii", newline="") as file:
-            file.write(text)
+        write_whole(path, self.to_text().encode("ascii"))
 
 
 def order_given(start: Any) -> Any:

@@ -6,10 +6,11 @@ use crate::numbers::{PFS_OK, Refusal};
 use pfs_base::{Sink, Source};
 use std::alloc::{AllocError, Global};
 
-/// A source of bytes that stand in memory, which never fails.
+/// A source of bytes in memory, which never fails.
 #[derive(Drop)]
 pub(super) struct Bytes<'a> {
     rest: &'a [u8],
+    ended: bool,
 }
 
 impl<'a> Bytes<'a> {
@@ -18,7 +19,10 @@ impl<'a> Bytes<'a> {
         ensures left { ⟦<Bytes<'a> as Source>⟧.left result ≡ Some bytes.now }
         ensures working { ⟦<Bytes<'a> as Source>⟧.has_failed result ≡ false }
     {
-        Bytes { rest: bytes }
+        Bytes {
+            rest: bytes,
+            ended: false,
+        }
     }
 }
 
@@ -27,11 +31,16 @@ impl Source for Bytes<'_> {
 
     ghost has_failed = { λ _. false };
 
+    ghost has_ended = { λ s. s.ended };
+
     fn read(&mut self, buf: &mut [u8]) -> Option<usize> {
         let count = buf.len().min(self.rest.len());
         let (front, rest) = self.rest.split_at(count);
         buf[..count].copy_from_slice(front);
         self.rest = rest;
+        if count == 0 && !buf.is_empty() {
+            self.ended = true;
+        }
         Some(count)
     }
 

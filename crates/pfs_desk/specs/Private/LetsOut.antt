@@ -1,16 +1,53 @@
--- How the program ends once its output was let out.
-use Rattle.std.specs.Prelude.{◌≡◌, ℕ, List, [], Result, Ok, Err}
+-- How the program opens two files, and how it ends once its output was flushed.
+use Rattle.std.specs.Prelude.{◌≡◌, ℕ, false, List, [], ◌∷◌, Option, Result, Ok, Err, ◌⊎◌}
+use Rattle.pfs_base.specs.declared.device.WriteFault.{WriteFault}
+use Rattle.pfs_desk.specs.declared.fault.DeskFault.{DeskFault}
 use Rattle.pfs_desk.specs.declared.fault.DeskFault.TheVariants as faults
 use Rattle.pfs_desk.specs.declared.fault.Outcome.{Outcome}
 use Rattle.pfs_desk.specs.declared.stop.Stop.{Stop}
-use Rattle.pfs_desk.specs.declared.stop.Stop.TheVariants as stops
+use Rattle.pfs_desk.specs.declared.stop.Stop.TheVariants.{Fault}
+use Rattle.pfs_desk.specs.declared.files.OpenFault.{OpenFault}
+use Rattle.pfs_desk.specs.Standing.{Standing, MayOpen, MayRefuse, FileEvent, opened, refused, closed, Logs}
 
--- nothing is held behind an outcome, and the fault of a write tells how many bytes went out
+-- both were opened
+pub record OpensBoth (standing : List ℕ → Standing) (log log' : Option (List FileEvent)) (path order_path : List ℕ)
+    (file orders : Option (List ℕ)) : Type 0 where
+  pub give : MayOpen (standing path) file
+  pub give_orders : MayOpen (standing order_path) orders
+  pub events : Logs log log' (opened path ∷ opened order_path ∷ [])
+
+-- the first was not opened
+pub record RefusesFirstPath (standing : List ℕ → Standing) (log log' : Option (List FileEvent)) (path : List ℕ)
+    (fault : OpenFault) : Type 0 where
+  pub may_refuse : MayRefuse (standing path) fault
+  pub events : Logs log log' (refused path fault ∷ [])
+
+-- the second was not opened, and the first was closed unread
+pub record RefusesSecondPath (standing : List ℕ → Standing) (log log' : Option (List FileEvent))
+    (path order_path : List ℕ) (fault : OpenFault) : Type 0 where
+  pub file : Option (List ℕ)
+  pub give : MayOpen (standing path) file
+  pub may_refuse : MayRefuse (standing order_path) fault
+  pub events : Logs log log' (opened path ∷ refused order_path fault ∷ closed file false false ∷ [])
+
+abbrev pub RefusesOne : (List ℕ → Standing) → Option (List FileEvent) → Option (List FileEvent) → List ℕ → List ℕ
+    → OpenFault → Type 0
+RefusesOne standing log log' path order_path fault = RefusesFirstPath standing log log' path fault
+    ⊎ RefusesSecondPath standing log log' path order_path fault
+
+-- what an engine returns, as the program ends with it
+abbrev pub ending : Result Outcome DeskFault → Result Outcome Stop
+ending (Ok outcome) = Ok outcome
+ending (Err fault) = Err (Fault fault)
+
+-- a failed write is reported, with the number of bytes that were written
+pub record TellsSent (sent : ℕ) (ended : Result Outcome Stop) : Type 0 where
+  pub fault : WriteFault
+  pub told : ended ≡ Err (Fault (faults.Write fault))
+  pub counted : fault.written ≡ sent
+
+-- after an outcome no byte is buffered, and the fault of a write has the number of bytes that were written
 abbrev pub EndsOutput : Result Outcome Stop → List ℕ → ℕ → Result Outcome Stop → Type 0
-EndsOutput (Ok outcome) held sent (Ok ended) = (ended ≡ outcome) × (held ≡ [])
-EndsOutput (Ok outcome) held sent (Err (stops.Fault (faults.Write fault))) = fault.written ≡ sent
-EndsOutput (Err (stops.Fault (faults.Write before))) held sent (Err (stops.Fault (faults.Write fault))) =
-    fault.written ≡ sent
-EndsOutput (Err (stops.Fault (faults.Write before))) held sent others = ⊥
+EndsOutput (Ok outcome) held sent ended = ((ended ≡ Ok outcome) × (held ≡ [])) ⊎ TellsSent sent ended
+EndsOutput (Err (Fault (faults.Write before))) held sent ended = TellsSent sent ended
 EndsOutput (Err stop) held sent ended = ended ≡ Err stop
-EndsOutput others held sent ended = ⊥

@@ -1,6 +1,7 @@
 //! A block of an instance file, written in another layout.
 ghost use Rattle.std.specs.Prelude.{◌≡◌, ◌≢◌, ◌≤◌, false, IfErr};
-ghost use Rattle.pfs_desk.specs.Engine.{WritesOutput, ConvertOutput, ReadsBlock, RefusesNoOrder, RefusesNoTake};
+ghost use Rattle.pfs_desk.specs.Engine.{WritesOutput, ConvertOutput, IsConvertFault, ReadsBlock, layout_fault_of};
+ghost use Rattle.pfs_desk.specs.Engine.{source_use};
 
 use crate::fault::{DeskFault, Outcome};
 use pfs_base::{MOST_BLOCKS, Sink, Source};
@@ -24,10 +25,10 @@ pub fn run_convert<R: Source, W: Sink>(
     requires few { block ≤ MOST_BLOCKS }
     ensures written { WritesOutput (ConvertOutput source target (R.left reader.old) block)
         (W.written writer.old) (W.written writer.new) (W.has_failed writer.new) result }
-    ensures reads { ReadsBlock source block (R.left reader.old) (R.left reader.new) (R.has_failed reader.new) result }
-    ensures one_file { IfErr result RefusesNoOrder }
-    ensures no_take { IfErr result RefusesNoTake }
-    ensures no_more_memory { result ≢ Err DeskFault.Memory }
+    ensures fault { IfErr result (IsConvertFault source (R.left reader.old) block) }
+    ensures reads { ReadsBlock source block
+        (source_use (R.left reader.old) (R.left reader.new) (R.has_failed reader.new)
+        (R.has_ended reader.old) (R.has_ended reader.new)) (layout_fault_of result) }
 {
     let instance = read_block(alloc, reader, source, block)?;
     write_block(writer, &instance, target)?;

@@ -1,7 +1,8 @@
 //! The order that a search finds.
 ghost use Rattle.std.specs.Prelude.{◌≡◌, ◌<◌, ◌≤◌, ◌^◌, false, IfSome, IfOk, IfErr};
 ghost use Rattle.pfs_base.specs.Sends.{Sends};
-ghost use Rattle.pfs_desk.specs.Engine.{WritesOutput, SolveOutput, ReadsBlock, RefusesNoOrder, JudgesTake};
+ghost use Rattle.pfs_desk.specs.Engine.{WritesOutput, SolveOutput, IsSolveFault, ReadsBlock, layout_fault_of};
+ghost use Rattle.pfs_desk.specs.Engine.{source_use};
 ghost use Rattle.pfs_desk.specs.Headline.{Solves};
 ghost use Rattle.pfs_desk.specs.Solve.{IsTakeFault, solution_text};
 ghost use Rattle.pfs_desk.specs.Solve.{take_for as take_of};
@@ -37,9 +38,10 @@ pub fn run_solve<R: Source, W: Sink>(
     requires take { IfSome options.now.take (λ asked. 1 ≤ asked) }
     ensures written { WritesOutput (SolveOutput layout (R.left reader.old) block options.now)
         (W.written writer.old) (W.written writer.new) (W.has_failed writer.new) result }
-    ensures reads { ReadsBlock layout block (R.left reader.old) (R.left reader.new) (R.has_failed reader.new) result }
-    ensures one_file { IfErr result RefusesNoOrder }
-    ensures take { IfErr result (JudgesTake layout (R.left reader.old) block options.now.take) }
+    ensures fault { IfErr result (IsSolveFault layout (R.left reader.old) block options.now.take) }
+    ensures reads { ReadsBlock layout block
+        (source_use (R.left reader.old) (R.left reader.new) (R.has_failed reader.new)
+        (R.has_ended reader.old) (R.has_ended reader.new)) (layout_fault_of result) }
     ensures solves { IfSome (R.left reader.old) (λ bytes. Solves layout bytes block options.now
         (W.written writer.old) (W.written writer.new) (R.has_failed reader.new) (W.has_failed writer.new) result) }
 {

@@ -1,8 +1,8 @@
 //! The time table of an order.
 ghost use Rattle.std.specs.Prelude.{◌≡◌, ◌+◌, ◌*◌, ◌<◌, ◌≤◌, ◌^◌, false, length, IfOk, IfErr};
 ghost use Rattle.pfs_base.specs.Sends.{Sends};
-ghost use Rattle.pfs_desk.specs.Engine.{WritesOutput, TableOutput, ReadsBlock, ReadsOrder, RefusesNoTake};
-ghost use Rattle.pfs_desk.specs.Engine.{WantsBehindSecond};
+ghost use Rattle.pfs_desk.specs.Engine.{WritesOutput, TableOutput, IsAuditFault, ReadsBlock, ReadsOrder};
+ghost use Rattle.pfs_desk.specs.Engine.{layout_fault_of, order_fault_of, source_use};
 ghost use Rattle.pfs_desk.specs.OutputText.{row_text, sizes_text, table_text};
 ghost use Rattle.pfs_desk.specs.Private.Printable.{IsPrintable};
 
@@ -34,11 +34,14 @@ pub fn run_table<R: Source, O: Source, W: Sink>(
     requires few { block ≤ MOST_BLOCKS }
     ensures written { WritesOutput (TableOutput layout (R.left reader.old) block (O.left order_reader.old))
         (W.written writer.old) (W.written writer.new) (W.has_failed writer.new) result }
-    ensures reads { ReadsBlock layout block (R.left reader.old) (R.left reader.new) (R.has_failed reader.new) result }
-    ensures reads_order { ReadsOrder layout block (R.left reader.old) (O.left order_reader.old)
-        (O.left order_reader.new) (O.has_failed order_reader.new) result }
-    ensures no_take { IfErr result RefusesNoTake }
-    ensures memory { IfErr result (WantsBehindSecond layout (R.left reader.old) block (O.left order_reader.old)) }
+    ensures fault { IfErr result (IsAuditFault layout (R.left reader.old) block (O.left order_reader.old)) }
+    ensures reads { ReadsBlock layout block
+        (source_use (R.left reader.old) (R.left reader.new) (R.has_failed reader.new)
+        (R.has_ended reader.old) (R.has_ended reader.new)) (layout_fault_of result) }
+    ensures reads_order { ReadsOrder
+        (source_use (O.left order_reader.old) (O.left order_reader.new) (O.has_failed order_reader.new)
+        (O.has_ended order_reader.old) (O.has_ended order_reader.new))
+        (layout_fault_of result) (order_fault_of result) }
 {
     let instance = read_block(alloc, reader, layout, block)?;
     let file = read_order(alloc, order_reader)?;

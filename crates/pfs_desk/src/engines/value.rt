@@ -2,8 +2,8 @@
 ghost use Rattle.std.specs.Prelude.{◌≡◌, ◌≤◌, false, IfOk, IfErr};
 ghost use Rattle.pfs_base.specs.Paths.{makespan};
 ghost use Rattle.pfs_order.specs.Sequence.{all_jobs};
-ghost use Rattle.pfs_desk.specs.Engine.{WritesOutput, ValueOutput, ReadsBlock, RefusesNoOrder, RefusesNoTake};
-ghost use Rattle.pfs_desk.specs.Engine.{WantsBehindFirst};
+ghost use Rattle.pfs_desk.specs.Engine.{WritesOutput, ValueOutput, IsValueFault, ReadsBlock, layout_fault_of};
+ghost use Rattle.pfs_desk.specs.Engine.{source_use};
 
 use crate::fault::{DeskFault, Outcome};
 use pfs_audit::makespan;
@@ -28,10 +28,10 @@ pub fn run_value<R: Source, W: Sink>(
     requires few { block ≤ MOST_BLOCKS }
     ensures written { WritesOutput (ValueOutput layout (R.left reader.old) block)
         (W.written writer.old) (W.written writer.new) (W.has_failed writer.new) result }
-    ensures reads { ReadsBlock layout block (R.left reader.old) (R.left reader.new) (R.has_failed reader.new) result }
-    ensures one_file { IfErr result RefusesNoOrder }
-    ensures no_take { IfErr result RefusesNoTake }
-    ensures memory { IfErr result (WantsBehindFirst layout (R.left reader.old) block) }
+    ensures fault { IfErr result (IsValueFault layout (R.left reader.old) block) }
+    ensures reads { ReadsBlock layout block
+        (source_use (R.left reader.old) (R.left reader.new) (R.has_failed reader.new)
+        (R.has_ended reader.old) (R.has_ended reader.new)) (layout_fault_of result) }
 {
     let instance = read_block(alloc, reader, layout, block)?;
     let value = value_of(alloc, &instance)?;

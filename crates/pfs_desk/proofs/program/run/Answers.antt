@@ -1,31 +1,32 @@
-use Rattle.std.proofs.Common.{inr, subst}
-use Rattle.pfs_desk.specs.Private.LetsOut.{EndsOutput}
-use Rattle.pfs_desk.proofs.ProgramLemmas.{writes-on, stops-on}
-use Rattle.pfs_desk.proofs.RunLemmas.{asks_for, job-map, job-works}
+use Rattle.std.proofs.Common.{Err, ap, inr, refl, rules}
+use Rattle.pfs_desk.proofs.ProgramLemmas.{asks_for, gives_refusal, stands}
 use Rattle.pfs_desk.proofs.program.run.Goals as goal
 
-pub let_out-requires : goal.let_out-requires
-let_out-requires g c = job-works _ _ _ _ _ _ _ _ _ _ _ _ c.run_job-answer.ensures
+pub returns-in_err-job : goal.returns-in_err-job
+returns-in_err-job g c =
+    gives_refusal _ c.args.words.now _ _ _ _ _ _ c.in_err-job.field-0.0 _ (search rules) (record {
+      kept = refl;
+      working = c.requires.reading;
+      no_end = refl;
+    })
+    c.requires.writing (λ fresh. fresh.empty) (λ e. let asked = c.in_err-job.ensures.no_words e in cc)
+    (λ word others e is. c.in_err-job.ensures.usage word others e (ap Err is))
 
 pub returns : goal.returns
 returns g c =
-    let written = g.W.Sink.written in
-    let old = c.args.output.now in
     let mid = c.run_job-answer.new.writer in
-    let new = c.let_out.new.output in
-    let reached = c.run_job-answer.result in
-    let ended = c.let_out.result in
-    let failed = g.W.Sink.has_failed mid.writer in
-    let kept = c.let_out.ensures.kept in
-    let ends = c.let_out.ensures.ends in
-    inr (record {
-      job = c.in_ok-job.job;
-      reached = reached;
-      asks = asks_for _ _ _ (λ e. let asked = c.in_ok-job.ensures.no_words e in cc)
-          (λ word others e. c.in_ok-job.ensures.job word others e);
-      runs = job-map reached _ _ _ _
-          (λ standing closed p. stops-on written old mid new kept standing failed reached ended closed p ends)
-          (λ output answer e p. writes-on written old mid new kept output failed answer ended p
-          (subst (λ r. EndsOutput r new.held new.sent ended) e ends))
-          _ _ _ _ _ _ _ c.run_job-answer.ensures;
-    })
+    let gave = c.run_job-answer.ensures in
+    let out = c.let_out in
+    record {
+      answer = gave.answer;
+      is_answer = inr (record {
+        job = c.in_ok-job.job;
+        asks = asks_for _ _ _ (λ e. let asked = c.in_ok-job.ensures.no_words e in cc)
+            (λ word others e. c.in_ok-job.ensures.job word others e);
+        runs = gave.is_answer;
+      });
+      is_written = stands g.W.Sink.written c.args.output.now mid out.new.output out.ensures.kept
+          (g.W.Sink.has_failed mid.writer) (g.W.Sink.has_failed out.new.output.writer) gave.answer
+          c.run_job-answer.result out.result gave.write_failed out.ensures.failed gave.is_written out.ensures.ends;
+      write_failed = out.ensures.failed;
+    }

@@ -3,16 +3,18 @@ use Rattle.pfs_layout.proofs.Words.{refl, rules, ℕ, ◌∙◌, arith, length-t
 use Rattle.pfs_layout.proofs.Reading.SourceLemmas.{finish_named, feed_named, never_failed, reading_more, reading_fault}
 use Rattle.pfs_layout.proofs.Reading.SourceLemmas.{reading_done, reads_failed, reads_ended, reads_fault}
 use Rattle.pfs_layout.proofs.Reading.ReaderSteps.{live_follows}
+use Rattle.pfs_base.proofs.Published.Ends.{reads_on}
 use Rattle.pfs_layout.proofs.reader.read_block.Goals as goal
 
 pub pieces-init : goal.pieces-init
-pieces-init g c = record { working = c.requires.working; reading = grind (arith, c.new-taker.ensures) }
+pieces-init g c = record { working = c.requires.working; no_end = refl; reading = grind (arith, c.new-taker.ensures) }
 
 pub pieces-preserved : goal.pieces-preserved
 pieces-preserved g c =
     let t = c.pieces.invariant.reading in
     record {
       working = c.in-Some.ensures.failed ∙ c.pieces.invariant.working;
+      no_end = c.in-Some.ensures.ended ∙ reads_on _ c.in-Some.n _ c.if-n-eq0.false ∙ c.pieces.invariant.no_end;
       reading =
           reading_more t _ _ c.in-Some.ensures.bytes.1 (c.in-Ok.ensures.meets t.front t.stands) c.if-progress.false;
     }
@@ -38,6 +40,7 @@ returns-then-n-eq0 g c =
       file = search rules;
       refused = search rules;
       read = never_failed (c.in-Some.ensures.failed ∙ c.pieces.invariant.working) (finish_named ends Read refl);
+      before_end = λ e. absurd (finish_named ends Read refl e);
       no_seed = finish_named ends SeedRange refl;
       as_far = reads_ended t _ _ c.in-Some.ensures.bytes.1 (omega (arith, length-take {A = ℕ})) ends;
     }
@@ -54,6 +57,7 @@ returns-in-Err g c =
       read =
           never_failed (c.in-Some.ensures.failed ∙ c.pieces.invariant.working)
           (λ e. feed_named meets Read (λ z. cc) refl (cc));
+      before_end = λ e. absurd (feed_named meets Read (λ z. cc) refl (cc));
       no_seed = λ e. feed_named meets SeedRange (λ z. cc) refl (cc);
       as_far = reads_fault t _ _ bytes.1 (omega (arith, length-take {A = ℕ})) meets;
     }
@@ -70,6 +74,7 @@ returns-then-progress g c =
       file = rw done.1 done.2;
       refused = rw done.1 tt;
       read = never_failed (c.in-Some.ensures.failed ∙ c.pieces.invariant.working) (finish_named ends Read refl);
+      before_end = λ e. absurd (finish_named ends Read refl e);
       no_seed = finish_named ends SeedRange refl;
       as_far = reads_ended t _ _ bytes.1 (omega (arith, length-take {A = ℕ})) ends;
     }

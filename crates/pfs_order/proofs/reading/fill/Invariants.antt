@@ -6,6 +6,7 @@ abbrev pub invariant-loop-filled : goal.invariant-loop-filled
 invariant-loop-filled g l = record {
   within : l.filled ≤ length l.buffer;
   working : g.R.Source.has_failed l.reader ≡ false;
+  no_end : g.R.Source.has_ended l.reader ≡ g.R.Source.has_ended l.fn.reader;
   bytes : Consumes (g.R.Source.left l.fn.reader) (g.R.Source.left l.reader) (take l.filled l.buffer);
 }
 

@@ -1,4 +1,4 @@
-use Rattle.std.proofs.Common.{◌≡◌, ◌≤◌, length, take, arith, refl}
+use Rattle.std.proofs.Common.{◌≡◌, ◌≢◌, ◌≤◌, length, take, arith, refl}
 use Rattle.std.specs.Prelude.{Err}
 use Rattle.std.proofs.lemmas.Bool.{both_ways}
 use Rattle.std.proofs.lemmas.List.{length-take-le}
@@ -15,7 +15,7 @@ returns-in_err-filled g c =
     let is : c.from_residual.result ≡ Err Read = rw (p.1, p.2, c.in_err-filled.ensures.fault) refl in
     let told : Told (g.R.Source.left c.args.reader.now) (g.R.Source.left c.fill.new.reader) c.from_residual.result =
     stopped (rw c.fill.auto.buffer at c.in_err-filled.ensures.stopped) is in
-    owed _ told (λ _. c.in_err-filled.ensures.failed) (λ _. is)
+    owed _ told (λ _. c.in_err-filled.ensures.failed) (λ _. is) (λ _. c.in_err-filled.ensures.before_end)
 
 pub returns-then-filled-gt-LONGEST_ORDER_FILE : goal.returns-then-filled-gt-LONGEST_ORDER_FILE
 returns-then-filled-gt-LONGEST_ORDER_FILE g c =
@@ -24,7 +24,7 @@ returns-then-filled-gt-LONGEST_ORDER_FILE g c =
     let told : Told (g.R.Source.left c.args.reader.now) (g.R.Source.left c.fill.new.reader) (Err TooLong) =
     long _ c.in_ok-filled.ensures.bytes (omega (arith, all, c.in_ok-filled.ensures.within)) refl in
     owed (Err TooLong) told (λ is. absurd (cc))
-    (λ failed. absurd (both_ways _ c.in_ok-filled.ensures.working failed))
+    (λ failed. absurd (both_ways _ c.in_ok-filled.ensures.working failed)) (λ is. absurd (cc))
 
 pub returns : goal.returns
 returns g c =
@@ -33,5 +33,6 @@ returns g c =
     let few : length (take c.in_ok-filled.filled c.fill.new.buffer) ≤ LONGEST_ORDER_FILE = omega (arith, all) in
     let told : Told (g.R.Source.left c.args.reader.now) (g.R.Source.left c.fill.new.reader) c.parse.result =
     whole _ c.in_ok-filled.ensures.bytes (c.in_ok-filled.ensures.end (omega arith)) few c.parse.ensures in
-    owed _ told (λ is. absurd (never_read _ c.parse.result few c.parse.ensures is))
-    (λ failed. absurd (both_ways _ c.in_ok-filled.ensures.working failed))
+    let never : c.parse.result ≢ Err Read = never_read _ c.parse.result few c.parse.ensures in
+    owed _ told (λ is. absurd (never is)) (λ failed. absurd (both_ways _ c.in_ok-filled.ensures.working failed))
+    (λ is. absurd (never is))

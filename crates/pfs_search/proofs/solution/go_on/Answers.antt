@@ -1,11 +1,11 @@
-use Rattle.std.proofs.Common.{◌≡◌, ◌*◌, ◌≤◌, length, ap, subst, ◌∙◌, arith}
+use Rattle.std.proofs.Common.{◌≡◌, ◌+◌, ◌*◌, ◌≤◌, length, ap, subst, ◌∙◌, arith}
 use Rattle.rand_core.specs.Steps.{stream_of, steps_u32}
 use Rattle.rand_pcg.specs.Lcg.{advance}
 use Rattle.rand_pcg.specs.Pcg.{multiplier_64, pcg32}
 use Rattle.pfs_base.specs.FlowShop.{FlowShop}
 use Rattle.pfs_base.specs.declared.limits.TheConstants.{MOST_ROUNDS}
 use Rattle.pfs_order.specs.Sequence.{IsSequence}
-use Rattle.pfs_search.proofs.Found.{rounds_room, makespan_short, RoundsDone, improved_is}
+use Rattle.pfs_search.proofs.Found.{rounds_room, makespan_short, RoundsDone, improved_is, same_rounds}
 use Rattle.pfs_search.proofs.solution.go_on.Goals as goal
 
 pub rounds-requires-clause-room : goal.rounds-requires-clause-room
@@ -16,6 +16,7 @@ rounds-requires-clause-room g c =
       rounds_room (g.B.Bench.shop c.args.bench.now) c.args.count c.args.take c.args.passes
           (g.met.B.Bench.within c.args.bench.now) c.requires.few short c.requires.passes,
       c.requires.fresh,
+      same_rounds (g.B.Bench.shop c.args.bench.now) c.args.count c.args.take c.args.passes c.requires.cost,
     )
 
 pub returns-clause-found : goal.returns-clause-found
@@ -32,7 +33,9 @@ returns-clause-found g c =
       is_order = c.in_ok-rounds.ensures.order;
       is_span = c.in_ok-rounds.ensures.span;
       never_rises = c.in_ok-rounds.ensures.never_rises;
-      counted = c.in_ok-rounds.ensures.cells.counted;
+      counted = c.in_ok-rounds.ensures.cells.counted
+          ∙ ap (λ n. counted c.args.bench.now + n)
+          (same_rounds shop c.args.count c.args.take c.args.passes c.requires.cost);
     } in
     let all : length kept.order ≡ shop.jobs =
     c.in_ok-rounds.ensures.still_fit.order_jobs ∙ ap (λ (s : FlowShop). s.jobs) c.in_ok-rounds.ensures.shop in

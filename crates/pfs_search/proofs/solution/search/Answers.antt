@@ -1,14 +1,21 @@
-use Rattle.std.proofs.Common.{◌≡◌, ◌≤◌, length, ap, subst, ◌∙◌, arith}
+use Rattle.std.proofs.Common.{◌≡◌, ◌+◌, ◌≤◌, length, ap, subst, ◌∙◌, arith}
 use Rattle.rand_core.specs.Steps.{stream_of, steps_u32}
 use Rattle.rand_pcg.specs.Pcg.{pcg32}
 use Rattle.pfs_base.specs.FlowShop.{FlowShop}
 use Rattle.pfs_order.specs.Sequence.{IsSequence}
-use Rattle.pfs_search.proofs.Found.{neh_room, rounds_room, makespan_short, NehDone, RoundsDone, found_is}
+use Rattle.pfs_search.proofs.Found.{neh_room, rounds_room, makespan_short, NehDone, RoundsDone, found_is, same_neh}
+use Rattle.pfs_search.proofs.Found.{same_rounds}
 use Rattle.pfs_search.proofs.solution.search.Goals as goal
 
 pub neh-requires-clause-room : goal.neh-requires-clause-room
 neh-requires-clause-room g c =
-    omega (arith, neh_room (g.B.Bench.shop c.args.bench.now) (g.met.B.Bench.within c.args.bench.now), c.requires.fresh)
+    let shop = g.B.Bench.shop c.args.bench.now in
+    omega (
+      arith,
+      neh_room shop (g.met.B.Bench.within c.args.bench.now),
+      c.requires.fresh,
+      same_neh shop c.requires.cost,
+    )
 
 pub rounds-requires-clause-room : goal.rounds-requires-clause-room
 rounds-requires-clause-room g c =
@@ -23,6 +30,8 @@ rounds-requires-clause-room g c =
           (g.met.B.Bench.within c.neh.new.bench) few c.requires.rounds c.requires.passes,
       c.requires.fresh,
       c.in_ok-neh.ensures.cells.counted,
+      same_neh shop c.requires.cost,
+      same_rounds then_shop c.args.rounds c.args.take c.args.passes c.requires.cost,
     )
 
 pub returns-clause-found : goal.returns-clause-found
@@ -41,7 +50,12 @@ returns-clause-found g c =
     record {
       is_order = c.in_ok-neh.ensures.order;
       is_span = c.in_ok-neh.ensures.span;
-      counted = omega (arith, c.requires.fresh, c.in_ok-neh.ensures.cells.counted);
+      counted = omega (
+        arith,
+        c.requires.fresh,
+        c.in_ok-neh.ensures.cells.counted,
+        same_neh shop c.requires.cost,
+      );
     } in
     let rounds_done : RoundsDone shop c.args.rounds c.args.take c.args.passes stream neh.order neh_span neh_cells
     kept.order span cells =
@@ -51,7 +65,9 @@ returns-clause-found g c =
       is_order = c.in_ok-rounds.ensures.order;
       is_span = c.in_ok-rounds.ensures.span;
       never_rises = c.in_ok-rounds.ensures.never_rises;
-      counted = c.in_ok-rounds.ensures.cells.counted;
+      counted = c.in_ok-rounds.ensures.cells.counted
+          ∙ ap (λ n. neh_cells + n)
+          (same_rounds (g.B.Bench.shop c.neh.new.bench) c.args.rounds c.args.take c.args.passes c.requires.cost);
     }) in
     let all : length kept.order ≡ shop.jobs =
     c.in_ok-rounds.ensures.still_fit.order_jobs

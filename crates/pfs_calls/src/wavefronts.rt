@@ -1,0 +1,66 @@
+//! The call that puts jobs into a sequence by heads and tails and by each wavefront that serves the shop.
+ghost use Rattle.pfs_wave.specs.Served.{IsServed};
+
+use crate::Stop;
+use crate::inserting::insertable;
+use crate::words::{number, numbers};
+use pfs_base::{Bench, Instance, Span};
+use pfs_insert::{HeadsTails, Inserter};
+use pfs_order::Seq;
+use pfs_tests::shops::shop;
+use pfs_wave::{
+    Lanes, MeteredLanes, OneBand, ThreeBands, TwoBands, Wavefront, is_served, method_for,
+};
+
+/// Puts the jobs of a shop into a sequence in the order of their numbers, each at its best place. The words are the
+/// number of jobs, the number of machines, and the times, job by job. Prints the method that a search of the shop uses.
+/// Then, for each width of a wavefront that serves the shop, it prints what heads and tails and the wavefront return
+/// for each job. Both run on one bench, and each inserter is the same for all jobs.
+pub(crate) fn wavefronts_call(rt: &HostRuntime, words: &[String]) -> Result<(), Stop> {
+    let times = numbers(rt, words, 2)?;
+    let instance = shop(rt.alloc(), number(words, 0)?, number(words, 1)?, &times)?;
+    println!(rt; "{:?}", method_for(&instance))?;
+    if is_served(&instance, 8) {
+        insert_all::<OneBand>(rt, &instance)?;
+    }
+    if is_served(&instance, 16) {
+        insert_all::<TwoBands>(rt, &instance)?;
+    }
+    if is_served(&instance, 24) {
+        insert_all::<ThreeBands>(rt, &instance)?;
+    }
+    Ok(())
+}
+
+fn insert_all<L: Lanes>(rt: &HostRuntime, instance: &Instance) -> Result<(), Stop>
+    requires { IsServed instance.now.shop L.WIDTH }
+{
+    let mut seq = Seq::new(rt.alloc(), instance.jobs())?;
+    let mut bench = MeteredLanes::<L>::new(rt.alloc(), instance)?;
+    let mut rows = HeadsTails::new(rt.alloc(), &bench)?;
+    let mut lanes = Wavefront::new(rt.alloc(), &bench)?;
+    for job in 0..instance.jobs() {
+        insertable(instance, &seq, job)?;
+        let (_jobs, _machines) = (seq.len(), instance.machines());
+        if !bench.room(6_000_000_000) {
+            return Err(Stop::Other);
+        }
+        let best = rows.best(rt.alloc(), &mut bench, &seq, job)?;
+        print_best(rt, &bench, best.place, best.span)?;
+        let best = lanes.best(rt.alloc(), &mut bench, &seq, job)?;
+        print_best(rt, &bench, best.place, best.span)?;
+        seq.insert_at(best.place, job);
+    }
+    Ok(())
+}
+
+// Prints a place, the makespan with the job there, and the number of cells that were counted by then.
+fn print_best<L: Lanes>(
+    rt: &HostRuntime,
+    bench: &MeteredLanes<'_, L>,
+    place: usize,
+    span: Span,
+) -> Result<(), Stop> {
+    println!(rt; "{place} {} {}", bench.reveal(span), bench.cells())?;
+    Ok(())
+}

@@ -1,0 +1,43 @@
+-- No path of a shop that a wavefront serves is as long as the greatest value of 16 bits.
+use Rattle.std.proofs.Common.{◌≡◌, ℕ, zero, suc, ◌+◌, ◌-◌, ◌*◌, ◌<◌, ◌≤◌, List, [], ◌∷◌, length, arith, refl}
+use Rattle.std.proofs.Math.Nat.{mul-le-mul_right, add-mul}
+use Rattle.std.specs.List.{All}
+use Rattle.pfs_base.specs.FlowShop.{FlowShop}
+use Rattle.pfs_base.specs.Paths.{greatest}
+use Rattle.pfs_base.proofs.Published.Heaviest.{greatest-cons}
+use Rattle.pfs_insert.specs.Insertion.{makespan_with}
+use Rattle.pfs_wave.specs.Served.{IsServed}
+use Rattle.pfs_wave.proofs.Longest.{longest_with_law}
+
+-- no number of a list is greater than its greatest
+pub greatest_all : (numbers : List ℕ) → All (λ number. number ≤ greatest numbers) numbers
+greatest_all [] k d lt = absurd (omega arith)
+greatest_all (x ∷ xs) zero d lt = omega (arith, greatest-cons x xs)
+greatest_all (x ∷ xs) (suc k) d lt = omega (arith, greatest-cons x xs, greatest_all xs k d (omega arith))
+
+module _ (shop : FlowShop) (width : ℕ) (served : IsServed shop width) where
+  pub served_path : (jobs : List ℕ) (job place : ℕ) → length jobs < shop.jobs → place ≤ length jobs
+      → makespan_with shop jobs job place < 65535
+  served_path jobs job place few within =
+      let some = served.some in
+      let least : length jobs + shop.machines ≤ shop.jobs + shop.machines - 1 = omega arith in
+      omega (
+        arith,
+        longest_with_law shop jobs job place (greatest shop.times) some within (greatest_all shop.times),
+        mul-le-mul_right (greatest shop.times) least,
+        served.short,
+      )
+
+  -- so every time has 16 bits
+  pub served_times : All (λ time. time < 65536) shop.times
+  served_times k d lt =
+      let some = served.some in
+      let many = served.jobs in
+      let one : 1 ≤ shop.jobs + shop.machines - 1 = omega arith in
+      omega (arith, greatest_all shop.times k d lt, mul-le-mul_right (greatest shop.times) one, served.short)
+
+-- the cells of the tails, and of all else
+pub cells_split : (len machines : ℕ) → len * machines + (3 * len + 2) * machines ≡ (4 * (len + 1) - 2) * machines
+cells_split len machines =
+    let all : 4 * (len + 1) - 2 ≡ len + (3 * len + 2) = omega arith in
+    rw (all, add-mul len (3 * len + 2) machines) refl

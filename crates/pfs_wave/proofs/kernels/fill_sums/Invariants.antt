@@ -1,0 +1,9 @@
+use Rattle.std.proofs.Common.{map}
+use Rattle.pfs_wave.proofs.FilledSteps.{IsSummed}
+use Rattle.pfs_wave.proofs.kernels.fill_sums.Given as goal
+
+abbrev pub invariant-loop-step : goal.invariant-loop-step
+invariant-loop-step g l =
+    let lanes = g.L.Lanes.lanes in
+    IsSummed g.L.Lanes.WIDTH (map lanes l.times) (map lanes l.tails) (lanes l.job) l.sums (lanes l.head)
+    (lanes l.inserted) (lanes l.sum) l.step

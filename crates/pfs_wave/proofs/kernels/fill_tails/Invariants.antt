@@ -1,0 +1,8 @@
+use Rattle.std.proofs.Common.{map}
+use Rattle.pfs_wave.proofs.FilledSteps.{IsFilled}
+use Rattle.pfs_wave.proofs.kernels.fill_tails.Given as goal
+
+abbrev pub invariant-loop-left : goal.invariant-loop-left
+invariant-loop-left g l =
+    let lanes = g.L.Lanes.lanes in
+    IsFilled g.L.Lanes.WIDTH (map lanes l.times) (map lanes l.tails) (lanes l.after) l.left

@@ -1,0 +1,5 @@
+pub mod Lanes
+pub mod Private
+pub mod Served
+pub mod Tables
+pub mod Wavefront

@@ -1,0 +1,4 @@
+pub mod Blending
+pub mod HeldRows
+pub mod LeastSoFar
+pub mod SkewedBand

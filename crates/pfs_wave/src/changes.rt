@@ -1,0 +1,100 @@
+//! What a sequence has in common with the sequence before.
+ghost use Rattle.std.specs.Prelude.{◌≡◌, ℕ, ◌+◌, ◌-◌, ◌≤◌, ◌<◌, true, length};
+ghost use Rattle.std.specs.List.{slice_index_or};
+ghost use Rattle.pfs_wave.specs.Private.HeldRows.{IsKept, IsPadded};
+
+/// How many rows of a sequence are those of the sequence before: at its front, and at its end.
+#[derive(Clone, Copy, Debug, PartialEq, Eq)]
+pub struct Kept {
+    pub front: usize,
+    pub back: usize,
+}
+
+// A sequence of fewer jobs is skewed whole faster than it is compared.
+const SHORT: usize = 128;
+
+// Whether four rows are the same. Compared at once, they take one jump.
+#[inline(always)]
+fn are_same(held: &[usize], seq: &[usize], a: usize, b: usize) -> bool
+    requires held { a + 4 ≤ length held.now }
+    requires seq { b + 4 ≤ length seq.now }
+    ensures same { result ≡ true → (row : ℕ) → row < 4
+        → slice_index_or held.now (a + row) 0 ≡ slice_index_or seq.now (b + row) 0 }
+{
+    (held[a] == seq[b])
+        & (held[a + 1] == seq[b + 1])
+        & (held[a + 2] == seq[b + 2])
+        & (held[a + 3] == seq[b + 3])
+}
+
+// How many rows are the same at the front, or up to three fewer.
+#[inline(always)]
+fn common_front(held: &[usize], seq: &[usize]) -> usize
+    ensures in_held { result ≤ length held.now }
+    ensures in_seq { result ≤ length seq.now }
+    ensures same { (row : ℕ) → row < result → slice_index_or held.now row 0 ≡ slice_index_or seq.now row 0 }
+{
+    let fours = held.len().min(seq.len()) / 4;
+    for four in 0..fours {
+        let row = 4 * four;
+        if !are_same(held, seq, row, row) {
+            return row;
+        }
+    }
+    4 * fours
+}
+
+// How many rows are the same at the end, or up to three fewer, of those after the front.
+#[inline(always)]
+fn common_back(held: &[usize], seq: &[usize], front: usize) -> usize
+    requires front { front ≤ length held.now }
+    requires longer { length held.now ≤ length seq.now }
+    ensures in_held { front + result ≤ length held.now }
+    ensures same { (row : ℕ) → row < length seq.now → length seq.now ≤ row + result
+        → slice_index_or held.now (row - (length seq.now - length held.now)) 0 ≡ slice_index_or seq.now row 0 }
+{
+    let fours = (held.len() - front) / 4;
+    for four in 0..fours {
+        let left = 4 * four + 4;
+        if !are_same(held, seq, held.len() - left, seq.len() - left) {
+            return 4 * four;
+        }
+    }
+    4 * fours
+}
+
+/// Which rows of a sequence are those of the sequence before. A shorter sequence keeps none at its end, and a short one
+/// none at all.
+#[inline(always)]
+pub fn kept_rows(held: &[usize], seq: &[usize]) -> Kept
+    ensures { IsKept held.now seq.now result.front result.back }
+{
+    if seq.len() < SHORT {
+        return Kept { front: 0, back: 0 };
+    }
+    let front = common_front(held, seq);
+    let back = if held.len() <= seq.len() {
+        common_back(held, seq, front)
+    } else {
+        0
+    };
+    Kept { front, back }
+}
+
+/// Writes the jobs of a sequence from the row `from` on, and `none` to the rows after its last job up to before `to`.
+#[inline(always)]
+pub fn write_rows(order: &mut [usize], seq: &[usize], none: usize, from: usize, to: usize)
+    requires from { from ≤ length seq.now }
+    requires longer { length seq.now ≤ to }
+    requires to { to ≤ length order.old }
+    requires front { (row : ℕ) → row < from → slice_index_or order.old row 0 ≡ slice_index_or seq.now row none }
+    requires rest { (row : ℕ) → to ≤ row → row < length order.old
+        → slice_index_or order.old row 0 ≡ slice_index_or seq.now row none }
+    ensures length { length order.new ≡ length order.old }
+    ensures rows { IsPadded order.new seq.now none }
+{
+    order[from..seq.len()].copy_from_slice(&seq[from..]);
+    for row in seq.len()..to {
+        order[row] = none;
+    }
+}

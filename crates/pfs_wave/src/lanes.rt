@@ -1,0 +1,61 @@
+//! Rows of lanes.
+ghost use Rattle.std.specs.Prelude.{◌≡◌, ℕ, ◌+◌, ◌-◌, ◌*◌, ◌%◌, ◌≤◌, List, ◌++◌, length, take, drop};
+ghost use Rattle.std.specs.List.{slice_index_or};
+ghost use Rattle.pfs_wave.specs.Lanes.{zeros, tails_step, heads_step, sums_step};
+
+use std::simd::prelude::*;
+
+/// A row of lanes of 16 bits, in bands of eight. Sums stop at 65,535.
+pub trait Lanes: Drop {
+    /// The values of the lanes.
+    ghost lanes: { Self → List ℕ };
+
+    ghost WIDTH: { ℕ };
+
+    /// How many lanes a row has.
+    const WIDTH: usize;
+
+    /// A row of zeros.
+    fn none() -> Self
+        ensures { lanes result ≡ zeros WIDTH };
+
+    /// The same lanes again.
+    fn again(&self) -> Self
+        ensures { lanes result ≡ lanes self.now };
+
+    /// The eight lanes of a band.
+    fn band(&self, band: usize) -> u16x8
+        requires { 8 * band + 8 ≤ WIDTH }
+        ensures band { result ≡ take 8 (drop (8 * band) (lanes self.now)) }
+        ensures wide { length (lanes self.now) ≡ WIDTH };
+
+    /// Writes the eight lanes of a band.
+    fn put_band(&mut self, band: usize, values: u16x8)
+        requires { 8 * band + 8 ≤ WIDTH }
+        ensures band { lanes self.new
+            ≡ take (8 * band) (lanes self.old) ++ (values ++ drop (8 * band + 8) (lanes self.old)) }
+        ensures wide { length (lanes self.old) ≡ WIDTH };
+
+    /// The value of the last lane.
+    fn last(&self) -> u16
+        ensures { result ≡ slice_index_or (lanes self.now) (WIDTH - 1) 0 };
+
+    /// The tails of a step from those of the step after it.
+    fn tails(after: &Self, times: &Self) -> Self
+        ensures { lanes result ≡ tails_step (lanes after.now) (lanes times.now) };
+
+    /// The heads of a step, or the inserted rows, from the row of lanes that holds the values before each, and the one
+    /// that holds the values above each.
+    fn heads(before: &Self, above: &Self, times: &Self) -> Self
+        ensures { lanes result ≡ heads_step (lanes before.now) (lanes above.now) (lanes times.now) };
+
+    /// The sums of a step from those of the step before it, the inserted rows and the tails.
+    fn sums(before: &Self, inserted: &Self, tails: &Self) -> Self
+        ensures { lanes result ≡ sums_step (lanes before.now) (lanes inserted.now) (lanes tails.now) };
+
+    ghost some: { 8 ≤ WIDTH };
+
+    ghost few: { WIDTH ≤ 24 };
+
+    ghost whole: { WIDTH % 8 ≡ 0 };
+}

@@ -1,0 +1,45 @@
+//! The passes of an insertion, over tables that may have more steps than the sequence needs.
+ghost use Rattle.std.specs.Prelude.{◌≡◌, ℕ, ◌+◌, ◌<◌, ◌≤◌, ◌^◌, length, map, List};
+ghost use Rattle.pfs_base.specs.FlowShop.{FlowShop};
+ghost use Rattle.pfs_insert.specs.Inserter.{IsBestPlace};
+ghost use Rattle.pfs_insert.specs.Insertion.{makespan_with};
+ghost use Rattle.pfs_wave.specs.Lanes.{rows_of};
+ghost use Rattle.pfs_wave.specs.Wavefront.{AreSkewed, FitsLanes, HoldTails, IsJobRow};
+
+use crate::kernels::{fill_sums, fill_tails};
+use crate::lanes::Lanes;
+use crate::least::{Found, first_least};
+
+/// Fills the tails of a sequence from its skewed times.
+#[inline(always)]
+pub(crate) fn fill_front<L: Lanes>(times: &[L], tails: &mut [L])
+    requires small { length times.now < 2 ^ 32 }
+    requires tails { length times.now ≤ length tails.old }
+    ensures tails { length tails.new ≡ length tails.old }
+    ensures filled { (shop : FlowShop) (jobs : List ℕ) → FitsLanes shop L.WIDTH
+        → AreSkewed shop jobs L.WIDTH (rows_of (map L.lanes times.now)) → length times.now ≡ length jobs + L.WIDTH
+        → HoldTails shop jobs L.WIDTH (rows_of (map L.lanes tails.new)) }
+{
+    fill_tails(times, &mut tails[..times.len()]);
+}
+
+/// The best place of a job in a sequence, and the makespan there, from the skewed times and the tails of the sequence.
+#[inline(always)]
+pub(crate) fn best_place<L: Lanes>(times: &[L], tails: &[L], job: &L, sums: &mut [u16]) -> Found
+    requires some { L.WIDTH ≤ length times.now }
+    requires small { length times.now ≤ 2 ^ 16 }
+    requires tails { length times.now ≤ length tails.now }
+    requires sums { length times.now ≤ length sums.old }
+    ensures sums { length sums.new ≡ length sums.old }
+    ensures best { (shop : FlowShop) (jobs : List ℕ) (inserted : ℕ) → FitsLanes shop L.WIDTH
+        → AreSkewed shop jobs L.WIDTH (rows_of (map L.lanes times.now))
+        → HoldTails shop jobs L.WIDTH (rows_of (map L.lanes tails.now))
+        → IsJobRow shop inserted L.WIDTH (L.lanes job.now) → length times.now ≡ length jobs + L.WIDTH
+        → ((place : ℕ) → place ≤ length jobs → makespan_with shop jobs inserted place < 65535)
+        → IsBestPlace shop jobs inserted result.place result.sum }
+{
+    let steps = times.len();
+    let filled = &mut sums[..steps];
+    fill_sums(times, &tails[..steps], job, filled);
+    first_least(&filled[L::WIDTH - 1..])
+}

@@ -1,0 +1,73 @@
+//! The times of a shop's jobs in lanes.
+ghost use Rattle.std.specs.Prelude.{◌≡◌, ◌+◌, ◌<◌, ◌≤◌, ◌^◌, length, map, IfOk};
+ghost use Rattle.std.specs.List.{All, range_with_len};
+ghost use Rattle.pfs_base.specs.FlowShop.{time_of};
+ghost use Rattle.pfs_wave.specs.Wavefront.{HasRows, IsJobRow, on_machine};
+
+use crate::lanes::Lanes;
+use pfs_base::Instance;
+use std::alloc::{AllocError, Global};
+use std::simd::prelude::*;
+
+// The time of a job on the machine of a lane, and 0 in a lane after the last machine.
+fn lane_time(instance: &Instance, job: usize, lane: usize) -> u16
+    requires job { job < instance.now.shop.jobs }
+    requires short { All (λ time. time < 2 ^ 16) instance.now.shop.times }
+    ensures { result ≡ on_machine instance.now.shop (time_of instance.now.shop job) lane }
+{
+    if lane < instance.machines() {
+        instance.time(job, lane) as u16
+    } else {
+        0
+    }
+}
+
+// The times of a job in eight lanes, from one on.
+fn eight_times(instance: &Instance, job: usize, first: usize) -> u16x8
+    requires job { job < instance.now.shop.jobs }
+    requires short { All (λ time. time < 2 ^ 16) instance.now.shop.times }
+    requires few { first < 2 ^ 32 }
+    ensures { result ≡ map (on_machine instance.now.shop (time_of instance.now.shop job)) (range_with_len first 8) }
+{
+    u16x8::from_array([
+        lane_time(instance, job, first),
+        lane_time(instance, job, first + 1),
+        lane_time(instance, job, first + 2),
+        lane_time(instance, job, first + 3),
+        lane_time(instance, job, first + 4),
+        lane_time(instance, job, first + 5),
+        lane_time(instance, job, first + 6),
+        lane_time(instance, job, first + 7),
+    ])
+}
+
+// The times of a job in the lanes of its machines.
+fn job_row<L: Lanes>(instance: &Instance, job: usize) -> L
+    requires job { job < instance.now.shop.jobs }
+    requires short { All (λ time. time < 2 ^ 16) instance.now.shop.times }
+    ensures { IsJobRow instance.now.shop job L.WIDTH (L.lanes result) }
+{
+    let mut row = L::none();
+    for band in 0..L::WIDTH / 8 {
+        row.put_band(band, eight_times(instance, job, 8 * band));
+    }
+    row
+}
+
+/// Makes the rows of an instance: for each job its times, in the lanes of its machines, and 0 in the lanes after the
+/// last machine; and after them a row of zeros. It reserves memory once.
+pub fn shop_rows<L: Lanes>(alloc: Global, instance: &Instance) -> Result<Vec<L>, AllocError>
+    requires machines { instance.now.shop.machines ≤ L.WIDTH }
+    requires short { All (λ time. time < 2 ^ 16) instance.now.shop.times }
+    ensures count { IfOk result (λ rows. length rows.items ≡ instance.now.shop.jobs + 1) }
+    ensures rows { IfOk result (λ rows. HasRows instance.now.shop L.WIDTH (map L.lanes rows.items)) }
+{
+    let jobs = instance.jobs();
+    let mut rows = Vec::new(alloc);
+    rows.reserve_exact(jobs + 1)?;
+    for job in 0..jobs {
+        rows.push(job_row(instance, job))?;
+    }
+    rows.push(L::none())?;
+    Ok(rows)
+}

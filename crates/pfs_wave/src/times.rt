@@ -1,0 +1,150 @@
+//! The skewed times of a sequence. Each band is filled on its own: the first row reaches band b after 8 * b steps.
+ghost use Rattle.std.specs.Prelude.{◌≡◌, ℕ, ◌+◌, ◌-◌, ◌*◌, ◌<◌, ◌≤◌, length, map, max, min};
+ghost use Rattle.std.specs.List.{All};
+ghost use Rattle.pfs_wave.specs.Lanes.{rows_of};
+ghost use Rattle.pfs_wave.specs.Private.HeldRows.{AreMoved, HoldLanes, HoldOutside};
+ghost use Rattle.pfs_wave.specs.Private.Blending.{AreBlends, past_at};
+ghost use Rattle.pfs_wave.specs.Private.SkewedBand.{IsBandFilled, band_rows};
+
+use crate::blends::Blends;
+use crate::lanes::Lanes;
+use std::simd::prelude::*;
+
+/// The rows from `from` to before `to`.
+#[derive(Clone, Copy, Debug, PartialEq, Eq)]
+pub struct Changed {
+    pub from: usize,
+    pub to: usize,
+}
+
+// One band of a row of the sequence.
+#[inline(always)]
+fn band_of_row<L: Lanes>(rows: &[L], order: &[usize], row: usize, band: usize) -> u16x8
+    requires jobs { All (λ job. job < length rows.now) order.now }
+    requires band { 8 * band + 8 ≤ L.WIDTH }
+    requires row { row < length order.now }
+    ensures { result ≡ band_rows (map L.lanes rows.now) order.now (8 * band) row }
+{
+    let job = order[row];
+    rows[job].band(band)
+}
+
+// What the blends keep of the rows before a row. They need no more than seven of them.
+#[inline(always)]
+fn blends_before<L: Lanes>(rows: &[L], order: &[usize], row: usize, band: usize) -> Blends
+    requires jobs { All (λ job. job < length rows.now) order.now }
+    requires band { 8 * band + 8 ≤ L.WIDTH }
+    requires row { row ≤ length order.now }
+    ensures { AreBlends (past_at (band_rows (map L.lanes rows.now) order.now (8 * band)) row) result }
+{
+    let mut last = Blends::none();
+    for earlier in row.saturating_sub(7)..row {
+        last = last.push(band_of_row(rows, order, earlier, band)).next;
+    }
+    last
+}
+
+// Fills one band of the steps that hold a row that changed: those rows, and the seven after them. Four rows a turn let
+// the blends stay in registers without a copy.
+#[inline(always)]
+fn fill_band<L: Lanes>(rows: &[L], order: &[usize], times: &mut [L], changed: Changed, band: usize)
+    requires jobs { All (λ job. job < length rows.now) order.now }
+    requires band { 8 * band + 8 ≤ L.WIDTH }
+    requires from { changed.from ≤ changed.to }
+    requires to { changed.to ≤ length order.now }
+    requires room { changed.from + L.WIDTH ≤ length order.now }
+    requires steps { length times.old ≡ length order.now }
+    ensures filled { IsBandFilled (band_rows (map L.lanes rows.now) order.now (8 * band)) (8 * band)
+        changed.from (min (changed.to + 7) (length times.old - 8 * band)) (map L.lanes times.old)
+        (map L.lanes times.new) }
+{
+    let first = 8 * band;
+    let from = changed.from;
+    let end = (changed.to + 7).min(order.len() - first);
+    let mut last = blends_before(rows, order, from, band);
+    let turns = (end - from) / 4;
+    for turn in 0..turns {
+        let row = from + 4 * turn;
+        let step = first + row;
+        let a = last.push(band_of_row(rows, order, row, band));
+        let b = a.next.push(band_of_row(rows, order, row + 1, band));
+        let c = b.next.push(band_of_row(rows, order, row + 2, band));
+        let d = c.next.push(band_of_row(rows, order, row + 3, band));
+        last = d.next;
+        times[step].put_band(band, a.row);
+        times[step + 1].put_band(band, b.row);
+        times[step + 2].put_band(band, c.row);
+        times[step + 3].put_band(band, d.row);
+    }
+    for row in from + 4 * turns..end {
+        let one = last.push(band_of_row(rows, order, row, band));
+        last = one.next;
+        times[first + row].put_band(band, one.row);
+    }
+}
+
+/// Skews the rows of a sequence that changed: lane l of step x gets lane l of the row of times of the job at row x - l,
+/// and 0 where there is no such row. The other rows are skewed already.
+#[inline(never)]
+pub fn fill_times<L: Lanes>(rows: &[L], order: &[usize], times: &mut [L], changed: Changed)
+    requires jobs { All (λ job. job < length rows.now) order.now }
+    requires from { changed.from ≤ changed.to }
+    requires to { changed.to ≤ length order.now }
+    requires room { changed.from + L.WIDTH ≤ length order.now }
+    requires steps { length times.old ≡ length order.now }
+    ensures steps { length times.new ≡ length times.old }
+    ensures wide { (step : ℕ)
+        → length (rows_of (map L.lanes times.new) step) ≡ length (rows_of (map L.lanes times.old) step) }
+    ensures held { HoldOutside (map L.lanes rows.now) order.now changed.from changed.to 0 L.WIDTH
+        (map L.lanes times.old)
+        → HoldLanes (map L.lanes rows.now) order.now 0 L.WIDTH (map L.lanes times.new) }
+{
+    fill_band(rows, order, times, changed, 0);
+    if L::WIDTH < 16 {
+        return;
+    }
+    fill_band(rows, order, times, changed, 1);
+    if L::WIDTH < 24 {
+        return;
+    }
+    fill_band(rows, order, times, changed, 2);
+}
+
+/// Moves the steps from `from` to before `to`: each becomes a copy of the one `by` steps before it.
+#[inline(never)]
+pub fn move_steps<L: Lanes>(times: &mut [L], from: usize, to: usize, by: usize)
+    requires from { from ≤ to }
+    requires to { to ≤ length times.old }
+    requires by { by ≤ from }
+    ensures { AreMoved from to by (map L.lanes times.old) (map L.lanes times.new) }
+{
+    for left in 0..to - from {
+        let step = to - 1 - left;
+        times[step] = times[step - by].again();
+    }
+}
+
+/// Moves the last `back` rows of a sequence that grew from `old` to `new` jobs to their new steps. Returns from which
+/// row
+/// on the steps are right. A step has rows of both parts up to WIDTH steps after the first row that moves, so only the
+/// steps after that are moved.
+#[inline(always)]
+pub fn move_back<L: Lanes>(times: &mut [L], old: usize, new: usize, back: usize) -> usize
+    requires old { back ≤ old }
+    requires new { new + L.WIDTH ≤ length times.old }
+    requires old_room { old + L.WIDTH ≤ length times.old }
+    ensures none { back ≡ 0 → (result ≡ max old new) × (map L.lanes times.new ≡ map L.lanes times.old) }
+    ensures kept { new ≤ old → (result ≡ old - back) × (map L.lanes times.new ≡ map L.lanes times.old) }
+    ensures moved { 0 < back → old < new → (result ≡ new - back + L.WIDTH)
+        × AreMoved result (new + L.WIDTH) (new - old) (map L.lanes times.old) (map L.lanes times.new) }
+{
+    if back == 0 {
+        return old.max(new);
+    }
+    if new <= old {
+        return old - back;
+    }
+    let from = new - back + L::WIDTH;
+    move_steps(times, from, new + L::WIDTH, new - old);
+    from
+}

@@ -1,0 +1,111 @@
+"""The command lines of the scripts, and how they report that they can't continue."""
+from __future__ import annotations
+
+import argparse
+import io
+import os
+import pathlib
+import re
+import shutil
+import subprocess
+import sys
+import threading
+from collections.abc import Callable
+from typing import NoReturn
+
+from csvs import Refused as Refused
+
+HERE = pathlib.Path(__file__).resolve().parent
+# A folder of the repository has the built program; the installed scripts are in PREFIX/libexec/pfs/experiments.
+IS_INSTALLED = HERE.parts[-3:] == ("libexec", "pfs", "experiments")
+# Where the program is searched for.
+PROGRAMS = f"{HERE.parent}/crates/pfs/out:{os.environ.get('PATH', os.defpath)}"
+# Seconds after which a program that prints nothing is not pfs.
+PATIENCE = 20.0
+# What `pfs generate 1 1 1` prints ends with this. Its first number is the one job's time.
+ONE_JOB = b"\n1 1 1 0 0\nprocessing times :\n1\n"
+
+
+def name_of(script: str) -> str:
+    """How a user calls a script."""
+    return f"pfs-experiments {script}" if IS_INSTALLED else f"experiments/{script}"
+
+
+class Words(argparse.ArgumentParser):
+    """A command line. Faults are reported on one line."""
+
+    def __init__(self, script: str, usage: str, **how: bool) -> None:
+        super().__init__(prog=name_of(script), usage=f"%(prog)s {usage}", **how)  # type: ignore[arg-type]
+
+    def error(self, message: str) -> NoReturn:
+        raise Refused(f"{message} ({' '.join(self.format_usage().split())})")
+
+
+def whole_from(least: int) -> Callable[[str], int]:
+    """Reads a whole number that is not below the least one."""
+    def read(text: str) -> int:
+        if not re.fullmatch("[0-9]{1,9}", text, re.ASCII) or int(text) < least:
+            raise argparse.ArgumentTypeError(f"{text!r} is not a whole number from {least}")
+        return int(text)
+    return read
+
+
+def need(program: str, package: str) -> None:
+    """Reports a program that is missing, with its package."""
+    if shutil.which(program) is None:
+        raise Refused(f"{program} is not installed (Debian: {package})")
+
+
+def need_pfs(program: str | None) -> str:
+    """The path of the program, which must be pfs."""
+    if program is None:
+        raise Refused("pfs is not built (make run), and not on the path: name it by --pfs")
+    if not os.access(program, os.X_OK) or os.path.isdir(program):
+        raise Refused(f"{program} is not a program")
+    if not prints(program, ONE_JOB):
+        raise Refused(f"{program} is not pfs: `{program} generate 1 1 1` must print an instance")
+    return os.path.abspath(program)
+
+
+def prints(program: str, wanted: bytes) -> bool:
+    """Whether the program draws the instance of one job. At most 1,000 bytes of its output are read."""
+    words = [os.path.abspath(program), "generate", "1", "1", "1"]
+    try:
+        process = subprocess.Popen(words, stdin=subprocess.DEVNULL, stdout=subprocess.PIPE, stderr=subprocess.DEVNULL)
+    except OSError:
+        return False
+    hangs = threading.Timer(PATIENCE, process.kill)
+    hangs.start()
+    with process:
+        assert process.stdout is not None
+        try:
+            return process.stdout.read(1000).endswith(wanted)
+        finally:
+            hangs.cancel()
+            process.kill()
+
+
+def plain(text: str) -> str:
+    """A text on one line for a terminal: control characters are shown by their escapes."""
+    return "".join(sign if sign.isprintable() else sign.encode("unicode_escape", "backslashreplace").decode()
+                   for sign in text)
+
+
+def told(script: str, error: Exception) -> int:
+    """Reports on one line why a script can't continue. Returns its exit status."""
+    file = (error.filename2 or error.filename) if isinstance(error, OSError) else None
+    path = f"{os.fsdecode(file)}: " if isinstance(file, (str, bytes)) else ""
+    line = f"{path}{error.strerror}" if isinstance(error, OSError) and error.strerror else str(error)
+    print(f"{name_of(script)}: {plain(' '.join(line.split()))}", file=sys.stderr)
+    return 2
+
+
+def called(script: str, make: Callable[[], int]) -> int:
+    """Runs a script, and returns its exit status. Names of files may have bytes that are not UTF-8."""
+    for stream in (sys.stdout, sys.stderr):
+        if isinstance(stream, io.TextIOWrapper):
+            stream.reconfigure(errors="backslashreplace")
+    try:
+        return make()
+    except (Refused, OSError, ImportError) as error:
+        return told(script, error)

@@ -1,0 +1,156 @@
+"""The comparison of methods and of settings in a report."""
+from __future__ import annotations
+
+import importlib
+import itertools
+import pathlib
+import statistics
+from collections import Counter
+from collections.abc import Callable
+from fractions import Fraction
+from typing import Any, NamedTuple
+
+from reported import Run, grouped
+from tables import cells_of, write_tables
+
+SETTING = ["method", "rounds", "take", "passes"]
+RESULT = ["instances", "won", "tied", "lost", "p", "pairs", "p_holm", "median_difference_percent", "vargha_delaney_a"]
+# The exact test is for at most this number of pairs; for more there is the normal approximation of SciPy.
+MOST_EXACT = 50
+NOTE = ("Won, tied, lost: instances on which the first one's mean makespan is less, the same, greater. p: Wilcoxon's "
+        "signed-rank test, two-sided, of the differences in RPD of the pairs that aren't tied, exact up to 50 pairs. "
+        "p holm: with Holm's correction for all rows. Median difference: of the RPDs, the first one's less the other "
+        "one's. Vargha-Delaney A: the probability that the first one's RPD is the less one, of two instances at "
+        "random.")
+
+
+class Mean(NamedTuple):
+    """Of an instance: the mean makespan and, if there is a reference, the mean RPD."""
+    makespan: Fraction
+    rpd: Fraction | None
+
+
+class Pair(NamedTuple):
+    """Two settings, and their means on the instances that both have."""
+    one: tuple[Any, ...]
+    other: tuple[Any, ...]
+    means: list[tuple[Mean, Mean]]
+
+    @property
+    def rpds(self) -> list[tuple[Fraction, Fraction]]:
+        return [(one.rpd, other.rpd) for one, other in self.means if one.rpd is not None and other.rpd is not None]
+
+    @property
+    def differences(self) -> list[Fraction]:
+        """Those that are not tied."""
+        return [one - other for one, other in self.rpds if one != other]
+
+
+def pairs_of(runs: list[Run]) -> list[Pair]:
+    """The pairs of settings of two methods, and those of one method that have the same rounds or time factor: more
+    rounds of a search are never worse. Only pairs with a common instance."""
+    done = [run for run in runs if run.makespan is not None]
+    settings = {key: means_of(group) for key, group in grouped(done, lambda run: run.setting)}
+    found = []
+    for (one, means), (other, others) in itertools.combinations(settings.items(), 2):
+        both = [instance for instance in means if instance in others]
+        if both and (one[0] != other[0] or (one[1], one[4]) == (other[1], other[4])):
+            found.append(Pair(one, other, [(means[each], others[each]) for each in both]))
+    return found
+
+
+def means_of(runs: list[Run]) -> dict[str, Mean]:
+    """The means of each instance."""
+    means = {}
+    for (instance,), group in grouped(runs, lambda run: (run.instance,)):
+        makespan, reference = Fraction(sum(run.makespan or 0 for run in group), len(group)), group[0].reference
+        rpd = None if group[0].rpd is None else (100 * (makespan - reference) / reference if reference else Fraction(0))
+        means[instance] = Mean(makespan, rpd)
+    return means
+
+
+def strangers(runs: list[Run]) -> list[tuple[str, str]]:
+    """The pairs of methods without a common instance."""
+    instances = {method: {run.instance for run in group}
+                 for (method,), group in grouped(runs, lambda run: (run.method,))}
+    return [(one, other) for one, other in itertools.combinations(instances, 2)
+            if not instances[one] & instances[other]]
+
+
+# Statistics
+
+def probability(differences: list[Fraction], approximate: Callable[..., Any] | None) -> float | None:
+    """Of such differences or greater ones between methods that are equally good, by Wilcoxon's signed-rank test. There
+    is none for many pairs without SciPy."""
+    if len(differences) <= MOST_EXACT:
+        return exact(differences)
+    return float(approximate(list(map(float, differences)), method="approx").pvalue) if approximate else None
+
+
+def exact(differences: list[Fraction]) -> float:
+    """The share of the choices of signs whose sum of ranks is as far from the middle as that of these differences, or
+    farther. Equal differences have the mean of their ranks, so twice a rank is a whole number."""
+    sizes: list[Fraction] = sorted(abs(each) for each in differences)
+    ranks = {size: 2 * sizes.index(size) + sizes.count(size) + 1 for size in sizes}
+    counts = {0: 1}
+    for size in sizes:
+        taken = {total + ranks[size]: count for total, count in counts.items()}
+        counts = {total: counts.get(total, 0) + taken.get(total, 0) for total in counts.keys() | taken.keys()}
+    middle = sum(ranks[size] for size in sizes) / 2
+    distance = abs(sum(ranks[abs(each)] for each in differences if each > 0) - middle)
+    return float(sum(count for total, count in counts.items() if abs(total - middle) >= distance) / 2 ** len(sizes))
+
+
+def holm(probabilities: list[float | None]) -> list[float | None]:
+    """The probabilities with Holm's correction for their number."""
+    found: list[float | None] = [None] * len(probabilities)
+    given = sorted((p, at) for at, p in enumerate(probabilities) if p is not None)
+    greatest = 0.0
+    for place, (p, at) in enumerate(given):
+        greatest = max(greatest, min(1.0, (len(given) - place) * p))
+        found[at] = greatest
+    return found
+
+
+def superiority(ones: list[Fraction], others: list[Fraction]) -> float:
+    """Vargha and Delaney's A for values of which less is better."""
+    wins = sum((one < other) + 0.5 * (one == other) for one in ones for other in others)
+    return wins / (len(ones) * len(others))
+
+
+# The table
+
+def write_comparison(runs: list[Run], folder: pathlib.Path) -> bool:
+    """The table of all pairs, if there are any or if there are several methods. Returns whether there is one."""
+    pairs = pairs_of(runs)
+    if not pairs and len({run.method for run in runs}) < 2:
+        return False
+    note, approximate = NOTE, None
+    try:
+        approximate = importlib.import_module("scipy.stats").wilcoxon
+    except ImportError:
+        if any(len(pair.rpds) > MOST_EXACT for pair in pairs):
+            note += " p of more pairs is left out: SciPy isn't there (Debian: python3-scipy)."
+    probabilities = [probability(pair.differences, approximate) if pair.rpds else None for pair in pairs]
+    by_time = any(run.time_factor is not None for run in runs)
+    setting = SETTING + (["time_factor"] if by_time else [])
+    rows = [row_of(pair, p, corrected, len(setting))
+            for pair, p, corrected in zip(pairs, probabilities, holm(probabilities))]
+    write_tables([*setting, *(f"other_{column}" for column in setting), *RESULT], rows, folder / "comparison", note)
+    return True
+
+
+def row_of(pair: Pair, p: float | None, corrected: float | None, columns: int) -> list[str]:
+    signs = Counter((one.makespan > other.makespan) - (one.makespan < other.makespan) for one, other in pair.means)
+    row = [*cells_of(pair.one[:columns]), *cells_of(pair.other[:columns]), str(len(pair.means)),
+           *(str(signs[sign]) for sign in (-1, 0, 1))]
+    if not pair.rpds:
+        return [*row, "", "0", "", "", ""]
+    ones, others = [one for one, _ in pair.rpds], [other for _, other in pair.rpds]
+    median = round(float(statistics.median(one - other for one, other in pair.rpds)), 3) + 0.0
+    return [*row, number(p), str(len(pair.differences)), number(corrected), f"{median:.3f}",
+            f"{superiority(ones, others):.3f}"]
+
+
+def number(p: float | None) -> str:
+    return "" if p is None else f"{p:.4g}"

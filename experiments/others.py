@@ -1,0 +1,135 @@
+"""Runs of programs other than pfs, and the orders that they print."""
+from __future__ import annotations
+
+import ctypes
+import os
+import re
+import resource
+import selectors
+import signal
+import subprocess
+import time
+from types import FrameType
+from typing import Any
+
+# A program may take more than its processor time by this factor. One that waits may take this number of seconds more
+# than ten times as long.
+TIMES, PATIENCE = 1.5, 10.0
+# The most bytes that a program may print.
+MOST_BYTES = 1_048_576
+PR_SET_PDEATHSIG = 1
+
+
+class Failed(Exception):
+    """Why a program has no order."""
+
+
+def printed(words: list[str], folder: str, seconds: float | None) -> tuple[str, float]:
+    """What a program prints on standard output, and its processor seconds, with those of the processes that it has
+    started. A program that takes too long, prints too much or fails is ended, with its processes."""
+    before = used()
+    try:
+        child = subprocess.Popen(words, cwd=folder, stdin=subprocess.DEVNULL, stdout=subprocess.PIPE,
+                                 stderr=subprocess.PIPE, start_new_session=True, preexec_fn=end_with_parent)
+    except (OSError, ValueError) as error:
+        raise Failed(getattr(error, "strerror", None) or str(error)) from None
+
+    def stop(number: int, _frame: FrameType | None) -> None:
+        end(child)
+        os._exit(128 + number)
+
+    for number in (signal.SIGTERM, signal.SIGINT, signal.SIGHUP):
+        signal.signal(number, stop)
+    try:
+        out, errors = watched(child, seconds)
+    finally:
+        end(child)
+    spent = used() - before
+    if child.returncode < 0:
+        raise Failed(f"signal {-child.returncode}")
+    if child.returncode > 0:
+        raise Failed(f"exit {child.returncode}, {' '.join((errors.split(chr(10)) or [''])[-1].split())[:200]}")
+    if seconds is not None and spent > TIMES * seconds:
+        raise too_long(spent, seconds)
+    return out, spent
+
+
+def end_with_parent() -> None:
+    """Has the kernel end the program when `one` is killed."""
+    ctypes.CDLL(None).prctl(PR_SET_PDEATHSIG, signal.SIGKILL)
+
+
+def used() -> float:
+    spent = resource.getrusage(resource.RUSAGE_CHILDREN)
+    return spent.ru_utime + spent.ru_stime
+
+
+def too_long(spent: float, seconds: float) -> Failed:
+    return Failed(f"over its time: {spent:.2f} s, where {seconds:g} s were given")
+
+
+def watched(child: subprocess.Popen[bytes], seconds: float | None) -> tuple[str, str]:
+    """What a program writes until it ends, or is stopped. Its processes end with it."""
+    texts: dict[Any, bytes] = {child.stdout: b"", child.stderr: b""}
+    start = time.monotonic()
+    with selectors.DefaultSelector() as selector:
+        for stream in texts:
+            selector.register(stream, selectors.EVENT_READ)
+        while selector.get_map() or child.poll() is None:
+            if child.poll() is not None:
+                end(child)
+            for key, _ in selector.select(0.05):
+                data = os.read(key.fd, 65536)
+                texts[key.fileobj] = (texts[key.fileobj] + data)[-2 * MOST_BYTES:]
+                if not data:
+                    selector.unregister(key.fileobj)
+            if len(texts[child.stdout]) > MOST_BYTES:
+                raise Failed(f"more than {MOST_BYTES:,} bytes printed")
+            check_time(child, seconds, time.monotonic() - start)
+    return texts[child.stdout].decode(errors="replace"), texts[child.stderr].decode(errors="replace").strip()
+
+
+def check_time(child: subprocess.Popen[bytes], seconds: float | None, waited: float) -> None:
+    if seconds is None or waited < TIMES * seconds:
+        return
+    spent = group_seconds(child.pid)
+    if spent > TIMES * seconds:
+        raise too_long(spent, seconds)
+    if waited > 10 * TIMES * seconds + PATIENCE:
+        raise Failed(f"no end after {waited:.0f} s, where {seconds:g} s of processor time were given")
+
+
+def group_seconds(group: int) -> float:
+    """The processor seconds of all processes of a group, and of those that they have waited for."""
+    total = 0
+    for name in filter(str.isdigit, os.listdir("/proc")):
+        try:
+            with open(f"/proc/{name}/stat", "rb") as file:
+                fields = file.read().rpartition(b") ")[2].split()
+        except OSError:
+            continue
+        if int(fields[2]) == group:
+            total += sum(map(int, fields[11:15]))
+    return total / os.sysconf("SC_CLK_TCK")
+
+
+def end(child: subprocess.Popen[bytes]) -> None:
+    """Ends a program and all that it has started."""
+    try:
+        os.killpg(child.pid, signal.SIGKILL)
+    except OSError:
+        pass
+    child.wait()
+
+
+def order_of(text: str) -> tuple[str, list[str]]:
+    """The order file that a program has printed, or the job numbers of the one line."""
+    lines = [line for line in text.splitlines() if line.strip()]
+    if not lines:
+        raise Failed("nothing printed")
+    if re.match("order2? ", lines[0]):
+        return text if text.endswith("\n") else f"{text}\n", []
+    jobs = re.split(r"[\s,]+", lines[0].strip(" \t,"))
+    if len(lines) > 1 or not all(re.fullmatch("[0-9]{1,9}", job, re.ASCII) for job in jobs):
+        raise Failed(f"no order printed: {lines[0][:40]!r}")
+    return "", [str(int(job)) for job in jobs]

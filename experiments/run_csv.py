@@ -1,0 +1,84 @@
+"""The CSV of a plan's runs, and what is reported of them."""
+from __future__ import annotations
+
+import csv
+import io
+import pathlib
+import re
+import sys
+
+from commands import plain
+from csvs import Row, path_cell, referred, text_cell
+from results import endings, keep_order, order_name, result_of
+from runs import Begun, in_sequence, time_of, write_whole
+
+COLUMNS = ["instance", "jobs", "machines", "rounds", "take", "passes", "seed", "repetition",
+           "makespan", "bound", "gap_percent", "cells", "seconds", "status", "order", "reference", "source"]
+
+
+def identity(run: Row) -> Row:
+    """What a row says of its run before the run is made. What is not known is empty."""
+    known = {column: value for column, value in run.items() if value != "-" or column == "instance"}
+    by_time = time_of(run)
+    times = {"rounds": "", "time_factor": by_time[0]} if by_time else {"time_factor": ""}
+    return known | times | {"instance": path_cell(run["instance"])}
+
+
+def row_of(run: Row, result: Row) -> Row:
+    known = identity(run)
+    row = {column: {**known, **result}.get(column, "") for column in [*COLUMNS, "time_factor"]}
+    if result["status"] == "ok":
+        makespan, bound = int(result["makespan"]), int(result["bound"])
+        row["gap_percent"] = f"{100 * (makespan - bound) / bound:.4f}" if bound else "0.0000"
+    return row | {"status": text_cell(row["status"])}
+
+
+def gather(begun: Begun, csv_path: str) -> tuple[int, int]:
+    """Writes the order files and the CSV of the runs that have ended. Reports and returns how many failed, and how
+    many are missing."""
+    folder = begun.folder
+    ended = endings(folder)
+    rows, left = [], 0
+    for run in in_sequence(folder):
+        result = result_of(folder, run["number"])
+        if result is None and run["number"] in ended:
+            result = {"status": ended[run["number"]]}
+        if result is None:
+            left += 1
+            continue
+        if result.get("order"):
+            keep_order(folder, order_name(run), result["order"])
+            result["order"] = path_cell(f"{folder.name}/orders/{order_name(run)}")
+        row = row_of(run, result)
+        reference = referred(begun.reference, run["instance"])
+        row["reference"], row["source"] = (str(reference[0]), text_cell(reference[1])) if reference else ("", "")
+        rows.append(row | {"method": text_cell(begun.plan.get("method", ""))})
+    text = io.StringIO()
+    more = [column for column, key in (("time_factor", "time_factors"), ("method", "method")) if key in begun.plan]
+    writer = csv.DictWriter(text, [*COLUMNS, *more], lineterminator="\n", extrasaction="ignore")
+    writer.writeheader()
+    writer.writerows(rows)
+    write_whole(pathlib.Path(csv_path), text.getvalue())
+    failed = sum(row["status"] != "ok" for row in rows)
+    report_faults(rows)
+    print(f"{csv_path}: {len(rows)} runs, {failed} of them failed, {left} still to be made", file=sys.stderr)
+    return failed, left
+
+
+# Kinds of faults that are reported, and what is said of the first run of each.
+MOST_KINDS = 10
+DISTINCT = ["rounds", "time_factor", "take", "passes", "seed"]
+
+
+def report_faults(rows: list[Row]) -> None:
+    """Reports the first fault of each kind, with its run. Faults of one kind differ in their numbers alone."""
+    kinds: dict[str, list[Row]] = {}
+    for row in rows:
+        if row["status"] != "ok":
+            kinds.setdefault(re.sub("[0-9]+", "0", row["status"]), []).append(row)
+    for failed in list(kinds.values())[:MOST_KINDS]:
+        first = ", ".join(f"{column.replace('_', ' ')} {failed[0][column]}" for column in DISTINCT if failed[0][column])
+        more = f", as {len(failed) - 1} more" if len(failed) > 1 else ""
+        print(plain(f"{failed[0]['instance']} ({first}) failed{more}: {failed[0]['status']}"), file=sys.stderr)
+    if len(kinds) > MOST_KINDS:
+        print(f"{len(kinds) - MOST_KINDS} more kinds of faults", file=sys.stderr)

@@ -1,0 +1,299 @@
+"""The folder of a plan's runs, next to its CSV: the list of the runs, and copies of all that they read."""
+from __future__ import annotations
+
+import collections
+import contextlib
+import fcntl
+import itertools
+import json
+import os
+import pathlib
+import re
+import secrets
+import shutil
+import subprocess
+import sys
+from collections.abc import Iterator
+from typing import Any, NamedTuple, TextIO
+
+from commands import HERE, IS_INSTALLED, need_pfs
+from csvs import Refused, Row, reference_of
+from plan import read_plan
+
+# A module of the package for Python; where the scripts are installed it is in this folder.
+sys.path.append(str(HERE.parent / "python" / "src" / "pfs"))
+import _whole  # type: ignore[import]  # noqa: E402
+
+# A line of the list of runs, with tabs between the columns. What is not known is a hyphen. The number is that of the
+# line. Rounds of a run by time are `time-FACTOR-SECONDS`.
+RUN = ["number", "file", "layout", "block", "rounds", "take", "passes", "seed", "repetition", "jobs", "machines",
+       "instance"]
+LIBRARY = "libpfs.so.0"
+Key = tuple[str, ...]
+# The columns in which two runs differ. A run that is twice in a plan has two lines.
+KEY = ["file", "block", "rounds", "take", "passes", "seed", "repetition"]
+
+
+class Begun(NamedTuple):
+    """The plan, the folder of its runs, the lock, which is held until all that inherit it have ended, and the
+    reference."""
+    plan: dict[str, Any]
+    folder: pathlib.Path
+    lock: TextIO
+    reference: dict[str, tuple[int, str]]
+
+
+def write_whole(path: pathlib.Path, text: str) -> None:
+    """Replaces a file as a whole."""
+    write_bytes(path, text.encode(errors="backslashreplace"))
+
+
+def write_bytes(path: pathlib.Path, data: bytes) -> None:
+    _whole.write_whole(path, data)
+
+
+def damaged(path: pathlib.Path, why: object) -> Refused:
+    return Refused(f"{path} is damaged ({why}): delete the folder {path.parent.name} to begin again")
+
+
+def prepare(plan_path: str, csv_path: str, program: str | None) -> Begun:
+    """Makes ready what the runs of a plan need. A plan that was begun continues with its program, its instances and
+    its runs; what the plan has more is added."""
+    plan = read_plan(plan_path)
+    plan_folder = os.path.dirname(os.path.abspath(plan_path))
+    reference = plan.pop("reference")
+    reference = reference_of(os.path.join(plan_folder, reference)) if reference else {}
+    if os.path.isdir(csv_path):
+        raise Refused(f"{csv_path}: Is a directory")
+    folder = pathlib.Path(os.path.abspath(csv_path) + ".d")
+    if not folder.name.isprintable() or "\t" in folder.name:
+        raise Refused(f"{csv_path}: the name of a CSV must be UTF-8 without control characters")
+    pfs = "" if (folder / "plan.json").exists() else need_pfs(program)
+    folder.mkdir(parents=True, exist_ok=True)
+    lock = locked(folder, csv_path)
+    try:
+        if not (folder / "plan.json").exists():
+            begin(folder, pfs or need_pfs(program))
+        equip(plan, plan_folder, folder, csv_path)
+        grow(plan, plan_folder, folder, csv_path)
+    except BaseException:
+        if not (folder / "plan.json").exists():
+            shutil.rmtree(folder, ignore_errors=True)
+        raise
+    return Begun(plan, folder, lock, reference)
+
+
+def locked(folder: pathlib.Path, csv_path: str) -> TextIO:
+    """The lock of the folder. This waits for it."""
+    lock = open(os.open(folder / "lock", os.O_WRONLY | os.O_CREAT | os.O_NOFOLLOW | os.O_CLOEXEC, 0o666), "w")
+    try:
+        fcntl.flock(lock, fcntl.LOCK_EX | fcntl.LOCK_NB)
+    except BlockingIOError:
+        print(f"waiting for runs of {csv_path} that were started before", file=sys.stderr, flush=True)
+        fcntl.flock(lock, fcntl.LOCK_EX)
+    return lock
+
+
+def begin(folder: pathlib.Path, program: str) -> None:
+    """Copies the programs. The file plan.json, which is written last, says that the folder is complete."""
+    for half_done in folder.glob("pfs-experiment-*"):
+        shutil.rmtree(half_done)
+    (folder / "runs.tsv").unlink(missing_ok=True)
+    stage = folder / f"pfs-experiment-{secrets.token_hex(6)}"
+    (stage / "instances").mkdir(parents=True)
+    (folder / "results").mkdir(exist_ok=True)
+    for source, name in ((pathlib.Path(program), "pfs"), (HERE / "one", "one")):
+        shutil.copy(source, stage / name)
+        (stage / name).chmod(0o755)
+
+
+def equip(plan: dict[str, Any], plan_folder: str, folder: pathlib.Path, csv_path: str) -> None:
+    """Copies what the runs need besides: the command with its files, or the library for C for runs by time. What was
+    copied before stays."""
+    stage, begun = folder / stage_of(folder), begun_plan(folder)
+    if begun and begun.get("command") != plan.get("command"):
+        raise Refused(f"{csv_path} was begun with another command: name another CSV")
+    if "command" in plan and not (stage / "command.json").exists():
+        for name in plan["files"]:
+            (stage / "files" / name).parent.mkdir(parents=True, exist_ok=True)
+            shutil.copy(os.path.join(plan_folder, name), stage / "files" / name)
+        (stage / "files").mkdir(exist_ok=True)
+        shutil.copy(HERE / "others.py", stage)
+        write_whole(stage / "command.json", json.dumps({"method": plan["method"], "words": plan["command"]}))
+    elif "time_factors" in plan and "command" not in plan and not (stage / LIBRARY).exists():
+        for name in ("one", "timed.py"):
+            shutil.copy(HERE / name, stage)
+        shutil.copy(library(), stage / f"{LIBRARY}.new")
+        os.replace(stage / f"{LIBRARY}.new", stage / LIBRARY)
+
+
+def library() -> pathlib.Path:
+    """The library for C: the one that PFS_LIBRARY names, the built one, or the installed one."""
+    if os.environ.get("PFS_LIBRARY"):
+        return pathlib.Path(os.environ["PFS_LIBRARY"])
+    places = [HERE.parent / "lib" / "out" / LIBRARY]
+    if IS_INSTALLED:
+        places = [HERE.parents[2] / "lib" / LIBRARY, *HERE.parents[2].glob(f"lib/*/{LIBRARY}")]
+    for place in places:
+        if place.exists():
+            return place
+    raise Refused(f"time_factors needs the library for C, and {places[0]} is missing (make lib, or Debian: libpfs0): "
+                  "PFS_LIBRARY names another one")
+
+
+def grow(plan: dict[str, Any], plan_folder: str, folder: pathlib.Path, csv_path: str) -> None:
+    """Adds the instances and the runs that the plan has and the folder does not have. A run keeps its number."""
+    begun = begun_plan(folder)
+    if {key: begun.get(key) for key in plan} == plan:
+        return
+    if begun.get("layout", plan["layout"]) != plan["layout"]:
+        raise Refused(f"{csv_path} was begun with another plan, of layout {begun['layout']}: name another CSV")
+    places = begun.get("places") or {name: at for at, name in enumerate(begun.get("instances", []), 1)}
+    for name in plan["instances"]:
+        copy_instance(os.path.join(plan_folder, name), folder, places.setdefault(name, len(places) + 1))
+    numbers = numbers_of(folder)
+    left = dict(numbers)
+    runs: dict[int, Row] = {}
+    seen: collections.Counter[Key] = collections.Counter()
+    for key, run in without_repeats([(keyed(run, seen), run) for run in each_run(plan, folder, places)], numbers):
+        left.pop(key, None)
+        runs[numbers.setdefault(key, len(numbers) + 1)] = run
+    if left:
+        gone = ", ".join(f"{column} {value}" for column, value in zip(KEY[1:], min(left)[1:]))
+        raise Refused(f"{csv_path} was begun with another plan, which has {gone}: name another CSV, or delete {folder}")
+    lines = ("\t".join([str(number), *(runs[number][column] for column in RUN[1:])]) + "\n" for number in sorted(runs))
+    write_whole(folder / "runs.tsv", "".join(lines))
+    write_whole(folder / "plan.json", json.dumps({**plan, "places": places, "sequence": list(runs)}))
+
+
+def without_repeats(wanted: list[tuple[Key, Row]], numbers: dict[Key, int]) -> list[tuple[Key, Row]]:
+    """The runs, with one of 0 rounds for each instance and repetition: take, passes and seed don't change it. Those
+    that are listed already stay."""
+    chosen: dict[tuple[str, ...], Key] = {}
+    for key, run in wanted:
+        if run["rounds"] == "0":
+            place = (run["file"], run["block"], run["repetition"])
+            if place not in chosen or (key in numbers and chosen[place] not in numbers):
+                chosen[place] = key
+    kept = {*chosen.values(), *numbers}
+    return [(key, run) for key, run in wanted if run["rounds"] != "0" or key in kept]
+
+
+def copy_instance(path: str, folder: pathlib.Path, place: int) -> None:
+    """Copies an instance, unless the copy exists. A copy is always complete."""
+    copy = folder / stage_of(folder) / "instances" / str(place)
+    if not copy.exists():
+        with contextlib.suppress(FileNotFoundError):
+            copy.with_suffix(".new").unlink()
+        shutil.copy(path, copy.with_suffix(".new"))
+        os.replace(copy.with_suffix(".new"), copy)
+
+
+def numbers_of(folder: pathlib.Path) -> dict[Key, int]:
+    """The numbers of the listed runs, by their keys."""
+    numbers: dict[Key, int] = {}
+    seen: collections.Counter[Key] = collections.Counter()
+    for run in runs_of(folder):
+        numbers[keyed(run, seen)] = int(run["number"])
+    return numbers
+
+
+def keyed(run: Row, seen: collections.Counter[Key]) -> Key:
+    """The key of a run, and how often it was seen."""
+    key = tuple(run[column] for column in KEY)
+    seen[key] += 1
+    return (*key, str(seen[key]))
+
+
+def each_run(plan: dict[str, Any], folder: pathlib.Path, places: dict[str, int]) -> Iterator[Row]:
+    """The runs in the order of the CSV, instance by instance."""
+    is_pfs = "command" not in plan
+    for name, block in itertools.product(plan["instances"], plan["blocks"]):
+        file = f"instances/{places[name]}"
+        jobs, machines = size_of(folder / stage_of(folder), file, plan["layout"], block)
+        label = name if plan["blocks"] == [1] else f"{name}:{block}"
+        budgets = list(map(str, plan["rounds"]))
+        budgets += [by_time(factor, jobs, machines) for factor in plan.get("time_factors", [])]
+        for rounds, take, passes, seed, repetition in itertools.product(
+                budgets or ["-"], plan["takes"] or [None], plan["passes"] if is_pfs else ["-"], plan["seeds"],
+                range(1, plan["repetitions"] + 1)):
+            if take is None:
+                take = "-" if jobs == "-" or not is_pfs else min(4, int(jobs))  # the default of pfs
+            elif jobs != "-" and take > int(jobs):
+                raise Refused(f"takes has {take}, which exceeds the {jobs} jobs of {label}")
+            told = (file, plan["layout"], block, rounds, take, passes, seed, repetition, jobs, machines, label)
+            yield dict(zip(RUN[1:], map(str, told)))
+
+
+def by_time(factor: float, jobs: str, machines: str) -> str:
+    """The rounds of a run by time: jobs times half the machines times the factor, in milliseconds."""
+    seconds = 0.0 if jobs == "-" else int(jobs) * int(machines) / 2 * factor / 1000
+    factor_text, seconds_text = (f"{number:.9f}".rstrip("0").rstrip(".") for number in (factor, seconds))
+    return f"time-{factor_text}-{seconds_text}"
+
+
+def time_of(run: Row) -> tuple[str, float] | None:
+    """The time factor and the seconds of a run by time."""
+    parts = re.fullmatch(r"time-([0-9]+(?:\.[0-9]+)?)-([0-9]+(?:\.[0-9]+)?)", run["rounds"], re.ASCII)
+    return (parts[1], float(parts[2])) if parts else None
+
+
+def size_of(stage: pathlib.Path, file: str, layout: str, block: int) -> tuple[str, str]:
+    """Jobs and machines of an instance; hyphens if pfs rejects it."""
+    words = ["./pfs", "convert", "--from", layout, "--to", "orlib", "--block", str(block), file]
+    done = subprocess.run(words, cwd=stage, stdin=subprocess.DEVNULL, capture_output=True, text=True, errors="replace")
+    size = re.match("flow shop instance\n([0-9]{1,4}) ([0-9]{1,3})\n", done.stdout, re.ASCII)
+    return (size[1], size[2]) if size and done.returncode == 0 else ("-", "-")
+
+
+# What a begun folder has
+
+def begun_plan(folder: pathlib.Path) -> dict[str, Any]:
+    """The plan with which the folder was made, the places of the instances, and the order of the CSV; nothing before
+    that."""
+    path = folder / "plan.json"
+    try:
+        begun = json.loads(path.read_bytes().decode())
+    except FileNotFoundError:
+        return {}
+    except (ValueError, RecursionError) as error:
+        raise damaged(path, error) from None
+    if not isinstance(begun, dict) or not isinstance(begun.get("places", {}), dict) \
+            or not isinstance(begun.get("instances", []), list):
+        raise damaged(path, "it is not a plan")
+    return begun
+
+
+def stage_of(folder: pathlib.Path) -> str:
+    """The name of the folder with the program, the instances and `one`."""
+    for stage in folder.glob("pfs-experiment-*"):
+        return stage.name
+    raise Refused(f"{folder} has no copy of the program: delete it to begin again")
+
+
+def runs_of(folder: pathlib.Path) -> list[Row]:
+    """The runs by their numbers."""
+    path = folder / "runs.tsv"
+    try:
+        lines = path.read_bytes().decode().split("\n")
+    except FileNotFoundError:
+        return []
+    except UnicodeDecodeError as error:
+        raise damaged(path, error) from None
+    runs = [dict(zip(RUN, line.split("\t"))) for line in lines[:-1]]
+    for number, (run, line) in enumerate(zip(runs, lines), 1):
+        if line.count("\t") != len(RUN) - 1 or run["number"] != str(number):
+            raise damaged(path, f"line {number}")
+    if lines[-1]:
+        raise damaged(path, "its last line has no end")
+    return runs
+
+
+def in_sequence(folder: pathlib.Path) -> list[Row]:
+    """The runs in the order of the plan."""
+    runs = runs_of(folder)
+    sequence = begun_plan(folder).get("sequence") or list(range(1, len(runs) + 1))
+    if not isinstance(sequence, list) or set(map(str, sequence)) != {run["number"] for run in runs} \
+            or len(sequence) != len(runs):
+        raise damaged(folder / "plan.json", "it has other runs than runs.tsv")
+    return [runs[int(number) - 1] for number in sequence]

@@ -1,0 +1,31 @@
+"""A clock that only the rounds of searches move, so that the lengths of their parts are known."""
+import pytest
+from pfs import _commands, _search
+
+
+class Clock:
+    """In the place of the module `time`, where each round takes this number of seconds."""
+
+    def __init__(self, seconds: float) -> None:
+        self.now, self.seconds = 1024.0, seconds
+        # The rounds of each part so far.
+        self.parts: list[int] = []
+
+    def monotonic(self) -> float:
+        return self.now
+
+    def perf_counter(self) -> float:
+        return self.now
+
+    def patch(self, monkeypatch: pytest.MonkeyPatch) -> None:
+        """Makes it the clock of searches."""
+        made = _search.Search.go_on
+
+        def go_on(search: _search.Search, count: int) -> None:
+            made(search, count)
+            self.now += count * self.seconds
+            self.parts.append(count)
+
+        monkeypatch.setattr(_search.Search, "go_on", go_on)
+        for module in (_search, _commands):
+            monkeypatch.setattr(module, "time", self)

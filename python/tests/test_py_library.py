@@ -1,0 +1,112 @@
+"""Which library is loaded, and the error for one that can't be used."""
+import os
+import pathlib
+import re
+import shutil
+import subprocess
+import sys
+
+import pfs
+import pytest
+from pfs import _library
+
+TOP = pathlib.Path(__file__).resolve().parents[2]
+MAJOR = int(pfs.__version__.split(".")[0])
+LOADING = "import pfs, pfs._library; print(pfs._library.PATH, pfs.__version__)"
+
+
+def library_of(version: str, folder: pathlib.Path, without: str = "") -> pathlib.Path:
+    """A library of this version whose functions do nothing; one of them is missing."""
+    if shutil.which("gcc") is None:
+        pytest.skip("gcc isn't installed (Debian: gcc)")
+    text = (TOP / "lib" / "pfs.h").read_text()
+    header, count = re.subn(r'(?m)^#define PFS_VERSION ".*"$', f'#define PFS_VERSION "{version}"', text)
+    assert count == 1
+    (folder / "pfs.h").write_text(header)
+    shutil.copy(TOP / "lib" / "pfs_text.c", folder)
+    names = [name for name in _library.PROTOTYPES if name != without]
+    (folder / "nothing.c").write_text("".join(f"int {name}(void) {{ return 0; }}\n" for name in names))
+    words = ["gcc", "-shared", "-fPIC", f"-I{folder}", "-o", str(folder / "libpfs.so.0"), str(folder / "pfs_text.c"),
+             str(folder / "nothing.c")]
+    subprocess.run(words, check=True)
+    return folder / "libpfs.so.0"
+
+
+def loaded(library: pathlib.Path | str, folder: pathlib.Path) -> subprocess.CompletedProcess[str]:
+    """What Python says that imports the package with this library."""
+    env = os.environ | {"PFS_LIBRARY": str(library), "PYTHONDONTWRITEBYTECODE": "1",
+                        "PYTHONPATH": str(pathlib.Path(pfs.__file__).parents[1])}
+    return subprocess.run([sys.executable, "-c", LOADING], cwd=folder, env=env, capture_output=True, text=True)
+
+
+@pytest.mark.parametrize("version", [f"{MAJOR + 1}.0.0", f"{MAJOR}0.0.0", f"{MAJOR - 1}.9.9", f"{MAJOR + 1}"])
+def test_a_library_of_another_version_is_rejected(tmp_path: pathlib.Path, version: str) -> None:
+    library = library_of(version, tmp_path)
+    done = loaded(library, tmp_path)
+    told = f"ImportError: the library {library} is of version {version}, and this package needs {pfs.__version__}"
+    assert (done.returncode, done.stderr.splitlines()[-1]) == (1, told), f"a library of version {version} is loaded"
+
+
+@pytest.mark.parametrize("version", [f"{MAJOR}.0.0", f"{MAJOR}.7.3", f"{MAJOR}"])
+def test_a_library_of_a_version_that_fits_is_loaded(tmp_path: pathlib.Path, version: str) -> None:
+    library = library_of(version, tmp_path)
+    done = loaded(library, tmp_path)
+    assert (done.stdout, done.stderr) == (f"{library} {pfs.__version__}\n", "")
+
+
+@pytest.mark.parametrize("name", _library.PROTOTYPES)
+def test_a_library_without_a_function_is_rejected(tmp_path: pathlib.Path, name: str) -> None:
+    """When it is loaded, and not when the function is called."""
+    library = library_of(pfs.__version__, tmp_path, without=name)
+    told = loaded(library, tmp_path).stderr.splitlines()[-1]
+    assert told.startswith(f"ImportError: pfs can't load its library {library} (")
+    assert f"undefined symbol: {name}" in told
+    assert told.endswith("): the variable PFS_LIBRARY can name another libpfs.so.0")
+
+
+@pytest.mark.parametrize("content", [None, b"", b"no library"])
+def test_a_file_that_is_no_library_is_told(tmp_path: pathlib.Path, content: bytes | None) -> None:
+    library = tmp_path / "libpfs.so.0"
+    if content is not None:
+        library.write_bytes(content)
+    told = loaded(library, tmp_path).stderr.splitlines()[-1]
+    assert told.startswith(f"ImportError: pfs can't load its library {library} (")
+    assert told.endswith("): the variable PFS_LIBRARY can name another libpfs.so.0")
+
+
+def test_the_library_that_the_variable_names_goes_before_the_packages(monkeypatch: pytest.MonkeyPatch,
+                                                                     tmp_path: pathlib.Path) -> None:
+    """Then the one in the package, as a wheel has it, and then the system's."""
+    monkeypatch.setattr(_library, "__file__", str(tmp_path / "_library.py"))
+    monkeypatch.delenv("PFS_LIBRARY", raising=False)
+    assert _library.path_of_library() == "libpfs.so.0"
+    (tmp_path / "libpfs.so.0").touch()
+    assert _library.path_of_library() == str(tmp_path / "libpfs.so.0")
+    monkeypatch.setenv("PFS_LIBRARY", "")
+    assert _library.path_of_library() == str(tmp_path / "libpfs.so.0")
+    monkeypatch.setenv("PFS_LIBRARY", "/elsewhere/libpfs.so.0")
+    assert _library.path_of_library() == "/elsewhere/libpfs.so.0", "the package's library goes before the named one"
+
+
+def test_the_functions_are_called_as_the_header_declares_them() -> None:
+    """Each parameter by its type in C, in which a list is a pointer and a length."""
+    types = {"size_t": "c_ulong", "uint32_t": "c_uint", "uint64_t": "c_ulong", "int": "c_int"}
+    header = re.sub(r"/\*.*?\*/", "", (TOP / "lib" / "pfs.h").read_text(), flags=re.DOTALL)
+    declared = dict(re.findall(r"^int (pfs_\w+)\((.*?)\);", header, re.MULTILINE | re.DOTALL))
+    assert declared.keys() == _library.PROTOTYPES.keys()
+    for name, parameters in declared.items():
+        due = ["c_void_p" if "*" in each else types[each.split()[-2]] for each in parameters.split(",")]
+        assert [kind.__name__ for kind in _library.PROTOTYPES[name]] == due, f"the types of {name}"
+        assert [kind.__name__ for kind in getattr(_library.library, name).argtypes] == due
+
+
+def test_the_numbers_and_limits_are_those_of_the_header() -> None:
+    text = (TOP / "lib" / "pfs.h").read_text()
+    defined = {name: int(value) for name, value in
+               re.findall(r"^#define PFS_(\w+) (?:UINT64_C\()?(\d+)\b", text, re.MULTILINE)}
+    own = {name: value for name, value in vars(_library).items() if isinstance(value, int) and name in defined}
+    assert len(own) > 12 and own == {name: defined[name] for name in own}
+    assert _library.LAYOUTS == {"taillard": defined["TAILLARD"], "orlib": defined["ORLIB"]}
+    assert (_library.MOST_NOTE, _library.MOST_SEED) == (2**32 - 1, 2**64 - 1)
+    version = re.search(r'^#define PFS_VERSION "(.*)"$', text, re.MULTILINE)
+    assert version and version[1] == pfs.__version__

@@ -1,0 +1,112 @@
+"""How the tests run: `make check` runs without a built program, and `pytest -m quick` runs something of each command,
+of the library, of the package, of pictures and of experiments; a test that hangs fails; the order can be changed."""
+import pathlib
+import re
+import subprocess
+import sys
+
+import pytest
+from support.usage import LINES
+
+COMMANDS = [re.sub(r"^pfs (\S+).*", r"\1", line) for line in LINES]
+
+
+def run_pytest(top: pathlib.Path, *words: str) -> tuple[int, str]:
+    """The exit status of pytest and what it prints, with no built program."""
+    line = [sys.executable, "-m", "pytest", "-q", "--pfs", str(top / "none"), *words]
+    done = subprocess.run(line, cwd=top, capture_output=True, text=True, timeout=240)
+    return done.returncode, done.stdout + done.stderr
+
+
+def test_check_needs_no_program(top: pathlib.Path) -> None:
+    """Of these files one test needs none, and that of pictures takes too long."""
+    status, told = run_pytest(top, "-m", "check", "tests/test_searches.py", "tests/test_gantt.py")
+    assert status == 0 and re.search(r"^1 passed, \d+ deselected", told, re.MULTILINE), told
+
+
+def test_check_has_the_tests_of_the_sources(top: pathlib.Path) -> None:
+    status, told = run_pytest(top, "-m", "check", "--collect-only", "tests")
+    files = set(re.findall(r"^(tests/\w+\.py)::", told, re.MULTILINE))
+    assert status == 0 and files >= {f"tests/test_{name}.py" for name in ("build", "code", "definitions", "format",
+                                                                         "make", "paths", "setup", "skips")}, told
+
+
+def test_quick_has_something_of_each_part(top: pathlib.Path) -> None:
+    status, told = run_pytest(top, "-m", "quick", "--collect-only", "tests")
+    assert status == 0, told
+    for command in COMMANDS:
+        assert f"test_line[{command} " in told
+    for name in ("library", "gantt", "experiments"):
+        assert f"tests/test_{name}.py::" in told
+    package = (path.read_text() for path in (top / "python" / "tests").glob("test_*.py"))
+    assert sum(text.count("@pytest.mark.quick\n") for text in package) > 1
+
+
+def test_all_commands_are_known() -> None:
+    assert len(COMMANDS) > 5 and {"value", "solve", "generate"} <= set(COMMANDS)
+
+
+HANGS = """import time
+
+def test_hangs() -> None:
+    time.sleep(50)
+
+def test_ends() -> None:
+    pass
+"""
+
+
+def test_a_test_that_hangs_fails(top: pathlib.Path, folder: pathlib.Path) -> None:
+    """By the settings of the repository, but for the limit. The next test is run."""
+    (folder / "test_hanging.py").write_text(HANGS)
+    status, told = run_pytest(top, "-c", str(top / "pyproject.toml"), "-o", "timeout=1", "--pfs", sys.executable,
+                              str(folder))
+    assert status == 1 and "Failed: Timeout >1.0s" in told and "1 failed, 1 passed" in told, told
+
+
+def test_the_limit_of_a_test(pytestconfig: pytest.Config) -> None:
+    assert 60 < float(pytestconfig.getini("timeout")) <= 300
+
+
+def order(top: pathlib.Path, *words: str) -> list[str]:
+    """The tests of a file in the order in which they run."""
+    status, told = run_pytest(top, "--collect-only", *words, "tests/test_marks.py")
+    assert status == 0, told
+    return re.findall(r"^tests/\S+::(\w+)", told, re.MULTILINE)
+
+
+def test_another_order(top: pathlib.Path) -> None:
+    """Is that of its seed, and has the same tests."""
+    usual = order(top)
+    first, again, second = (order(top, f"--shuffle={seed}") for seed in (1, 1, 2))
+    assert first == again != second != usual != first
+    assert sorted(first) == sorted(second) == sorted(usual)
+
+
+WORKS = """import subprocess
+import sys
+
+LOOP = "import time\\nend = time.process_time() + {seconds}\\nwhile time.process_time() < end: pass"
+
+def test_works_itself() -> None:
+    exec(LOOP.format(seconds=0.6))
+
+def test_has_a_program_work() -> None:
+    subprocess.run([sys.executable, "-c", LOOP.format(seconds=1.5)])
+
+def test_waits() -> None:
+    import time
+    time.sleep(1)
+"""
+
+
+@pytest.mark.parametrize("words", [(), ("-n", "2")], ids=["one process", "two processes"])
+def test_the_slowest_tests_are_those_of_most_processor_time(top: pathlib.Path, folder: pathlib.Path,
+                                                            words: tuple[str, ...]) -> None:
+    (folder / "test_working.py").write_text(WORKS)
+    status, told = run_pytest(top, "-c", str(top / "pyproject.toml"), "--slowest=2", "--pfs", sys.executable, *words,
+                              str(folder))
+    assert status == 0, told
+    found = re.findall(r"^ +(\d+\.\d\d) \S+::(\w+)$", told, re.MULTILINE)
+    assert [name for _, name in found] == ["test_has_a_program_work", "test_works_itself"]
+    assert float(found[0][0]) >= 1.5

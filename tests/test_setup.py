@@ -1,0 +1,153 @@
+"""The packages that pfs and its tests need: README has the table of tools/packages, the tests need no others, and
+tools/setup installs the missing ones. It runs in a folder with its own list, with programs in the place of `id`,
+`sudo` and `apt-get` that note their calls."""
+import pathlib
+import re
+import shutil
+
+import pytest
+from support.packages import package_of, packages
+from support.tools import Told, printed_by, told_by, write_script
+
+README = pathlib.Path(__file__).resolve().parent.parent / "README.md"
+LIST = """# a comment with a `command sh`
+
+[building]
+low         command sh awk
+plain       file bin/plain
+
+[testing]
+two-words   command sh second
+python3-x   module json x_of_python.inner
+"""
+MISSING = ["plain", "two-words", "python3-x"]
+LINE = "apt-get install --no-install-recommends plain two-words python3-x"
+# What apt-get installs is in the file `installs`, one path on each line.
+SCRIPTS = {
+    "id": 'echo "$USER_ID"',
+    "sudo": 'echo "sudo $*" >> calls; test "$SUDO" = free || exit 1; test "$1" = -n; shift; exec "$@"',
+    "apt-get": 'echo "apt-get $DEBIAN_FRONTEND $*" >> calls; test "$1" = update && exit "$UPDATE"; '
+               'for name in $(cat installs); do touch "$name"; chmod +x "$name"; done',
+}
+INSTALLED = ["apt-get  update", "apt-get noninteractive install -y --no-install-recommends plain two-words python3-x"]
+
+
+@pytest.fixture
+def machine(top: pathlib.Path, folder: pathlib.Path) -> pathlib.Path:
+    """A folder with the script and a list, and with programs in the place of those that the script calls. Of the
+    packages of the list one is installed."""
+    for name in ("tools", "bin"):
+        (folder / name).mkdir()
+    shutil.copy(top / "tools" / "setup", folder / "tools")
+    (folder / "tools" / "packages").write_text(LIST.replace("module json x_of_python.inner", "command x"))
+    for name, text in SCRIPTS.items():
+        write_script(folder / "bin" / name, f"#!/bin/sh\n{text}\n")
+    (folder / "installs").write_text("bin/plain bin/second bin/x")
+    return folder
+
+
+def run_setup(machine: pathlib.Path, *words: str, user: int = 0, sudo: str = "none", update: int = 0) -> Told:
+    env = {"PATH": f"{machine / 'bin'}:/usr/bin:/bin", "USER_ID": str(user), "SUDO": sudo, "UPDATE": str(update)}
+    return told_by([machine / "tools" / "setup", *words], machine, env=env)
+
+
+def calls(machine: pathlib.Path) -> list[str]:
+    path = machine / "calls"
+    return path.read_text().splitlines() if path.exists() else []
+
+
+# The script
+
+@pytest.mark.parametrize("update", [0, 100])
+def test_root_installs_what_is_missing(machine: pathlib.Path, update: int) -> None:
+    """Also with the package lists of before, where they can't be updated."""
+    told = run_setup(machine, update=update)
+    assert told.status == 0, told.stderr
+    assert calls(machine) == INSTALLED
+
+
+def test_sudo_installs_what_is_missing(machine: pathlib.Path) -> None:
+    told = run_setup(machine, user=1000, sudo="free")
+    assert told.status == 0, told.stderr
+    assert [call for call in calls(machine) if call.startswith("apt-get")] == INSTALLED
+    assert all(call.startswith(("apt-get", "sudo -n ")) for call in calls(machine)), "sudo asks for no password"
+
+
+def test_another_user_gets_the_command(machine: pathlib.Path) -> None:
+    told = run_setup(machine, user=1000)
+    assert (told.status, told.stdout, told.stderr.splitlines()[1:]) == (1, "", [LINE])
+    assert calls(machine) == ["sudo -n true"]
+
+
+def test_a_machine_without_sudo_gets_the_command(machine: pathlib.Path) -> None:
+    write_script(machine / "bin" / "sudo", "#!/nonesuch/interpreter\n")
+    told = run_setup(machine, user=1000)
+    assert (told.status, told.stderr.splitlines()[-1], calls(machine)) == (1, LINE, [])
+
+
+def test_a_machine_with_all_packages_is_left_alone(machine: pathlib.Path) -> None:
+    for name in ("plain", "second", "x"):
+        write_script(machine / "bin" / name, "")
+    assert run_setup(machine, user=1000) == Told(0, "", "")
+    assert calls(machine) == []
+
+
+def test_a_package_that_provides_too_little_is_an_error(machine: pathlib.Path) -> None:
+    (machine / "installs").write_text("bin/plain bin/x")
+    told = run_setup(machine)
+    assert (told.status, told.stderr.splitlines()[-1]) == (1, "setup: these packages are still incomplete: two-words")
+
+
+def test_a_failed_installation_is_an_error(machine: pathlib.Path) -> None:
+    write_script(machine / "bin" / "apt-get", "#!/bin/sh\nexit 100\n")
+    assert run_setup(machine).status == 100
+
+
+@pytest.mark.parametrize("module", ["x_of_python", "x_of_python.inner"])
+def test_modules_are_those_of_debians_python(machine: pathlib.Path, module: str) -> None:
+    """A module in the current folder or on PYTHONPATH isn't one of them."""
+    (machine / "tools" / "packages").write_text(LIST.replace("x_of_python.inner", module))
+    (machine / "x_of_python").mkdir()
+    (machine / "x_of_python" / "__init__.py").touch()
+    (machine / "x_of_python" / "inner.py").touch()
+    env = {"PATH": "/usr/bin:/bin", "PYTHONPATH": str(machine)}
+    assert printed_by(["tools/setup", "--missing"], machine, env=env).split() == MISSING
+    (machine / "tools" / "packages").write_text("[testing]\npython3-x   module json email.message\n")
+    assert printed_by(["tools/setup", "--missing"], machine, env=env) == ""
+
+
+def test_the_table_has_a_row_for_each_heading(machine: pathlib.Path) -> None:
+    assert printed_by(["tools/setup", "--table"], machine).splitlines() == [
+        "| Package | What needs it |", "|---|---|", "| `low`, `plain` | building |",
+        "| `two-words`, `python3-x` | testing |"]
+
+
+def test_another_word_is_a_usage_error(machine: pathlib.Path) -> None:
+    assert run_setup(machine, "--help") == Told(2, "", "usage: tools/setup [--missing|--table]\n")
+
+
+# The list
+
+def test_readme_has_the_table(top: pathlib.Path) -> None:
+    table = printed_by(["tools/setup", "--table"], top)
+    assert f"\n\n{table}\n" in README.read_text(), "`tools/setup --table` prints the table"
+
+
+def test_each_package_is_listed_once() -> None:
+    names = [package.name for package in packages()]
+    assert len(names) > 30 and len(names) == len(set(names))
+    assert {package.kind for package in packages()} == {"command", "file", "module"}
+    assert [package.name for package in packages() if not package.provides] == []
+
+
+def test_what_the_tests_need_is_in_a_package(top: pathlib.Path) -> None:
+    """Each command or module that a test names as it asks whether it is installed."""
+    asked = re.compile(r"\b(?:need|need_module|need_of_debian)\(\"([\w+-]+)\"\)|\bshutil\.which\(\"([\w-]+)\"\)")
+    found = {path: [first or second for first, second in asked.findall(path.read_text())]
+             for folder in ("tests", "python/tests") for path in (top / folder).rglob("*.py")}
+    names = {name for each in found.values() for name in each} - {"rt"}
+    assert len(names) > 15 and {name for name in names if package_of(name) is None} == set()
+
+
+def test_the_package_of_a_name() -> None:
+    assert (package_of("slurmctld"), package_of("nm"), package_of("nonesuch")) == ("slurm-wlm", "binutils", None)

@@ -1,0 +1,129 @@
+"""The site that `make docs` makes: it has each page, each public name of the package for Python and each function of
+the library's header, no link leads nowhere, and nothing of it is loaded from the network."""
+import pathlib
+import re
+from html.parser import HTMLParser
+from urllib.parse import unquote, urlsplit
+
+import pytest
+from support.needs import need
+from support.tools import need_of_debian, printed_by, told_by
+
+TOP = pathlib.Path(__file__).resolve().parent.parent
+PAGES = sorted(str(page.relative_to(TOP).with_suffix("")) for page in (*TOP.glob("*.md"), *TOP.glob("*/*.md")))
+
+pytestmark = [pytest.mark.long, pytest.mark.seconds(20), pytest.mark.xdist_group("site")]
+
+
+class Page(HTMLParser):
+    """Where a page leads, what it loads, and what can be led to in it."""
+
+    def __init__(self, path: pathlib.Path) -> None:
+        super().__init__()
+        self.links = list[str]()
+        self.loads = list[str]()
+        self.ids = set[str]()
+        self.feed(path.read_text())
+
+    def handle_starttag(self, tag: str, attrs: list[tuple[str, str | None]]) -> None:
+        for name, value in attrs:
+            if name == "id" or (tag == "a" and name == "name"):
+                self.ids.add(value or "")
+            elif name == "href" and tag == "a":
+                self.links.append(value or "")
+            elif name == "src" or (name == "href" and tag == "link"):
+                self.loads.append(value or "")
+
+
+def pages_of(folder: pathlib.Path) -> dict[pathlib.Path, Page]:
+    return {path.resolve(): Page(path) for path in folder.rglob("*.html")}
+
+
+def leads_nowhere(link: str, page: pathlib.Path, pages: dict[pathlib.Path, Page]) -> bool:
+    """Whether a link of a page is to a file that is missing, or to a place that is missing in a page. Links to other
+    sites aren't looked at."""
+    parts = urlsplit(link)
+    if parts.scheme or parts.netloc:
+        return False
+    path = (page.parent / unquote(parts.path)).resolve() if parts.path else page
+    is_place = parts.fragment != "" and path in pages
+    return not path.is_file() or (is_place and unquote(parts.fragment) not in pages[path].ids)
+
+
+def broken(folder: pathlib.Path) -> list[str]:
+    """The links and loads that lead nowhere, with their pages."""
+    pages = pages_of(folder)
+    return [f"{path.relative_to(folder.resolve())}: {link}" for path, page in pages.items()
+            for link in [*page.links, *page.loads] if leads_nowhere(link, path, pages)]
+
+
+@pytest.fixture(scope="module")
+def site(top: pathlib.Path, tmp_path_factory: pytest.TempPathFactory) -> pathlib.Path:
+    """The site, which is made without a built library, and of which no warning is printed."""
+    need("doxygen")
+    for module in ("sphinx", "numpydoc", "myst_parser", "numpy"):
+        need_of_debian(module)
+    folder = tmp_path_factory.mktemp("site") / "made"
+    told = told_by([top / "tools" / "site" / "build", folder], top)
+    assert told == (0, f"{folder}/index.html\n", "")
+    return folder
+
+
+def test_no_link_leads_nowhere(site: pathlib.Path) -> None:
+    assert broken(site) == []
+    assert sum(len(page.links) for page in pages_of(site).values()) > 500
+
+
+def test_nothing_is_loaded_from_elsewhere(site: pathlib.Path) -> None:
+    loads = {load for page in pages_of(site).values() for load in page.loads}
+    assert loads and {load for load in loads if urlsplit(load).scheme or urlsplit(load).netloc} == set()
+
+
+def test_each_page_is_in_the_site(site: pathlib.Path) -> None:
+    """And the first page leads to it."""
+    links = {link.partition("#")[0] for link in Page(site / "index.html").links}
+    assert {page for page in PAGES if f"{page}.html" not in links} == set()
+
+
+def test_each_name_of_the_package_is_in_the_reference(site: pathlib.Path) -> None:
+    text = (TOP / "python" / "src" / "pfs" / "__init__.py").read_text().partition("__all__ = [")[2].partition("]")[0]
+    names = [name for name in re.findall(r'"(\w+)"', text) if name != "__version__"]
+    assert len(names) > 10 and {f"pfs.{name}" for name in names} <= Page(site / "reference.html").ids
+
+
+def test_each_function_and_macro_of_the_header_is_in_the_site(site: pathlib.Path) -> None:
+    header = (TOP / "lib" / "pfs.h").read_text()
+    names = {*re.findall(r"^[a-z].*\b(pfs_\w+)\(", header, re.MULTILINE),
+             *re.findall(r"^#define (PFS_\w+) ", header, re.MULTILINE)}
+    text = (site / "c" / "pfs_8h.html").read_text()
+    assert len(names) > 30 and {name for name in names if not re.search(rf">{name}</a>", text)} == set()
+    for heading in ("Limits of what is accepted.", "Faults of order files"):
+        assert heading in text
+
+
+def test_the_definitions_are_in_the_site(site: pathlib.Path) -> None:
+    assert ">best_place<" in (site / "docs" / "REACHED.html").read_text()
+
+
+def test_the_site_is_made_again_and_replaces_nothing_else(top: pathlib.Path, folder: pathlib.Path,
+                                                          site: pathlib.Path) -> None:
+    (folder / "kept").write_text("mine\n")
+    told = told_by([top / "tools" / "site" / "build", folder], top)
+    assert (told.status, told.stderr) == (1, f"site/build: {folder} holds something else than a site\n")
+    assert [path.name for path in folder.iterdir()] == ["kept"]
+    before = (site / "index.html").read_bytes()
+    (site / "old.html").touch()
+    printed_by([top / "tools" / "site" / "build", site], top)
+    assert (site / "index.html").read_bytes() == before and not (site / "old.html").exists()
+
+
+@pytest.mark.parametrize(("link", "is_broken"), [
+    ("other.html", False), ("other.html#here", False), ("other.html#there", True), ("#top", False), ("#here", True),
+    ("none.html", True), ("below/", True), ("text", False), ("https://example.org/none", False),
+])
+def test_a_link(link: str, is_broken: bool, folder: pathlib.Path) -> None:
+    (folder / "below").mkdir()
+    (folder / "text").touch()
+    (folder / "index.html").write_text(f'<p id="top"><a href="{link}">a link</a></p>')
+    (folder / "other.html").write_text('<h1 id="here">Here</h1>')
+    assert broken(folder) == ([f"index.html: {link}"] if is_broken else [])

@@ -1,0 +1,123 @@
+"""Shops at the edges of what a wavefront serves: at least 8 jobs, at most 24 machines, and less than 65,535 for as many
+of its longest time as a path has operations. Insertions and searches of them are compared with plain definitions."""
+import pathlib
+from random import Random
+
+import pytest
+from support import second_program
+from support.printed import printed
+from support.program import Program
+from support.second_program import Instance
+
+WIDTHS = {"OneBand": 8, "TwoBands": 16, "ThreeBands": 24}
+
+OPTIONS = {b"--take": 3, b"--rounds": 3, b"--seed": 1, b"--passes": 1, b"--cells": True}
+SOLVE = "solve --layout taillard --take 3 --rounds 3 --seed 1 --passes 1 --cells shop"
+
+
+def shop_of(jobs: int, machines: int, times: list[int]) -> Instance:
+    """A shop with these times, machine by machine."""
+    shop = Instance(jobs, machines, [0, 0, 0])
+    shop.times = [times[jobs * machine:jobs * (machine + 1)] for machine in range(machines)]
+    return shop
+
+
+def drawn(jobs: int, machines: int, most: int) -> Instance:
+    """A shop of random times, the same for the same arguments."""
+    random = Random(f"{jobs} {machines} {most}")
+    return shop_of(jobs, machines, [random.randint(0, most) for _ in range(jobs * machines)])
+
+
+def equal(jobs: int, machines: int, time: int) -> Instance:
+    return shop_of(jobs, machines, [time] * (jobs * machines))
+
+
+def with_long_job(jobs: int, machines: int, time: int) -> Instance:
+    """A shop in which the fourth job takes this time on each machine, much longer than the others."""
+    shop = drawn(jobs, machines, 9)
+    for row in shop.times:
+        row[3] = time
+    return shop
+
+
+def with_one_long_time(jobs: int, machines: int, time: int) -> Instance:
+    shop = drawn(jobs, machines, 9)
+    shop.times[machines // 2][2] = time
+    return shop
+
+
+# Shops, and the method that a search of each uses.
+SHOPS: dict[str, tuple[Instance, str]] = {
+    **{f"{jobs} jobs on {machines} machines, times to {most}": (
+        drawn(jobs, machines, most),
+        "HeadsTails" if jobs < 8 or machines > 24 else
+        next(method for method, width in WIDTHS.items() if machines <= width))
+       for jobs in (7, 8, 9) for machines in (1, 7, 8, 9, 15, 16, 17, 23, 24, 25) for most in (2, 99)},
+    "times of 0": (equal(9, 5, 0), "OneBand"),
+    "a longest path of 65,534": (equal(8, 7, 4_681), "OneBand"),
+    "a longest path of 65,535": (equal(8, 8, 4_369), "HeadsTails"),
+    "a longest path of 65,536 on 8 machines": (equal(9, 8, 4_096), "HeadsTails"),
+    "a longest path of 65,536 on 9 machines": (equal(8, 9, 4_096), "HeadsTails"),
+    "31 times of 2,114 are 65,534": (with_long_job(8, 24, 2_114), "ThreeBands"),
+    "32 times of 2,048 are 65,536": (with_long_job(9, 24, 2_048), "HeadsTails"),
+    "a long job": (with_long_job(12, 12, 2_849), "TwoBands"),
+    "a long time": (with_one_long_time(20, 24, 1_523), "ThreeBands"),
+    "a time that is too long": (with_one_long_time(20, 24, 1_525), "HeadsTails"),
+    "one time of 10^9": (with_one_long_time(9, 5, 1_000_000_000), "HeadsTails"),
+    "40 jobs": (drawn(40, 6, 30), "OneBand"),
+    "21 jobs on 11 machines": (drawn(21, 11, 500), "TwoBands"),
+    "22 jobs on 20 machines": (drawn(22, 20, 1_000), "ThreeBands"),
+}
+
+
+def longest_path(shop: Instance) -> int:
+    return (shop.jobs + shop.machines - 1) * max(max(row) for row in shop.times)
+
+
+def is_served(shop: Instance, width: int) -> bool:
+    return shop.jobs >= 8 and shop.machines <= width and longest_path(shop) < 65_535
+
+
+def test_the_method_is_the_narrowest_that_serves() -> None:
+    """The methods of the table above are those of the rule."""
+    for name, (shop, method) in SHOPS.items():
+        methods = [method for method, width in WIDTHS.items() if is_served(shop, width)]
+        assert method == (methods[0] if methods else "HeadsTails"), name
+
+
+def insertions(shop: Instance) -> list[tuple[int, int]]:
+    """For each job the first best place in the sequence of those before it, and the makespan there."""
+    order: list[int] = []
+    places = []
+    for job in range(shop.jobs):
+        makespans = [second_program.makespan(shop, order[:place] + [job] + order[place:])
+                     for place in range(len(order) + 1)]
+        place = makespans.index(min(makespans))
+        places.append((place, makespans[place]))
+        order.insert(place, job)
+    return places
+
+
+@pytest.mark.parametrize("name", SHOPS)
+def test_insertions(pfs_calls: Program, folder: pathlib.Path, name: str) -> None:
+    """Heads and tails and each wavefront that serves the shop give the first best places and their makespans, and count
+    (4k - 2)m cells each for k jobs with the inserted one."""
+    shop, method = SHOPS[name]
+    by_job = " ".join(str(row[job]) for job in range(shop.jobs) for row in shop.times)
+    lines = [method]
+    for width in WIDTHS.values():
+        cells = 0
+        for jobs, (place, makespan) in enumerate(insertions(shop), 1):
+            for _ in range(2 if is_served(shop, width) else 0):
+                cells += (4 * jobs - 2) * shop.machines
+                lines.append(f"{place} {makespan} {cells}")
+    assert pfs_calls.run(f"wavefronts {shop.jobs} {shop.machines} {by_job}", folder) == printed(*lines)
+
+
+@pytest.mark.parametrize("name", SHOPS)
+def test_searches(pfs: Program, folder: pathlib.Path, name: str) -> None:
+    """`solve` prints what a plain program does."""
+    shop, _ = SHOPS[name]
+    (folder / "shop").write_bytes(second_program.canonical(shop, b"taillard"))
+    expected = second_program.solved(shop, OPTIONS).decode().splitlines()
+    assert pfs.run(SOLVE, folder) == printed(*expected)
