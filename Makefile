@@ -53,7 +53,7 @@ $(foreach name,$(PAGES),$(name) share/doc/pfs/$(name)$(newline))
 $(foreach name,$(PLANS),experiments/$(name) share/doc/pfs/examples/$(name)$(newline))
 endef
 PAGES = README.md CHANGELOG.md CITATION.cff CONTRIBUTING.md SECURITY.md LICENSE-MIT LICENSE-APACHE \
-    experiments/README.md experiments/taillard.csv lib/pfs.h \
+    experiments/README.md experiments/taillard.csv experiments/best_known.csv lib/pfs.h \
     $(sort $(wildcard docs/* examples/* python/README.md python/examples/*.py))
 define LIBRARY_FILES
 lib/out/libpfs.a $(LIB)/libpfs.a

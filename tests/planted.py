@@ -16,10 +16,9 @@ from support.unproved import Edit, build
 
 BUGS = [
     ("a number that two pieces share loses the digits of the first",
-     Edit("pfs_layout/src/blocks.rt", "        let mut line = *last;",
-          "        let offset = last.digits.offset;"
-          " let digits = crate::scan::Digits { offset, first: offset, value: 0 };"
-          " let mut line = Line { digits, kinds: last.kinds };")),
+     Edit("pfs_layout/src/blocks.rt", "            digits: last.digits,",
+          "            digits: crate::scan::Digits {"
+          " offset: last.digits.offset, first: last.digits.offset, value: 0 },")),
     ("of equal places the last is taken",
      Edit("pfs_insert/src/inserter.rt", "    if place == 0 || span < best.span {",
           "    if place == 0 || span <= best.span {")),

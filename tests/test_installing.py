@@ -30,7 +30,7 @@ VALUE = ["value", "--layout", "taillard"]
 TOP = pathlib.Path(__file__).resolve().parent.parent
 VERSION = (TOP / "VERSION").read_text().strip()
 PAGES = ["README.md", "CHANGELOG.md", "CITATION.cff", "CONTRIBUTING.md", "SECURITY.md", "LICENSE-MIT", "LICENSE-APACHE",
-         "experiments/README.md", "experiments/taillard.csv", "lib/pfs.h"]
+         "experiments/README.md", "experiments/taillard.csv", "experiments/best_known.csv", "lib/pfs.h"]
 # The tools, but for what is only of the repository.
 TOOLS = [path for path in (TOP / "tools" / "gantt", *sorted((TOP / "tools").glob("*.py")),
                            *sorted((TOP / "experiments").iterdir()))

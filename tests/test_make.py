@@ -108,3 +108,13 @@ def test_the_hook_of_git(top: pathlib.Path, folder: pathlib.Path, status: int) -
     assert (committed.status == 0) == (status == 0)
     assert (repository / "calls").read_text() == "make -s check, no index\n"
     assert (told_by([*git, "log"], repository, env=env).status == 0) == (status == 0)
+
+
+def test_the_pages_that_are_installed_link_to_installed_files(top: pathlib.Path) -> None:
+    """Where they are installed, they are in the same folders as here."""
+    listed = printed_by(["make", "-s", "--eval=pages: ; @echo $(PAGES)", "pages"], top, env=environment()).split()
+    assert "README.md" in listed
+    for page in [top / name for name in listed if name.endswith(".md")]:
+        links = [name for name in re.findall(r"\]\(([^)#]+)\)", page.read_text()) if "://" not in name]
+        linked = {os.path.relpath(page.parent / name, top) for name in links}
+        assert sorted(linked.difference(listed)) == [], page.name
