@@ -13,14 +13,29 @@ from pfs import _library as c
 from pfs import _search
 from pfs._faults import Interrupted
 from pfs._given import Jobs, Times, layout_of, order_of, packed, refused_jobs, times_of, whole
-from pfs._library import library
+from pfs._library import LENGTHS, SHORT, library
 from pfs._names import names_of
 from pfs._schedule import Schedule
 from pfs._search import Progress, Search
 from pfs._solution import Solution, order_given
 from pfs._whole import write_whole
 
-_pfs_makespan = library.pfs_makespan
+_pfs_makespan = c.quick_makespan
+_pfs_insert = c.quick_insert
+# A named tuple is made three times as fast by it.
+_new_tuple = tuple.__new__
+# Room for the results of a call, a place and a makespan, with their addresses. A call takes one and puts it back, so
+# that no two calls have the same, in whatever threads; where none is left it makes one.
+_free: list[tuple[c_size_t, c_uint64, Any, Any]] = []
+
+
+def _taken() -> tuple[c_size_t, c_uint64, Any, Any]:
+    """Room that no other call uses."""
+    try:
+        return _free.pop()
+    except IndexError:
+        place, makespan = c_size_t(), c_uint64()
+        return place, makespan, byref(place), byref(makespan)
 
 
 class Place(NamedTuple):
@@ -76,7 +91,8 @@ class Instance:
     10
     """
 
-    __slots__ = ("name", "job_names", "machine_names", "unit", "decimals", "seed", "upper", "lower", "_times", "_given")
+    __slots__ = ("name", "job_names", "machine_names", "unit", "decimals", "seed", "upper", "lower", "_times", "_given",
+                 "_ready")
 
     def __init__(self, times: npt.ArrayLike, *, name: str = "", job_names: Iterable[str] | None = None,
                  machine_names: Iterable[str] | None = None, unit: str = "", decimals: int = 0, seed: int = 0,
@@ -85,7 +101,8 @@ class Instance:
         # Nobody can write to `bytes`.
         text = own.tobytes()
         self._times: Times = np.frombuffer(text, dtype=np.uint32).reshape(own.shape)
-        self._given = (text, own.size, *own.shape)
+        self._given: tuple[bytes, int, int, int] = (text, own.size, own.shape[0], own.shape[1])
+        self._ready = c.ready(self._given)
         self.name = str(name)
         self.job_names = names_of(job_names, self.jobs, "job_names")
         self.machine_names = names_of(machine_names, self.machines, "machine_names")
@@ -154,11 +171,13 @@ class Instance:
             It isn't a list of distinct jobs; the text says which and where.
         """
         jobs, count = packed(order)
-        makespan = c_uint64()
-        number = _pfs_makespan(*self._given, jobs, count, byref(makespan))
+        found = _taken()
+        number = _pfs_makespan(*self._ready, jobs, LENGTHS[count] if count < SHORT else c_size_t(count), found[3])
         if number:
             raise refused_jobs(number, self.jobs, jobs)
-        return makespan.value
+        makespan: int = found[1].value
+        _free.append(found)
+        return makespan
 
     def bound(self) -> int:
         """A length of time below which no order's makespan goes (Taillard 1993).
@@ -209,15 +228,19 @@ class Instance:
         Place(place=0, makespan=10)
         """
         jobs, count = packed(sequence, "sequence")
-        job = whole(job, "job", 0, self.jobs - 1)
-        place, makespan = c_size_t(), c_uint64()
-        number = library.pfs_insert(*self._given, jobs, count, job, byref(place), byref(makespan))
+        if type(job) is not int or not 0 <= job < self._given[2]:
+            job = whole(job, "job", 0, self.jobs - 1)
+        found = _taken()
+        number = _pfs_insert(*self._ready, jobs, LENGTHS[count] if count < SHORT else c_size_t(count), job, found[2],
+                             found[3])
         if number:
             fault = refused_jobs(number, self.jobs, jobs, "sequence")
             if number == c.REPEATED and fault.args == (c.message(number),):
                 raise ValueError(f"job {job} stands in the sequence already")
             raise fault
-        return Place(place.value, makespan.value)
+        best = _new_tuple(Place, (found[0].value, found[1].value))
+        _free.append(found)
+        return best
 
     def solve(self, rounds: int | None = None, *, take: int | None = None, passes: int = 0, seed: int = 0,
               start: Jobs | None = None, first: int = 0, progress: Progress | None = None,
