@@ -121,6 +121,14 @@ def test_the_greatest_shop() -> None:
     assert shop.schedule(np.arange(5000)).makespan == 5199 * 10**9
 
 
+def test_times_can_be_subtracted() -> None:
+    """The differences and sums that slope indices are made of don't wrap."""
+    shop = pfs.Instance([[3, 1_000_000_000], [2, 0]])
+    assert shop.times.dtype == np.int64
+    assert (shop.times[:, 0] - shop.times[:, 1]).tolist() == [-999_999_997, 2]
+    assert (-shop.times.sum(axis=1)).tolist() == [-1_000_000_003, -2]
+
+
 def test_nothing_that_is_handed_out_can_be_written_to() -> None:
     times = np.array([[3, 2], [2, 5], [4, 1]], dtype=np.uint32)
     shop = pfs.Instance(times)

@@ -127,7 +127,7 @@ def read(source: Source, layout: str, block: int = 1) -> Instance:
     >>> shop.times
     array([[3, 2],
            [2, 5],
-           [4, 1]], dtype=uint32)
+           [4, 1]])
     >>> pfs.read(io.BytesIO(b"3 2\\n0 3 1 2\\n0 2 2 5\\n"), "orlib")
     Traceback (most recent call last):
     pfs._faults.FileFault: wrong machine number at 16

@@ -12,7 +12,7 @@ import numpy.typing as npt
 from pfs import _library as c
 from pfs import _search
 from pfs._faults import Interrupted
-from pfs._given import Jobs, Times, layout_of, order_of, packed, refused_jobs, times_of, whole
+from pfs._given import Jobs, Order, layout_of, order_of, packed, refused_jobs, times_of, whole
 from pfs._library import LENGTHS, SHORT, library
 from pfs._names import names_of
 from pfs._schedule import Schedule
@@ -68,7 +68,7 @@ class Instance:
     Attributes
     ----------
     times : numpy.ndarray
-        The times, as an array that nothing writes to.
+        The times, of int64 and of the shape (jobs, machines), as an array that nothing writes to.
     jobs, machines : int
         How many there are.
 
@@ -100,7 +100,7 @@ class Instance:
         own = times_of(times)
         # Nobody can write to `bytes`.
         text = own.tobytes()
-        self._times: Times = np.frombuffer(text, dtype=np.uint32).reshape(own.shape)
+        self._times: Order = np.frombuffer(own.astype(np.int64).tobytes(), dtype=np.int64).reshape(own.shape)
         self._given: tuple[bytes, int, int, int] = (text, own.size, own.shape[0], own.shape[1])
         self._ready = c.ready(self._given)
         self.name = str(name)
@@ -113,8 +113,8 @@ class Instance:
         self.lower = whole(lower, "lower", 0, c.MOST_NOTE)
 
     @property
-    def times(self) -> Times:
-        """The times, as an array that nothing writes to."""
+    def times(self) -> Order:
+        """The times, as an array of int64 that nothing writes to."""
         return self._times
 
     @property
@@ -361,6 +361,6 @@ class Instance:
         write_whole(path, self.to_text(layout).encode("ascii"))
 
 
-def _instance_of(times: npt.NDArray[np.uint32], described: dict[str, Any]) -> Instance:
+def _instance_of(times: npt.ArrayLike, described: dict[str, Any]) -> Instance:
     """An instance that was pickled."""
     return Instance(times, **described)
