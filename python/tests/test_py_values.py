@@ -129,6 +129,25 @@ def test_times_can_be_subtracted() -> None:
     assert (-shop.times.sum(axis=1)).tolist() == [-1_000_000_003, -2]
 
 
+def test_rpd() -> None:
+    shop = pfs.Instance([[3, 2], [2, 5]], upper=8)
+    spans: list[Any] = [8, 10, 6, np.int64(16), 0]
+    assert [shop.rpd(span) for span in spans] == [0, 25, -25, 100, -100]
+    assert shop.rpd(pfs.Solution([1, 0], 9)) == 12.5 and shop.rpd(9, reference=10) == -10
+    assert pfs.Instance([[1]]).rpd(3, 2) == 50
+
+
+@pytest.mark.parametrize(("words", "kind", "why"), [
+    ((9,), ValueError, "the instance has no reference: its `upper` is 0"),
+    ((-1, 5), ValueError, "makespan is -1, and should be 0 to"), ((9, 0), ValueError, "reference is 0, and should be 1"),
+    ((9.5, 5), TypeError, "makespan should be a whole number, not 9.5"), ((True, 5), TypeError, "makespan should be"),
+    ((9, True), TypeError, "reference should be"), (([1, 0], 5), TypeError, "makespan should be a whole number"),
+    ((2**64, 5), ValueError, "makespan is 18446744073709551616")])
+def test_rpds_that_are_rejected(words: tuple[Any, ...], kind: type[Exception], why: str) -> None:
+    with pytest.raises(kind, match=why):
+        pfs.Instance([[1]]).rpd(*words)
+
+
 def test_nothing_that_is_handed_out_can_be_written_to() -> None:
     times = np.array([[3, 2], [2, 5], [4, 1]], dtype=np.uint32)
     shop = pfs.Instance(times)

@@ -192,6 +192,42 @@ class Instance:
         c.done(library.pfs_bound(*self._given, byref(bound)))
         return bound.value
 
+    def rpd(self, makespan: int | Solution, reference: int | None = None) -> float:
+        """The relative percentage deviation of a makespan: by how many percent it is above a reference.
+
+        Parameters
+        ----------
+        makespan : int or Solution
+            0 or more.
+        reference : int, optional
+            A makespan of 1 or more; where it is left out ``upper``, which of Taillard's instances is the best known
+            makespan.
+
+        Returns
+        -------
+        float
+            ``100 * (makespan - reference) / reference``; below 0 where the makespan is shorter.
+
+        Raises
+        ------
+        TypeError
+            One of the two isn't a whole number.
+        ValueError
+            One of them is out of its limits, or there is no reference: ``upper`` is 0.
+
+        Examples
+        --------
+        >>> import pfs
+        >>> shop = pfs.taillard(1)
+        >>> round(shop.rpd(shop.neh()), 2)
+        0.63
+        """
+        own = whole(makespan.makespan if isinstance(makespan, Solution) else makespan, "makespan", 0, 2**64 - 1)
+        if reference is None and self.upper == 0:
+            raise ValueError("the instance has no reference: its `upper` is 0, so rpd needs one")
+        base = self.upper if reference is None else whole(reference, "reference", 1, 2**64 - 1)
+        return 100 * (own - base) / base
+
     def neh(self) -> Solution:
         """The order of NEH (Nawaz, Enscore and Ham 1983): the jobs by decreasing total time, each put at its best
         place, of equal ones the first.
