@@ -86,6 +86,31 @@ def test_schedule(case: tuple[plainly.Table, list[int]]) -> None:
     assert frame.to_numpy().tolist() == operations
 
 
+@given(plainly.shops_and_orders())
+def test_a_critical_path_has_no_wait(case: tuple[plainly.Table, list[int]]) -> None:
+    """Its times add up to the makespan, and each step goes to the next place or to the next machine."""
+    times, order = case
+    path = pfs.Instance(times).schedule(order).critical_path()
+    assert path[0] == (0, 0) and path[-1] == (len(order) - 1, len(times[0]) - 1)
+    steps = [(after[0] - before[0], after[1] - before[1]) for before, after in zip(path, path[1:])]
+    assert set(steps) <= {(0, 1), (1, 0)}
+    assert sum(times[order[place]][machine] for place, machine in path) == plainly.makespan(times, order)
+    assert all(type(number) is int for operation in path for number in operation)
+
+
+@given(plainly.shops_and_orders())
+def test_idle_times(case: tuple[plainly.Table, list[int]]) -> None:
+    """What a machine waits, works, and waits after its last operation is the makespan."""
+    times, order = case
+    made = pfs.Instance(times).schedule(order)
+    rows = plainly.schedule(times, order)
+    due = [[start - (rows[place - 1][machine][1] if place else 0) for machine, (start, _) in enumerate(row)]
+           for place, row in enumerate(rows)]
+    assert made.idle().tolist() == due and made.idle().dtype == np.int64
+    made.idle()[:] = 7
+    assert made.starts.tolist() == [[start for start, _ in row] for row in rows], "idle times share memory with starts"
+
+
 def test_schedule_is_told_by_names(tmp_path: pathlib.Path) -> None:
     shop = pfs.Instance([[30, 25], [20, 50]], job_names=["table", "chair, small"], machine_names=["saw", "drill"],
                         decimals=1)
