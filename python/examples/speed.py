@@ -84,7 +84,7 @@ def makespans(program: str, folder: pathlib.Path) -> None:
 def places() -> None:
     """The best place of a job among 99 others on 20 machines."""
     shop = pfs.taillard(81)
-    times, sequence = shop.times.astype(np.int64), np.arange(99)
+    times, sequence = shop.times, np.arange(99)
     call = seconds(lambda: shop.best_place(sequence, 99), 200)
     told("`best_place`, 99 jobs on 20 machines", call)
     assert shop.best_place(sequence, 99) == numpy_place(times, sequence, 99)

@@ -387,10 +387,22 @@ def test_the_copy_of_taillards_seeds(pytestconfig: pytest.Config) -> None:
                                                                        int(lower))
 
 
+def test_the_copy_of_the_best_known_makespans() -> None:
+    here = pathlib.Path(__file__).resolve().parents[2]
+    listed = here / "experiments" / "best_known.csv"
+    copy = pathlib.Path(pfs.__file__).with_name("best_known.csv")
+    assert copy.read_bytes() == listed.read_bytes()
+    for number, row in enumerate(listed.read_text().splitlines()[1:], 1):
+        name, makespan = row.split(",")[:2]
+        shop = pfs.taillard(number)
+        assert (shop.name, shop.upper) == (name, int(makespan)) and shop.upper >= shop.lower
+    assert number == 120
+
+
 @pytest.mark.parametrize("number", [1, 31, 61, 120])
 def test_taillards_instances_are_the_programs(program: str, number: int) -> None:
     shop = pfs.taillard(number)
-    shop.lower = 0
+    shop.lower = shop.upper = 0
     assert shop.to_text() == plainly.run([program, "generate", str(shop.jobs), str(shop.machines), str(shop.seed)])
 
 

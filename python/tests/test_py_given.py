@@ -225,6 +225,8 @@ def test_other_words_that_are_refused() -> None:
             pfs.Instance(TIMES, job_names=names)  # type: ignore[arg-type]
 
 
+# Names of the functions that are called without types.
+QUICK = ("_pfs_makespan", "_pfs_insert")
 SCALARS = (arrays.integer_dtypes() | arrays.unsigned_integer_dtypes() | arrays.floating_dtypes()
            | arrays.boolean_dtypes() | arrays.complex_number_dtypes() | arrays.unicode_string_dtypes()
            | arrays.byte_string_dtypes() | arrays.datetime64_dtypes())
@@ -322,9 +324,10 @@ def test_an_order_that_changes_while_it_is_used_is_validated_as_a_copy(monkeypat
 
         return call
 
-    for name in ("pfs_makespan", "pfs_table", "pfs_rounds", "pfs_insert"):
+    for name in ("pfs_makespan", "pfs_table", "pfs_rounds"):
         monkeypatch.setattr(_library.library, name, noting(getattr(_library.library, name)))
-    monkeypatch.setattr(_instance, "_pfs_makespan", _library.library.pfs_makespan)
+    for name in QUICK:
+        monkeypatch.setattr(_instance, name, noting(getattr(_instance, name)))
     calls: list[Callable[[], object]] = [
         lambda: shop.makespan(order), lambda: shop.schedule(order), lambda: shop.solve(1, start=order),
         lambda: shop.best_place(order[:-1], jobs - 1)]
@@ -378,7 +381,8 @@ def test_memory_that_is_refused_is_a_memory_error(monkeypatch: pytest.MonkeyPatc
     call = refused_everywhere(shop)[name]
     assert call() is not None
     monkeypatch.setattr(_library.library, name, lambda *_: _library.MEMORY)
-    monkeypatch.setattr(_instance, "_pfs_makespan", _library.library.pfs_makespan)
+    for each in QUICK:
+        monkeypatch.setattr(_instance, each, lambda *_: _library.MEMORY)
     with pytest.raises(MemoryError, match="^pfs: memory was refused$"):
         call()
 
@@ -388,6 +392,7 @@ def test_another_answer_of_the_library_is_told(monkeypatch: pytest.MonkeyPatch, 
     """By its text, where no argument explains it."""
     call = refused_everywhere(pfs.Instance(TIMES))[name]
     monkeypatch.setattr(_library.library, name, lambda *_: 12)
-    monkeypatch.setattr(_instance, "_pfs_makespan", _library.library.pfs_makespan)
+    for each in QUICK:
+        monkeypatch.setattr(_instance, each, lambda *_: 12)
     with pytest.raises(ValueError, match="^the block isn't from 1 to 1000$"):
         call()

@@ -1,16 +1,60 @@
 """A call from Python costs little beside what it computes."""
 import timeit
+from collections.abc import Callable
+from concurrent.futures import ThreadPoolExecutor
+from ctypes import byref, c_size_t, c_uint64
 
 import numpy as np
 import pfs
 import pytest
+from pfs import _library
+
+
+def microseconds(call: Callable[[], object]) -> float:
+    """The best of many short runs, since other programs run beside."""
+    return min(timeit.repeat(call, number=50, repeat=100)) / 50 * 1e6
 
 
 @pytest.mark.parametrize("kind", ["list", "int64", "uint32"])
-def test_a_makespan_of_20_jobs_on_5_machines(kind: str) -> None:
-    """At most 10 microseconds, in the best of many short runs, since other programs run beside."""
+def test_a_call_for_20_jobs_on_5_machines(kind: str) -> None:
+    """3 microseconds on a machine that does nothing else."""
     shop = pfs.taillard(1)
     order = shop.neh().order
     given = order.tolist() if kind == "list" else np.array(order, dtype=kind)
-    best = min(timeit.repeat(lambda: shop.makespan(given), number=100, repeat=200)) / 100
-    assert best < 10e-6, f"{1e6 * best:.1f} microseconds"
+    others, job = given[1:], int(order[0])
+    calls: dict[str, Callable[[], object]] = {
+        "makespan": lambda: shop.makespan(given), "best_place": lambda: shop.best_place(others, job)}
+    for name, call in calls.items():
+        assert (took := microseconds(call)) < 8, f"{name}: {took:.1f} microseconds"
+
+
+def test_arguments_that_are_ready_make_a_call_faster() -> None:
+    """It takes less time than the same call with types, which ctypes converts one by one."""
+    shop = pfs.taillard(1)
+    order = shop.neh().order.astype(np.uint32)
+    others, job, own = order[1:], int(order[0]), order[1:].tobytes()
+
+    def typed() -> pfs.Place:
+        place, makespan = c_size_t(), c_uint64()
+        _library.library.pfs_insert(*shop._given, own, 19, job, byref(place), byref(makespan))
+        return pfs.Place(place.value, makespan.value)
+
+    assert typed() == shop.best_place(others, job)
+    spans = [(microseconds(lambda: shop.best_place(others, job)), microseconds(typed)) for _ in range(5)]
+    quick, slow = (min(each) for each in zip(*spans))
+    assert quick < 0.9 * slow, f"{quick:.1f} and {slow:.1f} microseconds"
+
+
+def test_threads_do_not_share_a_result() -> None:
+    """Each call has room of its own, also where other calls run meanwhile."""
+    shops = [pfs.generate(20 + at, 5, 1 + at) for at in range(8)]
+    due = [shop.makespan(range(shop.jobs)) for shop in shops]
+    places = [shop.best_place(range(1, shop.jobs), 0) for shop in shops]
+
+    def many(at: int) -> bool:
+        shop = shops[at]
+        return all(shop.makespan(range(shop.jobs)) == due[at] and shop.best_place(range(1, shop.jobs), 0) == places[at]
+                   for _ in range(1000))
+
+    with ThreadPoolExecutor(8) as threads:
+        assert all(threads.map(many, range(8)))

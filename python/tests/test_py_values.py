@@ -86,6 +86,31 @@ def test_schedule(case: tuple[plainly.Table, list[int]]) -> None:
     assert frame.to_numpy().tolist() == operations
 
 
+@given(plainly.shops_and_orders())
+def test_a_critical_path_has_no_wait(case: tuple[plainly.Table, list[int]]) -> None:
+    """Its times add up to the makespan, and each step goes to the next place or to the next machine."""
+    times, order = case
+    path = pfs.Instance(times).schedule(order).critical_path()
+    assert path[0] == (0, 0) and path[-1] == (len(order) - 1, len(times[0]) - 1)
+    steps = [(after[0] - before[0], after[1] - before[1]) for before, after in zip(path, path[1:])]
+    assert set(steps) <= {(0, 1), (1, 0)}
+    assert sum(times[order[place]][machine] for place, machine in path) == plainly.makespan(times, order)
+    assert all(type(number) is int for operation in path for number in operation)
+
+
+@given(plainly.shops_and_orders())
+def test_idle_times(case: tuple[plainly.Table, list[int]]) -> None:
+    """What a machine waits, works, and waits after its last operation is the makespan."""
+    times, order = case
+    made = pfs.Instance(times).schedule(order)
+    rows = plainly.schedule(times, order)
+    due = [[start - (rows[place - 1][machine][1] if place else 0) for machine, (start, _) in enumerate(row)]
+           for place, row in enumerate(rows)]
+    assert made.idle().tolist() == due and made.idle().dtype == np.int64
+    made.idle()[:] = 7
+    assert made.starts.tolist() == [[start for start, _ in row] for row in rows], "idle times share memory with starts"
+
+
 def test_schedule_is_told_by_names(tmp_path: pathlib.Path) -> None:
     shop = pfs.Instance([[30, 25], [20, 50]], job_names=["table", "chair, small"], machine_names=["saw", "drill"],
                         decimals=1)
@@ -119,6 +144,33 @@ def test_the_greatest_shop() -> None:
     shop = pfs.Instance(np.full((5000, 200), 1_000_000_000))
     assert shop.makespan(range(5000)) == shop.bound() == 5199 * 10**9
     assert shop.schedule(np.arange(5000)).makespan == 5199 * 10**9
+
+
+def test_times_can_be_subtracted() -> None:
+    """The differences and sums that slope indices are made of don't wrap."""
+    shop = pfs.Instance([[3, 1_000_000_000], [2, 0]])
+    assert shop.times.dtype == np.int64
+    assert (shop.times[:, 0] - shop.times[:, 1]).tolist() == [-999_999_997, 2]
+    assert (-shop.times.sum(axis=1)).tolist() == [-1_000_000_003, -2]
+
+
+def test_rpd() -> None:
+    shop = pfs.Instance([[3, 2], [2, 5]], upper=8)
+    spans: list[Any] = [8, 10, 6, np.int64(16), 0]
+    assert [shop.rpd(span) for span in spans] == [0, 25, -25, 100, -100]
+    assert shop.rpd(pfs.Solution([1, 0], 9)) == 12.5 and shop.rpd(9, reference=10) == -10
+    assert pfs.Instance([[1]]).rpd(3, 2) == 50
+
+
+@pytest.mark.parametrize(("words", "kind", "why"), [
+    ((9,), ValueError, "the instance has no reference: its `upper` is 0"),
+    ((-1, 5), ValueError, "makespan is -1, and should be 0 to"), ((9, 0), ValueError, "reference is 0, and should be 1"),
+    ((9.5, 5), TypeError, "makespan should be a whole number, not 9.5"), ((True, 5), TypeError, "makespan should be"),
+    ((9, True), TypeError, "reference should be"), (([1, 0], 5), TypeError, "makespan should be a whole number"),
+    ((2**64, 5), ValueError, "makespan is 18446744073709551616")])
+def test_rpds_that_are_rejected(words: tuple[Any, ...], kind: type[Exception], why: str) -> None:
+    with pytest.raises(kind, match=why):
+        pfs.Instance([[1]]).rpd(*words)
 
 
 def test_nothing_that_is_handed_out_can_be_written_to() -> None:

@@ -127,7 +127,7 @@ def read(source: Source, layout: str, block: int = 1) -> Instance:
     >>> shop.times
     array([[3, 2],
            [2, 5],
-           [4, 1]], dtype=uint32)
+           [4, 1]])
     >>> pfs.read(io.BytesIO(b"3 2\\n0 3 1 2\\n0 2 2 5\\n"), "orlib")
     Traceback (most recent call last):
     pfs._faults.FileFault: wrong machine number at 16
@@ -244,9 +244,20 @@ def generate(jobs: int, machines: int, seed: int) -> Instance:
 @functools.cache
 def taillard_rows() -> tuple[tuple[str, int, int, int, int], ...]:
     """Taillard's instances: name, jobs, machines, seed and published lower bound of each."""
-    text = importlib.resources.files("pfs").joinpath("taillard.csv").read_text("ascii")
-    rows = list(csv.reader(io.StringIO(text)))[1:]
-    return tuple((name, int(jobs), int(machines), int(seed), int(lower)) for name, jobs, machines, seed, lower in rows)
+    return tuple((name, int(jobs), int(machines), int(seed), int(lower))
+                 for name, jobs, machines, seed, lower in rows_in("taillard.csv"))
+
+
+@functools.cache
+def best_known() -> dict[str, int]:
+    """The best known makespan of each of Taillard's instances."""
+    return {name: int(makespan) for name, makespan, _ in rows_in("best_known.csv")}
+
+
+def rows_in(name: str) -> list[list[str]]:
+    """The rows of a table in the package, without its head."""
+    text = importlib.resources.files("pfs").joinpath(name).read_text("utf-8")
+    return list(csv.reader(io.StringIO(text)))[1:]
 
 
 def taillard(number: int) -> Instance:
@@ -260,17 +271,23 @@ def taillard(number: int) -> Instance:
     Returns
     -------
     Instance
-        With its seed, and in ``lower`` the published lower bound.
+        With its seed, in ``lower`` the published lower bound, and in ``upper`` the best known makespan (Taillard's list
+        of best known bounds). Both are published numbers that nothing here proves.
+
+    Raises
+    ------
+    TypeError, ValueError
+        The number isn't a whole number of these.
 
     Examples
     --------
     >>> import pfs
     >>> shop = pfs.taillard(1)
-    >>> shop, shop.lower
-    (<Instance ta001: 20 jobs, 5 machines>, 1232)
+    >>> shop, shop.lower, shop.upper
+    (<Instance ta001: 20 jobs, 5 machines>, 1232, 1278)
     """
     name, jobs, machines, seed, lower = taillard_rows()[whole(number, "number", 1, 120) - 1]
-    return Instance(generate(jobs, machines, seed).times, name=name, seed=seed, lower=lower)
+    return Instance(generate(jobs, machines, seed).times, name=name, seed=seed, lower=lower, upper=best_known()[name])
 
 
 # Tables

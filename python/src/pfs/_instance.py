@@ -12,15 +12,30 @@ import numpy.typing as npt
 from pfs import _library as c
 from pfs import _search
 from pfs._faults import Interrupted
-from pfs._given import Jobs, Times, layout_of, order_of, packed, refused_jobs, times_of, whole
-from pfs._library import library
+from pfs._given import Jobs, Order, layout_of, order_of, packed, refused_jobs, times_of, whole
+from pfs._library import LENGTHS, SHORT, library
 from pfs._names import names_of
 from pfs._schedule import Schedule
 from pfs._search import Progress, Search
 from pfs._solution import Solution, order_given
 from pfs._whole import write_whole
 
-_pfs_makespan = library.pfs_makespan
+_pfs_makespan = c.quick_makespan
+_pfs_insert = c.quick_insert
+# A named tuple is made three times as fast by it.
+_new_tuple = tuple.__new__
+# Room for the results of a call, a place and a makespan, with their addresses. A call takes one and puts it back, so
+# that no two calls have the same, in whatever threads; where none is left it makes one.
+_free: list[tuple[c_size_t, c_uint64, Any, Any]] = []
+
+
+def _taken() -> tuple[c_size_t, c_uint64, Any, Any]:
+    """Room that no other call uses."""
+    try:
+        return _free.pop()
+    except IndexError:
+        place, makespan = c_size_t(), c_uint64()
+        return place, makespan, byref(place), byref(makespan)
 
 
 class Place(NamedTuple):
@@ -53,7 +68,7 @@ class Instance:
     Attributes
     ----------
     times : numpy.ndarray
-        The times, as an array that nothing writes to.
+        The times, of int64 and of the shape (jobs, machines), as an array that nothing writes to.
     jobs, machines : int
         How many there are.
 
@@ -76,7 +91,8 @@ class Instance:
     10
     """
 
-    __slots__ = ("name", "job_names", "machine_names", "unit", "decimals", "seed", "upper", "lower", "_times", "_given")
+    __slots__ = ("name", "job_names", "machine_names", "unit", "decimals", "seed", "upper", "lower", "_times", "_given",
+                 "_ready")
 
     def __init__(self, times: npt.ArrayLike, *, name: str = "", job_names: Iterable[str] | None = None,
                  machine_names: Iterable[str] | None = None, unit: str = "", decimals: int = 0, seed: int = 0,
@@ -84,8 +100,9 @@ class Instance:
         own = times_of(times)
         # Nobody can write to `bytes`.
         text = own.tobytes()
-        self._times: Times = np.frombuffer(text, dtype=np.uint32).reshape(own.shape)
-        self._given = (text, own.size, *own.shape)
+        self._times: Order = np.frombuffer(own.astype(np.int64).tobytes(), dtype=np.int64).reshape(own.shape)
+        self._given: tuple[bytes, int, int, int] = (text, own.size, own.shape[0], own.shape[1])
+        self._ready = c.ready(self._given)
         self.name = str(name)
         self.job_names = names_of(job_names, self.jobs, "job_names")
         self.machine_names = names_of(machine_names, self.machines, "machine_names")
@@ -96,8 +113,8 @@ class Instance:
         self.lower = whole(lower, "lower", 0, c.MOST_NOTE)
 
     @property
-    def times(self) -> Times:
-        """The times, as an array that nothing writes to."""
+    def times(self) -> Order:
+        """The times, as an array of int64 that nothing writes to."""
         return self._times
 
     @property
@@ -154,11 +171,13 @@ class Instance:
             It isn't a list of distinct jobs; the text says which and where.
         """
         jobs, count = packed(order)
-        makespan = c_uint64()
-        number = _pfs_makespan(*self._given, jobs, count, byref(makespan))
+        found = _taken()
+        number = _pfs_makespan(*self._ready, jobs, LENGTHS[count] if count < SHORT else c_size_t(count), found[3])
         if number:
             raise refused_jobs(number, self.jobs, jobs)
-        return makespan.value
+        makespan: int = found[1].value
+        _free.append(found)
+        return makespan
 
     def bound(self) -> int:
         """A length of time below which no order's makespan goes (Taillard 1993).
@@ -172,6 +191,42 @@ class Instance:
         bound = c_uint64()
         c.done(library.pfs_bound(*self._given, byref(bound)))
         return bound.value
+
+    def rpd(self, makespan: int | Solution, reference: int | None = None) -> float:
+        """The relative percentage deviation of a makespan: by how many percent it is above a reference.
+
+        Parameters
+        ----------
+        makespan : int or Solution
+            0 or more.
+        reference : int, optional
+            A makespan of 1 or more; where it is left out ``upper``, which of Taillard's instances is the best known
+            makespan.
+
+        Returns
+        -------
+        float
+            ``100 * (makespan - reference) / reference``; below 0 where the makespan is shorter.
+
+        Raises
+        ------
+        TypeError
+            One of the two isn't a whole number.
+        ValueError
+            One of them is out of its limits, or there is no reference: ``upper`` is 0.
+
+        Examples
+        --------
+        >>> import pfs
+        >>> shop = pfs.taillard(1)
+        >>> round(shop.rpd(shop.neh()), 2)
+        0.63
+        """
+        own = whole(makespan.makespan if isinstance(makespan, Solution) else makespan, "makespan", 0, 2**64 - 1)
+        if reference is None and self.upper == 0:
+            raise ValueError("the instance has no reference: its `upper` is 0, so rpd needs one")
+        base = self.upper if reference is None else whole(reference, "reference", 1, 2**64 - 1)
+        return 100 * (own - base) / base
 
     def neh(self) -> Solution:
         """The order of NEH (Nawaz, Enscore and Ham 1983): the jobs by decreasing total time, each put at its best
@@ -209,15 +264,19 @@ class Instance:
         Place(place=0, makespan=10)
         """
         jobs, count = packed(sequence, "sequence")
-        job = whole(job, "job", 0, self.jobs - 1)
-        place, makespan = c_size_t(), c_uint64()
-        number = library.pfs_insert(*self._given, jobs, count, job, byref(place), byref(makespan))
+        if type(job) is not int or not 0 <= job < self._given[2]:
+            job = whole(job, "job", 0, self.jobs - 1)
+        found = _taken()
+        number = _pfs_insert(*self._ready, jobs, LENGTHS[count] if count < SHORT else c_size_t(count), job, found[2],
+                             found[3])
         if number:
             fault = refused_jobs(number, self.jobs, jobs, "sequence")
             if number == c.REPEATED and fault.args == (c.message(number),):
                 raise ValueError(f"job {job} stands in the sequence already")
             raise fault
-        return Place(place.value, makespan.value)
+        best = _new_tuple(Place, (found[0].value, found[1].value))
+        _free.append(found)
+        return best
 
     def solve(self, rounds: int | None = None, *, take: int | None = None, passes: int = 0, seed: int = 0,
               start: Jobs | None = None, first: int = 0, progress: Progress | None = None,
@@ -338,6 +397,6 @@ class Instance:
         write_whole(path, self.to_text(layout).encode("ascii"))
 
 
-def _instance_of(times: npt.NDArray[np.uint32], described: dict[str, Any]) -> Instance:
+def _instance_of(times: npt.ArrayLike, described: dict[str, Any]) -> Instance:
     """An instance that was pickled."""
     return Instance(times, **described)

@@ -9,7 +9,7 @@ import ctypes
 import os
 import pathlib
 from ctypes import c_char_p, c_int, c_size_t, c_uint32, c_uint64, c_void_p
-from typing import Final
+from typing import Any, Final
 
 from pfs._version import VERSION
 
@@ -89,6 +89,19 @@ def load(path: str) -> ctypes.CDLL:
 
 PATH = path_of_library()
 library = load(PATH)
+# The two functions that methods call most often, without types: what they are called with is made ready beforehand
+# (`ready`), since converting it takes longer than the call itself.
+quick_makespan: Any = library["pfs_makespan"]
+quick_insert: Any = library["pfs_insert"]
+# The lengths of short lists, ready for such a call.
+SHORT: Final = 257
+LENGTHS: Final = [c_size_t.from_param(length) for length in range(SHORT)]
+
+
+def ready(shop: tuple[bytes, int, int, int]) -> tuple[Any, ...]:
+    """The times, their number, the jobs and the machines of an instance, for a function without types."""
+    times, *sizes = shop
+    return c_void_p.from_param(times), *(c_size_t.from_param(size) for size in sizes)
 
 
 def message(number: int) -> str:

@@ -83,6 +83,54 @@ class Schedule:
             for machine, (start, end) in enumerate(zip(starts, ends)):
                 yield job, machine, start, end
 
+    def critical_path(self) -> list[tuple[int, int]]:
+        """Operations that follow each other without a wait, from time 0 to the makespan: their times add up to it.
+
+        Returns
+        -------
+        list of (int, int)
+            The place in the order and the machine of each, jobs + machines - 1 of them: from one to the next either the
+            place or the machine goes up by 1. Of several paths it is the one whose last steps go along the machine.
+
+        Examples
+        --------
+        >>> import pfs
+        >>> schedule = pfs.Instance([[3, 2], [2, 5], [4, 1]]).schedule([1, 0, 2])
+        >>> schedule.critical_path()
+        [(0, 0), (0, 1), (1, 1), (2, 1)]
+        """
+        place, machine = (size - 1 for size in self.starts.shape)
+        path = [(place, machine)]
+        while place or machine:
+            if place and (not machine or self.ends[place - 1, machine] == self.starts[place, machine]):
+                place -= 1
+            else:
+                machine -= 1
+            path.append((place, machine))
+        return path[::-1]
+
+    def idle(self) -> Order:
+        """How long each machine waits before each operation.
+
+        Returns
+        -------
+        numpy.ndarray
+            Of int64 and of the shape (jobs, machines), in the instance's units: ``idle[place, machine]`` is the time
+            from the end of the operation before it on the machine, or from 0, to its start. ``idle.sum(axis=0)`` is how
+            long each machine waits up to its last operation, and ``makespan - ends[-1]`` how long after it.
+
+        Examples
+        --------
+        >>> import pfs
+        >>> pfs.Instance([[3, 2], [2, 5], [4, 1]]).schedule([1, 0, 2]).idle()
+        array([[0, 2],
+               [0, 0],
+               [0, 0]])
+        """
+        waits = self.starts.copy()
+        waits[1:] -= self.ends[:-1]
+        return waits
+
     def to_frame(self) -> Any:
         """The operations as a table of pandas.
 

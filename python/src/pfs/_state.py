@@ -95,7 +95,7 @@ def locked(path: str) -> int:
 def asked_for(shop: Instance, search: Search) -> dict[str, Any]:
     """What makes this search this one: another has another end."""
     start = "NEH" if search.start is None else hashlib.sha256(search.start).hexdigest()
-    times = hashlib.sha256(repr(shop.times.shape).encode() + shop.times.tobytes()).hexdigest()
+    times = hashlib.sha256(repr(shop.times.shape).encode() + shop._given[0]).hexdigest()
     return {"instance": times, "start": start, "take": search.take, "passes": search.passes, "seed": search.seed}
 
 
