@@ -990,7 +990,7 @@ def fields_of(package: pathlib.Path) -> dict[str, str]:
 FIELDS = {
     "pfs": {"Depends": "libc6 (>= {libc})", "Suggests": "pfs-tools", "Section": "science", "Architecture": "amd64"},
     "pfs-tools": {"Depends": "pfs (= {version}-1), python3 (>= 3.11)", "Recommends": "parallel, python3-matplotlib",
-                  "Suggests": "openssh-client, python3-scipy, rsync, slurm-client", "Section": "science",
+                  "Suggests": "libpfs0, openssh-client, python3-scipy, rsync, slurm-client", "Section": "science",
                   "Architecture": "all", "Source": "pfs"}}
 
 
