@@ -90,7 +90,7 @@ LIBRARIES = ["pfs_base", "pfs_layout", "pfs_order", "pfs_audit", "pfs_insert", "
 def promised(crate: pathlib.Path) -> set[str]:
     """The laws of a crate, and the functions that it exports."""
     sources = {path: path.read_text() for path in (crate / "src").rglob("*.rt")}
-    lists = re.findall(r"^pub use (?!pfs_)[\w:]*(?:::)(\{[^}]*\}|\w+);", sources[crate / "src" / "lib.rt"], re.MULTILINE)
+    lists = re.findall(r"^pub use (?!pfs_)[\w:]*::(\{[^}]*\}|\w+);", sources[crate / "src" / "lib.rt"], re.MULTILINE)
     exported = {name for names in lists for name in re.findall(r"\b[a-z]\w*", names)}
     calls = {name for text in sources.values() for name in re.findall(r'^pub extern "C" fn (\w+)', text, re.MULTILINE)}
     laws = re.findall(r"^pub fn (\w+)", sources.get(crate / "src" / "laws.rt", ""), re.MULTILINE)
