@@ -1,5 +1,5 @@
-"""share/facts.toml has each limit, option and fault once: the marked blocks of the pages are what tools/facts writes,
-and the limits and options are those of the crates."""
+"""share/facts.toml has each limit, option and fault once: the marked blocks of the pages and the ranges in completions
+are what tools/facts writes, and the limits and options are those of the crates."""
 import pathlib
 import re
 import shutil
@@ -9,6 +9,7 @@ from support.facts import FACTS, LIMITS, RANGES
 from support.tools import Told, printed_by, told_by
 
 PAGES = ["docs/COMMANDS.md", "docs/FORMATS.md", "share/pfs.1"]
+COMPLETIONS = ["share/completions/_pfs", "share/completions/pfs.fish"]
 # Options whose range isn't that of a limit.
 CONSTANTS = {"--rounds": "MOST_ROUNDS", "--passes": "MOST_PASSES", "--take": "MOST_JOBS", "--block": "MOST_BLOCKS"}
 BLOCK = re.compile(r'(?:<!--|\.\\") facts: ')
@@ -27,8 +28,8 @@ def test_each_page_with_a_block_is_written(top: pathlib.Path) -> None:
 @pytest.fixture
 def copy(top: pathlib.Path, folder: pathlib.Path) -> pathlib.Path:
     """A folder with what tools/facts reads and writes."""
-    for name in ["tools/facts", "share/facts.toml", *PAGES]:
-        (folder / name).parent.mkdir(exist_ok=True)
+    for name in ["tools/facts", "share/facts.toml", *PAGES, *COMPLETIONS]:
+        (folder / name).parent.mkdir(parents=True, exist_ok=True)
         shutil.copy(top / name, folder / name)
     return folder
 
@@ -39,8 +40,12 @@ def copy(top: pathlib.Path, folder: pathlib.Path) -> pathlib.Path:
     ("docs/FORMATS.md", "byte 67,108,865 comes", "byte 67,108,864 comes"),
     ("share/pfs.1", "\nThe default is 4, or", "\nThe default is 5, or"),
     ("share/pfs.1", "\nMemory allocation failed.\n", "\nMemory failed.\n"),
+    ("share/completions/_pfs", "greedy, 0 to 1,000,000]", "greedy, 1 to 1,000]"),
+    ("share/completions/_pfs", "read, 1 to 1,000]", "read, 1 to 2,000]"),
+    ("share/completions/pfs.fish", "read, 1 to 1,000'", "read, 1 to 2,000'"),
+    ("share/completions/pfs.fish", "makes, 0 to 100'", "makes, 0 to 101'"),
 ])
-def test_a_block_that_is_out_of_date_is_found_and_written(copy: pathlib.Path, page: str, old: str, new: str) -> None:
+def test_what_is_out_of_date_is_found_and_written(copy: pathlib.Path, page: str, old: str, new: str) -> None:
     before = (copy / page).read_text()
     assert before.count(old) == 1
     (copy / page).write_text(before.replace(old, new))
