@@ -98,3 +98,8 @@ def test_a_limit_is_the_same(top: pathlib.Path, limits: dict[str, int], place: s
     for pattern, name in PLACES[place].items():
         written = re.findall(pattern, text, re.MULTILINE)
         assert [number(numeral) for numeral in written] == [limits[name]], f"{name} in {place}"
+
+
+def test_the_checklist_for_a_limit_names_each_place(top: pathlib.Path) -> None:
+    text = (top / "docs" / "maintain" / "CHANGES.md").read_text().partition("\n## A limit\n")[2].partition("\n## ")[0]
+    assert [place for place in PLACES if f"{pathlib.Path(place).name}`" not in text] == []
