@@ -56,6 +56,17 @@ def test_what_is_out_of_date_is_found_and_written(copy: pathlib.Path, page: str,
     assert (copy / page).read_text() == before
 
 
+@pytest.mark.parametrize(("old", "new", "fault"), [
+    ("<!-- end of facts -->\n\nOptions may", "\nOptions may", "a block has no end"),
+    ("<!-- facts: limits -->", "<!-- facts: limit -->", "there is no block named limit"),
+])
+def test_a_wrong_block_is_reported(copy: pathlib.Path, old: str, new: str, fault: str) -> None:
+    page = copy / "docs" / "COMMANDS.md"
+    assert page.read_text().count(old) == 1
+    page.write_text(page.read_text().replace(old, new))
+    assert told_by([copy / "tools" / "facts"], copy) == Told(1, "", f"facts: docs/COMMANDS.md: {fault}\n")
+
+
 def test_other_words_get_the_usage(top: pathlib.Path) -> None:
     assert told_by([top / "tools" / "facts", "--help"], top) == Told(2, "", "usage: tools/facts [--check]\n")
 
