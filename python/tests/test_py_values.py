@@ -198,7 +198,8 @@ INSTANCES: dict[str, tuple[Any, Any]] = {
     "job_names": (("table", "chair"), ("table", "box")), "machine_names": (("saw", "drill"), ("saw", "paint")),
     "decimals": (2, 3), "seed": (7, 8), "upper": (19, 20), "lower": (11, 12)}
 SOLUTIONS: dict[str, tuple[Any, Any]] = {
-    "order": ([1, 0], [0, 1]), "makespan": (9, 10), "cells": (16, 17), "machines": (2, 3), "rounds": (5, 6)}
+    "order": ([1, 0], [0, 1]), "makespan": (9, 10), "cells": (16, 17), "machines": (2, 3), "rounds": (5, 6),
+    "seed": (7, 8)}
 COMPARED = {pfs.Instance: INSTANCES, pfs.Solution: SOLUTIONS}
 CASES = [(kind, name) for kind, values in COMPARED.items() for name in values]
 
@@ -244,6 +245,13 @@ def test_a_copy_has_each_attribute(kind: type[Any], how: str) -> None:
     assert fields_of(other) == fields_of(one), f"an attribute is lost where one is {how}"
     assert other == one and hash(other) == hash(one) and type(other) is kind
     assert one != 1 and one != fields_of(one)
+
+
+@pytest.mark.parametrize("how", COPIES)
+def test_a_copy_of_a_solution_has_its_history(how: str) -> None:
+    found = pfs.taillard(1).solve(200, history=True)
+    assert COPIES[how](found).history == found.history != ()
+    assert found == pfs.taillard(1).solve(200), "the history is compared"
 
 
 @pytest.mark.parametrize("how", [how for how in COPIES if how[-1] not in "01"])
