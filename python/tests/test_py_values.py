@@ -294,3 +294,45 @@ def test_an_instance_of_a_frame() -> None:
     frame = pandas.DataFrame({"saw": [3, 2], "drill": [2, 5]})
     assert pfs.Instance(frame).times.tolist() == [[3, 2], [2, 5]]
     assert pfs.Instance(frame).makespan(pandas.Series([1, 0])) == plainly.makespan([[3, 2], [2, 5]], [1, 0])
+
+
+def test_a_frame_keeps_its_names() -> None:
+    pandas = pytest.importorskip("pandas")
+    frame = pandas.DataFrame([[3, 2], [2, 5]], index=["table", 7], columns=["saw", "drill"])
+    for shop in (pfs.Instance(frame), pfs.from_frame(frame)):
+        assert (shop.job_names, shop.machine_names) == (("table", "7"), ("saw", "drill"))
+    assert pfs.Instance(frame, job_names=["a", "b"]).job_names == ("a", "b")
+    plain = pfs.Instance(pandas.DataFrame([[3, 2], [2, 5]]))
+    assert (plain.job_names, plain.machine_names) == (None, None)
+    assert pfs.Instance(frame.iloc[::-1].T).job_names == ("saw", "drill")
+    with pytest.raises(ValueError, match="job_names: 'a' stands there twice"):
+        pfs.Instance(pandas.DataFrame([[1], [2]], index=["a", "a"]))
+
+
+@pytest.mark.parametrize(("times", "decimals", "due"), [
+    ([[2.5, 3]], 1, [[25, 30]]), ([[0.1, 0.2, 0.3, 0.7]], 1, [[1, 2, 3, 7]]), ([[1.005, 4.35]], 3, [[1005, 4350]]),
+    ([[999_999.999]], 3, [[999_999_999]]), ([[3, 2]], 2, [[300, 200]]), ([[3.0, 2.0]], 0, [[3, 2]])])
+def test_a_frame_of_decimal_times(times: Any, decimals: int, due: list[list[int]]) -> None:
+    pandas = pytest.importorskip("pandas")
+    shop = pfs.from_frame(pandas.DataFrame(times), decimals=decimals, unit="h")
+    assert (shop.times.tolist(), shop.decimals, shop.unit) == (due, decimals, "h")
+
+
+@pytest.mark.parametrize(("times", "decimals", "kind", "why"), [
+    ([[2.55]], 1, ValueError, "times: 25.5 at job 0, machine 0 isn't a whole number"),
+    ([[2.5]], 0, ValueError, "times: 2.5 at job 0"), ([[1.0, float("nan")]], 1, ValueError, "times: nan at job 0"),
+    ([[float("inf")]], 2, ValueError, "times: inf at job 0"), ([[-0.5]], 1, ValueError, "times: -5.0 at job 0"),
+    ([[1_000_000_001]], 0, ValueError, "isn't 0 to 1,000,000,000"), ([[1e9]], 1, ValueError, "isn't 0 to"),
+    ([["x"]], 1, TypeError, "times: x at job 0, machine 0 isn't a whole number"), ([[True]], 1, TypeError, "bool"),
+    ([[1]], 10, ValueError, "decimals is 10"), ([[1]], True, TypeError, "decimals should be")])
+def test_frames_that_are_rejected(times: Any, decimals: Any, kind: type[Exception], why: str) -> None:
+    pandas = pytest.importorskip("pandas")
+    with pytest.raises(kind, match=why):
+        pfs.from_frame(pandas.DataFrame(times), decimals=decimals)
+
+
+def test_only_frames_are_frames() -> None:
+    others: list[Any] = [[[1]], np.ones((1, 1)), None]
+    for other in others:
+        with pytest.raises(TypeError, match="frame should be a DataFrame of pandas, not of the kind"):
+            pfs.from_frame(other)

@@ -14,7 +14,7 @@ from pfs import _search
 from pfs._faults import Interrupted
 from pfs._given import TRUTHS, Jobs, Order, layout_of, order_of, packed, refused_jobs, times_of, whole
 from pfs._library import LENGTHS, SHORT, library
-from pfs._names import names_of
+from pfs._names import frame_names, is_frame, names_of
 from pfs._schedule import Schedule
 from pfs._search import Progress, Search, Stop
 from pfs._solution import Solution, order_given
@@ -57,7 +57,7 @@ class Instance:
     name : str
         What it is called.
     job_names, machine_names : list of str, optional
-        Names for schedules and charts.
+        Names for schedules and charts. A frame of pandas has them as its index and columns, unless these count from 0.
     unit : str
         The unit of the times, such as ``"min"``.
     decimals : int
@@ -98,6 +98,9 @@ class Instance:
                  machine_names: Iterable[str] | None = None, unit: str = "", decimals: int = 0, seed: int = 0,
                  upper: int = 0, lower: int = 0) -> None:
         own = times_of(times)
+        if is_frame(times):
+            job_names = frame_names(times, "index") if job_names is None else job_names
+            machine_names = frame_names(times, "columns") if machine_names is None else machine_names
         # Nobody can write to `bytes`.
         text = own.tobytes()
         self._times: Order = np.frombuffer(own.astype(np.int64).tobytes(), dtype=np.int64).reshape(own.shape)
