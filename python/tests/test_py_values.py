@@ -49,6 +49,33 @@ def test_bound(times: plainly.Table) -> None:
     assert pfs.Instance(times).bound() == plainly.bound(times)
 
 
+@given(plainly.shops(5, 5))
+def test_the_bound_of_pairs_of_machines(times: plainly.Table) -> None:
+    """It is the definition's, with the best order of each pair by trying all; and no order is shorter."""
+    shop, machines = pfs.Instance(times), range(len(times[0]))
+    pairs = [plainly.two_machine_bound(times, one, other) for one, other in itertools.combinations(machines, 2)]
+    assert shop.bound("pairs") == max([plainly.bound(times), *pairs]) <= plainly.shortest(times)
+    assert shop.bound("machines") == shop.bound()
+
+
+@given(plainly.shops(6, 2))
+def test_on_two_machines_the_bound_of_pairs_is_the_shortest_makespan(times: plainly.Table) -> None:
+    assert pfs.Instance(times).bound("pairs") == plainly.shortest(times)
+
+
+def test_the_bound_of_pairs_is_below_the_published_makespans() -> None:
+    bounds = [(shop.bound(), shop.bound("pairs"), shop.upper) for shop in map(pfs.taillard, range(1, 121, 7))]
+    assert all(one <= other <= upper for one, other, upper in bounds)
+    assert sum(one < other for one, other, _ in bounds) > 3
+
+
+@pytest.mark.parametrize(("method", "kind"), [("johnson", ValueError), ("", ValueError), (None, TypeError),
+                                              (b"pairs", TypeError), (True, TypeError)])
+def test_methods_of_bounds_that_are_rejected(method: Any, kind: type[Exception]) -> None:
+    with pytest.raises(kind, match="method (is|should be) .*'machines' or 'pairs'"):
+        pfs.Instance([[1]]).bound(method)
+
+
 @pytest.mark.quick
 @given(plainly.shops())
 def test_neh(times: plainly.Table) -> None:

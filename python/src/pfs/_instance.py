@@ -11,6 +11,7 @@ import numpy.typing as npt
 
 from pfs import _library as c
 from pfs import _search
+from pfs._bounds import bound_by_pairs
 from pfs._faults import Interrupted
 from pfs._given import TRUTHS, Jobs, Order, layout_of, order_of, packed, refused_jobs, times_of, whole
 from pfs._library import LENGTHS, SHORT, library
@@ -182,18 +183,43 @@ class Instance:
         _free.append(found)
         return makespan
 
-    def bound(self) -> int:
-        """A length of time below which no order's makespan goes (Taillard 1993).
+    def bound(self, method: str = "machines") -> int:
+        """A length of time below which no order's makespan goes.
+
+        Parameters
+        ----------
+        method : str
+            ``"machines"``: the greatest over the jobs of their totals, and over the machines of their loads with the
+            least times before and after them (Taillard 1993). The library computes it, and it is proved.
+
+            ``"pairs"``: the greatest of that one and of those of two machines each, by Johnson's order with lags
+            (Johnson 1954, Mitten 1959; Lageweg, Lenstra and Rinnooy Kan 1978). It is computed in Python, and is
+            **not proved**, but tested against all orders of small shops. It takes a thousandth of a second for 20 jobs
+            on 5 machines, and minutes for 5,000 jobs on 200.
 
         Returns
         -------
         int
-            The greatest over the jobs of their totals, and over the machines of their loads with the least times
-            before and after them.
+
+        Raises
+        ------
+        TypeError, ValueError
+            The method isn't a text, or is another one.
+
+        Examples
+        --------
+        >>> import pfs
+        >>> shop = pfs.taillard(51)
+        >>> shop.bound(), shop.bound("pairs")
+        (3480, 3527)
         """
+        if not isinstance(method, str):
+            raise TypeError(f"method should be 'machines' or 'pairs', not {method!r}")
+        if method not in ("machines", "pairs"):
+            raise ValueError(f"method is {method!r}, and should be 'machines' or 'pairs'")
         bound = c_uint64()
         c.done(library.pfs_bound(*self._given, byref(bound)))
-        return bound.value
+        return max(bound.value, bound_by_pairs(self._times)) if method == "pairs" else bound.value
 
     def rpd(self, makespan: int | Solution, reference: int | None = None) -> float:
         """The relative percentage deviation of a makespan: by how many percent it is above a reference.
