@@ -45,7 +45,7 @@ def pytest_configure(config: pytest.Config) -> None:
 
 def pytest_assertrepr_compare(op: str, left: object, right: object) -> list[str] | None:
     """What differs of two solutions or instances, whose texts leave most of it out."""
-    names = {"Solution": ["order", "makespan", "cells", "machines", "rounds"],
+    names = {"Solution": ["order", "makespan", "cells", "machines", "rounds", "seed"],
              "Instance": ["times", "name", "job_names", "machine_names", "unit", "decimals", "seed", "upper", "lower"]}
     kind = type(left).__name__
     if op != "==" or type(left) is not type(right) or kind not in names:

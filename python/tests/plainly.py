@@ -77,6 +77,19 @@ def bound(times: Table) -> int:
     return max([sum(row) for row in times] + loads)
 
 
+def two_machine_bound(times: Table, one: int, other: int) -> int:
+    """The least makespan of two machines over all orders, where a job takes its times between them as a lag and all
+    others may be on the machines between at once; with the least times before and after the two."""
+    spans = []
+    for order in itertools.permutations(times):
+        first = last = 0
+        for row in order:
+            first += row[one]
+            last = max(last, first + sum(row[one + 1:other])) + row[other]
+        spans.append(last)
+    return min(sum(row[:one]) for row in times) + min(spans) + min(sum(row[other + 1:]) for row in times)
+
+
 def best_place(times: Table, sequence: list[int], job: int) -> tuple[int, int]:
     """The first place that gives the least makespan, and that makespan."""
     spans = [makespan(times, [*sequence[:at], job, *sequence[at:]]) for at in range(len(sequence) + 1)]

@@ -144,6 +144,44 @@ def test_blocks(tmp_path: pathlib.Path) -> None:
     assert (fault.value.name, fault.value.place, fault.value.text) == ("no block", 2, "pfs: no block, found 2")
 
 
+def test_blocks_have_the_names_of_their_titles() -> None:
+    """As in OR-Library's flowshop1. A name that is only a number, and a title of an earlier block, don't count."""
+    file = io.BytesIO(b"+++\n instance car1\n+++\n Carlier 1x1 instance\n 1 1\n 0 7\n+++\n"
+                      b"Instance x\nINSTANCE reC05 \r\nby instance z2 of\n1 1\n0 3\ninstance 7\n1 1\n0 5\n1 1\n0 9\n")
+    file.name = "dir/flowshop1"
+    shops = pfs.read_all(file, "orlib")
+    assert [shop.name for shop in shops] == ["car1", "reC05", "flowshop1 3", "flowshop1 4"]
+    assert [int(shop.times[0, 0]) for shop in shops] == [7, 3, 5, 9]
+
+
+@pytest.mark.parametrize(("text", "first", "due"), [
+    ("2, 1, 3", 1, [1, 0, 2]), ("1 0 2", 0, [1, 0, 2]), ("[2;1;3]", 1, [1, 0, 2]), ("(2,1 , 3,)\n", 1, [1, 0, 2]),
+    ("  {01\t02\n3}  ", 1, [0, 1, 2]), ("0", 0, [0]), ("1", 1, [0])])
+def test_orders_of_papers(text: str, first: int, due: list[int]) -> None:
+    order = pfs.parse_order(text, first=first)
+    assert order.tolist() == due and order.dtype == "int64"
+
+
+@pytest.mark.parametrize(("text", "first", "kind", "why"), [
+    ("", 0, ValueError, "'' isn't a list of whole numbers"), ("1,,2", 1, ValueError, "isn't a list of whole numbers"),
+    ("1, -2", 1, ValueError, "isn't a list"), ("1.5", 1, ValueError, "isn't a list"),
+    ("j1 j2", 1, ValueError, "isn't a list"), ("\u0661", 1, ValueError, "isn't a list"),
+    ("2 1 3", 0, ValueError, "3 at place 2 isn't a job: the 3 jobs are 0 to 2"),
+    ("0 1", 1, ValueError, "0 at place 0 isn't a job: the 2 jobs are 1 to 2"),
+    ("2 1 2", 1, ValueError, "job 2 stands at place 0 and again at place 2"),
+    ("1 " + "9" * 5000, 1, ValueError, "9{20} at place 1 isn't a job"), ("0 " * 5001, 0, ValueError, "5,001 jobs"),
+    (b"1 2", 1, TypeError, "text should be a str"), ([1, 2], 1, TypeError, "text should be a str"),
+    ("1 2", 2, ValueError, "first is 2, and should be 0 to 1"), ("1 2", True, TypeError, "first should be")])
+def test_orders_of_papers_that_are_rejected(text: Any, first: Any, kind: type[Exception], why: str) -> None:
+    with pytest.raises(kind, match=why):
+        pfs.parse_order(text, first)
+
+
+@given(st.permutations(range(7)), st.sampled_from([" ", ",", ", ", ";", "\n", "\t"]), st.integers(0, 1))
+def test_any_order_is_read_back(order: list[int], between: str, first: int) -> None:
+    assert pfs.parse_order(between.join(str(job + first) for job in order), first).tolist() == order
+
+
 def test_read_all_reads_to_the_end() -> None:
     with pytest.raises(pfs.FileFault, match="truncated after 0 times"):
         pfs.read_all(io.BytesIO((TWO_BLOCKS + "1 1\n").encode()), "orlib")

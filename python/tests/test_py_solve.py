@@ -524,7 +524,142 @@ def test_a_call_frees_the_lock() -> None:
     ({"time_limit": -10**400}, ValueError, "time_limit is -inf, and should be 0 or more seconds"),
     ({"time_limit": "1"}, TypeError, "time_limit should be seconds, not '1'"),
     ({"progress": 3}, TypeError, "progress should be called"),
+    ({"target": -1}, ValueError, "target is -1, and should be 0 to"),
+    ({"target": 1278.0}, TypeError, "target should be a whole number, not 1278.0"),
+    ({"target": True}, TypeError, "target should be a whole number, not True"),
+    ({"stop": True}, TypeError, "stop should be an event with `is_set`, as threading.Event has it, not True"),
+    ({"history": 1}, TypeError, "history should be True or False, not 1"),
+    ({"start": pfs.Solution(range(20), 7, machines=4)}, ValueError,
+     "start is an order for 4 machines, and the instance has 5"),
 ])
 def test_options_that_are_refused(words: dict[str, Any], kind: type[Exception], why: str) -> None:
     with pytest.raises(kind, match=why):
         pfs.taillard(1).solve(**words)
+
+
+# Ends before the rounds are made, improvements, and seeds that follow each other
+
+@given(times=plainly.shops(), counts=st.lists(st.integers(1, 20), min_size=1, max_size=3), seed=st.integers(0, 9),
+       chance=st.randoms(use_true_random=False))
+def test_a_search_ends_with_the_first_round_that_comes_to_the_target(
+        cut: Callable[[list[int]], None], times: plainly.Table, counts: list[int], seed: int, chance: Any) -> None:
+    """Whatever the parts are, and with the order that so many rounds end with."""
+    shop = pfs.Instance(times)
+    start = chance.sample(range(shop.jobs), shop.jobs)
+    cut([1])
+    spans = [shop.solve(count, take=1, seed=seed, start=start).makespan for count in range(31)]
+    cut(counts)
+    for target in {*spans, spans[-1] - 1, spans[0] + 1} - {-1}:
+        due = next((count for count, span in enumerate(spans) if span <= target), 30)
+        for history in (False, True):
+            found = shop.solve(30, take=1, seed=seed, start=start, target=target, history=history)
+            assert found == shop.solve(due, take=1, seed=seed, start=start), f"target {target} of {spans}"
+    lines = shop.solve(30, take=1, seed=seed, start=start, history=True).history
+    due_lines = [(count, span) for count, span in enumerate(spans) if count == 0 or span < spans[count - 1]]
+    assert [(line.round, line.makespan) for line in lines] == due_lines
+    seconds = [line.seconds for line in lines]
+    assert seconds == sorted(seconds) and seconds[0] >= 0
+
+
+def test_the_history_counts_rounds_from_the_first_and_is_kept(cut: Callable[[list[int]], None]) -> None:
+    cut([7])
+    shop = pfs.taillard(11)
+    whole = shop.solve(100, start=range(20), history=True).history
+    assert len(whole) > 5
+    half = shop.solve(50, start=range(20), history=True)
+    rest = shop.solve(50, start=half, first=50, history=True).history
+    assert rest[0][::2] == (50, half.makespan)
+    assert [line[::2] for line in half.history + rest[1:]] == [line[::2] for line in whole]
+    assert shop.solve(100, start=range(20)).history == ()
+
+    def interrupt(made: int, makespan: int) -> None:
+        if made == 49:
+            raise KeyboardInterrupt
+
+    with pytest.raises(pfs.Interrupted) as stop:
+        shop.solve(100, start=range(20), history=True, progress=interrupt)
+    assert [line[::2] for line in stop.value.solution.history] == [line[::2] for line in whole if line.round <= 49]
+
+
+def test_a_search_by_time_ends_at_the_bound() -> None:
+    """And one by rounds doesn't: its order is the one that so many rounds end with."""
+    shop = pfs.generate(40, 2, 3)
+    assert shop.solve(300).makespan == shop.bound()
+    begun = time.monotonic()
+    found = shop.solve(time_limit=60)
+    assert time.monotonic() - begun < 30 and found.makespan == shop.bound() and found.rounds < 300
+    assert shop.solve(300).rounds == 300 and shop.solve(300, time_limit=60).rounds == 300
+    assert shop.solve(time_limit=0.2, target=0).rounds > found.rounds, "a target of 0 ends no search early"
+
+
+def test_progress_that_returns_true_ends_the_search(cut: Callable[[list[int]], None]) -> None:
+    cut([10])
+    shop = pfs.taillard(1)
+    enough: list[Any] = [True, np.True_]
+    for value in enough:
+        assert shop.solve(50, progress=lambda made, makespan: made == 20 and value) == shop.solve(20)
+    others: list[Any] = [1, "yes", False, np.False_, None, [0]]
+    for value in others:
+        assert shop.solve(50, progress=lambda made, makespan: value).rounds == 50, f"{value!r} ends the search"
+
+    class Shown(Closing):
+        def update(self, n: int = 1) -> Any:
+            super().update(n)
+            return True
+
+    assert shop.solve(50, progress=Shown).rounds == 50, "a bar that says that it was shown ends the search"
+
+
+def test_an_event_ends_the_search(cut: Callable[[list[int]], None]) -> None:
+    cut([10])
+    shop = pfs.taillard(1)
+    stop = threading.Event()
+
+    def set_at(made: int, makespan: int) -> None:
+        if made == 30:
+            stop.set()
+
+    assert shop.solve(50, progress=set_at, stop=stop) == shop.solve(30)
+    assert shop.solve(50, stop=stop) == shop.neh()
+    assert shop.solve(50, stop=threading.Event()) == shop.solve(50)
+
+
+def test_an_event_of_another_thread_ends_searches_soon() -> None:
+    stop = threading.Event()
+    timer = threading.Timer(0.3, stop.set)
+    timer.start()
+    begun = time.monotonic()
+    found = pfs.generate(100, 20, 5).solve(1_000_000, stop=stop)
+    assert time.monotonic() - begun < 10 and 0 < found.rounds < 1_000_000
+    timer.join()
+
+
+def test_a_search_by_time_continues_with_the_next_seed(monkeypatch: pytest.MonkeyPatch) -> None:
+    """After round 1,000,000 with round 0 of the next seed, from the order that it has come to."""
+    shop = pfs.generate(6, 3, 1)
+    Clock(1 / 1024).patch(monkeypatch)
+    told: list[int] = []
+    words: dict[str, Any] = {"start": range(6), "take": 2, "target": 0, "history": True}
+    found = shop.solve(time_limit=300 / 1024, first=999_900, seed=2**64 - 1, progress=lambda made, _: told.append(made),
+                       **words)
+    assert (found.seed, found.rounds) == (0, told[-1] - 100) and told == sorted(set(told)) and told[-1] > 250
+    before = shop.solve(100, first=999_900, seed=2**64 - 1, start=range(6), take=2)
+    assert (before.seed, before.rounds) == (2**64 - 1, 1_000_000)
+    after = shop.solve(told[-1] - 100, start=before, seed=0, take=2)
+    assert (found.order.tolist(), found.cells) == (after.order.tolist(), before.cells + after.cells)
+    assert found.history[0].round == 999_900
+    # A number of rounds doesn't go beyond the last one of its seed.
+    with pytest.raises(ValueError, match="rounds is 101, and should be 0 to 100"):
+        shop.solve(101, first=999_900, start=range(6), time_limit=1)
+
+
+def test_a_solution_of_another_instance_is_rejected() -> None:
+    one, other = pfs.taillard(41), pfs.taillard(51)
+    best = one.neh()
+    calls: dict[str, Callable[[], object]] = {
+        "start": lambda: other.solve(1, start=best), "order": lambda: other.schedule(best)}
+    for what, call in calls.items():
+        with pytest.raises(ValueError, match=f"^{what} is an order for 10 machines, and the instance has 20$"):
+            call()
+    assert other.solve(0, start=best.order).order.tolist() == best.order.tolist()
+    assert other.solve(0, start=pfs.Solution(best.order, 1)).order.tolist() == best.order.tolist()

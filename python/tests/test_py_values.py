@@ -49,6 +49,33 @@ def test_bound(times: plainly.Table) -> None:
     assert pfs.Instance(times).bound() == plainly.bound(times)
 
 
+@given(plainly.shops(5, 5))
+def test_the_bound_of_pairs_of_machines(times: plainly.Table) -> None:
+    """It is the definition's, with the best order of each pair by trying all; and no order is shorter."""
+    shop, machines = pfs.Instance(times), range(len(times[0]))
+    pairs = [plainly.two_machine_bound(times, one, other) for one, other in itertools.combinations(machines, 2)]
+    assert shop.bound("pairs") == max([plainly.bound(times), *pairs]) <= plainly.shortest(times)
+    assert shop.bound("machines") == shop.bound()
+
+
+@given(plainly.shops(6, 2))
+def test_on_two_machines_the_bound_of_pairs_is_the_shortest_makespan(times: plainly.Table) -> None:
+    assert pfs.Instance(times).bound("pairs") == plainly.shortest(times)
+
+
+def test_the_bound_of_pairs_is_below_the_published_makespans() -> None:
+    bounds = [(shop.bound(), shop.bound("pairs"), shop.upper) for shop in map(pfs.taillard, range(1, 121, 7))]
+    assert all(one <= other <= upper for one, other, upper in bounds)
+    assert sum(one < other for one, other, _ in bounds) > 3
+
+
+@pytest.mark.parametrize(("method", "kind"), [("johnson", ValueError), ("", ValueError), (None, TypeError),
+                                              (b"pairs", TypeError), (True, TypeError)])
+def test_methods_of_bounds_that_are_rejected(method: Any, kind: type[Exception]) -> None:
+    with pytest.raises(kind, match="method (is|should be) .*'machines' or 'pairs'"):
+        pfs.Instance([[1]]).bound(method)
+
+
 @pytest.mark.quick
 @given(plainly.shops())
 def test_neh(times: plainly.Table) -> None:
@@ -199,7 +226,8 @@ INSTANCES: dict[str, tuple[Any, Any]] = {
     "job_names": (("table", "chair"), ("table", "box")), "machine_names": (("saw", "drill"), ("saw", "paint")),
     "decimals": (2, 3), "seed": (7, 8), "upper": (19, 20), "lower": (11, 12)}
 SOLUTIONS: dict[str, tuple[Any, Any]] = {
-    "order": ([1, 0], [0, 1]), "makespan": (9, 10), "cells": (16, 17), "machines": (2, 3), "rounds": (5, 6)}
+    "order": ([1, 0], [0, 1]), "makespan": (9, 10), "cells": (16, 17), "machines": (2, 3), "rounds": (5, 6),
+    "seed": (7, 8)}
 COMPARED = {pfs.Instance: INSTANCES, pfs.Solution: SOLUTIONS}
 CASES = [(kind, name) for kind, values in COMPARED.items() for name in values]
 
@@ -247,6 +275,13 @@ def test_a_copy_has_each_attribute(kind: type[Any], how: str) -> None:
     assert one != 1 and one != fields_of(one)
 
 
+@pytest.mark.parametrize("how", COPIES)
+def test_a_copy_of_a_solution_has_its_history(how: str) -> None:
+    found = pfs.taillard(1).solve(200, history=True)
+    assert COPIES[how](found).history == found.history != ()
+    assert found == pfs.taillard(1).solve(200), "the history is compared"
+
+
 @pytest.mark.parametrize("how", [how for how in COPIES if how[-1] not in "01"])
 def test_a_copy_of_a_schedule_has_each_attribute(how: str) -> None:
     made = made_of(pfs.Instance).schedule([1, 0])
@@ -287,3 +322,45 @@ def test_an_instance_of_a_frame() -> None:
     frame = pandas.DataFrame({"saw": [3, 2], "drill": [2, 5]})
     assert pfs.Instance(frame).times.tolist() == [[3, 2], [2, 5]]
     assert pfs.Instance(frame).makespan(pandas.Series([1, 0])) == plainly.makespan([[3, 2], [2, 5]], [1, 0])
+
+
+def test_a_frame_keeps_its_names() -> None:
+    pandas = pytest.importorskip("pandas")
+    frame = pandas.DataFrame([[3, 2], [2, 5]], index=["table", 7], columns=["saw", "drill"])
+    for shop in (pfs.Instance(frame), pfs.from_frame(frame)):
+        assert (shop.job_names, shop.machine_names) == (("table", "7"), ("saw", "drill"))
+    assert pfs.Instance(frame, job_names=["a", "b"]).job_names == ("a", "b")
+    plain = pfs.Instance(pandas.DataFrame([[3, 2], [2, 5]]))
+    assert (plain.job_names, plain.machine_names) == (None, None)
+    assert pfs.Instance(frame.iloc[::-1].T).job_names == ("saw", "drill")
+    with pytest.raises(ValueError, match="job_names: 'a' stands there twice"):
+        pfs.Instance(pandas.DataFrame([[1], [2]], index=["a", "a"]))
+
+
+@pytest.mark.parametrize(("times", "decimals", "due"), [
+    ([[2.5, 3]], 1, [[25, 30]]), ([[0.1, 0.2, 0.3, 0.7]], 1, [[1, 2, 3, 7]]), ([[1.005, 4.35]], 3, [[1005, 4350]]),
+    ([[999_999.999]], 3, [[999_999_999]]), ([[3, 2]], 2, [[300, 200]]), ([[3.0, 2.0]], 0, [[3, 2]])])
+def test_a_frame_of_decimal_times(times: Any, decimals: int, due: list[list[int]]) -> None:
+    pandas = pytest.importorskip("pandas")
+    shop = pfs.from_frame(pandas.DataFrame(times), decimals=decimals, unit="h")
+    assert (shop.times.tolist(), shop.decimals, shop.unit) == (due, decimals, "h")
+
+
+@pytest.mark.parametrize(("times", "decimals", "kind", "why"), [
+    ([[2.55]], 1, ValueError, "times: 25.5 at job 0, machine 0 isn't a whole number"),
+    ([[2.5]], 0, ValueError, "times: 2.5 at job 0"), ([[1.0, float("nan")]], 1, ValueError, "times: nan at job 0"),
+    ([[float("inf")]], 2, ValueError, "times: inf at job 0"), ([[-0.5]], 1, ValueError, "times: -5.0 at job 0"),
+    ([[1_000_000_001]], 0, ValueError, "isn't 0 to 1,000,000,000"), ([[1e9]], 1, ValueError, "isn't 0 to"),
+    ([["x"]], 1, TypeError, "times: x at job 0, machine 0 isn't a whole number"), ([[True]], 1, TypeError, "bool"),
+    ([[1]], 10, ValueError, "decimals is 10"), ([[1]], True, TypeError, "decimals should be")])
+def test_frames_that_are_rejected(times: Any, decimals: Any, kind: type[Exception], why: str) -> None:
+    pandas = pytest.importorskip("pandas")
+    with pytest.raises(kind, match=why):
+        pfs.from_frame(pandas.DataFrame(times), decimals=decimals)
+
+
+def test_only_frames_are_frames() -> None:
+    others: list[Any] = [[[1]], np.ones((1, 1)), None]
+    for other in others:
+        with pytest.raises(TypeError, match="frame should be a DataFrame of pandas, not of the kind"):
+            pfs.from_frame(other)

@@ -13,15 +13,17 @@ Jobs, machines and places count from 0, as arrays do; in files jobs count from 1
 
 What the functions compute is done by the library ``libpfs``, whose answers are proved for each input.
 """
-from pfs._faults import Fault, FileFault, Interrupted, OrderFault, TableFault
-from pfs._files import generate, read, read_all, read_order, taillard
+from pfs._all import solve_all
+from pfs._faults import Fault, FileFault, Interrupted, InterruptedAll, OrderFault, TableFault
+from pfs._files import from_frame, generate, parse_order, read, read_all, read_order, taillard
 from pfs._instance import Instance, Place
 from pfs._schedule import Schedule
-from pfs._solution import Solution
+from pfs._solution import Improvement, Solution
 from pfs._tables import read_csv
 from pfs._version import VERSION as __version__
 
 __all__ = [
-    "Fault", "FileFault", "Instance", "Interrupted", "OrderFault", "Place", "Schedule", "Solution", "TableFault",
-    "__version__", "generate", "read", "read_all", "read_csv", "read_order", "taillard",
+    "Fault", "FileFault", "Improvement", "Instance", "Interrupted", "InterruptedAll", "OrderFault", "Place", "Schedule",
+    "Solution", "TableFault", "__version__", "from_frame", "generate", "parse_order", "read", "read_all", "read_csv",
+    "read_order", "solve_all", "taillard",
 ]

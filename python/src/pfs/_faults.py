@@ -103,3 +103,21 @@ class Interrupted(KeyboardInterrupt):
 
     def __reduce__(self) -> tuple[type[Interrupted], tuple[Solution]]:
         return type(self), (self.solution,)
+
+
+class InterruptedAll(KeyboardInterrupt):
+    """The searches of :func:`pfs.solve_all` were interrupted. It is a ``KeyboardInterrupt``, and caught as one.
+
+    Attributes
+    ----------
+    found : dict
+        For each place of an instance and seed the best solution so far, where there is one. The same call with
+        ``found=stop.found`` makes the searches that are left.
+    """
+
+    def __init__(self, found: dict[tuple[int, int], Solution]) -> None:
+        super().__init__(f"interrupted after {len(found)} searches")
+        self.found = found
+
+    def __reduce__(self) -> tuple[type[InterruptedAll], tuple[dict[tuple[int, int], Solution]]]:
+        return type(self), (self.found,)

@@ -10,14 +10,15 @@ import os
 import re
 from collections.abc import Callable
 from ctypes import byref, c_char_p, c_size_t, c_uint64, c_void_p, cast
-from typing import IO, TypeAlias
+from typing import IO, Any, TypeAlias
 
 import numpy as np
 
 from pfs import _library as c
 from pfs._faults import INSTANCE_FAULTS, ORDER_FAULTS, FileFault, OrderFault
-from pfs._given import layout_of, whole
+from pfs._given import Order, layout_of, whole
 from pfs._instance import Instance
+from pfs._names import is_frame
 from pfs._solution import Solution
 
 Source: TypeAlias = "str | os.PathLike[str] | IO[bytes]"
@@ -67,6 +68,17 @@ def block_of(text: bytes, path: str, layout: int, block: int, start: int = 0) ->
 NUMBER_LINE = re.compile(rb"^[ \t\r]*[0-9][0-9 \t\r]*$", re.MULTILINE)
 
 
+# The title of a block in OR-Library's files. Its last word is the name, if there is a letter in it.
+TITLE = re.compile(rb"^[ \t]*instance[ \t]+(\S*[a-zA-Z]\S*)[ \t\r]*$", re.MULTILINE | re.IGNORECASE)
+
+
+def title_of(text: bytes, start: int) -> str:
+    """The name in the last title before the size line of the block that begins here; empty where there is none."""
+    size_line = NUMBER_LINE.search(text, start)
+    titles: list[bytes] = TITLE.findall(text, start, size_line.start() if size_line else len(text))
+    return titles[-1].decode("utf-8", "replace") if titles else ""
+
+
 def end_of_block(text: bytes, start: int, numbers: int) -> int:
     """Return where the next block begins: after the line with the last number of this one, which has a size line and
     then as many numbers. The library has read the block, so its lines are as they should be."""
@@ -90,6 +102,7 @@ def blocks_of(text: bytes, path: str, layout: int) -> list[Instance]:
     with contextlib.suppress(FileFault):
         while len(shops) < c.MOST_BLOCKS:
             shop = block_of(text, path, layout, 1, start)
+            shop.name = title_of(text, start) or f"{shop.name} {len(shops) + 1}".strip()
             start = end_of_block(text, start, numbers * shop.times.size)
             if start > c.LONGEST_INPUT:
                 break
@@ -150,7 +163,8 @@ def read_all(source: Source, layout: str) -> list[Instance]:
     Returns
     -------
     list of Instance
-        One at least, and 1,000 at most.
+        One at least, and 1,000 at most. The name of each is the last word of the last line ``instance NAME`` before its
+        size line, as OR-Library's files have it; else the file's name and the number of the block.
 
     Raises
     ------
@@ -173,8 +187,6 @@ def read_all(source: Source, layout: str) -> list[Instance]:
         except FileFault as fault:
             if fault.number != c.NO_BLOCK or not shops:
                 raise
-    for block, shop in enumerate(shops, 1):
-        shop.name = f"{shop.name} {block}".strip()
     return shops
 
 
@@ -211,6 +223,109 @@ def read_order(source: Source) -> Solution:
         raise OrderFault(path, number, place.value)
     c.done(number)
     return Solution(order[:jobs.value], makespan.value, 0, machines.value)
+
+
+# What may stand around and between the numbers of a list.
+LIST = re.compile(r"\s*[\[({]?\s*([0-9]+(?:\s*[,;]\s*[0-9]+|\s+[0-9]+)*)\s*[,;]?\s*[\])}]?\s*\Z", re.ASCII)
+MOST_DIGITS = 20
+
+
+def parse_order(text: str, first: int = 0) -> Order:
+    """Reads an order from a text, such as a line of a paper's table.
+
+    Parameters
+    ----------
+    text : str
+        The jobs, with commas, semicolons or blanks between them, and perhaps in brackets: ``"2, 1, 3"``.
+    first : int
+        The number of the first job there, 0 or 1; a paper's is mostly 1.
+
+    Returns
+    -------
+    numpy.ndarray
+        The jobs, counted from 0, of int64.
+
+    Raises
+    ------
+    TypeError
+        The text isn't a str, or ``first`` isn't a whole number.
+    ValueError
+        The text isn't a list of numbers, or the jobs aren't those from ``first`` on, each once.
+
+    Examples
+    --------
+    >>> import pfs
+    >>> order = pfs.parse_order("2, 1, 3", first=1)
+    >>> order.tolist()
+    [1, 0, 2]
+    >>> pfs.Instance([[3, 2], [2, 5], [4, 1]]).makespan(order)
+    10
+    """
+    if not isinstance(text, str):
+        raise TypeError(f"text should be a str, not {text!r}")
+    first = whole(first, "first", 0, 1)
+    match = LIST.match(text)
+    if not match:
+        raise ValueError(f"{text[:60]!r} isn't a list of whole numbers")
+    words = re.findall("[0-9]+", match[1])
+    if len(words) > c.MOST_JOBS:
+        raise ValueError(f"the list has {len(words):,} jobs: there may be 1 to {c.MOST_JOBS:,}")
+    order: list[int] = []
+    stood: dict[int, int] = {}
+    for place, word in enumerate(words):
+        job = int(word[:MOST_DIGITS]) - first
+        if len(word) > MOST_DIGITS or not 0 <= job < len(words):
+            raise ValueError(f"{word[:MOST_DIGITS]} at place {place} isn't a job: the {len(words)} jobs are {first} to "
+                             f"{len(words) - 1 + first}")
+        if stood.setdefault(job, place) != place:
+            raise ValueError(f"job {word} stands at place {stood[job]} and again at place {place}")
+        order.append(job)
+    return np.array(order, dtype=np.int64)
+
+
+def from_frame(frame: Any, *, unit: str = "", decimals: int = 0) -> Instance:
+    """Makes an instance of a table of pandas.
+
+    Parameters
+    ----------
+    frame : pandas.DataFrame
+        A row for each job and a column for each machine; its index and its columns are the names, unless they count
+        from 0.
+    unit : str
+        The unit of the times, such as ``"min"``.
+    decimals : int
+        0 to 9. The times are 10 to this power times those of the frame, which may have as many decimals: 2.5 with 1
+        decimal is the time 25.
+
+    Returns
+    -------
+    Instance
+
+    Raises
+    ------
+    TypeError
+        It isn't a frame, or has other things than numbers.
+    ValueError
+        A time is missing, has more decimals or is out of its limits, or a name stands there twice.
+
+    Examples
+    --------
+    >>> import pandas, pfs
+    >>> frame = pandas.DataFrame({"saw": [3, 2], "drill": [2.5, 5]}, index=["table", "chair"])
+    >>> shop = pfs.from_frame(frame, unit="h", decimals=1)
+    >>> shop.times.tolist(), shop.job_names, shop.machine_names
+    ([[30, 25], [20, 50]], ('table', 'chair'), ('saw', 'drill'))
+    """
+    if not is_frame(frame):
+        raise TypeError(f"frame should be a DataFrame of pandas, not of the kind {type(frame).__name__}")
+    decimals = whole(decimals, "decimals", 0, 9)
+    if decimals and all(kind.kind in "iuf" for kind in frame.dtypes):
+        scaled = frame.to_numpy(dtype=np.float64) * 10**decimals
+        # A float is next to the decimal that it stands for.
+        with np.errstate(invalid="ignore"):
+            scaled = np.where(np.abs(scaled - np.rint(scaled)) <= 1e-6, np.rint(scaled), scaled)
+        frame = type(frame)(scaled, index=frame.index, columns=frame.columns)
+    return Instance(frame, unit=unit, decimals=decimals)
 
 
 def generate(jobs: int, machines: int, seed: int) -> Instance:

@@ -2,7 +2,9 @@
 from __future__ import annotations
 
 import re
+import sys
 from collections.abc import Iterable
+from typing import Any
 
 # Characters that move the cursor of a terminal, end a line or change its direction, and what is not a character of XML.
 UNSHOWN = re.compile("[\0-\x1f\x7f-\x9f\u2028-\u202e\u2066-\u2069\ud800-\udfff\ufffe\uffff]")
@@ -49,3 +51,15 @@ def names_of(names: Iterable[str] | None, count: int, what: str) -> tuple[str, .
         twice = next(name for name in own if own.count(name) > 1)
         raise ValueError(f"{what}: {twice!r} stands there twice")
     return own
+
+
+def is_frame(given: Any) -> bool:
+    """Whether it is a table of pandas, which isn't imported for it."""
+    pandas = sys.modules.get("pandas")
+    return pandas is not None and isinstance(given, pandas.DataFrame)
+
+
+def frame_names(frame: Any, axis: str) -> list[str] | None:
+    """The names of the rows (`index`) or of the columns of a frame, as texts; None where they only count from 0."""
+    labels = getattr(frame, axis).tolist()
+    return None if labels == list(range(len(labels))) else [str(label) for label in labels]

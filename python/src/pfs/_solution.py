@@ -3,7 +3,7 @@ from __future__ import annotations
 
 import os
 from ctypes import byref, c_size_t, create_string_buffer
-from typing import Any
+from typing import TYPE_CHECKING, Any, NamedTuple
 
 import numpy as np
 import numpy.typing as npt
@@ -11,6 +11,17 @@ import numpy.typing as npt
 from pfs import _library as c
 from pfs._given import Order, jobs_of, refused_jobs, whole
 from pfs._whole import write_whole
+
+if TYPE_CHECKING:
+    from pfs._instance import Instance
+
+
+class Improvement(NamedTuple):
+    """A makespan that a search has come to: after how many rounds and seconds."""
+
+    round: int
+    seconds: float
+    makespan: int
 
 
 class Solution:
@@ -27,8 +38,13 @@ class Solution:
     machines : int
         How many machines the instance has; 0 where it isn't known (order files of version 1).
     rounds : int
-        The round that is next in the search that it comes from: a search goes on by
-        ``solve(.., start=solution.order, first=solution.rounds)``.
+        The round that is next in the search that it comes from: a search continues by
+        ``solve(.., start=solution, first=solution.rounds, seed=solution.seed)``.
+    seed : int
+        The seed of that round. A search that ends by time has the next seed after 1,000,000 rounds.
+    history : tuple of (int, float, int)
+        The round, the seconds and the makespan of each improvement, in the search's order, where ``solve`` was called
+        with ``history=True``; else empty. It isn't compared.
 
     Examples
     --------
@@ -42,9 +58,10 @@ class Solution:
     makespan 10
     """
 
-    __slots__ = ("order", "makespan", "cells", "machines", "rounds")
+    __slots__ = ("order", "makespan", "cells", "machines", "rounds", "seed", "history")
 
-    def __init__(self, order: npt.ArrayLike, makespan: int, cells: int = 0, machines: int = 0, rounds: int = 0) -> None:
+    def __init__(self, order: npt.ArrayLike, makespan: int, cells: int = 0, machines: int = 0, rounds: int = 0,
+                 seed: int = 0) -> None:
         own = jobs_of(order, "order").astype(np.int64)
         own.setflags(write=False)
         self.order: Order = own
@@ -52,14 +69,16 @@ class Solution:
         self.cells = whole(cells, "cells", 0, 2**64 - 1)
         self.machines = whole(machines, "machines", 0, c.MOST_MACHINES)
         self.rounds = whole(rounds, "rounds", 0, c.MOST_ROUNDS)
+        self.seed = whole(seed, "seed", 0, c.MOST_SEED)
+        self.history: tuple[Improvement, ...] = ()
 
     def __repr__(self) -> str:
         jobs = self.order.tolist()
         shown = ", ".join(map(str, jobs if len(jobs) <= 20 else [*jobs[:8], "...", *jobs[-8:]]))
         return f"Solution(order=[{shown}], makespan={self.makespan})"
 
-    def _fields(self) -> tuple[list[int], int, int, int, int]:
-        return self.order.tolist(), self.makespan, self.cells, self.machines, self.rounds
+    def _fields(self) -> tuple[list[int], int, int, int, int, int]:
+        return self.order.tolist(), self.makespan, self.cells, self.machines, self.rounds, self.seed
 
     def __eq__(self, other: object) -> bool:
         if not isinstance(other, Solution):
@@ -69,8 +88,8 @@ class Solution:
     def __hash__(self) -> int:
         return hash((self.order.tobytes(), self.makespan))
 
-    def __reduce__(self) -> tuple[type[Solution], tuple[list[int], int, int, int, int]]:
-        return type(self), self._fields()
+    def __reduce__(self) -> tuple[Any, ...]:
+        return type(self), self._fields(), (None, {"history": self.history})
 
     def to_text(self) -> str:
         """The order file: what ``pfs solve`` prints, in which jobs count from 1.
@@ -106,6 +125,10 @@ class Solution:
         write_whole(path, self.to_text().encode("ascii"))
 
 
-def order_given(start: Any) -> Any:
-    """The order of a solution, or what is one."""
-    return start.order if isinstance(start, Solution) else start
+def order_given(given: Any, shop: Instance, what: str = "order") -> Any:
+    """The order of a solution, or what is one. A solution for another number of machines is rejected."""
+    if not isinstance(given, Solution):
+        return given
+    if given.machines not in (0, shop.machines):
+        raise ValueError(f"{what} is an order for {given.machines} machines, and the instance has {shop.machines}")
+    return given.order
