@@ -293,7 +293,8 @@ def searches(random: Random, shop: Instance) -> list[Call]:
                         Number(random.choice(fuzz.SEEDS[:-1])), out64(), out64()]),
         ("pfs_insert", [*given(shop), *list32(some), Number(jobs[-1], 32), out64(), out64()]),
         ("pfs_insertions", [*given(shop), *list32(some), Number(jobs[-1], 32), *list64([PATTERN] * (len(some) + 1))]),
-        ("pfs_random", [Number(random.choice(fuzz.SEEDS[:-1])), Number(random.randint(0, 9)), *list32([PATTERN] * count)]),
+        ("pfs_random", [Number(random.choice(fuzz.SEEDS[:-1])), Number(random.randint(0, 9)),
+                        *list32([PATTERN] * count)]),
     ]
 
 
