@@ -1,5 +1,6 @@
 -- Sequences that are judged one after the other.
-use Rattle.std.proofs.Common.{◌≡◌, ℕ, ◌+◌, ◌-◌, ◌*◌, ◌<◌, List, take, drop, ap, sym, ◌∙◌, arith, Err, Option, Some, None}
+use Rattle.std.proofs.Common.{◌≡◌, ℕ, ◌+◌, ◌-◌, ◌*◌, ◌<◌, List, take, drop, ap, sym, ◌∙◌, arith}
+use Rattle.std.proofs.Common.{Err, Option, Some, None}
 use Rattle.pfs_c.specs.declared.numbers.Refusal.{Refusal}
 use Rattle.pfs_c.specs.Judgements.{jobs_refusal}
 use Rattle.pfs_c.specs.Many.{sequence_at, sequences_refusal}
@@ -18,16 +19,16 @@ same_slice long sequences index =
     ap (λ n. take n (drop (index * long) sequences)) all
 
 module _ (size count long : ℕ) (sequences : List ℕ) where
-  abbrev sequence_fault : ℕ → Option Refusal
-  sequence_fault index = jobs_refusal size (sequence_at long sequences index)
+  abbrev wrong_at : ℕ → Option Refusal
+  wrong_at index = jobs_refusal size (sequence_at long sequences index)
 
-  pub each_right : ((k : ℕ) → k < count → sequence_fault k ≡ None) → sequences_refusal size count long sequences ≡ None
-  each_right none = none_below sequence_fault count none
+  pub each_right : ((k : ℕ) → k < count → wrong_at k ≡ None) → sequences_refusal size count long sequences ≡ None
+  each_right none = none_below wrong_at count none
 
-  pub one_wrong : (A : Type 0) (index : ℕ) (why : Refusal) → index < count → ((k : ℕ) → k < index → sequence_fault k ≡ None)
+  pub one_wrong : (A : Type 0) (index : ℕ) (why : Refusal) → index < count → ((k : ℕ) → k < index → wrong_at k ≡ None)
       → Judges {A = A} (Err why)
       (jobs_refusal size (take (index * long + long - index * long) (drop (index * long) sequences)))
       → sequences_refusal size count long sequences ≡ Some why
   one_wrong A index why within none wrong =
-      first_below sequence_fault count index why within none
+      first_below wrong_at count index why within none
       (ap (jobs_refusal size) (sym (same_slice long sequences index)) ∙ judged_why A why _ wrong)
