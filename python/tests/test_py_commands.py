@@ -598,6 +598,54 @@ def test_a_plan(folder: pathlib.Path) -> None:
     assert run(["plan", "times.csv", "--unit", "min", "--rounds", "0"], folder).startswith("makespan ")
 
 
+def test_an_order_that_was_changed_by_hand(folder: pathlib.Path) -> None:
+    """It is read from what `plan` prints, from its schedule, or as names."""
+    (folder / "times.csv").write_text(TABLE)
+    times = [[30, 25, 40], [20, 50, 15], [40, 10, 20], [10, 10, 60]]
+    names = ["table", "chair", "shelf; oak", "box"]
+    head: list[str] = []
+    lines: list[str] = []
+    for line in run(["plan", "times.csv", "--rounds", "0"], folder).splitlines():
+        (lines if line[0].isdigit() else head).append(line)
+    changed = [names.index(line.split(" ", 1)[1]) for line in [lines[3], *lines[:3]]]
+    span = plainly.makespan(times, changed)
+    listed = [names[job] for job in changed]
+    texts = {"a plan": "\n".join([*head, *[lines[3], *lines[:3]]]), "names": "\n".join(listed),
+             "a list": "\n\n".join(f"{place}. {name}" for place, name in enumerate(listed, 1)),
+             "a schedule": "job;machine;start;end\n" + "".join(f'"{name}";saw;0;1\n"{name}";drill;1;2\n'
+                                                               for name in listed),
+             "a spreadsheet's schedule": "\ufeffjob\tmachine\tstart\tend\n"
+                                         + "".join(f"{name}\tsaw\t0\t1\n" for name in listed)}
+    for what, text in texts.items():
+        (folder / "order").write_text(text, "utf-8")
+        printed = run(["plan", "times.csv", "--order", "order", "--schedule", "out.csv"], folder)
+        assert printed.startswith(f"makespan {span / 10} h\n"), what
+        assert printed.splitlines()[-4:] == [f"{place} {name}" for place, name in enumerate(listed, 1)], what
+        again = run(["plan", "times.csv", "--order", "out.csv"], folder)
+        assert again == printed, what
+    best = run(["plan", "times.csv", "--order", "order", "--rounds", "100"], folder)
+    assert best.startswith(f"makespan {plainly.shortest(times) / 10} h\n"), "rounds begin with the order"
+
+
+@pytest.mark.parametrize(("text", "error"), [
+    ("b\na\nd\n", "line 3, no job is named 'd'"), ("1 b\n2 b\n3 a\n", "line 2, the job 'b' is in line 1 too"),
+    ("a\n", "line 1, 2 of 3 jobs missing: 'b', '2 c'"), ("", "line 1, 3 of 3 jobs missing: 'a', 'b', '2 c'"),
+    ("\u00e4\nb\nb", "line 1, no job is named '\u00e4'")])
+def test_orders_that_are_rejected(folder: pathlib.Path, text: str, error: str) -> None:
+    (folder / "times.csv").write_text("job,saw\na,3\nb,2\n2 c,1\n")
+    (folder / "order").write_text(text, "utf-8")
+    assert run(["plan", "times.csv", "--order", "order"], folder, 2, f"pfs: order: {error}\n") == ""
+
+
+def test_names_that_look_like_places_and_makespans(folder: pathlib.Path) -> None:
+    (folder / "times.csv").write_text("job,saw\nmakespan 3,3\n1 bound 3,2\noptimal,1\n2,4\n")
+    names = ["optimal", "1 bound 3", "2", "makespan 3"]
+    for text in ("\n".join(names), "\n".join(f"{place} {name}" for place, name in enumerate(names, 1))):
+        (folder / "order").write_text(text)
+        lines = run(["plan", "times.csv", "--order", "order"], folder).splitlines()
+        assert lines[-4:] == [f"{place} {name}" for place, name in enumerate(names, 1)]
+
+
 @pytest.mark.parametrize(("options", "error"), [
     (["--schedule", "/dev/full"], "pfs: [Errno 28] No space left on device"),
     (["--schedule", "a-folder"], "pfs: [Errno 21] Is a directory: 'a-folder'"),

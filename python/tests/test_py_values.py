@@ -364,3 +364,30 @@ def test_only_frames_are_frames() -> None:
     for other in others:
         with pytest.raises(TypeError, match="frame should be a DataFrame of pandas, not of the kind"):
             pfs.from_frame(other)
+
+
+def test_jobs_by_their_names() -> None:
+    times = [[3, 2], [2, 5], [4, 1]]
+    shop = pfs.Instance(times, job_names=["table", "chair", "box"])
+    orders: list[Any] = [["chair", "table", "box"], ("chair", "table", "box"), np.array(["chair", "table", "box"]),
+                         np.array(["chair", "table", "box"], dtype=object)]
+    for order in orders:
+        assert shop.makespan(order) == plainly.makespan(times, [1, 0, 2])
+        assert shop.schedule(order).order.tolist() == [1, 0, 2]
+        assert shop.solve(0, start=order).order.tolist() == [1, 0, 2]
+    assert shop.makespan(["box"]) == 5 and shop.makespan([]) == 0
+
+
+@pytest.mark.parametrize(("order", "kind", "why"), [
+    (["chair", "bed", "box"], ValueError, "no job is named 'bed', which is at place 1"),
+    (["chair", 0, "box"], TypeError, "0 at place 1 isn't a name, as others are"),
+    (["chair", "table", "chair"], ValueError, "job 1 stands at place 0 and again at place 2"),
+    ([0, "table", "box"], TypeError, "(order|start) should be whole numbers")])
+def test_names_that_are_rejected(order: list[Any], kind: type[Exception], why: str) -> None:
+    shop = pfs.Instance([[3, 2], [2, 5], [4, 1]], job_names=["table", "chair", "box"])
+    calls: list[Callable[[Any], Any]] = [shop.makespan, shop.schedule, lambda start: shop.solve(0, start=start)]
+    for call in calls:
+        with pytest.raises(kind, match=why):
+            call(order)
+    with pytest.raises(TypeError, match="order has names, and the jobs of the instance have none"):
+        pfs.Instance([[3]]).makespan(["table"])

@@ -18,6 +18,7 @@ from pfs._faults import Fault, TableFault
 from pfs._files import read, read_order
 from pfs._instance import Instance
 from pfs._names import amount, shown
+from pfs._orders import order_in
 from pfs._search import ROUNDS, Pace, Search, limit_of
 from pfs._solution import Solution
 from pfs._state import State, StateFault
@@ -151,7 +152,8 @@ def plan_command(given: argparse.Namespace) -> int:
     shop, delimiter, has_mark = table_of(given.table, given.unit, DECIMAL_SIGNS.get(given.decimal),
                                          given.allow_totals)
     written(sys.stderr, f"{shown(described(shop))}\n")
-    search = Search(shop, None, 0, given.take, given.passes, given.seed)
+    start = None if given.order is None else order_in(given.order, shop)
+    search = Search(shop, start, 0, given.take, given.passes, given.seed)
     with Stop() as stop:
         best, fault = searched(search, given.rounds, given.seconds, stop, lambda _: None)
         outputs: list[Callable[[], object]] = [lambda: printed(listed(shop, best))]
@@ -255,6 +257,9 @@ def words() -> argparse.ArgumentParser:
                       "the table uses, if that is clear")
     plan.add_argument("--allow-totals", action="store_true",
                       help="take a last row or column with the sums of the others as a job or a machine")
+    plan.add_argument("--order", metavar="FILE",
+                      help="an order to begin with, which is evaluated if neither --rounds nor --seconds is there: the "
+                      "names of the jobs, one in a line, or what plan printed, or its schedule")
     plan.add_argument("--schedule", metavar="OUT.csv", help="when each operation starts and ends")
     plan.add_argument("--chart", metavar="OUT.svg", action="append", default=[],
                       help="the chart, as .svg, .png, .pdf or a page .html; may be given more than once")
@@ -266,7 +271,7 @@ def main(line: list[str]) -> int:
     """Run a command line, and return its exit status."""
     given = words().parse_args(line)
     if given.rounds is None:
-        given.rounds = ROUNDS if given.run is plan_command and given.seconds is None else c.MOST_ROUNDS
+        given.rounds = rounds_of(given)
     try:
         if sys.stdout is None:
             raise OSError("standard output is closed")
@@ -282,6 +287,13 @@ def main(line: list[str]) -> int:
         return told(line_of(fault), SYSTEM)
     except KeyboardInterrupt:
         return 128 + signal.SIGINT
+
+
+def rounds_of(given: argparse.Namespace) -> int:
+    """How many rounds a command makes that names none."""
+    if given.run is not plan_command or given.seconds is not None:
+        return c.MOST_ROUNDS
+    return ROUNDS if given.order is None else 0
 
 
 def line_of(fault: Exception) -> str:

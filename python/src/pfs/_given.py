@@ -121,8 +121,9 @@ def times_of(given: Any) -> Times:
     return whole_numbers(own, c.LONGEST_TIME, "times", "job {}, machine {}", f"isn't 0 to {c.LONGEST_TIME:,}")
 
 
-def packed(given: Any, what: str = "order") -> tuple[bytes, int]:
-    """The jobs of a list as the library reads them, and how many they are. Jobs that aren't there are left to it."""
+def packed(given: Any, what: str = "order", names: tuple[str, ...] | None = None) -> tuple[bytes, int]:
+    """The jobs of a list, by number or by name, as the library reads them, and how many they are. The library validates
+    that they exist."""
     kind = type(given)
     try:
         if kind is np.ndarray and given.ndim == 1:
@@ -137,8 +138,27 @@ def packed(given: Any, what: str = "order") -> tuple[bytes, int]:
             return own, len(own) >> 2
     except (TypeError, OverflowError):
         pass
-    own = jobs_of(given, what).tobytes()
+    own = jobs_of(numbered(given, what, names) if has_names(given) else given, what).tobytes()
     return own, len(own) >> 2
+
+
+def has_names(given: Any) -> bool:
+    """Whether a list has names of jobs."""
+    is_list = isinstance(given, (list, tuple)) or (isinstance(given, np.ndarray) and given.ndim == 1)
+    return is_list and len(given) > 0 and isinstance(given[0], str)
+
+
+def numbered(given: Any, what: str, names: tuple[str, ...] | None) -> list[int]:
+    """The numbers of the jobs with these names."""
+    if names is None:
+        raise TypeError(f"{what} has names, and the jobs of the instance have none")
+    jobs = {name: job for job, name in enumerate(names)}
+    for place, name in enumerate(given):
+        if not isinstance(name, str):
+            raise TypeError(f"{what}: {name!r} at place {place} isn't a name, as others are")
+        if name not in jobs:
+            raise ValueError(f"{what}: no job is named {str(name)!r}, which is at place {place}")
+    return [jobs[name] for name in given]
 
 
 def jobs_of(given: Any, what: str) -> npt.NDArray[np.uint32]:
@@ -163,9 +183,9 @@ def refused_jobs(number: int, jobs: int, own: bytes, what: str = "order") -> Exc
     return MemoryError("pfs: memory was refused") if number == c.MEMORY else ValueError(c.message(number))
 
 
-def order_of(given: Any, jobs: int, what: str = "order") -> bytes:
-    """An order of all jobs, as the library reads it."""
-    own, count = packed(given, what)
+def order_of(given: Any, jobs: int, what: str = "order", names: tuple[str, ...] | None = None) -> bytes:
+    """An order of all jobs, by number or by name, as the library reads it."""
+    own, count = packed(given, what, names)
     if count != jobs:
         raise ValueError(f"{what} has {count:,} jobs, and the instance {jobs:,}")
     return own

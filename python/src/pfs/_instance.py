@@ -163,7 +163,7 @@ class Instance:
         Parameters
         ----------
         order : array_like
-            Distinct jobs, counted from 0: all of them or some; of none the makespan is 0.
+            Distinct jobs, counted from 0 or by their names: all of them or some; of none the makespan is 0.
 
         Returns
         -------
@@ -174,7 +174,7 @@ class Instance:
         TypeError, ValueError
             It isn't a list of distinct jobs; the text says which and where.
         """
-        jobs, count = packed(order)
+        jobs, count = packed(order, "order", self.job_names)
         found = _taken()
         number = _pfs_makespan(*self._ready, jobs, LENGTHS[count] if count < SHORT else c_size_t(count), found[3])
         if number:
@@ -330,7 +330,7 @@ class Instance:
         seed : int
             Any of 64 bits.
         start : array_like or Solution, optional
-            The order to begin with; where it is left out NEH's.
+            The order to begin with, by numbers or names of jobs; where it is left out NEH's.
         first : int
             The number of the first round, counted from 0: a search that was made up to there continues.
         progress : callable or tqdm, optional
@@ -395,13 +395,13 @@ class Instance:
         Parameters
         ----------
         order : array_like or Solution
-            All jobs, counted from 0.
+            All jobs, counted from 0 or by their names.
 
         Returns
         -------
         Schedule
         """
-        jobs = order_of(order_given(order, self), self.jobs)
+        jobs = order_of(order_given(order, self), self.jobs, "order", self.job_names)
         starts = np.empty((self.jobs, self.machines), dtype=np.int64)
         ends = np.empty_like(starts)
         number = library.pfs_table(*self._given, jobs, self.jobs, starts.ctypes.data, starts.size, ends.ctypes.data,

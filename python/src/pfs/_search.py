@@ -69,7 +69,9 @@ class Search:
         self.passes = whole(passes, "passes", 0, c.MOST_PASSES)
         self.seed = whole(seed, "seed", 0, c.MOST_SEED)
         self.first = whole(first, "first", 0, c.MOST_ROUNDS)
-        self.start = None if start is None else order_of(order_given(start, shop, "start"), shop.jobs, "start")
+        self.start = None
+        if start is not None:
+            self.start = order_of(order_given(start, shop, "start"), shop.jobs, "start", shop.job_names)
         self.last: Part | None = None
         self.running: Part | None = None
         # The improvements so far, where they are noted.

@@ -1,0 +1,61 @@
+"""Orders by the names of jobs, as `plan` prints them and people change them."""
+from __future__ import annotations
+
+import os
+import re
+from collections.abc import Iterator
+
+from pfs import _library as c
+from pfs._faults import TableFault
+from pfs._files import read_up_to
+from pfs._instance import Instance
+from pfs._names import shown
+from pfs._tables import counted, rows_of, text_of
+
+SCHEDULE = re.compile(r"job([;,\t])machine\1start\1end")
+# The lines of a plan before its jobs, and a job after its place.
+HEAD = re.compile(r"(makespan|bound) \S.*|optimal")
+PLACED = re.compile(r"[0-9]+[.):]?\s+(.+)")
+
+
+def order_in(path: str | os.PathLike[str], shop: Instance) -> list[int]:
+    """The order of all jobs that a file has: what `plan` prints, its schedule as a table, or the names of the jobs, one
+    in a line, with or without a place before it. A `TableFault` names the line of a name that no job has or that occurs
+    twice, or the jobs that are missing."""
+    path = os.fspath(path)
+    with open(path, "rb") as file:
+        content = read_up_to(file.read, c.LONGEST_INPUT + 1)
+    if len(content) > c.LONGEST_INPUT:
+        raise TableFault(path, 1, 0, f"the file has more than {c.LONGEST_INPUT:,} bytes")
+    names = [shop.job_name(job) for job in range(shop.jobs)]
+    numbers = {shown(name): job for job, name in enumerate(names)} | {name: job for job, name in enumerate(names)}
+    seen: dict[int, int] = {}
+    for line, name in named_jobs(text_of(content, path), path, numbers):
+        if name not in numbers:
+            raise TableFault(path, line, 0, f"no job is named {name!r}")
+        job = numbers[name]
+        if job in seen:
+            raise TableFault(path, line, 0, f"the job {name!r} is in line {seen[job]} too")
+        seen[job] = line
+    missing = [name for job, name in enumerate(names) if job not in seen]
+    if missing:
+        some = ", ".join(map(repr, missing[:5])) + (", .." if len(missing) > 5 else "")
+        raise TableFault(path, 1, 0, f"{len(missing)} of {counted(shop.jobs, 'job')} missing: {some}")
+    return list(seen)
+
+
+def named_jobs(text: str, path: str, numbers: dict[str, int]) -> Iterator[tuple[int, str]]:
+    """The names of the jobs, each with its line. Of a schedule each job is taken once."""
+    lines = [(line, cell) for line, row in enumerate(text.splitlines(), 1) if (cell := row.strip())]
+    if lines and SCHEDULE.fullmatch(lines[0][1]):
+        first: dict[str, int] = {}
+        for line, row in rows_of(text, path).rows[1:]:
+            first.setdefault(row[0], line)
+        yield from ((line, name) for name, line in first.items())
+        return
+    is_plan = len(lines) > 2 and all(HEAD.fullmatch(lines[at][1]) for at in (0, 1))
+    if is_plan:
+        lines = lines[3:] if lines[2][1] == "optimal" else lines[2:]
+    for line, name in lines:
+        placed = PLACED.fullmatch(name)
+        yield line, placed[1] if placed and (is_plan or name not in numbers) else name
