@@ -54,7 +54,7 @@ $(foreach name,$(PLANS),experiments/$(name) share/doc/pfs/examples/$(name)$(newl
 endef
 PAGES = README.md CHANGELOG.md CITATION.cff CONTRIBUTING.md SECURITY.md LICENSE-MIT LICENSE-APACHE \
     experiments/README.md experiments/taillard.csv experiments/best_known.csv lib/pfs.h \
-    $(sort $(wildcard docs/* examples/* python/README.md python/examples/*.py))
+    $(sort $(wildcard docs/*.* docs/maintain/*.* examples/* python/README.md python/examples/*.py))
 define LIBRARY_FILES
 lib/out/libpfs.a $(LIB)/libpfs.a
 $(LIBRARY) $(LIB)/libpfs.so.0

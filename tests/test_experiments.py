@@ -1310,11 +1310,6 @@ def lines_of_way(page: pathlib.Path) -> list[str]:
     return [line.partition("#")[0].strip() for line in "".join(block).splitlines()]
 
 
-def test_both_pages_tell_the_same_way(top: pathlib.Path) -> None:
-    lines, again = (lines_of_way(page) for page in (top / "README.md", top / "experiments" / "README.md"))
-    assert len(lines) == 6 and lines == again
-
-
 @pytest.mark.seconds(30)
 def test_the_lines_of_the_way_lead_to_the_reports_plots(top: pathlib.Path, pfs: Program, folder: pathlib.Path,
                                                         matplotlib: None) -> None:
@@ -1325,7 +1320,9 @@ def test_the_lines_of_the_way_lead_to_the_reports_plots(top: pathlib.Path, pfs: 
         shutil.copy(top / name, folder / name)
     (folder / "crates" / "pfs" / "out").mkdir(parents=True)
     shutil.copy(pfs.path, folder / "crates" / "pfs" / "out" / "pfs")
-    for line in lines_of_way(top / "README.md")[1:]:
+    lines = lines_of_way(top / "experiments" / "README.md")
+    assert len(lines) == 6
+    for line in lines[1:]:
         assert told_by([*line.split(" ")], folder).status == 0, line
     assert sorted(os.listdir(folder / "report")) \
         == ["gap.png", "means.png", "rpd.png", "seconds.png", "sizes.csv", "sizes.md", "sizes.tex", "table.csv",

@@ -286,11 +286,11 @@ def colours_in_turn(case: Case, picture: Picture) -> list[str]:
     return [fill for job in case.order for fill in found.get(job, ())]
 
 
-README = (pathlib.Path(__file__).resolve().parent.parent / "README.md").read_text()
+PAGE = (pathlib.Path(__file__).resolve().parent.parent / "docs" / "PICTURES.md").read_text()
 
 
 class Colours(NamedTuple):
-    """How much the colours of jobs differ, as README tells it."""
+    """How much the colours of jobs differ, as the page says."""
     few: int
     least: float
     some: int
@@ -300,7 +300,7 @@ class Colours(NamedTuple):
 
 def told_of_colours() -> Colours:
     told = re.search(r"Any two of up to (\d+) jobs have colours that differ by ([\d.]+) or more \(CIEDE2000; of (\d+) "
-                     r"jobs by ([\d.]+)\).* Of more jobs, neighbours in the order differ by ([\d.]+) or more", README)
+                     r"jobs by ([\d.]+)\).* Of more jobs, neighbours in the order differ by ([\d.]+) or more", PAGE)
     assert told, "no sentence on the colours"
     return Colours(int(told[1]), float(told[2]), int(told[3]), float(told[4]), float(told[5]))
 
@@ -317,7 +317,7 @@ def difference_of_any_two(jobs: int, drawn: Drawn) -> float:
 
 
 @pytest.mark.parametrize(("jobs", "told"), [(COLOURS.some, COLOURS.least_of_some), (COLOURS.few, COLOURS.least)])
-def test_any_two_of_few_jobs_differ_as_much_as_readme_tells(jobs: int, told: float, drawn: Drawn) -> None:
+def test_any_two_of_few_jobs_differ_as_much_as_the_page_says(jobs: int, told: float, drawn: Drawn) -> None:
     """Rounded to a tenth."""
     assert round(difference_of_any_two(jobs, drawn), 1) == told, f"the colours of {jobs} jobs"
 
@@ -600,13 +600,12 @@ def defaults_of_manual() -> dict[str, str]:
     return {option: found[1] for option, found in told.items() if found}
 
 
-def defaults_of_readme() -> dict[str, str]:
-    told = re.search(r"`--width [\d.]+` \(([\d.]+) inches where it is left out\), `--dpi \d+` \((\d+)\)", README)
-    assert told, "no sentence on the width and the dots"
-    return {"width": told[1], "dpi": told[2]}
+def defaults_of_page() -> dict[str, str]:
+    """The last column of the table of options, where it isn't empty."""
+    return dict(re.findall(r"^\| `--(\w+) [^|]*\|[^|]*\| (\S+) \|$", PAGE, re.MULTILINE))
 
 
-@pytest.mark.parametrize("told", [defaults_of_manual(), defaults_of_readme()], ids=["pfs-gantt.1", "README.md"])
+@pytest.mark.parametrize("told", [defaults_of_manual(), defaults_of_page()], ids=["pfs-gantt.1", "PICTURES.md"])
 def test_a_default_that_a_page_tells_is_the_options(told: dict[str, str], gantt: Gantt, folder: pathlib.Path) -> None:
     """The same picture comes of it, and another one of another value."""
     assert told.keys() == {"width", "dpi"}
@@ -634,8 +633,8 @@ def test_an_exit_status_of_the_manual_page_is_that_of_gantt(gantt: Gantt, folder
     for text, status in told.items():
         for words, table in STATUSES[text]:
             assert gantt(folder, *words, text=table).status == status, f"{words}, where the page says: {text}"
-    refused = re.findall(r"refused by one line on standard error and status (\d)", README)
-    assert refused == [str(told["The time table or the command line is refused."])], "the status that README tells"
+    rejected = re.findall(r"rejected with one line on standard error and status (\d)", PAGE)
+    assert rejected == [str(told["The time table or the command line is refused."])], "the status on the page"
 
 
 def test_the_example_of_the_manual_page(gantt: Gantt, folder: pathlib.Path, pfs: Program, top: pathlib.Path) -> None:
@@ -742,8 +741,8 @@ def test_very_many_operations_are_an_image(case: Case, gantt: Gantt, folder: pat
 
 
 @pytest.mark.seconds(8)
-def test_from_so_many_operations_on_as_readme_tells_the_rows_are_an_image(gantt: Gantt, folder: pathlib.Path) -> None:
-    told = re.search(r"^- Of more than ([\d,]+) operations", README, re.MULTILINE)
+def test_from_this_number_of_operations_on_the_rows_are_an_image(gantt: Gantt, folder: pathlib.Path) -> None:
+    told = re.search(r"^- Of more than ([\d,]+) operations", PAGE, re.MULTILINE)
     assert told, "no sentence on the operations"
     jobs = int(told[1].replace(",", "")) // 20
     for count, is_image in ((jobs, False), (jobs + 1, True)):

@@ -65,7 +65,7 @@ def test_a_layer_that_fails_is_the_last(repository: pathlib.Path, failing: str, 
     assert times(told) == [*((NAMES[call], "") for call in calls[:-1]), (NAMES[failing], "7"), ("total", "")]
 
 
-def test_ci_runs_readmes_test_command(top: pathlib.Path) -> None:
+def test_ci_runs_the_pages_test_command(top: pathlib.Path) -> None:
     assert (top / ".ci" / "run").read_text().splitlines()[-1] == "make test"
-    assert re.search(r"^make test +#", (top / "README.md").read_text(), re.MULTILINE)
+    assert re.search(r"^make test +#", (top / "docs" / "TESTS.md").read_text(), re.MULTILINE)
     assert re.search(r"^test:\n\ttools/test\n", (top / "Makefile").read_text(), re.MULTILINE)

@@ -31,6 +31,8 @@ TOP = pathlib.Path(__file__).resolve().parent.parent
 VERSION = (TOP / "VERSION").read_text().strip()
 PAGES = ["README.md", "CHANGELOG.md", "CITATION.cff", "CONTRIBUTING.md", "SECURITY.md", "LICENSE-MIT", "LICENSE-APACHE",
          "experiments/README.md", "experiments/taillard.csv", "experiments/best_known.csv", "lib/pfs.h"]
+# Those with examples that need the program and its tools.
+EXAMPLES = ["README.md", "docs/COMMANDS.md", "docs/COOKBOOK.md"]
 # The tools, but for what is only of the repository.
 TOOLS = [path for path in (TOP / "tools" / "gantt", *sorted((TOP / "tools").glob("*.py")),
                            *sorted((TOP / "experiments").iterdir()))
@@ -47,8 +49,8 @@ PLACES = {
        for name in ("best_known.csv", *(path.name for path in sorted((TOP / "experiments").glob("*.toml"))))},
     **{f"share/man/man1/{page.name}": f"share/{page.name}" for page in sorted((TOP / "share").glob("*.1"))},
     **{f"share/doc/pfs/{page}": page for page in PAGES},
-    **{f"share/doc/pfs/{page.parent.name}/{page.name}": f"{page.parent.name}/{page.name}"
-       for page in (*sorted((TOP / "docs").iterdir()), *sorted((TOP / "examples").glob("*")),
+    **{f"share/doc/pfs/{page.relative_to(TOP)}": str(page.relative_to(TOP))
+       for page in (*sorted((TOP / "docs").rglob("*.*")), *sorted((TOP / "examples").glob("*")),
                     *(TOP / "python").glob("README.md"))},
     **{f"share/doc/pfs/python/examples/{page.name}": f"python/examples/{page.name}"
        for page in sorted((TOP / "python" / "examples").glob("*.py"))},
@@ -518,15 +520,15 @@ def test_versions_of_the_c_library_are_compared_as_numbers(top: pathlib.Path, fo
     assert printed_by(["sh", "-euc", script], folder) == f"{package}\n"
 
 
-def test_readme_names_the_c_library_that_the_program_needs(top: pathlib.Path, pfs: Program) -> None:
-    told = re.search(r"needs the GNU C library ([0-9.]+) or newer", (top / "README.md").read_text())
+def test_the_page_names_the_c_library_that_the_program_needs(top: pathlib.Path, pfs: Program) -> None:
+    told = re.search(r"needs the GNU C library ([0-9.]+) or newer", (top / "docs" / "INSTALL.md").read_text())
     assert told and told[1] == newest_libc(pfs.path)
 
 
-def test_readme_names_the_libraries_that_the_program_takes(top: pathlib.Path, pfs: Program,
-                                                           folder: pathlib.Path) -> None:
+def test_the_page_names_the_libraries_that_the_program_takes(top: pathlib.Path, pfs: Program,
+                                                             folder: pathlib.Path) -> None:
     libraries = re.findall(r"(\S+) => /", printed_by(["ldd", pfs.path], folder))
-    told = re.findall(r"of which it takes `([^`]+)` alone", (top / "README.md").read_text())
+    told = re.findall(r"of which it takes `([^`]+)` alone", (top / "docs" / "INSTALL.md").read_text())
     assert libraries == told
 
 
@@ -776,14 +778,14 @@ def test_what_is_made_tells_that_changes_are_not_committed(name: str, copy: Copy
 
 
 def test_what_examples_leave_behind_is_no_change(copy: Copy, pfs: Program, folder: pathlib.Path) -> None:
-    """README's examples are followed in the repository's folder, as are the lines on experiments, but for the runs."""
+    """The examples of the pages are run in the repository's folder, and the lines on experiments without their runs."""
     before = {path.name for path in copy.top.iterdir()}
     env = copy.env | {"PATH": f"{folder}:{copy.env['PATH']}"}
     shutil.copy(pfs.path, folder / "pfs")
-    readme = (copy.top / "README.md").read_text()
-    for line in re.findall(r"^\$ ((?:.|\n> )*)$", readme, re.MULTILINE):
+    pages = "".join((copy.top / page).read_text() for page in (*EXAMPLES, "experiments/README.md"))
+    for line in re.findall(r"^\$ ((?:.|\n> )*)$", pages, re.MULTILINE):
         told_by(["bash", "-c", line], copy.top, env=env)
-    experiments = set(re.findall(r" (\w+\.(?:csv|toml))", readme))
+    experiments = set(re.findall(r" (\w+\.(?:csv|toml))", pages))
     folders = [f"{name}.d/results/1" for name in experiments]
     for name in (*experiments, *folders, "out/taillard/ta001", "report/gap.png"):
         (copy.top / name).parent.mkdir(parents=True, exist_ok=True)
@@ -843,22 +845,22 @@ def local(folder: pathlib.Path) -> pathlib.Path:
     return made
 
 
-def line_of_readme(pattern: str, copy: Copy, local: pathlib.Path) -> str:
-    """A line of README, as it is run without sudo at this folder."""
-    found = re.search(pattern, (copy.top / "README.md").read_text(), re.MULTILINE)
+def line_of_page(pattern: str, copy: Copy, local: pathlib.Path) -> str:
+    """A line of the page on installing, as it is run without sudo at this folder."""
+    found = re.search(pattern, (copy.top / "docs" / "INSTALL.md").read_text(), re.MULTILINE)
     assert found and "/usr/local" in found[0], pattern
     return found[0].replace("sudo ", "").replace("/usr/local", str(local))
 
 
-def test_readmes_lines_put_the_tarball_there_and_take_it_away(made: Made, unpacked: pathlib.Path, copy: Copy,
-                                                              local: pathlib.Path, folder: pathlib.Path) -> None:
-    printed_by(["bash", "-c", line_of_readme("^sudo tar .*$", copy, local)], made.folder)
+def test_the_pages_lines_unpack_the_tarball_and_remove_it(made: Made, unpacked: pathlib.Path, copy: Copy,
+                                                          local: pathlib.Path, folder: pathlib.Path) -> None:
+    printed_by(["bash", "-c", line_of_page("^sudo tar .*$", copy, local)], made.folder)
     assert (local / "share" / "man").is_symlink()
     found = {re.sub("^man/", "share/man/", path): text for path, text in files_below(local).items()}
     assert_same_files(found, files_below(unpacked))
     assert [path.stat().st_mode & 0o7777 for path in (local, local / "share")] == [0o2775, 0o2775]
     found_by_zsh(folder / "root", folder)
-    printed_by(["bash", "-c", line_of_readme("^.*share/doc/pfs/SHA256SUMS .*$", copy, local)], made.folder)
+    printed_by(["bash", "-c", line_of_page("^.*share/doc/pfs/SHA256SUMS .*$", copy, local)], made.folder)
     assert left_below(local) == [] and (local / "share" / "man").is_symlink()
     assert not (local / "libexec" / "pfs").exists()
 
@@ -916,7 +918,7 @@ def test_lintian_tells_an_error_where_there_is_one(made: Made, folder: pathlib.P
     assert "no-copyright-file" in errors_of_lintian(folder / "worse.deb")
 
 
-# README where it is installed
+# The pages where they are installed
 
 def test_the_pages_to_which_the_packages_pages_link_are_there(extracted: pathlib.Path) -> None:
     folder = extracted / "usr" / "share" / "doc" / "pfs"
@@ -926,21 +928,24 @@ def test_the_pages_to_which_the_packages_pages_link_are_there(extracted: pathlib
 
 
 @pytest.mark.usefixtures("matplotlib")
-def test_readmes_examples_run_with_what_the_packages_hold(extracted: pathlib.Path, folder: pathlib.Path) -> None:
-    """In an empty folder, one behind the other; none says that something isn't there."""
-    lines = re.findall(r"^\$ (.*)$", (extracted / "usr/share/doc/pfs/README.md").read_text(), re.MULTILINE)
+@pytest.mark.parametrize("page", EXAMPLES)
+def test_the_examples_run_with_what_the_packages_hold(page: str, extracted: pathlib.Path, folder: pathlib.Path) -> None:
+    """In an empty folder, one after the other; none reports that something is missing."""
+    lines = re.findall(r"^\$ (.*)$", (extracted / "usr/share/doc/pfs" / page).read_text(), re.MULTILINE)
     env = tools_of(extracted / "usr")
-    assert len(lines) > 10 and any("pfs-gantt" in line for line in lines)
+    assert len(lines) > 8
     for line in lines:
         told = told_by(["bash", "-c", line], folder, env=env)
         assert not re.search("not found|No such file|no such file", told.stderr), f"{line}: {told}"
-    assert (folder / "gantt.png").exists()
+    pictures = {file for line in lines for file in re.findall(r"pfs-gantt .* (\S+)$", line)}
+    assert {file for file in pictures if not (folder / file).exists()} == set()
+    assert pictures or page == "docs/COMMANDS.md"
 
 
-def test_readmes_experiments_begin_with_files_that_the_packages_hold(extracted: pathlib.Path,
-                                                                     folder: pathlib.Path) -> None:
-    readme = (extracted / "usr/share/doc/pfs/README.md").read_text()
-    named = set(re.findall(r"(/usr/share/doc/\S+)", readme))
+def test_the_experiments_begin_with_files_that_the_packages_hold(extracted: pathlib.Path,
+                                                                 folder: pathlib.Path) -> None:
+    page = (extracted / "usr/share/doc/pfs/experiments/README.md").read_text()
+    named = set(re.findall(r"(/usr/share/doc/\S+)", page))
     assert named and [name for name in named if not (extracted / name[1:]).exists()] == []
     printed_by(["pfs-experiments", "taillard", "out/taillard"], folder, env=tools_of(extracted / "usr"))
     plan = (extracted / "usr/share/doc/pfs/examples/example.toml").read_text()
@@ -985,7 +990,7 @@ def fields_of(package: pathlib.Path) -> dict[str, str]:
 FIELDS = {
     "pfs": {"Depends": "libc6 (>= {libc})", "Suggests": "pfs-tools", "Section": "science", "Architecture": "amd64"},
     "pfs-tools": {"Depends": "pfs (= {version}-1), python3 (>= 3.11)", "Recommends": "parallel, python3-matplotlib",
-                  "Suggests": "openssh-client, python3-scipy, rsync, slurm-client", "Section": "science",
+                  "Suggests": "libpfs0, openssh-client, python3-scipy, rsync, slurm-client", "Section": "science",
                   "Architecture": "all", "Source": "pfs"}}
 
 

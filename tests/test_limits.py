@@ -1,5 +1,5 @@
-"""The limits stand in one source of the crates, and have the same numerals wherever else they must be written. What the
-program prints of them, and what pages, completions and pfs.h say, is compared elsewhere."""
+"""The limits are in one source of the crates, and have the same numerals wherever else code must have them. Pages have
+them from share/facts.toml (test_facts.py); completions and pfs.h are compared elsewhere."""
 import pathlib
 import re
 
@@ -7,10 +7,6 @@ import pytest
 
 # Where a limit is written, and how.
 PLACES = {
-    "README.md": {
-        r"`generate` needs jobs \(1 to ([\d,]+)\)": "MOST_JOBS",
-        r"`generate` needs .*, machines \(1 to ([\d,]+)\)": "MOST_MACHINES",
-    },
     "bench/block_reader.hpp": {
         r"values\[0\] <= (\d+)": "MOST_JOBS",
         r"values\[1\] <= (\d+)": "MOST_MACHINES",

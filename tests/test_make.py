@@ -11,7 +11,8 @@ from support.tools import printed_by, told_by, with_path, write_script
 
 TOP = pathlib.Path(__file__).resolve().parent.parent
 MAKEFILE = (TOP / "Makefile").read_text()
-PAGES = [path for folder in (".", "docs", "examples", "experiments", "python") for path in (TOP / folder).glob("*.md")]
+PAGES = [path for folder in (".", "docs", "docs/maintain", "examples", "experiments", "python")
+         for path in (TOP / folder).glob("*.md")]
 RT = """#!/bin/sh
 echo "rt $* in $PWD" >&2
 cat
@@ -81,7 +82,7 @@ def test_make_tells_the_defaults_of_its_variables() -> None:
     for name, pattern in told.items():
         assert re.findall(pattern, MAKEFILE) in ([], [values[name]]), f"the default of {name}"
     assert re.search(told["MINUTES"], MAKEFILE)
-    assert "`PREFIX` (default `/usr/local`)" in (TOP / "README.md").read_text()
+    assert "`PREFIX` (default `/usr/local`)" in (TOP / "docs" / "INSTALL.md").read_text()
 
 
 MAKE = """#!/bin/sh

@@ -1,5 +1,6 @@
-"""The pages that users read, against the built program. Each example of README.md and of the manual page is run, and
-prints what the page shows. Each fault, exit status, range, default and limit that a page tells is the program's."""
+"""The pages that users read, against the built program. Each example of README.md, of the pages on commands and recipes
+and of the manual page is run, and must print what the page shows. The faults, exit statuses, ranges, defaults and
+limits of share/facts.toml, which the pages have in marked blocks, must be the program's."""
 import errno
 import os
 import pathlib
@@ -9,21 +10,23 @@ import shutil
 import socket
 import subprocess
 from collections.abc import Callable
-from typing import NamedTuple
+from typing import Any, NamedTuple
 
 import pytest
+from support.facts import EXITS, FACTS, LIMITS, OPTIONS, RANGES
+from support.facts import FAULTS as STATUS_OF_FAULT
 from support.faults import FAULTS, met, with_numbers
 from support.files import USAGE, generated
 from support.needs import need
 from support.program import Program, Ran
 from support.tools import wait_until, with_path
-from support.usage import LINES, ends_of, ends_taken, ranges
+from support.usage import LAYOUTS, LINES, commands, ends_of, ends_taken, ranges
 
 TOP = pathlib.Path(__file__).resolve().parent.parent
-README = (TOP / "README.md").read_text()
-FORMATS = (TOP / "docs" / "FORMATS.md").read_text()
+COMMANDS, FORMATS, TROUBLESHOOTING = ((TOP / "docs" / f"{name}.md").read_text()
+                                      for name in ("COMMANDS", "FORMATS", "TROUBLESHOOTING"))
 MANUAL = (TOP / "share" / "pfs.1").read_text()
-PAGES = [TOP / "README.md", TOP / "experiments" / "README.md", *sorted((TOP / "docs").glob("*.md"))]
+PAGES = [TOP / "README.md", TOP / "experiments" / "README.md", *sorted((TOP / "docs").rglob("*.md"))]
 MOST_SECONDS = 120
 
 
@@ -41,36 +44,9 @@ def table(text: str, *head: str) -> list[list[str]]:
     return [row for rows in tables(text) if rows[0] == list(head) for row in rows[1:]]
 
 
-def number(text: str) -> int:
-    return int(text.replace(",", ""))
-
-
-def plain(source: str) -> str:
-    """A part of the manual page's source as one line of its words."""
-    words = re.sub(r"^\.(?:Cm|Li|Ar|Nm) ", "", source, flags=re.MULTILINE)
-    line = " ".join(re.sub(r"^\.(?:Bl|El|Pp).*$", "", words, flags=re.MULTILINE).split())
-    return line.replace(" ,", ",").replace(" .", ".")
-
-
 def section(title: str) -> str:
     """The source of a section of the manual page."""
     return MANUAL.partition(f"\n.Sh {title}\n")[2].partition("\n.Sh ")[0] + "\n"
-
-
-def items(source: str) -> dict[str, str]:
-    """What stands behind each item of the lists."""
-    parts = re.split(r"^\.It (.*)$", source, flags=re.MULTILINE)
-    return dict(zip(parts[1::2], parts[2::2]))
-
-
-def item(source: str, name: str) -> str:
-    """What stands behind an item, and nothing where there is no such item."""
-    return items(source).get(name, "")
-
-
-def first_range(text: str) -> tuple[int, int]:
-    assert ranges(text), f"no range is told: {text!r}"
-    return ranges(text)[0]
 
 
 # Examples
@@ -95,10 +71,10 @@ def examples(page: str, text: str) -> list[Example]:
     return [Example(page, command, re.sub("\n+$", "\n", printed.lstrip("\n"))) for command, printed in found]
 
 
-def readme_examples() -> list[Example]:
+def page_examples(page: str) -> list[Example]:
     """The blocks that begin with a command."""
-    blocks = re.findall(r"^```\w*\n(\$ .*?)^```$", README, re.MULTILINE | re.DOTALL)
-    return examples("README.md", "\n".join(blocks))
+    blocks = re.findall(r"^```\w*\n(\$ .*?)^```$", (TOP / page).read_text(), re.MULTILINE | re.DOTALL)
+    return examples(page, "\n".join(blocks))
 
 
 def manual_examples() -> list[Example]:
@@ -106,7 +82,8 @@ def manual_examples() -> list[Example]:
     return examples("pfs.1", "".join(blocks).replace(r"\e", "\\"))
 
 
-EXAMPLES = {"README.md": readme_examples(), "pfs.1": manual_examples()}
+EXAMPLES = {page: page_examples(page) for page in ("README.md", "docs/COMMANDS.md", "docs/COOKBOOK.md")} \
+    | {"pfs.1": manual_examples()}
 
 
 @pytest.fixture(scope="module")
@@ -148,10 +125,10 @@ def test_a_page_has_examples(page: str) -> None:
     assert len(EXAMPLES[page]) > 5
 
 
-# README and links
+# Commands and links
 
-def test_readme_has_the_commands_of_the_usage_text_and_the_one_without_words() -> None:
-    assert [command.strip("`") for command, _ in table(README, "Command", "Prints")] == [*LINES, "pfs"]
+def test_the_page_on_commands_has_those_of_the_usage_text_and_the_one_without_arguments() -> None:
+    assert [command.strip("`") for command, _ in table(COMMANDS, "Command", "Prints")] == [*LINES, "pfs"]
 
 
 @pytest.mark.parametrize("page", PAGES, ids=[str(page.relative_to(TOP)) for page in PAGES])
@@ -160,20 +137,21 @@ def test_the_pages_to_which_a_page_links_are_there(page: pathlib.Path) -> None:
     assert [name for name in named if not (page.parent / name).exists()] == []
 
 
-def test_readme_shows_the_usage_of_gantt() -> None:
-    told = re.search(r"^`(tools/gantt [^`]*)` draws", README, re.MULTILINE)
-    assert told and f"usage: {told[1]}\n" in (TOP / "tools" / "gantt").read_text().replace('"""', "\n")
+def test_the_page_on_pictures_shows_the_usage_of_gantt() -> None:
+    usage = (TOP / "docs" / "PICTURES.md").read_text().partition("\n`")[2].partition("`")[0]
+    assert usage.startswith("tools/gantt ")
+    assert f"usage: {usage}\n" in (TOP / "tools" / "gantt").read_text().replace('"""', "\n")
 
 
-SLIPS = [re.findall("`([^`]+)`", typed)[0] for typed, _ in table(README, "Typed", "Reason")]
+SLIPS = [re.findall("`([^`]+)`", typed)[0] for typed, _ in table(TROUBLESHOOTING, "Typed", "Reason")]
 
 
 @pytest.mark.parametrize("line", SLIPS)
-def test_a_slip_that_readme_names_gets_the_usage(line: str, pfs: Program, worked: pathlib.Path) -> None:
+def test_a_slip_gets_the_usage(line: str, pfs: Program, worked: pathlib.Path) -> None:
     assert pfs.run(line.removeprefix("pfs "), worked) == Ran(b"", USAGE, 3)
 
 
-def test_readme_names_slips() -> None:
+def test_the_page_names_slips() -> None:
     assert len(SLIPS) > 10
 
 
@@ -187,98 +165,71 @@ FILE_SLIPS = {
 
 
 @pytest.mark.parametrize("fault", FILE_SLIPS)
-def test_a_fault_that_readme_explains_comes_of_this(fault: str, pfs: Program, worked: pathlib.Path) -> None:
-    """Where README tells how to show what stands before the byte, that is shown."""
+def test_a_fault_that_is_explained_has_this_reason(fault: str, pfs: Program, worked: pathlib.Path) -> None:
+    """If the page says how to show the line up to the byte, that command shows it."""
     files = {"bom": b"\xef\xbb\xbf3 2 0 0 0\n3 2 4\n2 5 1\n", "minus": b"2 1 0 0 0\n2 -5\n",
              "point": b"2 1 0 0 0\n1.5 1\n", "spaces": b"order 3\n1  2 3\nmakespan 11\n",
              "more": b"order 3\n1 2 3\nmakespan 11\n\n", "windows": b"order 3\r\n1 2 3\r\nmakespan 11\r\n"}
     for name, text in files.items():
         (worked / name).write_bytes(text)
-    assert f"**`pfs: {fault}`**" in README.partition("## Troubleshooting")[2]
     for line, shown in FILE_SLIPS[fault]:
         told = re.fullmatch(f"pfs: {fault.replace('X', r'([0-9]+)')}\n", pfs.run(line, worked).stderr.decode())
         assert told, line
         if shown:
             show = f"head -c {told[1]} {line.split()[-1]} | tail -n 1"
+            assert "`head -c X FILE | tail -n 1`" in TROUBLESHOOTING
             assert run_line(show, worked).encode() == shown
 
 
-# Faults
-
-def faults_of_formats() -> dict[str, int]:
-    """The texts of the table of faults, each with its status."""
-    return {told: int(status) for _, text, status in table(FORMATS, "Fault", "Text", "Status")
-            for told in re.findall("`([^`]+)`", text)[:1]}
+def test_the_page_explains_only_these_faults() -> None:
+    assert {message.strip("`") for message, _ in table(TROUBLESHOOTING, "Message", "Reason")} \
+        == {f"pfs: {fault}" for fault in FILE_SLIPS}
 
 
-EXITS = table(README, "Exit status", "When", "Standard error")
+# Faults and exit statuses
+
+def test_the_faults_are_those_of_the_program() -> None:
+    assert sorted(STATUS_OF_FAULT) == sorted(FAULTS)
 
 
-def faults_of_readme() -> dict[str, int]:
-    return {text: int(status) for status, _, told in EXITS for text in re.findall("`(pfs: [^`]+)`", told)}
-
-
-def faults_of_manual() -> dict[str, int]:
-    """The status of a fault of the manual page is that of the sentence above its list."""
-    found, status = {}, 0
-    for line in section("DIAGNOSTICS").splitlines():
-        told, item = re.search(r"\b[Ww]ith status (\d):$", line), re.fullmatch(r'\.It "(.*)"', line)
-        status = int(told[1]) if told else status
-        found.update({item[1]: status} if item else {})
-    return found
-
-
-TOLD = [(page, text, status) for page, told in (("FORMATS.md", faults_of_formats()), ("README.md", faults_of_readme()),
-                                                ("pfs.1", faults_of_manual())) for text, status in told.items()]
-
-
-@pytest.mark.parametrize(("page", "text", "status"), TOLD, ids=[f"{page}: {text}" for page, text, _ in TOLD])
-def test_a_fault_of_a_page_is_the_programs(page: str, text: str, status: int, pfs: Program,
-                                           worked: pathlib.Path) -> None:
-    assert text in FAULTS, f"no fault of the program is {text!r}"
+@pytest.mark.parametrize(("text", "status"), STATUS_OF_FAULT.items(), ids=STATUS_OF_FAULT)
+def test_a_fault_has_its_text_and_status(text: str, status: int, pfs: Program, worked: pathlib.Path) -> None:
     fault = FAULTS[text]
-    told = USAGE if text == "pfs: usage" else with_numbers(text, fault.numbers).encode() + b"\n"
     ran = met(pfs, fault, worked)
-    assert ran.stderr == told, f"the text of the fault that {page} tells as {text!r}"
-    assert ran.status == status, f"the status that {page} tells of {text!r}"
+    assert ran.stderr == (USAGE if text == "pfs: usage" else with_numbers(text, fault.numbers).encode() + b"\n")
+    assert ran.status == status
 
 
-@pytest.mark.parametrize("told", [faults_of_formats(), faults_of_manual()], ids=["FORMATS.md", "pfs.1"])
-def test_a_page_tells_all_faults(told: dict[str, int]) -> None:
-    assert "\n".join(sorted(told)) == "\n".join(sorted(FAULTS))
+def test_the_exit_statuses_name_the_faults_that_are_of_no_file() -> None:
+    """Each with its status; those of files have status 2, and the usage text is no single line."""
+    named = {text: it["status"] for it in EXITS for text in it.get("faults", ())}
+    assert named == {text: status for text, status in STATUS_OF_FAULT.items() if status != 2 and text != "pfs: usage"}
 
 
-def test_readme_tells_all_faults_but_those_of_files() -> None:
-    of_files = {text for text, status in faults_of_formats().items() if status == 2}
-    assert "\n".join(sorted(faults_of_readme())) == "\n".join(sorted(set(FAULTS) - of_files - {"pfs: usage"}))
-
-
-@pytest.mark.parametrize("row", EXITS, ids=[when[:40] for _, when, _ in EXITS])
-def test_when_a_status_of_readme_comes(row: list[str], pfs: Program, worked: pathlib.Path) -> None:
-    status, when, told = row
-    lines = [line for phrase, lines in WHEN.items() if phrase in when for line in lines]
-    assert lines, f"no command line is known for {when!r}"
-    for line in lines:
+@pytest.mark.parametrize("exit_of", EXITS, ids=[it["when"][:40] for it in EXITS])
+def test_when_the_program_ends_with_a_status(exit_of: dict[str, Any], pfs: Program, worked: pathlib.Path) -> None:
+    for line in WHEN[exit_of["when"]]:
         ran = line_met(line, pfs, worked)
-        assert ran.status == int(status), f"the status of `{line}`, where README says {when!r}"
-        assert (ran.stderr == b"") == (told == ""), f"standard error of `{line}`"
-        assert ran.stderr == USAGE or told != "the usage text", f"standard error of `{line}`"
+        assert ran.status == exit_of["status"], f"the status of `{line}`"
+        assert (ran.stderr == b"") == exit_of.keys().isdisjoint({"faults", "error"}), f"standard error of `{line}`"
+        assert (ran.stderr == USAGE) == (exit_of.get("error") == "the usage text"), f"standard error of `{line}`"
 
 
-# Command lines over the worked files, or faults, by what a page says of them.
+# Command lines over the worked files, or faults, by what share/facts.toml says of them.
 WHEN = {
     "done": ["value --layout taillard three"],
-    "`wrong size`": ["check --layout taillard three two", "table --layout taillard three two"],
-    "`wrong machines`": ["check --layout taillard three for_three", "table --layout taillard three for_three"],
-    "`wrong makespan`": ["check --layout taillard three wrong"],
-    "a file or": ["value --layout taillard mixed", "check --layout taillard three short"],
-    "generator's seed is refused": ["generate 1 1 0"],
-    "no command takes the words": ["help", "value --layout x three"],
-    "more jobs are to be taken out": ["pfs: take D exceeds N jobs"],
-    "can't be opened": ["pfs: cannot open"],
+    "`check` or `table` printed `wrong size` or `wrong machines`, or `check` printed `wrong makespan`": [
+        "check --layout taillard three two", "table --layout taillard three two",
+        "check --layout taillard three for_three", "table --layout taillard three for_three",
+        "check --layout taillard three wrong"],
+    "a file or a generator's seed is rejected": [
+        "value --layout taillard mixed", "check --layout taillard three short", "generate 1 1 0"],
+    "no command takes the arguments": ["help", "value --layout x three"],
+    "the destruction size is greater than the number of jobs": ["pfs: take D exceeds N jobs"],
+    "a file can't be opened": ["pfs: cannot open"],
     "a read failed": ["pfs: read failed", "pfs: order file read failed"],
     "a write failed": ["pfs: write failed after X bytes"],
-    "memory was refused": ["pfs: no memory"],
+    "memory allocation failed": ["pfs: no memory"],
 }
 
 
@@ -299,40 +250,11 @@ def verdicts(text: str) -> set[tuple[str, str]]:
             for verdict in names.split(" or ")}
 
 
-@pytest.mark.parametrize("text", [
-    pytest.param(" ".join(when for status, when, _ in EXITS if status == "1").replace("`", ""), id="README.md"),
-    pytest.param(plain(item(section("EXIT STATUS"), "1")), id="pfs.1"),
-])
-def test_a_page_tells_which_verdicts_end_with_status_1(text: str, pfs: Program, worked: pathlib.Path) -> None:
+def test_these_verdicts_end_with_status_1(pfs: Program, worked: pathlib.Path) -> None:
+    text = " ".join(it["when"] for it in EXITS if it["status"] == 1).replace("`", "")
     ran = {pair: pfs.run(f"{pair[0]} --layout taillard three {order}", worked) for pair, order in VERDICTS.items()}
     wanted = {pair for pair, told in ran.items() if told.status == 1 and told.stdout.startswith(pair[1].encode())}
     assert verdicts(text) == wanted
-
-
-# The exit statuses of the manual page, in its words.
-STATUSES = {
-    "Done.": ["value --layout taillard three"],
-    "check or table printed wrong size or wrong machines, or check printed wrong makespan.":
-        ["check --layout taillard three two", "check --layout taillard three wrong"],
-    "A file, or the generator's seed, is refused.": ["value --layout taillard mixed", "generate 1 1 0"],
-    "No command takes the words, or more jobs are to be taken out than there are.":
-        ["help", "pfs: take D exceeds N jobs"],
-    "A file cannot be opened, a read or a write failed, or memory was refused.":
-        ["pfs: cannot open", "pfs: read failed", "pfs: order file read failed", "pfs: write failed after X bytes",
-         "pfs: no memory"],
-}
-
-
-@pytest.mark.parametrize("status", range(5))
-def test_an_exit_status_of_the_manual_page_is_the_programs(status: int, pfs: Program, worked: pathlib.Path) -> None:
-    text = plain(item(section("EXIT STATUS"), str(status)))
-    assert text in STATUSES, f"no status is known for {text!r}"
-    found = {line: line_met(line, pfs, worked).status for line in STATUSES[text]}
-    assert found == dict.fromkeys(STATUSES[text], status), f"statuses where the page says {text!r}"
-
-
-def test_the_manual_page_tells_five_exit_statuses() -> None:
-    assert list(items(section("EXIT STATUS"))) == ["0", "1", "2", "3", "4"]
 
 
 # Opening and writing
@@ -365,16 +287,13 @@ def opened(pfs: Program, folder: pathlib.Path) -> list[str]:
     return list(ends)
 
 
-@pytest.mark.parametrize("text", [pytest.param(README, id="README.md"),
-                                  pytest.param(plain(section("FILES")), id="pfs.1")])
-def test_a_page_tells_the_order_of_opening(text: str, pfs: Program, folder: pathlib.Path) -> None:
-    told = re.search(r"(FILE|ORDER) and then (FILE|ORDER) are opened before anything is read\.", text)
-    assert told, "no sentence says which file is opened first"
-    assert list(told.groups()) == opened(pfs, folder), "the order in which the program opens them"
+def test_the_instance_file_is_opened_before_the_order_file(pfs: Program, folder: pathlib.Path) -> None:
+    assert "FILE and then ORDER are opened before anything is read." in COMMANDS
+    assert "\n.Ar FILE\nand then\n.Ar ORDER\nare opened before anything is read.\n" in MANUAL
+    assert opened(pfs, folder) == ["FILE", "ORDER"]
 
 
-def test_readme_tells_the_size_of_the_buffer(pfs: Program, folder: pathlib.Path) -> None:
-    told = re.search(r"buffer of ([\d,]+) bytes", README)
+def test_the_page_has_the_size_of_the_buffer(pfs: Program, folder: pathlib.Path) -> None:
     # each call of the system sends one packet
     here, there = socket.socketpair(socket.AF_UNIX, socket.SOCK_SEQPACKET)
     with here, there:
@@ -385,64 +304,45 @@ def test_readme_tells_the_size_of_the_buffer(pfs: Program, folder: pathlib.Path)
         while here.recv(1 << 20):
             pass
         child.communicate()
-    assert told and number(told[1]) == first
+    assert f"Standard output goes through a buffer of {first:,} bytes." in COMMANDS
 
 
 # Ranges, defaults and limits
 
-READMES = {"--rounds": r"makes R rounds \(([^;]*); (\w+) where it is left out\)",
-           "--take": r"each takes D jobs out \(([^;]*); the smaller of (\w+) and that number where it is left out\)",
-           "--passes": r"makes P passes \(([^;]*); (\w+) where it is left out\)",
-           "--seed": r"The seed is (any 64-bit number), (\w+) where it is left out\.",
-           "--block": r"the K-th block of the file, ([\d,]+ to [\d,]+), and (\w+) where it is left out\."}
-RANGED = ["--block", "--passes", "--rounds", "--seed", "--take"]
+def test_each_option_of_the_usage_text_is_a_fact() -> None:
+    assert {option for command in commands().values() for option in command.options} == {*OPTIONS, "--cells"}
 
 
-def option_items() -> dict[str, str]:
-    return {"-" + words.split()[1]: plain(text) for words, text in items(MANUAL).items() if words.startswith("Fl -")}
-
-
-def test_the_manual_page_has_the_range_of_each_option_with_a_number() -> None:
-    assert sorted(name for name, text in option_items().items() if ranges(text)) == RANGED
-
-
-@pytest.mark.parametrize("option", RANGED)
-def test_the_range_of_an_option_in_the_manual_page_is_the_programs(option: str, pfs: Program,
-                                                                   folder: pathlib.Path) -> None:
-    least, most = first_range(option_items()[option])
+@pytest.mark.parametrize("option", RANGES)
+def test_the_range_of_an_option_is_the_programs(option: str, pfs: Program, folder: pathlib.Path) -> None:
+    least, most = RANGES[option]
     assert ends_taken(pfs, option, least, most, folder) == ends_of(least, most)
 
 
-@pytest.mark.parametrize("option", RANGED)
-def test_the_range_of_an_option_in_readme_is_the_programs(option: str, pfs: Program, worked: pathlib.Path) -> None:
-    told = re.search(READMES[option], README)
-    assert told, f"README's words on {option}"
-    if told[1] == "1 to the number of jobs":
-        taken = {take: pfs.run(f"solve --layout taillard --take {take} three", worked).status for take in (0, 1, 3, 4)}
-        assert taken == {0: 3, 1: 0, 3: 0, 4: 3}
-    else:
-        least, most = (0, (1 << 64) - 1) if told[1] == "any 64-bit number" else first_range(told[1])
-        assert ends_taken(pfs, option, least, most, worked) == ends_of(least, most)
+def test_a_destruction_size_is_at_most_the_number_of_jobs(pfs: Program, worked: pathlib.Path) -> None:
+    taken = {take: pfs.run(f"solve --layout taillard --take {take} three", worked).status for take in (0, 1, 3, 4)}
+    assert taken == {0: 3, 1: 0, 3: 0, 4: 3}
 
 
-def default_of(page: str, option: str) -> int:
-    text = option_items()[option] if page == "pfs.1" else README
-    told = re.search(r"The default is (\d+)" if page == "pfs.1" else READMES[option].replace("([^;]*)", "[^;]*"), text)
-    assert told, f"the default of {option}"
-    return int(told[told.lastindex or 1])
-
-
-@pytest.mark.parametrize("option", RANGED)
-@pytest.mark.parametrize("page", ["README.md", "pfs.1"])
-def test_a_default_is_as_without_and_one_more_is_not(page: str, option: str, pfs: Program,
-                                                     folder: pathlib.Path) -> None:
-    default = default_of(page, option)
+@pytest.mark.parametrize("option", RANGES)
+def test_a_default_is_as_without_and_one_more_is_not(option: str, pfs: Program, folder: pathlib.Path) -> None:
+    default = OPTIONS[option]["default"]
     (folder / "shop").write_bytes(generated(20, 5, 1))
     call = "solve --layout taillard --cells shop" + " --rounds=3" * (option != "--rounds")
     without, same, more = (pfs.run(call + words, folder) for words in
                            ("", f" {option}={default}", f" {option}={default + 1}"))
     assert without.status == 0 and without == same, f"the default of {option}"
     assert without != more, f"one more than the default of {option}"
+
+
+@pytest.mark.parametrize("option", ["--layout", "--from", "--to"])
+def test_a_layout_is_one_of_these(option: str, pfs: Program, worked: pathlib.Path) -> None:
+    names = OPTIONS[option]["names"]
+    assert set(names) == LAYOUTS
+    lines = {"--layout": "value --layout {} none", "--from": "convert --from {} --to orlib none",
+             "--to": "convert --from orlib --to {} none"}
+    found = {name: pfs.run(lines[option].format(name), worked).status for name in [*names, "Taillard", "other"]}
+    assert found == dict.fromkeys(names, 4) | {"Taillard": 3, "other": 3}
 
 
 def test_the_default_take_of_fewer_jobs_is_their_number(pfs: Program, worked: pathlib.Path) -> None:
@@ -453,47 +353,28 @@ def test_the_default_take_of_fewer_jobs_is_their_number(pfs: Program, worked: pa
 
 @pytest.mark.parametrize(("script", "told"), [("_pfs", r"--(\w+)=\[([^]]*)\]"),
                                               ("pfs.fish", r"-l (\w+) .*-d '([^']*)'")])
-def test_a_range_in_a_completion_is_the_manual_pages(script: str, told: str) -> None:
+def test_a_range_in_a_completion_is_the_options(script: str, told: str) -> None:
     text = (TOP / "share" / "completions" / script).read_text().replace("\\\n", "")
     found = {f"--{name}": ranges(said)[0] for name, said in re.findall(told, text) if ranges(said)}
-    assert found == {option: ranges(option_items()[option])[0] for option in RANGED if option != "--seed"}
+    assert found == {option: each for option, each in RANGES.items() if option != "--seed"}
 
 
-SEED_RANGES = {
-    "README.md": README.partition("A generator's seed is ")[2].partition(".")[0],
-    "pfs.1, generate": item(MANUAL, "Cm generate").partition("SEED")[2],
-    "pfs.1, seed out of range": item(section("DIAGNOSTICS"), '"pfs: seed out of range"'),
-    "FORMATS.md": FORMATS.partition("the generator's seed out of ")[2].partition("|")[0],
-}
-
-
-@pytest.mark.parametrize("text", SEED_RANGES.values(), ids=SEED_RANGES)
-def test_the_range_of_a_generators_seed_is_the_programs(text: str, pfs: Program, folder: pathlib.Path) -> None:
-    least, most = first_range(text)
+def test_the_range_of_a_generators_seed_is_the_programs(pfs: Program, folder: pathlib.Path) -> None:
+    least, most = LIMITS["generator_seed"]
     assert {seed: pfs.run(f"generate 1 1 {seed}", folder).status for seed in (least - 1, least, most, most + 1)} \
         == {least - 1: 2, least: 0, most: 0, most + 1: 2}
 
 
-def test_the_sizes_of_generate_in_the_manual_page_are_the_programs(pfs: Program, folder: pathlib.Path) -> None:
-    (_, jobs), (_, machines), _ = ranges(item(MANUAL, "Cm generate"))
+def test_the_sizes_of_generate_are_the_programs(pfs: Program, folder: pathlib.Path) -> None:
+    jobs, machines = LIMITS["jobs"].most, LIMITS["machines"].most
     assert {size: pfs.run(f"generate {size} 1", folder).status for size in
             (f"{jobs} 1", f"{jobs + 1} 1", f"1 {machines}", f"1 {machines + 1}", "0 1", "1 0")} \
         == {f"{jobs} 1": 0, f"{jobs + 1} 1": 3, f"1 {machines}": 0, f"1 {machines + 1}": 3, "0 1": 3, "1 0": 3}
 
 
-LIMITS = {
-    "README.md": README.partition("\nLimits: ")[2].partition("\n")[0],
-    "FORMATS.md": FORMATS.partition("\nThe limits: ")[2].partition("\n")[0],
-    "pfs.1": plain(section("LIMITS")),
-}
-each_page_with_limits = pytest.mark.parametrize("text", LIMITS.values(), ids=LIMITS)
-
-
-@each_page_with_limits
-def test_the_limits_of_an_instance_are_the_programs(text: str, pfs: Program, folder: pathlib.Path) -> None:
+def test_the_limits_of_an_instance_are_the_programs(pfs: Program, folder: pathlib.Path) -> None:
     """Where a size is within its limit the times are missing."""
-    assert len(ranges(text)) >= 3, "ranges of jobs, machines and times"
-    (few, jobs), (fewer, machines), (least, time) = ranges(text)[:3]
+    (few, jobs), (fewer, machines), (least, time) = (LIMITS[name] for name in ("jobs", "machines", "time"))
     assert (few, fewer, least) == (1, 1, 0), "least sizes and time"
     wanted = {
         f"{jobs} 1 0 0 0": "truncated after 0 times", f"{jobs + 1} 1 0 0 0": "size line 1 is out of range",
@@ -504,14 +385,16 @@ def test_the_limits_of_an_instance_are_the_programs(text: str, pfs: Program, fol
     assert {shop: fault_in(shop, pfs, folder) for shop in wanted} == wanted
 
 
-@each_page_with_limits
-def test_the_limit_of_a_size_lines_notes_is_the_programs(text: str, pfs: Program, folder: pathlib.Path) -> None:
-    if "seed" in text:
-        least, most = ranges(text)[3]
-        notes = [f"1 1 {most} {most} {most}", f"1 1 {most + 1} 0 0", f"1 1 0 {most + 1} 0", f"1 1 0 0 {most + 1}"]
-        assert least == 0
-        assert [fault_in(shop, pfs, folder) for shop in notes] \
-            == ["truncated after 0 times"] + ["size line 1 is out of range"] * 3
+def test_the_limit_of_a_size_lines_notes_is_the_programs(pfs: Program, folder: pathlib.Path) -> None:
+    least, most = LIMITS["note"]
+    notes = [f"1 1 {most} {most} {most}", f"1 1 {most + 1} 0 0", f"1 1 0 {most + 1} 0", f"1 1 0 0 {most + 1}"]
+    assert least == 0
+    assert [fault_in(shop, pfs, folder) for shop in notes] \
+        == ["truncated after 0 times"] + ["size line 1 is out of range"] * 3
+
+
+def test_the_limit_of_blocks_is_that_of_the_option() -> None:
+    assert LIMITS["block"] == RANGES["--block"]
 
 
 def fault_in(shop: str, pfs: Program, folder: pathlib.Path) -> str:
@@ -520,19 +403,8 @@ def fault_in(shop: str, pfs: Program, folder: pathlib.Path) -> str:
     return pfs.run("value --layout taillard shop", folder).stderr.decode().removeprefix("pfs: ").removesuffix("\n")
 
 
-INPUT_LIMITS = {
-    **LIMITS,
-    "FORMATS.md, faults": FORMATS.partition("\n| byte ")[2].partition("\n")[0],
-    "pfs.1, input too long": plain(item(section("DIAGNOSTICS"), '"pfs: input too long"')),
-}
-
-
-@pytest.mark.parametrize("text", INPUT_LIMITS.values(), ids=INPUT_LIMITS)
-def test_the_limit_of_the_input_is_the_programs(text: str, pfs: Program, folder: pathlib.Path) -> None:
-    first = re.match(r"([\d,]+) comes before the wanted block is done", text)
-    told = re.search(r"([\d,]+) bytes (?:of input )?up to the end of the wanted block|within ([\d,]+) bytes", text)
-    assert first or told, "no limit of the input"
-    most = number(first[1]) - 1 if first else number(told[1] or told[2]) if told else 0
+def test_the_limit_of_the_input_is_the_programs(pfs: Program, folder: pathlib.Path) -> None:
+    most = LIMITS["input"].most
     ran = []
     for count in (most, most + 1):
         with open(folder / "shop", "wb") as file:
@@ -543,31 +415,13 @@ def test_the_limit_of_the_input_is_the_programs(text: str, pfs: Program, folder:
     assert ran == [Ran(b"makespan 5\n", b"", 0), Ran(b"", b"pfs: input too long\n", 2)]
 
 
-ORDER_LIMITS = {
-    "README.md": (README, r"order files of ([\d,]+) bytes"),
-    "FORMATS.md, order files": (FORMATS, r"An order file has at most ([\d,]+) bytes"),
-    "FORMATS.md, faults": (FORMATS, r"\| more than ([\d,]+) bytes \| `pfs: order file too long`"),
-    "pfs.1, limits": (plain(section("LIMITS")), r"An order file has at most ([\d,]+) bytes"),
-    "pfs.1, order file too long": (plain(item(section("DIAGNOSTICS"), '"pfs: order file too long"')),
-                                   r"more than ([\d,]+) bytes"),
-}
-
-
-@pytest.mark.parametrize(("text", "pattern"), ORDER_LIMITS.values(), ids=ORDER_LIMITS)
-def test_the_limit_of_an_order_file_is_the_programs(text: str, pattern: str, pfs: Program,
-                                                    worked: pathlib.Path) -> None:
-    told = re.search(pattern, text)
-    assert told, "no limit of an order file"
+def test_the_limit_of_an_order_file_is_the_programs(pfs: Program, worked: pathlib.Path) -> None:
+    most = LIMITS["order_file"].most
     found = []
-    for count in (number(told[1]), number(told[1]) + 1):
+    for count in (most, most + 1):
         (worked / "order").write_bytes(b"o" * count)
         found.append(pfs.run("check --layout taillard three order", worked).stderr)
     assert found == [b"pfs: order file syntax at 1\n", b"pfs: order file too long\n"], "at the limit and beyond it"
-
-
-def test_the_byte_that_formats_refuses_in_an_order_file_is_the_next_one() -> None:
-    told = re.search(r"An order file has at most ([\d,]+) bytes; byte ([\d,]+) is refused", FORMATS)
-    assert told and number(told[2]) == number(told[1]) + 1
 
 
 # Order files
@@ -580,34 +434,32 @@ def syntax(text: str, pfs: Program, worked: pathlib.Path) -> int | None:
     return int(told[1]) if told else None
 
 
-def test_the_offsets_of_formats_are_the_programs(pfs: Program, worked: pathlib.Path) -> None:
-    told = re.search(r"So `(.*)` is refused at (\d+), `(.*)` and then the end at (\d+), "
-                     r"`(.*)` and a line end at (\d+), and `(.*)` at (\d+)\.", FORMATS)
-    assert told, "no sentence on offsets"
-    ends = ["", "", "\n", "\n"]
-    for at, end in enumerate(ends):
-        text, offset = told[2 * at + 1] + end, int(told[2 * at + 2])
-        assert syntax(text, pfs, worked) == offset, f"{text!r}"
+OFFSETS = [(text.strip("`").replace("\\n", "\n"), int(offset)) for text, offset in table(FORMATS, "Input", "Offset")]
 
 
-def test_the_numerals_of_order_files_are_as_formats_says(pfs: Program, worked: pathlib.Path) -> None:
-    (few, jobs), (fewer, machines) = ranges(FORMATS.partition("\n- N is a numeral of ")[2].partition("\n")[0])
-    for least, most, text in ((few, jobs, "order {}\n1"), (fewer, machines, "order2 3 {}\n1")):
-        ends = [syntax(text.format(count), pfs, worked) for count in (most, least)]
-        assert None not in ends and min(end or 0 for end in ends) > text.index("{"), f"ends of the numerals of {text}"
-        offsets = [syntax(text.format(count), pfs, worked) for count in (most + 1, least - 1)]
-        assert offsets == [text.index("{") + len(str(most)) - 1, text.index("{")], f"beyond the numerals of {text}"
+@pytest.mark.parametrize(("text", "offset"), OFFSETS, ids=[repr(text) for text, _ in OFFSETS])
+def test_an_offset_of_formats_is_the_programs(text: str, offset: int, pfs: Program, worked: pathlib.Path) -> None:
+    assert syntax(text, pfs, worked) == offset
 
 
-@pytest.mark.parametrize(("words", "text"), [
-    (r"A job numeral is .* followed by at most (\w+) digits", "order2 3 2\n{} 1 2\nmakespan 0\n"),
-    (r"V is .* followed by at most (\w+) digits", "order2 3 2\n1 2 3\nmakespan {}\n"),
-], ids=["a job", "a makespan"])
-def test_a_numeral_has_as_many_digits_as_formats_says(words: str, text: str, pfs: Program,
-                                                      worked: pathlib.Path) -> None:
-    told = re.search(words, FORMATS)
-    assert told, "no sentence on the digits"
-    most = 1 + {"eight": 8, "seventeen": 17}[told[1]]
+def test_formats_has_offsets() -> None:
+    assert len(OFFSETS) > 3
+
+
+@pytest.mark.parametrize(("limit", "text"), [("jobs", "order {}\n1"), ("machines", "order2 3 {}\n1")])
+def test_the_numerals_of_an_order_files_first_line_are_within_the_limits(limit: str, text: str, pfs: Program,
+                                                                        worked: pathlib.Path) -> None:
+    least, most = LIMITS[limit]
+    ends = [syntax(text.format(count), pfs, worked) for count in (most, least)]
+    assert None not in ends and min(end or 0 for end in ends) > text.index("{"), f"ends of the numerals of {text}"
+    offsets = [syntax(text.format(count), pfs, worked) for count in (most + 1, least - 1)]
+    assert offsets == [text.index("{") + len(str(most)) - 1, text.index("{")], f"beyond the numerals of {text}"
+
+
+@pytest.mark.parametrize(("numeral", "text"), [("job", "order2 3 2\n{} 1 2\nmakespan 0\n"),
+                                               ("makespan", "order2 3 2\n1 2 3\nmakespan {}\n")])
+def test_a_numeral_has_at_most_these_digits(numeral: str, text: str, pfs: Program, worked: pathlib.Path) -> None:
+    most = FACTS["digits"][numeral]
     assert syntax(text.format("9" * most), pfs, worked) is None
     assert syntax(text.format("9" * (most + 1)), pfs, worked) == text.index("{") + most
 

@@ -7,7 +7,8 @@ import pytest
 from support.tree import files_below
 
 TOP = pathlib.Path(__file__).resolve().parent.parent
-PAGES = sorted(str(page.relative_to(TOP)) for page in (*TOP.glob("*.md"), *TOP.glob("*/*.md")))
+PAGES = sorted(str(page.relative_to(TOP)) for pattern in ("*.md", "*/*.md", "docs/*/*.md")
+               for page in TOP.glob(pattern))
 # A path, or the name of a file, in backquotes.
 NAMED = re.compile(r"`((?:[\w.-]+/)+[\w.-]*|[\w-]+\.(?:antt|cpp|edit|hpp|md|py|rt))`")
 # Modules stand in the pages without these endings too.

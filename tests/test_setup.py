@@ -1,4 +1,4 @@
-"""The packages that pfs and its tests need: README has the table of tools/packages, the tests need no others, and
+"""The packages that pfs and its tests need: INSTALL.md has the table of tools/packages, the tests need no others, and
 tools/setup installs the missing ones. It runs in a folder with its own list, with programs in the place of `id`,
 `sudo` and `apt-get` that note their calls."""
 import pathlib
@@ -9,7 +9,7 @@ import pytest
 from support.packages import package_of, packages
 from support.tools import Told, printed_by, told_by, write_script
 
-README = pathlib.Path(__file__).resolve().parent.parent / "README.md"
+INSTALL = pathlib.Path(__file__).resolve().parent.parent / "docs" / "INSTALL.md"
 LIST = """# a comment with a `command sh`
 
 [building]
@@ -128,9 +128,9 @@ def test_another_word_is_a_usage_error(machine: pathlib.Path) -> None:
 
 # The list
 
-def test_readme_has_the_table(top: pathlib.Path) -> None:
+def test_the_page_has_the_table(top: pathlib.Path) -> None:
     table = printed_by(["tools/setup", "--table"], top)
-    assert f"\n\n{table}\n" in README.read_text(), "`tools/setup --table` prints the table"
+    assert f"\n\n{table}" in INSTALL.read_text(), "`tools/setup --table` prints the table"
 
 
 def test_each_package_is_listed_once() -> None:

@@ -10,7 +10,8 @@ from support.needs import need
 from support.tools import need_of_debian, printed_by, told_by
 
 TOP = pathlib.Path(__file__).resolve().parent.parent
-PAGES = sorted(str(page.relative_to(TOP).with_suffix("")) for page in (*TOP.glob("*.md"), *TOP.glob("*/*.md")))
+PAGES = sorted(str(page.relative_to(TOP).with_suffix("")) for pattern in ("*.md", "*/*.md", "docs/*/*.md")
+               for page in TOP.glob(pattern))
 
 pytestmark = [pytest.mark.long, pytest.mark.seconds(20), pytest.mark.xdist_group("site")]
 

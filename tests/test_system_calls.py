@@ -11,8 +11,8 @@ from support.lines import ANSWERS, CHECK, CONVERT, GENERATE, PRINTING, SOLVE, TA
 from support.needs import missing, need
 from support.program import Program, Ran
 
-# README: "Standard output goes through a buffer of 8,192 bytes". The longest part of a text that goes into it at once
-# is the title of a file in Taillard's layout.
+# COMMANDS.md: "Standard output goes through a buffer of 8,192 bytes". The longest part of a text that goes into it at
+# once is the title of a file in Taillard's layout.
 BUFFER = 8_192
 LONGEST_PART = len(TITLE)
 LONG_OUTPUTS = {"generate 500 20 873654221": generated(500, 20, 873654221), "generate 5000 2 1": generated(5000, 2, 1)}

@@ -191,7 +191,8 @@ def test_rpd() -> None:
 
 @pytest.mark.parametrize(("words", "kind", "why"), [
     ((9,), ValueError, "the instance has no reference: its `upper` is 0"),
-    ((-1, 5), ValueError, "makespan is -1, and should be 0 to"), ((9, 0), ValueError, "reference is 0, and should be 1"),
+    ((-1, 5), ValueError, "makespan is -1, and should be 0 to"),
+    ((9, 0), ValueError, "reference is 0, and should be 1"),
     ((9.5, 5), TypeError, "makespan should be a whole number, not 9.5"), ((True, 5), TypeError, "makespan should be"),
     ((9, True), TypeError, "reference should be"), (([1, 0], 5), TypeError, "makespan should be a whole number"),
     ((2**64, 5), ValueError, "makespan is 18446744073709551616")])

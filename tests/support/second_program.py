@@ -1,9 +1,9 @@
 #!/usr/bin/env python3
 """A second program that does what `pfs` does: for the same words, files and standard input the same output, errors
-and exit status. It is written from README.md and docs/FORMATS.md and shares no method with the first: it judges whole
-lines of whole texts, asks of each front of an order file whether a text of the grammar begins with it, and evaluates
-whole orders, job by job, at every place of an insertion. So it serves for small shops only. `answer` is for tests;
-as a program it takes the words of `pfs`."""
+and exit status. It is written from docs/COMMANDS.md and docs/FORMATS.md and shares no method with the first: it judges
+whole lines of whole texts, asks of each front of an order file whether a text of the grammar begins with it, and
+evaluates whole orders, job by job, at every place of an insertion. So it serves for small shops only. `answer` is for
+tests; as a program it takes the words of `pfs`."""
 import os
 import re
 import sys
