@@ -92,6 +92,15 @@ const char *pfs_message(int number);
 int pfs_makespan(const uint32_t *times, size_t times_length, size_t jobs, size_t machines, const uint32_t *sequence,
                  size_t sequence_length, uint64_t *makespan);
 
+/* The makespans of makespans_length sequences of `length` distinct jobs each, which need not be all. They are stored
+ * one after the other: makespans[index] is that of the sequence that begins at sequences[index * length]. It needs no
+ * memory.
+ * Judged: sizes (PFS_SIZE), times_length, sequences_length, which is makespans_length * length (PFS_LENGTH), times
+ * (PFS_TIME), the jobs of the first sequence from the left, then those of the second, and so on (PFS_JOB,
+ * PFS_REPEATED). Where one sequence is invalid, no makespan is written. */
+int pfs_makespans(const uint32_t *times, size_t times_length, size_t jobs, size_t machines, const uint32_t *sequences,
+                  size_t sequences_length, size_t length, uint64_t *makespans, size_t makespans_length);
+
 /* A length of time below which no order's makespan goes (Taillard 1993): the greatest over the jobs of their totals,
  * and over the machines of their loads with the least times before and after them.
  * Judged: sizes (PFS_SIZE), times_length (PFS_LENGTH), times (PFS_TIME). */
@@ -131,6 +140,19 @@ int pfs_rounds(const uint32_t *times, size_t times_length, size_t jobs, size_t m
  * (PFS_JOB, PFS_REPEATED), the job (PFS_JOB, PFS_REPEATED). */
 int pfs_insert(const uint32_t *times, size_t times_length, size_t jobs, size_t machines, const uint32_t *sequence,
                size_t sequence_length, uint32_t job, size_t *place, uint64_t *makespan);
+
+/* The makespans with a job at each place of a sequence of others: makespans[place] is that with the job before the one
+ * at this place, and makespans[sequence_length] that with the job after the last. The first place that has the least of
+ * them is the one that pfs_insert finds.
+ * Judged: sizes (PFS_SIZE), times_length, makespans_length, which is sequence_length + 1 (PFS_LENGTH), times
+ * (PFS_TIME), the jobs of the sequence from the left (PFS_JOB, PFS_REPEATED), the job (PFS_JOB, PFS_REPEATED). */
+int pfs_insertions(const uint32_t *times, size_t times_length, size_t jobs, size_t machines, const uint32_t *sequence,
+                   size_t sequence_length, uint32_t job, uint64_t *makespans, size_t makespans_length);
+
+/* The words `first` to `first + words_length - 1` of the random numbers of a seed (Pcg32, O'Neill 2014), counted from
+ * 0. Round r of pfs_rounds uses the `take` words from word r * take on: each takes out the job at the place that is the
+ * word's remainder by the number of jobs that are left in the order. It needs no memory, and returns PFS_OK. */
+int pfs_random(uint64_t seed, uint64_t first, uint32_t *words, size_t words_length);
 
 /* Draws times from 1 to 99 from a seed, as Taillard (1993) does for his benchmark.
  * Judged: sizes (PFS_SIZE), seed (PFS_SEED), times_length, which is jobs * machines (PFS_LENGTH). */

@@ -259,7 +259,7 @@ def said_of(option: str, answer: Answer) -> str:
 
 # A word or two of what each option is for, which what is said of any other option doesn't have.
 MEANT = {"--layout": "layout of the instance file", "--from": "layout of the instance file", "--to": "layout to print",
-         "--block": "which block", "--rounds": "rounds of iterated greedy", "--take": "jobs that a round takes out",
+         "--block": "which block", "--rounds": "rounds of iterated greedy", "--take": "jobs that a round removes",
          "--seed": "seed of the random numbers", "--passes": "passes that a round makes", "--cells": "table cells"}
 OPTIONS = [(command, option) for command, (options, _) in commands().items() for option in options]
 

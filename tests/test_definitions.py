@@ -81,6 +81,29 @@ def test_this_word_of_the_headline_stands_in_the_page(name: str, top: pathlib.Pa
     assert name in told(top)
 
 
+# The list of what is proved
+
+LIBRARIES = ["pfs_base", "pfs_layout", "pfs_order", "pfs_audit", "pfs_insert", "pfs_wave", "pfs_search", "pfs_words",
+             "pfs_desk", "pfs_c"]
+
+
+def promised(crate: pathlib.Path) -> set[str]:
+    """The laws of a crate, and the functions that it exports."""
+    sources = {path: path.read_text() for path in (crate / "src").rglob("*.rt")}
+    lists = re.findall(r"^pub use (?!pfs_)[\w:]*::(\{[^}]*\}|\w+);", sources[crate / "src" / "lib.rt"], re.MULTILINE)
+    exported = {name for names in lists for name in re.findall(r"\b[a-z]\w*", names)}
+    calls = {name for text in sources.values() for name in re.findall(r'^pub extern "C" fn (\w+)', text, re.MULTILINE)}
+    laws = re.findall(r"^pub fn (\w+)", sources.get(crate / "src" / "laws.rt", ""), re.MULTILINE)
+    return exported | calls | set(laws)
+
+
+@pytest.mark.parametrize("crate", LIBRARIES)
+def test_each_promise_of_a_crate_is_in_the_list_of_proofs(crate: str, top: pathlib.Path) -> None:
+    section = (top / "docs" / "PROOFS.md").read_text().partition(f"\n### {crate}\n")[2].partition("\n##")[0]
+    listed = {word for code in re.findall("`([^`]+)`", section) for word in re.findall(r"\w+", code)}
+    assert promised(top / "crates" / crate) and promised(top / "crates" / crate) - listed == set()
+
+
 # A crate over another one: what is reached of these
 
 LOW = """-- so many

@@ -1,5 +1,6 @@
 """The examples of the library for C: each compiles without a warning by the line of their page, with pkg-config over a
-folder like an installed one, prints what the page shows, and what the program or the second program computes."""
+folder like an installed one, prints what the page shows, and what the program or the second program computes. README's
+lines in C and in Python."""
 import pathlib
 import re
 import shlex
@@ -11,9 +12,10 @@ from support.library import HEADER, Library, compile_quietly
 from support.needs import need
 from support.program import Program
 from support.second_program import Instance
-from support.tools import Told, printed_by, told_by, with_path
+from support.tools import Told, need_of_debian, printed_by, told_by, with_path
 
 EXAMPLES = HEADER.parent.parent / "examples"
+README = HEADER.parent.parent / "README.md"
 PAGE = (EXAMPLES / "README.md").read_text()
 SOURCES = sorted(path for path in EXAMPLES.iterdir() if path.suffix in (".c", ".cpp"))
 VERSION = (HEADER.parent.parent / "VERSION").read_text().strip()
@@ -133,6 +135,47 @@ def test_audits(built: pathlib.Path, folder: pathlib.Path) -> None:
         status = run(built, "audit_orders", "shop", *names, cwd=folder).status
         assert status == 1, f"the status of the files {names}"
     assert run(built, "audit_orders", "shop", "right", "right", "one", cwd=folder).status == 0
+
+
+def block_of_readme(language: str) -> str:
+    found = re.findall(rf"^```{language}\n(.*?)^```$", README.read_text(), re.MULTILINE | re.DOTALL)
+    assert len(found) == 1
+    return str(found[0])
+
+
+PROGRAM = """#include <inttypes.h>
+#include <stdio.h>
+{include}
+int main(void) {{
+{lines}
+    printf("status %d, order %" PRIu32 " %" PRIu32 " %" PRIu32 ", makespan %" PRIu64 "\\n", status, order[0], order[1],
+           order[2], makespan);
+    return 0;
+}}
+"""
+
+
+def test_readmes_lines_in_c(installed: pathlib.Path, folder: pathlib.Path) -> None:
+    """They compile, and leave what the comment says."""
+    include, lines = block_of_readme("c").split("\n", 1)
+    assert "/* order is now 1 0 2, makespan 10 */" in lines
+    (folder / "readme.c").write_text(PROGRAM.format(include=include, lines=lines))
+    env = {"PKG_CONFIG_PATH": str(installed / "lib" / "pkgconfig"), "PATH": "/usr/bin:/bin"}
+    flags = shlex.split(printed_by([need("pkg-config"), "--cflags", "--libs", "pfs"], folder, env=env))
+    rpath = f"-Wl,-rpath,{installed / 'lib'}"
+    compile_quietly([need("cc"), "-std=c99", "-Wall", "-Wextra", "-Werror", "-o", folder / "readme",
+                     folder / "readme.c", *flags, rpath])
+    assert printed_by([folder / "readme"], folder) == "status 0, order 1 0 2, makespan 10\n"
+
+
+def test_readmes_lines_in_python(libpfs: Library, folder: pathlib.Path) -> None:
+    need_of_debian("numpy")
+    (folder / "lines").write_text(block_of_readme("python"))
+    env = {"PYTHONPATH": str(README.parent / "python" / "src"), "PFS_LIBRARY": str(libpfs.path),
+           "PATH": "/usr/bin:/bin", "PYTHONDONTWRITEBYTECODE": "1"}
+    script = "import doctest, sys; print(doctest.testfile('lines', module_relative=False))"
+    told = told_by(["/usr/bin/python3", "-c", script], folder, env=env)
+    assert told == Told(0, "TestResults(failed=0, attempted=3)\n", "")
 
 
 @pytest.mark.parametrize("name", [path.stem for path in SOURCES])

@@ -1,5 +1,5 @@
-"""share/facts.toml has each limit, option and fault once: the marked blocks of the pages are what tools/facts writes,
-and the limits and options are those of the crates."""
+"""share/facts.toml has each limit, option and fault once: the marked blocks of the pages, the ranges in completions and
+the numerals in code are what tools/facts writes, and the limits and options are those of the crates."""
 import pathlib
 import re
 import shutil
@@ -9,6 +9,10 @@ from support.facts import FACTS, LIMITS, RANGES
 from support.tools import Told, printed_by, told_by
 
 PAGES = ["docs/COMMANDS.md", "docs/FORMATS.md", "share/pfs.1"]
+COMPLETIONS = ["share/completions/_pfs", "share/completions/pfs.fish"]
+# Each numeral of code, by its file, its pattern and its limit.
+NUMERALS = [(each["file"], pattern, limit) for each in FACTS["numerals"] for pattern, limit in each["places"]]
+CODE = sorted({file for file, _, _ in NUMERALS})
 # Options whose range isn't that of a limit.
 CONSTANTS = {"--rounds": "MOST_ROUNDS", "--passes": "MOST_PASSES", "--take": "MOST_JOBS", "--block": "MOST_BLOCKS"}
 BLOCK = re.compile(r'(?:<!--|\.\\") facts: ')
@@ -27,8 +31,8 @@ def test_each_page_with_a_block_is_written(top: pathlib.Path) -> None:
 @pytest.fixture
 def copy(top: pathlib.Path, folder: pathlib.Path) -> pathlib.Path:
     """A folder with what tools/facts reads and writes."""
-    for name in ["tools/facts", "share/facts.toml", *PAGES]:
-        (folder / name).parent.mkdir(exist_ok=True)
+    for name in ["tools/facts", "share/facts.toml", *PAGES, *COMPLETIONS, *CODE]:
+        (folder / name).parent.mkdir(parents=True, exist_ok=True)
         shutil.copy(top / name, folder / name)
     return folder
 
@@ -39,8 +43,12 @@ def copy(top: pathlib.Path, folder: pathlib.Path) -> pathlib.Path:
     ("docs/FORMATS.md", "byte 67,108,865 comes", "byte 67,108,864 comes"),
     ("share/pfs.1", "\nThe default is 4, or", "\nThe default is 5, or"),
     ("share/pfs.1", "\nMemory allocation failed.\n", "\nMemory failed.\n"),
+    ("share/completions/_pfs", "greedy, 0 to 1,000,000]", "greedy, 1 to 1,000]"),
+    ("share/completions/_pfs", "read, 1 to 1,000]", "read, 1 to 2,000]"),
+    ("share/completions/pfs.fish", "read, 1 to 1,000'", "read, 1 to 2,000'"),
+    ("share/completions/pfs.fish", "makes, 0 to 100'", "makes, 0 to 101'"),
 ])
-def test_a_block_that_is_out_of_date_is_found_and_written(copy: pathlib.Path, page: str, old: str, new: str) -> None:
+def test_what_is_out_of_date_is_found_and_written(copy: pathlib.Path, page: str, old: str, new: str) -> None:
     before = (copy / page).read_text()
     assert before.count(old) == 1
     (copy / page).write_text(before.replace(old, new))
@@ -49,6 +57,52 @@ def test_a_block_that_is_out_of_date_is_found_and_written(copy: pathlib.Path, pa
     assert old not in (copy / page).read_text(), "--check writes a page"
     assert printed_by([copy / "tools" / "facts"], copy) == ""
     assert (copy / page).read_text() == before
+
+
+def numeral(code: str, pattern: str) -> re.Match[str]:
+    found = re.search(pattern.replace(" ", r"\s+"), code, re.MULTILINE)
+    assert found, pattern
+    return found
+
+
+def test_wrong_numerals_are_found_and_written(copy: pathlib.Path) -> None:
+    """All of them, and then they are written as before, but for separators."""
+    before = {file: (copy / file).read_text() for file in CODE}
+    for file, pattern, _ in NUMERALS:
+        code = (copy / file).read_text()
+        found = numeral(code, pattern)
+        (copy / file).write_text(f"{code[:found.start(1)]}7{code[found.end(1):]}")
+    told = told_by([copy / "tools" / "facts", "--check"], copy)
+    assert (told.status, sorted(told.stderr.splitlines())) \
+        == (1, [f"facts: {file} is out of date: run tools/facts" for file in CODE])
+    assert printed_by([copy / "tools" / "facts"], copy) == ""
+    after = {file: (copy / file).read_text() for file in CODE}
+    for file, pattern, limit in NUMERALS:
+        old, new = (re.sub("[,_]", "", numeral(texts[file], pattern)[1]) for texts in (before, after))
+        assert old == new, f"{limit} in {file}"
+
+
+def test_a_numeral_that_is_not_found_is_reported(copy: pathlib.Path) -> None:
+    path = copy / "lib" / "pfs_text.c"
+    path.write_text(path.read_text().replace("passes", "walks"))
+    told = told_by([copy / "tools" / "facts", "--check"], copy)
+    assert told == Told(1, "", 'facts: lib/pfs_text.c: 0 places match "more than (\\d+) passes"\n')
+
+
+def test_the_checklist_for_a_limit_names_each_file_with_a_numeral(top: pathlib.Path) -> None:
+    text = (top / "docs" / "maintain" / "CHANGES.md").read_text().partition("\n## A limit\n")[2].partition("\n## ")[0]
+    assert len(CODE) > 10 and [file for file in CODE if f"{pathlib.Path(file).name}`" not in text] == []
+
+
+@pytest.mark.parametrize(("old", "new", "fault"), [
+    ("<!-- end of facts -->\n\nOptions may", "\nOptions may", "a block has no end"),
+    ("<!-- facts: limits -->", "<!-- facts: limit -->", "there is no block named limit"),
+])
+def test_a_wrong_block_is_reported(copy: pathlib.Path, old: str, new: str, fault: str) -> None:
+    page = copy / "docs" / "COMMANDS.md"
+    assert page.read_text().count(old) == 1
+    page.write_text(page.read_text().replace(old, new))
+    assert told_by([copy / "tools" / "facts"], copy) == Told(1, "", f"facts: docs/COMMANDS.md: {fault}\n")
 
 
 def test_other_words_get_the_usage(top: pathlib.Path) -> None:

@@ -621,7 +621,7 @@ def test_a_default_that_a_page_tells_is_the_options(told: dict[str, str], gantt:
 # When an exit status is returned, as the manual page says it.
 STATUSES: dict[str, list[tuple[list[str], str]]] = {
     "The picture is written.": [(["picture.svg"], THREE), (["--critical", "picture.png"], THREE)],
-    "The time table or the command line is refused.": [
+    "The time table or the command line is rejected.": [
         (["picture.svg"], "no table\n"), (["picture.gif"], THREE), (["--unknown", "picture.svg"], THREE),
         (["missing", "picture.svg"], THREE), (["nowhere/picture.svg"], THREE)]}
 
@@ -634,7 +634,7 @@ def test_an_exit_status_of_the_manual_page_is_that_of_gantt(gantt: Gantt, folder
         for words, table in STATUSES[text]:
             assert gantt(folder, *words, text=table).status == status, f"{words}, where the page says: {text}"
     rejected = re.findall(r"rejected with one line on standard error and status (\d)", PAGE)
-    assert rejected == [str(told["The time table or the command line is refused."])], "the status on the page"
+    assert rejected == [str(told["The time table or the command line is rejected."])], "the status on the page"
 
 
 def test_the_example_of_the_manual_page(gantt: Gantt, folder: pathlib.Path, pfs: Program, top: pathlib.Path) -> None:

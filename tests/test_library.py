@@ -20,12 +20,13 @@ from support.tools import printed_by
 CALLS = SUPPORT / "library_calls.c"
 # Each function that is proved, and whether each call of it asks for memory.
 FUNCTIONS = {
-    "makespan": True, "bound": False, "table": True, "neh": True, "rounds": True, "insert": True, "generate": False,
-    "read": False, "write": False, "read_order": False, "write_order": False,
+    "makespan": True, "makespans": False, "bound": False, "table": True, "neh": True, "rounds": True, "insert": True,
+    "insertions": True, "random": False, "generate": False, "read": False, "write": False, "read_order": False,
+    "write_order": False,
 }
 TEXTS = {"pfs_message", "pfs_version"}
 NAMES = {f"pfs_{name}" for name in FUNCTIONS} | TEXTS
-ALL_CALLS = Ran(b"187 calls, 0 failures\n", b"", 0)
+ALL_CALLS = Ran(b"242 calls, 0 failures\n", b"", 0)
 LONG_CALLS = Ran(b"4 calls, 0 failures\n", b"", 0)
 # The number of the first growth of a call, behind those of the program that calls; no call takes more than so many.
 FIRST_GROWTH = 3
@@ -82,10 +83,10 @@ def test_the_header_names_the_parameters_as_the_functions_do(top: pathlib.Path) 
     assert declared.keys() == NAMES - TEXTS
     for name, parameters in declared.items():
         told = [re.findall(r"\w+", each)[-1] for each in parameters.split(",")]
-        proved = re.search(rf'^pub extern "C" fn {name}\((.*?)^\) -> i32', source, re.MULTILINE | re.DOTALL)
+        proved = re.search(rf'^pub extern "C" fn {name}\(([^)]*)\) -> i32', source, re.MULTILINE)
         assert proved, name
         due = []
-        for parameter, kind in re.findall(r"^    (\w+): ([^\n]*),$", proved[1], re.MULTILINE):
+        for parameter, kind in re.findall(r"(\w+): ([^,]*)", proved[1]):
             if parameter != "alloc":
                 due.append(others.get(parameter, parameter))
             if "[" in kind:
@@ -279,8 +280,11 @@ def searches(random: Random, shop: Instance) -> list[Call]:
     some = jobs[:random.randint(0, shop.jobs - 1)]
     size = shop.jobs * shop.machines
     first = random.choice([0, 0, 1, 7, second_program.MOST_JOBS])
+    count, length = random.randint(0, 5), random.randint(0, shop.jobs)
+    sequences = [job for _ in range(count) for job in random.sample(jobs, length)]
     return [
         ("pfs_makespan", [*given(shop), *list32(some), out64()]),
+        ("pfs_makespans", [*given(shop), *list32(sequences), Number(length), *list64([PATTERN] * count)]),
         ("pfs_bound", [*given(shop), out64()]),
         ("pfs_table", [*given(shop), *list32(jobs), *list64([PATTERN] * size), *list64([PATTERN] * size)]),
         ("pfs_neh", [*given(shop), out32(shop.jobs), Number(shop.jobs, is_length=True), out64(), out64()]),
@@ -288,6 +292,9 @@ def searches(random: Random, shop: Instance) -> list[Call]:
                         Number(random.randint(1, shop.jobs)), Number(random.randint(0, 2), 32),
                         Number(random.choice(fuzz.SEEDS[:-1])), out64(), out64()]),
         ("pfs_insert", [*given(shop), *list32(some), Number(jobs[-1], 32), out64(), out64()]),
+        ("pfs_insertions", [*given(shop), *list32(some), Number(jobs[-1], 32), *list64([PATTERN] * (len(some) + 1))]),
+        ("pfs_random", [Number(random.choice(fuzz.SEEDS[:-1])), Number(random.randint(0, 9)),
+                        *list32([PATTERN] * count)]),
     ]
 
 
@@ -336,8 +343,10 @@ def spoilt(random: Random, arguments: Arguments) -> Arguments:
 
 
 def is_quick(name: str, arguments: Arguments) -> bool:
-    """Whether the second implementation answers soon, which draws all words before the first round."""
+    """Whether the second implementation returns soon, which draws all words before the first one that is asked for."""
     numbers = [argument.value for argument in arguments if isinstance(argument, Number)]
+    if name == "pfs_random":
+        return numbers[1] <= 10_000
     return name != "pfs_rounds" or numbers[5] <= 20 or numbers[5] > 1_000_000
 
 
@@ -370,6 +379,34 @@ def test_random_files_by_two_libraries(libpfs: Library, second: Library) -> None
             numbers.add(assert_same(libpfs, second, name, arguments))
             numbers.add(assert_same(libpfs, second, name, spoilt(random, arguments)))
     assert numbers == {0, 2, 3, 4, 5, 6, *range(10, 15), *range(20, 28), 30, 31, 32}
+
+
+def test_the_random_words_are_those_of_rounds(libpfs: Library) -> None:
+    """A caller repeats rounds without passes by the words, the best places and the makespans."""
+    random = Random(4)
+    for _ in range(SHOPS):
+        shop, seed = shop_of(random), random.getrandbits(64)
+        take = random.randint(1, shop.jobs)
+        order = random.sample(range(shop.jobs), shop.jobs)
+        for turn in range(3):
+            left = libpfs.call("pfs_rounds", *given(shop), *list32(order), Number(turn, 32), Number(1, 32),
+                               Number(take), Number(0, 32), Number(seed), out64(), out64()).memory[1]
+            order = repeated_round(libpfs, shop, order, turn, take, seed)
+            assert order == read32(left)
+
+
+def repeated_round(libpfs: Library, shop: Instance, order: list[int], turn: int, take: int, seed: int) -> list[int]:
+    """What a round leaves of an order, step by step."""
+    drawn = libpfs.call("pfs_random", Number(seed), Number(turn * take), *list32([PATTERN] * take))
+    assert drawn.number == 0
+    made = list(order)
+    taken = [made.pop(word % len(made)) for word in read32(drawn.memory[0])]
+    for job in taken:
+        found = libpfs.call("pfs_insert", *given(shop), *list32(made), Number(job, 32), out64(), out64()).memory
+        made.insert(read64(found[2])[0], job)
+    spans = [read64(libpfs.call("pfs_makespan", *given(shop), *list32(jobs), out64()).memory[2])[0]
+             for jobs in (made, order)]
+    return made if spans[0] <= spans[1] else order
 
 
 class Desk:

@@ -28,6 +28,8 @@ COMMANDS, FORMATS, TROUBLESHOOTING = ((TOP / "docs" / f"{name}.md").read_text()
 MANUAL = (TOP / "share" / "pfs.1").read_text()
 PAGES = [TOP / "README.md", TOP / "experiments" / "README.md", *sorted((TOP / "docs").rglob("*.md"))]
 MOST_SECONDS = 120
+# Of a cell of a table.
+MOST_LETTERS = 300
 
 
 # Texts of pages
@@ -135,6 +137,16 @@ def test_the_page_on_commands_has_those_of_the_usage_text_and_the_one_without_ar
 def test_the_pages_to_which_a_page_links_are_there(page: pathlib.Path) -> None:
     named = [name for name in re.findall(r"\]\(([^)#]+)\)", page.read_text()) if "://" not in name]
     assert [name for name in named if not (page.parent / name).exists()] == []
+
+
+@pytest.mark.parametrize("page", PAGES, ids=[str(page.relative_to(TOP)) for page in PAGES])
+def test_no_cell_of_a_table_is_a_paragraph(page: pathlib.Path) -> None:
+    text = re.sub(r"^```.*?^```$", "", page.read_text(), flags=re.MULTILINE | re.DOTALL)
+    assert [cell for rows in tables(text) for row in rows for cell in row if len(cell) > MOST_LETTERS] == []
+
+
+def test_readme_is_short() -> None:
+    assert len((TOP / "README.md").read_bytes()) <= 10 << 10
 
 
 def test_the_page_on_pictures_shows_the_usage_of_gantt() -> None:
@@ -310,7 +322,7 @@ def test_the_page_has_the_size_of_the_buffer(pfs: Program, folder: pathlib.Path)
 # Ranges, defaults and limits
 
 def test_each_option_of_the_usage_text_is_a_fact() -> None:
-    assert {option for command in commands().values() for option in command.options} == {*OPTIONS, "--cells"}
+    assert {option for command in commands().values() for option in command.options} == set(OPTIONS)
 
 
 @pytest.mark.parametrize("option", RANGES)

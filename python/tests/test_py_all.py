@@ -1,4 +1,4 @@
-"""Searches of many instances and seeds, in processes: the same solutions as one by one, however they are interrupted."""
+"""Searches of many instances and seeds in processes: the same solutions as one by one, however they are interrupted."""
 import os
 import pathlib
 import pickle

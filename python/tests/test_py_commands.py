@@ -51,8 +51,13 @@ def start(words: list[str], folder: pathlib.Path, env: dict[str, str] | None = N
 def run(words: list[str], folder: pathlib.Path, status: int = 0, error: str = "") -> str:
     child = start(words, folder)
     printed, told = child.communicate(timeout=60)
-    assert (child.returncode, told.decode()) == (status, error)
+    assert (child.returncode, without_summary(told.decode())) == (status, error)
     return printed.decode()
+
+
+def without_summary(told: str) -> str:
+    """What a plan prints on standard error after the line that says what it read."""
+    return re.sub(r"\A\d+ jobs?, \d+ machines?, times .*\n", "", told)
 
 
 def wait_until(has_come: Callable[[], bool]) -> None:
@@ -527,7 +532,7 @@ def in_shell(line: str, folder: pathlib.Path) -> tuple[int, str, str]:
     """The status, the output and the errors of the commands, with the shell's redirections."""
     done = subprocess.run(["sh", "-c", f"exec {shlex.quote(sys.executable)} -m pfs {line}"], cwd=folder,
                           env=environment(), capture_output=True, text=True, timeout=60, stdin=subprocess.DEVNULL)
-    return done.returncode, done.stdout, done.stderr
+    return done.returncode, done.stdout, without_summary(done.stderr)
 
 
 @pytest.mark.parametrize("words", ["search shop --layout taillard --rounds 9", "plan times.csv --rounds 9"])
@@ -577,7 +582,7 @@ def test_a_plan(folder: pathlib.Path) -> None:
     rows = [f"{names[job]};{machine};{start / 10};{end / 10}".replace(".", ",").replace("shelf; oak", '"shelf; oak"')
             for job, row in zip(order, plainly.schedule(times, order))
             for machine, (start, end) in zip(["saw", "drill", "paint"], row)]
-    assert (folder / "out.csv").read_text().splitlines() == ["job;machine;start;end", *rows]
+    assert (folder / "out.csv").read_text().splitlines() == ["\ufeffjob;machine;start;end", *rows]
     picture = (folder / "out.svg").read_text()
     assert ">drill<" in picture and ">table<" in picture
     groups = set(re.findall(r'<g id="([\w-]+)"', picture))
@@ -594,25 +599,38 @@ def test_a_plan(folder: pathlib.Path) -> None:
 
 
 @pytest.mark.parametrize(("options", "error"), [
-    (["--schedule", "none/out.csv"], "pfs: [Errno 2] No such file or directory: 'none/out.csv"),
-    (["--chart", "none/out.svg"], "pfs: [Errno 2] No such file or directory: 'none/out.svg"),
-    (["--chart", "none/out.html"], "pfs: [Errno 2] No such file or directory: 'none/out.html"),
     (["--schedule", "/dev/full"], "pfs: [Errno 28] No space left on device"),
-    (["--chart", "no-matplotlib.svg"], "pfs: plot wants matplotlib (Debian: python3-matplotlib)"),
+    (["--schedule", "a-folder"], "pfs: [Errno 21] Is a directory: 'a-folder'"),
+    (["--chart", "a-folder.html"], "pfs: [Errno 21] Is a directory: 'a-folder.html'"),
 ])
 def test_what_cant_be_written_loses_no_order(folder: pathlib.Path, options: list[str], error: str) -> None:
     (folder / "times.csv").write_text(TABLE)
     printed = run(["plan", "times.csv"], folder)
-    (folder / "without").mkdir()
-    (folder / "without" / "matplotlib.py").write_text("raise ImportError('no matplotlib')\n")
-    env = environment(folder / "without") if options[1].startswith("no-") else None
+    for name in ("a-folder", "a-folder.html"):
+        (folder / name).mkdir()
     # What can be written besides is written.
     others = ["--chart", "well.html"] if options[0] == "--schedule" else ["--schedule", "well.csv"]
-    child = start(["plan", "times.csv", *options, *others], folder, env)
+    child = start(["plan", "times.csv", *options, *others], folder)
     out, told = child.communicate(timeout=60)
     assert (child.returncode, out.decode()) == (4, printed)
-    assert told.decode().startswith(error) and told.count(b"\n") == 1, told
+    fault = without_summary(told.decode())
+    assert fault.startswith(error) and fault.count("\n") == 1, fault
     assert (folder / others[1]).stat().st_size > 0
+
+
+@pytest.mark.parametrize(("options", "error"), [
+    (["--schedule", "none/out.csv"], "pfs: [Errno 2] No such file or directory: 'none/out.csv'\n"),
+    (["--chart", "none/out.svg"], "pfs: [Errno 2] No such file or directory: 'none/out.svg'\n"),
+    (["--chart", "ok.html", "--chart", "none/out.html"], "pfs: [Errno 2] No such file or directory: 'none/out.html'\n"),
+    (["--chart", "no-matplotlib.svg"], "pfs: plot needs matplotlib (Debian: python3-matplotlib)\n"),
+])
+def test_what_cant_be_written_is_reported_before_the_search(folder: pathlib.Path, options: list[str],
+                                                            error: str) -> None:
+    (folder / "times.csv").write_text(TABLE)
+    (folder / "without").mkdir()
+    (folder / "without" / "matplotlib.py").write_text("raise ImportError('no matplotlib')\n")
+    child = start(["plan", "times.csv", "--seconds", "100", *options], folder, environment(folder / "without"))
+    assert child.communicate(timeout=60) == (b"", error.encode()) and child.returncode == 4
 
 
 @pytest.mark.parametrize("kind", [OSError, MemoryError, ImportError, ValueError])
@@ -630,7 +648,8 @@ def test_an_output_that_fails_keeps_no_other_one_back(folder: pathlib.Path, monk
     monkeypatch.setattr(pfs.Schedule, failing, fail)
     assert _commands.main(["plan", "times.csv", "--schedule", "out.csv", "--chart", "out.html"]) == 4
     line = "pfs: no memory\n" if kind is MemoryError else "pfs: it fails\n"
-    assert capsys.readouterr() == (printed, line)
+    out, told = capsys.readouterr()
+    assert (out, without_summary(told)) == (printed, line)
     other = {"to_csv": "out.html", "plot": "out.csv"}[failing]
     assert (folder / other).exists(), f"{other} isn't written where {failing} raises {kind.__name__}"
 
@@ -683,7 +702,8 @@ def test_names_that_standard_output_has_no_letters_for(folder: pathlib.Path) -> 
     (folder / "times.csv").write_text("job,saw\nM\xfcller,3\n", "utf-8")
     child = start(["plan", "times.csv"], folder, environment() | {"PYTHONIOENCODING": "ascii"})
     printed, told = child.communicate(timeout=60)
-    assert (child.returncode, told) == (0, b"") and printed.splitlines()[-1] == b"1 M\\xfcller"
+    assert (child.returncode, told) == (0, b"1 job, 1 machine, times without a unit\n")
+    assert printed.splitlines()[-1] == b"1 M\\xfcller"
 
 
 @pytest.mark.parametrize("ending", ["svg", "html", "png"])
@@ -707,7 +727,7 @@ def test_a_plan_that_is_interrupted(folder: pathlib.Path) -> None:
     time.sleep(0.5)
     child.send_signal(signal.SIGTERM)
     printed, told = child.communicate(timeout=30)
-    assert (child.returncode, told) == (128 + signal.SIGTERM, b"")
+    assert (child.returncode, told) == (128 + signal.SIGTERM, b"60 jobs, 10 machines, times without a unit\n")
     order = [int(job) for job in re.findall(r"^\d+ job (\d+)$", printed.decode(), re.MULTILINE)]
     assert sorted(order) == list(range(60))
     assert printed.decode().startswith(f"makespan {pfs.generate(60, 10, 4).makespan(order)}\n")

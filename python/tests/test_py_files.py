@@ -1,4 +1,4 @@
-"""Files: instances, order files, Taillard's benchmark and tables, against the program and byte for byte."""
+"""Files: instances, order files and Taillard's benchmark, against the program and byte for byte."""
 import contextlib
 import io
 import os
@@ -38,48 +38,6 @@ BAD_ORDERS = {
     "a job 4 of 3": ("order 3\n2 1 4\nmakespan 10\n", "job range", 3, "pfs: order file job out of range at place 3"),
     "a job twice": ("order 3\n2 2 3\nmakespan 10\n", "job repeated", 2, "pfs: order file job repeated at place 2"),
     "a long file": ("o" * 65537, "order file too long", 0, "pfs: order file too long"),
-}
-TABLES = {
-    "commas": "job,saw,drill\ntable,3,2\nchair,2,5\n",
-    "semicolons": "job;saw;drill\ntable;3;2\nchair;2;5\n",
-    "blanks, quotes and empty lines": '\n job , "saw",drill\r\n\r\n"table",3, 2 \r\n,,\r\nchair,2,5\r\n',
-    "a mark in front": "\ufeffjob,saw,drill\ntable,3,2\nchair,2,5",
-    "a mark in front of a quote": '\ufeff"job, [h]x",saw,drill\ntable,3,2\nchair,2,5',
-    "a mark in front of a spreadsheet's first line": "\ufeffsep=;\njob;saw;drill\ntable;3;2\nchair;2;5\n",
-    "a spreadsheet's first line": "sep=;\njob;saw;drill\ntable;3;2\nchair;2;5\n",
-    "points without meaning": "job,saw,drill\ntable,3.0,2.00\nchair,2,5\n",
-}
-# A table, and where and why it is refused.
-BAD_TABLES = {
-    "nothing": ("", 1, 0, "the table is empty"),
-    "one line": ("job,saw\n", 1, 0, "0 jobs: there may be 1 to 5,000"),
-    "no machine": ("job\na\n", 1, 0, "0 machines: there may be 1 to 200"),
-    "many machines": ("job" + "".join(f",m{at}" for at in range(201)) + "\na" + ",1" * 201, 1, 0,
-                      "201 machines: there may be 1 to 200"),
-    "many jobs": ("job,saw\n" + "".join(f"j{at},1\n" for at in range(5001)), 5002, 0,
-                  "5001 jobs: there may be 1 to 5,000"),
-    "no name": ("job,saw\n,3\n", 2, 1, "the job has no name"),
-    "no name of a machine": ("job,saw,\na,3,4\n", 1, 3, "the machine has no name"),
-    "a job twice": ("job,saw\na,3\nb,2\na,4\n", 4, 1, "the job 'a' stands in line 2, column 1 too"),
-    "a machine twice": ("job,saw,saw\na,3,4\n", 1, 3, "the machine 'saw' stands in line 1, column 2 too"),
-    "a word": ("job,saw\n\na,x\n", 3, 2, "'x' is no time"),
-    "a minus": ("job,saw\na,-1\n", 2, 2, "'-1' is no time"),
-    "a digit of another script": ("job,saw\na,\u0663\n", 2, 2, "'\u0663' is no time"),
-    "no time": ("job,saw,drill\na,3,\n", 2, 3, "the time is missing"),
-    "a short row": ("job,saw,drill\na,3\n", 2, 0, "1 times for 2 machines"),
-    "a long row": ("job,saw\na,3,4\n", 2, 0, "2 times for 1 machines"),
-    "a decimal comma": ('job,saw\na,"3,5"\n', 2, 2, "'3,5' is no time"),
-    "ten decimals": ("job,saw\na,0.0123456789\n", 2, 2, "'0.0123456789' has more than 9 decimals"),
-    "a long time": ("job,saw\na,1000000001\n", 2, 2, "the time is above 1,000,000,000"),
-    "a time too long with decimals": ("job,saw\na,1000000\nb,0.0001\n", 2, 2,
-                                      "the time is above 1,000,000,000, counted in 4 decimals"),
-    "a fault after a cell of two lines": ('job,saw\n"a\nb",3\nc,x\n', 4, 2, "'x' is no time"),
-    "a fault after cells of many lines": ('"job\n\n",saw\n\n"a\r\nb",3\r\n"c\n",3\nd,x\n', 9, 2, "'x' is no time"),
-    "a name twice after a cell of two lines": ('job,saw\n"a\nb",3\nc,1\nc,1\n', 5, 1,
-                                              "the job 'c' stands in line 4, column 1 too"),
-    "an open quote before other lines": ('job,saw\na,"3\nb,4\nc,5\n', 4, 0,
-                                         "isn't a row of a table: unexpected end of data"),
-    "an open quote": ('job,saw\na,"3\n', 2, 0, "isn't a row of a table: unexpected end of data"),
 }
 
 
@@ -479,61 +437,6 @@ def test_taillards_instances_are_the_programs(program: str, number: int) -> None
     shop = pfs.taillard(number)
     shop.lower = shop.upper = 0
     assert shop.to_text() == plainly.run([program, "generate", str(shop.jobs), str(shop.machines), str(shop.seed)])
-
-
-@pytest.mark.parametrize("case", TABLES)
-def test_tables(tmp_path: pathlib.Path, case: str) -> None:
-    shop = pfs.read_csv(written(tmp_path, TABLES[case], "plan.csv"))
-    assert shop.times.tolist() == [[3, 2], [2, 5]]
-    assert (shop.job_names, shop.machine_names) == (("table", "chair"), ("saw", "drill"))
-    assert (shop.name, shop.unit, shop.decimals) == ("plan.csv", "", 0)
-
-
-@pytest.mark.parametrize(("head", "given_unit", "unit"), [
-    ("job [min]", "", "min"), ("times ( h )", "", "h"), ("job", "s", "s"), ("job [min]", "s", "s"),
-    ("[min] job", "", "")])
-def test_units_and_decimals(tmp_path: pathlib.Path, head: str, given_unit: str, unit: str) -> None:
-    path = written(tmp_path, f"{head};saw;drill\ntable;3,25;2\nchair;0.5;5\n")
-    shop = pfs.read_csv(path, unit=given_unit)
-    assert (shop.unit, shop.decimals, shop.times.tolist()) == (unit, 2, [[325, 200], [50, 500]])
-
-
-@pytest.mark.parametrize("case", BAD_TABLES)
-def test_tables_that_are_refused(tmp_path: pathlib.Path, case: str) -> None:
-    text, line, column, why = BAD_TABLES[case]
-    path = written(tmp_path, text)
-    with pytest.raises(pfs.TableFault) as fault:
-        pfs.read_csv(path)
-    assert (fault.value.line, fault.value.column, fault.value.text) == (line, column, why)
-    assert str(fault.value) == f"{path}: line {line}, {f'column {column}: ' if column else ''}{why}"
-    assert pickle.loads(pickle.dumps(fault.value)).text == why
-
-
-@pytest.mark.parametrize(("cell", "time", "decimals"), [
-    ("1000000000", 1_000_000_000, 0), ("0", 0, 0), ("1.000000000", 1, 0), ("0.999999999", 999_999_999, 9),
-    ("1.00000001", 100_000_001, 8), ("00000000007", 7, 0), ("99999999.9", 999_999_999, 1)])
-def test_the_least_and_the_longest_times_of_tables(tmp_path: pathlib.Path, cell: str, time: int,
-                                                   decimals: int) -> None:
-    shop = pfs.read_csv(written(tmp_path, f"job,saw\na,{cell}\n"))
-    assert (shop.times.tolist(), shop.decimals) == ([[time]], decimals)
-
-
-@pytest.mark.parametrize("cell", ["1000000001", "1000000000.1", "10000000000"])
-def test_times_of_tables_above_the_longest_one(tmp_path: pathlib.Path, cell: str) -> None:
-    with pytest.raises(pfs.TableFault, match="line 2, column 2: the time is above 1,000,000,000"):
-        pfs.read_csv(written(tmp_path, f"job,saw\na,{cell}\n"))
-
-
-def test_the_largest_tables(tmp_path: pathlib.Path) -> None:
-    rows = ["job," + ",".join(f"m{at}" for at in range(200)), *(f"j{at}" + ",1" * 200 for at in range(5_000))]
-    shop = pfs.read_csv(written(tmp_path, "\n".join(rows)))
-    assert (shop.jobs, shop.machines) == (5_000, 200)
-
-
-def test_a_table_that_is_no_text(tmp_path: pathlib.Path) -> None:
-    (tmp_path / "file").write_bytes(b"job,saw\nb\xe4r,3\n")
-    with pytest.raises(pfs.TableFault, match="line 2, isn't text in UTF-8"):
-        pfs.read_csv(tmp_path / "file")
 
 
 def test_the_program_takes_what_is_written(tmp_path: pathlib.Path, program: str) -> None:

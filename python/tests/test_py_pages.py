@@ -130,9 +130,9 @@ def test_the_readmes_command_lines(tmp_path: pathlib.Path, program: str) -> None
         lines = [line[2:].replace("python3 ", shlex.quote(sys.executable) + " ", 1) for line in block.splitlines()
                  if line.startswith("$ ")]
         due = "".join(line + "\n" for line in block.splitlines() if not line.startswith("$ "))
-        done = subprocess.run(["sh", "-e", "-c", "\n".join(lines)], cwd=tmp_path, env=env, capture_output=True,
-                              text=True)
-        assert (done.returncode, done.stderr, done.stdout) == (0, "", due)
+        done = subprocess.run(["sh", "-e", "-c", "\n".join(lines)], cwd=tmp_path, env=env, text=True,
+                              stdout=subprocess.PIPE, stderr=subprocess.STDOUT)
+        assert (done.returncode, done.stdout) == (0, due)
 
 
 @pytest.mark.seconds(15)

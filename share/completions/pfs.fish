@@ -59,7 +59,7 @@ complete -c pfs -n '__pfs_is convert; and __pfs_may to' -l to -x -a 'taillard or
 complete -c pfs -n '__pfs_is value solve check table convert; and __pfs_may block' -l block -x \
     -d 'Which block is read, 1 to 1,000'
 complete -c pfs -n '__pfs_is solve; and __pfs_may rounds' -l rounds -x -d 'Rounds of iterated greedy, 0 to 1,000,000'
-complete -c pfs -n '__pfs_is solve; and __pfs_may take' -l take -x -d 'Jobs that a round takes out, 1 to 5,000'
+complete -c pfs -n '__pfs_is solve; and __pfs_may take' -l take -x -d 'Jobs that a round removes, 1 to 5,000'
 complete -c pfs -n '__pfs_is solve; and __pfs_may seed' -l seed -x -d 'Seed of the random numbers'
 complete -c pfs -n '__pfs_is solve; and __pfs_may passes' -l passes -x -d 'Passes that a round makes, 0 to 100'
-complete -c pfs -n '__pfs_is solve; and __pfs_may cells' -l cells -d 'Tell how many table cells were computed'
+complete -c pfs -n '__pfs_is solve; and __pfs_may cells' -l cells -d 'Print how many table cells were computed'

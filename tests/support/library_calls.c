@@ -23,7 +23,7 @@ struct outputs {
     size_t jobs, machines, place, length;
     struct pfs_notes notes;
     uint32_t list[44];
-    uint64_t starts[8], ends[8];
+    uint64_t starts[8], ends[8], makespans[4];
     uint8_t text[200];
 };
 
@@ -102,6 +102,14 @@ static int insert_on(const uint32_t *shop, size_t length, size_t jobs, size_t ma
     return pfs_insert(shop, length, jobs, machines, OUTSIDE, 3, 9, &out.place, &out.makespan);
 }
 
+static int insertions_on(const uint32_t *shop, size_t length, size_t jobs, size_t machines) {
+    return pfs_insertions(shop, length, jobs, machines, OUTSIDE, 3, 9, out.makespans, 4);
+}
+
+static int makespans_on(const uint32_t *shop, size_t length, size_t jobs, size_t machines) {
+    return pfs_makespans(shop, length, jobs, machines, OUTSIDE, 3, 3, out.makespans, 1);
+}
+
 static int write_on(const uint32_t *shop, size_t length, size_t jobs, size_t machines) {
     static const struct pfs_notes notes = {7, 9, 8};
     return pfs_write(shop, length, jobs, machines, &notes, 2, out.text, 0, &out.length);
@@ -135,6 +143,42 @@ static void makespans(void) {
     CALL(PFS_OK, pfs_makespan(times, 6, 3, 2, (uint32_t[]){2, 0}, 2, &out.makespan));
     want.makespan = 0;
     CALL(PFS_OK, pfs_makespan(times, 6, 3, 2, OUTSIDE, 0, &out.makespan));
+}
+
+static void want_makespans(const uint64_t *makespans, size_t count) {
+    memcpy(want.makespans, makespans, count * sizeof *makespans);
+}
+
+static int many_of(const uint32_t *sequences, size_t sequences_length, size_t length, size_t count) {
+    return pfs_makespans(times, 6, 3, 2, sequences, sequences_length, length, out.makespans, count);
+}
+
+static void many_makespans(void) {
+    static const uint32_t three[] = {1, 0, 2, 0, 1, 2, 2, 1, 0}, twos[] = {2, 0, 0, 2};
+    static const uint32_t out_later[] = {1, 0, 2, 9, 9, 9}, twice_first[] = {1, 1, 9, 9, 9, 9};
+    static const uint32_t too_many[] = {0, 1, 2, 0, 0, 1, 2, 0};
+    CALL(PFS_LENGTH, pfs_makespans(long_times, 6, 3, 2, OUTSIDE, 2, 3, out.makespans, 1));
+    CALL(PFS_LENGTH, pfs_makespans(long_times, 6, 3, 2, OUTSIDE, 3, 3, out.makespans, 2));
+    CALL(PFS_LENGTH, pfs_makespans(long_times, 6, 3, 2, OUTSIDE, 3, 0, out.makespans, 1));
+    CALL(PFS_LENGTH, pfs_makespans(long_times, 6, 3, 2, OUTSIDE, 3, 3, out.makespans, 0));
+    CALL(PFS_LENGTH, pfs_makespans(long_times, 6, 3, 2, OUTSIDE, 0, SIZE_MAX / 2 + 1, out.makespans, 2));
+    CALL(PFS_LENGTH, pfs_makespans(long_times, 6, 3, 2, OUTSIDE, 1, SIZE_MAX, out.makespans, 3));
+    wrong_shops(makespans_on);
+    CALL(PFS_JOB, many_of(OUTSIDE, 3, 3, 1));
+    CALL(PFS_JOB, many_of(out_later, 6, 3, 2));
+    CALL(PFS_REPEATED, many_of(twice_first, 6, 3, 2));
+    CALL(PFS_REPEATED, many_of(twice_first, 6, 2, 3));
+    CALL(PFS_REPEATED, many_of(too_many, 8, 4, 2));
+    want_makespans((uint64_t[]){10, 11, 13}, 3);
+    CALL(PFS_OK, many_of(three, 9, 3, 3));
+    want_makespans((uint64_t[]){9, 8}, 2);
+    CALL(PFS_OK, many_of(twos, 4, 2, 2));
+    want_makespans((uint64_t[]){7, 5, 5}, 3);
+    CALL(PFS_OK, many_of(BEST, 3, 1, 3));
+    want_makespans((uint64_t[]){0, 0, 0, 0}, 4);
+    CALL(PFS_OK, many_of(OUTSIDE, 0, 0, 4));
+    CALL(PFS_OK, many_of(OUTSIDE, 0, 7, 0));
+    CALL(PFS_OK, many_of(OUTSIDE, 0, SIZE_MAX, 0));
 }
 
 static void bounds(void) {
@@ -230,6 +274,42 @@ static void insertions(void) {
     want.place = 0;
     want.makespan = 3;
     CALL(PFS_OK, pfs_insert((uint32_t[]){1, 1, 1}, 3, 3, 1, BEST, 2, 2, &out.place, &out.makespan));
+}
+
+static int all_places(const uint32_t *sequence, size_t length, uint32_t job) {
+    return pfs_insertions(times, 6, 3, 2, sequence, length, job, out.makespans, length + 1);
+}
+
+static void all_insertions(void) {
+    CALL(PFS_LENGTH, pfs_insertions(long_times, 6, 3, 2, OUTSIDE, 2, 9, out.makespans, 2));
+    CALL(PFS_LENGTH, pfs_insertions(long_times, 6, 3, 2, OUTSIDE, 2, 9, out.makespans, 4));
+    CALL(PFS_LENGTH, pfs_insertions(long_times, 6, 3, 2, OUTSIDE, 0, 9, out.makespans, 0));
+    wrong_shops(insertions_on);
+    CALL(PFS_JOB, all_places(OUTSIDE, 3, 9));
+    CALL(PFS_REPEATED, all_places(TWICE, 3, 9));
+    CALL(PFS_JOB, all_places(BEST, 2, 3));
+    CALL(PFS_JOB, all_places(BEST, 3, 3));
+    CALL(PFS_REPEATED, all_places(BEST, 2, 0));
+    CALL(PFS_REPEATED, all_places(BEST, 3, 2));
+    want_makespans((uint64_t[]){13, 11, 10}, 3);
+    CALL(PFS_OK, all_places(BEST, 2, 2));
+    want_makespans((uint64_t[]){5}, 1);
+    CALL(PFS_OK, all_places(OUTSIDE, 0, 0));
+    want_makespans((uint64_t[]){3, 3, 3}, 3);
+    CALL(PFS_OK, pfs_insertions((uint32_t[]){1, 1, 1}, 3, 3, 1, BEST, 2, 2, out.makespans, 3));
+}
+
+/* The first words of seed 7. */
+static const uint32_t WORDS[5] = {2442223337, 414063806, 2743600285, 3524868804, 2371632060};
+
+static void random_words(void) {
+    want_list(WORDS, 5);
+    CALL(PFS_OK, pfs_random(7, 0, out.list, 5));
+    want_list(WORDS + 3, 2);
+    CALL(PFS_OK, pfs_random(7, 3, out.list, 2));
+    want_list((uint32_t[]){298703107}, 1);
+    CALL(PFS_OK, pfs_random(0, 0, out.list, 1));
+    CALL(PFS_OK, pfs_random(7, 3, out.list, 0));
 }
 
 static void drawings(void) {
@@ -497,6 +577,10 @@ static int call_on_shop(const char *name) {
         return want.bound = 10, pfs_bound(times, 6, 3, 2, &out.bound);
     if (strcmp(name, "insert") == 0)
         return want.place = 2, want.makespan = 10, pfs_insert(times, 6, 3, 2, BEST, 2, 2, &out.place, &out.makespan);
+    if (strcmp(name, "insertions") == 0)
+        return want_makespans((uint64_t[]){13, 11, 10}, 3), all_places(BEST, 2, 2);
+    if (strcmp(name, "makespans") == 0)
+        return want.makespans[0] = 10, many_of(BEST, 3, 3, 1);
     if (strcmp(name, "rounds") == 0)
         return right_rounds(NUMBERED, 0, 1, 1, 1, BEST, 10, 80);
     if (strcmp(name, "write") == 0)
@@ -516,6 +600,8 @@ static int call_on_shop(const char *name) {
 static int call_named(const char *name) {
     if (strcmp(name, "generate") == 0)
         return want.list[0] = 54, want.list[1] = 83, pfs_generate(2, 1, 873654221, out.list, 2);
+    if (strcmp(name, "random") == 0)
+        return want_list(WORDS, 5), pfs_random(7, 0, out.list, 5);
     if (strcmp(name, "read_order") == 0)
         return want_order(2), want_list(BEST, 3), read_order("order2 3 2\n2 1 3\nmakespan 10\n", 3);
     if (strcmp(name, "write_order") == 0)
@@ -555,8 +641,9 @@ int main(int count, char **words) {
     long_times[0] = PFS_LONGEST_TIME + 1;
     fresh();
     if (strcmp(word, "all") == 0) {
-        void (*const parts[])(void) = {makespans, bounds, tables, nehs, rounds, insertions, drawings, readings,
-                                       writings, order_readings, order_writings, numbers};
+        void (*const parts[])(void) = {makespans, many_makespans, bounds, tables, nehs, rounds, insertions,
+                                       all_insertions, random_words, drawings, readings, writings, order_readings,
+                                       order_writings, numbers};
         for (size_t part = 0; part < COUNT(parts); ++part)
             parts[part]();
     } else if (strcmp(word, "long") == 0) {

@@ -76,6 +76,12 @@ void judge_jobs(size_t size, const uint32_t* jobs, size_t length) {
     }
 }
 
+// A job that is to be inserted into a list of others.
+void judge_job(size_t size, const uint32_t* jobs, size_t length, uint32_t job) {
+    refuse_if(job >= size, PFS_JOB);
+    refuse_if(std::find(jobs, jobs + length, job) != jobs + length, PFS_REPEATED);
+}
+
 // For each place the ends on all machines, each as early as can be.
 std::vector<uint64_t> ends_of(const Shop& shop, const Jobs& order) {
     std::vector<uint64_t> ends;
@@ -533,6 +539,26 @@ int pfs_makespan(const uint32_t* times, size_t times_length, size_t jobs, size_t
     });
 }
 
+int pfs_makespans(const uint32_t* times, size_t times_length, size_t jobs, size_t machines, const uint32_t* sequences,
+                  size_t sequences_length, size_t length, uint64_t* makespans, size_t makespans_length) {
+    return answer([&] {
+        judge_sizes(jobs, machines);
+        refuse_if(times_length != jobs * machines, PFS_LENGTH);
+        bool is_whole = length == 0 ? sequences_length == 0
+                                    : sequences_length % length == 0 && sequences_length / length == makespans_length;
+        refuse_if(!is_whole, PFS_LENGTH);
+        judge_times(times, times_length);
+        Shop shop{times, jobs, machines};
+        std::vector<uint64_t> made;
+        for (size_t index = 0; index < makespans_length; ++index) {
+            const uint32_t* sequence = sequences + index * length;
+            judge_jobs(jobs, sequence, length);
+            made.push_back(makespan_of(shop, Jobs(sequence, sequence + length)));
+        }
+        std::copy(made.begin(), made.end(), makespans);
+    });
+}
+
 int pfs_bound(const uint32_t* times, size_t times_length, size_t jobs, size_t machines, uint64_t* bound) {
     return answer([&] { *bound = bound_of(judged(times, times_length, jobs, machines)); });
 }
@@ -599,11 +625,37 @@ int pfs_insert(const uint32_t* times, size_t times_length, size_t jobs, size_t m
     return answer([&] {
         Shop shop = judged(times, times_length, jobs, machines);
         judge_jobs(jobs, sequence, sequence_length);
-        refuse_if(job >= jobs, PFS_JOB);
-        refuse_if(std::find(sequence, sequence + sequence_length, job) != sequence + sequence_length, PFS_REPEATED);
+        judge_job(jobs, sequence, sequence_length, job);
         std::pair<size_t, uint64_t> best = best_place(shop, Jobs(sequence, sequence + sequence_length), job);
         *place = best.first;
         *makespan = best.second;
+    });
+}
+
+int pfs_insertions(const uint32_t* times, size_t times_length, size_t jobs, size_t machines, const uint32_t* sequence,
+                   size_t sequence_length, uint32_t job, uint64_t* makespans, size_t makespans_length) {
+    return answer([&] {
+        judge_sizes(jobs, machines);
+        refuse_if(times_length != jobs * machines || makespans_length != sequence_length + 1, PFS_LENGTH);
+        judge_times(times, times_length);
+        judge_jobs(jobs, sequence, sequence_length);
+        judge_job(jobs, sequence, sequence_length, job);
+        Shop shop{times, jobs, machines};
+        for (size_t place = 0; place <= sequence_length; ++place) {
+            Jobs whole(sequence, sequence + sequence_length);
+            whole.insert(whole.begin() + (ptrdiff_t)place, job);
+            makespans[place] = makespan_of(shop, whole);
+        }
+    });
+}
+
+int pfs_random(uint64_t seed, uint64_t first, uint32_t* words, size_t words_length) {
+    return answer([&] {
+        Pcg32 random(seed);
+        for (uint64_t word = 0; word < first; ++word) {
+            random.next();
+        }
+        std::generate(words, words + words_length, [&] { return random.next(); });
     });
 }
 

@@ -60,16 +60,16 @@ each_none f (suc count) from (suc j) none within =
 
 -- the same of the numbers below a count
 
-first_below : (f : ℕ → Option Refusal) (count k : ℕ) (why : Refusal) → k < count
+pub first_below : (f : ℕ → Option Refusal) (count k : ℕ) (why : Refusal) → k < count
     → ((j : ℕ) → j < k → f j ≡ None) → f k ≡ Some why → first_some (map f (below count)) ≡ Some why
 first_below f count k why within none there =
     first_there f count 0 k why within (λ j h. rw (zero-add j) (none j h)) (rw (zero-add k) there)
 
-none_below : (f : ℕ → Option Refusal) (count : ℕ) → ((j : ℕ) → j < count → f j ≡ None)
+pub none_below : (f : ℕ → Option Refusal) (count : ℕ) → ((j : ℕ) → j < count → f j ≡ None)
     → first_some (map f (below count)) ≡ None
 none_below f count none = none_there f count 0 (λ j h. rw (zero-add j) (none j h))
 
-each_below : (f : ℕ → Option Refusal) (count j : ℕ) → first_some (map f (below count)) ≡ None
+pub each_below : (f : ℕ → Option Refusal) (count j : ℕ) → first_some (map f (below count)) ≡ None
     → j < count → f j ≡ None
 each_below f count j none within = rw (zero-add j) at (each_none f count 0 j none within)
 

@@ -1,7 +1,10 @@
 pub mod Answering
 pub mod BestPlaces
 pub mod Jobs
+pub mod ManyLemmas
 pub mod MemoryLemmas
+pub mod RandomWords
 pub mod Rooms
+pub mod RowSteps
 pub mod TextLemmas
 pub mod Times

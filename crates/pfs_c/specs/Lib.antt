@@ -1,6 +1,9 @@
+pub mod Inserting
 pub mod Judgements
+pub mod Many
 pub mod Numbers
 pub mod Private
+pub mod Random
 pub mod Searching
 pub mod Tables
 pub mod Texts

@@ -1,2 +1,3 @@
 -- What only contracts of private functions and proofs speak of: no promise to users rests on it.
 pub mod Refusing
+pub mod Rows

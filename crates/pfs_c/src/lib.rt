@@ -6,7 +6,11 @@
 
 mod given;
 mod inserting;
+mod many;
 mod numbers;
+mod places;
+mod random;
+mod rows;
 mod searching;
 mod shop;
 mod texts;

@@ -15,10 +15,11 @@ What the functions compute is done by the library ``libpfs``, whose answers are 
 """
 from pfs._all import solve_all
 from pfs._faults import Fault, FileFault, Interrupted, InterruptedAll, OrderFault, TableFault
-from pfs._files import from_frame, generate, parse_order, read, read_all, read_csv, read_order, taillard
+from pfs._files import from_frame, generate, parse_order, read, read_all, read_order, taillard
 from pfs._instance import Instance, Place
 from pfs._schedule import Schedule
 from pfs._solution import Improvement, Solution
+from pfs._tables import read_csv
 from pfs._version import VERSION as __version__
 
 __all__ = [

@@ -46,7 +46,8 @@ class Task(NamedTuple):
         assert self.rounds is not None
         first = self.before.rounds
         best = self.shop.solve(self.rounds - first, start=self.before, first=first, stop=stop, **self.words)
-        return Solution(best.order, best.makespan, self.before.cells + best.cells, best.machines, best.rounds, best.seed)
+        cells = self.before.cells + best.cells
+        return Solution(best.order, best.makespan, cells, best.machines, best.rounds, best.seed)
 
 
 def solve_all(instances: Iterable[Instance], seeds: Iterable[int] = (0,), rounds: int | None = None, *,

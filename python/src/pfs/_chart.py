@@ -115,13 +115,19 @@ def counted(count: int) -> list[str]:
     return [str(number) for number in range(count)]
 
 
-def drawn(table: _gantt.Table, look: _gantt.Look, path: str | os.PathLike[str] | None, ending: str | None,
-          frame: Frame) -> Any:
-    """The figure, which is saved where there is a path. The settings of matplotlib stay as they are."""
+def require_matplotlib() -> Any:
+    """Matplotlib, or an error that says how to install it."""
     try:
         import matplotlib
     except ImportError:
-        raise ImportError("plot wants matplotlib (Debian: python3-matplotlib)") from None
+        raise ImportError("plot needs matplotlib (Debian: python3-matplotlib)") from None
+    return matplotlib
+
+
+def drawn(table: _gantt.Table, look: _gantt.Look, path: str | os.PathLike[str] | None, ending: str | None,
+          frame: Frame) -> Any:
+    """The figure, which is saved where there is a path. The settings of matplotlib stay as they are."""
+    matplotlib = require_matplotlib()
     logger = logging.getLogger("matplotlib")
     level = logger.level
     try:

@@ -3,26 +3,31 @@ where that is a terminal."""
 from __future__ import annotations
 
 import argparse
+import errno
 import os
 import signal
 import sys
 import time
-from collections.abc import Callable
+from collections.abc import Callable, Sequence
+from functools import partial
 from typing import Any, NoReturn, TextIO
 
 from pfs import _library as c
-from pfs._chart import ending_of
+from pfs._chart import ending_of, require_matplotlib
 from pfs._faults import Fault, TableFault
-from pfs._files import read, read_order, table_of
+from pfs._files import read, read_order
 from pfs._instance import Instance
 from pfs._names import amount, shown
 from pfs._search import ROUNDS, Pace, Search, limit_of
 from pfs._solution import Solution
 from pfs._state import State, StateFault
+from pfs._tables import described, table_of
+from pfs._version import VERSION
 
 # Exit statuses, as those of the program.
 REFUSED, USAGE, SYSTEM = 2, 3, 4
 SIGNALS = (signal.SIGINT, signal.SIGTERM)
+DECIMAL_SIGNS = {"point": ".", "comma": ","}
 
 
 class Words(argparse.ArgumentParser):
@@ -142,20 +147,37 @@ def search_command(given: argparse.Namespace) -> int:
 
 def plan_command(given: argparse.Namespace) -> int:
     """Finds an order for a table with names, and prints it. The order comes first: no other output can lose it."""
-    shop, delimiter = table_of(given.table, given.unit)
-    if given.chart is not None:
-        ending_of(given.chart)
+    check_outputs(given.schedule, given.chart)
+    shop, delimiter, has_mark = table_of(given.table, given.unit, DECIMAL_SIGNS.get(given.decimal),
+                                         given.allow_totals)
+    written(sys.stderr, f"{shown(described(shop))}\n")
     search = Search(shop, None, 0, given.take, given.passes, given.seed)
     with Stop() as stop:
         best, fault = searched(search, given.rounds, given.seconds, stop, lambda _: None)
         outputs: list[Callable[[], object]] = [lambda: printed(listed(shop, best))]
         if given.schedule is not None:
-            outputs.append(lambda: shop.schedule(best).to_csv(given.schedule, delimiter))
-        if given.chart is not None:
-            outputs.append(lambda: shop.schedule(best).plot(given.chart, critical=True, bound=True))
+            mark = has_mark or delimiter == ";"
+            outputs.append(lambda: shop.schedule(best).to_csv(given.schedule, delimiter, mark=mark))
+        outputs += [partial(draw, shop, best, chart) for chart in given.chart]
         faults = [fault, *(failure_of(output) for output in outputs)]
     statuses = [told(line_of(each), SYSTEM) for each in faults if each is not None]
     return statuses[0] if statuses else stop.status()
+
+
+def draw(shop: Instance, best: Solution, chart: str) -> None:
+    """Write a chart of an order."""
+    shop.schedule(best).plot(chart, critical=True, bound=True)
+
+
+def check_outputs(schedule: str | None, charts: Sequence[str]) -> None:
+    """Report before the search what would prevent an output after it: another ending of a chart's name, a folder that
+    doesn't exist, or no matplotlib."""
+    endings = {ending_of(chart) for chart in charts}
+    for path in charts if schedule is None else [schedule, *charts]:
+        if not os.path.isdir(os.path.dirname(path) or "."):
+            raise FileNotFoundError(errno.ENOENT, os.strerror(errno.ENOENT), path)
+    if endings - {"html"}:
+        require_matplotlib()
 
 
 def listed(shop: Instance, best: Solution) -> str:
@@ -209,6 +231,7 @@ def number(least: int, most: int) -> Callable[[str], int]:
 def words() -> argparse.ArgumentParser:
     """The command lines."""
     parser = Words(prog="python3 -m pfs", description="Searches of permutation flow shops that can be interrupted.")
+    parser.add_argument("--version", action="version", version=f"pfs {VERSION}")
     commands = parser.add_subparsers(required=True, metavar="COMMAND")
     options = Words(add_help=False)
     options.add_argument("--rounds", type=number(0, c.MOST_ROUNDS), metavar="R",
@@ -227,8 +250,14 @@ def words() -> argparse.ArgumentParser:
     plan = commands.add_parser("plan", parents=[options], help="an order and a schedule for a table with names")
     plan.add_argument("table", metavar="TIMES.csv", help="a row for each job, a column for each machine, with names")
     plan.add_argument("--unit", default="", help="of the times; else what stands in brackets in the first cell")
+    plan.add_argument("--decimal", choices=tuple(DECIMAL_SIGNS),
+                      help="the decimal sign of the times; the other sign may then group thousands; else the sign that "
+                      "the table uses, if that is clear")
+    plan.add_argument("--allow-totals", action="store_true",
+                      help="take a last row or column with the sums of the others as a job or a machine")
     plan.add_argument("--schedule", metavar="OUT.csv", help="when each operation starts and ends")
-    plan.add_argument("--chart", metavar="OUT.svg", help="the chart, as .svg, .png, .pdf or a page .html")
+    plan.add_argument("--chart", metavar="OUT.svg", action="append", default=[],
+                      help="the chart, as .svg, .png, .pdf or a page .html; may be given more than once")
     plan.set_defaults(run=plan_command)
     return parser
 

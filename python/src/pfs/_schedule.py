@@ -172,7 +172,8 @@ class Schedule:
             "end": self.ends.ravel() if scale == 1 else self.ends.ravel() / scale,
         })
 
-    def to_csv(self, path: str | os.PathLike[str] | None = None, delimiter: str = ",") -> str | None:
+    def to_csv(self, path: str | os.PathLike[str] | None = None, delimiter: str = ",", *,
+               mark: bool = False) -> str | None:
         """The operations as a table for spreadsheets.
 
         Parameters
@@ -180,7 +181,9 @@ class Schedule:
         path : str or os.PathLike, optional
             The file. It is replaced as a whole.
         delimiter : str
-            What stands between the columns; behind ``;`` decimals have a comma.
+            What separates the columns; with ``;`` decimals have a comma.
+        mark : bool
+            Begin the file with a byte order mark. Excel needs it to read letters such as ``ä`` rightly.
 
         Returns
         -------
@@ -199,7 +202,7 @@ class Schedule:
         text = "".join(lines.written)
         if path is None:
             return text
-        write_whole(path, text.encode("utf-8"))
+        write_whole(path, text.encode("utf-8-sig" if mark else "utf-8"))
         return None
 
     def plot(self, path: str | os.PathLike[str] | None = None, *, critical: bool = False, bound: bool = False,

@@ -1,0 +1,34 @@
+-- Sequences that are judged one after the other.
+use Rattle.std.proofs.Common.{◌≡◌, ℕ, ◌+◌, ◌-◌, ◌*◌, ◌<◌, List, take, drop, ap, sym, ◌∙◌, arith}
+use Rattle.std.proofs.Common.{Err, Option, Some, None}
+use Rattle.pfs_c.specs.declared.numbers.Refusal.{Refusal}
+use Rattle.pfs_c.specs.Judgements.{jobs_refusal}
+use Rattle.pfs_c.specs.Many.{sequence_at, sequences_refusal}
+use Rattle.pfs_c.specs.Private.Refusing.{Judges}
+use Rattle.pfs_c.proofs.Jobs.{first_below, none_below}
+
+judged_why : (A : Type 0) (why : Refusal) (found : Option Refusal) → Judges {A = A} (Err why) found → found ≡ Some why
+judged_why A why None h = absurd (cc)
+judged_why A why (Some other) h = cc
+
+-- a sequence as a slice has it
+same_slice : (long : ℕ) (sequences : List ℕ) (index : ℕ)
+    → take (index * long + long - index * long) (drop (index * long) sequences) ≡ sequence_at long sequences index
+same_slice long sequences index =
+    let all : index * long + long - index * long ≡ long = omega arith in
+    ap (λ n. take n (drop (index * long) sequences)) all
+
+module _ (size count long : ℕ) (sequences : List ℕ) where
+  abbrev wrong_at : ℕ → Option Refusal
+  wrong_at index = jobs_refusal size (sequence_at long sequences index)
+
+  pub each_right : ((k : ℕ) → k < count → wrong_at k ≡ None) → sequences_refusal size count long sequences ≡ None
+  each_right none = none_below wrong_at count none
+
+  pub one_wrong : (A : Type 0) (index : ℕ) (why : Refusal) → index < count → ((k : ℕ) → k < index → wrong_at k ≡ None)
+      → Judges {A = A} (Err why)
+      (jobs_refusal size (take (index * long + long - index * long) (drop (index * long) sequences)))
+      → sequences_refusal size count long sequences ≡ Some why
+  one_wrong A index why within none wrong =
+      first_below wrong_at count index why within none
+      (ap (jobs_refusal size) (sym (same_slice long sequences index)) ∙ judged_why A why _ wrong)

@@ -1,0 +1,27 @@
+-- Many sequences of equal length, one after the other in a list, and their makespans.
+use Rattle.std.specs.Prelude.{◌≡◌, ℕ, ◌*◌, ◌<◌, List, [], ◌∷◌, length, map, take, drop, slice_index, Option}
+use Rattle.pfs_base.specs.FlowShop.{FlowShop}
+use Rattle.pfs_base.specs.Lists.{below, first_some}
+use Rattle.pfs_base.specs.Paths.{makespan}
+use Rattle.pfs_c.specs.declared.numbers.Refusal.{Refusal}
+use Rattle.pfs_c.specs.Judgements.{sizes_refusal, length_refusal, times_refusal, jobs_refusal}
+
+-- the sequence with an index, of so many jobs each
+abbrev pub sequence_at : ℕ → List ℕ → ℕ → List ℕ
+sequence_at long sequences index = take long (drop (index * long) sequences)
+
+-- of the sequences one after the other, each from the left
+abbrev pub sequences_refusal : ℕ → ℕ → ℕ → List ℕ → Option Refusal
+sequences_refusal jobs count long sequences =
+    first_some (map (λ index. jobs_refusal jobs (sequence_at long sequences index)) (below count))
+
+-- with room for so many makespans
+abbrev pub makespans_refusal : List ℕ → ℕ → ℕ → List ℕ → ℕ → ℕ → Option Refusal
+makespans_refusal times jobs machines sequences long room = first_some (sizes_refusal jobs machines
+    ∷ length_refusal (length times) (jobs * machines) ∷ length_refusal (length sequences) (room * long)
+    ∷ times_refusal times ∷ sequences_refusal jobs room long sequences ∷ [])
+
+-- the makespan of each sequence
+abbrev pub AreMakespans : FlowShop → List ℕ → ℕ → List ℕ → Type 0
+AreMakespans shop sequences long makespans = (index : ℕ) → index < length makespans
+    → slice_index makespans index ≡ makespan shop (sequence_at long sequences index)

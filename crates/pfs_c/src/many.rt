@@ -1,0 +1,107 @@
+//! The makespans of many sequences in one call, for C.
+ghost use Rattle.std.specs.Prelude.{◌≡◌, ◌≢◌, ◌+◌, ◌*◌, ◌<◌, ◌≤◌, length, IfOk};
+ghost use Rattle.std.specs.Prelude.{ℕ};
+ghost use Rattle.pfs_base.specs.FlowShop.{IsWithin};
+ghost use Rattle.pfs_base.specs.Limits.{limits};
+ghost use Rattle.pfs_order.specs.Sequence.{IsSequence};
+ghost use Rattle.pfs_c.specs.Judgements.{shop_of, length_refusal};
+ghost use Rattle.pfs_c.specs.Many.{AreMakespans, makespans_refusal, sequence_at, sequences_refusal};
+ghost use Rattle.pfs_c.specs.Private.Refusing.{Judges};
+ghost use Rattle.pfs_c.specs.Texts.{answer_of};
+
+use crate::given::{judge_jobs, judge_length, judge_sizes, judge_times};
+use crate::numbers::{PFS_OK, Refusal};
+use crate::rows::span_of;
+use pfs_base::MOST_JOBS;
+
+/// The makespans of sequences of distinct jobs, which stand one after the other and have `len` jobs each. It asks for
+/// no memory.
+#[unsafe(no_mangle)]
+pub extern "C" fn pfs_makespans(
+    times: &[u32],
+    jobs: usize,
+    machines: usize,
+    sequences: &[u32],
+    len: usize,
+    makespans: &mut [u64],
+) -> i32
+    ensures number { result ≡ answer_of
+        (makespans_refusal times.now jobs machines sequences.now len (length makespans.old)) }
+    ensures done { result ≡ PFS_OK → AreMakespans (shop_of times.now jobs machines) sequences.now len makespans.new }
+    ensures kept { result ≢ PFS_OK → makespans.new ≡ makespans.old }
+{
+    match judge_makespans(times, jobs, machines, sequences, len, makespans.len()) {
+        Ok(()) => {
+            fill_makespans(times, jobs, machines, sequences, len, makespans);
+            PFS_OK
+        }
+        Err(why) => why.number(),
+    }
+}
+
+fn judge_makespans(
+    times: &[u32],
+    jobs: usize,
+    machines: usize,
+    sequences: &[u32],
+    long: usize,
+    room: usize,
+) -> Result<(), Refusal>
+    ensures judged { Judges result (makespans_refusal times.now jobs machines sequences.now long room) }
+    ensures within { IfOk result (λ done. IsWithin limits (shop_of times.now jobs machines)) }
+    ensures room { IfOk result (λ done. length sequences.now ≡ room * long) }
+    ensures each { IfOk result (λ done. (index : ℕ) → index < room
+        → IsSequence jobs (sequence_at long sequences.now index)) }
+{
+    judge_sizes(jobs, machines)?;
+    judge_length(times.len(), jobs * machines)?;
+    judge_product(sequences.len(), room, long)?;
+    judge_times(times)?;
+    judge_sequences(jobs, sequences, long, room)
+}
+
+// Judges how many entries a list has that is to have so many times so many.
+fn judge_product(length: usize, count: usize, long: usize) -> Result<(), Refusal>
+    ensures judged { Judges result (length_refusal length (count * long)) }
+    ensures equal { IfOk result (λ done. length ≡ count * long) }
+{
+    match count.checked_mul(long) {
+        Some(wanted) => judge_length(length, wanted),
+        None => Err(Refusal::Length),
+    }
+}
+
+// Judges the sequences one after the other.
+fn judge_sequences(jobs: usize, sequences: &[u32], long: usize, count: usize) -> Result<(), Refusal>
+    requires few { jobs ≤ MOST_JOBS }
+    requires room { length sequences.now ≡ count * long }
+    ensures judged { Judges result (sequences_refusal jobs count long sequences.now) }
+    ensures each { IfOk result (λ done. (index : ℕ) → index < count
+        → IsSequence jobs (sequence_at long sequences.now index)) }
+{
+    for index in 0..count {
+        let first = index * long;
+        judge_jobs(jobs, &sequences[first..first + long])?;
+    }
+    Ok(())
+}
+
+// Fills the makespans of the sequences.
+fn fill_makespans(
+    times: &[u32],
+    jobs: usize,
+    machines: usize,
+    sequences: &[u32],
+    long: usize,
+    makespans: &mut [u64],
+)
+    requires within { IsWithin limits (shop_of times.now jobs machines) }
+    requires room { length sequences.now ≡ length makespans.old * long }
+    requires each { (index : ℕ) → index < length makespans.old → IsSequence jobs (sequence_at long sequences.now index) }
+    ensures { AreMakespans (shop_of times.now jobs machines) sequences.now long makespans.new }
+{
+    for index in 0..makespans.len() {
+        let first = index * long;
+        makespans[index] = span_of(times, jobs, machines, &sequences[first..first + long]);
+    }
+}

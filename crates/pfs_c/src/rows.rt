@@ -1,0 +1,121 @@
+//! Rows of heads and tails, computed on the times that C passes.
+ghost use Rattle.std.specs.Prelude.{◌≡◌, ◌+◌, ◌*◌, ◌<◌, ◌≤◌, length};
+ghost use Rattle.pfs_base.specs.FlowShop.{IsWithin, time_of};
+ghost use Rattle.pfs_base.specs.Limits.{limits};
+ghost use Rattle.pfs_base.specs.Paths.{makespan};
+ghost use Rattle.pfs_insert.specs.Insertion.{makespan_with};
+ghost use Rattle.pfs_order.specs.Sequence.{IsSequence};
+ghost use Rattle.pfs_c.specs.Judgements.{shop_of};
+ghost use Rattle.pfs_c.specs.Private.Rows.{HeadsAt, TailsFrom};
+
+use pfs_base::{LONGEST_TIME, MOST_MACHINES};
+
+/// How long a job takes on a machine.
+#[inline(always)]
+fn time_at(times: &[u32], jobs: usize, machines: usize, job: usize, machine: usize) -> u64
+    requires within { IsWithin limits (shop_of times.now jobs machines) }
+    requires job { job < jobs }
+    requires machine { machine < machines }
+    ensures value { result ≡ time_of (shop_of times.now jobs machines) job machine }
+    ensures short { result ≤ LONGEST_TIME }
+{
+    u64::from(times[job * machines + machine])
+}
+
+/// Moves a row of heads on over the job at a place of a sequence.
+#[inline(always)]
+pub(crate) fn add_head(
+    times: &[u32],
+    jobs: usize,
+    machines: usize,
+    sequence: &[u32],
+    place: usize,
+    heads: &mut [u64],
+)
+    requires within { IsWithin limits (shop_of times.now jobs machines) }
+    requires sequence { IsSequence jobs sequence.now }
+    requires place { place < length sequence.now }
+    requires wide { machines ≤ length heads.old }
+    requires heads { HeadsAt (shop_of times.now jobs machines) sequence.now place heads.old }
+    ensures { HeadsAt (shop_of times.now jobs machines) sequence.now (place + 1) heads.new }
+{
+    let job = sequence[place] as usize;
+    let mut before = 0;
+    for machine in 0..machines {
+        before = heads[machine].max(before) + time_at(times, jobs, machines, job, machine);
+        heads[machine] = before;
+    }
+}
+
+/// Fills the row of tails of a place of a sequence in a table that has those of the places after it.
+#[inline(always)]
+pub(crate) fn add_tail(
+    times: &[u32],
+    jobs: usize,
+    machines: usize,
+    sequence: &[u32],
+    place: usize,
+    tails: &mut [u64],
+)
+    requires within { IsWithin limits (shop_of times.now jobs machines) }
+    requires sequence { IsSequence jobs sequence.now }
+    requires place { place < length sequence.now }
+    requires long { length tails.old ≡ (length sequence.now + 1) * machines }
+    requires tails { TailsFrom (shop_of times.now jobs machines) sequence.now (place + 1) tails.old }
+    ensures { TailsFrom (shop_of times.now jobs machines) sequence.now place tails.new }
+{
+    let job = sequence[place] as usize;
+    let first = place * machines;
+    let mut after = 0;
+    for machine in (0..machines).rev() {
+        let below = tails[first + machines + machine];
+        after = below.max(after) + time_at(times, jobs, machines, job, machine);
+        tails[first + machine] = after;
+    }
+}
+
+/// The makespan of a sequence.
+pub(crate) fn span_of(times: &[u32], jobs: usize, machines: usize, sequence: &[u32]) -> u64
+    requires within { IsWithin limits (shop_of times.now jobs machines) }
+    requires sequence { IsSequence jobs sequence.now }
+    ensures { result ≡ makespan (shop_of times.now jobs machines) sequence.now }
+{
+    let mut heads = [0; MOST_MACHINES];
+    for place in 0..sequence.len() {
+        add_head(times, jobs, machines, sequence, place, &mut heads);
+    }
+    heads[machines - 1]
+}
+
+/// The makespan of a sequence with a job put at a place, from the heads of the jobs before it and the tails of
+/// those after it.
+#[inline(always)]
+pub(crate) fn span_with(
+    times: &[u32],
+    jobs: usize,
+    machines: usize,
+    sequence: &[u32],
+    job: usize,
+    place: usize,
+    heads: &[u64],
+    tails: &[u64],
+) -> u64
+    requires within { IsWithin limits (shop_of times.now jobs machines) }
+    requires sequence { IsSequence jobs sequence.now }
+    requires job { job < jobs }
+    requires place { place ≤ length sequence.now }
+    requires wide { machines ≤ length heads.now }
+    requires long { length tails.now ≡ (length sequence.now + 1) * machines }
+    requires heads { HeadsAt (shop_of times.now jobs machines) sequence.now place heads.now }
+    requires tails { TailsFrom (shop_of times.now jobs machines) sequence.now 0 tails.now }
+    ensures { result ≡ makespan_with (shop_of times.now jobs machines) sequence.now job place }
+{
+    let first = place * machines;
+    let mut before = 0;
+    let mut most = 0;
+    for machine in 0..machines {
+        before = heads[machine].max(before) + time_at(times, jobs, machines, job, machine);
+        most = (before + tails[first + machine]).max(most);
+    }
+    most
+}

@@ -1,0 +1,368 @@
+"""Tables of times, as spreadsheets export them."""
+from __future__ import annotations
+
+import csv
+import io
+import os
+import re
+from collections.abc import Iterable, Sequence
+from typing import NamedTuple
+
+from pfs import _library as c
+from pfs._faults import TableFault
+from pfs._files import read_up_to
+from pfs._instance import Instance
+
+UNIT = re.compile(r"\s*[\[(]([^\[\]()]+)[\])]\s*\Z")
+# Units that machines may name. Other words in brackets, as in "drill (left)", belong to the machine's name.
+UNITS_OF_TIME = {"s", "sec", "sek", "seconds", "min", "minutes", "h", "hr", "hours", "std", "d", "days"}
+NUMBER = re.compile(r"([0-9]{1,20})(?:([.,])([0-9]{1,20}))?\Z", re.ASCII)
+CLOCK = re.compile(r"([0-9]{1,6}):([0-5][0-9])\Z", re.ASCII)
+CLOCK_UNITS = ("", "min", "h", "h:mm", "hh:mm")
+# What may be a number with thousands separators as well as one with three decimals. A number doesn't begin with the
+# group "0", so 0.125 has decimals.
+GROUPED = re.compile(r"(?!0[.,])[0-9]{1,3}(?:([.,])[0-9]{3})(?:\1[0-9]{3})*\Z", re.ASCII)
+TOTAL = re.compile(r"(sums?|totals?|summe|gesamt|somme|suma|totale|totaal|Σ)\b", re.IGNORECASE)
+# The first cell of a table that says that names follow, though they are numbers.
+SAYS_JOB = re.compile(r"(jobs?)?\Z", re.IGNORECASE)
+# What files begin with that are no text: spreadsheets' own formats, which are archives or compound documents.
+SPREADSHEETS = (b"PK\x03\x04", b"\xd0\xcf\x11\xe0")
+SAVE_AS = "save it as CSV UTF-8 (Excel), or as CSV with the character set Unicode (UTF-8) (LibreOffice)"
+
+
+class Table(NamedTuple):
+    """A table that was read."""
+
+    shop: Instance
+    # What separates the columns.
+    delimiter: str
+    # Whether the file begins with a byte order mark, as Excel's do.
+    has_mark: bool
+
+
+class Cell(NamedTuple):
+    """A cell that isn't the first of its row, and where it is, counted from 1."""
+
+    line: int
+    column: int
+    text: str
+
+
+class Rows(NamedTuple):
+    """The rows of a table that aren't empty."""
+
+    path: str
+    rows: list[tuple[int, list[str]]]
+    delimiter: str
+
+    def fault(self, cell: Cell, text: str) -> TableFault:
+        return TableFault(self.path, cell.line, cell.column, text)
+
+    def first(self) -> str:
+        """The first cell, without a unit."""
+        return UNIT.sub("", self.rows[0][1][0])
+
+    def machines(self) -> list[Cell]:
+        line, head = self.rows[0]
+        return [Cell(line, column, text) for column, text in enumerate(head[1:], 2)]
+
+    def jobs(self) -> list[Cell]:
+        return [Cell(line, 1, row[0]) for line, row in self.rows[1:]]
+
+    def times(self) -> list[list[Cell]]:
+        return [[Cell(line, column, text) for column, text in enumerate(row[1:], 2)] for line, row in self.rows[1:]]
+
+
+def read_csv(source: str | os.PathLike[str], unit: str = "", *, decimal: str | None = None,
+             allow_totals: bool = False) -> Instance:
+    """Reads a table of times, as spreadsheets export them: a row for each job, a column for each machine.
+
+    Parameters
+    ----------
+    source : str or os.PathLike
+        The file, in UTF-8 or in UTF-16 with a byte order mark, of at most 64 MiB. The first row names the machines and
+        the first column the jobs. Semicolons, tabs or commas separate the columns. Titles above the first row, empty
+        rows and empty columns at the right are skipped.
+    unit : str
+        The unit of all times. The table can name it in its first cell, in brackets: ``job [min]``, or at each machine.
+    decimal : str, optional
+        The decimal sign, ``"."`` or ``","``. The other one may then group digits by thousands. By default it is the
+        point where commas separate the columns. Elsewhere it is the one that the table uses, and a number such as
+        ``1.000``, which may be 1 or 1000, is rejected.
+    allow_totals : bool
+        Whether the last row may have the sums of the rows above, and the last column those of the columns before.
+        By default such a table is rejected, since its totals would be planned as a job or a machine.
+
+    Returns
+    -------
+    Instance
+        With names. Decimal times are counted in the last decimal that occurs: ``times`` are 10 to the power of
+        ``decimals`` times those of the table. Times written as hours and minutes, ``1:30``, are read in minutes.
+
+    Raises
+    ------
+    TableFault
+        A cell is no time or may be two different ones, a row has too many or too few cells, a name is missing or
+        occurs twice, all names are numbers as if they were times, units differ, or there are totals.
+    ValueError
+        `decimal` is another text.
+
+    Examples
+    --------
+    >>> import pathlib, tempfile, pfs
+    >>> path = pathlib.Path(tempfile.mkdtemp(), "plan.csv")
+    >>> _ = path.write_text("job [h];saw;drill\\ntable;3;2,5\\nchair;2;5\\n")
+    >>> shop = pfs.read_csv(path)
+    >>> shop.job_names, shop.machine_names, shop.unit
+    (('table', 'chair'), ('saw', 'drill'), 'h')
+    >>> shop.times.tolist(), shop.decimals
+    ([[30, 25], [20, 50]], 1)
+    >>> print(shop.schedule([1, 0]).to_csv(), end="")
+    job,machine,start,end
+    chair,saw,0.0,2.0
+    chair,drill,2.0,7.0
+    table,saw,2.0,5.0
+    table,drill,7.0,9.5
+    """
+    return table_of(source, unit, decimal, allow_totals).shop
+
+
+def table_of(source: str | os.PathLike[str], unit: str, decimal: str | None = None,
+             allow_totals: bool = False) -> Table:
+    """Read a table. The parameters are those of `read_csv`."""
+    if decimal not in (None, ".", ","):
+        raise ValueError(f"decimal should be '.' or ',', not {decimal!r}")
+    path = os.fspath(source)
+    with open(path, "rb") as file:
+        content = read_up_to(file.read, c.LONGEST_INPUT + 1)
+    if len(content) > c.LONGEST_INPUT:
+        raise TableFault(path, 1, 0, f"the table has more than {c.LONGEST_INPUT:,} bytes")
+    table = rows_of(text_of(content, path), path)
+    heads = table.machines()
+    names, found = without_units(table, heads, unit)
+    machines = names_in(path, names, "machine")
+    jobs = names_in(path, table.jobs(), "job")
+    if not 1 <= len(machines) <= c.MOST_MACHINES:
+        raise TableFault(path, table.rows[0][0], 0, f"{len(machines)} machines: there may be 1 to {c.MOST_MACHINES}")
+    if not 1 <= len(jobs) <= c.MOST_JOBS:
+        raise TableFault(path, table.rows[-1][0], 0, f"{len(jobs)} jobs: there may be 1 to {c.MOST_JOBS:,}")
+    reject_times_as_names(table, machines, jobs)
+    times, decimals, found = times_of(table, decimal, found)
+    if not allow_totals:
+        reject_totals(table, times)
+    shop = Instance(times, name=os.path.basename(path), job_names=jobs, machine_names=machines, unit=found,
+                    decimals=decimals)
+    return Table(shop, table.delimiter, content.startswith((b"\xef\xbb\xbf", b"\xff\xfe", b"\xfe\xff")))
+
+
+def text_of(content: bytes, path: str) -> str:
+    """The text of a file."""
+    if content.startswith(SPREADSHEETS):
+        raise TableFault(path, 1, 0, f"is a spreadsheet's own file: {SAVE_AS}")
+    encoding = "utf-16" if content.startswith((b"\xff\xfe", b"\xfe\xff")) else "utf-8-sig"
+    try:
+        return content.decode(encoding)
+    except UnicodeDecodeError as error:
+        line = content[:error.start].count(b"\n") + 1
+        raise TableFault(path, line, 0, f"isn't text in UTF-8: {SAVE_AS}") from None
+
+
+def delimiter_of(lines: Iterable[str]) -> str:
+    """What separates the columns: of semicolon, tab and comma the first that is in more than half of the lines."""
+    filled = [line for line in lines if line.strip()]
+    return next((sign for sign in ";\t" if 2 * sum(sign in line for line in filled) > len(filled)), ",")
+
+
+def rows_of(text: str, path: str) -> Rows:
+    """The rows of a table that aren't empty, each with its line, without titles and empty columns at the right."""
+    lines = list(io.StringIO(text, newline=""))
+    first = next((line for line in lines if line.strip()), "")
+    named = re.match(r"sep=(.)\s*\Z", first)
+    delimiter = named[1] if named else delimiter_of(lines)
+    reader = csv.reader(lines, delimiter=delimiter, strict=True, skipinitialspace=delimiter != "\t")
+    rows: list[tuple[int, list[str]]] = []
+    try:
+        line = 1
+        for row in reader:
+            cells = [cell.strip() for cell in row]
+            if any(cells) and not (named and not rows and cells[0].startswith("sep=")):
+                rows.append((line, cells))
+            line = reader.line_num + 1
+    except csv.Error as error:
+        raise TableFault(path, reader.line_num, 0, f"isn't a row of a table: {error}") from None
+    if not rows:
+        raise TableFault(path, 1, 0, "the table is empty")
+    while any(any(row[1:]) for _, row in rows) and not any(rows[0][1][1:]):
+        del rows[0]
+    width = max(column for _, row in rows for column, cell in enumerate(row, 1) if cell)
+    return Rows(path, [(line, row[:width]) for line, row in rows], delimiter)
+
+
+def names_in(path: str, cells: Iterable[Cell], what: str) -> list[str]:
+    """The names in these cells."""
+    seen: dict[str, Cell] = {}
+    for cell in cells:
+        if not cell.text:
+            raise TableFault(path, cell.line, cell.column, f"the {what} has no name")
+        if cell.text in seen:
+            other = seen[cell.text]
+            raise TableFault(path, cell.line, cell.column, f"the {what} {cell.text!r} is in line {other.line}, column "
+                                                           f"{other.column} too")
+        seen[cell.text] = cell
+    return list(seen)
+
+
+def without_units(table: Rows, heads: Sequence[Cell], unit: str) -> tuple[list[Cell], str]:
+    """The names of the machines without a unit that they all have, and the unit of the table."""
+    found = UNIT.search(table.rows[0][1][0])
+    unit = unit or (found[1].strip() if found else "")
+    units = [match[1].strip() if (match := UNIT.search(head.text)) else "" for head in heads]
+    units = [each if each.casefold() in UNITS_OF_TIME else "" for each in units]
+    if not any(units):
+        return list(heads), unit
+    wanted = unit or next(filter(None, units))
+    for head, own in zip(heads, units):
+        if own != wanted and (own or not unit):
+            raise table.fault(head, f"the times of the machine are in {own or 'no unit'}, and others are in {wanted}: "
+                                    "use one unit")
+    return [Cell(head.line, head.column, UNIT.sub("", head.text) if own else head.text)
+            for head, own in zip(heads, units)], wanted
+
+
+def is_time(text: str) -> bool:
+    return NUMBER.match(text) is not None or CLOCK.match(text) is not None
+
+
+def reject_times_as_names(table: Rows, machines: Sequence[str], jobs: Sequence[str]) -> None:
+    """Names that are all numbers are probably times: the row or the column of names is missing. They may count from 0
+    or 1, and the first cell of the table may say by the word `job`, or by being empty, that they are names."""
+    if SAYS_JOB.match(table.first()):
+        return
+    for names, what, part, line, column in ((machines, "machine", "row", table.rows[0][0], 2),
+                                            (jobs, "job", "column", table.rows[1][0], 1)):
+        counted = [[str(at) for at in range(start, start + len(names))] for start in (0, 1)]
+        if all(is_time(name) for name in names) and list(names) not in counted:
+            raise TableFault(table.path, line, column,
+                             f"the names of the {what}s are numbers, as if the {part} of names were missing: add it, "
+                             "or write `job` into the first cell of the table")
+
+
+def times_of(table: Rows, decimal: str | None, unit: str) -> tuple[list[list[int]], int, str]:
+    """The times, in how many decimals they are counted, and their unit."""
+    rows, machines = table.times(), len(table.rows[0][1]) - 1
+    for (line, _), row in zip(table.rows[1:], rows):
+        if len(row) != machines:
+            raise TableFault(table.path, line, 0, f"{counted(len(row), 'time')} for {counted(machines, 'machine')}")
+        for cell in row:
+            if not cell.text:
+                raise table.fault(cell, "the time is missing: write 0 where a job skips a machine "
+                                        "(it still waits there for its turn)")
+    if any(CLOCK.match(cell.text) for row in rows for cell in row):
+        return minutes_of(table, rows, unit), 0, "min"
+    sign = DecimalSign(table, rows, decimal)
+    parts = [[sign.parts_of(cell) for cell in row] for row in rows]
+    decimals = max(len(part) for row in parts for _, part in row)
+    times = [[int(number + part.ljust(decimals, "0")) for number, part in row] for row in parts]
+    reject_long_times(table, rows, times, f", counted in {counted(decimals, 'decimal')}" if decimals else "")
+    return times, decimals, unit
+
+
+def minutes_of(table: Rows, rows: Sequence[Sequence[Cell]], unit: str) -> list[list[int]]:
+    """Times that are all written as hours and minutes, in minutes."""
+    if unit not in CLOCK_UNITS:
+        raise TableFault(table.path, table.rows[0][0], 1, f"times such as 1:30 are hours and minutes, not {unit}")
+    times = []
+    for row in rows:
+        found = [CLOCK.match(cell.text) for cell in row]
+        for cell, match in zip(row, found):
+            if match is None:
+                raise table.fault(cell, f"{cell.text!r} isn't hours and minutes, as other times of the table are")
+        times.append([60 * int(match[1]) + int(match[2]) for match in found if match])
+    reject_long_times(table, rows, times, " minutes")
+    return times
+
+
+def reject_long_times(table: Rows, rows: Sequence[Sequence[Cell]], times: Sequence[Sequence[int]], note: str) -> None:
+    for cells, row in zip(rows, times):
+        for cell, time in zip(cells, row):
+            if time > c.LONGEST_TIME:
+                raise table.fault(cell, f"the time is above {c.LONGEST_TIME:,}{note}")
+
+
+class DecimalSign:
+    """The decimal sign of a table. Where it isn't given, the first time shows it whose sign can't group thousands."""
+
+    def __init__(self, table: Rows, rows: Iterable[Iterable[Cell]], decimal: str | None) -> None:
+        self.table = table
+        self.given = decimal
+        self.sign = decimal or ("." if table.delimiter == "," else None)
+        self.first: Cell | None = None
+        if self.sign is None:
+            found = ((cell, NUMBER.match(cell.text)) for row in rows for cell in row if not GROUPED.match(cell.text))
+            clear = ((cell, match[2]) for cell, match in found if match and match[2])
+            self.first, self.sign = next(clear, (None, None))
+
+    def parts_of(self, cell: Cell) -> tuple[str, str]:
+        """The digits before and after the decimal sign of a time, without zeros at the end."""
+        text = self.without_groups(cell.text) if self.given else cell.text
+        if self.sign is None and GROUPED.match(text):
+            digits = re.sub("[.,]", "", text)
+            raise self.table.fault(cell, f"{text!r} may be {digits}, or have decimals: leave out thousands separators, "
+                                         "or say which decimal sign the table has (`decimal`)")
+        match = NUMBER.match(text)
+        if match is None or (match[2] not in (None, self.sign) and self.first is None):
+            raise self.table.fault(cell, f"{cell.text!r} is no time")
+        if match[2] not in (None, self.sign) and self.first is not None:
+            raise self.table.fault(cell, f"{cell.text!r} has another decimal sign than {self.first.text!r} in line "
+                                         f"{self.first.line}, column {self.first.column}")
+        part = (match[3] or "").rstrip("0")
+        if len(part) > 9:
+            raise self.table.fault(cell, f"{cell.text!r} has more than 9 decimals")
+        return match[1], part
+
+    def without_groups(self, text: str) -> str:
+        """A number without its thousands separators."""
+        other = "," if self.given == "." else "."
+        grouped = rf"[0-9]{{1,3}}(?:\{other}[0-9]{{3}})+(?:\{self.given}[0-9]+)?\Z"
+        return text.replace(other, "") if re.match(grouped, text, re.ASCII) else text
+
+
+def reject_totals(table: Rows, times: Sequence[Sequence[int]]) -> None:
+    """The last row or the last column may have the sums of the others. One equal number says little, so two rows and
+    two columns have to be summed, unless the name says that it is a total."""
+    line, last = table.rows[-1]
+    total = [sum(column) for column in zip(*times[:-1])]
+    enough = 2 if TOTAL.match(last[0]) else 3
+    if len(times) >= enough and (len(total) > 1 or enough == 2) and any(total) and total == list(times[-1]):
+        raise TableFault(table.path, line, 0, f"the row {last[0]!r} has the sums of the rows above: leave it out, or "
+                                              "allow totals (`allow_totals`)")
+    line, head = table.rows[0]
+    sums, ends = [sum(row[:-1]) for row in times], [row[-1] for row in times]
+    enough = 2 if TOTAL.match(head[-1]) else 3
+    if len(head) > enough and (len(sums) > 1 or enough == 2) and any(sums) and sums == ends:
+        raise TableFault(table.path, line, len(head), f"the column {head[-1]!r} has the sums of the columns before: "
+                                                      "leave it out, or allow totals (`allow_totals`)")
+
+
+def counted(number: int, what: str) -> str:
+    """A number of things.
+
+    Examples
+    --------
+    >>> counted(1, "job"), counted(2, "job")
+    ('1 job', '2 jobs')
+    """
+    return f"{number:,} {what}{'' if number == 1 else 's'}"
+
+
+def described(shop: Instance) -> str:
+    """What was read, in one line.
+
+    Examples
+    --------
+    >>> described(Instance([[35, 20]], unit="min", decimals=1))
+    '1 job, 2 machines, times in min with 1 decimal'
+    """
+    decimals = f" with {counted(shop.decimals, 'decimal')}" if shop.decimals else ""
+    unit = f"times in {shop.unit}" if shop.unit else "times without a unit"
+    return f"{counted(shop.jobs, 'job')}, {counted(shop.machines, 'machine')}, {unit}{decimals}"

@@ -1,0 +1,257 @@
+"""Tables of times: what is read, and that nothing is read as another plan."""
+import pathlib
+import pickle
+
+import pfs
+import pytest
+from hypothesis import given
+from hypothesis import strategies as st
+
+MISSING = "the time is missing: write 0 where a job skips a machine (it still waits there for its turn)"
+SAVE_AS = "save it as CSV UTF-8 (Excel), or as CSV with the character set Unicode (UTF-8) (LibreOffice)"
+WITHOUT = "leave it out, or allow totals (`allow_totals`)"
+ADD = "were missing: add it, or write `job` into the first cell of the table"
+TABLES = {
+    "commas": "job,saw,drill\ntable,3,2\nchair,2,5\n",
+    "semicolons": "job;saw;drill\ntable;3;2\nchair;2;5\n",
+    "blanks, quotes and empty lines": '\n job , "saw",drill\r\n\r\n"table",3, 2 \r\n,,\r\nchair,2,5\r\n',
+    "a mark in front": "\ufeffjob,saw,drill\ntable,3,2\nchair,2,5",
+    "a mark in front of a quote": '\ufeff"job, [h]x",saw,drill\ntable,3,2\nchair,2,5',
+    "a mark in front of a spreadsheet's first line": "\ufeffsep=;\njob;saw;drill\ntable;3;2\nchair;2;5\n",
+    "a spreadsheet's first line": "sep=;\njob;saw;drill\ntable;3;2\nchair;2;5\n",
+    "points without meaning": "job,saw,drill\ntable,3.0,2.00\nchair,2,5\n",
+}
+# A table, and where and why it is rejected.
+BAD_TABLES = {
+    "nothing": ("", 1, 0, "the table is empty"),
+    "one line": ("job,saw\n", 1, 0, "0 jobs: there may be 1 to 5,000"),
+    "no machine": ("job\na\n", 1, 0, "0 machines: there may be 1 to 200"),
+    "many machines": ("job" + "".join(f",m{at}" for at in range(201)) + "\na" + ",1" * 201, 1, 0,
+                      "201 machines: there may be 1 to 200"),
+    "many jobs": ("job,saw\n" + "".join(f"j{at},1\n" for at in range(5001)), 5002, 0,
+                  "5001 jobs: there may be 1 to 5,000"),
+    "no name": ("job,saw\n,3\n", 2, 1, "the job has no name"),
+    "no name of a machine": ("job,saw,\na,3,4\n", 1, 3, "the machine has no name"),
+    "a job twice": ("job,saw\na,3\nb,2\na,4\n", 4, 1, "the job 'a' is in line 2, column 1 too"),
+    "a machine twice": ("job,saw,saw\na,3,4\n", 1, 3, "the machine 'saw' is in line 1, column 2 too"),
+    "a word": ("job,saw\n\na,x\n", 3, 2, "'x' is no time"),
+    "a minus": ("job,saw\na,-1\n", 2, 2, "'-1' is no time"),
+    "a digit of another script": ("job,saw\na,\u0663\n", 2, 2, "'\u0663' is no time"),
+    "no time": ("job,saw,drill\na,3,\n", 2, 3, MISSING),
+    "a short row": ("job,saw,drill\na,3\n", 2, 0, "1 time for 2 machines"),
+    "a long row": ("job,saw\na,3,4\n", 2, 0, "2 times for 1 machine"),
+    "a decimal comma": ('job,saw\na,"3,5"\n', 2, 2, "'3,5' is no time"),
+    "ten decimals": ("job,saw\na,0.0123456789\n", 2, 2, "'0.0123456789' has more than 9 decimals"),
+    "a long time": ("job,saw\na,1000000001\n", 2, 2, "the time is above 1,000,000,000"),
+    "a time too long with decimals": ("job,saw\na,1000000\nb,0.0001\n", 2, 2,
+                                      "the time is above 1,000,000,000, counted in 4 decimals"),
+    "a fault after a cell of two lines": ('job,saw\n"a\nb",3\nc,x\n', 4, 2, "'x' is no time"),
+    "a fault after cells of many lines": ('"job\n\n",saw\n\n"a\r\nb",3\r\n"c\n",3\nd,x\n', 9, 2, "'x' is no time"),
+    "a name twice after a cell of two lines": ('job,saw\n"a\nb",3\nc,1\nc,1\n', 5, 1,
+                                              "the job 'c' is in line 4, column 1 too"),
+    "an open quote before other lines": ('job,saw\na,"3\nb,4\nc,5\n', 4, 0,
+                                         "isn't a row of a table: unexpected end of data"),
+    "an open quote": ('job,saw\na,"3\n', 2, 0, "isn't a row of a table: unexpected end of data"),
+}
+# Tables that would be read as another plan, and where and why they are rejected.
+WRONG_TABLES = {
+    "thousands with points": ("job;saw;drill\na;1.000;2.500\nb;3.000;2.000\n", 2, 2,
+                              "'1.000' may be 1000, or have decimals: leave out thousands separators, or say which "
+                              "decimal sign the table has (`decimal`)"),
+    "thousands with commas": ("job\tsaw\na\t7\nb\t12,345\n", 3, 2,
+                              "'12,345' may be 12345, or have decimals: leave out thousands separators, or say which "
+                              "decimal sign the table has (`decimal`)"),
+    "a million": ("job;saw\na;1.000.000\n", 2, 2,
+                  "'1.000.000' may be 1000000, or have decimals: leave out thousands separators, or say which decimal "
+                  "sign the table has (`decimal`)"),
+    "both signs": ("job;saw;drill\na;1.500;2,5\n", 2, 2,
+                   "'1.500' has another decimal sign than '2,5' in line 2, column 3"),
+    "both signs in another order": ("job;saw\na;1.5\nb;2,25\n", 3, 2,
+                                    "'2,25' has another decimal sign than '1.5' in line 2, column 2"),
+    "a row of sums": ("job;saw;drill\na;1;2\nb;3;4\nc;4;6\n", 4, 0,
+                      f"the row 'c' has the sums of the rows above: {WITHOUT}"),
+    "a row of decimal sums": ("job,saw,drill\na,1.5,2\nb,3,4\nc,4.50,6\n", 4, 0,
+                              f"the row 'c' has the sums of the rows above: {WITHOUT}"),
+    "the total of one job": ("job;saw\na;3\nSumme;3\n", 3, 0,
+                             f"the row 'Summe' has the sums of the rows above: {WITHOUT}"),
+    "a column of sums": ("job;saw;drill;all\na;1;2;3\nb;3;4;7\n", 1, 4,
+                         f"the column 'all' has the sums of the columns before: {WITHOUT}"),
+    "a total of one machine": ("job;saw;Total\na;3;3\n", 1, 3,
+                               f"the column 'Total' has the sums of the columns before: {WITHOUT}"),
+    "no row of names": ("a;3;12\nb;20;5\n", 1, 2,
+                        f"the names of the machines are numbers, as if the row of names {ADD}"),
+    "no column of names": ("saw;drill\n3;12\n20;5\n", 2, 1,
+                           f"the names of the jobs are numbers, as if the column of names {ADD}"),
+    "no names": ("3,2\n1.5,4\n", 1, 2,
+                 f"the names of the machines are numbers, as if the row of names {ADD}"),
+    "no row of names above hours": ("a;3:00;1:12\nb;0:20;5:00\n", 1, 2,
+                                    f"the names of the machines are numbers, as if the row of names {ADD}"),
+    "two units": ("job;saw [min];drill [h]\na;3;2\n", 1, 3,
+                  "the times of the machine are in h, and others are in min: use one unit"),
+    "a machine without a unit": ("job;saw [min];drill\na;3;2\n", 1, 3,
+                                 "the times of the machine are in no unit, and others are in min: use one unit"),
+    "another unit than the table's": ("job [h];saw;drill [min]\na;3;2\n", 1, 3,
+                                      "the times of the machine are in min, and others are in h: use one unit"),
+    "hours beside numbers": ("job;saw\na;1:30\nb;2\n", 3, 2,
+                             "'2' isn't hours and minutes, as other times of the table are"),
+    "61 minutes": ("job;saw\na;1:30\nb;1:61\n", 3, 2,
+                   "'1:61' isn't hours and minutes, as other times of the table are"),
+    "hours in seconds": ("job [s];saw\na;1:30\n", 1, 1, "times such as 1:30 are hours and minutes, not s"),
+}
+# Tables that look a little like the ones above and are right: what makes them so, and their times.
+RIGHT_TABLES = {
+    "three decimals": ("job;saw;drill\na;0,125;2\nb;1,5;1,125\n", [[125, 2000], [1500, 1125]]),
+    "a fraction of one": ("job;saw\na;0.125\n", [[125]]),
+    "points between commas": ("job,saw\na,1.000\nb,2.500\n", [[10], [25]]),
+    "two equal machines": ("job;saw;drill\na;2;2\nb;3;3\n", [[2, 2], [3, 3]]),
+    "two equal jobs": ("job;saw;drill\na;2;3\nb;2;3\n", [[2, 3], [2, 3]]),
+    "one machine": ("job;saw\na;1\nb;2\nc;3\n", [[1], [2], [3]]),
+    "one job": ("job;saw;drill;paint\na;1;2;3\n", [[1, 2, 3]]),
+    "no work": ("job;saw;drill;paint\na;0;0;0\nb;0;0;0\nc;0;0;0\n", [[0, 0, 0]] * 3),
+    "a total that is none": ("job;saw;drill\na;1;2\nb;3;4\nTotal;4;7\n", [[1, 2], [3, 4], [4, 7]]),
+    "counted machines": ("x;1;2\na;3;12\nb;20;5\n", [[3, 12], [20, 5]]),
+    "counted jobs": ("x;saw;drill\n0;3;12\n1;20;5\n", [[3, 12], [20, 5]]),
+    "numbers of orders": ("job [min];saw\n4711;3\n4713;20\n", [[3], [20]]),
+    "an empty first cell": (";101;102\na;3;12\n", [[3, 12]]),
+    "brackets that are no unit": ("job;drill (left);drill (right)\na;3;12\n", [[3, 12]]),
+    "tabs": ("job\tsaw\tdrill\na\t3\t1,5\n", [[30, 15]]),
+    "a name with a semicolon": ('job,saw,drill\n"a;b",3,2\nc,1,1\n', [[3, 2], [1, 1]]),
+    "empty columns at the right": ("job;saw;;\na;3;;\nb;2\n;;;\n", [[3], [2]]),
+    "titles": ("Plan, week 48\nof the workshop;;\njob;saw;drill\na;3;2\nb;1;4\n", [[3, 2], [1, 4]]),
+    "hours and minutes": ("job;saw;drill\na;1:30;0:05\n", [[90, 5]]),
+}
+
+
+def written(folder: pathlib.Path, text: str, name: str = "file") -> pathlib.Path:
+    (folder / name).write_bytes(text.encode())
+    return folder / name
+
+
+@pytest.mark.parametrize("case", TABLES)
+def test_tables(tmp_path: pathlib.Path, case: str) -> None:
+    shop = pfs.read_csv(written(tmp_path, TABLES[case], "plan.csv"))
+    assert shop.times.tolist() == [[3, 2], [2, 5]]
+    assert (shop.job_names, shop.machine_names) == (("table", "chair"), ("saw", "drill"))
+    assert (shop.name, shop.unit, shop.decimals) == ("plan.csv", "", 0)
+
+
+@pytest.mark.parametrize("case", RIGHT_TABLES)
+def test_tables_that_look_wrong_and_are_right(tmp_path: pathlib.Path, case: str) -> None:
+    text, times = RIGHT_TABLES[case]
+    assert pfs.read_csv(written(tmp_path, text)).times.tolist() == times
+
+
+@pytest.mark.parametrize("encoding", ["utf-16", "utf-16-le", "utf-16-be"])
+def test_utf_16(tmp_path: pathlib.Path, encoding: str) -> None:
+    """As Excel saves "Unicode text"."""
+    mark = "" if encoding == "utf-16" else "\ufeff"
+    (tmp_path / "file").write_bytes((mark + "job\tS\u00e4ge\r\nT\u00fcr\t3\r\n").encode(encoding))
+    shop = pfs.read_csv(tmp_path / "file")
+    assert (shop.machine_names, shop.job_names, shop.times.tolist()) == (("S\u00e4ge",), ("T\u00fcr",), [[3]])
+
+
+@pytest.mark.parametrize(("head", "given_unit", "unit"), [
+    ("job [min]", "", "min"), ("times ( h )", "", "h"), ("job", "s", "s"), ("job [min]", "s", "s"),
+    ("[min] job", "", "")])
+def test_units_and_decimals(tmp_path: pathlib.Path, head: str, given_unit: str, unit: str) -> None:
+    path = written(tmp_path, f"{head};saw;drill\ntable;3,25;2\nchair;0,5;5\n")
+    shop = pfs.read_csv(path, unit=given_unit)
+    assert (shop.unit, shop.decimals, shop.times.tolist()) == (unit, 2, [[325, 200], [50, 500]])
+
+
+@pytest.mark.parametrize(("head", "given_unit"), [
+    ("job;saw [min];drill (min)", ""), ("job [min];saw [min];drill", ""), ("job;saw;drill [min]", "min")])
+def test_units_of_machines(tmp_path: pathlib.Path, head: str, given_unit: str) -> None:
+    shop = pfs.read_csv(written(tmp_path, f"{head}\na;3;2\n"), unit=given_unit)
+    assert (shop.unit, shop.machine_names) == ("min", ("saw", "drill"))
+
+
+def test_hours_and_minutes_are_minutes(tmp_path: pathlib.Path) -> None:
+    for head in ("job", "job [h]", "job [h:mm]", "job [min]"):
+        shop = pfs.read_csv(written(tmp_path, f"{head};saw\na;100:59\n"))
+        assert (shop.times.tolist(), shop.unit, shop.decimals) == ([[6059]], "min", 0)
+
+
+@pytest.mark.parametrize(("decimal", "cells", "times"), [
+    (".", ["1.000", "2.5"], [10, 25]), (",", ["1.000", "2.500"], [1000, 2500]), (",", ["1,000", "2"], [1, 2]),
+    (".", ["1,000", "12,345.5"], [10000, 123455]), (",", ["1.234.567,25", "0"], [123456725, 0])])
+def test_a_decimal_sign_that_is_given(tmp_path: pathlib.Path, decimal: str, cells: list[str],
+                                      times: list[int]) -> None:
+    """The other sign groups thousands."""
+    for delimiter in ";\t,":
+        quoted = [f'"{cell}"' for cell in cells]
+        path = written(tmp_path, f"job{delimiter}saw{delimiter}drill\na{delimiter}{delimiter.join(quoted)}\n")
+        assert pfs.read_csv(path, decimal=decimal).times.tolist() == [times]
+
+
+@pytest.mark.parametrize(("decimal", "cell"), [(",", "1.5"), (".", "1,5"), (",", "12.3456"), (".", "1,0000.5"),
+                                               (",", "1.000.00"), (".", "1234,567")])
+def test_what_isnt_grouped_by_thousands(tmp_path: pathlib.Path, decimal: str, cell: str) -> None:
+    with pytest.raises(pfs.TableFault, match="line 2, column 2: '.*' is no time"):
+        pfs.read_csv(written(tmp_path, f"job;saw\na;{cell}\n"), decimal=decimal)
+
+
+def test_other_decimal_signs_are_rejected(tmp_path: pathlib.Path) -> None:
+    with pytest.raises(ValueError, match="decimal should be '.' or ',', not 'comma'"):
+        pfs.read_csv(written(tmp_path, "job;saw\na;1\n"), decimal="comma")
+
+
+@pytest.mark.parametrize("case", ["a row of sums", "a column of sums", "the total of one job",
+                                  "a total of one machine"])
+def test_totals_that_are_allowed(tmp_path: pathlib.Path, case: str) -> None:
+    shop = pfs.read_csv(written(tmp_path, WRONG_TABLES[case][0]), allow_totals=True)
+    assert shop.jobs == WRONG_TABLES[case][0].count("\n") - 1
+
+
+@given(st.lists(st.lists(st.integers(0, 10**9), min_size=3, max_size=3), min_size=2, max_size=6))
+def test_numbers_are_read_back(tmp_path_factory: pytest.TempPathFactory, rows: list[list[int]]) -> None:
+    text = "job;a;b;c\n" + "".join(f"j{at};{';'.join(map(str, row))}\n" for at, row in enumerate(rows))
+    path = written(tmp_path_factory.mktemp("table"), text)
+    assert pfs.read_csv(path, allow_totals=True).times.tolist() == rows
+
+
+@pytest.mark.parametrize("case", [*BAD_TABLES, *WRONG_TABLES])
+def test_tables_that_are_rejected(tmp_path: pathlib.Path, case: str) -> None:
+    text, line, column, why = {**BAD_TABLES, **WRONG_TABLES}[case]
+    path = written(tmp_path, text)
+    with pytest.raises(pfs.TableFault) as fault:
+        pfs.read_csv(path)
+    assert (fault.value.line, fault.value.column, fault.value.text) == (line, column, why)
+    assert str(fault.value) == f"{path}: line {line}, {f'column {column}: ' if column else ''}{why}"
+    assert pickle.loads(pickle.dumps(fault.value)).text == why
+
+
+@pytest.mark.parametrize(("cell", "time", "decimals"), [
+    ("1000000000", 1_000_000_000, 0), ("0", 0, 0), ("1.000000000", 1, 0), ("0.999999999", 999_999_999, 9),
+    ("1.00000001", 100_000_001, 8), ("00000000007", 7, 0), ("99999999.9", 999_999_999, 1)])
+def test_the_least_and_the_longest_times_of_tables(tmp_path: pathlib.Path, cell: str, time: int,
+                                                   decimals: int) -> None:
+    shop = pfs.read_csv(written(tmp_path, f"job,saw\na,{cell}\n"))
+    assert (shop.times.tolist(), shop.decimals) == ([[time]], decimals)
+
+
+@pytest.mark.parametrize("cell", ["1000000001", "1000000000.1", "10000000000"])
+def test_times_of_tables_above_the_longest_one(tmp_path: pathlib.Path, cell: str) -> None:
+    with pytest.raises(pfs.TableFault, match="line 2, column 2: the time is above 1,000,000,000"):
+        pfs.read_csv(written(tmp_path, f"job,saw\na,{cell}\n"))
+
+
+def test_the_largest_tables(tmp_path: pathlib.Path) -> None:
+    rows = ["job," + ",".join(f"m{at}" for at in range(200)), *(f"j{at}" + ",1" * 200 for at in range(5_000))]
+    shop = pfs.read_csv(written(tmp_path, "\n".join(rows)))
+    assert (shop.jobs, shop.machines) == (5_000, 200)
+
+
+@pytest.mark.parametrize("content", [b"PK\x03\x04\x14\0rest", b"\xd0\xcf\x11\xe0\xa1\xb1\x1a\xe1"])
+def test_spreadsheets_own_files_are_rejected(tmp_path: pathlib.Path, content: bytes) -> None:
+    (tmp_path / "file").write_bytes(content)
+    with pytest.raises(pfs.TableFault) as fault:
+        pfs.read_csv(tmp_path / "file")
+    assert fault.value.text == f"is a spreadsheet's own file: {SAVE_AS}"
+
+
+def test_other_encodings_are_rejected(tmp_path: pathlib.Path) -> None:
+    (tmp_path / "file").write_bytes(b"job,saw\nb\xe4r,3\n")
+    with pytest.raises(pfs.TableFault) as fault:
+        pfs.read_csv(tmp_path / "file")
+    assert (fault.value.line, fault.value.text) == (2, f"isn't text in UTF-8: {SAVE_AS}")
