@@ -275,3 +275,58 @@ def test_a_page_asks_for_nothing(tmp_path: pathlib.Path, named: pfs.Schedule) ->
     assert not re.search(r"""(?:src|href)\s*=|url\(|@import|https?:|fetch\(|XMLHttp|import\(""", text)
     assert text.count("</script>") == 2 and "<b>" not in text
     assert "plan: 3 jobs on 3 machines: makespan" in text
+
+
+# The frame of a picture
+
+def a_schedule() -> pfs.Schedule:
+    return pfs.Instance([[3, 2], [2, 5], [4, 1]]).schedule([1, 0, 2])
+
+
+def test_width_dpi_and_title(tmp_path: pathlib.Path) -> None:
+    pytest.importorskip("matplotlib")
+    figure = a_schedule().plot(tmp_path / "chart.png", width=4, dpi=50)
+    head = (tmp_path / "chart.png").read_bytes()[16:24]
+    assert int.from_bytes(head[:4], "big") == 200 and figure.get_size_inches()[0] == 4
+    titles: dict[Any, str] = {False: "", "my $x$ title": "my $x$ title", "": ""}
+    for title, due in titles.items():
+        assert a_schedule().plot(title=title).axes[0].get_title() == due
+    assert a_schedule().plot().axes[0].get_title() == "3 jobs on 2 machines: makespan 10"
+
+
+def test_a_chart_on_axes_of_ones_own() -> None:
+    pytest.importorskip("matplotlib")
+    import matplotlib.figure
+    figure = matplotlib.figure.Figure(figsize=(8, 3))
+    axes = figure.subplots(1, 2)
+    assert a_schedule().plot(ax=axes[1], title="right") is figure
+    assert (axes[0].get_title(), axes[1].get_title()) == ("", "right")
+    assert not axes[0].collections and len(axes[1].collections) == 4, "two strips and two rows"
+    assert figure.get_size_inches().tolist() == [8, 3]
+    with pytest.raises(ValueError, match="ax is for pictures, and a page has none"):
+        a_schedule().plot("chart.html", ax=axes[0])
+
+
+def test_jupyter_shows_the_chart(monkeypatch: pytest.MonkeyPatch) -> None:
+    pytest.importorskip("matplotlib")
+    text = a_schedule()._repr_svg_()
+    assert text is not None and "<svg" in text and "critical" in text and "bound" in text
+    assert pfs.generate(101, 20, 1).schedule(range(101))._repr_svg_() is None, "a very large picture"
+    modules: dict[str, Any] = sys.modules
+    monkeypatch.setitem(modules, "matplotlib", None)
+    assert a_schedule()._repr_svg_() is None
+
+
+@pytest.mark.parametrize(("words", "kind", "why"), [
+    ({"width": 1}, ValueError, "width is 1, and should be 2 to 100 inches"),
+    ({"width": float("nan")}, ValueError, "width is nan"),
+    ({"width": "4"}, TypeError, "width should be inches, not '4'"), ({"width": True}, TypeError, "width should be"),
+    ({"dpi": 10}, ValueError, "dpi is 10, and should be 20 to 2,400"), ({"dpi": 99.5}, TypeError, "dpi should be a whole"),
+    ({"title": 3}, TypeError, "title should be True, False or a text, not 3"),
+    ({"ax": 3}, TypeError, "ax should be axes of matplotlib, not 3")])
+def test_frames_of_pictures_that_are_rejected(tmp_path: pathlib.Path, words: dict[str, Any], kind: type[Exception],
+                                              why: str) -> None:
+    for name in ("chart.svg", "chart.html"):
+        with pytest.raises(kind, match=why):
+            a_schedule().plot(tmp_path / name, **words)
+        assert not (tmp_path / name).exists()

@@ -285,6 +285,43 @@ def test_faults_of_instance_files(tmp_path: pathlib.Path, program: str, case: st
     assert plainly.run([program, "value", "--layout", layout, str(path)], 2) == told + "\n"
 
 
+# A file, its layout, and the line, the column and the hint of its fault.
+HINTS = {
+    "nothing": ("", "taillard", 1, 0, "no line has numbers alone, and so none is a size line"),
+    "words": ("a\nb 2\n", "orlib", 2, 0, "no line has numbers alone, and so none is a size line"),
+    "the other layout": ("x\n3 2\n", "taillard", 2, 0,
+                         "the line has 2 numbers, and a size line 5; that of the layout 'orlib' has 2"),
+    "three numbers": ("1 2 3\n", "orlib", 1, 0, "the line has 3 numbers, and a size line 2"),
+    "words beside the size": ("11 5 # 11 jobs\n0 3 1 2 2 7\n", "orlib", 2, 0,
+                              "line 1 has words beside its numbers, so it isn't read as a size line"),
+    "many jobs": ("5001 1\n", "orlib", 1, 0,
+                  "a block has 1 to 5,000 jobs and 1 to 200 machines, and the notes are at most 4,294,967,295"),
+    "a decimal": ("2 1 0 0 0\n3 4.5\n", "taillard", 2, 4,
+                  "a line of times has numbers alone: no words, and no numbers with a sign or a decimal point"),
+    "a long time": ("1 1 0 0 0\n 1000000001\n", "taillard", 2, 2, "times are 0 to 1,000,000,000"),
+    "a time missing": ("2 2\n0 3 1\n0 5 1 2\n1 1\n0 3\n", "orlib", 3, 3,
+                       "line 2 has 3 numbers, and a row of this block 4"),
+    "a time missing in the second block": ("1 1 0 0 0\n7\n3 2 0 0 0\n1 2 3\n4 5\n1 1 0 0 0\n7\n", "taillard", 6, 3,
+                                           "line 5 has 2 numbers, and a row of this block 3"),
+    "a plain matrix": ("2 3\n4 5 6\n7 8 9\n", "orlib", 2, 1,
+                       "line 2 has 3 numbers: perhaps times alone, where pairs of a machine and a time are due"),
+    "an end inside": ("2 2 0 0 0\n3 4\n5\n", "taillard", 3, 0, "line 3 has 1 numbers, and a row of this block 2"),
+    "an end after whole rows": ("2 2 0 0 0\n3 4\n", "taillard", 2, 0, ""),
+}
+
+
+@pytest.mark.parametrize("case", HINTS)
+def test_where_a_fault_is_and_what_may_be_wrong(case: str) -> None:
+    text, layout, line, column, hint = HINTS[case]
+    reads: list[Callable[[], Any]] = [lambda: pfs.read_all(io.BytesIO(text.encode()), layout)]
+    if "second" not in case:
+        reads.append(lambda: pfs.read(io.BytesIO(text.encode()), layout))
+    for read in reads:
+        with pytest.raises(pfs.FileFault) as fault:
+            read()
+        assert (fault.value.line, fault.value.column, fault.value.hint) == (line, column, hint)
+
+
 def test_a_file_that_is_too_long(tmp_path: pathlib.Path) -> None:
     with open(tmp_path / "long", "wb") as file:
         file.truncate(67_108_865)

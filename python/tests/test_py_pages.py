@@ -153,3 +153,22 @@ def test_compare(tmp_path: pathlib.Path) -> None:
         assert float(gap) == pytest.approx(100 * (int(makespan) / shop.lower - 1), abs=0.001)
         assert re.search(rf"^{name}\b.*\b{makespan}\b", done.stdout, re.MULTILINE)
     assert (tmp_path / "out" / "compare.png").read_bytes().startswith(b"\x89PNG")
+
+
+@pytest.mark.seconds(10)
+def test_ruiz_stuetzle(tmp_path: pathlib.Path) -> None:
+    pytest.importorskip("matplotlib")
+    script = HERE / "examples" / "ruiz_stuetzle.py"
+    assert len(script.read_text().splitlines()) <= 80
+    env = os.environ | {"PYTHONPATH": str(pathlib.Path(pfs.__file__).parents[1]), "PYTHONDONTWRITEBYTECODE": "1"}
+    words = [sys.executable, str(script), "8", "search.png", "1", "31"]
+    done = subprocess.run(words, cwd=tmp_path, env=env, capture_output=True, text=True, timeout=300)
+    assert (done.returncode, done.stderr) == (0, "")
+    lines = re.findall(r"^(ta\d{3}) (with temperature|solve): (\d+), RPD (-?\d+\.\d\d) %$", done.stdout, re.MULTILINE)
+    assert len(lines) == 4 == len(done.stdout.splitlines())
+    for name, method, makespan, rpd in lines:
+        shop = pfs.taillard(int(name[2:]))
+        assert shop.bound() <= int(makespan) <= shop.neh().makespan
+        assert float(rpd) == pytest.approx(100 * (int(makespan) / shop.upper - 1), abs=0.006)
+    assert {name for name, *_ in lines} == {"ta001", "ta031"}
+    assert (tmp_path / "search.png").read_bytes().startswith(b"\x89PNG")

@@ -293,7 +293,7 @@ def test_a_copy_of_a_schedule_has_each_attribute(how: str) -> None:
 
 
 FAULTS: list[BaseException] = [
-    pfs.FileFault("file", 24, 17), pfs.OrderFault("order", 31, 3), pfs.TableFault("plan.csv", 4, 2, "no time"),
+    pfs.FileFault("file", 24, 17, 3, 2, "a hint"), pfs.OrderFault("order", 31, 3), pfs.TableFault("plan.csv", 4, 2, "no time"),
     pfs.Interrupted(pfs.Solution([1, 0], 9, 16, 2, 5))]
 
 
@@ -302,7 +302,7 @@ FAULTS: list[BaseException] = [
 def test_a_copy_of_an_exception_has_each_attribute(fault: BaseException, how: str) -> None:
     other = COPIES[how](fault)
     assert (type(other), str(other), vars(other)) == (type(fault), str(fault), vars(fault))
-    assert len(vars(fault)) == {"FileFault": 5, "OrderFault": 5, "TableFault": 4, "Interrupted": 1}[
+    assert len(vars(fault)) == {"FileFault": 8, "OrderFault": 5, "TableFault": 4, "Interrupted": 1}[
         type(fault).__name__]
 
 

@@ -12,8 +12,9 @@ import os
 import pathlib
 import re
 import sys
-from typing import TYPE_CHECKING, Any
+from typing import TYPE_CHECKING, Any, NamedTuple
 
+from pfs._given import whole
 from pfs._names import amount, shown
 from pfs._whole import write_whole
 
@@ -44,12 +45,53 @@ ENDINGS = ("svg", "png", "pdf", "html")
 UNIT = "units of the instance"
 
 
-def plot(schedule: Schedule, path: str | os.PathLike[str] | None, critical: bool, bound: bool, unit: str | None) -> Any:
+# Jupyter shows no more operations than these.
+MOST_SHOWN = 2_000
+
+
+class Frame(NamedTuple):
+    """What is around the rows: inches, dots an inch, the title, and axes to draw on."""
+    width: float = 12.0
+    dpi: int = 110
+    title: bool | str = True
+    ax: Any = None
+
+    def checked(self) -> Frame:
+        """The same, if each is of its kind and within its limits."""
+        if isinstance(self.width, bool) or not isinstance(self.width, (int, float)):
+            raise TypeError(f"width should be inches, not {self.width!r}")
+        if not 2 <= self.width <= 100:
+            raise ValueError(f"width is {self.width}, and should be 2 to 100 inches")
+        if not isinstance(self.title, (bool, str)):
+            raise TypeError(f"title should be True, False or a text, not {self.title!r}")
+        if self.ax is not None and not hasattr(self.ax, "broken_barh"):
+            raise TypeError(f"ax should be axes of matplotlib, not {self.ax!r}")
+        return self._replace(dpi=whole(self.dpi, "dpi", 20, 2_400))
+
+
+def svg_of(schedule: Schedule) -> str | None:
+    """The picture that Jupyter shows."""
+    if schedule.starts.size > MOST_SHOWN:
+        return None
+    try:
+        figure = plot(schedule, None, True, True, None)
+    except ImportError:
+        return None
+    picture: bytes = _gantt.picture_of(figure, "svg", _gantt.Look())
+    return picture.decode("utf-8")
+
+
+def plot(schedule: Schedule, path: str | os.PathLike[str] | None, critical: bool, bound: bool, unit: str | None,
+         frame: Frame = Frame()) -> Any:
     """The figure, or, where the path is that of a page, none."""
     shop = schedule.instance
     ending = None if path is None else ending_of(path)
+    frame = frame.checked()
+    if ending == "html" and frame.ax is not None:
+        raise ValueError("ax is for pictures, and a page has none")
     look = _gantt.Look(critical=critical, bound=shop.bound() if bound else None,
-                       unit=shown(unit or shop.unit or UNIT), decimals=shop.decimals)
+                       unit=shown(unit or shop.unit or UNIT), decimals=shop.decimals, width=float(frame.width),
+                       dpi=frame.dpi, title=frame.title is True)
     jobs, machines = ([shown(name) for name in names or counted(count)]
                       for names, count in ((shop.job_names, shop.jobs), (shop.machine_names, shop.machines)))
     table = _gantt.Table([job + 1 for job in schedule.order.tolist()], schedule.starts, schedule.ends, jobs, machines)
@@ -57,7 +99,7 @@ def plot(schedule: Schedule, path: str | os.PathLike[str] | None, critical: bool
         assert path is not None
         write_whole(path, page_of(table, look, shown(shop.name)).encode("utf-8"))
         return None
-    return drawn(table, look, path, ending)
+    return drawn(table, look, path, ending, frame)
 
 
 def ending_of(path: str | os.PathLike[str]) -> str:
@@ -82,7 +124,8 @@ def require_matplotlib() -> Any:
     return matplotlib
 
 
-def drawn(table: _gantt.Table, look: _gantt.Look, path: str | os.PathLike[str] | None, ending: str | None) -> Any:
+def drawn(table: _gantt.Table, look: _gantt.Look, path: str | os.PathLike[str] | None, ending: str | None,
+          frame: Frame) -> Any:
     """The figure, which is saved where there is a path. The settings of matplotlib stay as they are."""
     matplotlib = require_matplotlib()
     logger = logging.getLogger("matplotlib")
@@ -90,12 +133,28 @@ def drawn(table: _gantt.Table, look: _gantt.Look, path: str | os.PathLike[str] |
     try:
         with matplotlib.rc_context():
             figure = _gantt.new_figure(table, look)
-            _gantt.draw(figure, table, look)
+            if frame.ax is not None:
+                figure = frame.ax.figure
+                look = look._replace(width=frame.ax.get_window_extent().width / figure.dpi + _gantt.BESIDE)
+            _gantt.draw(Given(frame.ax) if frame.ax is not None else figure, table, look)
+            if isinstance(frame.title, str):
+                axes = frame.ax or figure.axes[0]
+                axes.set_title(shown(frame.title), parse_math=False)
             if path is not None:
                 write_whole(path, _gantt.picture_of(figure, str(ending), look))
             return figure
     finally:
         logger.setLevel(level)
+
+
+class Given:
+    """In the place of a figure: its only axes are those that it was given."""
+
+    def __init__(self, ax: Any) -> None:
+        self.ax = ax
+
+    def subplots(self) -> Any:
+        return self.ax
 
 
 def page_of(table: _gantt.Table, look: _gantt.Look, name: str) -> str:

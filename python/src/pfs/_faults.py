@@ -1,7 +1,7 @@
 """What is wrong with a file, and an interrupted search."""
 from __future__ import annotations
 
-from typing import TYPE_CHECKING
+from typing import TYPE_CHECKING, Any
 
 if TYPE_CHECKING:
     from pfs._solution import Solution
@@ -52,12 +52,32 @@ class Fault(ValueError):
         self.text = "pfs: " + text.format(place)
         super().__init__(f"{path}: {text.format(place)}" if path else text.format(place))
 
-    def __reduce__(self) -> tuple[type[Fault], tuple[str, int, int]]:
+    def __reduce__(self) -> tuple[Any, ...]:
         return type(self), (self.path, self.number, self.place)
 
 
 class FileFault(Fault):
-    """An instance file isn't as its layout says."""
+    """An instance file isn't as its layout says.
+
+    Attributes
+    ----------
+    line : int
+        The line of the fault, counted from 1; of a file that ends too early its last one, and 0 of one that is too
+        long.
+    column : int
+        The byte of the line at which the fault is, counted from 1; 0 where the whole line is wrong.
+    hint : str
+        What may be wrong with the file, in words; empty where nothing can be said.
+    """
+
+    def __init__(self, path: str, number: int, place: int, line: int = 0, column: int = 0, hint: str = "") -> None:
+        super().__init__(path, number, place)
+        self.line = line
+        self.column = column
+        self.hint = hint
+
+    def __reduce__(self) -> tuple[Any, ...]:
+        return type(self), (self.path, self.number, self.place, self.line, self.column, self.hint)
 
 
 class OrderFault(Fault):

@@ -17,6 +17,7 @@ import numpy as np
 from pfs import _library as c
 from pfs._faults import INSTANCE_FAULTS, ORDER_FAULTS, FileFault, OrderFault
 from pfs._given import Order, layout_of, whole
+from pfs._hints import EXTRA_NUMBER, MACHINE_NUMBER, NUMBER_LINE, TRUNCATED, hint_of, where
 from pfs._instance import Instance
 from pfs._names import is_frame
 from pfs._solution import Solution
@@ -58,14 +59,33 @@ def block_of(text: bytes, path: str, layout: int, block: int, start: int = 0) ->
     number = c.library.pfs_read(address + start, length, layout, block, byref(jobs), byref(machines), byref(notes),
                                 times.ctypes.data, times.size, byref(place))
     if number in INSTANCE_FAULTS:
-        raise FileFault(path, number, place.value)
+        raise fault_of(text, path, layout, number, place.value, start)
     c.done(number)
     table = times[:jobs.value * machines.value].reshape(jobs.value, machines.value)
     return Instance(table, name=os.path.basename(path), seed=notes.seed, upper=notes.upper, lower=notes.lower)
 
 
-# A line of numbers alone. The first one of a block is its size line.
-NUMBER_LINE = re.compile(rb"^[ \t\r]*[0-9][0-9 \t\r]*$", re.MULTILINE)
+def fault_of(text: bytes, path: str, layout: int, number: int, place: int, start: int) -> FileFault:
+    """A fault of a file that was read from its start, with its line and a hint; one that wasn't has neither."""
+    if start:
+        return FileFault(path, number, place)
+    line, column = where(text, number, place)
+    begin = start_of_fault(text, layout) if number in (MACHINE_NUMBER, EXTRA_NUMBER, TRUNCATED) else 0
+    return FileFault(path, number, place, line, column, hint_of(text, number, layout, begin, line))
+
+
+def start_of_fault(text: bytes, layout: int) -> int:
+    """Where the first block begins that can't be read."""
+    start, numbers = 0, 2 if layout == c.LAYOUTS["orlib"] else 1
+    for _ in range(c.MOST_BLOCKS):
+        jobs, machines, place, notes = c_size_t(), c_size_t(), c_uint64(), c.Notes()
+        times = np.empty(min((len(text) - start) // 2 + 1, c.MOST_JOBS * c.MOST_MACHINES), dtype=np.uint32)
+        address = cast(c_char_p(text), c_void_p).value or 0
+        if c.library.pfs_read(address + start, len(text) - start, layout, 1, byref(jobs), byref(machines), byref(notes),
+                              times.ctypes.data, times.size, byref(place)) != c.OK:
+            break
+        start = end_of_block(text, start, numbers * jobs.value * machines.value)
+    return start
 
 
 # The title of a block in OR-Library's files. Its last word is the name, if there is a letter in it.

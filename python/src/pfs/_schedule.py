@@ -206,7 +206,8 @@ class Schedule:
         return None
 
     def plot(self, path: str | os.PathLike[str] | None = None, *, critical: bool = False, bound: bool = False,
-             unit: str | None = None) -> Any:
+             unit: str | None = None, width: float = 12.0, dpi: int = 110, title: bool | str = True,
+             ax: Any = None) -> Any:
         """The Gantt chart: a row for each machine, a colour for each job, idle time in grey.
 
         Parameters
@@ -220,18 +221,33 @@ class Schedule:
             Draw the instance's bound as a dashed line.
         unit : str, optional
             The unit of the times; that of the instance, where it has one.
+        width : float
+            Inches from left to right, 2 to 100. A page has none.
+        dpi : int
+            Dots an inch of a PNG, 20 to 2,400.
+        title : bool or str
+            Whether there is a title, or another one.
+        ax : matplotlib.axes.Axes, optional
+            Axes to draw on, of a figure of your own; its width and height stay as they are.
 
         Returns
         -------
         matplotlib.figure.Figure or None
-            The figure; None of a page, which doesn't want matplotlib.
+            The figure; None of a page, which doesn't need matplotlib.
 
         Raises
         ------
         ImportError
             matplotlib isn't installed.
+        TypeError
+            An argument is of another kind.
         ValueError
-            The path has another ending.
+            The path has another ending, a number is out of its limits, or there is ``ax`` for a page.
         """
-        from pfs._chart import plot
-        return plot(self, path, critical=critical, bound=bound, unit=unit)
+        from pfs._chart import Frame, plot
+        return plot(self, path, critical=critical, bound=bound, unit=unit, frame=Frame(width, dpi, title, ax))
+
+    def _repr_svg_(self) -> str | None:
+        """The chart as Jupyter shows it; None without matplotlib, or where the picture would be very large."""
+        from pfs._chart import svg_of
+        return svg_of(self)
