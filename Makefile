@@ -61,6 +61,9 @@ $(LIBRARY) $(LIB)/libpfs.so.0
 -> libpfs.so.0 $(LIB)/libpfs.so
 lib/pfs.h include/pfs.h
 lib/pfs.pc.in $(LIB)/pkgconfig/pfs.pc
+lib/pfsConfig.cmake $(LIB)/cmake/pfs/pfsConfig.cmake
+lib/pfsConfigVersion.cmake.in $(LIB)/cmake/pfs/pfsConfigVersion.cmake
+share/pfs.3 share/man/man3/pfs.3
 endef
 export PROGRAM_FILES LIBRARY_FILES
 # The library where it is built, so that the program's installation doesn't wait for its proofs.

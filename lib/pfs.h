@@ -7,13 +7,18 @@
  * Times stand job by job: times[job * machines + machine], as an array of shape (jobs, machines) in C order. Jobs,
  * machines and places count from 0, in files jobs count from 1. Times and sums have the instance's own unit.
  *
- * Each function judges all that it is handed in, and answers PFS_OK or the number of what is wrong, of several the
- * one that stands first in its description. Judging asks for no memory and writes nothing: where the answer isn't
- * PFS_OK, every output is as it was, but for the sizes that PFS_ROOM tells and the place of a file's fault. No pointer
- * may be NULL, also where the length behind it is 0, no output may overlap another argument, and no list may change
- * during a call. Nothing is kept between calls: calls in several threads may read the same lists. Memory comes from
- * malloc, and is given back before the call ends; a function that was refused some answers PFS_MEMORY. None may be
- * called from a signal handler.
+ * Each function validates its arguments and returns PFS_OK or the number of a fault: of several faults, the one that
+ * comes first in the function's description. Validation needs no memory and writes nothing. Where a function doesn't
+ * return PFS_OK, every output is unchanged, except the sizes that it reports with PFS_ROOM and the place of a file's
+ * fault.
+ *
+ * A pointer may be NULL only where the length that belongs to it is 0, as that of an empty std::vector is. No output
+ * may overlap another argument, and no list may change during a call. Nothing is kept between calls: any number of
+ * threads may call the library at once, also on the same lists. Memory comes from malloc and is freed before the call
+ * returns; if an allocation fails, the function returns PFS_MEMORY. No function may be called from a signal handler.
+ *
+ * Versions of libpfs.so.0 stay compatible: functions, numbers and struct pfs_notes keep their meaning and their layout.
+ * Later versions may add functions and numbers. A program that needs an added one compares PFS_VERSION_NUMBER.
  *
  * For every input, what each function does with its arguments is proved, except pfs_version and pfs_message: the number
  * that it returns, and what it writes. That the declarations below agree with the proved functions (the order and types
@@ -30,6 +35,14 @@ extern "C" {
 #endif
 
 #define PFS_VERSION "1.0.0"
+#define PFS_VERSION_NUMBER 10000 /* 10000 * major + 100 * minor + patch, for #if */
+
+/* A compiler that knows how warns where the number that a function returns is ignored. */
+#ifdef __GNUC__
+#define PFS_CHECKED __attribute__((warn_unused_result))
+#else
+#define PFS_CHECKED
+#endif
 
 /* Limits of what is accepted. */
 #define PFS_MOST_JOBS 5000
@@ -90,7 +103,7 @@ const char *pfs_message(int number);
  * Judged: sizes (PFS_SIZE), times_length (PFS_LENGTH), times (PFS_TIME), the jobs from the left (PFS_JOB,
  * PFS_REPEATED). */
 int pfs_makespan(const uint32_t *times, size_t times_length, size_t jobs, size_t machines, const uint32_t *sequence,
-                 size_t sequence_length, uint64_t *makespan);
+                 size_t sequence_length, uint64_t *makespan) PFS_CHECKED;
 
 /* The makespans of makespans_length sequences of `length` distinct jobs each, which need not be all. They are stored
  * one after the other: makespans[index] is that of the sequence that begins at sequences[index * length]. It needs no
@@ -99,26 +112,27 @@ int pfs_makespan(const uint32_t *times, size_t times_length, size_t jobs, size_t
  * (PFS_TIME), the jobs of the first sequence from the left, then those of the second, and so on (PFS_JOB,
  * PFS_REPEATED). Where one sequence is invalid, no makespan is written. */
 int pfs_makespans(const uint32_t *times, size_t times_length, size_t jobs, size_t machines, const uint32_t *sequences,
-                  size_t sequences_length, size_t length, uint64_t *makespans, size_t makespans_length);
+                  size_t sequences_length, size_t length, uint64_t *makespans, size_t makespans_length) PFS_CHECKED;
 
 /* A length of time below which no order's makespan goes (Taillard 1993): the greatest over the jobs of their totals,
  * and over the machines of their loads with the least times before and after them.
  * Judged: sizes (PFS_SIZE), times_length (PFS_LENGTH), times (PFS_TIME). */
-int pfs_bound(const uint32_t *times, size_t times_length, size_t jobs, size_t machines, uint64_t *bound);
+int pfs_bound(const uint32_t *times, size_t times_length, size_t jobs, size_t machines, uint64_t *bound) PFS_CHECKED;
 
 /* When each operation of an order starts and ends, each as early as it can. Entry place * machines + machine is that of
  * the job at this place of the order on this machine.
  * Judged: sizes (PFS_SIZE), times_length, order_length, which is `jobs`, starts_length and ends_length, which are
  * jobs * machines (PFS_LENGTH), times (PFS_TIME), the jobs from the left (PFS_JOB, PFS_REPEATED). */
 int pfs_table(const uint32_t *times, size_t times_length, size_t jobs, size_t machines, const uint32_t *order,
-              size_t order_length, uint64_t *starts, size_t starts_length, uint64_t *ends, size_t ends_length);
+              size_t order_length, uint64_t *starts, size_t starts_length, uint64_t *ends,
+              size_t ends_length) PFS_CHECKED;
 
 /* The order of NEH (Nawaz, Enscore, Ham 1983): the jobs by decreasing total time, of equal totals the lower number
  * first, each put at its best place, of equal ones the first. Its makespan, and how many cells of tables were computed,
  * which are 2 * machines * jobs * jobs (heads and tails, Taillard 1990).
  * Judged: sizes (PFS_SIZE), times_length, order_length, which is `jobs` (PFS_LENGTH), times (PFS_TIME). */
 int pfs_neh(const uint32_t *times, size_t times_length, size_t jobs, size_t machines, uint32_t *order,
-            size_t order_length, uint64_t *makespan, uint64_t *cells);
+            size_t order_length, uint64_t *makespan, uint64_t *cells) PFS_CHECKED;
 
 /* Makes the rounds `first` to `first + count - 1` of the iterated greedy search (Ruiz and Stützle 2007) of a seed from
  * the order that is handed in, which may be anybody's, and leaves the order that they end in. A round takes `take` jobs
@@ -132,14 +146,14 @@ int pfs_neh(const uint32_t *times, size_t times_length, size_t jobs, size_t mach
  * the left (PFS_JOB, PFS_REPEATED), take (PFS_TAKE), passes (PFS_PASSES), first + count (PFS_ROUNDS). */
 int pfs_rounds(const uint32_t *times, size_t times_length, size_t jobs, size_t machines, uint32_t *order,
                size_t order_length, uint32_t first, uint32_t count, size_t take, uint32_t passes, uint64_t seed,
-               uint64_t *makespan, uint64_t *cells);
+               uint64_t *makespan, uint64_t *cells) PFS_CHECKED;
 
 /* The best place of a job in a sequence of others: the first that gives the least makespan, and that makespan. The job
  * goes before the one that stands at the place, or behind the last.
  * Judged: sizes (PFS_SIZE), times_length (PFS_LENGTH), times (PFS_TIME), the jobs of the sequence from the left
  * (PFS_JOB, PFS_REPEATED), the job (PFS_JOB, PFS_REPEATED). */
 int pfs_insert(const uint32_t *times, size_t times_length, size_t jobs, size_t machines, const uint32_t *sequence,
-               size_t sequence_length, uint32_t job, size_t *place, uint64_t *makespan);
+               size_t sequence_length, uint32_t job, size_t *place, uint64_t *makespan) PFS_CHECKED;
 
 /* The makespans with a job at each place of a sequence of others: makespans[place] is that with the job before the one
  * at this place, and makespans[sequence_length] that with the job after the last. The first place that has the least of
@@ -147,16 +161,16 @@ int pfs_insert(const uint32_t *times, size_t times_length, size_t jobs, size_t m
  * Judged: sizes (PFS_SIZE), times_length, makespans_length, which is sequence_length + 1 (PFS_LENGTH), times
  * (PFS_TIME), the jobs of the sequence from the left (PFS_JOB, PFS_REPEATED), the job (PFS_JOB, PFS_REPEATED). */
 int pfs_insertions(const uint32_t *times, size_t times_length, size_t jobs, size_t machines, const uint32_t *sequence,
-                   size_t sequence_length, uint32_t job, uint64_t *makespans, size_t makespans_length);
+                   size_t sequence_length, uint32_t job, uint64_t *makespans, size_t makespans_length) PFS_CHECKED;
 
 /* The words `first` to `first + words_length - 1` of the random numbers of a seed (Pcg32, O'Neill 2014), counted from
  * 0. Round r of pfs_rounds uses the `take` words from word r * take on: each takes out the job at the place that is the
  * word's remainder by the number of jobs that are left in the order. It needs no memory, and returns PFS_OK. */
-int pfs_random(uint64_t seed, uint64_t first, uint32_t *words, size_t words_length);
+int pfs_random(uint64_t seed, uint64_t first, uint32_t *words, size_t words_length) PFS_CHECKED;
 
 /* Draws times from 1 to 99 from a seed, as Taillard (1993) does for his benchmark.
  * Judged: sizes (PFS_SIZE), seed (PFS_SEED), times_length, which is jobs * machines (PFS_LENGTH). */
-int pfs_generate(size_t jobs, size_t machines, uint64_t seed, uint32_t *times, size_t times_length);
+int pfs_generate(size_t jobs, size_t machines, uint64_t seed, uint32_t *times, size_t times_length) PFS_CHECKED;
 
 /* What a size line of Taillard's layout says beside the sizes. Nothing is computed from it. */
 struct pfs_notes {
@@ -171,27 +185,27 @@ struct pfs_notes {
  * Judged: layout (PFS_LAYOUT), block (PFS_BLOCK), then the file (PFS_NO_BLOCK to PFS_INPUT_TOO_LONG, with its number in
  * *place). */
 int pfs_read(const uint8_t *bytes, size_t bytes_length, uint32_t layout, size_t block, size_t *jobs, size_t *machines,
-             struct pfs_notes *notes, uint32_t *times, size_t room, uint64_t *place);
+             struct pfs_notes *notes, uint32_t *times, size_t room, uint64_t *place) PFS_CHECKED;
 
 /* Writes an instance as a file of one block into the front of `text`, with single spaces and no leading zeros; the
  * layout PFS_ORLIB leaves the notes out. *length is how many bytes it has, on PFS_OK and on PFS_ROOM.
  * Judged: sizes (PFS_SIZE), times_length (PFS_LENGTH), times (PFS_TIME), layout (PFS_LAYOUT). */
 int pfs_write(const uint32_t *times, size_t times_length, size_t jobs, size_t machines, const struct pfs_notes *notes,
-              uint32_t layout, uint8_t *text, size_t room, size_t *length);
+              uint32_t layout, uint8_t *text, size_t room, size_t *length) PFS_CHECKED;
 
 /* Reads an order file, of version 1 or 2, that stands in memory. Where `room` is less than its jobs the answer is
  * PFS_ROOM, and jobs, machines and makespan are told. On PFS_OK the order stands in the front of `order`, in which jobs
  * count from 0. *machines is 0 where the file states none. The makespan is as the file states it, right or wrong.
  * Judged: the file (PFS_SYNTAX to PFS_FILE_TOO_LONG, with its number in *place). */
 int pfs_read_order(const uint8_t *bytes, size_t bytes_length, uint32_t *order, size_t room, size_t *jobs,
-                   size_t *machines, uint64_t *makespan, uint64_t *place);
+                   size_t *machines, uint64_t *makespan, uint64_t *place) PFS_CHECKED;
 
 /* Writes an order of all jobs, which are order_length, and a makespan as an order file into the front of `text`: of
  * version 2, or where machines is 0 of version 1. *length is how many bytes it has, on PFS_OK and on PFS_ROOM.
  * Judged: order_length and machines (PFS_SIZE), the jobs from the left (PFS_JOB, PFS_REPEATED), makespan
  * (PFS_MAKESPAN). */
 int pfs_write_order(const uint32_t *order, size_t order_length, size_t machines, uint64_t makespan, uint8_t *text,
-                    size_t room, size_t *length);
+                    size_t room, size_t *length) PFS_CHECKED;
 
 #ifdef __cplusplus
 }

@@ -61,7 +61,8 @@ PLACES = {
 NOTES = "libexec/pfs/installed-folders"
 # What the library's installation has beside links.
 LIBRARY = {"lib/libpfs.a": "lib/out/libpfs.a", "lib/libpfs.so.0": "lib/out/libpfs.so.0",
-           "lib/libpfs.so": "lib/out/libpfs.so.0", "include/pfs.h": "lib/pfs.h"}
+           "lib/libpfs.so": "lib/out/libpfs.so.0", "include/pfs.h": "lib/pfs.h",
+           "lib/cmake/pfs/pfsConfig.cmake": "lib/pfsConfig.cmake", "share/man/man3/pfs.3": "share/pfs.3"}
 COPIED = ["CHANGELOG.md", "CITATION.cff", "CONTRIBUTING.md", "HANDLES", "LICENSE-APACHE", "LICENSE-MIT", "Makefile",
           "README.md", "SECURITY.md", "VERSION", "crates", "crates.txt", "docs", "experiments", "lib", "share", "tools",
           *(name for name in ("examples", "python") if (TOP / name).is_dir())]
@@ -421,8 +422,10 @@ def with_library(request: pytest.FixtureRequest, library: pathlib.Path, copy: Co
 
 
 def test_the_librarys_installation_has_these_files(with_library: pathlib.Path, copy: Copy) -> None:
-    found = {path: text for path, text in files_below(with_library).items() if path.startswith(("lib/", "include/"))}
+    found = {path: text for path, text in files_below(with_library).items()
+             if path.startswith(("lib/", "include/", "share/man/man3/"))}
     config = found.pop("lib/pkgconfig/pfs.pc").decode()
+    assert f'(PACKAGE_VERSION "{VERSION}")\n' in found.pop("lib/cmake/pfs/pfsConfigVersion.cmake").decode()
     assert_same_files(found, {place: (copy.top / file).read_bytes() for place, file in LIBRARY.items()})
     assert f"prefix={with_library}\n" in config and f"\nVersion: {VERSION}\n" in config and "@" not in config
     assert os.readlink(with_library / "lib" / "libpfs.so") == "libpfs.so.0"
@@ -442,6 +445,30 @@ def test_a_program_is_built_over_the_installed_library(how: str, with_library: p
     printed_by(["cc", "caller.c", "-o", "caller", *flags], folder)
     told = printed_by(["./caller"], folder, env=dict(os.environ, LD_LIBRARY_PATH=str(with_library / "lib")))
     assert told == f"{VERSION} {VERSION}\n"
+
+
+CMAKE = """cmake_minimum_required(VERSION 3.13)
+project(caller C)
+find_package(pfs {wanted} REQUIRED)
+add_executable(caller caller.c)
+target_link_libraries(caller {target})
+"""
+
+
+@pytest.mark.parametrize("target", ["pfs::pfs", "pfs::pfs_static"])
+def test_cmake_builds_over_the_installed_library(target: str, with_library: pathlib.Path, folder: pathlib.Path) -> None:
+    (folder / "caller.c").write_text(CALLER)
+    (folder / "CMakeLists.txt").write_text(CMAKE.format(wanted=VERSION, target=target))
+    printed_by([need("cmake"), "-S", ".", "-B", "made", f"-DCMAKE_PREFIX_PATH={with_library}"], folder)
+    printed_by(["cmake", "--build", "made"], folder)
+    assert printed_by(["made/caller"], folder) == f"{VERSION} {VERSION}\n"
+
+
+def test_cmake_rejects_an_earlier_library(with_library: pathlib.Path, folder: pathlib.Path) -> None:
+    (folder / "caller.c").write_text(CALLER)
+    (folder / "CMakeLists.txt").write_text(CMAKE.format(wanted="99.0", target="pfs::pfs"))
+    told = told_by([need("cmake"), "-S", ".", "-B", "made", f"-DCMAKE_PREFIX_PATH={with_library}"], folder)
+    assert told.status != 0 and f"version: {VERSION}" in told.stderr
 
 
 def test_nothing_is_left_of_the_library(with_library: pathlib.Path, copy: Copy) -> None:
@@ -650,7 +677,8 @@ def test_the_library_has_packages_where_it_is_built(library: pathlib.Path, copy:
     libraries = "usr/lib/x86_64-linux-gnu"
     found = {path for path in files_below(folder / "root") if "/share/doc/" not in path}
     assert found == {f"{libraries}/libpfs.a", f"{libraries}/libpfs.so.0", f"{libraries}/libpfs.so",
-                     f"{libraries}/pkgconfig/pfs.pc", "usr/include/pfs.h"}
+                     f"{libraries}/pkgconfig/pfs.pc", "usr/include/pfs.h", f"{libraries}/cmake/pfs/pfsConfig.cmake",
+                     f"{libraries}/cmake/pfs/pfsConfigVersion.cmake", "usr/share/man/man3/pfs.3.gz"}
     config = (folder / "root" / libraries / "pkgconfig" / "pfs.pc").read_text()
     assert "prefix=/usr\nlibdir=${prefix}/lib/x86_64-linux-gnu\n" in config
     assert printed_by(["dpkg-deb", "--field", made.path("libpfs-dev"), "Depends"], folder) \
@@ -1015,6 +1043,7 @@ def numbers_told(top: pathlib.Path) -> dict[str, list[str]]:
     """The version that each file tells; only the package for Python need not be there."""
     patterns = {"CHANGELOG.md": r"^## \[(\d.*?)\]", "CITATION.cff": r"^version: (.*)$",
                 "lib/pfs.h": r'^#define PFS_VERSION "(.*)"$', "share/pfs.1": r"^\.Os pfs (.*)$",
+                "share/pfs.3": r"^\.Os pfs (.*)$",
                 "share/pfs-gantt.1": r"^\.Os pfs (.*)$", "share/pfs-experiments.1": r"^\.Os pfs (.*)$",
                 "python/src/pfs/_version.py": r'^VERSION\b.* = "(.*)"$'}
     return {name: re.findall(pattern, (top / name).read_text(), re.MULTILINE)[:1]

@@ -4,6 +4,7 @@ files against the program and a second implementation (support/second_library.cp
 import ctypes
 import pathlib
 import re
+import subprocess
 from random import Random
 
 import fuzz
@@ -26,7 +27,7 @@ FUNCTIONS = {
 }
 TEXTS = {"pfs_message", "pfs_version"}
 NAMES = {f"pfs_{name}" for name in FUNCTIONS} | TEXTS
-ALL_CALLS = Ran(b"242 calls, 0 failures\n", b"", 0)
+ALL_CALLS = Ran(b"258 calls, 0 failures\n", b"", 0)
 LONG_CALLS = Ran(b"4 calls, 0 failures\n", b"", 0)
 # The number of the first growth of a call, behind those of the program that calls; no call takes more than so many.
 FIRST_GROWTH = 3
@@ -69,7 +70,7 @@ def test_the_limits_are_those_of_the_crates(top: pathlib.Path) -> None:
 def test_the_numbers_are_those_of_the_crate(top: pathlib.Path) -> None:
     numbers = constants(top / "crates" / "pfs_c" / "src" / "numbers.rt", "i32")
     answered = {name: value for name, value in defined().items()
-                if not re.match("PFS_(MOST|LONGEST)_|PFS_(TAILLARD|ORLIB|VERSION)$", name)}
+                if not re.match("PFS_(MOST|LONGEST)_|PFS_(TAILLARD|ORLIB|VERSION_NUMBER)$", name)}
     assert answered == numbers
     assert sorted(answered.values()) == [*range(15), *range(20, 29), *range(30, 34)]
 
@@ -79,7 +80,7 @@ def test_the_header_names_the_parameters_as_the_functions_do(top: pathlib.Path) 
     source = "\n".join(path.read_text() for path in sorted((top / "crates" / "pfs_c" / "src").rglob("*.rt")))
     others = {"span": "makespan", "least": "bound", "len": "length"}
     header = re.sub(r"/\*.*?\*/", "", HEADER.read_text(), flags=re.DOTALL)
-    declared = dict(re.findall(r"^int (pfs_\w+)\((.*?)\);", header, re.MULTILINE | re.DOTALL))
+    declared = dict(re.findall(r"^int (pfs_\w+)\(([^)]*)\) PFS_CHECKED;", header, re.MULTILINE))
     assert declared.keys() == NAMES - TEXTS
     for name, parameters in declared.items():
         told = [re.findall(r"\w+", each)[-1] for each in parameters.split(",")]
@@ -92,6 +93,21 @@ def test_the_header_names_the_parameters_as_the_functions_do(top: pathlib.Path) 
             if "[" in kind:
                 due.append("room" if told[len(due):len(due) + 1] == ["room"] else f"{due[-1]}_length")
         assert told == due, f"the parameters of {name}"
+
+
+def test_the_version_is_a_number_too() -> None:
+    version = re.search(r'^#define PFS_VERSION "(\d+)\.(\d+)\.(\d+)"$', HEADER.read_text(), re.MULTILINE)
+    assert version
+    major, minor, patch = map(int, version.groups())
+    assert defined()["PFS_VERSION_NUMBER"] == 10_000 * major + 100 * minor + patch
+
+
+@pytest.mark.parametrize("compiler", ["gcc", "clang"])
+def test_a_compiler_warns_where_a_number_is_ignored(folder: pathlib.Path, compiler: str) -> None:
+    (folder / "ignores.c").write_text('#include "pfs.h"\nvoid f(uint64_t *b) { pfs_bound(0, 0, 0, 0, b); }\n')
+    words = [need(compiler), "-std=c99", f"-I{HEADER.parent}", "-c", "ignores.c"]
+    told = subprocess.run(words, cwd=folder, capture_output=True, text=True)
+    assert told.returncode == 0 and "unused-result" in told.stderr
 
 
 # What the texts of the numbers say, a few words each, which no other text has.
@@ -127,7 +143,7 @@ def test_a_number_has_its_own_text(texts: dict[int, str], number: int) -> None:
 
 
 def test_other_numbers_have_no_text(texts: dict[int, str]) -> None:
-    numbers = {value for name, value in defined().items() if not re.match("PFS_(MOST|LONGEST)_", name)}
+    numbers = {value for name, value in defined().items() if not re.match("PFS_(MOST|LONGEST|VERSION)_", name)}
     assert MEANT.keys() == numbers
     assert {text for number, text in texts.items() if number not in MEANT} == {"unknown number"}
 
@@ -150,14 +166,49 @@ def test_the_header_says_what_each_number_means() -> None:
         assert re.search(words, comments[number]), f"the comment of {number} in pfs.h"
 
 
+# The manual page
+
+MANUAL = HEADER.parent.parent / "share" / "pfs.3"
+
+
+def test_the_manual_page_declares_what_the_header_does() -> None:
+    code = re.sub(r"/\*.*?\*/", "", HEADER.read_text(), flags=re.DOTALL)
+    declared = {name: re.sub(r"\s+", " ", parameters).split(", ") for name, parameters
+                in re.findall(r"^(?:int|const char \*)\s*(pfs_\w+)\(([^)]*)\)", code, re.MULTILINE)}
+    told = {name: re.findall(r'^\.Fa "(.*)"$', parameters, re.MULTILINE) for name, parameters
+            in re.findall(r"^\.Fo (\w+)\n(.*?)^\.Fc$", MANUAL.read_text(), re.MULTILINE | re.DOTALL)}
+    assert told == declared and told.keys() == NAMES
+
+
+def test_the_manual_page_has_each_number_and_function() -> None:
+    text = MANUAL.read_text().partition(".Sh DESCRIPTION")[2]
+    numbers = {name: int(value) for name, value in re.findall(r"^\.It Dv (PFS_\w+) Pq (\d+)$", text, re.MULTILINE)}
+    assert numbers == {name: value for name, value in defined().items() if value in MEANT.keys() - {0}
+                       and not re.match("PFS_(MOST|LONGEST|TAILLARD|ORLIB)", name)}
+    assert set(re.findall(r"^\.Fn (\w+)", text, re.MULTILINE)) == NAMES
+
+
+def test_the_manual_page_is_in_order() -> None:
+    done = subprocess.run([need("mandoc"), "-T", "lint", "-W", "warning", str(MANUAL)], capture_output=True, text=True)
+    assert (done.stdout + done.stderr, done.returncode) == ("", 0)
+
+
+def test_the_example_of_the_manual_page(libpfs: Library, folder: pathlib.Path) -> None:
+    lines = MANUAL.read_text().partition(".Bd -literal -offset indent\n")[2].partition(".Ed\n")[0]
+    (folder / "example.c").write_text(lines.replace("\\e", "\\"))
+    program = compiled(folder / "example", [folder / "example.c"], libpfs)
+    assert program.run([], folder) == Ran(b"10\n", b"", 0)
+
+
 # The files
 
 def test_only_its_names_can_be_seen(libpfs: Library) -> None:
     static = libpfs.path.with_name("libpfs.a")
     for path, how in ((libpfs.path, "--dynamic"), (static, "--extern-only")):
         printed = printed_by([need("nm"), how, "--defined-only", "--format=posix", path], path.parent)
-        names = {line.split()[0] for line in printed.splitlines() if not line.endswith(":")}
-        assert names == NAMES, path
+        lines = [line.split() for line in printed.splitlines() if not line.endswith(":")]
+        names = {name for name, kind, *_ in lines if kind != "A"}
+        assert names == ({f"{name}@@PFS_0" for name in NAMES} if path == libpfs.path else NAMES), path
     header = set(re.findall(r"^(?:int|const char \*)\s*(pfs_\w+)\(", HEADER.read_text(), re.MULTILINE))
     assert header == NAMES
 
@@ -167,6 +218,7 @@ def test_it_asks_for_the_c_library_alone(libpfs: Library) -> None:
     assert re.findall(r"\(NEEDED\).*\[(.*)\]", told) == ["libc.so.6"]
     assert re.findall(r"\(SONAME\).*\[(.*)\]", told) == ["libpfs.so.0"]
     assert "TEXTREL" not in told
+    assert re.findall(r"\(FLAGS\) +(.*)", told) == ["BIND_NOW"]
     wanted = printed_by([need("nm"), "--dynamic", "--undefined-only", libpfs.path], libpfs.path.parent)
     names = {line.split()[1].split("@")[0] for line in wanted.splitlines() if line.split()[0] == "U"}
     assert names <= {"malloc", "realloc", "free", "memcpy", "memmove", "memset", "memcmp", "bcmp"}

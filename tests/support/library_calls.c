@@ -312,6 +312,34 @@ static void random_words(void) {
     CALL(PFS_OK, pfs_random(7, 3, out.list, 0));
 }
 
+/* NULL is as good as any other list of length 0. */
+static void no_lists(void) {
+    want.makespan = 0;
+    CALL(PFS_OK, pfs_makespan(times, 6, 3, 2, NULL, 0, &out.makespan));
+    CALL(PFS_OK, pfs_makespans(times, 6, 3, 2, NULL, 0, 3, NULL, 0));
+    want_makespans((uint64_t[]){0, 0}, 2);
+    CALL(PFS_OK, pfs_makespans(times, 6, 3, 2, NULL, 0, 0, out.makespans, 2));
+    want.place = 0;
+    want.makespan = 5;
+    CALL(PFS_OK, pfs_insert(times, 6, 3, 2, NULL, 0, 0, &out.place, &out.makespan));
+    want_makespans((uint64_t[]){5}, 1);
+    CALL(PFS_OK, pfs_insertions(times, 6, 3, 2, NULL, 0, 0, out.makespans, 1));
+    CALL(PFS_OK, pfs_random(7, 0, NULL, 0));
+    CALL(PFS_LENGTH, pfs_bound(NULL, 0, 3, 2, &out.bound));
+    CALL(PFS_LENGTH, pfs_table(times, 6, 3, 2, NULL, 0, NULL, 0, NULL, 0));
+    CALL(PFS_LENGTH, pfs_insertions(times, 6, 3, 2, NULL, 0, 0, NULL, 0));
+    CALL(PFS_LENGTH, pfs_neh(times, 6, 3, 2, NULL, 0, &out.makespan, &out.cells));
+    CALL(PFS_LENGTH, pfs_rounds(times, 6, 3, 2, NULL, 0, 0, 1, 1, 0, 7, &out.makespan, &out.cells));
+    CALL(PFS_LENGTH, pfs_generate(20, 2, 873654221, NULL, 0));
+    CALL(PFS_SIZE, pfs_write_order(NULL, 0, 2, 10, NULL, 0, &out.length));
+    want.fault = 0;
+    CALL(PFS_NO_BLOCK, pfs_read(NULL, 0, PFS_ORLIB, 1, &out.jobs, &out.machines, &out.notes, NULL, 0, &out.fault));
+    want.fault = 0;
+    CALL(PFS_SYNTAX, pfs_read_order(NULL, 0, NULL, 0, &out.jobs, &out.machines, &out.makespan, &out.fault));
+    want.length = 29;
+    CALL(PFS_ROOM, pfs_write_order(BEST, 3, 2, 10, NULL, 0, &out.length));
+}
+
 static void drawings(void) {
     static const uint32_t drawn[2][20] = {
         {54, 83, 15, 71, 77, 36, 53, 38, 27, 87, 76, 91, 14, 29, 12, 77, 32, 87, 68, 94},
@@ -642,8 +670,8 @@ int main(int count, char **words) {
     fresh();
     if (strcmp(word, "all") == 0) {
         void (*const parts[])(void) = {makespans, many_makespans, bounds, tables, nehs, rounds, insertions,
-                                       all_insertions, random_words, drawings, readings, writings, order_readings,
-                                       order_writings, numbers};
+                                       all_insertions, random_words, no_lists, drawings, readings, writings,
+                                       order_readings, order_writings, numbers};
         for (size_t part = 0; part < COUNT(parts); ++part)
             parts[part]();
     } else if (strcmp(word, "long") == 0) {
