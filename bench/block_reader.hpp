@@ -1,5 +1,5 @@
-// A reader of instance files in plain C++, written from docs/FORMATS.md: it takes the bytes one by one, and
-// tells the instance of the wanted block or the first fault of the input.
+// A reader of instance files in plain C++, written from docs/FORMATS.md. It reads byte by byte, and returns the
+// instance of the requested block or the first fault of the input.
 #pragma once
 
 #include <algorithm>
@@ -28,7 +28,7 @@ struct Fault {
     const char* after = nullptr;  // nullptr: the line has no number
 };
 
-// Prints the fault, and gives its exit status.
+// Prints the fault and returns its exit status.
 inline int tell(const Fault& fault) {
     if (fault.after == nullptr) {
         std::fprintf(stderr, "pfs: %s\n", fault.before);
@@ -42,7 +42,7 @@ class BlockReader {
 public:
     BlockReader(Layout layout, uint64_t wanted) : layout(layout), wanted(wanted) {}
 
-    // Takes bytes until the wanted block has ended or a fault is met; tells whether more are wanted.
+    // Reads bytes until the requested block ends or a fault occurs; returns whether more bytes are needed.
     bool feed(const unsigned char* bytes, size_t count) {
         for (size_t at = 0; at < count && is_live(); ++at) {
             step(bytes[at]);
@@ -113,7 +113,8 @@ private:
 
     bool is_live() const { return phase != Phase::Done && phase != Phase::Refused; }
 
-    // Takes digits and blanks of a line without a word byte, up to another byte or a refusal; tells how many.
+    // Reads digits and blanks of a line without a word byte, up to another byte or a fault; returns the number of
+    // bytes read.
     size_t take_run(const unsigned char* bytes, size_t count) {
         uint64_t run_value = in_number ? value : 0;
         uint64_t run_first = in_number ? first : offset;
@@ -316,7 +317,7 @@ private:
     uint64_t machine = 0;
 };
 
-// Reads one block from a file descriptor in pieces of 4,096 bytes; where it answers a fault, there is no instance.
+// Reads one block from a file descriptor in pieces of 4,096 bytes. If it returns a fault, `instance` isn't set.
 inline Fault read_block(int file, Layout layout, uint64_t block, Instance& instance, bool in_locals = false) {
     BlockReader reader(layout, block);
     unsigned char piece[4096];

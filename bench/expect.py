@@ -1,7 +1,7 @@
 #!/usr/bin/env python3
-"""Writes expected/searches.json: what the plain C++ program of this folder answers on small random shops, for tests
-of `pfs solve` with the same options. Each entry has the instance file in Taillard's layout, the options, and the
-text that is printed. Each order and makespan is also computed here, by the recurrence of whole orders alone."""
+"""Writes expected/searches.json: the output of the plain C++ program of this folder on small random instances, which
+tests of `pfs solve` expect for the same options. Each entry has the instance file in Taillard's layout, the options and
+the printed text. This script also computes each order and makespan itself, with the recurrence of whole orders only."""
 import json
 import pathlib
 import random
@@ -25,7 +25,7 @@ def makespan(times, order):
 
 
 def insert(times, order, job):
-    """The order with the job at the earliest place of the least makespan, every place evaluated afresh."""
+    """The order with the job at the earliest place of the least makespan; each place is evaluated from scratch."""
     orders = [order[:place] + [job] + order[place:] for place in range(len(order) + 1)]
     return min(orders, key=lambda longer: makespan(times, longer))
 
@@ -37,7 +37,7 @@ def pcg_word(state):
 
 
 def pcg_words(seed):
-    """The words of PCG XSH RR 64/32, seeded with a number as rand_core does."""
+    """The random words of PCG XSH RR 64/32, seeded with a number as rand_core does."""
     halves = []
     for _ in range(4):
         seed = (seed * 6364136223846793005 + 0xA17654E46FBE17F3) & WORD
@@ -70,7 +70,7 @@ def search(times, rounds, take, seed, passes):
 
 
 def shop_of(source):
-    """A shop, job by job; some have many equal times and some have times of 0 or of the limit."""
+    """A random instance, job by job. Some have many equal times, some have times of 0 or of the limit."""
     jobs = source.randrange(2, 15)
     machines = source.randrange(1, 8)
     draw = source.choice([lambda: source.randrange(1, 100), lambda: source.randrange(0, 4),

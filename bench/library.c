@@ -1,9 +1,9 @@
-/* The library for C on a shop of a file in Taillard's layout.
+/* Runs the C library on an instance of a file in Taillard's layout.
  *
- * usage: library rounds ROUNDS FILE PART    NEH and so many rounds of seed 1 in parts of PART rounds; prints what
+ * usage: library rounds ROUNDS FILE PART    NEH and ROUNDS rounds with seed 1, in calls of PART rounds; prints what
  *                                           `pfs solve --cells` does
- *        library insert COUNT FILE          puts each job in turn, COUNT times in all, into the others in the order of
- *                                           their numbers; prints the sum of the places and the makespans */
+ *        library insert COUNT FILE          makes COUNT insertions, of each job in turn into the others in the order
+ *                                           of their numbers; prints the sum of the places and the makespans */
 #include <inttypes.h>
 #include <stdio.h>
 #include <stdlib.h>

@@ -1,6 +1,6 @@
 #!/usr/bin/env python3
-"""Makes the input files of the measurements: `make.py FOLDER`. The times are Taillard's (1993), drawn here and
-not by pfs. A file that is there already is left as it is."""
+"""Writes the input files of the measurements: `make.py FOLDER`. The times are Taillard's (1993), generated here and not
+by pfs. Files that exist are kept."""
 import pathlib
 import random
 import sys
@@ -55,7 +55,7 @@ def padded(random_source):
 
 
 def blank(random_source):
-    """A time behind about 97 blanks of the three kinds."""
+    """A time after about 97 blanks of the three kinds."""
     return lambda time: "".join(random_source.choices("   \t\r", k=random_source.randrange(80, 114))) + str(time)
 
 
@@ -96,7 +96,7 @@ FILES = {
     ),
 }
 
-# The shops of the search: jobs, machines, seed.
+# The instances of the search: jobs, machines, seed.
 SHOPS = {
     "20x5": (20, 5, 873654221),
     "50x10": (50, 10, 1958948863),

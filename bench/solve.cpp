@@ -1,9 +1,9 @@
 // solve [FORM] LAYOUT BLOCK ROUNDS TAKE SEED PASSES [FILE]: NEH's order of a block, and rounds of iterated greedy after
 // it, as `pfs solve --cells` prints them; a TAKE of 0 is the smaller of 4 and the number of jobs. Without FILE it
 // reads standard input. It is written from the definitions, over flat tables of integers. FORM says how the best place
-// is found: `plain64` and `plain32` by one row in a loop over the machines, `rows64` and `rows32` by the loops of pfs,
-// over lengths of so many bits. Without it `plain32` is meant where every path of the shop fits into 32 bits, else
-// `plain64`; where one doesn't fit, `plain32` and `rows32` are refused.
+// is found: `plain64` and `plain32` by one row in a loop over the machines, `rows64` and `rows32` by the loops of pfs.
+// The number is the bits of a length. The default is `plain32` if every path of the instance fits into 32 bits, and
+// `plain64` otherwise; if a path doesn't fit, `plain32` and `rows32` are rejected.
 #include "block_reader.hpp"
 #include "pcg32.hpp"
 
@@ -67,8 +67,8 @@ private:
         }
     }
 
-    // Row r has how long it takes from the start of the job at place r on each machine to the end of all; the
-    // row behind the last job is zero.
+    // Row r has the time from the start of the job at place r on each machine to the end of the schedule; the row
+    // after the last job is zero.
     void fill_tails(const Jobs& order) {
         size_t machines = shop.machines;
         std::fill_n(&tails[order.size() * machines], machines, 0);
@@ -255,7 +255,7 @@ static Jobs ranking(const Instance& shop) {
     return jobs;
 }
 
-// Each job, in the order of the numbers, leaves the order and goes back at its best place.
+// A pass: removes each job, in the order of the numbers, and reinserts it at its best place.
 template <typename Inserter>
 static uint64_t pass(Inserter& inserter, Jobs& order) {
     uint64_t length = 0;
@@ -266,8 +266,8 @@ static uint64_t pass(Inserter& inserter, Jobs& order) {
     return length;
 }
 
-// A round of iterated greedy (Ruiz and Stuetzle 2007): takes a job out for each word, puts them back in the same
-// order, makes the passes, and keeps the result unless it is longer.
+// A round of iterated greedy (Ruiz and Stuetzle 2007): removes a job for each random word, reinserts the jobs in the
+// order of removal, makes the passes, and keeps the result unless its makespan is greater.
 template <typename Inserter>
 static void round_of(Inserter& inserter, const Jobs& words, uint64_t passes, Jobs& kept, uint64_t& makespan) {
     Jobs order = kept;
@@ -290,7 +290,7 @@ static void round_of(Inserter& inserter, const Jobs& words, uint64_t passes, Job
     }
 }
 
-// The search, and what it found on standard output.
+// Makes the search and prints its result.
 template <typename Inserter>
 static int search(const Instance& shop, uint64_t rounds, uint64_t take, uint64_t passes, Pcg32 random) {
     Inserter inserter(shop);
@@ -314,8 +314,8 @@ static int search(const Instance& shop, uint64_t rounds, uint64_t take, uint64_t
     return 0;
 }
 
-// Puts each job in turn, so many times in all, into the others in the order of their numbers, as pfs_insert is called.
-// The sum of the places and the makespans on standard output.
+// Makes this many insertions, of each job in turn into the others in the order of their numbers, like calls of
+// pfs_insert, and prints the sum of the places and the makespans.
 template <typename Inserter>
 static int insertions(const Instance& shop, uint64_t count) {
     Inserter inserter(shop);
@@ -332,13 +332,13 @@ static int insertions(const Instance& shop, uint64_t count) {
     return 0;
 }
 
-// Whether every path of the shop fits into 32 bits, also with a sign.
+// Whether every path of the instance fits into a signed number of 32 bits.
 static bool is_short(const Instance& shop) {
     uint64_t longest = *std::max_element(shop.times.begin(), shop.times.end());
     return (shop.jobs + shop.machines - 1) * longest <= INT32_MAX;
 }
 
-// The insertions into the shop of a file in Taillard's layout.
+// Makes the insertions on the instance of a file in Taillard's layout.
 static int insert_only(const std::string& form, const char* count, const char* path) {
     int file = open(path, O_RDONLY);
     Instance shop;
