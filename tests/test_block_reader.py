@@ -1,4 +1,4 @@
-"""What a reader of instance files answers, however the text is cut into pieces."""
+"""What a reader of instance files returns, for every way to cut the text into pieces."""
 import pathlib
 
 import pytest
@@ -12,7 +12,7 @@ TWO_BLOCKS = b"+++\ninstance one 1\n+++\nfirst\n1 1\n0 7\n+++\nsecond\n3 2\n0 3 
 # The times of THREE_JOBS, job by job.
 TIMES = "3 jobs, times 3 2 2 5 4 1"
 
-# Ends of a text, each behind so many bytes of THREE_JOBS, and what the reader answers.
+# Texts that begin with this many bytes of THREE_JOBS, their other bytes, and the result of the reader.
 ENDS = [
     (115, b"2 5x 1\n", "MixedLine { offset: 118 }"),
     (115, b"x 2 5 1\n", "MixedLine { offset: 117 }"),
@@ -53,7 +53,7 @@ BLOCKS = [
 
 
 def of_one_block(length: int) -> str:
-    """What the reader answers to so many bytes of THREE_JOBS."""
+    """The result of the reader for the first bytes of THREE_JOBS."""
     if length <= 80:
         return "NoBlock { found: 0 }"
     if length <= 88:
@@ -66,7 +66,7 @@ def of_one_block(length: int) -> str:
 
 
 def of_two_blocks(length: int) -> str:
-    """What the reader of the second block answers to so many bytes of TWO_BLOCKS."""
+    """The result of the reader of the second block for the first bytes of TWO_BLOCKS."""
     if length <= 29:
         return "NoBlock { found: 0 }"
     if length <= 31:
@@ -83,51 +83,54 @@ def of_two_blocks(length: int) -> str:
 
 
 def assert_cuts(pfs_calls: Program, cwd: pathlib.Path, block: str, text: bytes, answer: str) -> None:
-    """A reader of this block answers so to a text in one piece, in two pieces cut anywhere, and byte by byte."""
+    """A reader of this block returns this for a text in one piece, in two pieces cut anywhere, and byte by byte."""
     ran = pfs_calls.run(f"cuts {block}", cwd, text)
     assert ran == Ran(f"{answer}\n".encode() * (len(text) + 2), b"", 0)
 
 
-def test_how_long_the_texts_are() -> None:
+def test_the_texts_have_the_lengths_that_the_tables_assume() -> None:
     assert (len(THREE_JOBS), len(TWO_BLOCKS), len(OTHERS[0][0])) == (121, 80, 126)
 
 
 @pytest.mark.parametrize("length", range(len(THREE_JOBS) + 1))
-def test_a_front_of_one_block_cut_anywhere(pfs_calls: Program, folder: pathlib.Path, length: int) -> None:
+def test_a_prefix_of_one_block_has_one_result_wherever_it_is_cut(pfs_calls: Program, folder: pathlib.Path,
+                                                                 length: int) -> None:
     assert_cuts(pfs_calls, folder, "taillard 1", THREE_JOBS[:length], of_one_block(length))
 
 
 @pytest.mark.parametrize("length", range(len(TWO_BLOCKS) + 1))
-def test_a_front_of_two_blocks_cut_anywhere(pfs_calls: Program, folder: pathlib.Path, length: int) -> None:
+def test_a_prefix_of_two_blocks_has_one_result_wherever_it_is_cut(pfs_calls: Program, folder: pathlib.Path,
+                                                                  length: int) -> None:
     assert_cuts(pfs_calls, folder, "orlib 2", TWO_BLOCKS[:length], of_two_blocks(length))
 
 
 @pytest.mark.parametrize("front, end, answer", ENDS, ids=[shown(end) for _, end, _ in ENDS])
-def test_another_end_cut_anywhere(pfs_calls: Program, folder: pathlib.Path, front: int, end: bytes,
-                                  answer: str) -> None:
+def test_another_ending_has_one_result_wherever_it_is_cut(pfs_calls: Program, folder: pathlib.Path, front: int,
+                                                          end: bytes, answer: str) -> None:
     assert_cuts(pfs_calls, folder, "taillard 1", THREE_JOBS[:front] + end, answer)
 
 
 @pytest.mark.parametrize("text, answer", OTHERS, ids=[shown(text) for text, _ in OTHERS])
-def test_another_text_cut_anywhere(pfs_calls: Program, folder: pathlib.Path, text: bytes, answer: str) -> None:
+def test_another_text_has_one_result_wherever_it_is_cut(pfs_calls: Program, folder: pathlib.Path, text: bytes,
+                                                        answer: str) -> None:
     assert_cuts(pfs_calls, folder, "taillard 1", text, answer)
 
 
 @pytest.mark.parametrize("block, text, answer", BLOCKS, ids=[f"{block}: {answer}" for block, _, answer in BLOCKS])
-def test_another_block_cut_anywhere(pfs_calls: Program, folder: pathlib.Path, block: str, text: bytes,
-                                    answer: str) -> None:
+def test_another_block_has_one_result_wherever_it_is_cut(pfs_calls: Program, folder: pathlib.Path, block: str,
+                                                         text: bytes, answer: str) -> None:
     assert_cuts(pfs_calls, folder, block, text, answer)
 
 
 def fed(pfs_calls: Program, cwd: pathlib.Path, block: str, pieces: list[bytes]) -> list[str]:
-    """The lines of a run that hands these pieces to a reader of this block."""
+    """The output of a run that feeds these pieces to a reader of this block, as lines."""
     ran = pfs_calls.run([b"pieces", *block.encode().split(b" "), *pieces], cwd)
     assert (ran.stderr, ran.status) == (b"", 0)
     return ran.stdout.decode().splitlines()
 
 
 def held(length: int) -> int:
-    """How many times a reader holds behind so many bytes of THREE_JOBS."""
+    """The number of times that a reader holds after this many bytes of THREE_JOBS."""
     return 0 if length <= 110 else min((length - 109) // 2, 6)
 
 
@@ -138,12 +141,12 @@ def test_each_time_is_held_as_it_ends(pfs_calls: Program, folder: pathlib.Path) 
     assert fed(pfs_calls, folder, "taillard 1", pieces) == wanted + last
 
 
-def test_a_done_reader_takes_nothing_more(pfs_calls: Program, folder: pathlib.Path) -> None:
+def test_a_finished_reader_reads_no_more_bytes(pfs_calls: Program, folder: pathlib.Path) -> None:
     lines = fed(pfs_calls, folder, "taillard 1", [THREE_JOBS * 2, THREE_JOBS * 2])
     assert lines == ["121 bytes, done: true, 6 times held", "0 bytes, done: true, 6 times held", TIMES]
 
 
-def test_a_refused_reader_repeats_its_refusal(pfs_calls: Program, folder: pathlib.Path) -> None:
+def test_a_reader_that_failed_repeats_its_fault(pfs_calls: Program, folder: pathlib.Path) -> None:
     lines = fed(pfs_calls, folder, "orlib 1", [b"2\n", b"1 1\n"])
     refused = "SizeCount { line: 1 }"
     assert lines == [f"{refused}, 0 times held", f"{refused}, 0 times held", refused]

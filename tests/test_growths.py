@@ -1,5 +1,5 @@
-"""Runs with each growth of memory refused in turn: those of the program end in want of memory and print nothing; the
-calls of pfs_calls answer it, and leave what they must. And calls that ask for none."""
+"""Runs in which each memory allocation fails in turn. The program then reports `no memory` and prints nothing; a call
+of pfs_calls returns that fault and keeps what its contract promises. Also calls that allocate nothing."""
 import pathlib
 from itertools import groupby
 
@@ -9,10 +9,10 @@ from support.growths import Shim
 from support.lines import ANSWERS, refused
 from support.program import Program, Ran, Words
 
-# No call takes more growths.
+# More allocations than any call makes.
 MOST_GROWTHS = 1_000
 
-# The lines that take memory.
+# Command lines that allocate memory.
 GROWING = [
     "solve --layout taillard --rounds 5 --take 2 --seed 7 --passes 1 --cells three",
     "solve --layout taillard --rounds 5 --take 2 --seed 7 --passes 1 --cells eight",
@@ -25,7 +25,7 @@ GROWING = [
     "value three",
 ]
 
-# What each call of pfs_calls answers with ample memory.
+# What each call of pfs_calls prints if no allocation fails.
 CALLS: dict[str, bytes] = {
     "instance": b"3 jobs, 2 machines\n",
     "of_times": b"3 jobs, 2 machines, 6 times\n",
@@ -58,13 +58,13 @@ CALLS: dict[str, bytes] = {
 
 UNCHANGED = b"memory, 3 jobs, 2 machines, times 3 2 2 5 4 1\n"
 
-# What a call of pfs_calls prints where growths of its own are refused, in turn, behind `memory` for those before it:
-# - the instance and the bench are unchanged, nothing is held and no round but those done is kept;
-# - a call that may be made again gives its answer, and a refused reader its refusal;
-# - an inserter that makes each order afresh has counted the places before, of six cells each;
-# - the generator, which gives the odd numbers, is behind the words of the rounds done and of the refused one;
-# - an engine writes nothing, and tells whose growth it was: the instance's, the order's, or one behind both, which is
-#   asked for only where the order fits the instance.
+# What a call of pfs_calls prints when its own allocations fail in turn, after `memory` for those that precede the call:
+# - the instance and the bench are unchanged, the reader holds no time, and only the finished rounds are kept;
+# - a call that may be repeated then returns its result, and a reader that failed returns the same fault again;
+# - an inserter that evaluates each order from scratch has counted the places before, of six cells each;
+# - the generator, which returns the odd numbers, has drawn the words of the finished rounds and of the failed one;
+# - an engine writes nothing, and reports whether the instance's allocation failed, the order's, or a later one, which
+#   is made only if the order fits the instance.
 LEFT: dict[str, list[bytes]] = {
     "feed": [b"Memory, 0 times held\nMemory when fed again\nMemory at the end\n"],
     "makespan": [UNCHANGED + b"bench of 3 jobs, 2 machines, 0 cells\nmakespan 11, 6 cells\n"],
@@ -88,7 +88,7 @@ LEFT: dict[str, list[bytes]] = {
 }
 
 
-# What a call of pfs_calls prints that takes no memory once it has said `ready`.
+# What calls of pfs_calls print that allocate nothing after `ready`.
 STILL: dict[str, bytes] = {
     "still_audit": b"bound 8\nwrong size 3 2\n",
     "still_best": b"place 2\n",
@@ -104,45 +104,47 @@ STILL: dict[str, bytes] = {
 
 @pytest.fixture(scope="session")
 def shim(tmp_path_factory: pytest.TempPathFactory) -> Shim:
-    """The library that refuses and counts growths."""
+    """The library that lets allocations fail, and counts them."""
     return Shim(tmp_path_factory.mktemp("shim"))
 
 
 def refuse_each(shim: Shim, program: Program, words: Words, folder: pathlib.Path, answer: Ran, refusals: list[Ran],
                 stdin: bytes = b"") -> None:
-    """Every run in which a growth is refused ends in a refusal, and the run that meets none in the answer. Each of the
-    refusals is met, in this order, and perhaps more than once."""
+    """Let each allocation fail in turn. Such a run has one of the `refusals`, and the run without a failure has the
+    `answer`. All refusals occur in this order, each perhaps more than once."""
     told: list[Ran] = []
     for growth in range(1, MOST_GROWTHS):
         ran, is_refused = shim.run_refused(program, words, folder, stdin, growth)
         if not is_refused:
-            assert ran == answer, "no growth refused"
-            assert [refusal for refusal, _ in groupby(told)] == refusals, "growths refused"
+            assert ran == answer, "no allocation failed"
+            assert [refusal for refusal, _ in groupby(told)] == refusals, "the runs in which an allocation failed"
             return
-        assert ran in refusals, f"growth {growth} refused"
+        assert ran in refusals, f"allocation {growth} failed"
         told.append(ran)
-    pytest.fail(f"{MOST_GROWTHS} growths and more")
+    pytest.fail(f"{MOST_GROWTHS} allocations or more")
 
 
-def test_no_words(pfs: Program, shim: Shim, folder: pathlib.Path) -> None:
+def test_without_arguments_a_failed_allocation_is_reported(pfs: Program, shim: Shim, folder: pathlib.Path) -> None:
     refuse_each(shim, pfs, [], folder, Ran(b"makespan 11\n", b"", 0), [refused("no memory")], THREE_JOBS)
 
 
 @pytest.mark.parametrize("line", GROWING)
-def test_line(pfs: Program, shim: Shim, worked: pathlib.Path, line: str) -> None:
+def test_a_failed_allocation_is_reported_and_nothing_printed(pfs: Program, shim: Shim, worked: pathlib.Path,
+                                                             line: str) -> None:
     refuse_each(shim, pfs, line, worked, ANSWERS[line], [refused("no memory")])
 
 
 @pytest.mark.parametrize("call", CALLS)
-def test_call(pfs_calls: Program, shim: Shim, folder: pathlib.Path, call: str) -> None:
-    # The first growths are for the words of the command line.
+def test_a_call_returns_a_failed_allocation_and_keeps_its_promises(pfs_calls: Program, shim: Shim,
+                                                                   folder: pathlib.Path, call: str) -> None:
+    # The first allocations are for the arguments of the program.
     refusals = [b"memory\n", *LEFT.get(call, [])]
     refuse_each(shim, pfs_calls, [call], folder, Ran(CALLS[call], b"", 0), [Ran(text, b"", 0) for text in refusals])
 
 
 @pytest.mark.parametrize("call", STILL)
-def test_a_call_that_takes_no_memory(pfs_calls: Program, shim: Shim, folder: pathlib.Path, call: str) -> None:
+def test_a_call_allocates_nothing(pfs_calls: Program, shim: Shim, folder: pathlib.Path, call: str) -> None:
     ran, growths = shim.run_counted(pfs_calls, [call], folder)
     assert ran == Ran(b"ready\n" + STILL[call], b"", 0)
-    assert growths[0] > 0, "growths for the words of the command line"
-    assert growths == growths[:1] * len(growths), "growths in front of each write"
+    assert growths[0] > 0, "allocations for the arguments of the program"
+    assert growths == growths[:1] * len(growths), "allocations before each write"

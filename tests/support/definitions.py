@@ -71,7 +71,7 @@ def all_definitions(crates: pathlib.Path) -> dict[Definition, set[Definition]]:
 # Contracts of public functions
 
 def exported(crate: pathlib.Path) -> tuple[set[str], set[str]]:
-    """The modules that a crate shows as they are, and the names that it hands on from others."""
+    """The public modules of a crate, and the names that it re-exports from others."""
     text = (crate / "src" / "lib.rt").read_text()
     names = set()
     for last in re.findall(r"^pub use [\w:]*::(\{[^}]*\}|\w+);", text, re.MULTILINE):
@@ -90,7 +90,7 @@ def public_parts(path: pathlib.Path, whole: bool, names: set[str]) -> list[str]:
             shown = whole or bool(names & set(WORD.findall(head)))
         else:
             name = re.match(r"pub (extern \"C\" )?(?:fn|trait|struct|enum) (\w+)", head)
-            # C sees a function wherever it stands
+            # C sees a function of any module
             shown = name is not None and bool(whole or name[1] or name[2] in names)
         if shown and not re.match(r"(?:ghost )?use\b", part):
             found.append(part)

@@ -115,7 +115,7 @@ class Experiment(NamedTuple):
 
     @contextmanager
     def gate(self) -> Iterator["Gate"]:
-        """The gate, which is there, and shut, until the block ends."""
+        """The gate, which exists until the block ends, and is shut at first."""
         path = self.folder / "gate"
         os.mkfifo(path)
         gate = Gate(path, os.open(path, os.O_RDWR))

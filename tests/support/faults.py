@@ -10,14 +10,14 @@ FEW_BYTES = 5 << 20
 
 
 class Fault(NamedTuple):
-    """A command line over the worked files that meets a fault, and the numbers that stand in the fault's text there."""
+    """A command line over the worked files that ends in a fault, and the numbers in the fault's text."""
     words: str
     numbers: tuple[int, ...] = ()
     is_full: bool = False
     wants_memory: bool = False
 
 
-# By the text, in which each number is a letter.
+# By the fault's text, in which a letter replaces each number.
 FAULTS = {
     "pfs: input too long": Fault("value --layout taillard /dev/zero"),
     "pfs: mixed line at X": Fault("value --layout taillard mixed", (118,)),
@@ -44,7 +44,7 @@ FAULTS = {
 
 
 def met(pfs: Program, fault: Fault, worked: pathlib.Path) -> Ran:
-    """What the program answers where it meets the fault, in a folder with the worked files."""
+    """Run the command line of the fault in a folder with the worked files."""
     def limit() -> None:
         resource.setrlimit(resource.RLIMIT_AS, (FEW_BYTES, FEW_BYTES))
 

@@ -80,7 +80,7 @@ FILES = {
 
 
 def make_files(folder: pathlib.Path) -> None:
-    """Writes the files into a folder, with a folder beside them."""
+    """Write the worked files and an empty folder into a folder."""
     for name, text in FILES.items():
         (folder / name).write_bytes(text)
     (folder / "folder").mkdir()

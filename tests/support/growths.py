@@ -1,4 +1,4 @@
-"""Growths of memory that are refused or counted, by refuse.c, which is preloaded into a program."""
+"""Memory allocations of a program that fail or are counted, with refuse.c, a library that is preloaded."""
 import os
 import pathlib
 import subprocess
@@ -10,7 +10,7 @@ SOURCE = pathlib.Path(__file__).with_name("refuse.c")
 
 
 class Shim:
-    """The library that is preloaded."""
+    """The preloaded library."""
 
     def __init__(self, folder: pathlib.Path) -> None:
         self.path = folder / "refuse.so"
@@ -18,18 +18,18 @@ class Shim:
 
     def run_refused(self, program: Program, words: Words, folder: pathlib.Path, stdin: bytes,
                     growth: int) -> tuple[Ran, bool]:
-        """The run with this growth refused, and whether it was asked for."""
+        """Run the program with this allocation failing; also return whether the program got that far."""
         ran, told = self.run(program, words, folder, stdin, "REFUSE_TELL", {"REFUSE_GROWTH": str(growth)})
         return ran, told == b"x"
 
     def run_counted(self, program: Program, words: Words, folder: pathlib.Path) -> tuple[Ran, list[int]]:
-        """The run, and how many growths were asked for in front of each of its writes to standard output."""
+        """Run the program; also return the number of allocations before each of its writes to standard output."""
         ran, told = self.run(program, words, folder, b"", "COUNT_TELL", {})
         return ran, [int(line) for line in told.splitlines()]
 
     def run(self, program: Program, words: Words, folder: pathlib.Path, stdin: bytes, tell: str,
             variables: dict[str, str]) -> tuple[Ran, bytes]:
-        """The run, and what the library has written to the descriptor that this variable names."""
+        """Run the program; also return what the library wrote to the descriptor that this variable names."""
         read_end, write_end = os.pipe()
         env = os.environ | {"LD_PRELOAD": str(self.path), tell: str(write_end)} | variables
         ran = program.run(words, folder, stdin, env=env, pass_fds=(write_end,))

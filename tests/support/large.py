@@ -61,8 +61,8 @@ def write_equal_times(path: pathlib.Path, jobs: int, machines: int, time: int, n
 
 
 class LargeRun(NamedTuple):
-    """What a run has told on standard error, its exit status, its processor seconds and its greatest resident memory.
-    What it has printed is a file."""
+    """The result of a run: standard error, the exit status, the processor seconds and the greatest resident memory.
+    Standard output is in a file."""
     stderr: bytes
     status: int
     seconds: float
@@ -77,7 +77,7 @@ class LargeRun(NamedTuple):
 
 def run_within(program: Program, words: list[str], folder: pathlib.Path, memory: int,
                stdin: pathlib.Path = pathlib.Path("/dev/null")) -> LargeRun:
-    """Runs a program with so many bytes of address space, and ends it where it takes too much processor time."""
+    """Run a program with this many bytes of address space, and kill it if it takes too much processor time."""
     output, errors = folder / "output", folder / "errors"
     starter = [sys.executable, "-I", "-S", str(WITHIN), str(memory), str(MOST_SECONDS)]
     given = [str(path) for path in (stdin, output, errors, program.path)]

@@ -1,4 +1,4 @@
-"""Command lines over the worked files, and what the program answers to each."""
+"""Command lines over the worked files, and the result of the program for each."""
 from support.files import (
     THREE_JOBS, THREE_JOBS_BY_JOB, USAGE, WITH_NOTES, generated, taillard,
 )
@@ -8,8 +8,8 @@ WRONG_MACHINES = b"wrong machines\norder 3\nmachines 2\n"
 
 TIME_TABLE = b"table 3 2\n2 0 2 2 7\n1 2 5 7 9\n3 5 9 9 10\nmakespan 10\n"
 
-# What each line prints on standard output and on standard error, and its exit status. `folder` is one, and `missing` is
-# no file.
+# What each line prints on standard output and on standard error, and its exit status. `folder` is a folder, and
+# `missing` doesn't exist.
 ANSWERS: dict[str, Ran] = {
     "value --layout taillard three": Ran(b"makespan 11\n", b"", 0),
     "value three --block=1 --layout=taillard": Ran(b"makespan 11\n", b"", 0),
@@ -143,10 +143,10 @@ GENERATE = "generate 5 1 873654221"
 
 
 def refused(told: str, status: int = 4) -> Ran:
-    """Nothing is printed, and this is told."""
+    """A run that prints nothing and reports this fault."""
     return Ran(b"", f"pfs: {told}\n".encode(), status)
 
 
 def unwritten(count: int) -> Ran:
-    """A write failed behind so many bytes, which went elsewhere."""
+    """A run whose write failed after this many bytes."""
     return refused(f"write failed after {count} bytes")

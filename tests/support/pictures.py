@@ -1,4 +1,4 @@
-"""What an SVG shows that matplotlib has drawn, in the units of its axes."""
+"""Reads an SVG that matplotlib has drawn, in the units of its axes."""
 import base64
 import math
 import pathlib
@@ -15,13 +15,13 @@ NUMBER = r"-?[0-9]+(?:\.[0-9]+)?"
 
 
 class Mark(NamedTuple):
-    """A mark of an axis: where it stands, and its number."""
+    """A tick of an axis: its position and its number."""
     at: float
     number: float
 
 
 class Bar(NamedTuple):
-    """A bar in the units of the axes, and what it is filled with."""
+    """A bar in the units of the axes, and its fill colour."""
     start: float
     end: float
     top: float
@@ -30,7 +30,7 @@ class Bar(NamedTuple):
 
 
 class Letters(NamedTuple):
-    """A text, where it is anchored on the picture, its colour, its size, and which part of it is anchored."""
+    """A text: its anchor on the picture, its colour, its size, and the part of it that is anchored."""
     text: str
     x: float
     y: float
@@ -40,7 +40,7 @@ class Letters(NamedTuple):
 
 
 class Scale:
-    """From places on the picture to the numbers of an axis, by two of its marks."""
+    """The map from positions on the picture to numbers of an axis, from two of its ticks."""
 
     def __init__(self, marks: list[Mark]) -> None:
         self.marks = marks
@@ -51,12 +51,12 @@ class Scale:
         return self.marks[0].number + (at - self.marks[0].at) * self.each
 
     def on_picture(self, length: float) -> float:
-        """How long on the picture is what has this length on the axis."""
+        """The length on the picture of this length on the axis."""
         return length / abs(self.each)
 
 
 class Picture:
-    """An SVG, or what stands in one of its axes."""
+    """An SVG, or the contents of one of its axes."""
 
     def __init__(self, path: pathlib.Path, axes: str = "figure_1") -> None:
         whole = {group.get("id"): group for group in ET.parse(path).iter(f"{SVG}g")}
@@ -69,12 +69,12 @@ class Picture:
         return [letters_of(text) for text in root.iter(f"{SVG}text")]
 
     def find(self, text: str) -> list[Letters]:
-        """Where this text stands."""
+        """The position of this text."""
         return [letters for letters in self.texts() if letters.text == text]
 
     def marks(self, kind: str, pattern: str = NUMBER) -> list[Mark]:
-        """The marks of an axis (`xtick` or `ytick`) whose text is a number in this pattern. One that isn't drawn is
-        where its text stands."""
+        """The ticks of an axis (`xtick` or `ytick`) whose text is a number in this pattern. The position of a tick that
+        isn't drawn is that of its text."""
         found = []
         for name, group in self.groups.items():
             text = group.find(f".//{SVG}text")
@@ -96,7 +96,7 @@ class Picture:
 
     def shapes(self, name: str) -> Iterator[tuple[list[tuple[float, float]], str]]:
         """The points of each line or area of a group, and its style, in the order in which they were drawn. Shapes that
-        are defined elsewhere in the group are drawn where they are used; beside others they are but marks on these."""
+        are defined elsewhere in the group are drawn where they are used; if there are others, they only mark these."""
         group = self.groups.get(name, ET.Element("g"))
         defined = {f"#{path.get('id')}": path for defs in group.iter(f"{SVG}defs") for path in defs.iter(f"{SVG}path")}
         drawn = [path for path in group.iter(f"{SVG}path") if path not in defined.values()]
@@ -114,7 +114,7 @@ class Picture:
         return points
 
     def image(self) -> tuple[Bar, list[list[str]]]:
-        """Where the one image stands, in the units of the axes, and the colours of its pixels, from the top."""
+        """The position of the only image, in the units of the axes, and the colours of its pixels, from the top."""
         image, = self.root.iter(f"{SVG}image")
         x, y, width, height = (float(image.get(name, 0)) for name in ("x", "y", "width", "height"))
         turned = re.fullmatch(r"matrix\((\S+) 0 0 (\S+) (\S+) (\S+)\)|", image.get("transform", ""))
@@ -152,7 +152,7 @@ def pixels_of(png: bytes) -> list[list[str]]:
 
 
 def unfiltered(kind: int, line: bytes, above: bytes, depth: int) -> bytes:
-    """A line of a PNG, whose bytes are told as what they differ by from those before and above."""
+    """A line of a PNG, whose bytes are stored as differences from those to the left and above."""
     made = bytearray(line)
     for at, byte in enumerate(line) if kind else ():
         left, corner = (made[at - depth], above[at - depth]) if at >= depth else (0, 0)
@@ -166,13 +166,13 @@ def points_of(path: ET.Element) -> list[tuple[float, float]]:
 
 
 def value_of(style: str, name: str) -> str:
-    """What a style says of this, or nothing."""
+    """The value of a property in a style, or an empty text."""
     found = re.search(rf"(?:^|;)\s*{name}: ([^;]+)", style)
     return found[1] if found else ""
 
 
 def letters_of(text: ET.Element) -> Letters:
-    """A text of the picture. Where it doesn't say where it stands it is moved there."""
+    """A text of the picture. If it has no position, its `transform` moves it there."""
     style, turned = text.get("style", ""), text.get("transform", "")
     size = re.search(rf"({NUMBER})px", style)
     x, y = text.get("x"), text.get("y")
@@ -184,13 +184,13 @@ def letters_of(text: ET.Element) -> Letters:
 
 
 def luminance(colour: str) -> float:
-    """How light a colour is, from 0 to 1, as the guidelines on contrast define it (WCAG)."""
+    """The relative luminance of a colour, from 0 to 1, as the guidelines on contrast define it (WCAG)."""
     parts = [int(colour[at:at + 2], 16) / 255 for at in (1, 3, 5)]
     red, green, blue = (part / 12.92 if part <= 0.04045 else math.pow((part + 0.055) / 1.055, 2.4) for part in parts)
     return 0.2126 * red + 0.7152 * green + 0.0722 * blue
 
 
 def contrast(first: str, second: str) -> float:
-    """How well letters of one colour can be read on the other, from 1 to 21 (WCAG)."""
+    """The contrast ratio of two colours, from 1 to 21 (WCAG)."""
     less, more = sorted(map(luminance, (first, second)))
     return (more + 0.05) / (less + 0.05)

@@ -1,4 +1,4 @@
-"""Pipes, and waiting for what a program does."""
+"""Pipes, and waiting for a program to use them."""
 import errno
 import fcntl
 import os
@@ -8,16 +8,16 @@ import termios
 import time
 from collections.abc import Callable
 
-# What takes longer never happens.
+# The time limit of a wait.
 MOST_SECONDS = 30.0
 PAGE = 4_096
 
 
 def wait_for(what: str, is_so: Callable[[], bool]) -> None:
-    """Waits until something is so. Where that takes too long, the test fails."""
+    """Wait until a condition holds. If it takes too long, the test fails."""
     end = time.monotonic() + MOST_SECONDS
     while not is_so():
-        assert time.monotonic() < end, f"after {MOST_SECONDS:g} s it isn't so that {what}"
+        assert time.monotonic() < end, f"after {MOST_SECONDS:g} s still false: {what}"
         time.sleep(0.001)
 
 

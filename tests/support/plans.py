@@ -1,6 +1,6 @@
-"""Command lines, and the jobs that they ask for. The words of a line stand with `|` between them. So do the values of a
-job, behind its name: its layouts as T or O, its block, for `solve` rounds, take (0 where none is stated), seed, passes
-and whether cells are printed, and its files; for `generate` its numbers."""
+"""Command lines, and the jobs that they request. The arguments of a line are separated by `|`. So are the parts of a
+job: its name, its layouts (T or O), its block, its files, and before these for `solve` the rounds, the destruction size
+(0 if none is stated), the seed, the passes and whether cells are printed. For `generate` they are its numbers."""
 
 # Each command, with all options and without.
 EACH_COMMAND = [
@@ -21,7 +21,7 @@ EACH_COMMAND = [
     ("generate|1|1|0", "generate|1|1|0"),
 ]
 
-# Options in other places and forms, words behind `--`, empty words, and numbers spelled otherwise.
+# Options in other places and forms, arguments after `--`, empty arguments, and other spellings of numbers.
 ODD_FORMS = [
     ("value|--layout=orlib|--block=2|f", "value|O|2|f"),
     ("value|f|--layout|orlib", "value|O|1|f"),
@@ -43,7 +43,7 @@ ODD_FORMS = [
     ("generate|+1|01|1", "generate|1|1|1"),
 ]
 
-# Lines that ask for nothing, by what is wrong with them.
+# Invalid command lines, by their fault.
 REFUSED = {
     "another command": [
         "", "help", "-h", "--help", "Value", " value", "pfs|value|--layout|orlib|f",

@@ -1,9 +1,9 @@
-"""Runs that end well, and texts as the names of cases."""
+"""Successful runs, and texts as the names of cases."""
 from support.program import Ran
 
 
 def printed(*lines: str) -> Ran:
-    """A run that prints these lines, and tells no fault."""
+    """A run that prints these lines and reports no fault."""
     return Ran("".join(f"{line}\n" for line in lines).encode(), b"", 0)
 
 

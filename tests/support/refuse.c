@@ -1,7 +1,7 @@
-/* Preloaded into a program: refuses the growth of memory whose number REFUSE_GROWTH names, counted from 1,
-   and writes a byte to the descriptor REFUSE_TELL when it does. In front of each write to standard output it tells
-   the descriptor COUNT_TELL how many growths were asked for so far, on a line. Every growth of a Rattle program goes
-   through one of these calls. */
+/* Preloaded into a program. Lets the memory allocation with the number REFUSE_GROWTH (counted from 1) fail, and writes
+   a byte to the descriptor REFUSE_TELL when it does. Before each write to standard output it writes a line with the
+   number of allocations so far to the descriptor COUNT_TELL. Every allocation of a Rattle program goes through one of
+   these calls. */
 #define _GNU_SOURCE
 #include <errno.h>
 #include <stdio.h>

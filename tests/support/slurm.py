@@ -42,7 +42,7 @@ SlurmdParameters=config_overrides
 
 
 class Cluster(NamedTuple):
-    """What tells Slurm's commands of the cluster."""
+    """The environment in which Slurm's commands find the cluster."""
     env: dict[str, str]
 
     def tells(self, *words: str) -> str:
@@ -54,7 +54,7 @@ class Cluster(NamedTuple):
 @pytest.fixture(scope="session")
 def slurm(tmp_path_factory: pytest.TempPathFactory) -> Iterator[Cluster]:
     """The cluster, whose jobs and servers are ended with the session. It has four processors, also where the machine
-    has fewer, so that arrays of a few tasks run side by side."""
+    has fewer, so that the tasks of a small array run in parallel."""
     for command in ("munged", "slurmctld", "slurmd"):
         need(command)
     if os.geteuid() != 0:
@@ -96,6 +96,6 @@ def servers(folder: pathlib.Path) -> Iterator[list[str]]:
 
 
 def end_jobs(cluster: Cluster) -> None:
-    """Ends all jobs, and waits until nothing of them goes on."""
+    """Cancel all jobs, and wait until none of their processes runs."""
     cluster.tells("scancel", "--full", "--user=root")
     wait_until(lambda: cluster.tells("squeue", "-h") == "", "no job goes on")

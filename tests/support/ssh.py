@@ -1,4 +1,4 @@
-"""A server of ssh on this machine, whose logins are in a folder of its own."""
+"""An ssh server on this machine, whose logins use a separate folder."""
 import os
 import pathlib
 import socket
@@ -47,7 +47,7 @@ def ssh_server(tmp_path_factory: pytest.TempPathFactory) -> Iterator[Server]:
 
 
 def bound_to_this() -> list[str]:
-    """What starts a server so that it ends with this process, also where this is killed."""
+    """The command that starts a server which ends with this process, also if this process is killed."""
     return [need("setpriv"), "--pdeathsig", "TERM", "--"]
 
 

@@ -13,7 +13,7 @@ MOST_SECONDS = 60.0
 
 
 class Terminal:
-    """A terminal with a program at it, which is ended where the block ends."""
+    """A terminal with a program, which is killed at the end of the block."""
 
     def __init__(self, words: Sequence[str], cwd: pathlib.Path, **how: Any) -> None:
         self.end, other = pty.openpty()
@@ -34,7 +34,7 @@ class Terminal:
         os.write(self.end, text.encode())
 
     def read(self) -> bool:
-        """Reads what is there; answers whether there will be more."""
+        """Read the available output; return whether there may be more."""
         try:
             text = os.read(self.end, 4096)
         except OSError as error:
@@ -53,7 +53,7 @@ class Terminal:
                 assert self.read(), f"the end came before: {what}, after {self.seen[-200:]!r}"
 
     def read_all(self) -> int:
-        """Reads until the program ends, and answers its status."""
+        """Read until the program ends, and return its status."""
         while self.read():
             pass
         return self.process.wait(MOST_SECONDS)

@@ -1,4 +1,4 @@
-"""The scripts beside the program, and what they need."""
+"""Runs of the scripts in tools/ and experiments/, and what they need."""
 import os
 import pathlib
 import subprocess
@@ -14,14 +14,14 @@ MOST_SECONDS = 120.0
 
 
 class Told(NamedTuple):
-    """The exit status of a script, and what it has written."""
+    """The result of a script: its exit status and its outputs."""
     status: int
     stdout: str
     stderr: str
 
 
 def told_by(words: list[str | pathlib.Path], cwd: pathlib.Path, **how: Any) -> Told:
-    """Runs a script in a folder, where `how`, the arguments of `subprocess.run`, says nothing else on empty input."""
+    """Run a script in a folder. By default its input is empty; `how` has other arguments of `subprocess.run`."""
     how = {"stdin": subprocess.DEVNULL} | how
     done = subprocess.run([str(word) for word in words], cwd=cwd, capture_output=True, text=True, timeout=MOST_SECONDS,
                           **how)
@@ -29,7 +29,7 @@ def told_by(words: list[str | pathlib.Path], cwd: pathlib.Path, **how: Any) -> T
 
 
 def printed_by(words: list[str | pathlib.Path], cwd: pathlib.Path, **how: Any) -> str:
-    """What a script prints that succeeds."""
+    """Run a script that has to succeed, and return its output."""
     told = told_by(words, cwd, **how)
     assert told.status == 0, f"{words}: {told}"
     return told.stdout
@@ -43,10 +43,10 @@ def write_script(path: pathlib.Path, text: str) -> pathlib.Path:
 
 
 def wait_until(has_come: Callable[[], bool], what: str, seconds: float = 60.0) -> None:
-    """Waits for something that another process does. Where it doesn't come the test fails."""
+    """Wait until a condition holds that depends on another process. If it takes too long, the test fails."""
     end = time.monotonic() + seconds
     while not has_come():
-        assert time.monotonic() < end, f"after {seconds:g} s not yet: {what}"
+        assert time.monotonic() < end, f"after {seconds:g} s still false: {what}"
         time.sleep(0.01)
 
 
@@ -61,7 +61,7 @@ def stop(process: subprocess.Popen[Any]) -> None:
 
 
 def with_path(folder: pathlib.Path) -> dict[str, str]:
-    """The environment, in which programs are looked for in this folder first."""
+    """The environment with this folder first in PATH."""
     return dict(os.environ, PATH=f"{folder}:{os.environ['PATH']}")
 
 

@@ -1,4 +1,4 @@
-"""What the usage text says of each command, and which numbers the program takes for an option."""
+"""Parses the usage text, and finds which numbers the program accepts for an option."""
 import pathlib
 import re
 from typing import NamedTuple
@@ -32,7 +32,7 @@ def ranges(text: str) -> list[tuple[int, int]]:
 
 
 def is_taken(pfs: Program, option: str, number: int, folder: pathlib.Path) -> bool:
-    """Whether a search takes this number: then its file is sought, and there is none."""
+    """Whether a search accepts this number. It then reports that its file doesn't exist."""
     told = pfs.run(["solve", "--layout", "taillard", f"{option}={number}", "/missing"], folder)
     answers = {(4, b"pfs: cannot open\n"): True, (3, USAGE): False}
     assert (told.status, told.stderr) in answers, told
@@ -40,10 +40,10 @@ def is_taken(pfs: Program, option: str, number: int, folder: pathlib.Path) -> bo
 
 
 def ends_taken(pfs: Program, option: str, least: int, most: int, folder: pathlib.Path) -> dict[int, bool]:
-    """Which of a range's ends and of the numbers beside it are taken."""
+    """For the ends of a range and the numbers next to them, whether the program accepts them."""
     return {number: is_taken(pfs, option, number, folder) for number in (least - 1, least, most, most + 1)}
 
 
 def ends_of(least: int, most: int) -> dict[int, bool]:
-    """What is taken where the range is the program's own."""
+    """The same for a program that accepts exactly the numbers of the range."""
     return {least - 1: False, least: True, most: True, most + 1: False}

@@ -1,7 +1,7 @@
 #!/usr/bin/env python3
-"""Runs a program with so many bytes of address space and processor seconds, and tells its exit status, its processor
-seconds and its greatest resident memory in bytes. What the kernel says of that counts what the program's starter had,
-so this is a program of its own, which has little.
+"""Runs a program with a limit on its address space and its processor time. Prints its exit status, its processor
+seconds and its greatest resident memory in bytes. The kernel's figure includes the memory of the parent process, so
+this is a separate program, which uses little memory.
 
 usage: tests/support/within.py BYTES SECONDS STDIN STDOUT STDERR WORD.."""
 import os
