@@ -764,6 +764,17 @@ def test_the_sums_of_what_is_made_are_right(made: Made) -> None:
     assert listed == real
 
 
+def test_the_tarball_has_the_notices_of_what_is_built_in(unpacked: pathlib.Path) -> None:
+    """Those that the packages have too, and the text of the licence that asks for them."""
+    pages = unpacked / "share" / "doc" / "pfs"
+    text = (pages / "NOTICES").read_text()
+    holders = re.findall(r"^Copyright \(c\) (.*)$", text, re.MULTILINE)
+    debian = printed_by(["tools/copyright"], TOP)
+    lines = re.findall(r"^           (\S.*)$", debian, re.MULTILINE)
+    assert len(lines) == 5 and holders == lines
+    assert (pages / "LICENSE-MIT").read_text().split("\n\n", 1)[1] in text
+
+
 def test_the_sums_in_the_tarball_are_right(unpacked: pathlib.Path) -> None:
     listed, real = sums_of(unpacked, unpacked / "share" / "doc" / "pfs" / "SHA256SUMS")
     assert listed == real
@@ -849,7 +860,7 @@ def test_what_is_packed_tells_neither_time_nor_name(path: str, made: Made, extra
 def without_notes(found: dict[str, bytes]) -> dict[str, bytes]:
     """The files but those that are made for the packages."""
     return {path: text for path, text in found.items()
-            if path not in ("share/doc/pfs/PROVED", "share/doc/pfs/SHA256SUMS")}
+            if path not in {f"share/doc/pfs/{name}" for name in ("NOTICES", "PROVED", "SHA256SUMS")}}
 
 
 def test_the_tarball_has_the_installed_files_and_the_pages(unpacked: pathlib.Path, copy: Copy) -> None:
@@ -1002,6 +1013,24 @@ def test_the_package_tells_its_installed_size(made: Made, folder: pathlib.Path) 
                                               ("Maintainer", "A Tester <tester@example.org>")])
 def test_the_package_tells_what_it_is(name: str, wanted: str, made: Made) -> None:
     assert field(made, name) == wanted
+
+
+def test_a_maintainer_who_reads_no_letters_is_told(copy: Copy, folder: pathlib.Path) -> None:
+    """The packages can name another one."""
+    author = {"GIT_CONFIG_VALUE_1": "1+tester@users.noreply.host"}
+    copy.git("branch", "-q", "kept")
+    try:
+        told_by(["git", "commit", "-q", "--allow-empty", "-m", "By another address"], copy.top, env=copy.env | author)
+        told = copy.make("dist", f"DIST={folder}/first")
+        assert told.status == 0 and "A Tester <1+tester@users.noreply.host>" in told.stderr
+        assert "MAINTAINER='A Name <name@host>' make dist" in told.stderr
+        told = copy.make("dist", f"DIST={folder}/second", MAINTAINER="B <b@example.org>")
+        assert (told.status, told.stderr) == (0, "")
+        package, = (folder / "second").glob("pfs_*.deb")
+        assert fields_of(package)["Maintainer"] == "B <b@example.org>"
+    finally:
+        copy.git("reset", "-q", "--hard", "kept")
+        copy.git("branch", "-q", "-D", "kept")
 
 
 def test_the_package_needs_the_programs_c_library(made: Made, pfs: Program) -> None:

@@ -139,6 +139,16 @@ def test_the_pages_to_which_a_page_links_are_there(page: pathlib.Path) -> None:
     assert [name for name in named if not (page.parent / name).exists()] == []
 
 
+NOBODY = re.compile(r"noreply|example\.org|%ae|`Maintainer`")
+
+
+@pytest.mark.parametrize("page", sorted({*PAGES, *TOP.glob("*.md"), *(TOP / "lib").glob("*.in")}),
+                         ids=lambda page: str(page.relative_to(TOP)))
+def test_no_page_leads_to_an_address_that_nobody_reads(page: pathlib.Path) -> None:
+    """Neither to one, nor to a commit's author or a package's maintainer, who may have such an address."""
+    assert NOBODY.findall(page.read_text()) == []
+
+
 @pytest.mark.parametrize("page", PAGES, ids=[str(page.relative_to(TOP)) for page in PAGES])
 def test_no_cell_of_a_table_is_a_paragraph(page: pathlib.Path) -> None:
     text = re.sub(r"^```.*?^```$", "", page.read_text(), flags=re.MULTILINE | re.DOTALL)

@@ -18,6 +18,7 @@ from pfs import _library
 TOP = pathlib.Path(__file__).resolve().parents[2]
 HERE = TOP / "python"
 VERSION = (TOP / "VERSION").read_text().strip()
+LICENSES = ["LICENSE-APACHE", "LICENSE-MIT"]
 WHEEL = f"pfs-{VERSION}-py3-none-linux_x86_64.whl"
 
 
@@ -73,6 +74,8 @@ def test_a_wheel_has_the_same_bytes_again(wheel: pathlib.Path, tmp_path: pathlib
     """Also of a checkout that only its owner can read."""
     for name in ("python", "tools"):
         shutil.copytree(TOP / name, tmp_path / "tree" / name, ignore=shutil.ignore_patterns("__pycache__"))
+    for name in LICENSES:
+        shutil.copy(TOP / name, tmp_path / "tree" / name)
     for path in (tmp_path / "tree").rglob("*"):
         path.chmod(path.stat().st_mode & 0o700)
     seconds = os.environ.get("SOURCE_DATE_EPOCH") or run(["git", "log", "-1", "--format=%ct"], TOP).strip()
@@ -102,6 +105,20 @@ def test_what_a_wheel_asks_for(wheel: pathlib.Path) -> None:
     assert str(fields.get_payload()).strip() == readme.strip()
     # All users can read each file, and only its owner or group writes it.
     assert {name: mode for name, mode in modes.items() if mode & 0o444 != 0o444 or mode & 0o002} == {}
+
+
+@pytest.mark.seconds(5)
+def test_a_wheel_has_the_licences_and_the_notices(wheel: pathlib.Path) -> None:
+    """Of pfs, and of the crates that are built into its library."""
+    with zipfile.ZipFile(wheel) as archive:
+        texts = {pathlib.PurePath(name).name: archive.read(name).decode() for name in archive.namelist()
+                 if ".dist-info/" in name}
+    fields = email.message_from_string(texts["METADATA"])
+    assert (fields["Author"], fields["License"]) == ("the pfs developers", "MIT OR Apache-2.0")
+    assert fields.get_all("License-File") == [*LICENSES, "NOTICES"]
+    assert {name: texts[name] for name in LICENSES} == {name: (TOP / name).read_text() for name in LICENSES}
+    assert "\nCopyright (c) 2018-2026 The Rand Project Developers\n" in texts["NOTICES"]
+    assert (TOP / "LICENSE-MIT").read_text().split("\n\n", 1)[1] in texts["NOTICES"], "the text of the MIT licence"
 
 
 def test_no_library_no_wheel(tmp_path: pathlib.Path) -> None:
