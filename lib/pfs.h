@@ -35,7 +35,7 @@ extern "C" {
 #endif
 
 #define PFS_VERSION "1.0.0"
-#define PFS_VERSION_NUMBER 10000 /* 10000 * major + 100 * minor + patch, for #if */
+#define PFS_VERSION_NUMBER 10000 /* 10000 * major + 100 * minor + patch, for the preprocessor */
 
 /* A compiler that knows how warns where the number that a function returns is ignored. */
 #ifdef __GNUC__
