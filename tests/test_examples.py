@@ -182,3 +182,24 @@ def test_readmes_lines_in_python(libpfs: Library, folder: pathlib.Path) -> None:
 def test_no_words(built: pathlib.Path, folder: pathlib.Path, name: str) -> None:
     told = run(built, name, cwd=folder)
     assert (told.status, told.stdout) == (3, "") and told.stderr.startswith(f"usage: {name} ")
+
+
+# Other languages
+
+IN_OTHER_LANGUAGES = "order [1, 0, 2], makespan 10\na list hasn't as many entries as the sizes say\n"
+
+
+def test_the_example_in_rust(installed: pathlib.Path, folder: pathlib.Path) -> None:
+    line = re.search(r"^rustc (.*)$", PAGE, re.MULTILINE)
+    assert line
+    words = line[1].replace("neh.rs", str(EXAMPLES / "neh.rs")).split()
+    compile_quietly([need("rustc"), "-D", "warnings", "-L", installed / "lib", *words[:-2], str(folder / "neh"),
+                     words[-1]])
+    assert printed_by([folder / "neh"], folder, env={"LD_LIBRARY_PATH": str(installed / "lib")}) == IN_OTHER_LANGUAGES
+
+
+def test_the_example_for_cffi(installed: pathlib.Path, folder: pathlib.Path) -> None:
+    need_of_debian("cffi")
+    assert "\npython3 neh_cffi.py\n" in PAGE
+    env = {"LD_LIBRARY_PATH": str(installed / "lib"), "PATH": "/usr/bin:/bin"}
+    assert printed_by(["/usr/bin/python3", EXAMPLES / "neh_cffi.py"], folder, env=env) == IN_OTHER_LANGUAGES
