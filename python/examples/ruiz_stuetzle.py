@@ -2,7 +2,7 @@
 """Iterated greedy with temperature and local search as Ruiz and Stützle (2007) published it (IG_RS_LS), beside `solve`
 at equal time, on instances of Taillard. Prints both RPD, and draws how they came to them.
 
-usage: ruiz_stuetzle.py FACTOR PICTURE NUMBER.. (such as 30 search.png 51 52: n (m/2) 30 milliseconds, ta051 and ta052)"""
+usage: ruiz_stuetzle.py FACTOR PICTURE NUMBER.. (30 search.png 51 52: n (m/2) 30 milliseconds, ta051 and ta052)"""
 import math
 import random
 import sys

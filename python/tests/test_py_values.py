@@ -310,7 +310,8 @@ def test_a_copy_of_a_schedule_has_each_attribute(how: str) -> None:
 
 
 FAULTS: list[BaseException] = [
-    pfs.FileFault("file", 24, 17, 3, 2, "a hint"), pfs.OrderFault("order", 31, 3), pfs.TableFault("plan.csv", 4, 2, "no time"),
+    pfs.FileFault("file", 24, 17, 3, 2, "a hint"), pfs.OrderFault("order", 31, 3),
+    pfs.TableFault("plan.csv", 4, 2, "no time"),
     pfs.Interrupted(pfs.Solution([1, 0], 9, 16, 2, 5))]
 
 
