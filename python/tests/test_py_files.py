@@ -304,7 +304,7 @@ HINTS = {
     "a time missing in the second block": ("1 1 0 0 0\n7\n3 2 0 0 0\n1 2 3\n4 5\n1 1 0 0 0\n7\n", "taillard", 6, 3,
                                            "line 5 has 2 numbers, and a row of this block 3"),
     "a plain matrix": ("2 3\n4 5 6\n7 8 9\n", "orlib", 2, 1,
-                       "line 2 has 3 numbers: perhaps times alone, where pairs of a machine and a time are due"),
+                       "line 2 has 3 numbers: perhaps times alone, and not pairs of machine and time"),
     "an end inside": ("2 2 0 0 0\n3 4\n5\n", "taillard", 3, 0, "line 3 has 1 numbers, and a row of this block 2"),
     "an end after whole rows": ("2 2 0 0 0\n3 4\n", "taillard", 2, 0, ""),
 }

@@ -164,6 +164,24 @@ def test_orders_of_some_jobs_are_refused_where_all_are_due() -> None:
 def test_insertions_that_are_refused(sequence: list[int], job: Any, kind: type[Exception], why: str) -> None:
     with pytest.raises(kind, match=why):
         pfs.Instance(TIMES).best_place(sequence, job)
+    with pytest.raises(kind, match=why):
+        pfs.Instance(TIMES).places(sequence, job)
+
+
+@pytest.mark.parametrize(("orders", "kind", "why"), [
+    ([0, 1], ValueError, r"orders should have a row for each sequence of jobs, not the shape \(2,\)"),
+    ([[0, 1], [0]], ValueError, "orders can't be made an array"),
+    ([[0, 1], [1, 3]], ValueError, "orders, row 1: 3 at place 1 isn't a job: they are 0 to 2"),
+    ([[0, 1], [2, 2]], ValueError, "orders, row 1: job 2 stands at place 0 and again at place 1"),
+    ([[0, -1]], ValueError, "orders: -1 at row 0, place 1 isn't a job"),
+    ([[0, 2**32]], ValueError, "orders: 4294967296 at row 0, place 1 isn't a job"),
+    ([[0, 0.5]], ValueError, "orders: 0.5 at row 0, place 1 isn't a whole number"),
+    ([[True, False]], TypeError, "orders should be whole numbers, not of the kind bool"),
+    ([["a"]], TypeError, "orders should be whole numbers"), (None, ValueError, "orders should have a row"),
+    (np.zeros((2, 100_000), dtype=np.uint32), ValueError, "orders, row 0: job 0 stands at place 0 and again")])
+def test_rows_of_orders_that_are_refused(orders: Any, kind: type[Exception], why: str) -> None:
+    with pytest.raises(kind, match=why):
+        pfs.Instance(TIMES).makespans(orders)
 
 
 @pytest.mark.parametrize(("words", "kind", "why"), [
@@ -370,11 +388,16 @@ def refused_everywhere(shop: pfs.Instance) -> dict[str, Callable[[], Any]]:
         "pfs_table": lambda: shop.schedule([0, 1, 2]), "pfs_rounds": lambda: shop.solve(1, start=[0, 1, 2]),
         "pfs_insert": lambda: shop.best_place([0, 1], 2), "pfs_generate": lambda: pfs.generate(2, 2, 1),
         "pfs_read": lambda: pfs.read(io.BytesIO(b"1 1 0 0 0\n1\n"), "taillard"), "pfs_write": shop.to_text,
+        "pfs_insertions": lambda: shop.places([0, 1], 2), "pfs_makespans": lambda: shop.makespans([[0, 1, 2]]),
         "pfs_read_order": lambda: pfs.read_order(io.BytesIO(b"order 1\n1\nmakespan 1\n")),
         "pfs_write_order": lambda: pfs.Solution([0], 1).to_text()}
 
 
-@pytest.mark.parametrize("name", _library.PROTOTYPES)
+# Nothing of the package calls this one.
+CALLED = [name for name in _library.PROTOTYPES if name != "pfs_random"]
+
+
+@pytest.mark.parametrize("name", CALLED)
 def test_memory_that_is_refused_is_a_memory_error(monkeypatch: pytest.MonkeyPatch, name: str) -> None:
     """Each function may return this number."""
     shop = pfs.Instance(TIMES)
@@ -387,7 +410,7 @@ def test_memory_that_is_refused_is_a_memory_error(monkeypatch: pytest.MonkeyPatc
         call()
 
 
-@pytest.mark.parametrize("name", _library.PROTOTYPES)
+@pytest.mark.parametrize("name", CALLED)
 def test_another_answer_of_the_library_is_told(monkeypatch: pytest.MonkeyPatch, name: str) -> None:
     """By its text, where no argument explains it."""
     call = refused_everywhere(pfs.Instance(TIMES))[name]

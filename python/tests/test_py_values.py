@@ -96,6 +96,23 @@ def test_best_place(case: tuple[plainly.Table, list[int]], chance: random.Random
         assert pfs.Instance(times).best_place(sequence, job) == plainly.best_place(times, sequence, job)
 
 
+@given(plainly.shops_and_sequences(), st.randoms(use_true_random=False))
+def test_places(case: tuple[plainly.Table, list[int]], chance: random.Random) -> None:
+    times, sequence = case
+    for job in set(range(len(times))) - set(sequence):
+        spans = pfs.Instance(times).places(sequence, job)
+        due = [plainly.makespan(times, [*sequence[:at], job, *sequence[at:]]) for at in range(len(sequence) + 1)]
+        assert spans.tolist() == due and spans.dtype == np.int64
+
+
+@given(plainly.shops(), st.data())
+def test_makespans(times: plainly.Table, data: st.DataObject) -> None:
+    length = data.draw(st.integers(0, len(times)))
+    rows = data.draw(st.lists(st.permutations(range(len(times))).map(lambda order: order[:length]), max_size=5))
+    spans = pfs.Instance(times).makespans(np.array(rows, dtype=np.int64).reshape(len(rows), length))
+    assert spans.tolist() == [plainly.makespan(times, row) for row in rows] and spans.dtype == np.int64
+
+
 @given(plainly.shops_and_orders())
 def test_schedule(case: tuple[plainly.Table, list[int]]) -> None:
     times, order = case

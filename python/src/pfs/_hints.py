@@ -66,8 +66,7 @@ def hint_of_rows(text: bytes, layout: int, start: int, line: int) -> str:
     for number, row in enumerate(text.split(b"\n")[at:line], at + 1):
         count = len(row.split()) if NUMBER_LINE.match(row) else 0
         if count == machines != due and layout == c.LAYOUTS["orlib"]:
-            return (f"line {number} has {count} numbers: perhaps times alone, where pairs of a machine and a time "
-                    "are due")
+            return f"line {number} has {count} numbers: perhaps times alone, and not pairs of machine and time"
         if count not in (0, due):
             return f"line {number} has {count} numbers, and a row of this block {due}"
     return ""

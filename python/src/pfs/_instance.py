@@ -13,7 +13,8 @@ from pfs import _library as c
 from pfs import _search
 from pfs._bounds import bound_by_pairs
 from pfs._faults import Interrupted
-from pfs._given import TRUTHS, Jobs, Order, layout_of, order_of, packed, refused_jobs, times_of, whole
+from pfs._given import (TRUTHS, Jobs, Order, copied, layout_of, order_of, packed, refused_jobs, times_of, whole,
+                        whole_numbers)
 from pfs._library import LENGTHS, SHORT, library
 from pfs._names import frame_names, is_frame, names_of
 from pfs._schedule import Schedule
@@ -306,6 +307,84 @@ class Instance:
         best = _new_tuple(Place, (found[0].value, found[1].value))
         _free.append(found)
         return best
+
+    def places(self, sequence: Jobs, job: int) -> Order:
+        """The makespans with a job at each place of a sequence of others.
+
+        Parameters
+        ----------
+        sequence : array_like
+            Distinct jobs, counted from 0.
+        job : int
+            Another job.
+
+        Returns
+        -------
+        numpy.ndarray
+            Of int64, one more than the sequence has jobs: at each place the makespan with the job before the one that
+            is there, and at the end with the job after the last. The first least one is that of :meth:`best_place`.
+
+        Raises
+        ------
+        TypeError, ValueError
+            The sequence isn't a list of distinct jobs, or the job isn't another one; the text says which and where.
+
+        Examples
+        --------
+        >>> import pfs
+        >>> pfs.Instance([[3, 2], [2, 5], [4, 1]]).places([0, 2], 1)
+        array([10, 11, 14])
+        """
+        jobs, count = packed(sequence, "sequence")
+        job = whole(job, "job", 0, self.jobs - 1)
+        spans = np.empty(min(count, self.jobs) + 1, dtype=np.int64)
+        number = library.pfs_insertions(*self._given, jobs, min(count, self.jobs), job, spans.ctypes.data, spans.size)
+        if number:
+            fault = refused_jobs(number, self.jobs, jobs, "sequence")
+            if number == c.REPEATED and fault.args == (c.message(number),):
+                raise ValueError(f"job {job} stands in the sequence already")
+            raise fault
+        return spans
+
+    def makespans(self, orders: npt.ArrayLike) -> Order:
+        """The makespans of many sequences of equal length, in one call.
+
+        Parameters
+        ----------
+        orders : array_like
+            A row for each sequence, of distinct jobs counted from 0: all of them or some.
+
+        Returns
+        -------
+        numpy.ndarray
+            Of int64, the makespan of each row.
+
+        Raises
+        ------
+        TypeError, ValueError
+            It isn't a table of jobs, or a row isn't of distinct jobs; the text says which row.
+
+        Examples
+        --------
+        >>> import pfs
+        >>> pfs.Instance([[3, 2], [2, 5], [4, 1]]).makespans([[0, 1, 2], [1, 0, 2]])
+        array([11, 10])
+        """
+        own = copied(orders, "orders")
+        if own.ndim != 2:
+            raise ValueError(f"orders should have a row for each sequence of jobs, not the shape {own.shape}")
+        if own.dtype.kind == "b":
+            raise TypeError("orders should be whole numbers, not of the kind bool")
+        jobs = whole_numbers(own, 2**32 - 1, "orders", "row {}, place {}", "isn't a job: they count from 0")
+        rows = jobs.tobytes()
+        spans = np.empty(len(jobs), dtype=np.int64)
+        number = library.pfs_makespans(*self._given, rows, jobs.size, jobs.shape[1], spans.ctypes.data, spans.size)
+        if number in (c.JOB, c.REPEATED):
+            for row, sequence in enumerate(jobs):
+                if library.pfs_makespan(*self._given, sequence.tobytes(), len(sequence), byref(c_uint64())):
+                    raise refused_jobs(number, self.jobs, sequence.tobytes(), f"orders, row {row}")
+        c.done(number)
+        return spans
 
     def solve(self, rounds: int | None = None, *, take: int | None = None, passes: int = 0, seed: int = 0,
               start: Jobs | None = None, first: int = 0, progress: Progress | None = None,

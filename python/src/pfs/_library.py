@@ -50,11 +50,14 @@ SHOP = [c_void_p, c_size_t, c_size_t, c_size_t]
 LIST = [c_void_p, c_size_t]
 PROTOTYPES = {
     "pfs_makespan": [*SHOP, *LIST, c_void_p],
+    "pfs_makespans": [*SHOP, *LIST, c_size_t, *LIST],
     "pfs_bound": [*SHOP, c_void_p],
     "pfs_table": [*SHOP, *LIST, *LIST, *LIST],
     "pfs_neh": [*SHOP, *LIST, c_void_p, c_void_p],
     "pfs_rounds": [*SHOP, *LIST, c_uint32, c_uint32, c_size_t, c_uint32, c_uint64, c_void_p, c_void_p],
     "pfs_insert": [*SHOP, *LIST, c_uint32, c_void_p, c_void_p],
+    "pfs_insertions": [*SHOP, *LIST, c_uint32, *LIST],
+    "pfs_random": [c_uint64, c_uint64, *LIST],
     "pfs_generate": [c_size_t, c_size_t, c_uint64, *LIST],
     "pfs_read": [*LIST, c_uint32, c_size_t, c_void_p, c_void_p, c_void_p, *LIST, c_void_p],
     "pfs_write": [*SHOP, c_void_p, c_uint32, *LIST, c_void_p],
