@@ -92,6 +92,15 @@ WRONG_TABLES = {
                                  "the times of the machine are in no unit, and others are in min: use one unit"),
     "another unit than the table's": ("job [h];saw;drill [min]\na;3;2\n", 1, 3,
                                       "the times of the machine are in min, and others are in h: use one unit"),
+    "machines without names": ("job;;\na;1;2\nb;3;4\n", 1, 2, "the machine has no name"),
+    "a machine without a name": ("job [h];\na;1\nb;5\n", 1, 2, "the machine has no name"),
+    "machines without names, and another word": (
+        "Auftrag;;\na;1;2\nb;3;4\n", 2, 2,
+        f"the names of the machines are numbers, as if the row of names {ADD}"),
+    "two units in German": ("job;saw [Stunden];drill [Minuten]\na;3;2\n", 1, 3,
+                            "the times of the machine are in Minuten, and others are in Stunden: use one unit"),
+    "two units in French": ("job;saw (heures);drill (minutes)\na;3;2\n", 1, 3,
+                            "the times of the machine are in minutes, and others are in heures: use one unit"),
     "hours beside numbers": ("job;saw\na;1:30\nb;2\n", 3, 2,
                              "'2' isn't hours and minutes, as other times of the table are"),
     "61 minutes": ("job;saw\na;1:30\nb;1:61\n", 3, 2,
@@ -117,6 +126,7 @@ RIGHT_TABLES = {
     "tabs": ("job\tsaw\tdrill\na\t3\t1,5\n", [[30, 15]]),
     "a name with a semicolon": ('job,saw,drill\n"a;b",3,2\nc,1,1\n', [[3, 2], [1, 1]]),
     "empty columns at the right": ("job;saw;;\na;3;;\nb;2\n;;;\n", [[3], [2]]),
+    "a title above numbered machines": ("Plan\njob;1;2\na;3;2\nb;1;4\n", [[3, 2], [1, 4]]),
     "titles": ("Plan, week 48\nof the workshop;;\njob;saw;drill\na;3;2\nb;1;4\n", [[3, 2], [1, 4]]),
     "hours and minutes": ("job;saw;drill\na;1:30;0:05\n", [[90, 5]]),
 }
@@ -255,3 +265,10 @@ def test_other_encodings_are_rejected(tmp_path: pathlib.Path) -> None:
     with pytest.raises(pfs.TableFault) as fault:
         pfs.read_csv(tmp_path / "file")
     assert (fault.value.line, fault.value.text) == (2, f"isn't text in UTF-8: {SAVE_AS}")
+
+
+@pytest.mark.parametrize("text", ["0.500", "0.125.000", "00.500"])
+def test_zeros_group_no_thousands(tmp_path: pathlib.Path, text: str) -> None:
+    with pytest.raises(pfs.TableFault) as fault:
+        pfs.read_csv(written(tmp_path, f"job;saw\na;2,5\nb;{text}\n"), decimal=",")
+    assert (fault.value.line, fault.value.column, fault.value.text) == (3, 2, f"{text!r} is no time")

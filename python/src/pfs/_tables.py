@@ -15,7 +15,12 @@ from pfs._instance import Instance
 
 UNIT = re.compile(r"\s*[\[(]([^\[\]()]+)[\])]\s*\Z")
 # Units that machines may name. Other words in brackets, as in "drill (left)", belong to the machine's name.
-UNITS_OF_TIME = {"s", "sec", "sek", "seconds", "min", "minutes", "h", "hr", "hours", "std", "d", "days"}
+UNITS_OF_TIME = set("""
+    s sec secs second seconds sek sekunde sekunden seconde secondes segundo segundos secondo secondi
+    min mins minute minutes minuten minuto minutos minuti
+    h hr hrs hour hours std stunde stunden heure heures hora horas ora ore uur uren
+    d day days tag tage jour jours día días dia dias giorno giorni dag dagen
+""".split())
 NUMBER = re.compile(r"([0-9]{1,20})(?:([.,])([0-9]{1,20}))?\Z", re.ASCII)
 CLOCK = re.compile(r"([0-9]{1,6}):([0-5][0-9])\Z", re.ASCII)
 CLOCK_UNITS = ("", "min", "h", "h:mm", "hh:mm")
@@ -27,6 +32,8 @@ TOTAL = re.compile(r"(sums?|totals?|summe|gesamt|somme|suma|totale|totaal|Σ)\b"
 SAYS_JOB = re.compile(r"(jobs?)?\Z", re.IGNORECASE)
 # What files begin with that are no text: spreadsheets' own formats, which are archives or compound documents.
 SPREADSHEETS = (b"PK\x03\x04", b"\xd0\xcf\x11\xe0")
+TIMES_AS_NAMES = ("the names of the {what}s are numbers, as if the {part} of names were missing: add it, or write "
+                  "`job` into the first cell of the table")
 SAVE_AS = "save it as CSV UTF-8 (Excel), or as CSV with the character set Unicode (UTF-8) (LibreOffice)"
 
 
@@ -192,10 +199,22 @@ def rows_of(text: str, path: str) -> Rows:
         raise TableFault(path, reader.line_num, 0, f"isn't a row of a table: {error}") from None
     if not rows:
         raise TableFault(path, 1, 0, "the table is empty")
-    while any(any(row[1:]) for _, row in rows) and not any(rows[0][1][1:]):
-        del rows[0]
+    rows = without_titles(rows, path)
     width = max(column for _, row in rows for column, cell in enumerate(row, 1) if cell)
     return Rows(path, [(line, row[:width]) for line, row in rows], delimiter)
+
+
+def without_titles(rows: list[tuple[int, list[str]]], path: str) -> list[tuple[int, list[str]]]:
+    """The rows from the one with the names of the machines on. If these names are missing, that row looks like a title
+    and the first job like the names, which would lose the job: a `TableFault`."""
+    first = next((at for at, (_, row) in enumerate(rows) if any(row[1:])), 0)
+    for line, row in rows[:first]:
+        if row[0] and SAYS_JOB.match(UNIT.sub("", row[0])):
+            raise TableFault(path, line, 2, "the machine has no name")
+    line, head = rows[first]
+    if first and all(is_time(name) for name in head[1:] if name) and not SAYS_JOB.match(UNIT.sub("", head[0])):
+        raise TableFault(path, line, 2, TIMES_AS_NAMES.format(what="machine", part="row"))
+    return rows[first:]
 
 
 def names_in(path: str, cells: Iterable[Cell], what: str) -> list[str]:
@@ -242,9 +261,7 @@ def reject_times_as_names(table: Rows, machines: Sequence[str], jobs: Sequence[s
                                             (jobs, "job", "column", table.rows[1][0], 1)):
         counted = [[str(at) for at in range(start, start + len(names))] for start in (0, 1)]
         if all(is_time(name) for name in names) and list(names) not in counted:
-            raise TableFault(table.path, line, column,
-                             f"the names of the {what}s are numbers, as if the {part} of names were missing: add it, "
-                             "or write `job` into the first cell of the table")
+            raise TableFault(table.path, line, column, TIMES_AS_NAMES.format(what=what, part=part))
 
 
 def times_of(table: Rows, decimal: str | None, unit: str) -> tuple[list[list[int]], int, str]:
@@ -323,7 +340,7 @@ class DecimalSign:
     def without_groups(self, text: str) -> str:
         """A number without its thousands separators."""
         other = "," if self.given == "." else "."
-        grouped = rf"[0-9]{{1,3}}(?:\{other}[0-9]{{3}})+(?:\{self.given}[0-9]+)?\Z"
+        grouped = rf"(?!0)[0-9]{{1,3}}(?:\{other}[0-9]{{3}})+(?:\{self.given}[0-9]+)?\Z"
         return text.replace(other, "") if re.match(grouped, text, re.ASCII) else text
 
 
