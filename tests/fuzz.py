@@ -1,9 +1,9 @@
 #!/usr/bin/env python3
-"""Runs the built program and the second program of tests/support/second_program.py on random files, command lines and
-cuttings, and compares standard output, standard error and exit status byte for byte. The files are instance files and
-order files as the layouts allow them, and such files with bytes changed; the program reads them whole, or through a
-pipe that gets its next piece once the last one has been read. Ends at the first case on which the two differ, which it
-makes small, keeps in a folder, and prints with the line that runs it again.
+"""Runs the built program and the second program (tests/support/second_program.py) on random files and command lines,
+and compares standard output, standard error and exit status byte for byte. The files are valid instance files and order
+files, and such files with changed bytes. The program reads them whole, or in random pieces through a pipe, each piece
+after the last one was read. Stops at the first case on which the two programs differ. It reduces the case, stores it in
+a folder, and prints it with the command that repeats it.
 
 usage: tests/fuzz.py [--seconds N] [--seed N] [--program PATH] [--case FILE]"""
 import argparse
@@ -36,10 +36,10 @@ MOST_PASSES = 20
 MIB = 1 << 20
 # A pipe holds more than a piece.
 LONGEST_PIECE = 16_384
-# A program that takes longer hangs.
+# The time limit of a program.
 MOST_SECONDS = 60
 
-# Each kind of answer, numbers apart.
+# Each kind of output, with X for numbers.
 KINDS = [
     "makespan X", "orderX X X", "valid", "wrong makespan", "wrong machines", "wrong size", "table X X",
     "flow shop instance",
@@ -78,7 +78,7 @@ class Case:
         return text, told, status
 
     def is_quick(self) -> bool:
-        """Whether the second program answers soon."""
+        """Whether the second program is fast on this case."""
         try:
             command, options, others = second_program.asked_for(self.words) if self.words else (b"value", {}, [])
         except Stop:
@@ -229,13 +229,13 @@ class Writer:
         return b"0" * self.random.choice([0] * 12 + [1, 2, 30]) + b"%d" % value
 
     def spaced(self, numbers: Iterable[bytes]) -> bytes:
-        """The numbers as a line, with blanks between, and perhaps before and behind."""
+        """The numbers as a line, with blanks between them and perhaps at the ends."""
         text = b"".join(self.blank() + number for number in numbers)
         text = text if self.chance(0.1) else text[1:] if text[:1] == b" " else text
         return text + (self.blank() if self.chance(0.1) else b"")
 
     def blank(self) -> bytes:
-        """What parts numbers, or stands before or behind them."""
+        """Blanks that separate numbers, or precede or follow them."""
         return self.random.choice(BLANKS) if self.chance(0.2) else b" "
 
     def skipped(self, titles: list[bytes]) -> list[bytes]:
@@ -273,7 +273,7 @@ class Writer:
         return lines
 
     def file(self, shops: list[Instance]) -> bytes:
-        """A file of blocks of these shops, and perhaps something behind."""
+        """A file with a block for each of these instances, and perhaps more text at the end."""
         end = self.random.choice([b"\n", b"\n", b"\n", b"\r\n"])
         lines = [line for shop in shops for line in self.block(shop)]
         text = end.join(lines) + (end if self.chance(0.9) else b"")
@@ -399,8 +399,8 @@ class Line:
         return options + ([[b"--cells"]] if self.random.random() < 0.6 else [])
 
     def mixed(self, command: bytes, options: list[list[bytes]], paths: list[bytes]) -> list[bytes]:
-        """The options in any order before, between and behind the paths, which may be behind `--`, and are if they
-        look like options."""
+        """The options in any order before, between and after the paths. The paths may follow `--`, and do if they look
+        like options."""
         random = self.random
         random.shuffle(options)
         if random.random() < 0.1 or any(path.startswith(b"--") for path in paths):
@@ -518,7 +518,7 @@ def differs(program: pathlib.Path, case: Case) -> bool:
 
 
 def smaller(program: pathlib.Path, case: Case, end: float) -> Case:
-    """A case that is no greater, and on which the two programs still differ."""
+    """A reduced case, of at most the same size, on which the two programs still differ."""
     has_changed = True
     while has_changed and time.monotonic() < end:
         has_changed = False
@@ -652,10 +652,10 @@ def search(program: pathlib.Path, seed: int, seconds: float, numbers: Iterable[i
 
 
 def are_known(kinds: collections.Counter[str]) -> bool:
-    """Whether these kinds of answers are known. Tells those that aren't, and those that weren't met."""
+    """Whether all these kinds of output are known. Print those that aren't, and those that didn't occur."""
     missing = [kind for kind in KINDS if not kinds[kind]]
     if missing:
-        print(f"kinds of answers that were not met: {missing}")
+        print(f"kinds of output that did not occur: {missing}")
     unknown = [kind for kind in kinds if kind not in KINDS]
     if unknown:
         print(f"kinds of answers that are not known: {unknown}")

@@ -1,7 +1,7 @@
 #!/usr/bin/env python3
-"""How soon tests/fuzz.py finds bugs: plants each of these in a copy of the sources, builds it without proofs, and
-tells after how many seconds the two programs differed. The copies are slow, so no file is great. No part of
-`make test`.
+"""Measures how soon tests/fuzz.py finds bugs. Plants each bug in a copy of the sources, builds it without proofs, and
+prints after how many seconds the two programs differed. The copies are slow, so the files are small. `make test`
+doesn't run this.
 
 usage: tests/planted.py [--seconds N] [--seed N]"""
 import argparse

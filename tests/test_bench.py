@@ -86,8 +86,8 @@ MOST_SECONDS = 600
 
 
 class Compiled(NamedTuple):
-    """The errors of a crate, each with its file and without the help behind it, and whether the crate's test was
-    compiled and has run."""
+    """The errors of a crate, each with its file and without the help text after it, and whether the crate's test was
+    compiled and run."""
     errors: list[tuple[str, str]]
     has_run: bool
 
@@ -145,12 +145,12 @@ def test_a_sum_by_the_bench_compiles(top: pathlib.Path, folder: pathlib.Path, pr
 @pytest.mark.seconds(10)
 @pytest.mark.xdist_group("bench")
 @pytest.mark.parametrize("name", REFUSED)
-def test_no_compilation(refused: Compiled, name: str) -> None:
+def test_a_function_over_any_bench_is_rejected(refused: Compiled, name: str) -> None:
     assert errors_of(refused, name) == [REFUSED[name][1]]
 
 
 @pytest.mark.seconds(20)
 @pytest.mark.xdist_group("lanes")
 @pytest.mark.parametrize("name", REFUSED_LANES)
-def test_no_compilation_over_lanes(refused_lanes: Compiled, name: str) -> None:
+def test_a_function_over_any_bench_of_lanes_is_rejected(refused_lanes: Compiled, name: str) -> None:
     assert errors_of(refused_lanes, name) == [REFUSED_LANES[name][1]]

@@ -1,5 +1,5 @@
-"""tools/build over a small repository, with a program in the place of `rt` that notes each call: crates are built
-behind those that they stand on, side by side where they may be, and how it ended is told."""
+"""tools/build in a small repository, with a program that replaces `rt` and notes each call: crates are built after
+their dependencies, in parallel if possible, and the result is reported."""
 import importlib.machinery
 import importlib.util
 import os
@@ -17,15 +17,16 @@ from support.tools import write_script
 
 CRATES = """low: thiserror
 left: low
-right: low   # beside left
+right: low   # in parallel with left
 app: left right
 other: low
 for_c staticlib: low
 """
-# What stands for rt: it needs each crate that crates.txt names; it holds its crate's folder and that of `low`, as rt
-# holds all crates below; it notes its words and whether `nice` ran it, says that it has proved the crate, if it isn't
-# built (of a program on standard error, as rt does), and fails where it is told to. In a first build each of `left` and
-# `right` waits until the other has begun. What it keeps of a check are links to a file that all checkouts share.
+# The replacement of rt. It needs each crate that crates.txt names. It locks its crate's folder and that of `low`, as rt
+# locks all crates below. It notes its arguments and whether `nice` ran it, and prints that it has proved the crate if
+# the crate isn't built (for a program on standard error, as rt does). It fails if the crate has a file `failing`. In a
+# first build each of `left` and `right` waits until the other has begun. The results of a check are links to a file
+# that all checkouts share.
 RT = """#!/bin/sh
 crate=${PWD##*/}
 for named in $(sed 's/[ :#].*//' ../../crates.txt); do
@@ -70,7 +71,7 @@ exec "$@"
 
 @pytest.fixture
 def repository(folder: pathlib.Path, top: pathlib.Path) -> pathlib.Path:
-    """A repository of six crates, in which tools/build runs a program of its own for `rt`."""
+    """A repository of six crates, in which tools/build runs the replacement of `rt`."""
     for crate in ("low", "left", "right", "app", "other", "for_c"):
         (folder / "crates" / crate).mkdir(parents=True)
     (folder / "crates.txt").write_text(CRATES)
@@ -93,7 +94,7 @@ def notes(repository: pathlib.Path) -> list[str]:
     return (repository / "notes").read_text().splitlines()
 
 
-def test_crates_are_built_behind_those_they_stand_on(repository: pathlib.Path) -> None:
+def test_crates_are_built_after_their_dependencies(repository: pathlib.Path) -> None:
     """A crate begins once those below it have ended, and the two in the middle begin before either has ended."""
     done = build(repository, "app")
     assert (done.returncode, done.stdout) == (0, "what app reads\n")
@@ -105,7 +106,7 @@ def test_crates_are_built_behind_those_they_stand_on(repository: pathlib.Path) -
 
 
 def test_the_crate_with_the_longest_chain_above_it_goes_first(repository: pathlib.Path) -> None:
-    """What is built beside it takes only the processors that it leaves idle."""
+    """The crates that are built at the same time run at the lowest priority."""
     crates = (repository / "crates.txt").read_text()
     (repository / "crates.txt").write_text(crates.replace("app: left right", "above: left\napp: above right"))
     (repository / "crates" / "above").mkdir()
@@ -171,14 +172,14 @@ def imported(path: pathlib.Path) -> Any:
     return module
 
 
-def test_each_crate_is_told_with_its_time_and_how_many_are_left(repository: pathlib.Path) -> None:
+def test_each_crate_is_reported_with_its_time_and_the_number_left(repository: pathlib.Path) -> None:
     told = re.sub(r" in \d+:\d\d minutes", "", build(repository, "app").stderr)
     crates, ended = zip(*(line.split(": ") for line in told.splitlines()))
     assert (crates[0], {*crates[1:3]}, crates[3]) == ("low", {"left", "right"}, "app")
     assert ended == tuple(f"proved and built, {left} left" for left in (3, 2, 1, 0))
 
 
-def test_what_was_built_before_is_not_told(repository: pathlib.Path) -> None:
+def test_a_crate_that_was_built_before_is_not_reported(repository: pathlib.Path) -> None:
     build(repository, "app")
     (repository / "crates" / "app" / "out" / "rlib" / "stamp").unlink()
     told = build(repository, "app").stderr
@@ -186,7 +187,7 @@ def test_what_was_built_before_is_not_told(repository: pathlib.Path) -> None:
 
 
 def test_crates_may_have_been_checked_before_they_are_built(repository: pathlib.Path) -> None:
-    """What a check kept of a crate and what its build in a copy keeps may be links to the same files."""
+    """The results of a check of a crate and those of its build in a copy may be links to the same files."""
     (repository / "kept").write_text("what was checked\n")
     parts = [repository / "crates" / crate / "out" / "incremental" / "part" for crate in ("left", "right")]
     for part in parts:
@@ -199,7 +200,7 @@ def test_crates_may_have_been_checked_before_they_are_built(repository: pathlib.
 
 
 def test_crates_that_were_built_before_wait_for_each_other(repository: pathlib.Path) -> None:
-    """A build that isn't the first works in place: none is left in a copy, whose work would be lost."""
+    """Only the first build works in a copy. Later builds work in place."""
     build(repository, "app")
     (repository / "notes").unlink()
     for crate in ("left", "right"):
@@ -215,7 +216,7 @@ def test_a_static_library_is_built_and_not_run(repository: pathlib.Path) -> None
     assert notes(repository)[-2:] == ["begin for_c lib", "end for_c lib"]
 
 
-def test_a_crate_that_fails_is_told_and_none_above_it_begins(repository: pathlib.Path) -> None:
+def test_a_crate_that_fails_is_reported_and_none_above_it_begins(repository: pathlib.Path) -> None:
     (repository / "crates" / "left" / "failing").touch()
     done = build(repository, "app")
     assert done.returncode == 1
@@ -225,12 +226,12 @@ def test_a_crate_that_fails_is_told_and_none_above_it_begins(repository: pathlib
     assert not any("app" in line for line in notes(repository))
 
 
-def test_a_program_that_is_no_crate_is_refused(repository: pathlib.Path) -> None:
+def test_an_unknown_crate_is_rejected(repository: pathlib.Path) -> None:
     done = build(repository, "none")
     assert (done.returncode, done.stdout, done.stderr) == (1, "", "build: crates.txt names no crate none\n")
 
 
-def test_a_machine_without_the_kit_is_told(repository: pathlib.Path) -> None:
+def test_a_missing_kit_is_reported(repository: pathlib.Path) -> None:
     (repository / "bin" / "rt").unlink()
     done = build(repository, "app", path="/usr/bin:/bin")
     assert done.returncode == 1

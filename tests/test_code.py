@@ -11,7 +11,7 @@ from support.needs import need
 from support.tree import files_below
 
 TOP = pathlib.Path(__file__).resolve().parent.parent
-# What isn't the repository's, or is no script.
+# Folders that aren't part of the repository or have no scripts.
 PASSED_OVER = {"out", "dist", "__pycache__", "crates", "docs"}
 # By what their first lines name, or by the endings of their names.
 KINDS = {"python3": "python", "sh": "shell", "bash": "shell"}
@@ -43,7 +43,7 @@ def kind_of(path: pathlib.Path) -> str:
 
 
 def assert_silent(words: list[str]) -> None:
-    """This finds nothing wrong."""
+    """The checker succeeds and prints nothing."""
     done = subprocess.run(words, cwd=TOP, stdout=subprocess.PIPE, stderr=subprocess.STDOUT, text=True)
     assert done.stdout == "", f"what {words[0]} says"
     assert done.returncode == 0

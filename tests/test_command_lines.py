@@ -1,5 +1,5 @@
-"""Command lines: what each prints on standard output and on standard error, and its exit status; and what is told where
-either of them is full."""
+"""The output, the errors and the exit status of each command line, and of runs whose standard output or standard error
+is full."""
 import pathlib
 import subprocess
 
@@ -9,13 +9,13 @@ from support.lines import ANSWERS, PRINTING, refused, unwritten
 from support.needs import need
 from support.program import Program, Ran
 
-# A text that is no longer is cut at each of its bytes; a longer one where this buffer's ends are, and at a few others.
+# A text up to this length is cut at each byte. A longer text is cut at the ends of the buffer and at a few other bytes.
 SHORT_TEXT = 200
 BUFFER = 8_192
 
 
 def cuts(length: int) -> list[int]:
-    """How many bytes of a text of this length go out before a write fails."""
+    """The numbers of bytes after which a write of a text of this length is made to fail."""
     if length <= SHORT_TEXT:
         return list(range(length))
     ends = {end + near for end in range(BUFFER, length, BUFFER) for near in (-1, 0, 1)}
@@ -26,8 +26,8 @@ CUT = [(line, most) for line in PRINTING for most in cuts(len(ANSWERS[line].stdo
 
 
 def run_into_file(pfs: Program, line: str, worked: pathlib.Path, file: pathlib.Path, most: int) -> Ran:
-    """A run into a file that takes at most so many bytes, with what the file then has. The program inherits from Python
-    that the signal for a longer file is ignored."""
+    """Run the program with a file of at most this size as its output; `stdout` of the result has the file's contents.
+    Python ignores SIGXFSZ, and the program inherits that."""
     limiting = Program(pathlib.Path(need("prlimit")))
     words = [f"--fsize={most}", "--", *pfs.words(line)]
     with open(file, "wb") as output:
@@ -37,7 +37,7 @@ def run_into_file(pfs: Program, line: str, worked: pathlib.Path, file: pathlib.P
 
 @pytest.fixture(scope="module")
 def worked_once(tmp_path_factory: pytest.TempPathFactory) -> pathlib.Path:
-    """The worked files for many tests, none of which writes there."""
+    """The worked files, for tests that don't write into their folder."""
     made = tmp_path_factory.mktemp("worked")
     make_files(made)
     return made
@@ -45,52 +45,50 @@ def worked_once(tmp_path_factory: pytest.TempPathFactory) -> pathlib.Path:
 
 @pytest.mark.quick
 @pytest.mark.parametrize("line", ANSWERS)
-def test_line(pfs: Program, worked: pathlib.Path, line: str) -> None:
+def test_a_line_has_its_output_errors_and_status(pfs: Program, worked: pathlib.Path, line: str) -> None:
     assert pfs.run(line, worked) == ANSWERS[line]
 
 
-def test_a_word_that_is_no_utf_8(pfs: Program, worked: pathlib.Path) -> None:
+def test_an_argument_that_is_not_utf_8_is_rejected(pfs: Program, worked: pathlib.Path) -> None:
     assert pfs.run(["value", "--layout", "taillard", b"three\xff"], worked) == Ran(b"", USAGE, 3)
 
 
-def test_no_words(pfs: Program, folder: pathlib.Path) -> None:
+def test_without_arguments_standard_input_is_evaluated(pfs: Program, folder: pathlib.Path) -> None:
     assert pfs.run([], folder, THREE_JOBS) == Ran(b"makespan 11\n", b"", 0)
 
 
-def test_no_words_and_no_input(pfs: Program, folder: pathlib.Path) -> None:
+def test_without_arguments_an_empty_input_is_rejected(pfs: Program, folder: pathlib.Path) -> None:
     assert pfs.run([], folder) == refused("no block, found 0", 2)
 
 
 @pytest.mark.parametrize("line", PRINTING)
-def test_full_output(pfs: Program, worked: pathlib.Path, line: str) -> None:
-    """An output that takes no byte."""
+def test_a_full_output_is_a_failed_write(pfs: Program, worked: pathlib.Path, line: str) -> None:
     with open("/dev/full", "wb") as full:
         assert pfs.run(line, worked, stdout=full) == unwritten(0)
 
 
 @pytest.mark.parametrize(("line", "most"), CUT, ids=[f"{line}, {most} bytes" for line, most in CUT])
-def test_cut_output(pfs: Program, worked_once: pathlib.Path, folder: pathlib.Path, line: str, most: int) -> None:
-    """An output that takes the first bytes alone: nothing but these goes out, and they are counted."""
+def test_a_failed_write_reports_the_bytes_written(pfs: Program, worked_once: pathlib.Path, folder: pathlib.Path,
+                                                  line: str, most: int) -> None:
+    """Into a file that takes only the first bytes."""
     wanted = unwritten(most)._replace(stdout=ANSWERS[line].stdout[:most])
     assert run_into_file(pfs, line, worked_once, folder / "output", most) == wanted
 
 
 @pytest.mark.parametrize("line", PRINTING)
-def test_output_of_the_length_of_the_text(pfs: Program, worked: pathlib.Path, folder: pathlib.Path,
-                                          line: str) -> None:
-    """An output that takes all bytes, and no more."""
+def test_a_file_with_just_enough_room_gets_the_whole_text(pfs: Program, worked: pathlib.Path, folder: pathlib.Path,
+                                                          line: str) -> None:
     assert run_into_file(pfs, line, worked, folder / "output", len(ANSWERS[line].stdout)) == ANSWERS[line]
 
 
 @pytest.mark.parametrize("line", [line for line in ANSWERS if line not in PRINTING])
-def test_full_errors(pfs: Program, worked: pathlib.Path, line: str) -> None:
-    """Standard error takes no byte: the status stays."""
+def test_the_status_is_the_same_if_standard_error_is_full(pfs: Program, worked: pathlib.Path, line: str) -> None:
     with open("/dev/full", "wb") as full:
         ran = pfs.run(line, worked, stdout=subprocess.DEVNULL, stderr=full)
     assert ran.status == ANSWERS[line].status
 
 
 @pytest.mark.parametrize("line", PRINTING)
-def test_full_output_and_errors(pfs: Program, worked: pathlib.Path, line: str) -> None:
+def test_status_4_if_both_outputs_are_full(pfs: Program, worked: pathlib.Path, line: str) -> None:
     with open("/dev/full", "wb") as full:
         assert pfs.run(line, worked, stdout=full, stderr=full).status == 4

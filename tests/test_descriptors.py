@@ -1,6 +1,6 @@
-"""What a filter meets around its files: closed descriptors, pipes whose other end is gone or waits, folders, devices,
-files that may not be read or that shrink, signals, and the longest command lines that Linux passes on. Each run has
-its exact output, errors and status."""
+"""Unusual descriptors and files: closed descriptors, pipes whose other end is closed or waits, folders, devices, files
+without permission or that shrink, signals, and the longest command lines that Linux allows. Each run is checked for its
+exact output, errors and status."""
 import os
 import pathlib
 import resource
@@ -17,7 +17,7 @@ from support.pipes import PAGE, first_opened, opened_for_writing, page_pipe, unr
 from support.program import Program, Ran, Words, ended
 
 NOBODY = 65_534
-# How often a program is started that has to be stopped in time.
+# The number of attempts to stop a program in time.
 MOST_STARTS = 100
 # The longest word that Linux passes on, without its end, and how many words are many.
 LONGEST_WORD = 131_071
@@ -27,7 +27,7 @@ ELEVEN = Ran(b"makespan 11\n", b"", 0)
 VALID = Ran(b"valid\nmakespan 10\nbound 10\noptimal\n", b"", 0)
 WITH_INSTANCE = [VALUE, SOLVE, CHECK, TABLE, CONVERT]
 WITH_ORDER = [CHECK, TABLE]
-# The signals that end a program that doesn't ask for them.
+# The signals that kill a program by default.
 ENDING = [signal.SIGHUP, signal.SIGINT, signal.SIGTERM, signal.SIGQUIT]
 
 
@@ -47,7 +47,8 @@ def run_without(streams: list[str], pfs: Program, words: Words, folder: pathlib.
 
 @pytest.mark.parametrize("streams", CLOSED, ids=" ".join)
 @pytest.mark.parametrize("line", LINES)
-def test_closed(pfs: Program, worked: pathlib.Path, line: str, streams: list[str]) -> None:
+def test_files_are_not_confused_with_closed_streams(pfs: Program, worked: pathlib.Path, line: str,
+                                                    streams: list[str]) -> None:
     """The files that are opened then take the numbers of the streams, and aren't written to."""
     answer = ANSWERS[line]
     if "stdout" in streams and answer.stdout:
@@ -58,11 +59,11 @@ def test_closed(pfs: Program, worked: pathlib.Path, line: str, streams: list[str
     assert {name: (worked / name).read_bytes() for name in FILES} == FILES
 
 
-def test_no_words_and_a_closed_input(pfs: Program, folder: pathlib.Path) -> None:
+def test_without_arguments_a_closed_input_is_a_failed_read(pfs: Program, folder: pathlib.Path) -> None:
     assert run_without(["stdin"], pfs, [], folder) == refused("read failed")
 
 
-# Standard input that is no usual file
+# Standard input that isn't a regular file
 
 def test_an_input_for_writing(pfs: Program, folder: pathlib.Path) -> None:
     with open(folder / "written", "wb") as written:
@@ -85,7 +86,7 @@ def test_a_device_as_input(pfs: Program, folder: pathlib.Path, device: str, told
 
 @pytest.fixture
 def pipe() -> Iterator[tuple[int, int]]:
-    """The ends of a pipe, which are closed behind the test."""
+    """The ends of a pipe, which are closed after the test."""
     ends = os.pipe()
     yield ends
     for end in ends:
@@ -122,7 +123,7 @@ def test_a_number_that_is_not_open(pfs: Program, folder: pathlib.Path) -> None:
     assert pfs.run(VALUE.replace("three", "/dev/fd/99"), folder) == refused("cannot open")
 
 
-# Paths of what is no usual file
+# Paths of files that aren't regular
 
 @pytest.fixture
 def odd(worked: pathlib.Path) -> Iterator[pathlib.Path]:
@@ -189,8 +190,9 @@ BOTH_WAYS = pytest.mark.parametrize("restores", [True, False], ids=["signal as u
 
 @BOTH_WAYS
 @pytest.mark.parametrize("line", [*WITH_INSTANCE, GENERATE])
-def test_no_reader(pfs: Program, worked: pathlib.Path, unread_end: int, line: str, restores: bool) -> None:
-    """A failed write, and no signal, whatever the program's starter did with the signal for it."""
+def test_a_pipe_without_a_reader_is_a_failed_write(pfs: Program, worked: pathlib.Path, unread_end: int, line: str,
+                                                   restores: bool) -> None:
+    """The write fails without SIGPIPE, whether or not the parent process ignores that signal."""
     assert pfs.run(line, worked, stdout=unread_end, restore_signals=restores) == unwritten(0)
 
 
@@ -210,7 +212,7 @@ def test_a_reader_that_leaves(pfs: Program, folder: pathlib.Path, restores: bool
 
 
 def test_a_pipe_that_does_not_wait(pfs: Program, folder: pathlib.Path) -> None:
-    """No write is tried again."""
+    """No write is repeated."""
     read_end, write_end = page_pipe()
     os.set_blocking(write_end, False)
     assert pfs.run("generate 500 20 1", folder, stdout=write_end) == unwritten(PAGE)
@@ -229,7 +231,7 @@ def piped(worked: pathlib.Path) -> pathlib.Path:
 
 
 def test_a_named_pipe_that_stays_open(pfs: Program, piped: pathlib.Path) -> None:
-    """A block is answered at its end."""
+    """The program ends after the block, and doesn't wait for the end of the file."""
     child = pfs.start("value --layout taillard pipe", piped)
     writer = opened_for_writing(piped / "pipe")
     os.write(writer, THREE_JOBS + b"what follows isn't looked at")
@@ -262,7 +264,7 @@ def test_a_named_pipe_with_nothing(pfs: Program, piped: pathlib.Path) -> None:
 # Signals
 
 def as_usual() -> None:
-    """Signals end the program, also where its starter ignores them, and it leaves no core file."""
+    """The signals kill the program even if the parent process ignores them, and it leaves no core file."""
     no_core()
     for number in ENDING:
         signal.signal(number, signal.SIG_DFL)
@@ -273,8 +275,8 @@ def no_core() -> None:
 
 
 @pytest.mark.parametrize("number", [*ENDING, signal.SIGKILL], ids=lambda number: str(number.name))
-def test_a_signal(pfs: Program, piped: pathlib.Path, number: signal.Signals) -> None:
-    """A program that waits is ended, and says nothing then."""
+def test_a_signal_kills_the_program(pfs: Program, piped: pathlib.Path, number: signal.Signals) -> None:
+    """A program that waits is killed and prints nothing."""
     child = pfs.start("value --layout taillard pipe", piped, preexec_fn=as_usual)
     writer = opened_for_writing(piped / "pipe")
     os.write(writer, THREE_JOBS[:100])
@@ -284,7 +286,7 @@ def test_a_signal(pfs: Program, piped: pathlib.Path, number: signal.Signals) -> 
     os.close(writer)
 
 
-def test_stopped_and_going_on(pfs: Program, piped: pathlib.Path) -> None:
+def test_a_stopped_program_continues(pfs: Program, piped: pathlib.Path) -> None:
     child = pfs.start("value --layout taillard pipe", piped)
     writer = opened_for_writing(piped / "pipe")
     os.write(writer, THREE_JOBS[:100])
@@ -311,7 +313,7 @@ def test_a_file_of_five_bytes(pfs: Program, worked: pathlib.Path, restores: bool
 
 
 def stop(child: subprocess.Popen[bytes]) -> None:
-    """Stops a program, and waits until it stands."""
+    """Stop a program, and wait until it has stopped."""
 
     def stands() -> bool:
         state = pathlib.Path(f"/proc/{child.pid}/stat").read_text().rpartition(")")[2].split()[0]
@@ -404,7 +406,8 @@ def guarded(pfs: Program, worked: pathlib.Path) -> Iterator[tuple[Program, pathl
 @pytest.mark.parametrize("line, name", [*[(line, "three") for line in WITH_INSTANCE],
                                         *[(line, "best") for line in WITH_ORDER]])
 @pytest.mark.parametrize("path", ["secret", "closed/three", "closed"])
-def test_no_permission(guarded: tuple[Program, pathlib.Path], line: str, name: str, path: str) -> None:
+def test_a_file_without_permission_cannot_be_opened(guarded: tuple[Program, pathlib.Path], line: str, name: str,
+                                                    path: str) -> None:
     program, folder = guarded
     assert program.run(line.replace(name, path), folder, preexec_fn=as_nobody) == refused("cannot open")
 
@@ -419,13 +422,14 @@ def test_another_user(guarded: tuple[Program, pathlib.Path]) -> None:
     pytest.param(CHECK, 4, refused("cannot open"), id="one for two files"),
     pytest.param(CHECK, 5, VALID, id="two for two files"),
 ])
-def test_few_descriptors(pfs: Program, worked: pathlib.Path, line: str, most: int, answer: Ran) -> None:
-    """Descriptors are left for so many files, standard streams included."""
+def test_a_file_over_the_limit_of_open_files_cannot_be_opened(pfs: Program, worked: pathlib.Path, line: str, most: int,
+                                                              answer: Ran) -> None:
+    """The limit on open files includes the standard streams."""
     limit = lambda: resource.setrlimit(resource.RLIMIT_NOFILE, (most, most))
     assert pfs.run(line, worked, preexec_fn=limit) == answer
 
 
-# As many words as Linux passes on, and as long ones
+# As many arguments as Linux allows, and as long ones
 
 LONG = "x" * LONGEST_WORD
 NO_COMMAND = Ran(b"", USAGE, 3)

@@ -1,5 +1,5 @@
-"""The CSV of an experiment is what pfs itself gives: by GNU parallel, here and over ssh, and on a Slurm cluster of one
-node; also where its runs were killed at several moments and made again, and where two are started at once."""
+"""The CSV of an experiment has the results of pfs itself: with GNU parallel, here and over ssh, and on a Slurm cluster
+of one node, also if its runs were killed at various moments and repeated, and if two experiments start at once."""
 import ast
 import csv
 import json
@@ -22,7 +22,7 @@ from support.ssh import Server
 from support.terminals import Terminal
 from support.tools import Told, printed_by, told_by, wait_until, with_path, write_script
 
-# A program in the place of pfs, whose searches with some of the seeds go wrong.
+# A replacement of pfs, whose searches with some of the seeds fail.
 FAILING = """#!/bin/sh
 case "$*" in
 "solve "*"--seed 1 "*) {pfs} "$@" | sed 's/^makespan .*/makespan 1/';;
@@ -32,7 +32,7 @@ case "$*" in
 *) exec {pfs} "$@";;
 esac
 """
-# One that kills the run itself, unless the file `fixed` is there.
+# One that kills the run itself, unless the file `fixed` exists.
 KILLING = """#!/bin/sh
 case "$*" in solve*"--seed 2 "*) test -e {folder}/fixed || kill -9 $PPID;; esac
 exec {pfs} "$@"
@@ -100,7 +100,7 @@ REFUSED = {
 
 
 @pytest.mark.parametrize(("text", "named"), REFUSED.values(), ids=REFUSED)
-def test_a_plan_is_refused_by_what_is_wrong_in_it(text: str, named: str, experiment: Experiment) -> None:
+def test_an_invalid_plan_is_rejected_with_its_fault(text: str, named: str, experiment: Experiment) -> None:
     (experiment.folder / "plan.toml").write_text(text)
     told = experiment.run()
     assert (told.status, told.stdout) == (2, "")
@@ -108,7 +108,7 @@ def test_a_plan_is_refused_by_what_is_wrong_in_it(text: str, named: str, experim
     assert sorted(os.listdir(experiment.folder)) == ["plan.toml", "shops"]
 
 
-def test_a_missing_plan_is_refused(experiment: Experiment) -> None:
+def test_a_missing_plan_is_rejected(experiment: Experiment) -> None:
     (experiment.folder / "plan.toml").unlink()
     told = experiment.run()
     assert (told.status, told.stdout, told.stderr.count("\n")) == (2, "", 1)
@@ -125,13 +125,13 @@ PATHS = {"a folder": "shops", "below a file": "plan.toml/out.csv", "a name that 
 
 
 @pytest.mark.parametrize("path", PATHS.values(), ids=PATHS)
-def test_a_csv_that_cant_be_is_refused_before_the_first_run(path: str, experiment: Experiment) -> None:
+def test_an_impossible_csv_is_rejected_before_the_first_run(path: str, experiment: Experiment) -> None:
     told = experiment.run(path, program=experiment.waiting())
     assert (told.status, told.stdout, told.stderr.count("\n")) == (2, "", 1), told.stderr
     assert experiment.started() == [] and sorted(os.listdir(experiment.folder)) == ["plan.toml", "shops", "waiting"]
 
 
-def test_an_older_python_is_told(experiment: Experiment) -> None:
+def test_a_python_that_is_too_old_is_reported(experiment: Experiment) -> None:
     """One that has neither tomllib nor tomli."""
     for name in ("tomllib", "tomli"):
         (experiment.folder / f"{name}.py").write_text("raise ImportError\n")
@@ -140,18 +140,18 @@ def test_an_older_python_is_told(experiment: Experiment) -> None:
 
 
 @pytest.mark.parametrize("many", ["0", "-1", "x", "1.5"])
-def test_tasks_that_are_none_are_refused(many: str, experiment: Experiment) -> None:
+def test_an_invalid_number_of_tasks_is_rejected(many: str, experiment: Experiment) -> None:
     told = experiment.script("slurm", f"--tasks={many}", "plan.toml", "out.csv")
     assert (told.status, told.stdout, told.stderr.count("\n")) == (2, "", 1), told.stderr
 
 
-# So many KiB; the experiment needs some 150.
+# Sizes in KiB; the experiment needs about 150.
 DISKS = (4, 16, 24, 32, 48, 64, 96, 112, 128, 144, 160)
 
 
 @pytest.mark.parametrize("kib", DISKS)
-def test_where_the_disk_is_full_that_is_told(kib: int, experiment: Experiment) -> None:
-    """On one line, and once there is room the same line ends the work."""
+def test_a_full_disk_is_reported(kib: int, experiment: Experiment) -> None:
+    """On one line. Once there is room, the same command completes the work."""
     if subprocess.run([need("unshare"), "-m", "true"], capture_output=True).returncode != 0:
         missing("nobody but root mounts a small disk here")
     small = experiment.folder / "small"
@@ -375,7 +375,7 @@ def test_where_the_bound_is_0_there_is_no_gap(experiment: Experiment) -> None:
 
 
 def test_layouts_blocks_takes_passes_and_repetitions(experiment: Experiment) -> None:
-    """And a file that is no instance."""
+    """And a file that isn't an instance."""
     (experiment.folder / "plan.toml").write_text(
         "layout = \"orlib\"\ninstances = [\"two.or\", \"bad.or\"]\nblocks = [2, 1]\nrounds = [5]\n"
         "takes = [2, 1]\npasses = [1]\nseeds = [7]\nrepetitions = 2\n")
@@ -433,13 +433,13 @@ def test_check_audits_the_orders_again(experiment: Experiment) -> None:
     assert [line for line in wrong if line.endswith(": no order was kept")] == [wrong[2]], "a row without an order"
 
 
-def test_check_refuses_a_csv_without_orders(experiment: Experiment) -> None:
+def test_check_rejects_a_csv_without_orders(experiment: Experiment) -> None:
     (experiment.folder / "old.csv").write_text(f"{OLD_HEAD}\na,20,5,0,4,0,1,1,110,100,10.0000,1000,0.001000,ok\n")
     told = experiment.script("check", "old.csv")
     assert told == Told(2, "", "experiments/check: old.csv: no column order\n")
 
 
-def test_the_reference_of_a_plan_stands_in_the_csv(experiment: Experiment) -> None:
+def test_the_csv_has_the_reference_of_the_plan(experiment: Experiment) -> None:
     """Also one that is named once all runs are made."""
     assert experiment.run().status == 0
     (experiment.folder / "best.csv").write_text("instance,makespan,source\nb,12.0,a paper\nc,1,no paper\n")
@@ -506,7 +506,7 @@ def test_runs_of_0_rounds_that_an_earlier_version_listed_stay(experiment: Experi
 HOSTILE = ["=1+1", "+1", "-1", "@SUM(1)", "=cmd|' /C calc'!A0", "a=b", "<b>&", "a|b", "\x1b[31m", "a,b", 'a"b', "$x$"]
 
 
-def test_names_of_instances_are_no_formulas_of_a_spreadsheet(experiment: Experiment) -> None:
+def test_names_of_instances_are_not_formulas_in_a_spreadsheet(experiment: Experiment) -> None:
     """They stay the paths of their files, and `check` finds them."""
     (experiment.folder / "shops" / "deep").mkdir()
     for name in HOSTILE:
@@ -603,7 +603,7 @@ def test_an_instance_that_pfs_rejects_fails_by_time_too(experiment: Experiment, 
 
 
 @pytest.mark.parametrize("path", ["none.so", "plan.toml"], ids=["missing", "no library"])
-def test_a_library_that_is_none_is_reported(path: str, experiment: Experiment) -> None:
+def test_an_invalid_library_is_reported(path: str, experiment: Experiment) -> None:
     (experiment.folder / "plan.toml").write_text(BY_TIME)
     told = experiment.run(env=dict(os.environ, PFS_LIBRARY=str(experiment.folder / path)))
     if path == "none.so":
@@ -616,7 +616,7 @@ def test_a_library_that_is_none_is_reported(path: str, experiment: Experiment) -
 
 # Other programs
 
-# It orders the jobs by their numbers, takes the time that the seed is for, and notes its words.
+# It prints the jobs in the order of their numbers, uses the time that its seed stands for, and notes its arguments.
 MINE = """#!/usr/bin/env python3
 import os, signal, sys, time
 path, seed, seconds = sys.argv[1:]
@@ -716,7 +716,7 @@ def test_on_slurm_another_program_is_run(slurm: Cluster, experiment: Experiment)
     other_is_right(experiment, told)
 
 
-def test_another_program_is_reported_beside_pfs(experiment: Experiment, matplotlib: None) -> None:
+def test_the_report_compares_another_program_with_pfs(experiment: Experiment, matplotlib: None) -> None:
     assert experiment.run("pfs.csv").status == 0
     with_other(experiment).run()
     told = told_by([experiment.top / "experiments" / "report", "pfs.csv", "out.csv", "report"], experiment.folder)
@@ -773,7 +773,7 @@ def failing(top: pathlib.Path, pfs: Program, tmp_path_factory: pytest.TempPathFa
 
 
 @pytest.mark.xdist_group("failing")
-def test_a_run_that_fails_stands_in_the_csv_with_its_status(failing: tuple[Experiment, Told]) -> None:
+def test_the_csv_has_a_failed_run_with_its_status(failing: tuple[Experiment, Told]) -> None:
     experiment, told = failing
     statuses = ["ok", "check: exit 1, wrong makespan", "solve: signal 9", "solve: exit 4, no memory, perhaps",
                 "solve: no cells are told"]
@@ -803,7 +803,7 @@ def test_the_report_counts_runs_that_failed(failing: tuple[Experiment, Told], ma
         assert [(row["runs"], row["failed"]) for row in csv.DictReader(file)] == [("1", "4")] * 4
 
 
-def test_a_run_that_is_killed_is_told_and_made_by_the_next_start(experiment: Experiment) -> None:
+def test_a_killed_run_is_reported_and_made_by_the_next_start(experiment: Experiment) -> None:
     program = write_script(experiment.folder / "killing",
                            KILLING.format(folder=experiment.folder, pfs=experiment.pfs.path))
     told = experiment.run(program=program)
@@ -828,7 +828,7 @@ exec {pfs} "$@"
 
 
 def test_a_run_whose_program_was_killed_is_made_by_the_next_start(experiment: Experiment) -> None:
-    """By a signal, or for want of memory, in the search or in the audit."""
+    """By a signal, or because memory ran out, in the search or in the audit."""
     program = write_script(experiment.folder / "program",
                            MEMORY.format(folder=experiment.folder, pfs=experiment.pfs.path))
     assert experiment.run(program=program).status == 1
@@ -839,7 +839,7 @@ def test_a_run_whose_program_was_killed_is_made_by_the_next_start(experiment: Ex
     assert experiment.rows() == experiment.wanted()
 
 
-def test_runs_that_failed_are_made_again_where_that_is_asked_for(experiment: Experiment) -> None:
+def test_failed_runs_are_repeated_on_request(experiment: Experiment) -> None:
     program = write_script(experiment.folder / "program", f"""#!/bin/sh
 echo "$*" >> {experiment.folder}/notes
 test -e {experiment.folder}/fixed && exec {experiment.pfs.path} "$@"
@@ -907,8 +907,8 @@ def start(experiment: Experiment, *words: str, name: str = "run", env: dict[str,
 
 
 def interrupt(experiment: Experiment, most: int, kill: Callable[[Started], None]) -> set[str]:
-    """Starts the plan, lets so many more runs through and kills it while two wait; answers the runs that are logged
-    then. What the start has left ends by itself."""
+    """Start the plan, let `most` more runs finish and kill it while two wait; return the runs that are logged by then.
+    The processes that remain end by themselves."""
     before = len(experiment.logged())
     started_before = len(experiment.started())
     with experiment.gate() as gate:
@@ -922,7 +922,7 @@ def interrupt(experiment: Experiment, most: int, kill: Callable[[Started], None]
         finally:
             kill(started)
             if kill not in (Started.kill_all, Started.kill_starter):
-                # the interruption is answered while runs wait or once they are let through
+                # the start handles the interruption while runs wait or once they may continue
                 gate.open()
             started.process.wait(60)
     experiment.wait_for_all()
@@ -1065,7 +1065,7 @@ def test_on_slurm_the_runs_are_one_array_of_so_many_tasks(made_on_slurm: tuple[E
 
 @on_slurm
 def test_on_slurm_runs_whose_results_are_gone_are_made_again_and_no_others(made_on_slurm: tuple[Experiment, Told],
-                                                                          slurm: Cluster) -> None:
+                                                                           slurm: Cluster) -> None:
     experiment, _ = made_on_slurm
     results = experiment.runs / "results"
     before = {path.name: path.stat().st_mtime_ns for path in results.iterdir()}
@@ -1082,7 +1082,7 @@ def test_on_slurm_runs_whose_results_are_gone_are_made_again_and_no_others(made_
 
 @on_slurm
 def test_on_slurm_a_second_start_waits_for_the_array_of_the_first(experiment: Experiment, slurm: Cluster) -> None:
-    """Also where the first one was killed while it waited for its array. A result is there only once it is whole."""
+    """Also if the first start was killed while it waited for its array. A result exists only once it is complete."""
     (experiment.folder / "plan.toml").write_text(PLAN.replace("[10, 30]", "[10]"))
     words = ["--tasks", "1", "plan.toml", "out.csv", "--time=5"]
     with experiment.gate() as gate, open(experiment.folder / "told", "wb") as told:
@@ -1156,7 +1156,7 @@ rm results/7
 """
 
 
-def test_a_task_that_ran_out_of_time_is_told_by_its_last_run(experiment: Experiment) -> None:
+def test_a_task_that_ran_out_of_time_is_reported_by_its_last_run(experiment: Experiment) -> None:
     """The first of six tasks makes the runs 1 and 7, and ends in the second one."""
     (experiment.folder / "bin").mkdir()
     write_script(experiment.folder / "bin" / "sbatch", OUT_OF_TIME)
@@ -1179,11 +1179,11 @@ def test_on_slurm_the_line_of_a_dry_run_makes_the_runs(experiment: Experiment, s
     assert experiment.rows() == experiment.wanted()
 
 
-# Slurm without a cluster: what it is asked
+# Slurm without a cluster: the arguments of sbatch
 
 @pytest.fixture
 def asked(experiment: Experiment) -> Callable[..., list[str]]:
-    """The words that sbatch is given."""
+    """The arguments of sbatch."""
     def ask(plan: str, *words: str) -> list[str]:
         (experiment.folder / "plan.toml").write_text(plan)
         noted = experiment.folder / "words"
@@ -1225,7 +1225,7 @@ def test_a_dry_run_prints_the_line_of_slurm(experiment: Experiment) -> None:
     assert words[-2:] == [str(experiment.top / "experiments" / "task"), stage] and "--time=5" in words
 
 
-def test_readme_tells_the_usual_number_of_tasks(top: pathlib.Path) -> None:
+def test_readme_states_the_usual_number_of_tasks(top: pathlib.Path) -> None:
     told = re.search(r"Each of at most ([\d,]+) tasks \(`--tasks`\)", (top / "experiments" / "README.md").read_text())
     script = (top / "experiments" / "slurm").read_text()
     most = re.search(r"^MOST_TASKS, LEAST_SECONDS = (\d+), 60$", script, re.MULTILINE)

@@ -1,5 +1,5 @@
-"""Random files and command lines, on which the program and the second program must agree (fuzz.py): for half a minute
-in all, in shares that run side by side. And that the fuzzer finds a program that answers otherwise."""
+"""Random files and command lines, on which the program and the second program must agree (fuzz.py), for half a minute
+in all, in parallel shares. The fuzzer also has to find a program that differs."""
 import itertools
 import pathlib
 import re
@@ -17,7 +17,7 @@ FUZZ = pathlib.Path(fuzz.__file__)
 
 @pytest.mark.seconds(SECONDS)
 @pytest.mark.parametrize("share", range(SHARES), ids=lambda share: f"share {share}")
-def test_random_cases(pfs: Program, share: int, capsys: pytest.CaptureFixture[str]) -> None:
+def test_the_programs_agree_on_random_cases(pfs: Program, share: int, capsys: pytest.CaptureFixture[str]) -> None:
     numbers = itertools.count(1 + share, SHARES)
     agree = fuzz.search(pfs.path, 1, SECONDS, numbers, True)
     assert agree, capsys.readouterr().out
@@ -28,27 +28,28 @@ def run_fuzzer(folder: pathlib.Path, *words: str) -> Ran:
     return Ran(done.stdout, done.stderr, done.returncode)
 
 
-def test_some_cases(pfs: Program, folder: pathlib.Path) -> None:
+def test_a_run_ends_well_after_some_cases(pfs: Program, folder: pathlib.Path) -> None:
     ran = run_fuzzer(folder, "--program", str(pfs.path), "--seconds", "1", "--seed", "2")
     assert ran.status == 0 and re.match(rb"seed 2: [1-9][0-9]* cases in 1 s, ", ran.stdout), ran
 
 
-def test_no_case_is_no_agreement(pfs: Program, folder: pathlib.Path) -> None:
+def test_a_run_without_cases_fails(pfs: Program, folder: pathlib.Path) -> None:
     ran = run_fuzzer(folder, "--program", str(pfs.path), "--seconds", "0", "--seed", "1")
     assert ran == Ran(b"seed 1: 0 cases in 0 s, on which both programs agree\n", b"", 1)
 
 
 @pytest.fixture
 def other(pfs: Program, folder: pathlib.Path) -> pathlib.Path:
-    """A program that does what pfs does, but ends with another status where that is 3."""
+    """A program that does what pfs does, but ends with status 2 instead of 3."""
     script = folder / "other"
     script.write_text(f'#!/bin/sh\n{pfs.path} "$@"\nstatus=$?\n[ $status = 3 ] && exit 2\nexit $status\n')
     script.chmod(0o755)
     return script
 
 
-def test_a_program_that_differs(other: pathlib.Path, folder: pathlib.Path, monkeypatch: pytest.MonkeyPatch) -> None:
-    """It is found, with a small case that can be run again."""
+def test_a_program_that_differs_is_found(other: pathlib.Path, folder: pathlib.Path,
+                                         monkeypatch: pytest.MonkeyPatch) -> None:
+    """With a reduced case that can be repeated."""
     monkeypatch.setenv("TMPDIR", str(folder))
     ran = run_fuzzer(folder, "--program", str(other), "--seed", "1")
     assert ran.status == 1 and b"the programs differ" in ran.stdout, ran

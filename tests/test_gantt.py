@@ -1,6 +1,6 @@
-"""tools/gantt draws each operation that takes time where it is, on its machine's row and in its job's colour, with the
-job's number on it where that fits: read back from its SVG by the axes' own marks. What isn't a time table is refused,
-and no file is left then."""
+"""tools/gantt draws each operation that takes time at its time, on its machine's row and in its job's colour, with the
+job's number if that fits. The tests read the SVG back with the ticks of its axes. An invalid time table is rejected,
+and no file is left."""
 import os
 import pathlib
 import random
@@ -322,7 +322,7 @@ def test_any_two_of_few_jobs_differ_as_much_as_the_page_says(jobs: int, told: fl
     assert round(difference_of_any_two(jobs, drawn), 1) == told, f"the colours of {jobs} jobs"
 
 
-def test_any_two_of_eight_jobs_can_be_told_apart(drawn: Drawn) -> None:
+def test_any_two_of_eight_jobs_are_distinguishable(drawn: Drawn) -> None:
     assert difference_of_any_two(8, drawn) >= 14.3
 
 
@@ -333,8 +333,8 @@ def test_the_numbers_beside_the_colours_are_readmes(top: pathlib.Path) -> None:
 
 
 @pytest.mark.parametrize("jobs", [COLOURS.few + 1, COLOURS.few + 2, COLOURS.few + 3, 500])
-def test_neighbours_of_many_jobs_can_be_told_apart(jobs: int, drawn: Drawn) -> None:
-    """Also where one that takes no time stands between them; and each of them from idle time."""
+def test_neighbours_of_many_jobs_are_distinguishable(jobs: int, drawn: Drawn) -> None:
+    """Also if an operation that takes no time is between them; and each of them from idle time."""
     case = Case(f"colours of {jobs}", list(range(jobs, 0, -1)), schedule_of([[1]] * jobs), ())
     fills = colours_in_turn(case, drawn(case))
     assert len(fills) == jobs
@@ -346,7 +346,7 @@ def test_neighbours_of_many_jobs_can_be_told_apart(jobs: int, drawn: Drawn) -> N
 
 @cases()
 def test_the_edges_of_bars_leave_an_operation_of_one_unit_to_be_seen(case: Case, drawn: Drawn) -> None:
-    """They are white lines, half of which lies on each of the bars beside it."""
+    """The edges are white lines, half of which lies on each of the adjacent bars."""
     picture = drawn(case)
     for machine in case.machines():
         unit = picture.across().on_picture(min((end - start for _, start, end in case.operations(machine)), default=0))
@@ -370,7 +370,7 @@ def test_the_outline_of_the_path_leaves_an_operation_of_one_unit_to_be_seen(widt
 # Numbers on bars
 
 def bar_below(case: Case, picture: Picture, letters: Letters) -> tuple[int, int]:
-    """Machine and job of the bar on which a text stands, zeros where there is none."""
+    """Machine and job of the bar under a text, or zeros if there is none."""
     row = picture.down()(letters.y - BELOW_MIDDLE * letters.size)
     time = picture.across()(letters.x)
     for machine in case.machines():
@@ -381,13 +381,13 @@ def bar_below(case: Case, picture: Picture, letters: Letters) -> tuple[int, int]
 
 
 def numbers_on(picture: Picture) -> list[Letters]:
-    """The numbers that are no mark's."""
+    """The numbers that don't belong to ticks."""
     marks = {letters for name in picture.groups if re.match("[xy]tick_", name) for letters in picture.texts(name)}
     return [letters for letters in picture.texts() if letters.text.isdigit() and letters not in marks]
 
 
 @cases()
-def test_each_number_stands_in_the_middle_of_a_bar_of_its_job(case: Case, drawn: Drawn) -> None:
+def test_each_number_is_in_the_middle_of_a_bar_of_its_job(case: Case, drawn: Drawn) -> None:
     picture = drawn(case)
     for letters in numbers_on(picture):
         machine, job = bar_below(case, picture, letters)
@@ -450,7 +450,7 @@ def test_time_goes_to_the_right_and_machines_go_down(case: Case, drawn: Drawn) -
 
 
 @cases()
-def test_each_row_tells_its_machines_idle_share(case: Case, drawn: Drawn) -> None:
+def test_each_row_shows_its_machines_idle_share(case: Case, drawn: Drawn) -> None:
     picture = drawn(case)
     row = picture.down()
     told = {round(row(letters.y - BELOW_MIDDLE * letters.size)): letters for letters in picture.texts()
@@ -465,7 +465,7 @@ def test_each_row_tells_its_machines_idle_share(case: Case, drawn: Drawn) -> Non
 
 
 @cases(lambda case: case is WITH_BOUND)
-def test_labels_of_the_axes_stand_beside_them(case: Case, drawn: Drawn) -> None:
+def test_labels_of_the_axes_are_next_to_them(case: Case, drawn: Drawn) -> None:
     picture = drawn(case)
     time, = picture.find("time (min)")
     machine, = picture.find("machine")
@@ -483,7 +483,7 @@ def test_the_unit_of_time_is_the_instances_where_none_is_named(case: Case, drawn
 
 
 @cases(lambda case: case in (WITH_BOUND, PLAIN))
-def test_the_title_stands_above_the_rows(case: Case, drawn: Drawn) -> None:
+def test_the_title_is_above_the_rows(case: Case, drawn: Drawn) -> None:
     picture = drawn(case)
     beside = ", bound 9 (dashed), critical path outlined" if case is WITH_BOUND else ""
     letters, = picture.find("3 jobs on 2 machines: makespan 10" + beside)
@@ -507,7 +507,7 @@ AT_THE_END = read_table("the bound is the makespan", THREE, "--bound", "10", "--
 
 @pytest.mark.parametrize("case", [WITH_BOUND, AT_THE_END], ids=["before the end", "at the end"])
 def test_nothing_cuts_or_hides_the_bounds_line(case: Case, drawn: Drawn) -> None:
-    """White stands beside it, below it, and over the bars and the path."""
+    """A wider white line is drawn under it, and over the bars and the path."""
     picture = drawn(case)
     names = list(picture.groups)
     assert names.index("bound") > names.index("beside-bound") > names.index("critical-2"), names
@@ -541,13 +541,13 @@ def test_the_critical_path_leads_from_0_to_the_makespan_without_idle_time(case: 
 # Papers
 
 def size_of(picture: Picture) -> tuple[float, float]:
-    """Width and height in points, from the shape that lies behind all."""
+    """Width and height in points, from the background shape."""
     (points, _), = picture.shapes("patch_1")
     return max(x for x, _ in points), max(y for _, y in points)
 
 
 def test_letters_can_be_read_at_the_width_of_a_column(drawn: Drawn) -> None:
-    """They have 8 points or more, and none stands beyond the picture; a letter is at most 0.65 of its height wide."""
+    """They have 8 points or more, and none is outside the picture; a letter is at most 0.65 of its height wide."""
     picture = drawn(PAPER)
     width, _ = size_of(picture)
     assert width == pytest.approx(3.5 * 72, abs=0.1)
@@ -581,9 +581,9 @@ def test_a_unit_is_text(unit: str, gantt: Gantt, folder: pathlib.Path) -> None:
 
 @pytest.mark.parametrize(("words", "size"), [((), (1320, 235)), (("--width", "3.5"), (385, 235)),
                                              (("--dpi", "300"), (3600, 642))], ids=["usual", "narrow", "fine"])
-def test_a_png_has_so_many_pixels(words: tuple[str, ...], size: tuple[int, int], gantt: Gantt,
-                                  folder: pathlib.Path) -> None:
-    """Inches by dots an inch; two rows of 0.42 inches stand on 1.3."""
+def test_a_png_has_the_requested_size(words: tuple[str, ...], size: tuple[int, int], gantt: Gantt,
+                                      folder: pathlib.Path) -> None:
+    """Inches times dots per inch; two rows of 0.42 inches and 1.3 inches for the rest."""
     assert gantt(folder, *words, "picture.png") == Ran(b"", b"", 0)
     png = (folder / "picture.png").read_bytes()
     found = int.from_bytes(png[16:20], "big"), int.from_bytes(png[20:24], "big")
@@ -663,7 +663,7 @@ def steps(jobs: int) -> Case:
 
 
 @pytest.mark.parametrize("size", ["5001 1", "1 201", "5001 201", "20 1000", "100000 1"])
-def test_more_than_pfs_has_is_refused_at_once(gantt: Gantt, folder: pathlib.Path, size: str) -> None:
+def test_sizes_over_the_limits_are_rejected_at_once(gantt: Gantt, folder: pathlib.Path, size: str) -> None:
     ran = gantt(folder, "picture.svg", text=THREE.replace("3 2", size, 1))
     assert ran == Ran(b"", b"gantt: a time table has at most 5,000 jobs and 200 machines\n", 2)
 
@@ -690,8 +690,8 @@ def test_what_is_to_be_installed_is_named(top: pathlib.Path, folder: pathlib.Pat
 
 
 @pytest.mark.parametrize("ending", BEGINNINGS)
-def test_where_the_disk_is_full_the_old_picture_stays(top: pathlib.Path, folder: pathlib.Path, matplotlib: None,
-                                                      ending: str) -> None:
+def test_a_full_disk_keeps_the_old_picture(top: pathlib.Path, folder: pathlib.Path, matplotlib: None,
+                                           ending: str) -> None:
     (folder / "table").write_text(THREE)
     (folder / f"picture.{ending}").write_text("the old one")
     words: list[str | pathlib.Path] = [need("prlimit"), "--fsize=1000"]
@@ -817,22 +817,22 @@ def assert_refused(ran: Ran, folder: pathlib.Path, before: list[pathlib.Path]) -
 
 
 @pytest.mark.parametrize("text", BAD.values(), ids=BAD)
-def test_a_bad_table_is_refused(text: str, gantt: Gantt, folder: pathlib.Path) -> None:
+def test_an_invalid_table_is_rejected(text: str, gantt: Gantt, folder: pathlib.Path) -> None:
     assert_refused(gantt(folder, "picture.svg", text=text), folder, [])
 
 
 @pytest.mark.parametrize("end", range(len(THREE)))
-def test_a_table_that_is_cut_is_refused(end: int, gantt: Gantt, folder: pathlib.Path) -> None:
+def test_a_table_that_is_cut_is_rejected(end: int, gantt: Gantt, folder: pathlib.Path) -> None:
     assert_refused(gantt(folder, "picture.svg", text=THREE[:end]), folder, [])
 
 
 @pytest.mark.parametrize("words", BAD_WORDS.values(), ids=BAD_WORDS)
-def test_words_are_refused(words: list[str], gantt: Gantt, folder: pathlib.Path) -> None:
+def test_invalid_arguments_are_rejected(words: list[str], gantt: Gantt, folder: pathlib.Path) -> None:
     (folder / "folder.svg").mkdir()
     assert_refused(gantt(folder, *words), folder, [folder / "folder.svg"])
 
 
-def test_an_old_picture_stays_where_a_table_is_refused(gantt: Gantt, folder: pathlib.Path) -> None:
+def test_an_invalid_table_keeps_the_old_picture(gantt: Gantt, folder: pathlib.Path) -> None:
     old = folder / "picture.svg"
     old.write_text("old")
     assert_refused(gantt(folder, "picture.svg", text=THREE[:-2]), folder, [old])

@@ -1,5 +1,5 @@
-"""tools/test, which has the layers that a change has to pass, in a folder with other programs in the place of those
-that it calls. They note their calls, and one of them fails if that is wanted."""
+"""tools/test, which runs the layers that a change has to pass, in a folder with replacements of the programs that it
+calls. They note their calls, and one of them can be made to fail."""
 import pathlib
 import re
 import shutil

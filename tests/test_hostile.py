@@ -1,7 +1,7 @@
-"""Files of 64 MiB through each command that reads: the exact answer, in time linear in the file, with no more memory
-than the instance and 16 MiB. The files are of one byte, of digits and blanks, of one line, and of a million lines.
-Then the greatest instance, with the longest times: the exact answer, with what a search or a time table keeps of it
-beside that memory. The program gets no more address space than that, and its resident memory is compared too."""
+"""Files of 64 MiB through each command that reads: the exact output, in time linear in the file, with at most 16 MiB of
+memory plus the instance. The files consist of one repeated byte, of digits and blanks, of one line, or of a million
+lines. Then the greatest instance, with the longest times: the exact output, with that memory and the tables of a search
+or of a time table. The program gets no more address space than that, and its resident memory is checked too."""
 import pathlib
 from collections.abc import Callable, Iterable, Iterator
 
@@ -15,7 +15,7 @@ MIB = 1 << 20
 SIZE = 64 * MIB
 MOST_RESIDENT = 16 * MIB
 
-# The limits, and how long the longest texts within them are.
+# The limits, and the lengths of the longest texts within them.
 MOST_JOBS, MOST_MACHINES, LONGEST_TIME, GREATEST_NOTE = 5_000, 200, 1_000_000_000, 2**32 - 1
 LONGEST_TEXT = 14_450_028
 LONGEST_ORDER_TEXT = 50_044
@@ -32,14 +32,14 @@ COMMANDS = {line.split(" ")[0]: line for line in (VALUE, SOLVE, CHECK, TABLE, CO
 
 
 def words_of(command: str, file: pathlib.Path, order: pathlib.Path | None = None) -> list[str]:
-    """The words of a command on an instance file, and perhaps on an order file."""
+    """The arguments of a command on an instance file, and perhaps on an order file."""
     paths = {"three": str(file), "best": str(order)}
     return [paths.get(word, word) for word in COMMANDS[command].split(" ")]
 
 
 def run_large(pfs: Program, words: list[str], folder: pathlib.Path, parts: Iterable[bytes], told: bytes, status: int,
               kept: int = 0, stdin: pathlib.Path = pathlib.Path("/dev/null")) -> LargeRun:
-    """The run of a program that keeps so many bytes, with what it must print and tell."""
+    """Run the program and check its output, errors, status and memory; `kept` is the bytes of its tables."""
     most = kept + MOST_RESIDENT
     ran = run_within(pfs, words, folder, most, stdin)
     assert (ran.stderr[:200], ran.status) == (told, status)
@@ -49,8 +49,8 @@ def run_large(pfs: Program, words: list[str], folder: pathlib.Path, parts: Itera
 
 
 def is_linear(seconds: float, eighth: float) -> bool:
-    """Whether an eighth of the file takes no less than a twenty-seventh of the time: twice the file takes at most three
-    times as long. A file that took time by the square of its length would take 64 times as long as its eighth."""
+    """Whether an eighth of the file takes at least a twenty-seventh of the time, so that twice the file takes at most
+    three times as long. With quadratic time the file would take 64 times as long as its eighth."""
     return seconds <= 27 * eighth + 0.1
 
 
@@ -63,7 +63,7 @@ def small(folder: pathlib.Path) -> pathlib.Path:
 
 
 def test_a_small_file(pfs: Program, small: pathlib.Path) -> None:
-    """The limits of memory are no smaller than a run needs."""
+    """The memory limits are enough for a run."""
     run_large(pfs, words_of("value", small / "three"), small, [b"makespan 11\n"], b"", 0)
 
 
@@ -200,14 +200,14 @@ def equal_value(jobs: int, machines: int, time: int) -> Iterator[bytes]:
 
 
 def equal_solve(jobs: int, machines: int, time: int) -> Iterator[bytes]:
-    """Each place is as good as the others, so each job, the lowest numbers first, is put before all others."""
+    """All places are equal, so each job, the lowest numbers first, is inserted at the first place."""
     yield b"order2 %d %d\n" % (jobs, machines)
     yield b" ".join(b"%d" % job for job in range(jobs, 0, -1)) + b"\n"
     yield b"makespan %d\n" % (time * (jobs + machines - 1))
 
 
 def equal_check(jobs: int, machines: int, time: int) -> Iterator[bytes]:
-    """On each machine all jobs take `jobs` times, and what comes before and behind takes one on each of the others."""
+    """All jobs take `jobs` times on each machine, plus one time on each machine before and after it."""
     length = time * (jobs + machines - 1)
     yield b"valid\nmakespan %d\nbound %d\noptimal\n" % (length, length)
 

@@ -1,6 +1,6 @@
-"""What is computed over a bench is inlined where the bench is a value, so that its count stays in a register: behind a
-call each cell of a table would read and write it in memory. The loops of a wavefront are functions of their own, which
-call nothing and keep no lanes on the stack."""
+"""Computations over a bench are inlined where the bench is a value, so that its count stays in a register. In a
+function that is called, each cell of a table would read and write the count in memory. The loops of a wavefront are
+separate functions, which call nothing and keep no lanes on the stack."""
 import re
 import subprocess
 
@@ -9,15 +9,15 @@ from support.needs import need
 from support.program import Program
 
 
-# What computes no cell: the choice of the jobs that leave, the ranking, and the search as a whole, which has its bench
-# as a value.
+# Functions that compute no cell: the choice of the jobs to remove, the ranking, and the whole search, which has its
+# bench as a value.
 WITHOUT_CELLS = {"greedy::take_jobs", "rankings::rank_jobs", "rankings::sort_jobs", "solution::solve"}
 
 
 @pytest.mark.parametrize("module", ["pfs_audit::recurrence", "pfs_base::metered", "pfs_insert", "pfs_search"])
 def test_no_function_of_this_module_is_called(pfs: Program, module: str) -> None:
-    """But for those that compute no cell, or free memory. A program that has no names of its functions, as that of a
-    package, can't be tested, and passes."""
+    """Except those that compute no cell or free memory. A program without symbols, as in a package, can't be tested and
+    passes."""
     done = subprocess.run([need("nm"), pfs.path], capture_output=True, text=True, check=True)
     called = set(re.findall(rf" {module}::(.+?)(?:::<.*)?$", done.stdout, re.MULTILINE))
     assert {name for name in called - WITHOUT_CELLS if not name.endswith("+Destruct::drop")} == set()
@@ -26,7 +26,7 @@ def test_no_function_of_this_module_is_called(pfs: Program, module: str) -> None
 @pytest.mark.parametrize("loop", ["times::fill_times", "times::move_steps", "kernels::fill_tails",
                                   "kernels::fill_sums"])
 def test_a_loop_of_a_wavefront_stays_in_registers(pfs: Program, loop: str) -> None:
-    """It is built once for each width. A program that has no names of its functions can't be tested, and passes."""
+    """The program has one for each width. A program without symbols can't be tested and passes."""
     words = [need("objdump"), "--disassemble", "--no-show-raw-insn", str(pfs.path)]
     done = subprocess.run(words, capture_output=True, text=True, check=True)
     if "<pfs_" not in done.stdout:

@@ -35,7 +35,7 @@ def test_quick_has_something_of_each_part(top: pathlib.Path) -> None:
     status, told = run_pytest(top, "-m", "quick", "--collect-only", "tests")
     assert status == 0, told
     for command in COMMANDS:
-        assert f"test_line[{command} " in told
+        assert f"test_a_line_has_its_output_errors_and_status[{command} " in told
     for name in ("library", "gantt", "experiments"):
         assert f"tests/test_{name}.py::" in told
     package = (path.read_text() for path in (top / "python" / "tests").glob("test_*.py"))

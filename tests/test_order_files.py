@@ -1,4 +1,4 @@
-"""What an order file states, and where another text is refused."""
+"""What the reader of order files returns, and where it rejects an invalid text."""
 import pathlib
 
 import pytest
@@ -19,7 +19,7 @@ STATED: list[tuple[bytes, str, int | None, int]] = [
     (b"order2 2 5\n1 2\nmakespan 7\n", "0 1", 5, 7),
 ]
 
-# Texts with a fault of the syntax, and how far such a text can be completed.
+# Texts with a syntax fault, and the length of the longest prefix with which a valid text begins.
 SYNTAX = [
     (b"", 0),
     (b"order", 5),
@@ -68,12 +68,12 @@ JOBS = [
     (b"order2 3 2\n2 2 3\nmakespan 1\n", "Repeated", 2),
 ]
 
-# Each front of an order file but the whole of it, by how long it is.
+# Each proper prefix of an order file, by its length.
 FRONTS = [text[:length] for text in (ORDER, ORDER2) for length in range(len(text))]
 
 
 def read(pfs_calls: Program, cwd: pathlib.Path, text: bytes, at_once: int) -> Ran:
-    """What the reader answers to a text, of which so many bytes are given at once."""
+    """Run the reader on a text that it gets in pieces of this many bytes."""
     return pfs_calls.run(f"order_file {at_once}", cwd, text)
 
 
@@ -88,20 +88,20 @@ def test_an_order_file_is_read(pfs_calls: Program, folder: pathlib.Path, text: b
 
 @pytest.mark.parametrize("at_once", [1, 100])
 @pytest.mark.parametrize("text, offset", SYNTAX, ids=[shown(text) for text, _ in SYNTAX])
-def test_another_syntax_is_refused(pfs_calls: Program, folder: pathlib.Path, text: bytes, offset: int,
-                                   at_once: int) -> None:
+def test_a_syntax_fault_is_reported_at_its_offset(pfs_calls: Program, folder: pathlib.Path, text: bytes, offset: int,
+                                                  at_once: int) -> None:
     assert read(pfs_calls, folder, text, at_once) == printed(f"Syntax {{ offset: {offset} }}")
 
 
 @pytest.mark.parametrize("at_once", [1, 100])
 @pytest.mark.parametrize("text, fault, place", JOBS, ids=[shown(text) for text, *_ in JOBS])
-def test_other_jobs_are_refused(pfs_calls: Program, folder: pathlib.Path, text: bytes, fault: str, place: int,
-                                at_once: int) -> None:
+def test_a_wrong_job_is_reported_at_its_place(pfs_calls: Program, folder: pathlib.Path, text: bytes, fault: str,
+                                              place: int, at_once: int) -> None:
     assert read(pfs_calls, folder, text, at_once) == printed(f"{fault} {{ place: {place} }}")
 
 
 @pytest.mark.parametrize("front", FRONTS, ids=[shown(front) for front in FRONTS])
-def test_a_cut_file_is_refused_where_it_ends(pfs_calls: Program, folder: pathlib.Path, front: bytes) -> None:
+def test_a_cut_file_is_rejected_at_its_end(pfs_calls: Program, folder: pathlib.Path, front: bytes) -> None:
     assert read(pfs_calls, folder, front, 100) == printed(f"Syntax {{ offset: {len(front)} }}")
 
 
@@ -109,7 +109,7 @@ def test_a_byte_too_many_is_too_long(pfs_calls: Program, folder: pathlib.Path) -
     assert read(pfs_calls, folder, b"x" * 65537, 100_000) == printed("TooLong")
 
 
-def test_the_longest_text_is_judged(pfs_calls: Program, folder: pathlib.Path) -> None:
+def test_the_longest_text_is_validated(pfs_calls: Program, folder: pathlib.Path) -> None:
     assert read(pfs_calls, folder, b"x" * 65536, 100_000) == printed("Syntax { offset: 0 }")
 
 

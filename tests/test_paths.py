@@ -11,7 +11,7 @@ PAGES = sorted(str(page.relative_to(TOP)) for pattern in ("*.md", "*/*.md", "doc
                for page in TOP.glob(pattern))
 # A path, or the name of a file, in backquotes.
 NAMED = re.compile(r"`((?:[\w.-]+/)+[\w.-]*|[\w-]+\.(?:antt|cpp|edit|hpp|md|py|rt))`")
-# Modules stand in the pages without these endings too.
+# The pages also name modules without these endings.
 MODULES = {".antt", ".edit", ".py", ".rt"}
 # What a build, a report or a wheel makes, any crate's name, a page of the kit, and a folder of an example.
 ELSEWHERE = re.compile(r"\bout(?:/|$)|\bNAME/|^START-HERE\.md$|/PROVED$|^(?:table|sizes|comparison)\.md$|^_gantt\.py$"
@@ -38,7 +38,7 @@ def missing_of(page: str, top: pathlib.Path) -> list[str]:
 
 
 @pytest.mark.parametrize("page", PAGES)
-def test_the_paths_of_this_page_are_there(page: str, top: pathlib.Path) -> None:
+def test_the_paths_of_this_page_exist(page: str, top: pathlib.Path) -> None:
     assert missing_of((top / page).read_text(), top) == []
 
 
@@ -53,8 +53,7 @@ def test_the_paths_of_this_page_are_there(page: str, top: pathlib.Path) -> None:
     ("out/rows.rt", []),
     ("src/columns", ["src/columns"]),
 ])
-def test_a_path(folder: pathlib.Path, named: str, missing: list[str]) -> None:
-    """One that is not there is found."""
+def test_a_path_that_does_not_exist_is_found(folder: pathlib.Path, named: str, missing: list[str]) -> None:
     (folder / "low" / "src").mkdir(parents=True)
     (folder / "low" / "src" / "rows.rt").touch()
     assert missing_of(f"The rows stand in `{named}`.", folder) == missing
@@ -62,7 +61,7 @@ def test_a_path(folder: pathlib.Path, named: str, missing: list[str]) -> None:
 
 @functools.cache
 def names_of_sources() -> set[str]:
-    """Each word of the sources and of their paths, but for the words of this file."""
+    """All words of the sources and of their paths, except this file."""
     paths = [path for path in files_below(TOP, is_passed_over) if path.suffix in TEXTS]
     texts = [*map(str, paths), *(path.read_text() for path in paths if path.name != "test_paths.py")]
     return {word for text in texts for word in re.findall(r"[A-Za-z]\w*", text)}
@@ -89,8 +88,7 @@ def test_the_names_of_this_page_are_in_the_sources(page: str, top: pathlib.Path)
     ("finisch()", ["finisch"]),
     ("pfs solve --layout taillard shop", []),
 ])
-def test_a_name(code: str, unknown: list[str]) -> None:
-    """One with a slip is found."""
+def test_a_misspelled_name_is_found(code: str, unknown: list[str]) -> None:
     assert unknown_of(f"It is computed by `{code}`.\n```\nany_name\n```\n") == unknown
 
 

@@ -50,7 +50,7 @@ c,100,10,100,4,0,1,1,200,200,0.0000,1000000,0.007000,ok
 a,20,5,0,4,0,1,1,101,100,1.0000,1000,0.001000,ok
 c,100,10,0,4,0,1,1,200,200,0.0000,1000,0.002000,ok
 """
-# Takes 2 and 4 and passes 0 and 3, each with gaps of its own, at 0 and at 10 rounds.
+# Takes 2 and 4 and passes 0 and 3, each with other gaps, at 0 and at 10 rounds.
 GAPS = {(2, 0): (21.0, 11.0), (4, 0): (22.0, 12.0), (2, 3): (23.0, 13.0), (4, 3): (24.0, 14.0)}
 PANELS = OLD_HEAD + "\n" + "".join(
     f"a,20,5,{rounds},{take},{passes},1,1,1,1,{gap:.4f},1000,0.001000,ok\n"
@@ -106,7 +106,7 @@ def test_a_report_has_its_table_and_its_plots(ending: str, report: Reported, fol
         assert picture.startswith(BEGINNINGS[ending]) and len(picture) > 5000, name
 
 
-def test_pictures_are_png_where_nothing_is_said(report: Reported, folder: pathlib.Path) -> None:
+def test_pictures_are_png_by_default(report: Reported, folder: pathlib.Path) -> None:
     assert report(REPORTED).status == 0
     made = sorted(path.name for path in (folder / "report").iterdir())
     assert made == ["gap.png", "means.png", "rpd.png", "seconds.png", "sizes.csv", "sizes.md", "sizes.tex", "table.csv",
@@ -114,7 +114,7 @@ def test_pictures_are_png_where_nothing_is_said(report: Reported, folder: pathli
 
 
 @pytest.mark.parametrize("text", BAD.values(), ids=BAD)
-def test_a_bad_csv_is_refused_and_nothing_is_left(text: str, report: Reported, folder: pathlib.Path) -> None:
+def test_an_invalid_csv_is_rejected_and_nothing_is_left(text: str, report: Reported, folder: pathlib.Path) -> None:
     told = report(text)
     assert (told.status, told.stdout) == (2, "")
     assert re.fullmatch("experiments/report: out.csv: [^\n]+\n", told.stderr), told.stderr
@@ -139,7 +139,7 @@ NAMES = ["a|b", "<img src=x>", "two\nlines", "_x_", "[l](http://x)", "\x1b[31mre
 
 
 def test_names_stay_in_their_cells(top: pathlib.Path, matplotlib: None, folder: pathlib.Path) -> None:
-    """In Markdown they are no marks, no formulas in a spreadsheet, and no codes on a terminal or in a picture."""
+    """They aren't read as marks in Markdown, formulas in a spreadsheet, or codes on a terminal or in a picture."""
     with open(folder / "out.csv", "w", newline="") as file:
         writer = csv.writer(file)
         writer.writerows([["instance", "makespan", "method", "seconds", "jobs", "machines", "rounds", "take", "passes"],
@@ -163,7 +163,7 @@ def test_names_stay_in_their_cells(top: pathlib.Path, matplotlib: None, folder: 
         assert any(name in text for text in shown), f"{name} is in no picture"
 
 
-def test_a_missing_csv_is_refused(top: pathlib.Path, matplotlib: None, folder: pathlib.Path) -> None:
+def test_a_missing_csv_is_rejected(top: pathlib.Path, matplotlib: None, folder: pathlib.Path) -> None:
     assert told_by([top / "experiments" / "report", "none.csv", "report"], folder).status == 2
     assert list(folder.iterdir()) == []
 
@@ -283,7 +283,7 @@ def test_each_setting_of_a_method_is_compared_by_means_of_the_instances_that_bot
             for row in compared(folder)] == [("0", "4", "2", "0", "0", "2"), ("100", "4", "2", "1", "1", "0")]
 
 
-def test_where_scipy_is_missing_that_is_said(top: pathlib.Path, matplotlib: None, folder: pathlib.Path) -> None:
+def test_a_missing_scipy_is_reported(top: pathlib.Path, matplotlib: None, folder: pathlib.Path) -> None:
     (folder / "scipy").mkdir()
     (folder / "scipy" / "__init__.py").write_text("raise ImportError('none')\n")
     for count, wanted, is_said in ((50, f"{2 / 2 ** 50:.4g}", False), (51, "", True)):
@@ -340,7 +340,7 @@ def test_instances_without_a_reference_have_no_rpd(top: pathlib.Path, matplotlib
 
 
 def test_a_reference_has_one_makespan_of_an_instance(report: Reported, folder: pathlib.Path) -> None:
-    """The same one twice is no fault."""
+    """It may be given twice."""
     (folder / "best.csv").write_text("instance,makespan\na,100\nb,50\na,101\n")
     told = report(REPORTED, "--reference", "best.csv")
     assert (told.status, told.stderr) == (2, "experiments/report: best.csv: two makespans of a\n"), "one is taken"
@@ -429,7 +429,7 @@ def test_holms_correction_is_for_all_pairs(top: pathlib.Path, matplotlib: None, 
 
 
 def test_settings_of_one_method_are_compared(report: Reported, folder: pathlib.Path) -> None:
-    """Take 2 and take 4 of the same rounds. Other rounds of a search are no comparison."""
+    """Take 2 and take 4 of the same rounds. Settings with other rounds aren't compared."""
     text = OLD_HEAD + "\n" + "".join(f"i{at},20,5,{rounds},{take},0,1,1,{1000 + take * at - rounds},900,1.0,1,0.1,ok\n"
                                      for at in range(1, 5) for rounds in (1, 2) for take in (2, 4))
     told = report(text)
@@ -511,7 +511,7 @@ def test_the_rpd_by_rounds(report: Reported, folder: pathlib.Path) -> None:
 
 
 def test_the_rpd_by_seconds(report: Reported, folder: pathlib.Path) -> None:
-    """A panel for each size; the seconds stand by their logarithms."""
+    """A panel for each size; the seconds have a logarithmic scale."""
     assert report(REPORTED, "--format", "svg").status == 0
     picture = Picture(folder / "report" / "seconds.svg", "axes_1")
     assert [letters.text for letters in picture.texts() if "×" in letters.text] == ["20×5"]
@@ -596,7 +596,7 @@ def test_rounds_have_a_logarithmic_scale(report: Reported, folder: pathlib.Path)
 
 @pytest.mark.parametrize("ending", ["svg", "pdf"])
 def test_a_report_made_again_has_the_same_bytes(ending: str, report: Reported, folder: pathlib.Path) -> None:
-    """At another second, and where the tools are told another one."""
+    """The second report is made more than a second later."""
     made = []
     for _ in range(2):
         assert report(REPORTED, "--format", ending).status == 0
@@ -615,7 +615,7 @@ def test_marks_of_points_are_whole(name: str, line: str, report: Reported, folde
     assert len(list(group.iter("{http://www.w3.org/2000/svg}use"))) == 2
 
 
-def test_sizes_have_colours_that_can_be_told_apart(report: Reported, folder: pathlib.Path) -> None:
+def test_sizes_have_distinguishable_colours(report: Reported, folder: pathlib.Path) -> None:
     """By all eyes, five numbers of jobs on the same machines."""
     text = OLD_HEAD + "\n" + "".join(f"{jobs},{jobs},5,{rounds},4,0,1,1,9,9,{jobs}.0,1,0.1,ok\n"
                                      for jobs in (20, 50, 100, 200, 500) for rounds in (0, 10))
@@ -627,7 +627,7 @@ def test_sizes_have_colours_that_can_be_told_apart(report: Reported, folder: pat
 
 @pytest.mark.parametrize("name", ["gap", "rpd", "seconds", "time"])
 def test_letters_can_be_read_at_the_width_of_a_column(name: str, report: Reported, folder: pathlib.Path) -> None:
-    """They have 7 points or more, and there are no titles where none are wanted."""
+    """They have 7 points or more, and with `--no-title` there are no titles."""
     assert report(REPORTED, "--format", "svg", "--width", "3.5", "--no-title").status == 0
     picture = Picture(folder / "report" / f"{name}.svg")
     (points, _), = picture.shapes("patch_1")
@@ -644,7 +644,7 @@ def test_the_fonts_of_a_pdf_are_truetype(report: Reported, folder: pathlib.Path)
 
 @pytest.mark.parametrize(("take", "passes"), GAPS, ids=[f"take {take}, passes {passes}" for take, passes in GAPS])
 def test_a_panel_shows_the_gaps_of_the_take_and_the_passes_in_its_title(take: int, passes: int, report: Reported,
-                                                                       folder: pathlib.Path) -> None:
+                                                                        folder: pathlib.Path) -> None:
     assert report(PANELS, "--format", "svg").status == 0
     path = folder / "report" / "gap.svg"
     panels = [Picture(path, f"axes_{number}") for number in range(1, 5)]
@@ -678,13 +678,13 @@ def test_a_box_has_the_nanoseconds_a_cell_of_most_rounds(size: str, parts: dict[
     assert found == parts, f"nanoseconds a cell in the box of {size}"
 
 
-def test_a_box_stands_above_its_size(times: Picture) -> None:
+def test_a_box_is_above_its_size(times: Picture) -> None:
     for size in ("20-5", "100-10"):
         label, = times.find(size.replace("-", "×"))
         across = [x for x, _ in times.line(f"median-{size}")]
         assert sum(across) / len(across) == pytest.approx(label.x, abs=0.5)
 
 
-def test_the_title_of_the_times_tells_the_most_rounds(times: Picture) -> None:
+def test_the_title_of_the_times_names_the_most_rounds(times: Picture) -> None:
     assert len(times.find("Time a cell at 100 rounds, with the start of the process")) == 1
     assert len(times.find("processor time a table cell, ns")) == 1

@@ -1,21 +1,22 @@
-"""Rounds by given words, which evaluate each place afresh or work by rows of heads and tails."""
+"""Rounds with given random words, with each of two inserters: one evaluates each place from scratch, the other uses
+rows of heads and tails."""
 import pathlib
 
 import pytest
 from support.printed import printed
 from support.program import Program
 
-# Shops: how many jobs and machines there are, and the times job by job.
+# Instances: the numbers of jobs and machines, and the times job by job.
 THREE_JOBS = "3 2 3 2 2 5 4 1"
 EQUAL_TIMES = "3 2 1 1 1 1 1 1"
-# All orders are as long, so that a job that is taken out goes back first.
+# All orders have the same makespan, so that a removed job is reinserted at the first place.
 TWO_JOBS = "2 1 5 3"
 ONE_JOB = "1 1 0"
-# One order alone is shortest.
+# Only one order has the least makespan.
 ONE_BEST = "3 3 3 1 0 3 0 1 0 6 0"
 
-# Rounds behind NEH, each with its shop, its words and its passes; what NEH and the round keep, with the cells that are
-# counted by then. An insertion that makes k jobs on m machines counts k*k*m cells.
+# Rounds after NEH, each with its instance, random words and passes, and with the results of NEH and of the round with
+# the cells counted so far. An insertion that leads to k jobs on m machines counts k*k*m cells.
 AFRESH = {
     "the order of three jobs is built again": (
         THREE_JOBS, "0 0", 0, ("2 1 3", 10, 28), ("2 1 3", 10, 28 + 26)),
@@ -31,7 +32,7 @@ AFRESH = {
         ONE_JOB, "7", 0, ("1", 0, 1), ("1", 0, 1 + 1)),
 }
 
-# The same by rows, where it counts (4k-2)*m.
+# The same with rows of heads and tails; an insertion then counts (4k-2)*m cells.
 BY_ROWS = {
     "the order of three jobs is built again": (
         THREE_JOBS, "0 0", 0, ("2 1 3", 10, 36), ("2 1 3", 10, 36 + 32)),
@@ -45,8 +46,8 @@ BY_ROWS = {
         ONE_JOB, "7", 0, ("1", 0, 2), ("1", 0, 2 + 2)),
 }
 
-# Rounds of the jobs in the order of their numbers, with the cells that are counted afresh and by rows. The last two
-# shops have random times, and a program that evaluates whole orders has computed what is kept.
+# Rounds that start from the jobs in the order of their numbers, with the cells that each inserter counts. The last two
+# instances have random times, and their results were computed by a program that evaluates whole orders.
 FROM_NUMBERS = {
     "without a pass a longer order is not left": (ONE_BEST, "0", 0, "2 3 1", 10, 9 + 27, 9 + 30),
     "a pass is made before the comparison": (ONE_BEST, "0", 1, "3 2 1", 7, 9 + 108, 9 + 120),
@@ -61,7 +62,7 @@ Kept = tuple[str, int, int]
 
 
 def told(kept: Kept) -> str:
-    """The line that tells what is kept."""
+    """The line that pfs_calls prints for a kept order."""
     order, makespan, cells = kept
     return f"order {order}, makespan {makespan}, {cells} cells"
 
@@ -69,8 +70,8 @@ def told(kept: Kept) -> str:
 @pytest.mark.parametrize("inserter, shop, words, passes, by_neh, by_round", [
     pytest.param(inserter, *case, id=f"{inserter}: {name}")
     for inserter, cases in (("afresh", AFRESH), ("rows", BY_ROWS)) for name, case in cases.items()])
-def test_a_round_behind_neh(pfs_calls: Program, folder: pathlib.Path, inserter: str, shop: str, words: str, passes: int,
-                            by_neh: Kept, by_round: Kept) -> None:
+def test_a_round_after_neh(pfs_calls: Program, folder: pathlib.Path, inserter: str, shop: str, words: str, passes: int,
+                           by_neh: Kept, by_round: Kept) -> None:
     ran = pfs_calls.run(f"one_round neh {inserter} {passes} {shop} {words}", folder)
     assert ran == printed(told(by_neh), told(by_round))
 
@@ -78,8 +79,9 @@ def test_a_round_behind_neh(pfs_calls: Program, folder: pathlib.Path, inserter: 
 @pytest.mark.parametrize("inserter", ["afresh", "rows"])
 @pytest.mark.parametrize("shop, words, passes, order, makespan, afresh, by_rows", FROM_NUMBERS.values(),
                          ids=FROM_NUMBERS)
-def test_a_round_behind_the_numbers(pfs_calls: Program, folder: pathlib.Path, inserter: str, shop: str, words: str,
-                                    passes: int, order: str, makespan: int, afresh: int, by_rows: int) -> None:
+def test_a_round_from_the_order_of_numbers(pfs_calls: Program, folder: pathlib.Path, inserter: str, shop: str,
+                                           words: str, passes: int, order: str, makespan: int, afresh: int,
+                                           by_rows: int) -> None:
     ran = pfs_calls.run(f"one_round numbers {inserter} {passes} {shop} {words}", folder)
     assert ran == printed(told((order, makespan, afresh if inserter == "afresh" else by_rows)))
 

@@ -1,4 +1,4 @@
-"""Searches of small random shops, whose answers a plain program in another language has computed."""
+"""Searches of small random instances, compared with the results of a plain program in another language."""
 import json
 import pathlib
 from typing import Any
@@ -17,6 +17,7 @@ def test_there_are_searches() -> None:
 
 @pytest.mark.quick
 @pytest.mark.parametrize("search", SEARCHES, ids=lambda search: LINE.format(**search))
-def test_search(pfs: Program, folder: pathlib.Path, search: dict[str, Any]) -> None:
+def test_a_search_has_the_result_of_the_plain_program(pfs: Program, folder: pathlib.Path,
+                                                      search: dict[str, Any]) -> None:
     (folder / "shop").write_text(search["file"])
     assert pfs.run(LINE.format(**search), folder) == Ran(search["printed"].encode(), b"", 0)

@@ -1,4 +1,4 @@
-"""That a skip says why, and is a failure in CI."""
+"""A skipped test states its reason, and is a failure in CI."""
 import os
 import pathlib
 import subprocess

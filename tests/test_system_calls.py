@@ -1,5 +1,5 @@
-"""What the program asks of the system, seen by strace: in which order it opens files, how long its writes are, and that
-it tries nothing again that has failed; strace puts errors in the place of calls."""
+"""The system calls of the program, traced by strace: it opens files in order, its writes have the right lengths, and it
+repeats no call that failed. strace injects the failures."""
 import pathlib
 import re
 import subprocess
@@ -19,7 +19,7 @@ LONG_OUTPUTS = {"generate 500 20 873654221": generated(500, 20, 873654221), "gen
 
 
 class Call(NamedTuple):
-    """A call of the system, with its arguments as strace tells them."""
+    """A system call, with its arguments as strace prints them."""
     name: str
     arguments: str
     result: int
@@ -33,14 +33,14 @@ class Tracer:
         self.pfs = pfs
 
     def run(self, line: str, folder: pathlib.Path, *options: str) -> tuple[Ran, list[Call]]:
-        """A run, with the calls that these options of strace choose."""
+        """Run the program; also return the calls that these options of strace select."""
         told = folder / "trace"
         ran = self.strace.run(["--quiet=all", "-o", str(told), *options, *self.pfs.words(line)], folder)
         found = re.findall(r"^(\w+)\((.*)\) += (-?\d+)", told.read_text(), re.MULTILINE)
         return ran, [Call(name, arguments, int(result)) for name, arguments, result in found]
 
     def calls(self, line: str, folder: pathlib.Path, names: str, *files: str) -> list[str]:
-        """The calls of these names on these files, each with the name of its file, as it is told."""
+        """The calls with these names on these files, each with the name of its file, in their order."""
         paths = [it for file in files for it in ("-P", file)]
         ran, calls = self.run(line, folder, "-y", "-e", f"trace={names}", *paths)
         assert ran == ANSWERS[line]
@@ -48,8 +48,7 @@ class Tracer:
                 if re.search(rf'["/]{file}[">]', call.arguments)]
 
     def writes(self, line: str, folder: pathlib.Path, inject: str = "") -> tuple[Ran, list[int]]:
-        """A run, and what came of each of its writes to standard output, where strace perhaps puts something in the
-        place of a write."""
+        """Run the program; also return the results of its writes to standard output. `inject` is a fault for strace."""
         options = ["-e", "trace=write", *(["-e", f"inject=write:{inject}"] if inject else [])]
         ran, calls = self.run(line, folder, *options)
         return ran, [call.result for call in calls if call.arguments.startswith("1, ")]
@@ -81,8 +80,9 @@ def test_files_are_opened_in_order(tracer: Tracer, worked: pathlib.Path, line: s
     ("ENOMEM", "no memory"), ("EACCES", "cannot open"), ("EMFILE", "cannot open"), ("ENFILE", "cannot open"),
     ("EIO", "cannot open"),
 ])
-def test_an_error_of_opening(tracer: Tracer, worked: pathlib.Path, line: str, file: str, error: str, told: str) -> None:
-    """Want of memory is told as that, and all else as a file that can't be opened."""
+def test_a_failed_open_is_reported(tracer: Tracer, worked: pathlib.Path, line: str, file: str, error: str,
+                                   told: str) -> None:
+    """ENOMEM is reported as `no memory`, any other error as a file that can't be opened."""
     ran, calls = tracer.run(line, worked, "-P", file, "-e", "trace=openat", "-e", f"inject=openat:error={error}")
     assert (ran, [call.result for call in calls]) == (refused(told), [-1])
 
@@ -95,8 +95,9 @@ def test_an_error_of_opening(tracer: Tracer, worked: pathlib.Path, line: str, fi
     (TABLE, "best", "order file read failed"),
 ])
 @pytest.mark.parametrize("error", ["EINTR", "EIO", "EAGAIN", "ENOMEM"])
-def test_an_error_of_reading(tracer: Tracer, worked: pathlib.Path, line: str, file: str, told: str, error: str) -> None:
-    """No read is tried again, nor one that was interrupted."""
+def test_a_failed_read_is_reported_and_not_repeated(tracer: Tracer, worked: pathlib.Path, line: str, file: str,
+                                                    told: str, error: str) -> None:
+    """Not even one that was interrupted."""
     ran, calls = tracer.run(line, worked, "-P", file, "-e", "trace=read", "-e", f"inject=read:error={error}")
     assert (ran, [call.result for call in calls]) == (refused(told), [-1])
 
@@ -110,7 +111,7 @@ def test_a_short_text_goes_out_in_one_write(tracer: Tracer, worked: pathlib.Path
 
 @pytest.mark.parametrize("line", LONG_OUTPUTS)
 def test_a_long_text_goes_out_by_the_buffer(tracer: Tracer, folder: pathlib.Path, line: str) -> None:
-    """Each write but the last is of a full buffer, but for a part that would no longer fit."""
+    """Each write but the last is of a full buffer, less the part that no longer fits."""
     ran, sizes = tracer.writes(line, folder)
     assert ran == Ran(LONG_OUTPUTS[line], b"", 0)
     assert [size for size in sizes[:-1] if not BUFFER - LONGEST_PART < size <= BUFFER] == [], sizes
@@ -119,14 +120,15 @@ def test_a_long_text_goes_out_by_the_buffer(tracer: Tracer, folder: pathlib.Path
 
 @pytest.mark.parametrize("line", [VALUE, SOLVE, CHECK, TABLE, CONVERT, GENERATE])
 @pytest.mark.parametrize("error", ["EINTR", "EAGAIN", "EIO", "ENOSPC", "EPIPE", "EBADF"])
-def test_an_error_of_writing(tracer: Tracer, worked: pathlib.Path, line: str, error: str) -> None:
-    """No write is tried again, nor one that was interrupted."""
+def test_a_failed_write_is_reported_and_not_repeated(tracer: Tracer, worked: pathlib.Path, line: str,
+                                                     error: str) -> None:
+    """Not even one that was interrupted."""
     assert tracer.writes(line, worked, f"error={error}:when=1") == (unwritten(0), [-1])
 
 
 @pytest.mark.parametrize("line", LONG_OUTPUTS)
 @pytest.mark.parametrize("error", ["EINTR", "EIO"])
-def test_an_error_of_the_second_write(tracer: Tracer, folder: pathlib.Path, line: str, error: str) -> None:
+def test_a_failed_second_write_is_reported(tracer: Tracer, folder: pathlib.Path, line: str, error: str) -> None:
     ran, results = tracer.writes(line, folder, f"error={error}:when=2")
     first = len(ran.stdout)
     assert ran == unwritten(first)._replace(stdout=LONG_OUTPUTS[line][:first])
@@ -134,13 +136,12 @@ def test_an_error_of_the_second_write(tracer: Tracer, folder: pathlib.Path, line
 
 
 @pytest.mark.parametrize("line", [VALUE, SOLVE, CHECK, TABLE, CONVERT, GENERATE])
-def test_a_write_that_takes_nothing(tracer: Tracer, worked: pathlib.Path, line: str) -> None:
+def test_a_write_of_no_byte_is_a_failure(tracer: Tracer, worked: pathlib.Path, line: str) -> None:
     assert tracer.writes(line, worked, "retval=0:when=1") == (unwritten(0), [0])
 
 
 @pytest.mark.parametrize("line", [VALUE, SOLVE, CHECK, TABLE, CONVERT, GENERATE])
-def test_a_write_that_takes_some_bytes(tracer: Tracer, worked: pathlib.Path, line: str) -> None:
-    """The rest goes out behind them."""
+def test_the_rest_of_a_partial_write_is_written(tracer: Tracer, worked: pathlib.Path, line: str) -> None:
     text = ANSWERS[line].stdout
     ran, results = tracer.writes(line, worked, "retval=5:when=1")
     assert (ran, results) == (Ran(text[5:], b"", 0), [5, len(text) - 5])

@@ -25,7 +25,7 @@ VALUES = [
     (b"3 2 0 0 0\n3 2 4\n2 5 1000000000\n", 1000000010),
 ]
 
-# Files in Taillard's layout that are refused.
+# Invalid files in Taillard's layout.
 REFUSED = [
     b"",
     TITLE,
@@ -55,7 +55,7 @@ TIME_TABLE = printed("table 3 2", "2 0 2 2 7", "1 2 5 7 9", "3 5 9 9 10", "makes
 
 
 def refused(told: str) -> Ran:
-    """A run that refuses a file, prints nothing and tells this."""
+    """A run that rejects a file: it prints nothing and reports this fault."""
     return Ran(b"", f"pfs: {told}\n".encode(), 2)
 
 
@@ -97,7 +97,7 @@ CONVERTED = [
     ("taillard", "orlib", b"1 1 7 11 10\n3\n", b"flow shop instance\n1 1\n0 3\n"),
 ]
 
-# Files in Taillard's layout that aren't converted, and what is told.
+# Files in Taillard's layout that `convert` rejects, and the reported fault.
 UNCONVERTED = [
     (b"", "no block, found 0"),
     (THREE_JOBS_BY_JOB, "size line 2 has a wrong count"),
@@ -105,7 +105,7 @@ UNCONVERTED = [
     (b"1 1 0 0 0\n", "truncated after 0 times"),
 ]
 
-# The words of `generate`, and the times machine by machine: those that are published.
+# Arguments of `generate`, and the times machine by machine, as published.
 GENERATED = [
     ("5 1 873654221", [b"54 83 15 71 77"]),
     ("2 2 873654221", [b"54 83", b"15 71"]),
@@ -115,7 +115,7 @@ GENERATED = [
 
 
 def run(pfs: Program, folder: pathlib.Path, words: str, file: bytes, orders: bytes | None = None) -> Ran:
-    """What the program answers on a file behind these words, and on an order file behind it."""
+    """Run the program with these arguments, a file with this text, and perhaps an order file."""
     (folder / "file").write_bytes(file)
     if orders is None:
         return pfs.run(f"{words} file", folder)
@@ -124,24 +124,24 @@ def run(pfs: Program, folder: pathlib.Path, words: str, file: bytes, orders: byt
 
 
 @pytest.mark.parametrize("file, makespan", VALUES, ids=[shown(file) for file, _ in VALUES])
-def test_value(pfs: Program, folder: pathlib.Path, file: bytes, makespan: int) -> None:
+def test_value_prints_the_makespan(pfs: Program, folder: pathlib.Path, file: bytes, makespan: int) -> None:
     assert run(pfs, folder, "value --layout taillard", file) == printed(f"makespan {makespan}")
 
 
 @pytest.mark.parametrize("file", REFUSED, ids=shown)
-def test_a_refused_file_has_status_2_and_prints_nothing(pfs: Program, folder: pathlib.Path, file: bytes) -> None:
+def test_an_invalid_file_has_status_2_and_prints_nothing(pfs: Program, folder: pathlib.Path, file: bytes) -> None:
     ran = run(pfs, folder, "value --layout taillard", file)
     assert (ran.stdout, ran.status) == (b"", 2)
 
 
 @pytest.mark.parametrize("block, makespan", [(1, 7), (2, 11)])
-def test_value_of_a_block(pfs: Program, folder: pathlib.Path, block: int, makespan: int) -> None:
+def test_value_reads_the_requested_block(pfs: Program, folder: pathlib.Path, block: int, makespan: int) -> None:
     wanted = printed(f"makespan {makespan}")
     assert run(pfs, folder, f"value --layout orlib --block {block}", TWO_BLOCKS) == wanted
 
 
 @pytest.mark.parametrize("orders, verdict", VERDICTS, ids=[shown(orders) for orders, _ in VERDICTS])
-def test_check(pfs: Program, folder: pathlib.Path, orders: bytes, verdict: Ran) -> None:
+def test_check_prints_the_verdict(pfs: Program, folder: pathlib.Path, orders: bytes, verdict: Ran) -> None:
     assert run(pfs, folder, "check --layout taillard", THREE_JOBS, orders) == verdict
 
 
@@ -169,40 +169,41 @@ def test_an_endless_order_file_is_too_long(pfs: Program, folder: pathlib.Path) -
 
 
 @pytest.mark.parametrize("orders, table", TIME_TABLES, ids=[shown(orders) for orders, _ in TIME_TABLES])
-def test_table(pfs: Program, folder: pathlib.Path, orders: bytes, table: Ran) -> None:
+def test_table_prints_the_time_table(pfs: Program, folder: pathlib.Path, orders: bytes, table: Ran) -> None:
     assert run(pfs, folder, "table --layout taillard", THREE_JOBS, orders) == table
 
 
 @pytest.mark.parametrize("source, target, file, converted", CONVERTED, ids=[shown(file) for *_, file, _ in CONVERTED])
-def test_convert(pfs: Program, folder: pathlib.Path, source: str, target: str, file: bytes, converted: bytes) -> None:
+def test_convert_writes_the_other_layout(pfs: Program, folder: pathlib.Path, source: str, target: str, file: bytes,
+                                         converted: bytes) -> None:
     assert run(pfs, folder, f"convert --from {source} --to {target}", file) == Ran(converted, b"", 0)
 
 
-def test_convert_writes_the_wanted_block(pfs: Program, folder: pathlib.Path) -> None:
+def test_convert_writes_the_requested_block(pfs: Program, folder: pathlib.Path) -> None:
     file = b"first\n1 1\n0 7\nsecond\n3 2\n0 3 1 2\n0 2 1 5\n0 4 1 1\nthird\n"
     ran = run(pfs, folder, "convert --from orlib --to taillard --block 2", file)
     assert ran == Ran(THREE_JOBS, b"", 0)
 
 
 @pytest.mark.parametrize("file, told", UNCONVERTED, ids=[told for _, told in UNCONVERTED])
-def test_convert_writes_nothing_of_a_refused_file(pfs: Program, folder: pathlib.Path, file: bytes, told: str) -> None:
+def test_convert_writes_nothing_of_an_invalid_file(pfs: Program, folder: pathlib.Path, file: bytes, told: str) -> None:
     assert run(pfs, folder, "convert --from taillard --to orlib", file) == refused(told)
 
 
 @pytest.mark.parametrize("words, times", GENERATED, ids=[words for words, _ in GENERATED])
-def test_generate(pfs: Program, folder: pathlib.Path, words: str, times: list[bytes]) -> None:
+def test_generate_draws_the_published_times(pfs: Program, folder: pathlib.Path, words: str, times: list[bytes]) -> None:
     text = taillard(words.encode() + b" 0 0", *times)
     assert pfs.run(f"generate {words}", folder) == Ran(text, b"", 0)
 
 
 @pytest.mark.parametrize("size", ["1 1", "5000 200"])
 @pytest.mark.parametrize("seed", [0, 2147483647, 18446744073709551615])
-def test_generate_refuses_a_seed_out_of_range(pfs: Program, folder: pathlib.Path, size: str, seed: int) -> None:
+def test_generate_rejects_a_seed_out_of_range(pfs: Program, folder: pathlib.Path, size: str, seed: int) -> None:
     assert pfs.run(f"generate {size} {seed}", folder) == refused("seed out of range")
 
 
 def test_the_published_bound_has_two_summands(pfs: Program, folder: pathlib.Path) -> None:
-    """The load of the first machine, and the least time of a job behind it, that of the third job."""
+    """The load of the first machine, and the least time of a job on the later machines, that of the third job."""
     generated = pfs.run("generate 20 5 873654221", folder).stdout
     first, *others = [[int(time) for time in row.split()] for row in generated.splitlines()[3:]]
     behind = [sum(times) for times in zip(*others)]

@@ -1,4 +1,4 @@
-"""What `solve` prints of small shops and of published ones."""
+"""What `solve` prints for small instances and for published ones."""
 import pathlib
 
 import pytest
@@ -8,7 +8,7 @@ from support.program import Program, Ran
 
 ONE_JOB = b"1 1 0 0 0\n0\n"
 
-# Shops in Taillard's layout, options, and the order, the makespan and the cells that are printed.
+# Instances in Taillard's layout, options, and the printed order, makespan and cells.
 SOLVED = [
     (THREE_JOBS, "", ["order2 3 2", "2 1 3", "makespan 10", "cells 36"]),
     (b"3 2 0 0 0\n1 1 1\n1 1 1\n", "", ["order2 3 2", "3 2 1", "makespan 4", "cells 36"]),
@@ -38,18 +38,19 @@ PUBLISHED = [
 
 
 def solve(pfs: Program, folder: pathlib.Path, file: bytes, options: str = "") -> Ran:
-    """What `solve` answers to a shop in Taillard's layout; each option has a blank behind it."""
+    """Run `solve` on an instance in Taillard's layout; each option ends with a blank."""
     (folder / "shop").write_bytes(file)
     return pfs.run(f"solve --layout taillard {options}shop", folder)
 
 
 @pytest.mark.parametrize("file, options, lines", SOLVED, ids=[
     f"{options}{file.splitlines()[0].decode()[:20]}: {lines[-1]}" for file, options, lines in SOLVED])
-def test_solve(pfs: Program, folder: pathlib.Path, file: bytes, options: str, lines: list[str]) -> None:
+def test_solve_prints_the_order_and_its_makespan(pfs: Program, folder: pathlib.Path, file: bytes, options: str,
+                                                 lines: list[str]) -> None:
     assert solve(pfs, folder, file, f"{options}--cells ") == printed(*lines)
 
 
-def test_cells_are_printed_where_they_are_asked_for(pfs: Program, folder: pathlib.Path) -> None:
+def test_cells_are_printed_only_with_the_option(pfs: Program, folder: pathlib.Path) -> None:
     assert solve(pfs, folder, THREE_JOBS) == printed("order2 3 2", "2 1 3", "makespan 10")
 
 
@@ -58,12 +59,12 @@ def test_cells_are_printed_where_they_are_asked_for(pfs: Program, folder: pathli
     (THREE_JOBS, b"pfs: take 4 exceeds 3 jobs\n", 3),
     (b"3 2 0 0 0\n", b"pfs: truncated after 0 times\n", 2),
 ], ids=["a whole file", "a cut file"])
-def test_the_take_is_judged_behind_the_file(pfs: Program, folder: pathlib.Path, file: bytes, told: bytes, status: int,
+def test_the_take_is_checked_after_the_file(pfs: Program, folder: pathlib.Path, file: bytes, told: bytes, status: int,
                                             rounds: int) -> None:
     assert solve(pfs, folder, file, f"--rounds {rounds} --take 4 --cells ") == Ran(b"", told, status)
 
 
-def test_the_take_is_judged_before_anything_is_written(pfs: Program, folder: pathlib.Path) -> None:
+def test_the_take_is_checked_before_anything_is_written(pfs: Program, folder: pathlib.Path) -> None:
     (folder / "shop").write_bytes(THREE_JOBS)
     with open("/dev/full", "wb") as full:
         ran = pfs.run("solve --layout taillard --take 4 shop", folder, stdout=full)
@@ -71,7 +72,7 @@ def test_the_take_is_judged_before_anything_is_written(pfs: Program, folder: pat
 
 
 @pytest.mark.parametrize("seed, makespan", PUBLISHED, ids=[str(seed) for seed, _ in PUBLISHED])
-def test_neh_is_as_long_as_published(pfs: Program, folder: pathlib.Path, seed: int, makespan: int) -> None:
+def test_neh_has_the_published_makespan(pfs: Program, folder: pathlib.Path, seed: int, makespan: int) -> None:
     ran = solve(pfs, folder, pfs.run(f"generate 20 5 {seed}", folder).stdout)
     assert (ran.stdout.splitlines()[-1], ran.status) == (b"makespan %d" % makespan, 0)
 

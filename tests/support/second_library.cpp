@@ -1,7 +1,7 @@
 // A second implementation of lib/pfs.h, with which tests compare the first. It is written from pfs.h and
-// docs/FORMATS.md and shares no method with the first: it judges whole lines of whole texts, asks of each front of an
-// order file whether a text of the grammar begins with it, and evaluates whole orders, job by job, at every place of an
-// insertion. So it serves for small instances only. Its answers are made whole before the first output is written.
+// docs/FORMATS.md and shares no method with the first: it validates whole lines of whole texts, checks for each prefix
+// of an order file whether a text of the grammar begins with it, and evaluates the whole order for each place of an
+// insertion. So it is for small instances only. It computes each result completely before it writes an output.
 #include "../../bench/pcg32.hpp"
 #include "pfs.h"
 

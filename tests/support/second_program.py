@@ -1,9 +1,9 @@
 #!/usr/bin/env python3
-"""A second program that does what `pfs` does: for the same words, files and standard input the same output, errors
-and exit status. It is written from docs/COMMANDS.md and docs/FORMATS.md and shares no method with the first: it judges
-whole lines of whole texts, asks of each front of an order file whether a text of the grammar begins with it, and
-evaluates whole orders, job by job, at every place of an insertion. So it serves for small shops only. `answer` is for
-tests; as a program it takes the words of `pfs`."""
+"""A second program that does what `pfs` does: for the same arguments, files and standard input it has the same output,
+errors and exit status. It is written from docs/COMMANDS.md and docs/FORMATS.md and shares no method with the first: it
+validates whole lines of whole texts, checks for each prefix of an order file whether a text of the grammar begins with
+it, and evaluates the whole order for each place of an insertion. So it is for small instances only. Tests call
+`answer`; as a program it takes the arguments of `pfs`."""
 import os
 import re
 import sys
@@ -26,21 +26,21 @@ pfs convert --from L --to L [--block K] FILE
 pfs generate N M SEED
 """
 
-# The bytes of a file, and what stands for those of one that can be opened, but not be read.
+# The bytes of a file, or UNREADABLE for a file that can be opened but not read.
 Contents = bytes | None
 UNREADABLE = None
 
 DIGITS = re.compile(rb"[0-9]+")
 DIGIT = re.compile(rb"[0-9]")
 WORD_BYTE = re.compile(rb"[^0-9 \t\r]")
-# The names of an order file's first line, one for each version, and the limits of the numbers behind it, from 1 on.
+# The first word of an order file, for each version, and the greatest value of each number after it; the least is 1.
 FIRST_LINES = {b"order": [MOST_JOBS], b"order2": [MOST_JOBS, MOST_MACHINES]}
 JOB = re.compile(rb"0|[1-9][0-9]{0,8}")
 MAKESPAN = re.compile(rb"0|[1-9][0-9]{0,17}")
 
 
 class Stop(Exception):
-    """Nothing more is done: what is told on standard error, and the exit status."""
+    """The program ends: with this text on standard error and this exit status."""
 
     def __init__(self, told: bytes, status: int) -> None:
         super().__init__(told)
@@ -58,7 +58,7 @@ LAYOUT = {b"taillard": b"taillard", b"orlib": b"orlib"}.get
 
 
 def number_between(least: int, most: int) -> Callable[[bytes], int | None]:
-    """Reads a number of these: digits, perhaps with leading zeros, or a plus in front."""
+    """A reader of numbers in this range: digits, perhaps with a plus or leading zeros in front."""
 
     def read(word: bytes) -> int | None:
         if not re.fullmatch(rb"\+?[0-9]+", word):
@@ -69,8 +69,7 @@ def number_between(least: int, most: int) -> Callable[[bytes], int | None]:
     return read
 
 
-# The options of a command by their names, each with how its value is read and what stands for it where it is left out.
-# A flag has no value.
+# The options of a command by their names, each with the reader of its value and its default. A flag has no value.
 Options = Mapping[bytes, tuple[Callable[[bytes], Any] | None, Any]]
 
 NEEDED = object()
@@ -171,11 +170,11 @@ class Body:
         return self.size * (2 if self.layout == b"orlib" else 1)
 
     def times(self) -> int:
-        """How many of the numbers that have been read are times."""
+        """The number of times among the numbers that were read."""
         return self.count // 2 if self.layout == b"orlib" else self.count
 
     def take(self, value: int, offset: int) -> None:
-        """Judges the next number, whose first digit is at this offset."""
+        """Validate the next number, whose first digit is at this offset."""
         if self.count == self.due():
             raise refused(b"extra number at %d", offset)
         if self.layout == b"orlib":
@@ -217,7 +216,7 @@ def read_instance(text: Contents, layout: bytes, wanted: int) -> Instance:
     body: Body | None = None
     found = 0
     for number, (offset, line) in enumerate(lines_of(head), 1):
-        # Where the limit stands inside a line, nothing ends there.
+        # A line that the limit cuts has no end.
         ends = not (cut and offset + len(line) == len(head))
         if body is not None:
             if read_line(body, line, offset, ends):
@@ -384,8 +383,8 @@ def by_totals(shop: Instance) -> list[int]:
 
 
 def after_round(shop: Instance, kept: list[int], words: list[int], passes: int) -> list[int]:
-    """Takes a job out for each word, puts each back at its best place, then moves every job, by its number, to its
-    best place in each pass, and keeps the order if it isn't longer."""
+    """Remove a job for each random word and reinsert each at its best place, then make the passes, which move each job
+    in turn, by its number, to its best place. Keep the order unless its makespan is greater."""
     order, taken = list(kept), list[int]()
     for word in words:
         taken.append(order.pop(word % len(order)))
@@ -490,7 +489,7 @@ def checked(shop: Instance, jobs: list[int], machines: int | None, stated: int) 
 
 
 def misfit(shop: Instance, jobs: list[int], machines: int | None) -> bytes:
-    """What is told where an order doesn't fit: its size before the machines that are stated for it."""
+    """The verdict on an order that doesn't fit the instance: its size is checked before its number of machines."""
     if len(jobs) != shop.jobs:
         return b"wrong size\norder %d\njobs %d\n" % (len(jobs), shop.jobs)
     if machines is not None and machines != shop.machines:
