@@ -18,6 +18,8 @@ ELSEWHERE = re.compile(r"\bout(?:/|$)|\bNAME/|^START-HERE\.md$|/PROVED$|^(?:tabl
                        r"|^instances/$|^\./$")
 # A name of more than one word, or of a function that is called.
 NAME = re.compile(r"[A-Za-z]\w*(?:_|[a-z][A-Z])\w*|[a-z]\w*(?=\(\))")
+# Types of Julia and R that a page names.
+FOREIGN = {"Csize_t", "R_xlen_t"}
 TEXTS = {".antt", ".c", ".cpp", ".edit", ".fish", ".h", ".hpp", ".html", ".in", ".py", ".rt", ".toml", ".txt", ".1", ""}
 
 
@@ -70,7 +72,7 @@ def names_of_sources() -> set[str]:
 def unknown_of(page: str) -> list[str]:
     """The names between backquotes that aren't in the sources."""
     codes = re.findall(r"`([^`\n]+)`", re.sub(r"^```.*?^```$", "", page, flags=re.MULTILINE | re.DOTALL))
-    return [name for code in codes for name in NAME.findall(code) if name not in names_of_sources()]
+    return [name for code in codes for name in NAME.findall(code) if name not in names_of_sources() | FOREIGN]
 
 
 @pytest.mark.parametrize("page", PAGES)

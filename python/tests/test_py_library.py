@@ -92,7 +92,7 @@ def test_the_functions_are_called_as_the_header_declares_them() -> None:
     """Each parameter by its type in C, in which a list is a pointer and a length."""
     types = {"size_t": "c_ulong", "uint32_t": "c_uint", "uint64_t": "c_ulong", "int": "c_int"}
     header = re.sub(r"/\*.*?\*/", "", (TOP / "lib" / "pfs.h").read_text(), flags=re.DOTALL)
-    declared = dict(re.findall(r"^int (pfs_\w+)\((.*?)\);", header, re.MULTILINE | re.DOTALL))
+    declared = dict(re.findall(r"^int (pfs_\w+)\((.*?)\)(?: PFS_CHECKED)?;", header, re.MULTILINE | re.DOTALL))
     assert declared.keys() == _library.PROTOTYPES.keys()
     for name, parameters in declared.items():
         due = ["c_void_p" if "*" in each else types[each.split()[-2]] for each in parameters.split(",")]
