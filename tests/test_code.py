@@ -72,6 +72,22 @@ def test_the_package_for_python_is_typed() -> None:
     assert (done.stdout + done.stderr, done.returncode) == ("", 0)
 
 
+@pytest.mark.seconds(20)
+@pytest.mark.parametrize("which", ["package", "scripts"])
+def test_nothing_is_used_that_the_oldest_python_lacks(which: str) -> None:
+    """Of what is installed, by mypy: Debian 12 has no interpreter of that version."""
+    settings = (TOP / "python" / "pyproject.toml").read_text()
+    [version] = re.findall(r'^requires-python = ">=(.*)"$', settings, re.MULTILINE)
+    needed = re.findall(r"python3 \(>= ([\d.]+)\)(?! \|)", (TOP / "tools" / "dist").read_text())
+    assert needed and set(needed) == {version}, "Debian's packages need the same version as the wheel"
+    words = [need("mypy"), "--strict", "--scripts-are-modules", "--no-error-summary", f"--python-version={version}",
+             f"--cache-dir={TOP}/out/mypy-oldest-{which}"]
+    installed = [path for path in scripts("python") if re.match(r"experiments/|tools/gantt$|tools/[^/]*\.py$", path)]
+    words += ["src"] if which == "package" else installed
+    done = subprocess.run(words, cwd=TOP / ("python" if which == "package" else ""), capture_output=True, text=True)
+    assert (done.stdout + done.stderr, done.returncode) == ("", 0)
+
+
 def test_pyflakes_finds_nothing() -> None:
     assert_silent([need("pyflakes3"), *scripts("python")])
 
