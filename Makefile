@@ -47,8 +47,13 @@ $(foreach name,$(EXPERIMENTS),experiments/$(name) libexec/pfs/experiments/$(name
 python/src/pfs/_whole.py libexec/pfs/experiments/_whole.py
 $(foreach name,pfs pfs-gantt pfs-experiments,share/$(name).1 share/man/man1/$(name).1$(newline))
 share/completions/pfs.bash share/bash-completion/completions/pfs
+share/completions/pfs-tools.bash share/bash-completion/completions/pfs-gantt
+share/completions/pfs-tools.bash share/bash-completion/completions/pfs-experiments
 share/completions/_pfs $(ZSH)/_pfs
+share/completions/_pfs-tools $(ZSH)/_pfs-tools
 share/completions/pfs.fish share/fish/vendor_completions.d/pfs.fish
+share/completions/pfs-tools.fish share/fish/vendor_completions.d/pfs-gantt.fish
+share/completions/pfs-tools.fish share/fish/vendor_completions.d/pfs-experiments.fish
 $(foreach name,$(PAGES),$(name) share/doc/pfs/$(name)$(newline))
 $(foreach name,$(PLANS),experiments/$(name) share/doc/pfs/examples/$(name)$(newline))
 endef

@@ -52,7 +52,8 @@ def assert_silent(words: list[str]) -> None:
 def test_scripts_are_found_by_their_first_lines() -> None:
     assert {"experiments/one", "experiments/plan.py", "experiments/run", "tools/gantt"} <= set(scripts("python"))
     assert {".ci/run", "experiments/taillard", "share/completions/pfs.bash", "tools/dist"} <= set(scripts("shell"))
-    assert (scripts("zsh"), scripts("fish")) == (["share/completions/_pfs"], ["share/completions/pfs.fish"])
+    assert scripts("zsh") == ["share/completions/_pfs", "share/completions/_pfs-tools"]
+    assert scripts("fish") == ["share/completions/pfs-tools.fish", "share/completions/pfs.fish"]
 
 
 @pytest.mark.seconds(20)

@@ -38,6 +38,7 @@ EXAMPLES = ["README.md", "docs/COMMANDS.md", "docs/COOKBOOK.md"]
 TOOLS = [path for path in (TOP / "tools" / "gantt", *sorted((TOP / "tools").glob("*.py")),
                            *sorted((TOP / "experiments").iterdir()))
          if path.is_file() and path.suffix in (".py", "", ".csv")]
+TOOL_NAMES = ("experiments", "gantt")
 # Where each file goes below the prefix, and which one it is.
 PLACES = {
     "bin/pfs": PROGRAM,
@@ -46,6 +47,9 @@ PLACES = {
     "share/bash-completion/completions/pfs": "share/completions/pfs.bash",
     "share/zsh/site-functions/_pfs": "share/completions/_pfs",
     "share/fish/vendor_completions.d/pfs.fish": "share/completions/pfs.fish",
+    "share/zsh/site-functions/_pfs-tools": "share/completions/_pfs-tools",
+    **{f"share/bash-completion/completions/pfs-{name}": "share/completions/pfs-tools.bash" for name in TOOL_NAMES},
+    **{f"share/fish/vendor_completions.d/pfs-{name}.fish": "share/completions/pfs-tools.fish" for name in TOOL_NAMES},
     **{f"share/doc/pfs/examples/{name}": f"experiments/{name}"
        for name in ("best_known.csv", *(path.name for path in sorted((TOP / "experiments").glob("*.toml"))))},
     **{f"share/man/man1/{page.name}": f"share/{page.name}" for page in sorted((TOP / "share").glob("*.1"))},
@@ -1036,7 +1040,8 @@ def test_the_packages_have_their_files_where_debian_looks(extracted: pathlib.Pat
                                                           folder: pathlib.Path) -> None:
     """The program without its symbols, packed manual pages and changelogs, and the licences in the file copyright."""
     wanted = {f"usr/{place}": (copy.top / file).read_bytes() for place, file in PLACES.items()}
-    wanted["usr/share/zsh/vendor-completions/_pfs"] = wanted.pop("usr/share/zsh/site-functions/_pfs")
+    for name in ("_pfs", "_pfs-tools"):
+        wanted[f"usr/share/zsh/vendor-completions/{name}"] = wanted.pop(f"usr/share/zsh/site-functions/{name}")
     shutil.copy(pfs.path, folder / "stripped")
     printed_by(["strip", "stripped"], folder)
     wanted["usr/bin/pfs"] = (folder / "stripped").read_bytes()
