@@ -11,8 +11,8 @@
 ## make install-lib  installs the library for C alone. It proves and builds it first
 ## make uninstall  removes what these two have installed, and the folders that they made
 ## make docs       one site of the pages, the package for Python and the library's header: out/site/index.html
-## make dist       a tarball and Debian packages for machines without the kit, in the folder DIST (needs the kit, git,
-##                 dpkg-deb and binutils), with the library's packages if it is built
+## make dist       a tarball and Debian packages for machines without the kit, in the folder DIST (needs the kit,
+##                 dpkg-deb and binutils), with the library's packages if it is built; SIGN=KEY signs their sums
 ## make wheel      a wheel of the package for Python with the built library, in the folder DIST (needs python3-build)
 ## make taillard   writes Taillard's 120 instances into experiments/out/taillard
 .PHONY: help try run check test fuzz install uninstall docs dist wheel taillard
@@ -47,8 +47,13 @@ $(foreach name,$(EXPERIMENTS),experiments/$(name) libexec/pfs/experiments/$(name
 python/src/pfs/_whole.py libexec/pfs/experiments/_whole.py
 $(foreach name,pfs pfs-gantt pfs-experiments,share/$(name).1 share/man/man1/$(name).1$(newline))
 share/completions/pfs.bash share/bash-completion/completions/pfs
+share/completions/pfs-tools.bash share/bash-completion/completions/pfs-gantt
+share/completions/pfs-tools.bash share/bash-completion/completions/pfs-experiments
 share/completions/_pfs $(ZSH)/_pfs
+share/completions/_pfs-tools $(ZSH)/_pfs-tools
 share/completions/pfs.fish share/fish/vendor_completions.d/pfs.fish
+share/completions/pfs-tools.fish share/fish/vendor_completions.d/pfs-gantt.fish
+share/completions/pfs-tools.fish share/fish/vendor_completions.d/pfs-experiments.fish
 $(foreach name,$(PAGES),$(name) share/doc/pfs/$(name)$(newline))
 $(foreach name,$(PLANS),experiments/$(name) share/doc/pfs/examples/$(name)$(newline))
 endef

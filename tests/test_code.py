@@ -52,7 +52,8 @@ def assert_silent(words: list[str]) -> None:
 def test_scripts_are_found_by_their_first_lines() -> None:
     assert {"experiments/one", "experiments/plan.py", "experiments/run", "tools/gantt"} <= set(scripts("python"))
     assert {".ci/run", "experiments/taillard", "share/completions/pfs.bash", "tools/dist"} <= set(scripts("shell"))
-    assert (scripts("zsh"), scripts("fish")) == (["share/completions/_pfs"], ["share/completions/pfs.fish"])
+    assert scripts("zsh") == ["share/completions/_pfs", "share/completions/_pfs-tools"]
+    assert scripts("fish") == ["share/completions/pfs-tools.fish", "share/completions/pfs.fish"]
 
 
 @pytest.mark.seconds(20)
@@ -69,6 +70,22 @@ def test_the_package_for_python_is_typed() -> None:
     """By its own settings: its tests have names that those here have too."""
     words = [need("mypy"), "--no-error-summary", f"--cache-dir={TOP}/out/mypy-python", "src", "tests", "examples"]
     done = subprocess.run(words, cwd=TOP / "python", capture_output=True, text=True)
+    assert (done.stdout + done.stderr, done.returncode) == ("", 0)
+
+
+@pytest.mark.seconds(20)
+@pytest.mark.parametrize("which", ["package", "scripts"])
+def test_nothing_is_used_that_the_oldest_python_lacks(which: str) -> None:
+    """Of what is installed, by mypy: Debian 12 has no interpreter of that version."""
+    settings = (TOP / "python" / "pyproject.toml").read_text()
+    [version] = re.findall(r'^requires-python = ">=(.*)"$', settings, re.MULTILINE)
+    needed = re.findall(r"python3 \(>= ([\d.]+)\)(?! \|)", (TOP / "tools" / "dist").read_text())
+    assert needed and set(needed) == {version}, "Debian's packages need the same version as the wheel"
+    words = [need("mypy"), "--strict", "--scripts-are-modules", "--no-error-summary", f"--python-version={version}",
+             f"--cache-dir={TOP}/out/mypy-oldest-{which}"]
+    installed = [path for path in scripts("python") if re.match(r"experiments/|tools/gantt$|tools/[^/]*\.py$", path)]
+    words += ["src"] if which == "package" else installed
+    done = subprocess.run(words, cwd=TOP / ("python" if which == "package" else ""), capture_output=True, text=True)
     assert (done.stdout + done.stderr, done.returncode) == ("", 0)
 
 

@@ -162,8 +162,8 @@ def bash(asked: list[str], folder: pathlib.Path, scripts: pathlib.Path) -> list[
     return run_all(["bash", "--norc"], text, folder)
 
 
-def fish(asked: list[str], folder: pathlib.Path, scripts: pathlib.Path) -> list[Answer]:
-    text = FISH.format(script=shlex.quote(str(scripts / "pfs.fish")))
+def fish(asked: list[str], folder: pathlib.Path, scripts: pathlib.Path, name: str = "pfs") -> list[Answer]:
+    text = FISH.format(script=shlex.quote(str(scripts / f"{name}.fish")))
     return run_all(["fish", "--no-config"], text + "".join(f"offer '{line}'\n" for line in asked), folder)
 
 

@@ -8,6 +8,7 @@ import datetime
 import gzip
 import hashlib
 import io
+import json
 import os
 import pathlib
 import re
@@ -37,6 +38,7 @@ EXAMPLES = ["README.md", "docs/COMMANDS.md", "docs/COOKBOOK.md"]
 TOOLS = [path for path in (TOP / "tools" / "gantt", *sorted((TOP / "tools").glob("*.py")),
                            *sorted((TOP / "experiments").iterdir()))
          if path.is_file() and path.suffix in (".py", "", ".csv")]
+TOOL_NAMES = ("experiments", "gantt")
 # Where each file goes below the prefix, and which one it is.
 PLACES = {
     "bin/pfs": PROGRAM,
@@ -45,6 +47,9 @@ PLACES = {
     "share/bash-completion/completions/pfs": "share/completions/pfs.bash",
     "share/zsh/site-functions/_pfs": "share/completions/_pfs",
     "share/fish/vendor_completions.d/pfs.fish": "share/completions/pfs.fish",
+    "share/zsh/site-functions/_pfs-tools": "share/completions/_pfs-tools",
+    **{f"share/bash-completion/completions/pfs-{name}": "share/completions/pfs-tools.bash" for name in TOOL_NAMES},
+    **{f"share/fish/vendor_completions.d/pfs-{name}.fish": "share/completions/pfs-tools.fish" for name in TOOL_NAMES},
     **{f"share/doc/pfs/examples/{name}": f"experiments/{name}"
        for name in ("best_known.csv", *(path.name for path in sorted((TOP / "experiments").glob("*.toml"))))},
     **{f"share/man/man1/{page.name}": f"share/{page.name}" for page in sorted((TOP / "share").glob("*.1"))},
@@ -63,7 +68,8 @@ NOTES = "libexec/pfs/installed-folders"
 LIBRARY = {"lib/libpfs.a": "lib/out/libpfs.a", "lib/libpfs.so.0": "lib/out/libpfs.so.0",
            "lib/libpfs.so": "lib/out/libpfs.so.0", "include/pfs.h": "lib/pfs.h",
            "lib/cmake/pfs/pfsConfig.cmake": "lib/pfsConfig.cmake", "share/man/man3/pfs.3": "share/pfs.3"}
-COPIED = ["CHANGELOG.md", "CITATION.cff", "CONTRIBUTING.md", "HANDLES", "LICENSE-APACHE", "LICENSE-MIT", "Makefile",
+COPIED = [".gitattributes", "CHANGELOG.md", "CITATION.cff", "CONTRIBUTING.md", "HANDLES", "LICENSE-APACHE",
+          "LICENSE-MIT", "Makefile",
           "README.md", "SECURITY.md", "VERSION", "crates", "crates.txt", "docs", "experiments", "lib", "share", "tools",
           *(name for name in ("examples", "python") if (TOP / name).is_dir())]
 KIT = "rattle-kit-7x logic {logic}"
@@ -135,6 +141,8 @@ def copy(top: pathlib.Path, pfs: Program, tmp_path_factory: pytest.TempPathFacto
         else:
             shutil.copy(top / name, made.top / name)
     (made.top / ".gitignore").write_text("out/\ndist/\n")
+    changes = made.top / "CHANGELOG.md"
+    changes.write_text(re.sub(r"^## \[", "## [Unreleased]\n\n## [", changes.read_text(), count=1, flags=re.MULTILINE))
     # As after `git clone` by somebody whose files nobody else can read.
     for path in made.top.rglob("*"):
         path.chmod(path.stat().st_mode & 0o700)
@@ -619,15 +627,15 @@ def commit_time(copy: Copy) -> int:
 
 
 def version(copy: Copy) -> str:
-    """Of what is made of a commit without a tag."""
+    """Of what is made of a commit that is no release."""
     env = copy.env | {"TZ": "UTC"}
-    return f"{VERSION}~" + Copy(copy.top, env).git("log", "-1", "--format=%cd",
+    return f"{VERSION}+" + Copy(copy.top, env).git("log", "-1", "--format=%cd",
                                                    "--date=format-local:%Y%m%d.%H%M%S").strip()
 
 
 def names(told: str, *libraries: str) -> list[str]:
     """What is made of this version."""
-    return sorted(["SHA256SUMS", f"pfs-{told}-linux-x86_64.tar.gz", f"pfs_{told}-1_amd64.deb",
+    return sorted(["SHA256SUMS", f"pfs-{told}-linux-x86_64.tar.gz", f"pfs-{told}.spdx.json", f"pfs_{told}-1_amd64.deb",
                    f"pfs-tools_{told}-1_all.deb", *(f"{name}_{told}-1_amd64.deb" for name in libraries),
                    *([f"python3-pfs_{told}-1_all.deb"] if libraries else [])])
 
@@ -651,8 +659,8 @@ def test_a_source_tree_without_git(copy: Copy, folder: pathlib.Path, goal: str) 
     words += [copy.top / "Makefile"] if goal == "wheel" else []
     told = told_by(words, folder, env=copy.env)
     assert told.status == 1 and not (folder / "made").exists()
-    due = "SOURCE_DATE_EPOCH=" if goal == "wheel" else "clone the repository"
-    assert due in told.stderr.splitlines()[-1]
+    assert "clone the repository" in told.stderr
+    assert ("SOURCE_DATE_EPOCH=" in told.stderr) == (goal == "wheel")
 
 
 def test_a_tarball_packages_and_their_sums_are_made(made: Made, copy: Copy) -> None:
@@ -665,6 +673,120 @@ def test_a_commit_that_is_tagged_with_the_version_has_it_alone(copy: Copy, folde
         assert sorted(made_in(copy, folder).files) == names(VERSION)
     finally:
         copy.git("tag", "-d", f"v{VERSION}")
+
+
+def test_a_release_by_its_changelog_has_its_number_alone(copy: Copy, folder: pathlib.Path) -> None:
+    """Where no tag says which commit it is, and nothing is changed. What comes later is later to Debian."""
+    assert VERSION in copy.make("dist", f"DIST={folder}/before").stderr.splitlines()[0], "no release: it is told"
+    changes = copy.top / "CHANGELOG.md"
+    changes.write_text(changes.read_text().replace("## [Unreleased]\n", ""))
+    try:
+        assert sorted(made_in(copy, folder / "changed").files) == names(version(copy))
+        copy.git("commit", "-q", "-a", "-m", "The release")
+        released = copy.make("dist", f"DIST={folder}/released")
+        assert (released.status, released.stderr) == (0, "")
+        assert sorted(files_below(folder / "released")) == names(VERSION)
+        copy.git("tag", f"v{VERSION}", "HEAD~1")
+        assert sorted(made_in(copy, folder / "tagged").files) == names(version(copy)), "another commit has the tag"
+        copy.git("tag", "-d", f"v{VERSION}")
+    finally:
+        is_made = copy.git("log", "-1", "--format=%s") == "The release\n"
+        copy.git("reset", "-q", "--hard", "HEAD~1" if is_made else "HEAD")
+    printed_by(["dpkg", "--compare-versions", f"{version(copy)}-1", "gt", f"{VERSION}-1"], folder)
+
+
+def test_a_source_archive_makes_the_same_program_and_tells_its_commit(copy: Copy, made: Made, pfs: Program,
+                                                                      folder: pathlib.Path) -> None:
+    """All but what tells that it is an archive, whose changes nobody knows."""
+    archive = folder / "archive.tar"
+    copy.git("archive", f"--output={archive}", "HEAD")
+    tree = folder / "tree"
+    with tarfile.open(archive) as tar:
+        tar.extractall(tree)
+    for path in tree.rglob("*"):
+        os.utime(path, (OLD, OLD))
+    (tree / PROGRAM).parent.mkdir()
+    shutil.copy(pfs.path, tree / PROGRAM)
+    os.utime(tree / PROGRAM, (NEW, NEW))
+    ceiling = {"GIT_CEILING_DIRECTORIES": str(folder)}
+    again = made_in(Copy(tree, copy.env), folder / "dist", **ceiling)
+    assert sorted(again.files) == sorted(made.files)
+    found = {}
+    for which, name in ((made, "first"), (again, "second")):
+        printed_by(["dpkg-deb", "--extract", which.path("/pfs_"), name], folder)
+        found[name] = files_below(folder / name / "usr")
+    told = found["second"].pop("share/doc/pfs/PROVED").decode()
+    assert told.splitlines()[1] == f"proved at the commit {copy.git('rev-parse', 'HEAD').strip()}, in a source archive"
+    for files in found.values():
+        files.pop("share/doc/pfs/PROVED", None)
+        files.pop("share/doc/pfs/SHA256SUMS")
+    assert_same_files(found["second"], found["first"])
+
+
+# The SPDX file, and signatures
+
+# The crates of the kit that are built into the program, by crates.txt, and into the library.
+KITS_CRATES = {"clap", "itoa", "rand_core", "rand_pcg", "thiserror"}
+
+
+def test_the_spdx_file_tells_what_is_built_in(made: Made, copy: Copy, pfs: Program) -> None:
+    bill = json.loads(made.path(".spdx.json").read_text())
+    assert (bill["spdxVersion"], bill["dataLicense"], bill["SPDXID"]) == ("SPDX-2.3", "CC0-1.0", "SPDXRef-DOCUMENT")
+    assert bill["creationInfo"]["created"] == datetime.datetime.fromtimestamp(
+        commit_time(copy), datetime.timezone.utc).strftime("%Y-%m-%dT%H:%M:%SZ")
+    packages = {each["name"]: each for each in bill["packages"]}
+    assert packages.keys() == {"pfs", "rattle-kit"} | KITS_CRATES
+    assert packages["pfs"]["versionInfo"] == version(copy) and packages["rattle-kit"]["versionInfo"] == copy.kit()
+    assert copy.git("rev-parse", "HEAD").strip() in packages["pfs"]["sourceInfo"]
+    [program] = bill["files"]
+    sums = {each["algorithm"]: each["checksumValue"] for each in program["checksums"]}
+    assert sums == {name.upper(): hashlib.new(name, pfs.path.read_bytes()).hexdigest() for name in ("sha1", "sha256")}
+    ids = [each["SPDXID"] for each in (bill, *bill["packages"], *bill["files"])]
+    assert len(set(ids)) == len(ids) and all(re.fullmatch("SPDXRef-[A-Za-z0-9.-]+", each) for each in ids)
+    links = {(each["spdxElementId"], each["relationshipType"], each["relatedSpdxElement"])
+             for each in bill["relationships"]}
+    assert {end for one, _, other in links for end in (one, other)} == set(ids), "each thing has its place"
+    assert {other for _, kind, other in links if kind == "STATIC_LINK"} == {packages[name]["SPDXID"]
+                                                                           for name in KITS_CRATES}
+
+
+def test_the_sums_are_signed_by_a_key_of_ssh(copy: Copy, folder: pathlib.Path) -> None:
+    """As the page says how to check it; another file's signature is none."""
+    printed_by([need("ssh-keygen"), "-q", "-t", "ed25519", "-N", "", "-f", "key"], folder)
+    told = copy.make("dist", f"DIST={folder}/dist", f"SIGN={folder}/key")
+    assert told.status == 0 and told.stdout.splitlines()[-1] == f"{folder}/dist/SHA256SUMS.sig"
+    (folder / "dist" / "signers").write_text(f"pfs {(folder / 'key.pub').read_text()}")
+    line = line_of_install("^ssh-keygen -Y verify .*$", copy)
+    assert told_by(["bash", "-c", line], folder / "dist").status == 0
+    with (folder / "dist" / "SHA256SUMS").open("a") as sums:
+        sums.write("another line\n")
+    assert told_by(["bash", "-c", line], folder / "dist").status != 0
+    # What is made without a key has no signature, nor that of what was there.
+    assert sorted(made_in(copy, folder / "dist").files) == sorted([*names(version(copy)), "signers"])
+
+
+def test_the_sums_are_signed_by_gnupg(copy: Copy, folder: pathlib.Path) -> None:
+    home = {"GNUPGHOME": str(folder / "home")}
+    (folder / "home").mkdir(mode=0o700)
+    words: list[str | pathlib.Path] = [need("gpg"), "--batch", "--quiet", "--passphrase", ""]
+    words += ["--quick-generate-key", "A Tester", "ed25519"]
+    try:
+        assert told_by(words, folder, env=copy.env | home).status == 0
+        told = copy.make("dist", f"DIST={folder}/dist", "SIGN=A Tester", **home)
+        assert told.status == 0 and told.stdout.splitlines()[-1] == f"{folder}/dist/SHA256SUMS.asc"
+        line = line_of_install("^gpg --verify .*$", copy)
+        assert told_by(["bash", "-c", line], folder / "dist", env=copy.env | home).status == 0
+        with (folder / "dist" / "SHA256SUMS").open("a") as sums:
+            sums.write("another line\n")
+        assert told_by(["bash", "-c", line], folder / "dist", env=copy.env | home).status != 0
+    finally:
+        told_by(["gpgconf", "--kill", "all"], folder, env=copy.env | home)
+
+
+def line_of_install(pattern: str, copy: Copy) -> str:
+    found = re.search(pattern, (copy.top / "docs" / "INSTALL.md").read_text(), re.MULTILINE)
+    assert found, pattern
+    return found[0]
 
 
 def test_the_library_has_packages_where_it_is_built(library: pathlib.Path, copy: Copy, folder: pathlib.Path) -> None:
@@ -716,7 +838,7 @@ def test_the_package_for_python_runs(library: pathlib.Path, copy: Copy, folder: 
     assert (fields["Section"], fields["Architecture"]) == ("python", "all")
     assert_usual_modes(folder / "root")
     assert printed_by(["dpkg-deb", "--field", made.path("python3-pfs"), "Depends"], folder) \
-        == f"libpfs0 (>= {VERSION}~), python3 (>= 3.11), python3-numpy\n"
+        == f"libpfs0 (>= {VERSION}~), python3 (>= 3.10), python3-numpy\n"
     env = dict(os.environ, PYTHONPATH=str(folder / "root" / "usr/lib/python3/dist-packages"),
                PFS_LIBRARY=str(libpfs.path))
     told = printed_by(["/usr/bin/python3", "-c", "import pfs; shop = pfs.Instance([[3, 2], [2, 5], [4, 1]]); "
@@ -724,9 +846,14 @@ def test_the_package_for_python_runs(library: pathlib.Path, copy: Copy, folder: 
                        "made.plot('chart.html'); print(pfs.taillard(1).jobs)"], folder, env=env)
     assert told == "11\n20\n"
     assert (folder / "chart.svg").stat().st_size > 0 and (folder / "chart.html").stat().st_size > 0
+    (folder / "times.csv").write_text("job [min],saw,drill\nchair,3,2\ntable,2,5\n")
+    told = printed_by([folder / "root/usr/bin/pfs-plan", "times.csv"], folder, env=env)
+    assert told == "makespan 9 min\nbound 9 min\noptimal\n1 table\n2 chair\n"
+    page = gzip.decompress((folder / "root/usr/share/man/man1/pfs-plan.1.gz").read_bytes())
+    assert page == (copy.top / "python/pfs-plan.1").read_bytes()
 
 
-@pytest.mark.parametrize("ending", [".tar.gz", "/pfs_", "/pfs-tools", "SHA256SUMS"])
+@pytest.mark.parametrize("ending", [".tar.gz", "/pfs_", "/pfs-tools", ".spdx.json", "SHA256SUMS"])
 def test_made_again_it_has_the_same_bytes(ending: str, made: Made, made_again: Made) -> None:
     assert made_again.path(ending).name == made.path(ending).name
     again, first = (each.path(ending).read_bytes() for each in (made_again, made))
@@ -737,7 +864,7 @@ def test_made_again_it_has_the_same_bytes(ending: str, made: Made, made_again: M
 
 
 def test_the_names_are_by_the_time_of_the_sources(copy: Copy, folder: pathlib.Path) -> None:
-    assert sorted(made_in(copy, folder, SOURCE_DATE_EPOCH="1000000000").files) == names(f"{VERSION}~20010909.014640")
+    assert sorted(made_in(copy, folder, SOURCE_DATE_EPOCH="1000000000").files) == names(f"{VERSION}+20010909.014640")
 
 
 def test_a_program_of_another_kit_is_refused(copy: Copy, folder: pathlib.Path) -> None:
@@ -913,7 +1040,8 @@ def test_the_packages_have_their_files_where_debian_looks(extracted: pathlib.Pat
                                                           folder: pathlib.Path) -> None:
     """The program without its symbols, packed manual pages and changelogs, and the licences in the file copyright."""
     wanted = {f"usr/{place}": (copy.top / file).read_bytes() for place, file in PLACES.items()}
-    wanted["usr/share/zsh/vendor-completions/_pfs"] = wanted.pop("usr/share/zsh/site-functions/_pfs")
+    for name in ("_pfs", "_pfs-tools"):
+        wanted[f"usr/share/zsh/vendor-completions/{name}"] = wanted.pop(f"usr/share/zsh/site-functions/{name}")
     shutil.copy(pfs.path, folder / "stripped")
     printed_by(["strip", "stripped"], folder)
     wanted["usr/bin/pfs"] = (folder / "stripped").read_bytes()
@@ -1025,7 +1153,7 @@ def test_a_maintainer_who_reads_no_letters_is_told(copy: Copy, folder: pathlib.P
         assert told.status == 0 and "A Tester <1+tester@users.noreply.host>" in told.stderr
         assert "MAINTAINER='A Name <name@host>' make dist" in told.stderr
         told = copy.make("dist", f"DIST={folder}/second", MAINTAINER="B <b@example.org>")
-        assert (told.status, told.stderr) == (0, "")
+        assert told.status == 0 and "noreply" not in told.stderr
         package, = (folder / "second").glob("pfs_*.deb")
         assert fields_of(package)["Maintainer"] == "B <b@example.org>"
     finally:
@@ -1046,7 +1174,8 @@ def fields_of(package: pathlib.Path) -> dict[str, str]:
 # The fields of each package, but for those that all of them have.
 FIELDS = {
     "pfs": {"Depends": "libc6 (>= {libc})", "Suggests": "pfs-tools", "Section": "science", "Architecture": "amd64"},
-    "pfs-tools": {"Depends": "pfs (= {version}-1), python3 (>= 3.11)", "Recommends": "parallel, python3-matplotlib",
+    "pfs-tools": {"Depends": "pfs (= {version}-1), python3 (>= 3.10), python3 (>= 3.11) | python3-tomli",
+                  "Recommends": "parallel, python3-matplotlib",
                   "Suggests": "libpfs0, openssh-client, python3-scipy, rsync, slurm-client", "Section": "science",
                   "Architecture": "all", "Source": "pfs"}}
 
@@ -1074,6 +1203,7 @@ def numbers_told(top: pathlib.Path) -> dict[str, list[str]]:
                 "lib/pfs.h": r'^#define PFS_VERSION "(.*)"$', "share/pfs.1": r"^\.Os pfs (.*)$",
                 "share/pfs.3": r"^\.Os pfs (.*)$",
                 "share/pfs-gantt.1": r"^\.Os pfs (.*)$", "share/pfs-experiments.1": r"^\.Os pfs (.*)$",
+                "python/pfs-plan.1": r"^\.Os pfs (.*)$",
                 "python/src/pfs/_version.py": r'^VERSION\b.* = "(.*)"$'}
     return {name: re.findall(pattern, (top / name).read_text(), re.MULTILINE)[:1]
             for name, pattern in patterns.items() if "python" not in name or (top / name).exists()}

@@ -545,12 +545,14 @@ def test_the_synopsis_is_the_usage_text(manual: str) -> None:
     assert shown_section(manual, "SYNOPSIS").split("\n")[:-2] == LINES
 
 
-TOOL_PAGES = {name: (TOP / "share" / f"{name}.1").read_text() for name in ("pfs-gantt", "pfs-experiments")}
+TOOL_PATHS = {name: TOP / folder / f"{name}.1" for name, folder in (
+    ("pfs-gantt", "share"), ("pfs-experiments", "share"), ("pfs-plan", "python"))}
+TOOL_PAGES = {name: path.read_text() for name, path in TOOL_PATHS.items()}
 
 
 @pytest.mark.parametrize("name", TOOL_PAGES)
 def test_mandoc_finds_nothing_wrong_in_the_pages_of_the_tools(name: str) -> None:
-    done = subprocess.run([need("mandoc"), "-T", "lint", "-W", "warning", str(TOP / "share" / f"{name}.1")],
+    done = subprocess.run([need("mandoc"), "-T", "lint", "-W", "warning", str(TOOL_PATHS[name])],
                           capture_output=True, text=True)
     assert (done.stdout, done.stderr, done.returncode) == ("", "", 0)
 
@@ -590,7 +592,7 @@ def test_the_page_of_experiments_has_its_scripts() -> None:
 
 @pytest.mark.parametrize("page", ["pfs", *TOOL_PAGES])
 def test_a_manual_page_tells_what_else_to_read_and_what_is_wanting(page: str) -> None:
-    text = (TOP / "share" / f"{page}.1").read_text()
+    text = MANUAL if page == "pfs" else TOOL_PAGES[page]
     assert "\n.Sh BUGS\n" in text
     others = {f"pfs{name}" for name in ("", "-gantt", "-experiments")} - {page}
     assert set(re.findall(r"^\.Xr (pfs\S*) 1", text.partition("\n.Sh SEE ALSO\n")[2], re.MULTILINE)) >= others

@@ -6,6 +6,7 @@ import json
 import pathlib
 import re
 import subprocess
+from collections.abc import Sequence
 from typing import Any
 
 # Runs after the script of a page: the pen notes what it draws, and the page is looked at as a user does it.
@@ -58,9 +59,9 @@ function tell(seen) {
 
 
 def looked_at(chromium: str, page: pathlib.Path, folder: pathlib.Path, script: str,
-              injected: str = "", scale: int = 1) -> dict[str, Any]:
+              injected: str = "", scale: int = 1, flags: Sequence[str] = ()) -> dict[str, Any]:
     """What this script sees of a page in a browser. The page's policy holds for all but the script, and for what is
-    injected before it."""
+    injected before it. The browser gets these flags too."""
     copy = folder / "looked_at.html"
     text = page.read_text("utf-8")
     assert text.count("</body>") == 1
@@ -70,10 +71,21 @@ def looked_at(chromium: str, page: pathlib.Path, folder: pathlib.Path, script: s
     copy.write_text(allowed.replace("</body>", f"{injected}<script>{script}</script></body>"), "utf-8")
     words = [chromium, "--headless", "--no-sandbox", "--disable-gpu", "--disable-dev-shm-usage",
              f"--user-data-dir={folder / 'profile'}", "--window-size=1000,600", "--virtual-time-budget=5000",
-             f"--force-device-scale-factor={scale}", "--enable-logging=stderr", "--dump-dom", copy.as_uri()]
+             f"--force-device-scale-factor={scale}", "--enable-logging=stderr", "--dump-dom", *flags,
+             copy.as_uri()]
     done = subprocess.run(words, capture_output=True, text=True, timeout=120)
     found = re.search(r'<pre id="seen">(.*?)</pre>', done.stdout, re.DOTALL)
     faults = re.findall(r"CONSOLE.*", done.stderr)
     assert found, f"the page's script ended with {faults or done.stderr[-500:]}"
     seen: dict[str, Any] = json.loads(html.unescape(found[1]))
     return seen
+
+
+def printed(chromium: str, page: pathlib.Path, folder: pathlib.Path, width: int) -> bytes:
+    """The PDF file as which a page is printed from a window of this width."""
+    words = [chromium, "--headless", "--no-sandbox", "--disable-gpu", "--disable-dev-shm-usage",
+             f"--user-data-dir={folder / 'profile'}", f"--window-size={width},600", "--virtual-time-budget=5000",
+             "--no-pdf-header-footer", f"--print-to-pdf={folder / 'page.pdf'}", page.as_uri()]
+    done = subprocess.run(words, capture_output=True, text=True, timeout=120)
+    assert done.returncode == 0, done.stderr[-500:]
+    return (folder / "page.pdf").read_bytes()

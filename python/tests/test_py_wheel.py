@@ -58,13 +58,15 @@ def wheel(tmp_path_factory: pytest.TempPathFactory) -> pathlib.Path:
 @pytest.mark.seconds(5)
 def test_what_a_wheel_holds(wheel: pathlib.Path) -> None:
     with zipfile.ZipFile(wheel) as archive:
-        held = {name for name in archive.namelist() if ".dist-info/" not in name}
+        held = {name for name in archive.namelist() if ".dist-info/" not in name and ".data/" not in name}
         sources = {path.name: path for path in (HERE / "src" / "pfs").iterdir()}
         sources |= {"_gantt.py": TOP / "tools" / "chart.py"}
         passed_over = {"__pycache__", _library.FILE}
         assert held == {f"pfs/{name}" for name in sources.keys() - passed_over | {_library.FILE}}
         for name in sources.keys() - passed_over:
             assert sum_of(archive.read(f"pfs/{name}")) == sum_of(sources[name].read_bytes()), f"other bytes in {name}"
+        page = archive.read(f"pfs-{VERSION}.data/data/share/man/man1/pfs-plan.1")
+        assert page == (TOP / "python" / "pfs-plan.1").read_bytes()
         library = pathlib.Path(_library.PATH).resolve().read_bytes()
         assert sum_of(archive.read(f"pfs/{_library.FILE}")) == sum_of(library), "another library"
 
@@ -90,10 +92,10 @@ def test_what_a_wheel_asks_for(wheel: pathlib.Path) -> None:
     """It is what the settings say, and README."""
     with zipfile.ZipFile(wheel) as archive:
         named, = [name for name in archive.namelist() if name.endswith(".dist-info/METADATA")]
-        fields = email.message_from_bytes(archive.read(named))
+        fields = email.message_from_string(archive.read(named).decode())
         modes = {name: archive.getinfo(name).external_attr >> 16 & 0o777 for name in archive.namelist()}
     project = tomllib.loads((HERE / "pyproject.toml").read_text())["project"]
-    assert (fields["Name"], fields["Version"], fields["Requires-Python"]) == ("pfs", VERSION, ">=3.11")
+    assert (fields["Name"], fields["Version"], fields["Requires-Python"]) == ("pfs", VERSION, ">=3.10")
     assert fields["Requires-Python"] == project["requires-python"]
     needed = [re.sub("[ ()]", "", str(each)) for each in fields.get_all("Requires-Dist") or []]
     assert [each for each in needed if "extra" not in each] == ["numpy>=1.24"], "what a wheel needs"
@@ -139,6 +141,10 @@ def test_a_wheel_in_a_clean_environment(wheel: pathlib.Path, tmp_path: pathlib.P
     run([python, "-m", "pip", "--disable-pip-version-check", "install", "-q", "--no-index", wheel], tmp_path)
     told = run([python, "-c", "import pfs, pfs._library; print(pfs.__file__, pfs._library.PATH, sep='\\n')"], tmp_path)
     assert all(pathlib.Path(line).is_relative_to(tmp_path / "clean") for line in told.splitlines())
+    assert run([tmp_path / "clean" / "bin" / "pfs-plan", "--version"], tmp_path) == f"pfs {VERSION}\n"
+    (tmp_path / "times.csv").write_text("job [min],saw,drill\nchair,3,2\ntable,2,5\n")
+    told = run([tmp_path / "clean" / "bin" / "pfs-plan", "times.csv"], tmp_path)
+    assert told == "makespan 9 min\nbound 9 min\noptimal\n1 table\n2 chair\n"
     shutil.copytree(HERE / "tests", tmp_path / "tests", ignore=shutil.ignore_patterns("__pycache__"))
     (tmp_path / "tests" / "test_py_where.py").write_text(
         f"import pfs\n\n\ndef test_it() -> None:\n    assert pfs.__file__.startswith({str(tmp_path / 'clean')!r})\n")

@@ -29,6 +29,7 @@ from pfs._version import VERSION
 REFUSED, USAGE, SYSTEM = 2, 3, 4
 SIGNALS = (signal.SIGINT, signal.SIGTERM)
 DECIMAL_SIGNS = {"point": ".", "comma": ","}
+VERSION_OPTION: dict[str, Any] = {"action": "version", "version": f"pfs {VERSION}"}
 
 
 class Words(argparse.ArgumentParser):
@@ -230,11 +231,8 @@ def number(least: int, most: int) -> Callable[[str], int]:
     return read_number
 
 
-def words() -> argparse.ArgumentParser:
-    """The command lines."""
-    parser = Words(prog="python3 -m pfs", description="Searches of permutation flow shops that can be interrupted.")
-    parser.add_argument("--version", action="version", version=f"pfs {VERSION}")
-    commands = parser.add_subparsers(required=True, metavar="COMMAND")
+def search_words() -> Words:
+    """The options of all searches."""
     options = Words(add_help=False)
     options.add_argument("--rounds", type=number(0, c.MOST_ROUNDS), metavar="R",
                          help="up to which round; else 1,000,000, and of a plan without a time limit 1,000")
@@ -242,14 +240,12 @@ def words() -> argparse.ArgumentParser:
     options.add_argument("--take", type=number(1, c.MOST_JOBS), metavar="D", help="the destruction size, else 4")
     options.add_argument("--passes", type=number(0, c.MOST_PASSES), default=0, metavar="P", help="0 to 100, else 0")
     options.add_argument("--seed", type=number(0, c.MOST_SEED), default=0, metavar="S", help="of 64 bits, else 0")
-    search = commands.add_parser("search", parents=[options], help="searches an instance file, prints an order file")
-    search.add_argument("file", metavar="FILE")
-    search.add_argument("--layout", choices=tuple(c.LAYOUTS), required=True)
-    search.add_argument("--block", type=number(1, c.MOST_BLOCKS), default=1, metavar="K", help="counted from 1")
-    search.add_argument("--start", metavar="ORDER", help="an order file to begin with, else NEH's order")
-    search.add_argument("--state", metavar="STATE", help="a file that keeps what is needed to go on")
-    search.set_defaults(run=search_command)
-    plan = commands.add_parser("plan", parents=[options], help="an order and a schedule for a table with names")
+    return options
+
+
+def add_plan_words(plan: argparse.ArgumentParser) -> None:
+    """Add the words of a plan."""
+    plan.add_argument("--version", **VERSION_OPTION)
     plan.add_argument("table", metavar="TIMES.csv", help="a row for each job, a column for each machine, with names")
     plan.add_argument("--unit", default="", help="of the times; else what stands in brackets in the first cell")
     plan.add_argument("--decimal", choices=tuple(DECIMAL_SIGNS),
@@ -264,12 +260,42 @@ def words() -> argparse.ArgumentParser:
     plan.add_argument("--chart", metavar="OUT.svg", action="append", default=[],
                       help="the chart, as .svg, .png, .pdf or a page .html; may be given more than once")
     plan.set_defaults(run=plan_command)
+
+
+def plan_words() -> Words:
+    """The command line of the program pfs-plan."""
+    parser = Words(prog="pfs-plan", parents=[search_words()], description="An order and a schedule for a table of "
+                   "times, which has a row for each job and a column for each machine, with names.")
+    add_plan_words(parser)
     return parser
 
 
-def main(line: list[str]) -> int:
+def words() -> argparse.ArgumentParser:
+    """The command lines."""
+    parser = Words(prog="python3 -m pfs", description="Searches of permutation flow shops that can be interrupted.")
+    parser.add_argument("--version", **VERSION_OPTION)
+    commands = parser.add_subparsers(required=True, metavar="COMMAND")
+    options = search_words()
+    search = commands.add_parser("search", parents=[options], help="searches an instance file, prints an order file")
+    search.add_argument("file", metavar="FILE")
+    search.add_argument("--layout", choices=tuple(c.LAYOUTS), required=True)
+    search.add_argument("--block", type=number(1, c.MOST_BLOCKS), default=1, metavar="K", help="counted from 1")
+    search.add_argument("--start", metavar="ORDER", help="an order file to begin with, else NEH's order")
+    search.add_argument("--state", metavar="STATE", help="a file that keeps what is needed to go on")
+    search.set_defaults(run=search_command)
+    plan = commands.add_parser("plan", parents=[options], help="an order and a schedule for a table with names")
+    add_plan_words(plan)
+    return parser
+
+
+def plan_program() -> int:
+    """Run the program pfs-plan, and return its exit status."""
+    return main(sys.argv[1:], plan_words())
+
+
+def main(line: list[str], parser: argparse.ArgumentParser | None = None) -> int:
     """Run a command line, and return its exit status."""
-    given = words().parse_args(line)
+    given = (parser or words()).parse_args(line)
     if given.rounds is None:
         given.rounds = rounds_of(given)
     try:
