@@ -70,11 +70,11 @@ def test_the_bound_is_the_published_one(name: str, listed: dict[str, dict[str, s
     assert [lines[0], lines[2]] == ["valid", f"bound {listed[name]['lower_bound']}"]
 
 
-# README's first table
+# README's tables of deviations
 
-# The sizes of its columns, and those of the plan.
-TOLD = [(20, 5), (50, 10), (100, 10)]
-PLANNED = [(20, 5), (50, 10), (50, 20), (100, 10)]
+# The sizes of their columns, and the passes of their searches.
+TABLE_SIZES = [(20, 5), (50, 10), (50, 20), (100, 10)]
+TABLE_PASSES = [0, 1]
 
 
 @pytest.fixture(scope="module")
@@ -115,50 +115,53 @@ def test_the_deviation_of_neh_is_the_published_one(best_known: dict[str, int], s
     assert min(found) > 0 and statistics.fmean(found) == pytest.approx(3.33, abs=0.005)
 
 
-def test_the_plan_of_the_table_is_that_of_readme(top: pathlib.Path) -> None:
-    """Its instances, rounds and seeds are those of the table, and it has the best known makespans for its reference."""
+def test_the_plan_of_the_tables_is_that_of_readme(top: pathlib.Path) -> None:
+    """Its instances, rounds, passes and seeds are those of the tables, and its reference the best known makespans."""
     plan = tomllib.loads((top / "experiments" / "quality.toml").read_text())
-    text = (top / "README.md").read_text()
-    rounds = [int(cell.replace(",", "")) for cell in re.findall(r"^\| ([\d,]+)(?: \(NEH\))? \|", text, re.MULTILINE)]
     names = [name for pattern in plan["instances"] for name in NAMES
              if fnmatch.fnmatchcase(f"out/taillard/{name}", pattern)]
     sizes = [SIZES[(int(name[2:]) - 1) // 10] for name in names]
-    heads = re.findall(r"(\d+)×(\d+): s \|", text)
-    assert [(int(jobs), int(machines)) for jobs, machines in heads] == TOLD, "sizes of README's table"
-    assert plan["rounds"] == rounds[:len(plan["rounds"])], "rounds of quality.toml and of README's table"
-    assert sizes == [size for size in PLANNED for _ in range(10)] and {*TOLD} <= {*PLANNED}, "sizes of quality.toml"
-    seed = re.search(r"iterated greedy on 10 of Taillard's instances of each size \(`--seed (\d+)`", text)
+    assert sizes == [size for size in TABLE_SIZES for _ in range(10)], "sizes of quality.toml"
+    assert plan["passes"] == TABLE_PASSES, "passes of quality.toml"
+    for passes, table in zip(TABLE_PASSES, tables_of(top), strict=True):
+        heads = re.findall(r"(\d+)×(\d+): s \|", table)
+        assert [(int(jobs), int(machines)) for jobs, machines in heads] == TABLE_SIZES, "sizes of README's tables"
+        rounds = [int(cell.replace(",", "")) for cell in re.findall(r"^\| ([\d,]+)", table, re.MULTILINE)]
+        assert rounds == (plan["rounds"] if passes == 0 else plan["rounds"][1:]), "rounds of README's tables"
+    seed = re.search(r"iterated greedy on 10 of Taillard's instances of each size \(`--seed (\d+)`",
+                     (top / "README.md").read_text())
     assert seed and plan["seeds"] == [int(seed[1])], "seeds of quality.toml and of README"
     assert plan["reference"] == "best_known.csv", "the reference of quality.toml"
-    assert plan["passes"] == [0, 1], "passes of quality.toml"
     others = plan.keys() - {"instances", "rounds", "seeds", "reference", "passes"}
     assert others == set(), "options that are not the default ones"
 
 
-def told_of(top: pathlib.Path, rounds: int) -> list[tuple[str, str]]:
-    """RPD and gap of each size, as README tells them."""
-    row = re.search(rf"^\| {rounds:,}(?: \(NEH\))? \|(.*)\|$", (top / "README.md").read_text(), re.MULTILINE)
+def tables_of(top: pathlib.Path) -> list[str]:
+    """README's tables, one for each number of passes."""
+    return re.findall(r"^\| Rounds \|.*\n(?:\|.*\n)+", (top / "README.md").read_text(), re.MULTILINE)
+
+
+def deviations_in(table: str, rounds: int) -> list[str]:
+    """The RPD of each size after these rounds."""
+    row = re.search(rf"^\| {rounds:,}(?: \(NEH\))? \|(.*)\|$", table, re.MULTILINE)
     assert row, f"no row of {rounds} rounds"
-    cells = [cell.strip() for cell in row[1].split("|")]
-    return list(zip(cells[1::3], cells[2::3]))
+    return [cell.strip() for cell in row[1].split("|")][1::2]
 
 
-@pytest.mark.parametrize("rounds", [0, 1000, 10000])
-def test_readme_tells_how_good_orders_are(rounds: int, best_known: dict[str, int], listed: dict[str, dict[str, str]],
-                                          shops: pathlib.Path, pfs: Program, top: pathlib.Path) -> None:
-    """The other rows take minutes. A deviation is told with two digits behind the point."""
-    parts: dict[tuple[int, int], list[tuple[float, float]]] = {size: [] for size in TOLD}
+@pytest.mark.parametrize(("rounds", "passes"), [(0, 0), (1000, 0), (10000, 0), (1000, 1)])
+def test_readme_has_the_deviations_of_searches(rounds: int, passes: int, best_known: dict[str, int],
+                                               listed: dict[str, dict[str, str]], shops: pathlib.Path, pfs: Program,
+                                               top: pathlib.Path) -> None:
+    """They have two decimals. The other rows take minutes."""
+    deviations: dict[tuple[int, int], list[float]] = {size: [] for size in TABLE_SIZES}
     for name, best in best_known.items():
         size = int(listed[name]["jobs"]), int(listed[name]["machines"])
-        if size not in parts:
+        if size not in deviations:
             continue
-        ran = pfs.run(f"solve --layout taillard --rounds {rounds} --seed 1 {name}", shops)
-        span, bound = int(ran.stdout.split()[-1]), int(listed[name]["lower_bound"])
+        ran = pfs.run(f"solve --layout taillard --rounds {rounds} --passes {passes} --seed 1 {name}", shops)
+        span = int(ran.stdout.split()[-1])
         assert span >= best, "a makespan below the best known one"
-        parts[size].append((100 * (span - best) / best, 100 * (span - bound) / bound))
-    means = [(statistics.fmean(rpd for rpd, _ in some), statistics.fmean(gap for _, gap in some))
-             for some in parts.values()]
-    told = told_of(top, rounds)
-    assert len(told) == len(means)
-    for found, texts in zip(means, told):
-        assert all(abs(number - float(text)) < 0.0051 for number, text in zip(found, texts)), (found, texts)
+        deviations[size].append(100 * (span - best) / best)
+    printed = deviations_in(tables_of(top)[TABLE_PASSES.index(passes)], rounds)
+    for some, text in zip(deviations.values(), printed, strict=True):
+        assert re.fullmatch(r"\d+\.\d\d", text) and abs(statistics.fmean(some) - float(text)) < 0.0051, printed
