@@ -57,8 +57,7 @@ print(quick < 0.9 * slow, f"{quick / 50 * 1e6:.1f} and {slow / 50 * 1e6:.1f} mic
 
 
 def test_arguments_that_are_ready_make_a_call_faster() -> None:
-    """It takes less time than the same call with types, which ctypes converts one by one. A process of its own measures
-    it, in which no other test has changed what the interpreter does."""
+    """It takes less time than the same call with types, which ctypes converts one by one. Measured in a new process."""
     folder = str(pathlib.Path(pfs.__file__).parents[1])
     env = os.environ | {"PYTHONPATH": folder, "PYTHONDONTWRITEBYTECODE": "1"}
     done = subprocess.run([sys.executable, "-c", COMPARED], env=env, capture_output=True, text=True)
