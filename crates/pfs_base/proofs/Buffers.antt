@@ -1,4 +1,4 @@
--- A buffer's count of what went out, and what it holds once a front of it has gone out.
+-- A buffer's count of sent bytes, and its contents after a prefix of them was sent.
 use Rattle.std.proofs.Common.{◌≡◌, ℕ, ◌+◌, ◌-◌, ◌≤◌, ◌^◌, ◌==◌, min, List, Option}
 use Rattle.std.proofs.Common.{None, Some, length, take, drop, sym, ap, ◌∙◌, arith, length-append, length-drop, inl, inr}
 use Rattle.std.proofs.lemmas.Bool.{cases_Bool, eqb-true, eq-eqb}
@@ -8,7 +8,7 @@ use Rattle.std.specs.Io.KnownBytes.{Appends}
 use Rattle.std.specs.List.{copy_within}
 use Rattle.pfs_base.specs.Buffer.{bytes_counted, count_of}
 
--- bytes that were written are counted
+-- bytes that were written are added to the count
 pub bytes_counted-more : (a b : Option (List ℕ)) (bytes : List ℕ) (sent n total : ℕ) → Appends a b bytes
     → n ≡ length bytes → total ≡ min (sent + n) (2 ^ 64 - 1)
     → Appends (bytes_counted a sent) (bytes_counted b total) bytes
@@ -23,7 +23,7 @@ bytes_counted-more (Some x) (Some y) bytes sent n total p e t = elim (cases_Bool
   | inr other ↦ rw other tt
 ]
 
--- what is left of the held bytes moves to the front
+-- the unsent bytes move to the front of the buffer
 pub held-rest : (bytes : List ℕ) (n count : ℕ) → n ≤ count → count ≤ length bytes
     → take (count - n) (copy_within bytes n count 0) ≡ drop n (take count bytes)
 held-rest bytes n count few within =

@@ -28,7 +28,7 @@ added_is x y small =
 pub chosen_is : (x y : ℕ) → x ≤ SPAN_MAX → y ≤ SPAN_MAX → cond (top 63 (is_less x y)) y x ≡ max x y
 chosen_is x y small less = grind (arith, nat_tests, ints)
 
--- a lane that is read
+-- a lane keeps its value when it is read
 lane_read : (lane : ℤ) → of_z w64 lane ≤ SPAN_MAX
     → of_z w64 (to_z w64 (of_z w64 (to_z w64 (of_z w64 lane)))) ≡ of_z w64 lane
 lane_read lane small =
@@ -68,7 +68,7 @@ raised lanes a b =
     let sums = zip2 added (map (of_z w64) a) (map (of_z w64) b) in
     sel_l (map (top 63) (zip2 is_less lanes sums)) sums lanes
 
--- one lane of them
+-- the same in one lane
 raised_at : (lane x y : ℕ) → lane ≤ SPAN_MAX → x + y ≤ SPAN_MAX
     → let sum : ℕ = added (of_z w64 (to_z w64 x)) (of_z w64 (to_z w64 y)) in
     cond (top 63 (is_less lane sum)) sum lane ≡ max lane (x + y)

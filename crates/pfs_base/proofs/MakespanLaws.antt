@@ -11,7 +11,7 @@ makespan_law shop [] = refl
 makespan_law shop (job ∷ jobs) =
     heaviest_law (operation shop (job ∷ jobs)) 0 0 (length jobs) (shop.machines - 1) (omega arith) (omega arith)
 
--- two paths that no path exceeds weigh the same
+-- two paths that no path exceeds have the same weight
 one_heaviest : (weigh : ℕ → ℕ → ℕ) (row machine r m one other : ℕ) → IsHeaviest weigh row machine r m one
     → IsHeaviest weigh row machine r m other → one ≡ other
 one_heaviest weigh row machine r m one other a b =
@@ -27,7 +27,7 @@ one_makespan shop (job ∷ jobs) one other a b =
     one_heaviest (operation shop (job ∷ jobs)) 0 0 (length jobs) (shop.machines - 1) one other a b
 
 module _ (shop : FlowShop) (jobs : List ℕ) (ends : ℕ → ℕ → ℕ) (are : AreEnds shop jobs ends) where
-  -- each end is the heaviest path to its operation
+  -- each end is the weight of the heaviest path to its operation
   ends_are_heads : (row machine : ℕ) → row ≤ length jobs → machine < shop.machines
       → ends row (suc machine) ≡ head (operation shop jobs) row machine
   ends_are_heads zero machine r m = are.no_row (suc machine)

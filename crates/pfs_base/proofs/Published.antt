@@ -1,4 +1,4 @@
--- Lemmas that the proofs of crates above may cite.
+-- Lemmas that the proofs of dependent crates may cite.
 pub mod BufferLemmas
 pub mod Ends
 pub mod Heads

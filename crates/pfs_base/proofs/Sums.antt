@@ -10,12 +10,12 @@ use Rattle.pfs_base.proofs.Published.Heaviest.{greatest-cons}
 abbrev pub sum_at : List ℕ → List ℕ → ℕ → ℕ
 sum_at a b place = get_or a place 0 + get_or b place 0
 
--- the greatest of the first sums
+-- the greatest of the sums before a place
 abbrev pub most_to : List ℕ → List ℕ → ℕ → ℕ
 most_to a b zero = 0
 most_to a b (suc place) = max (most_to a b place) (sum_at a b place)
 
--- the greatest of the sums in a lane of the first chunks
+-- the greatest of the sums in one lane of the first chunks
 abbrev pub lane_most : List ℕ → List ℕ → ℕ → ℕ → ℕ
 lane_most a b zero lane = 0
 lane_most a b (suc chunk) lane = max (lane_most a b chunk lane) (sum_at a b (4 * chunk + lane))
@@ -33,7 +33,7 @@ max_four p q r s w x y z =
     rw (max_pairs p q w x, max_pairs r s y z, max_pairs (max p q) (max r s) (max w x) (max y z))
     (sym (rw (max_last rows w x, max_last (max rows (max w x)) y z) (max_last rows (max w x) (max y z))))
 
--- the four lanes together
+-- the greatest of the four lanes is the greatest of all sums in these chunks
 pub lanes_most : (a b : List ℕ) (chunks : ℕ) → let lane = lane_most a b chunks in
     max (max (lane 0) (lane 1)) (max (lane 2) (lane 3)) ≡ most_to a b (4 * chunks)
 lanes_most a b zero = refl
@@ -52,19 +52,19 @@ lanes_most a b (suc chunks) =
     ≡ max (max two (sum_at a b (start + 2))) (sum_at a b (start + 3)) = cc in
     sums ∙ rw (lanes_most a b chunks) (sym four) ∙ ap (most_to a b) (sym end)
 
--- the four lanes of the first chunks, and the four lengths from a place on
+-- the greatest sums in the four lanes of the first chunks, and four durations from a place on
 abbrev pub lanes_at : List ℕ → List ℕ → ℕ → List ℕ
 lanes_at a b chunks = let lane = lane_most a b chunks in lane 0 ∷ lane 1 ∷ lane 2 ∷ lane 3 ∷ []
 
 abbrev pub four_at : List ℕ → ℕ → List ℕ
 four_at row at = get_or row (at + 0) 0 ∷ get_or row (at + 1) 0 ∷ get_or row (at + 2) 0 ∷ get_or row (at + 3) 0 ∷ []
 
--- four equal elements
+-- two lists of four elements that are equal one by one
 pub four_same : {X : Type 0} {a b c d e f g h : X} → a ≡ e → b ≡ f → c ≡ g → d ≡ h
     → a ∷ b ∷ c ∷ d ∷ [] ≡ e ∷ f ∷ g ∷ h ∷ []
 four_same p q r s = cc
 
--- a chunk, length by length
+-- the four durations of a chunk
 pub chunk_four : (row : List ℕ) (at p q r s : ℕ) → at + 4 ≤ length row
     → chunk at 4 row ≡ get_or row at p ∷ get_or row (at + 1) q ∷ get_or row (at + 2) r ∷ get_or row (at + 3) s ∷ []
 chunk_four [] zero p q r s le = absurd (omega arith)
@@ -82,13 +82,13 @@ chunk_is row at le =
     chunk_four row at 0 0 0 0 le ∙ ap (λ place. get_or row place 0 ∷ get_or row (at + 1) 0 ∷ get_or row (at + 2) 0
     ∷ get_or row (at + 3) 0 ∷ []) none
 
--- the first sums of rows that begin with two lengths
+-- the greatest of the first sums of two rows, after a first duration in each
 most_behind : (x y : ℕ) (a b : List ℕ) (place : ℕ)
     → most_to (x ∷ a) (y ∷ b) (suc place) ≡ max (x + y) (most_to a b place)
 most_behind x y a b zero = omega arith
 most_behind x y a b (suc place) = let rest = most_behind x y a b place in omega arith
 
--- the greatest of all sums
+-- the greatest of all sums is `greatest_join`
 pub most_is : (a b : List ℕ) → length a ≡ length b → most_to a b (length a) ≡ greatest_join (λ n. n) a b
 most_is [] b same = refl
 most_is (x ∷ a) [] same = absurd (omega arith)
@@ -96,7 +96,7 @@ most_is (x ∷ a) (y ∷ b) same =
     most_behind x y a b (length a) ∙ ap (max (x + y)) (most_is a b (omega arith))
     ∙ sym (greatest-cons (x + y) (zip2 (λ m n. m + n) a b))
 
--- a sum of what is read there
+-- the sum of what is read at a place within both rows
 pub sum_read : (a b : List ℕ) (place p q : ℕ) → length a ≡ length b → place < length a
     → get_or a place p + get_or b place q ≡ sum_at a b place
 sum_read [] b place p q same lt = absurd (omega arith)
@@ -104,7 +104,7 @@ sum_read (x ∷ a) [] place p q same lt = absurd (omega arith)
 sum_read (x ∷ a) (y ∷ b) zero p q same lt = refl
 sum_read (x ∷ a) (y ∷ b) (suc place) p q same lt = sum_read a b place p q (omega arith) (omega arith)
 
--- a sum is at most the greatest
+-- a limit of the greatest sum is a limit of each sum
 pub sum_small : (a b : List ℕ) (limit place : ℕ) → length a ≡ length b → greatest_join (λ n. n) a b ≤ limit
     → place < length a → sum_at a b place ≤ limit
 sum_small [] b limit place same small lt = absurd (omega arith)
@@ -115,7 +115,7 @@ sum_small (x ∷ a) (y ∷ b) limit (suc place) same small lt =
     let first = greatest-cons (x + y) (zip2 (λ m n. m + n) a b) in
     sum_small a b limit place (omega arith) (omega arith) (omega arith)
 
--- and so is the greatest of the first ones
+-- a limit of the first sums is a limit of the greatest of them
 pub most_small : (a b : List ℕ) (limit place : ℕ) → ((k : ℕ) → k < place → sum_at a b k ≤ limit)
     → most_to a b place ≤ limit
 most_small a b limit zero small = omega arith
@@ -132,7 +132,7 @@ lane_small a b limit (suc chunks) lane small =
     let here = small chunks (omega arith) in
     omega arith
 
--- where no length is greater than half the limit
+-- no sum is greater than twice a limit of the durations
 pub join_small : (a b : List ℕ) (half : ℕ) → length a ≡ length b
     → ((place : ℕ) → place < length a → get_or a place 0 ≤ half)
     → ((place : ℕ) → place < length b → get_or b place 0 ≤ half) → greatest_join (λ n. n) a b ≤ half + half

@@ -3,6 +3,8 @@ use Rattle.std.specs.Prelude.{ℕ}
 use Rattle.pfs_base.specs.declared.limits.TheConstants.{MOST_JOBS, MOST_MACHINES, LONGEST_TIME}
 use Rattle.pfs_base.specs.declared.limits.TheConstants.{GREATEST_NOTE, LONGEST_INPUT}
 
+-- the greatest numbers of jobs and machines, the longest time, the greatest note, and the greatest number of
+-- bytes of an input
 pub record Limits : Type 0 where
   pub jobs : ℕ
   pub machines : ℕ
@@ -10,7 +12,7 @@ pub record Limits : Type 0 where
   pub note : ℕ
   pub input : ℕ
 
--- those of this product
+-- the limits of this program, which are the constants of `limits.rt`
 abbrev pub limits : Limits
 limits = record {
   jobs = MOST_JOBS;

@@ -1,4 +1,4 @@
--- What an instance holds: a flow shop, and the three notes of its file.
+-- What an instance is to contracts: a flow shop, and the three notes of its file.
 use Rattle.pfs_base.specs.FlowShop.{FlowShop}
 use Rattle.pfs_base.specs.declared.notes.Notes.{Notes}
 

@@ -7,11 +7,11 @@ ghost use Rattle.pfs_base.specs.Device.{Writes, fails_after};
 use crate::device::{Sink, WriteFault, put};
 use std::marker::Model;
 
-/// How many bytes a buffer holds at most.
+/// The capacity of a buffer, in bytes.
 const ROOM: usize = 8192;
 
-/// A sink that gathers short writes for the sink behind it, without memory, and counts the bytes that went
-/// out. Contracts see what it was given: what went out, followed by what is held.
+/// A sink that gathers short writes for another sink. It allocates nothing, and counts the bytes that it has
+/// sent to that sink. Contracts see what it was given: the bytes sent, followed by those still in the buffer.
 #[derive(Drop)]
 pub struct Buffered<W: Sink> {
     writer: W,
@@ -32,7 +32,7 @@ impl<W: Sink> Model for Buffered<W> {
 }
 
 impl<W: Sink> Buffered<W> {
-    /// A buffer in front of this sink, which holds nothing and has let nothing out.
+    /// An empty buffer in front of this sink, which has sent nothing.
     pub fn new(writer: W) -> Buffered<W>
         ensures writer { result.writer ≡ writer }
         ensures empty { result.held ≡ [] }
@@ -46,22 +46,22 @@ impl<W: Sink> Buffered<W> {
         }
     }
 
-    /// The sink behind it.
+    /// The sink that the buffer writes to.
     pub fn writer(&self) -> &W
         ensures { result.now ≡ self.now.writer }
     {
         &self.writer
     }
 
-    /// How many bytes went out in all.
+    /// How many bytes were sent in all, up to `u64::MAX`.
     pub fn sent(&self) -> u64
         ensures { result ≡ self.now.sent }
     {
         self.sent
     }
 
-    /// Lets out what is held. Where a write fails, what didn't go out stays held, and the fault says how many
-    /// bytes went out in all.
+    /// Sends the bytes in the buffer. If a write fails, the unsent bytes stay in the buffer, and the fault
+    /// has the number of bytes that were sent in all.
     pub fn flush(&mut self) -> Result<(), WriteFault>
         requires { W.has_failed self.old.writer ≡ false }
         ensures kept { Keeps (bytes_given W.written self.old) (bytes_given W.written self.new) }
@@ -83,8 +83,8 @@ impl<W: Sink> Buffered<W> {
         }
     }
 
-    // Writes bytes that fill the buffer, or for which it has no room. It stands apart, so that the test for
-    // room is inlined.
+    // Writes bytes that fill the buffer or don't fit into it. It is a separate function, so that the check
+    // whether bytes fit is inlined.
     #[cold]
     #[inline(never)]
     fn write_full(&mut self, bytes: &[u8]) -> Option<usize>
@@ -112,8 +112,8 @@ impl<W: Sink> Sink for Buffered<W> {
 
     ghost has_failed = { λ b. W.has_failed b.writer };
 
-    /// Holds the bytes, and lets out first what is held where there is no room for them. As many bytes as a
-    /// buffer holds, or more, go straight on.
+    /// Copies the bytes into the buffer, and flushes the buffer first if they don't fit. A write of at least
+    /// the buffer's capacity goes straight to the sink.
     #[inline(always)]
     fn write(&mut self, bytes: &[u8]) -> Option<usize> {
         if bytes.len() < ROOM - self.count {

@@ -5,8 +5,8 @@ ghost use Rattle.pfs_base.specs.Sends.{Sends};
 
 use thiserror::Error;
 
-/// A reader of bytes. Contracts see the bytes that are left, where they are known, whether a read has
-/// failed, and whether a read has reported the end of the bytes.
+/// A reader of bytes. Contracts see the bytes that are left, if they are known, whether a read has failed,
+/// and whether a read has reported the end of the bytes.
 pub trait Source {
     ghost left: { Self → Option (List ℕ) };
 
@@ -14,8 +14,8 @@ pub trait Source {
 
     ghost has_ended: { Self → Bool };
 
-    /// Reads some bytes into the front of `buf` and returns their number; 0 reports the end of the bytes, if
-    /// `buf` isn't empty. `None` is a failure, and moves no byte. A source that has failed isn't read again.
+    /// Reads some bytes into the front of `buf` and returns their number. 0 reports the end of the bytes, if
+    /// `buf` isn't empty. `None` is a failure, and no byte is read. A source isn't read again after a failure.
     fn read(&mut self, buf: &mut [u8]) -> Option<usize>
         requires working { has_failed self.old ≡ false }
         ensures bytes { Reads (left self.old) (left self.new) result buf.new }
@@ -27,15 +27,14 @@ pub trait Source {
         ensures { result ≡ has_failed self.now };
 }
 
-/// A writer of bytes. Contracts see the bytes that were written, where they are told, and whether a write
-/// has failed.
+/// A writer of bytes. Contracts see the bytes that were written, if they are known, and whether a write has failed.
 pub trait Sink {
     ghost written: { Self → Option (List ℕ) };
 
     ghost has_failed: { Self → Bool };
 
-    /// Writes the front of `bytes`, and says how many, which is at least one if there is one. `None` is a
-    /// failure, and moves no byte. A sink that has failed isn't written to again.
+    /// Writes a prefix of `bytes` and returns its length, which is at least 1 unless `bytes` is empty. `None`
+    /// is a failure, and no byte is written. A sink isn't written to again after a failure.
     fn write(&mut self, bytes: &[u8]) -> Option<usize>
         requires working { has_failed self.old ≡ false }
         ensures bytes { Writes (written self.old) (written self.new) result bytes.now }
@@ -50,12 +49,13 @@ pub trait Sink {
 #[derive(Clone, Copy, Debug, PartialEq, Eq, Error)]
 #[error("WriteFault")]
 pub struct WriteFault {
-    /// How many bytes went out before, of the whole text.
+    /// How many bytes of the whole text were sent before the failure.
     pub written: u64,
 }
 
-/// Writes all bytes, and answers `sent`, which is how many bytes of a text went out before, and with them
-/// how many have gone out now. Where a write fails, a front of the bytes went out.
+/// Writes one part of a text. `sent` is how many bytes of the text were sent before, and the result is how
+/// many are sent with this part. If a write fails, a prefix of the part was sent, and the fault has the
+/// number of bytes that were sent with that prefix.
 pub fn put<W: Sink>(writer: &mut W, bytes: &[u8], sent: u64) -> Result<u64, WriteFault>
     requires working { W.has_failed writer.old ≡ false }
     requires fits { sent + length bytes.now < 2 ^ 64 }

@@ -1,11 +1,11 @@
-//! A source over a reader of std.
+//! A source that reads from a reader of std.
 ghost use Rattle.std.specs.Prelude.{◌≡◌, false};
 
 use crate::device::Source;
 use std::io::Read;
 
-/// A source over a reader of std. A read fails where the reader's call returns an error, an interrupted
-/// call too: nothing is tried again.
+/// A source over a reader of std. A read fails if the reader returns an error, even for an interrupted call:
+/// no read is tried again.
 #[derive(Drop)]
 pub struct FromRead<R> {
     reader: R,
@@ -14,7 +14,7 @@ pub struct FromRead<R> {
 }
 
 impl<R: Read> FromRead<R> {
-    /// A source of the bytes that the reader has left. It hasn't failed, and hasn't reported the end.
+    /// A source of the bytes that the reader has left. No read has failed, and none has reported the end.
     pub fn new(reader: R) -> FromRead<R>
         ensures left { ⟦<FromRead<R> as Source>⟧.left result ≡ R.remaining reader }
         ensures failed { ⟦<FromRead<R> as Source>⟧.has_failed result ≡ false }

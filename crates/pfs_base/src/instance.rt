@@ -1,4 +1,4 @@
-//! An instance: how many jobs and machines, the time of each job on each machine, and three notes.
+//! An instance: the numbers of jobs and machines, the time of each job on each machine, and three notes.
 ghost use Rattle.std.specs.Prelude.{◌≡◌, ℕ, ◌*◌, ◌<◌, ◌≤◌, List, length, IfOk, OnOk, replicate};
 ghost use Rattle.pfs_base.specs.Limits.{limits};
 ghost use Rattle.pfs_base.specs.FlowShop.{time_of, with_time, AreSizes, IsWithin};
@@ -11,13 +11,13 @@ use std::alloc::{AllocError, Global};
 use std::marker::Model;
 use thiserror::Error;
 
-/// Why an instance could not be made.
+/// Why an instance could not be created.
 #[derive(Clone, Copy, Debug, PartialEq, Eq, Error)]
 pub enum BaseFault {
-    /// The number of jobs or of machines is out of its limit.
+    /// The number of jobs or of machines is 0 or above its limit.
     #[error("Size")]
     Size,
-    /// The memory for the times was refused.
+    /// Memory for the times could not be allocated.
     #[error("Memory")]
     Memory,
 }
@@ -47,8 +47,9 @@ impl Model for Instance {
 }
 
 impl Instance {
-    /// An instance of these sizes whose times are all 0. The sizes are judged before any memory is
-    /// asked for, which is for `jobs * machines` times.
+    /// An instance of these sizes whose times are all 0. The sizes are validated before memory for
+    /// `jobs * machines` times is allocated. The error is `Size` if a size is not within the limits, and
+    /// `Memory` if the allocation fails.
     pub fn new(
         alloc: Global,
         jobs: usize,
@@ -78,8 +79,8 @@ impl Instance {
         })
     }
 
-    /// An instance of these sizes and notes with these times: those of job 0 on each machine, then those of
-    /// job 1, and so on. It asks for memory once, and copies the times.
+    /// An instance of these sizes and notes with these times: those of job 0 on each machine, then those of job
+    /// 1, and so on. The times are copied into one allocation; the only error is that this allocation fails.
     pub fn of_times(
         alloc: Global,
         jobs: usize,
@@ -102,7 +103,7 @@ impl Instance {
         })
     }
 
-    /// How many jobs there are.
+    /// The number of jobs.
     pub fn jobs(&self) -> usize
         ensures value { result ≡ self.now.shop.jobs }
         ensures within { IsWithin limits self.now.shop }
@@ -110,7 +111,7 @@ impl Instance {
         self.jobs
     }
 
-    /// How many machines there are.
+    /// The number of machines.
     pub fn machines(&self) -> usize
         ensures value { result ≡ self.now.shop.machines }
         ensures within { IsWithin limits self.now.shop }
@@ -118,7 +119,7 @@ impl Instance {
         self.machines
     }
 
-    /// The notes that were handed in.
+    /// The notes that the instance was created with.
     pub fn notes(&self) -> Notes
         ensures { result ≡ self.now.notes }
     {
@@ -133,7 +134,7 @@ impl Instance {
         self.times.as_slice()
     }
 
-    /// How long a job takes on a machine, in the instance's own unit of time.
+    /// The time of a job on a machine, in the instance's own unit of time.
     pub fn time(&self, job: usize, machine: usize) -> u32
         requires job { job < self.now.shop.jobs }
         requires machine { machine < self.now.shop.machines }
@@ -144,7 +145,7 @@ impl Instance {
         self.times[place]
     }
 
-    /// Changes the time of a job on a machine, and nothing else.
+    /// Sets the time of a job on a machine, and changes nothing else.
     pub fn set(&mut self, job: usize, machine: usize, time: u32)
         requires job { job < self.old.shop.jobs }
         requires machine { machine < self.old.shop.machines }

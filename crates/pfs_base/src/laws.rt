@@ -1,4 +1,4 @@
-//! Laws about the definitions alone.
+//! Laws of the definitions alone: each function's contract is one of them.
 ghost use Rattle.std.specs.Prelude.{◌≡◌, ◌≤◌};
 ghost use Rattle.pfs_base.specs.Longest.{longest_makespan, NoneLonger};
 ghost use Rattle.pfs_base.specs.Paths.{HeaviestLaw, MakespanLaw, OneMakespan, RecurrenceLaw};
@@ -9,37 +9,38 @@ use crate::limits::{
     MOST_MACHINES, MOST_PASSES, MOST_ROUNDS,
 };
 
-/// Between any two cells, of which the second is neither above nor before the first, some path has the weight of the
-/// heaviest path, and no path weighs more.
+/// Between any two cells, of which the second is neither above nor before the first, some path weighs what
+/// `heaviest` says, and no path weighs more.
 pub fn heaviest()
     ensures { HeaviestLaw }
 {}
 
-/// The makespan is the weight of a path from the first operation to the last, and no path weighs more.
+/// The makespan is the weight of a path from the first operation to the last, and no path weighs more. It is
+/// 0 for no jobs.
 pub fn makespan()
     ensures { MakespanLaw }
 {}
 
-/// Only one number is the weight of a path that no path exceeds.
+/// The makespan is unique: only one number is the weight of a path that no path exceeds.
 pub fn one_makespan()
     ensures { OneMakespan }
 {}
 
-/// The usual recurrence gives the makespan: each operation ends its time after the later of the ends of
-/// the same job's operation on the machine before and of the job before on the same machine.
+/// The usual recurrence gives the makespan: each operation ends its own time after the later of two ends,
+/// that of the same job on the machine before and that of the job before on the same machine.
 pub fn recurrence()
     ensures { RecurrenceLaw }
 {}
 
-/// Within the limits no makespan is greater than 5,199,000,000,000, which is far below the greatest length that a
-/// bench makes.
+/// Within the limits no makespan is greater than 5,199,000,000,000, which is far below the greatest duration
+/// that a bench makes.
 pub fn makespans_fit()
     ensures none_longer { NoneLonger }
     ensures number { longest_makespan ≡ 5199000000000 }
     ensures in_limit { longest_makespan ≤ SPAN_MAX }
 {}
 
-/// The limits, in numerals. Definitions name them, so a changed limit changes what they say.
+/// The limits as numbers. Definitions cite the constants by name, so a changed constant changes what they say.
 pub fn numbers()
     ensures jobs { MOST_JOBS ≡ 5_000 }
     ensures machines { MOST_MACHINES ≡ 200 }

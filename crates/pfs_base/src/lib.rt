@@ -1,5 +1,5 @@
-//! Flow shop instances, and what every other crate stands on: the limits, a bench that counts what it
-//! computes with lengths of time, and readers and writers that may fail.
+//! Flow shop instances, and what all other crates build on: the limits, a bench that counts what it computes
+//! with durations, and readers and writers that may fail.
 #![tactic(auto)]
 
 mod bench;

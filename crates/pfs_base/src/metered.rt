@@ -14,7 +14,7 @@ use std::simd::prelude::*;
 #[cfg(test)]
 mod tests;
 
-/// A length of time of `Metered`.
+/// A duration of `Metered`.
 #[derive(Clone, Copy, Debug, PartialEq, Eq, PartialOrd, Ord)]
 pub struct Span {
     number: u64,
@@ -34,7 +34,7 @@ impl Length for Span {
     ghost ordered = { λ a b. refl };
 }
 
-/// A bench over an instance, made by `Instance::metered`.
+/// A bench over an instance, created by `Instance::metered`.
 #[derive(Drop)]
 pub struct Metered<'a> {
     jobs: usize,
@@ -130,7 +130,7 @@ impl<'a> Metered<'a> {
         }
     }
 
-    /// Counts cells that another bench computes over the same instance.
+    /// Adds to the count the cells that another bench computes over the same instance.
     pub fn count(&mut self, cells: u64)
         requires room { ⟦<Metered<'a> as Bench>⟧.counted self.old + cells < 2 ^ 64 }
         ensures counted { ⟦<Metered<'a> as Bench>⟧.counted self.new
@@ -140,14 +140,14 @@ impl<'a> Metered<'a> {
         self.cells += cells;
     }
 
-    /// The length of a number that another bench computed. It counts nothing.
+    /// The duration with this number, which another bench computed. It counts nothing.
     pub fn length(&self, number: u64) -> Span
         ensures { result ≡ number }
     {
         Span { number }
     }
 
-    /// The number of a length, for printing. It counts nothing.
+    /// The number of a duration, for printing. It counts nothing.
     pub fn reveal(&self, span: Span) -> u64
         ensures { result ≡ span }
     {
@@ -155,8 +155,8 @@ impl<'a> Metered<'a> {
     }
 }
 
-// The greater of two lengths. They are compared as signed numbers, because the processor makes a choice by
-// that order in one step (`cmovg`), and by the order of unsigned numbers in two (`cmova`).
+// The greater of two durations. They are compared as signed numbers, because the processor selects one of two
+// values by signed order in one step (`cmovg`), and by unsigned order in two (`cmova`).
 #[inline(always)]
 fn greater(a: u64, b: u64) -> u64
     requires a { a ≤ SPAN_MAX }
@@ -166,9 +166,9 @@ fn greater(a: u64, b: u64) -> u64
     if (a as i64) < (b as i64) { b } else { a }
 }
 
-// The greatest sum of two lengths that stand at the same place of two rows. Whole chunks of four are added
-// and compared lane by lane, and what is left over length by length, in a loop of which the compiler knows that
-// it has at most three turns, so that it makes no lanes of it.
+// The greatest sum of two durations at the same place of two rows. Whole chunks of four are added and
+// compared lane by lane, and the rest one by one. The compiler knows that the loop over the rest runs at most
+// three times, so it doesn't vectorize that loop.
 #[inline(always)]
 fn greatest_sum(a: &[Span], b: &[Span]) -> u64
     requires equal { length a.now ≡ length b.now }
@@ -187,7 +187,7 @@ fn greatest_sum(a: &[Span], b: &[Span]) -> u64
     most
 }
 
-// Four lengths of a row, as signed numbers.
+// Four durations of a row from a place on, as signed numbers.
 #[inline(always)]
 fn lanes_of(row: &[Span], at: usize) -> i64x4
     requires { at + 4 ≤ length row.now }
@@ -216,7 +216,7 @@ fn sum(a: Span, b: Span) -> u64
     a.number + b.number
 }
 
-// The greatest of four lengths.
+// The greatest of four durations.
 #[inline(always)]
 fn greatest_lane(lanes: i64x4) -> u64
     requires four { length lanes ≡ 4 }

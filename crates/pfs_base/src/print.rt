@@ -1,5 +1,5 @@
-//! Printing of texts part by part, without memory. Each call answers how many bytes of the text went out
-//! with its own part, as `put` does.
+//! Printing of texts part by part, without memory allocation. Each function returns how many bytes of the
+//! text are sent with its own part, and reports a failed write, as `put` does.
 ghost use Rattle.std.specs.Prelude.{◌≡◌, ◌+◌, ◌<◌, ◌≤◌, ◌^◌, ◌∷◌, false, length, decimal, IfOk};
 ghost use Rattle.pfs_base.specs.Sends.{Sends};
 ghost use Rattle.pfs_base.specs.Text.{with_line_end, spaced, entry, named_number, number_between};
@@ -19,7 +19,7 @@ pub fn put_number<W: Sink>(writer: &mut W, number: u64, sent: u64) -> Result<u64
     put(writer, buffer.format(number).as_bytes(), sent)
 }
 
-/// Writes a text and byte 10, which ends a line.
+/// Writes a text and byte 10, which ends the line.
 pub fn put_line<W: Sink>(writer: &mut W, line: &[u8], sent: u64) -> Result<u64, WriteFault>
     requires working { W.has_failed writer.old ≡ false }
     requires fits { sent + length line.now + 1 < 2 ^ 64 }
@@ -31,7 +31,7 @@ pub fn put_line<W: Sink>(writer: &mut W, line: &[u8], sent: u64) -> Result<u64, 
     put(writer, b"\n", sent)
 }
 
-/// Writes a line of a name, a space and a number.
+/// Writes a line: a name, a space and a number.
 pub fn put_named<W: Sink>(
     writer: &mut W,
     name: &[u8],
@@ -49,8 +49,7 @@ pub fn put_named<W: Sink>(
     put(writer, b"\n", numbered)
 }
 
-/// Writes the number at a place of a line of numbers, with a space before it unless it is the first.
-/// Places count from 0.
+/// Writes the number at a place of a line of numbers, after a space unless it is the first. Places count from 0.
 pub fn put_entry<W: Sink>(
     writer: &mut W,
     place: usize,
@@ -72,7 +71,7 @@ pub fn put_entry<W: Sink>(
     }
 }
 
-/// Writes a line of numbers with single spaces between them. Where there is none, the line is empty.
+/// Writes a line of numbers with single spaces between them. For an empty slice the line is empty.
 pub fn put_numbers<W: Sink>(writer: &mut W, numbers: &[u64], sent: u64) -> Result<u64, WriteFault>
     requires working { W.has_failed writer.old ≡ false }
     requires fits { sent + length (with_line_end (spaced numbers.now)) < 2 ^ 64 }
@@ -86,7 +85,7 @@ pub fn put_numbers<W: Sink>(writer: &mut W, numbers: &[u64], sent: u64) -> Resul
     put(writer, b"\n", reached)
 }
 
-/// Writes a line of a text, a number and a text, with nothing between them.
+/// Writes a line: a text, a number and a text, with nothing between them.
 pub fn put_between<W: Sink>(
     writer: &mut W,
     before: &[u8],

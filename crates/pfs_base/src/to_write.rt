@@ -1,11 +1,11 @@
-//! A sink over a writer of std.
+//! A sink that writes to a writer of std.
 ghost use Rattle.std.specs.Prelude.{◌≡◌, false};
 
 use crate::device::Sink;
 use std::io::Write;
 
-/// A sink over a writer of std. A write fails where the writer's call answers an error, an interrupted
-/// call too, or takes no byte: nothing is tried again.
+/// A sink over a writer of std. A write fails if the writer returns an error, even for an interrupted call,
+/// or writes no byte: no write is tried again.
 #[derive(Drop)]
 pub struct ToWrite<W> {
     writer: W,
@@ -13,7 +13,7 @@ pub struct ToWrite<W> {
 }
 
 impl<W: Write> ToWrite<W> {
-    /// A sink to the writer, which hasn't failed.
+    /// A sink that writes to `writer`. No write has failed.
     pub fn new(writer: W) -> ToWrite<W>
         ensures written { ⟦<ToWrite<W> as Sink>⟧.written result ≡ W.contents writer }
         ensures failed { ⟦<ToWrite<W> as Sink>⟧.has_failed result ≡ false }

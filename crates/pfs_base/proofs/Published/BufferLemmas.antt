@@ -1,4 +1,4 @@
--- What went out of a buffer that was given a text.
+-- What a buffer has sent of the text that it was given.
 use Rattle.std.proofs.Common.{◌≡◌, ℕ, ◌==◌, List, [], ◌++◌, Option, None, Some}
 use Rattle.std.proofs.Common.{sym, ap, ◌∙◌, append-nil, refl, inl, inr}
 use Rattle.std.proofs.lemmas.Bool.{cases_Bool, eqb-true}
@@ -11,7 +11,7 @@ pub new_given : {W : Type 0} (written : W → Option (List ℕ)) (buffer : Buffe
     → bytes_given written buffer ≡ Some []
 new_given written buffer new = rw (new.empty, new.none_sent, new.holds_none) refl
 
--- what went out of a text, which is counted, and what is held behind it
+-- a text is the bytes that were sent, which are counted, followed by those in the buffer
 pub record Parts (out : Option (List ℕ)) (held : List ℕ) (sent : ℕ) (text : List ℕ) : Type 0 where
   pub bytes : List ℕ
   pub told : out ≡ Some bytes
@@ -35,7 +35,7 @@ pub given_parts : {W : Type 0} (written : W → Option (List ℕ)) (buffer : Buf
     → bytes_given written buffer ≡ Some text → Parts (written buffer.writer) buffer.held buffer.sent text
 given_parts written buffer text p = parts_of (written buffer.writer) buffer.held buffer.sent text p
 
--- where nothing is held, all of it went out
+-- if the buffer is empty, all of the text was sent
 pub given_all : {W : Type 0} (written : W → Option (List ℕ)) (buffer : Buffering W) (text : List ℕ)
     → bytes_given written buffer ≡ Some text → buffer.held ≡ [] → written buffer.writer ≡ Some text
 given_all written buffer text p none =

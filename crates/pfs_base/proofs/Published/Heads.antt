@@ -1,4 +1,4 @@
--- The recurrence of heads: the heaviest path to each operation, by those above it and before it.
+-- The recurrence of heads: the weight of the heaviest path to each operation, by those above it and before it.
 use Rattle.std.proofs.Common.{◌≡◌, ℕ, zero, suc, ◌+◌, ◌-◌, ◌*◌, ◌<◌, ◌≤◌, max, List, [], ◌∷◌, length, refl, sym, ap}
 use Rattle.std.proofs.Common.{◌∙◌, get_or, add-one, subst, arith}
 use Rattle.std.proofs.Common.{⊎_elim}
@@ -13,12 +13,12 @@ use Rattle.pfs_base.specs.Paths.{heaviest, operation, makespan}
 use Rattle.pfs_base.proofs.Published.Heaviest.{most, most_here, most_on_last, most_down_last, most_last}
 
 module _ (weigh : ℕ → ℕ → ℕ) where
-  -- the heaviest path to a machine in the last of so many rows, and 0 of none
+  -- the weight of the heaviest path to a machine in the last of the given number of rows, and 0 for no rows
   abbrev pub head : ℕ → ℕ → ℕ
   head zero machine = 0
   head (suc row) machine = most weigh row machine 0 0
 
-  -- the heaviest path to the operation before this one on the row
+  -- the same of the operation before this one on its row, and 0 if there is none
   abbrev pub head_before : ℕ → ℕ → ℕ
   head_before row zero = 0
   head_before row (suc machine) = head (suc row) machine
@@ -32,7 +32,7 @@ module _ (weigh : ℕ → ℕ → ℕ) where
   head_step (suc row) (suc machine) =
       let e = most_last weigh row machine 0 0 (suc row) (suc machine) (omega arith) (omega arith) in omega arith
 
-  -- the same, as a loop counts
+  -- the same with `row + 1`, as loops count
   pub head_more : (row machine : ℕ)
       → head (row + 1) machine ≡ max (head row machine) (head_before row machine) + weigh row machine
   head_more row machine = rw add-one (head_step row machine)
@@ -40,7 +40,7 @@ module _ (weigh : ℕ → ℕ → ℕ) where
   pub head_before_more : (row machine : ℕ) → head_before row (machine + 1) ≡ head (row + 1) machine
   head_before_more row machine = ap (head_before row) (add-one machine) ∙ ap (λ r. head r machine) (sym (add-one row))
 
-  -- a path has so many cells
+  -- if no operation weighs more than a limit, no head is greater than `row + machine` times the limit
   pub head_le : (limit : ℕ) → ((row machine : ℕ) → weigh row machine ≤ limit) → (row machine : ℕ)
       → head row machine ≤ (row + machine) * limit
   head_le limit small zero machine = omega arith
@@ -81,7 +81,7 @@ time_of-le shop within job machine =
     (λ (past : length shop.times ≤ place). let none =
     get_or_past shop.times place 0 past in omega arith) (cases_lt place (length shop.times))
 
--- a path has at most as many cells as there are jobs and machines, less one
+-- within the limits a path has at most `limits.jobs + limits.machines - 1` cells
 cells_few : (jobs all machines : ℕ) → jobs ≤ all → AreSizes limits all machines
     → jobs + (machines - 1) ≤ limits.jobs + limits.machines - 1
 cells_few jobs all machines few sizes = omega (arith, few, sizes.few_jobs, sizes.some_machine, sizes.few_machines)

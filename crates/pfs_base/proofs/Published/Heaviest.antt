@@ -1,4 +1,4 @@
--- What the heaviest path weighs, by its first step and by its last.
+-- The weight of the heaviest path, by its first step and by its last.
 use Rattle.std.proofs.Common.{◌≡◌, ℕ, zero, suc, ◌+◌, ◌-◌, ◌≤◌, max, List, [], ◌∷◌, ◌++◌, map, refl, sym, ap, ◌∙◌}
 use Rattle.std.proofs.Common.{inl, inr, arith}
 use Rattle.std.proofs.Math.Nat.{add-suc, add-zero, suc-add}
@@ -21,7 +21,7 @@ pub greatest-append : (xs ys : List ℕ) → greatest (xs ++ ys) ≡ max (greate
 greatest-append xs ys = fold-append max 0 xs ys ∙ greatest_from (greatest xs) ys
 
 module _ (weigh : ℕ → ℕ → ℕ) where
-  -- a cell before each of some paths
+  -- one cell before each of some paths
   greatest_after : (row machine : ℕ) (path : List Cell) (others : List (List Cell)) →
       greatest (map (weight weigh) (map (λ p. (row, machine) ∷ p) (path ∷ others)))
       ≡ weigh row machine + greatest (map (weight weigh) (path ∷ others))
@@ -38,7 +38,7 @@ module _ (weigh : ℕ → ℕ → ℕ) where
         greatest-cons (weight weigh path) (map (weight weigh) (other ∷ others)),
       )
 
--- some list of paths
+-- a list of at least one path
 abbrev IsSome : List (List Cell) → Type 0
 IsSome all = (path : List Cell) × (others : List (List Cell)) × (all ≡ path ∷ others)
 
@@ -58,7 +58,7 @@ paths_some (suc downs) (suc ons) row machine =
     (paths_some downs (suc ons) (suc row) machine))
 
 module _ (weigh : ℕ → ℕ → ℕ) where
-  -- the heaviest path so many rows down and machines on
+  -- the weight of the heaviest path that goes `downs` rows down and `ons` machines further
   abbrev pub most : ℕ → ℕ → ℕ → ℕ → ℕ
   most downs ons row machine = greatest (map (weight weigh) (paths downs ons row machine))
 
@@ -199,7 +199,7 @@ module _ (weigh : ℕ → ℕ → ℕ) where
       has_larger row machine r m _ _ _ (most_is_some downs (suc ons) (suc row) machine r m (omega arith) q)
       (most_is_some (suc downs) ons row (suc machine) r m p (omega arith)) (most_first downs ons row machine)
 
-  -- a path goes down and on
+  -- a path never goes up or back
   pub path_goes : {row machine r m : ℕ} {path : List Cell} → Path row machine r m path → (row ≤ r) × (machine ≤ m)
   path_goes here = (omega arith, omega arith)
   path_goes (down rest) = let h = path_goes rest in (omega arith, omega arith)
@@ -256,7 +256,7 @@ below : (weigh other : ℕ → ℕ → ℕ) (downs row moved : ℕ)
 below weigh other downs row moved same k m le =
     rw (suc-add row k, suc-add moved k, ← add-suc row k, ← add-suc moved k) (same (suc k) m (omega arith))
 
--- the heaviest path through the same weights on other rows
+-- equal weights on other rows give an equally heavy heaviest path
 pub most_moved : (weigh other : ℕ → ℕ → ℕ) (downs ons row moved machine : ℕ)
     → ((k m : ℕ) → k ≤ downs → weigh (row + k) m ≡ other (moved + k) m) →
     most weigh downs ons row machine ≡ most other downs ons moved machine
@@ -308,7 +308,7 @@ pub greatest_to_max : (f g : ℕ → ℕ) (n : ℕ)
 greatest_to_max f g zero = refl
 greatest_to_max f g (suc n) = let rest = greatest_to_max (λ x. f (suc x)) (λ x. g (suc x)) n in omega arith
 
--- of rising values the last
+-- of values that never fall, the last is the greatest
 pub greatest_to_last : (f : ℕ → ℕ) (n : ℕ) → ((x : ℕ) → f x ≤ f (suc x)) → greatest_to f n ≡ f n
 greatest_to_last f zero rises = refl
 greatest_to_last f (suc n) rises =
@@ -340,11 +340,11 @@ most_at : (weigh : ℕ → ℕ → ℕ) {a b c d e f g h : ℕ} → a ≡ e → 
 most_at weigh p q r s = cc
 
 module _ (weigh : ℕ → ℕ → ℕ) (rest below last : ℕ) where
-  -- the heaviest path from a machine of the row `below` to the end
+  -- the weight of the heaviest path from a machine of the row `below` to the end
   abbrev pub onward : ℕ → ℕ
   onward machine = most weigh rest (last - machine) below machine
 
-  -- the heaviest path that leaves a row at a machine, so many machines on
+  -- the weight of the heaviest path that leaves a row `x` machines further
   abbrev pub by_exit : ℕ → ℕ → ℕ → ℕ → ℕ
   by_exit downs row machine x = most weigh downs x row machine + onward (machine + x)
 

@@ -6,7 +6,7 @@ use Rattle.std.specs.Option.{option_or}
 use Rattle.std.proofs.lemmas.List.{append_assoc, append-nil}
 use Rattle.pfs_base.specs.Lists.{first_some, last_of, all_but_last}
 
--- what holds of no list's end but by one more element: induction from the back
+-- induction from the back: if the empty list has a property that one more last element keeps, each list has it
 pub by_push : {A : Type 0} (P : List A → Type 0) → P [] → ((xs : List A) (x : A) → P xs → P (xs ++ x ∷ []))
     → (xs : List A) → P xs
 by_push {A} P none more xs = go [] xs none
@@ -15,7 +15,7 @@ by_push {A} P none more xs = go [] xs none
     go front [] h = subst P (sym (append-nil front)) h
     go front (x ∷ rest) h = subst P (append_assoc front (x ∷ []) rest) (go (front ++ x ∷ []) rest (more front x h))
 
--- a list that isn't empty is all but the last, and the last
+-- a list that isn't empty is all but its last element, followed by that element
 pub all_and_last : {A : Type 0} (other x : A) (more : List A)
     → x ∷ more ≡ all_but_last (x ∷ more) ++ last_of other (x ∷ more) ∷ []
 all_and_last other x [] = refl
@@ -37,7 +37,7 @@ first_some-append [] ys = refl
 first_some-append (None ∷ xs) ys = first_some-append xs ys
 first_some-append (Some x ∷ xs) ys = refl
 
--- one more number, and one more element with its index
+-- a range with one more number, and an enumeration of two lists
 pub range_with_len-push : (a n : ℕ) → range_with_len a (suc n) ≡ range_with_len a n ++ (a + n) ∷ []
 range_with_len-push a zero = let e : a ≡ a + 0 = omega arith in ap (λ x. x ∷ []) e
 range_with_len-push a (suc n) =
@@ -49,7 +49,7 @@ enumerate_from-append a [] ys = let e : a ≡ a + 0 = omega arith in ap (λ i. e
 enumerate_from-append a (x ∷ xs) ys = let e : (a + 1) + length xs ≡ a + length (x ∷ xs) = omega arith in
     ap (λ ps. (a, x) ∷ ps) (rw (← e) (enumerate_from-append (a + 1) xs ys))
 
--- the element at a place within the front, and the one behind the front
+-- an element of the first of two lists, and the element after the first list
 pub slice_get-append : {A : Type 0} (xs ys : List A) (i : ℕ) → i < length xs → slice_get (xs ++ ys) i ≡ slice_get xs i
 slice_get-append [] ys i h = absurd (omega arith)
 slice_get-append (x ∷ xs) ys zero h = refl
@@ -59,7 +59,7 @@ pub slice_get-push : {A : Type 0} (xs : List A) (y : A) → slice_get (xs ++ y �
 slice_get-push [] y = refl
 slice_get-push (x ∷ xs) y = slice_get-push xs y
 
--- functions that agree on a range
+-- functions that agree on a range give the same list
 pub map-range_with_len-same : {A : Type 0} (f g : ℕ → A) (a n : ℕ) → ((i : ℕ) → a ≤ i → i < a + n → f i ≡ g i)
     → map f (range_with_len a n) ≡ map g (range_with_len a n)
 map-range_with_len-same f g a zero h = refl

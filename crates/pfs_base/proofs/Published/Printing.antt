@@ -6,11 +6,11 @@ use Rattle.std.proofs.lemmas.List.{take_more, length-take-le}
 use Rattle.pfs_base.proofs.Published.SendsOn.{GoesOn}
 use Rattle.pfs_base.specs.Text.{with_line_end, spaced, entry}
 
--- numbers behind another one
+-- numbers that follow another one, each after a space
 abbrev pub behind : List ℕ → List ℕ
 behind ns = flat_map (λ n. 32 ∷ decimal n) ns
 
--- the numbers of two lists, and a space before each of the second
+-- the numbers of two lists on one line, with a space before each of the second
 pub spaced-append : (n : ℕ) (ns ms : List ℕ) → spaced ((n ∷ ns) ++ ms) ≡ spaced (n ∷ ns) ++ behind ms
 spaced-append n [] [] = sym (append-nil (decimal n))
 spaced-append n [] (m ∷ ms) = ap (λ l. decimal n ++ 32 ∷ l) (spaced-append m [] ms)
@@ -18,24 +18,24 @@ spaced-append n (m ∷ ns) ms =
     ap (λ l. decimal n ++ 32 ∷ l) (spaced-append m ns ms)
     ∙ sym (append_assoc (decimal n) (32 ∷ spaced (m ∷ ns)) (behind ms))
 
--- one more number
+-- a line with one more number
 pub spaced-push : (ns : List ℕ) (n : ℕ) → spaced (ns ++ n ∷ []) ≡ spaced ns ++ entry (length ns) n
 spaced-push [] n = refl
 spaced-push (m ∷ ns) n = spaced-append m ns (n ∷ []) ∙ ap (λ l. spaced (m ∷ ns) ++ 32 ∷ l) (append-nil (decimal n))
 
--- the numbers as far as a place, and the next
+-- the numbers before a place, and the one at the place
 pub spaced-more : (ns : List ℕ) (place : ℕ) → place < length ns
     → spaced (take (place + 1) ns) ≡ spaced (take place ns) ++ entry place (get_or ns place 0)
 spaced-more ns place less =
     ap spaced (take_more ns place 0 less) ∙ spaced-push (take place ns) (get_or ns place 0)
     ∙ ap (λ k. spaced (take place ns) ++ entry k (get_or ns place 0)) (length-take-le place ns (omega arith))
 
--- numbers begin with their first
+-- a line of two lists begins with the numbers of the first
 spaced_front : (ns ms : List ℕ) → 0 < length ns → (rest : List ℕ) × (spaced (ns ++ ms) ≡ spaced ns ++ rest)
 spaced_front [] ms some = absurd (omega arith)
 spaced_front (n ∷ ns) ms some = (behind ms, spaced-append n ns ms)
 
--- a line goes on with the number at a place
+-- a line continues with the number at a place
 pub line_on : (ns : List ℕ) (place : ℕ) → place < length ns
     → GoesOn (with_line_end (spaced ns)) (spaced (take place ns)) (entry place (get_or ns place 0))
     (spaced (take (place + 1) ns))

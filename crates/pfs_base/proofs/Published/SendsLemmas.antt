@@ -8,7 +8,7 @@ use Rattle.std.specs.Io.KnownBytes.{Appends}
 use Rattle.pfs_base.specs.declared.device.WriteFault.{WriteFault}
 use Rattle.pfs_base.specs.Sends.{Sends, SendsAll, SendsFront}
 
--- a part went out, and then the next
+-- one part was sent, and then the next
 pub then_all : {a b c : Option (List ℕ)} {working_b failed : Bool} {sent middle total : ℕ} {done part : List ℕ}
     → SendsAll a b working_b sent done middle → SendsAll b c failed middle part total
     → SendsAll a c failed sent (done ++ part) total
@@ -21,7 +21,7 @@ then_all {a} {b} {c} {working_b} {failed} {sent} {middle} {total} {done} {part} 
       bytes = Appends-trans a b c done part p.bytes q.bytes;
     }
 
--- a part went out, and then a front of the next
+-- one part was sent, and then a prefix of the next
 pub then_front : {a b c : Option (List ℕ)} {working_b failed : Bool} {sent middle reached : ℕ} {done part : List ℕ}
     → SendsAll a b working_b sent done middle → SendsFront b c failed middle part reached
     → SendsFront a c failed sent (done ++ part) reached
@@ -40,7 +40,7 @@ then_front {a} {b} {c} {working_b} {failed} {sent} {middle} {reached} {done} {pa
       bytes = subst (Appends a c) (sym front) (Appends-trans a b c done (take more part) p.bytes q.bytes);
     }
 
--- a front of a text went out, which is a front of a longer text
+-- a prefix of a text was sent, which is also a prefix of a longer text
 pub front_of : {a b : Option (List ℕ)} {failed : Bool} {sent reached : ℕ} {text : List ℕ} (rest : List ℕ)
     → SendsFront a b failed sent text reached → SendsFront a b failed sent (text ++ rest) reached
 front_of {a} {b} {failed} {sent} {reached} {text} rest p =
@@ -53,7 +53,7 @@ front_of {a} {b} {failed} {sent} {reached} {text} rest p =
       bytes = subst (Appends a b) (sym (take-append-le (reached - sent) text rest (omega arith))) p.bytes;
     }
 
--- a part went out, and then all of the next or a front of it
+-- one part was sent, and then all of the next or a prefix of it
 pub then_sends : {a b : Option (List ℕ)} {working_b : Bool} {sent middle : ℕ} {done : List ℕ}
     (c : Option (List ℕ)) (failed : Bool) (part : List ℕ) (result : Result ℕ WriteFault)
     → SendsAll a b working_b sent done middle → Sends b c failed middle part result

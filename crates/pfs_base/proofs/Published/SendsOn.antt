@@ -1,4 +1,4 @@
--- A text that goes on part by part: what room each part has, and what went out behind it.
+-- A text that is sent part by part: each part fits, and what was sent after it.
 use Rattle.std.proofs.Common.{◌≡◌, ℕ, ◌+◌, ◌-◌, ◌<◌, ◌≤◌, ◌^◌, Bool, List, ◌++◌, Option, Result, length, take, ap}
 use Rattle.std.proofs.Common.{subst, arith, length-append}
 use Rattle.std.specs.Io.KnownBytes.{Appends}
@@ -6,7 +6,7 @@ use Rattle.pfs_base.specs.declared.device.WriteFault.{WriteFault}
 use Rattle.pfs_base.specs.Sends.{Sends, SendsAll, SendsFront}
 use Rattle.pfs_base.proofs.Published.SendsLemmas.{then_all, then_front, then_sends, front_of}
 
--- a text that goes on, behind what is done, with this part
+-- a text that continues with this part after what was sent
 pub record GoesOn (text done part next : List ℕ) : Type 0 where
   pub rest : List ℕ
   pub adds : next ≡ done ++ part
@@ -46,7 +46,7 @@ pub last_fits : (a b : Option (List ℕ)) (worked : Bool) (sent middle : ℕ) (t
 last_fits a b worked sent middle text done part whole p fits =
     omega (arith, p.counted, ap length whole, length-append done part)
 
--- a front of a text of which nothing went out before
+-- a prefix of a text of which nothing was sent before
 pub front_of_whole : (a b : Option (List ℕ)) (failed : Bool) (reached : ℕ) (text : List ℕ)
     → SendsFront a b failed 0 text reached → (reached ≤ length text) × Appends a b (take reached text)
 front_of_whole a b failed reached text front =

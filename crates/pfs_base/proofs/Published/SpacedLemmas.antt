@@ -1,4 +1,4 @@
--- Texts of as many parts as a number says, and numbers with spaces between them.
+-- Texts of n parts, and numbers with spaces between them.
 use Rattle.std.proofs.Common.{◌≡◌, ℕ, zero, suc, ◌+◌, ◌<◌, List, [], ◌∷◌, ◌++◌, inl, inr, decimal, refl, sym, ◌∙◌, ap}
 use Rattle.std.proofs.Common.{arith, append_assoc, append-nil, zero-add}
 use Rattle.std.specs.List.{flat_map}
@@ -9,7 +9,7 @@ use Rattle.pfs_base.specs.Text.{spaced}
 use Rattle.pfs_base.proofs.Published.Lists.{range_with_len-push}
 use Rattle.pfs_base.proofs.Published.Printing.{spaced-append}
 
--- one part more
+-- a text with one more part
 pub flat_map_more : (f : ℕ → List ℕ) (n : ℕ) → flat_map f (below (suc n)) ≡ flat_map f (below n) ++ f n
 flat_map_more f n =
     ap (flat_map f) (range_with_len-push 0 n) ∙ flat_map-append f (below n) ((0 + n) ∷ [])
@@ -39,7 +39,7 @@ flat_map_from f k (suc n) h = elim (eqb_tells k n) [
 pub spaced-cons : (n : ℕ) (ns : List ℕ) → spaced (n ∷ ns) ≡ decimal n ++ flat_map (λ m. 32 ∷ decimal m) ns
 spaced-cons n ns = spaced-append n [] ns
 
--- numbers in pairs, with a space before each
+-- pairs of numbers, with a space before each number
 pub spaced_pairs : (one other : ℕ → ℕ) (ns : List ℕ)
     → flat_map (λ m. 32 ∷ decimal m) (flat_map (λ n. one n ∷ other n ∷ []) ns)
     ≡ flat_map (λ n. (32 ∷ decimal (one n)) ++ (32 ∷ decimal (other n))) ns

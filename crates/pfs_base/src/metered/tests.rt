@@ -1,4 +1,4 @@
-//! Rows that are joined: worked ones, rows of each length near whole chunks, and rows at the limits.
+//! Tests of joined rows: worked examples, rows of each length near whole chunks, and rows at the limits.
 ghost use Rattle.std.specs.Prelude.{◌≡◌, ℕ, ◌+◌, ◌/◌, ◌<◌, ◌≤◌, length, slice_index, IsTrue};
 
 use super::{Metered, Span};
@@ -15,7 +15,7 @@ const NOTES: Notes = Notes {
     lower: 0,
 };
 
-// A step, where it can be made.
+// A step, or an error if the bench's contract doesn't allow it.
 fn step(bench: &mut Metered, job: usize, machine: usize, a: Span, b: Span) -> Result<Span, Fail> {
     let most = SPAN_MAX - u64::from(LONGEST_TIME);
     if job < bench.jobs()
@@ -30,7 +30,7 @@ fn step(bench: &mut Metered, job: usize, machine: usize, a: Span, b: Span) -> Re
     }
 }
 
-// A sum, where it can be made.
+// A sum, or an error if the bench's contract doesn't allow it.
 fn sum(bench: &mut Metered, a: Span, b: Span) -> Result<Span, Fail> {
     if bench.room(1) && a.number <= SPAN_MAX && b.number <= SPAN_MAX - a.number {
         Ok(bench.join(a, b))
@@ -39,7 +39,7 @@ fn sum(bench: &mut Metered, a: Span, b: Span) -> Result<Span, Fail> {
     }
 }
 
-// Whether no length of a row is greater than half the limit.
+// Whether no duration of a row is greater than half the limit.
 fn short(row: &[Span]) -> bool
     ensures { IsTrue result → (place : ℕ) → place < length row.now → slice_index row.now place ≤ SPAN_MAX / 2 }
 {
@@ -52,7 +52,7 @@ fn short(row: &[Span]) -> bool
     true
 }
 
-// The greatest sum of two rows, and how many cells it counted.
+// The greatest sum of two rows, and how many cells were counted for it.
 fn joined(bench: &mut Metered, a: &[Span], b: &[Span]) -> Result<(u64, u64), Fail> {
     if a.len() != b.len() || a.len() == 0 || !short(a) || !short(b) {
         return Err(Fail::from("no rows of one length"));
@@ -65,7 +65,7 @@ fn joined(bench: &mut Metered, a: &[Span], b: &[Span]) -> Result<(u64, u64), Fai
     Ok((bench.reveal(span), bench.cells().wrapping_sub(before)))
 }
 
-// An instance of one job, whose times are given machine by machine.
+// An instance of one job with these times, machine by machine.
 fn one_job(alloc: Global, times: &[u32]) -> Result<Instance, Fail> {
     let mut instance = Instance::new(alloc, 1, times.len(), NOTES)?;
     for machine in 0..times.len() {
@@ -76,7 +76,7 @@ fn one_job(alloc: Global, times: &[u32]) -> Result<Instance, Fail> {
     Ok(instance)
 }
 
-// A row of so many lengths of the one job, each its time on one machine.
+// A row of `len` durations: the times of the one job on the machines from `from` on.
 fn row_from(
     alloc: Global,
     bench: &mut Metered,

@@ -18,7 +18,7 @@ loop-chunk-init c = record { lanes_are = refl }
 raised_same : {l k : List ℕ} {p q x y : List ℤ} → l ≡ k → p ≡ q → x ≡ y → raised l p x ≡ raised k q y
 raised_same e f g = cc
 
--- the lanes with one chunk more
+-- the lanes after one more chunk
 one_more : (a b : List ℕ) (at : ℕ) → length a ≡ length b
     → ((place : ℕ) → place < length a → sum_at a b place ≤ SPAN_MAX) → 4 * at + 4 ≤ length a
     → raised (lanes_at a b at) (map (to_z w64) (chunk (4 * at) 4 a)) (map (to_z w64) (chunk (4 * at) 4 b))
@@ -47,7 +47,7 @@ loop-chunk-preserved c =
           ∙ one_more a b at same (λ place lt. sum_small a b SPAN_MAX place same c.requires.in_limit lt) (omega arith);
     }
 
--- behind the last chunk
+-- after the last chunk
 module _ (a b : List ℕ) (same : length a ≡ length b) (small : greatest_join (λ n. n) a b ≤ SPAN_MAX) where
   each_small : (place : ℕ) → place < length a → sum_at a b place ≤ SPAN_MAX
   each_small place lt = sum_small a b SPAN_MAX place same small lt
@@ -78,7 +78,7 @@ greatest_lane-most-requires-clause-in_limit c =
     let small = first_small a b c.requires.equal c.requires.in_limit (4 * whole) (omega arith) in
     omega arith
 
--- how many lengths stand in whole chunks
+-- how many durations are in whole chunks
 abbrev whole_of : List ℕ → ℕ
 whole_of a = length a - length a % 4
 
