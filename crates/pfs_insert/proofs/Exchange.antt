@@ -14,13 +14,13 @@ use Rattle.pfs_base.proofs.Published.Heaviest.{greatest-map-range_with_len}
 use Rattle.pfs_insert.specs.Exchange.{ExchangeLaw, heaviest_front, heaviest_back}
 use Rattle.pfs_insert.specs.Insertion.{makespan_with}
 
--- one machine on, the heaviest path to a row is no lighter
+-- the heaviest path to the next machine of a row is at least as heavy
 rises : (weigh : ℕ → ℕ → ℕ) (row machine : ℕ) → most weigh row machine 0 0 ≤ most weigh row (suc machine) 0 0
 rises weigh zero machine = omega (arith, most_on_last weigh machine 0 0 0 (suc machine) refl (omega arith))
 rises weigh (suc row) machine =
     omega (arith, most_last weigh row machine 0 0 (suc row) (suc machine) (omega arith) (omega arith))
 
--- behind the last row there is no path
+-- after the last row the tail is 0: no path begins there
 pub back_none : (shop : FlowShop) (jobs : List ℕ) (row machine : ℕ) → length jobs ≤ row
     → heaviest_back shop jobs row machine ≡ 0
 back_none shop jobs row machine past = rw (le-ltb row (length jobs) past) refl
@@ -32,12 +32,12 @@ module _ (shop : FlowShop) (jobs : List ℕ) (job place : ℕ) (within : place �
   abbrev last : ℕ
   last = shop.machines - 1
 
-  -- the operations of the rows behind the inserted one are those of the sequence
+  -- the operations of the rows after the inserted one are those of the sequence without the job
   operation_behind : (row machine : ℕ) → place ≤ row → weigh (row + 1) machine ≡ operation shop jobs row machine
   operation_behind row machine le =
       ap (λ j. time_of shop j machine) (get_or-insert_above jobs place job 0 row le within)
 
-  -- and so are those before it
+  -- the operations of the rows before the inserted one are those of the sequence without the job
   pub operation_before : (row machine : ℕ) → row < place → weigh row machine ≡ operation shop jobs row machine
   operation_before row machine lt =
       ap (λ j. time_of shop j machine) (get_or-insert_below jobs place job 0 row lt within)
@@ -45,13 +45,13 @@ module _ (shop : FlowShop) (jobs : List ℕ) (job place : ℕ) (within : place �
   pub operation_at : (machine : ℕ) → weigh place machine ≡ time_of shop job machine
   operation_at machine = ap (λ j. time_of shop j machine) (get_or-insert_at jobs place job 0 within)
 
-  -- the makespan is the heaviest path through one row more
+  -- the makespan with the job is the weight of the heaviest path through one row more than the sequence has
   with_is : makespan_with shop jobs job place ≡ most weigh (length jobs) last 0 0
   with_is =
       makespan_is shop (insert jobs place job)
       ∙ ap (λ n. head weigh n last) (length-insert jobs place job within ∙ add-one (length jobs))
 
-  -- the sum at a machine
+  -- the sum of the inserted row's head and the tail of the sequence without the job, at a machine
   abbrev sum_through : ℕ → ℕ
   sum_through machine =
       heaviest_front shop (insert jobs place job) place machine + heaviest_back shop jobs place machine

@@ -1,4 +1,4 @@
--- The first least of some values.
+-- The first place of the least value.
 use Rattle.std.proofs.Common.{◌≡◌, ℕ, zero, suc, ◌+◌, ◌<◌, ◌≤◌, List, length, get_or, true, false, leb, inl, inr, ◌∙◌}
 use Rattle.std.proofs.Common.{sym, add-one, arith}
 use Rattle.std.specs.List.{list_all, range_with_len}
@@ -15,7 +15,7 @@ place_at : (count k d : ℕ) → k < count → get_or (range_with_len 0 count) k
 place_at count k d small = get_or-range_with_len 0 count k d small ∙ omega arith
 
 module _ (value : ℕ → ℕ) where
-  -- the test that `first_least` makes of a place
+  -- the test that `first_least` applies to a place
   test_yes : (count place : ℕ) → ((other : ℕ) → other < count → value place ≤ value other) →
       list_all (λ other. leb (value place) (value other)) (range_with_len 0 count) ≡ true
   test_yes count place least =
@@ -37,7 +37,7 @@ module _ (value : ℕ → ℕ) where
       (λ k before. rw (place_at count k 0 (omega arith)) (test_no count k place within (is.first k before)))
       (λ _. rw (place_at count place 0 within) (test_yes count place is.least))
 
-  -- one more place, which is not better than the best so far
+  -- one more place, whose value is at least the least so far
   first_least_keeps : (count place : ℕ) → IsFirstLeast value count place → value place ≤ value count →
       IsFirstLeast value (count + 1) place
   first_least_keeps count place is le = record {
@@ -50,7 +50,7 @@ module _ (value : ℕ → ℕ) where
     first = is.first;
   }
 
-  -- one more place, which is better than the best so far
+  -- one more place, whose value is less than the least so far
   first_least_takes : (count place : ℕ) → IsFirstLeast value count place → value count < value place →
       IsFirstLeast value (count + 1) count
   first_least_takes count place is less = record {
@@ -70,7 +70,7 @@ module _ (value : ℕ → ℕ) where
     first = λ other small. absurd (omega arith);
   }
 
-  -- there is a first least one
+  -- among any number of places, at least one, there is a first place of the least value
   some_least : (count : ℕ) → (place : ℕ) × IsFirstLeast value (count + 1) place
   some_least zero = (0, first_least_one)
   some_least (suc count) =
@@ -87,7 +87,7 @@ best_place_law shop jobs job =
     let found = some_least value (length jobs) in
     rw (first_least_is value (length jobs + 1) found.0 found.1) found.1
 
--- the best of all places is the best place
+-- the best of all places so far, where these are all places, is the best place
 pub best_is : {X : Type 0} {number : X → ℕ} (shop : FlowShop) (jobs : List ℕ) (job : ℕ) {place : ℕ} {span : X}
     → IsBest number (makespan_with shop jobs job) (length jobs + 1) place span
     → IsBestPlace shop jobs job place (number span)

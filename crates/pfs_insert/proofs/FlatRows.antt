@@ -1,4 +1,4 @@
--- Rows of a flat list.
+-- Rows of equal width in a flat list.
 use Rattle.std.proofs.Common.{◌≡◌, ℕ, ◌+◌, ◌-◌, ◌*◌, ◌<◌, ◌≤◌, List, ◌++◌, length, take, drop, get_or, refl, ap, sym}
 use Rattle.std.proofs.Common.{◌∙◌, arith}
 use Rattle.std.proofs.Math.Nat.{mul-le-mul_right, zero-add}
@@ -6,22 +6,22 @@ use Rattle.std.proofs.lemmas.List.{get_or-take, get_or-drop, get_or_append_left,
 use Rattle.std.proofs.lemmas.List.{length-drop, length-take-le}
 use Rattle.pfs_insert.specs.Private.Rows.{AreNumbers, AreNumbersFrom}
 
--- a row so many behind another
+-- where a row begins that is `more` rows after another
 pub row_split : (row above more width : ℕ) → row ≡ above + more → row * width ≡ above * width + more * width
 row_split row above more width is = rw is (omega arith)
 
--- a row and those behind it
+-- a later row begins no earlier
 pub row_le : (row other width : ℕ) → row ≤ other → row * width ≤ other * width
 row_le row other width le = mul-le-mul_right width le
 
--- a list that is split before its last row has room for a row behind that
+-- a list that is split before one of its rows has at least one row after the split
 pub row_fits : {place total width machines all back : ℕ} → width ≡ machines → place < total → all ≡ total * machines
     → back + place * width ≡ all → width ≤ back
 row_fits {place} {total} {width} {machines} wide inside all_is back_is =
     let fits = row_le (place + 1) total machines (omega arith) in
     omega (arith, rw wide at back_is)
 
--- what lies between two rows at which a list is split
+-- between the beginnings of two consecutive rows lies one row
 pub row_between : (place : ℕ) {next width machines front row : ℕ} → width ≡ machines → next ≡ place + 1
     → front ≡ next * width → row + place * width ≡ front → row ≡ machines
 row_between place {next} {width} wide later front_is row_is =
@@ -29,7 +29,7 @@ row_between place {next} {width} wide later front_is row_is =
     omega arith
 
 module _ {X : Type 0} where
-  -- what is read behind a front
+  -- an index after a front reads from the rest of the list
   get_behind : (front back : List X) (at i : ℕ) (d : X) → i ≡ length front + at →
       get_or (front ++ back) i d ≡ get_or back at d
   get_behind front back at i d is =
@@ -37,7 +37,7 @@ module _ {X : Type 0} where
       get_or-append_right front back (length front) i d refl (omega arith) ∙ ap (λ k. get_or back k d) e
 
 module _ {X : Type 0} (number : X → ℕ) (machines : ℕ) (values : ℕ → ℕ) where
-  -- a row that lies behind a front
+  -- a row that lies after a front, read from the rest of the list and from the whole list
   pub row_behind : (front back : List X) (start at : ℕ) → start ≡ length front + at
       → AreNumbersFrom number (front ++ back) start machines values → AreNumbersFrom number back at machines values
   row_behind front back start at is told machine d lt =
@@ -54,7 +54,7 @@ module _ {X : Type 0} (number : X → ℕ) (machines : ℕ) (values : ℕ → �
   put_first row rest start none long told machine d lt =
       rw (none, zero-add) (ap number (get_or_append_left row rest d machine (omega arith)) ∙ told machine d lt)
 
-  -- a row that lies in a front, whatever is behind that
+  -- a row that lies in a front is the same for any rest of the list
   pub row_in_front : (front back other : List X) (start : ℕ) → start + machines ≤ length front
       → AreNumbersFrom number (front ++ back) start machines values
       → AreNumbersFrom number (front ++ other) start machines values
@@ -62,7 +62,7 @@ module _ {X : Type 0} (number : X → ℕ) (machines : ℕ) (values : ℕ → �
       ap number (get_or_append_left front other d (start + machine) (omega arith)
       ∙ sym (get_or_append_left front back d (start + machine) (omega arith))) ∙ told machine d lt
 
-  -- a row that is taken out of a list
+  -- a row that is sliced out of a list
   pub row_taken : (rows : List X) (place width k : ℕ) → width ≡ machines → width ≤ k
       → AreNumbersFrom number rows (place * machines) machines values
       → AreNumbers number (take k (drop (place * width) rows)) machines values
@@ -70,7 +70,7 @@ module _ {X : Type 0} (number : X → ℕ) (machines : ℕ) (values : ℕ → �
       rw wide (ap number (get_or-take k (drop (place * machines) rows) machine d (omega arith)
       ∙ get_or-drop (place * machines) rows machine d) ∙ told machine d lt)
 
--- how long it is
+-- the length of a row that is sliced out of a list
 pub row_long : {X : Type 0} {machines : ℕ} (rows : List X) (place width total : ℕ) → width ≡ machines → place < total
     → length rows ≡ total * machines
     → length (take ((place + 1) * width - place * width) (drop (place * width) rows)) ≡ machines

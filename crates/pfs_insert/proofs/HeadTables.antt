@@ -1,4 +1,4 @@
--- Tables of rows of heads, as a loop splits and fills them.
+-- Tables of rows of heads, which a loop splits and fills.
 use Rattle.std.proofs.Common.{◌≡◌, ℕ, ◌+◌, ◌-◌, ◌*◌, ◌≤◌, List, [], ◌++◌, length, take, drop, refl}
 use Rattle.std.proofs.Common.{arith}
 use Rattle.std.proofs.lemmas.List.{append-nil}
@@ -8,12 +8,12 @@ use Rattle.pfs_insert.specs.Private.Rows.{head_of, AreNumbers, AreShort, HasHead
 use Rattle.pfs_insert.proofs.FlatRows.{row_le, put_behind, put_first, row_in_front, row_taken}
 use Rattle.pfs_insert.proofs.TailRows.{heads_short}
 
--- a row holds the heads of the jobs before a place of the sequence
+-- a row contains the heads of the jobs before a place of the sequence
 abbrev pub HoldsHeads : {X : Type 0} → (X → ℕ) → FlowShop → List ℕ → List X → ℕ → Type 0
 HoldsHeads {X} number shop jobs row place = AreNumbers number row shop.machines (head_of shop jobs place)
 
 module _ {X : Type 0} (number : X → ℕ) (shop : FlowShop) (jobs : List ℕ) where
-  -- the rows of a front stay, whatever is put behind it
+  -- the rows of a front are the same for any rest of the table
   pub heads_kept : (rows front back other : List X) (place width : ℕ) → width ≡ shop.machines → rows ≡ front ++ back
       → length front ≡ (place + 1) * width → KeepsHeads number shop jobs rows (front ++ other) place
   heads_kept rows front back other place width wide parts long row low has =
@@ -24,7 +24,7 @@ module _ {X : Type 0} (number : X → ℕ) (shop : FlowShop) (jobs : List ℕ) w
             (omega arith) (rw parts at has.row_is);
       }
 
-  -- the last row of a front
+  -- the last row of a front contains the heads of the jobs before its place
   pub heads_above : (rows front back : List X) (place width : ℕ) → width ≡ shop.machines → rows ≡ front ++ back
       → length front ≡ (place + 1) * width → HasHead number shop jobs rows place
       → HoldsHeads number shop jobs (take (length front - place * width) (drop (place * width) front)) place
@@ -33,7 +33,7 @@ module _ {X : Type 0} (number : X → ℕ) (shop : FlowShop) (jobs : List ℕ) w
       row_taken number shop.machines (head_of shop jobs place) front place width (length front - place * width) wide
       (omega arith) kept.row_is
 
-  -- a row that is put behind a front
+  -- a row of heads directly after a front is the row of the next place in the joined table
   pub head_behind : (front row rest : List X) (place : ℕ) → length front ≡ place * shop.machines
       → length row ≡ shop.machines → HoldsHeads number shop jobs row place
       → HasHead number shop jobs (front ++ (row ++ rest)) place
@@ -42,7 +42,7 @@ module _ {X : Type 0} (number : X → ℕ) (shop : FlowShop) (jobs : List ℕ) w
         (omega arith) (put_first number shop.machines (head_of shop jobs place) row rest 0 refl wide told);
   }
 
-  -- heads are as short as a path can be
+  -- heads are within the bound on the weight of a path
   pub short_heads : IsWithin limits shop → length jobs ≤ shop.jobs → (place : ℕ) → place ≤ length jobs → (row : List X)
       → HoldsHeads number shop jobs row place → AreShort number row shop.machines
   short_heads within few place inside row told machine d lt =

@@ -33,7 +33,7 @@ module _ {X : Type 0} (number : X → ℕ) (fronts backs : ℕ → ℕ) where
       (λ machine d lt. one machine d (omega arith) ∙ ap fronts (omega arith))
       (λ machine d lt. two machine d (omega arith) ∙ ap backs (omega arith))))
 
--- it is no greater than each sum may be
+-- the greatest of some values is at most a bound on all of them
 pub greatest_small : (values : ℕ → ℕ) (limit from count : ℕ)
     → ((place : ℕ) → place < from + count → values place ≤ limit)
     → greatest (map values (range_with_len from count)) ≤ limit

@@ -1,3 +1,3 @@
--- Lemmas that the proofs of crates above may cite.
+-- Lemmas that the proofs of crates above this one may cite.
 pub mod BestPlaces
 pub mod TableRows

@@ -9,13 +9,13 @@ use Rattle.pfs_base.specs.Limits.{limits}
 use Rattle.pfs_base.proofs.Published.Heads.{time_of-le}
 use Rattle.pfs_insert.specs.Private.Rows.{next_row, value_before, from_last, AreNumbers, AreBack, AreShort}
 
--- a value of a row by the one above it and the one before it
+-- a value of a row, from the value above it and the value before it
 next_row_at : (times above : ℕ → ℕ) (m : ℕ) →
     next_row times above m ≡ max (above m) (value_before (next_row times above) m) + times m
 next_row_at times above zero = refl
 next_row_at times above (suc m) = refl
 
--- rows of the same values
+-- equal times and equal rows above give equal rows
 pub next_row_same : (times others above below : ℕ → ℕ) (m : ℕ) → ((k : ℕ) → k ≤ m → times k ≡ others k)
     → ((k : ℕ) → k ≤ m → above k ≡ below k) → next_row times above m ≡ next_row others below m
 next_row_same times others above below zero same_times same =
@@ -25,18 +25,19 @@ next_row_same times others above below (suc m) same_times same =
     (λ k le. same k (omega arith)) in
     omega (arith, same_times (suc m) (omega arith), same (suc m) (omega arith))
 
--- the values of the first job's row, where each job's row is the next of that of the job behind it in the list
+-- the values of the first listed job's row, where each job's row is computed from the row of the job listed after it,
+-- and the last job's from the row `values`
 abbrev pub values_of : (ℕ → ℕ → ℕ) → List ℕ → (ℕ → ℕ) → ℕ → ℕ
 values_of times [] values = values
 values_of times (job ∷ jobs) values = next_row (times job) (values_of times jobs values)
 
--- the latest length of a row of which so many are done, whatever values are given
+-- the latest length of a row of which `done` lengths are computed, for any row of values that satisfies `Given`
 pub record Latest {X : Type 0} (number : X → ℕ) (times : ℕ → ℕ → ℕ) (Given : (ℕ → ℕ) → Type 0) (jobs : List ℕ)
     (done : ℕ) (x : X) : Type 0 where
   pub is : (values : ℕ → ℕ) → Given values → number x ≡ value_before (values_of times jobs values) done
   pub short : number x ≤ (MOST_JOBS + MOST_MACHINES + done + length jobs) * LONGEST_TIME
 
--- so many lengths of a row are stored, each at its place, and the latest of them is at hand
+-- `done` lengths of a row are stored, each at its place, and `x` is the latest of them
 pub record Stored {X : Type 0} (number : X → ℕ) (times : ℕ → ℕ → ℕ) (Given : (ℕ → ℕ) → Type 0) (place : ℕ → ℕ)
     (jobs : List ℕ) (done : ℕ) (row : List X) (x : X) : Type 0 where
   pub is : (values : ℕ → ℕ) → Given values → (m : ℕ) (d : X) → m < done →
@@ -44,7 +45,7 @@ pub record Stored {X : Type 0} (number : X → ℕ) (times : ℕ → ℕ → ℕ
   pub latest : Latest number times Given jobs done x
 
 module _ {X : Type 0} {number : X → ℕ} {times : ℕ → ℕ → ℕ} {Given : (ℕ → ℕ) → Type 0} where
-  -- the next length of a row, from the one above it and the one before it
+  -- the next length of a row, from the length above it and the length before it
   step : {jobs : List ℕ} {job done t : ℕ} {above before new : X} → Latest number times Given jobs (done + 1) above
       → Latest number times Given (job ∷ jobs) done before → number new ≡ max (number above) (number before) + t
       → t ≡ times job done → t ≤ LONGEST_TIME → Latest number times Given (job ∷ jobs) (done + 1) new
@@ -57,7 +58,7 @@ module _ {X : Type 0} {number : X → ℕ} {times : ℕ → ℕ → ℕ} {Given 
     short = let over = above.short in let left = before.short in omega arith;
   }
 
-  -- it is stored
+  -- the next length of a row is stored
   store : {place : ℕ → ℕ} {jobs : List ℕ} {done at : ℕ} {row : List X} {before new : X}
       → Stored number times Given place jobs done row before → Latest number times Given jobs (done + 1) new
       → at ≡ place done → at < length row → ((m : ℕ) → m < done → place m ≢ at)
@@ -74,7 +75,7 @@ module _ {X : Type 0} {number : X → ℕ} {times : ℕ → ℕ → ℕ} {Given 
     latest = latest;
   }
 
--- a row of heads, or that of an inserted job, as far as a machine, and the values of the row above it
+-- a row of heads, or the row of an inserted job, up to a machine, for any values of the row above it
 module _ {X : Type 0} (number : X → ℕ) (shop : FlowShop) (above : List X) where
   abbrev pub Head : List ℕ → ℕ → X → Type 0
   Head = Latest number (time_of shop) (AreNumbers number above shop.machines)
@@ -101,7 +102,7 @@ module _ {X : Type 0} (number : X → ℕ) (shop : FlowShop) (above : List X) wh
       → Head jobs (machine + 1) new → machine < length row → HeadRow jobs (machine + 1) (set row machine new) new
   head_stored jobs so_far latest inside = store so_far latest refl inside (λ m lt. omega arith)
 
--- a row of tails from the last machine on, and the values of the row below it
+-- a row of tails from the last machine back to a machine, for any values of the row below it
 module _ {X : Type 0} (number : X → ℕ) (shop : FlowShop) (below : List X) where
   abbrev times_back : ℕ → ℕ → ℕ
   times_back job = from_last (shop.machines - 1) (time_of shop job)

@@ -13,7 +13,8 @@ use Rattle.pfs_insert.specs.Private.Rows.{next_row, head_row, tail_row, head_of}
 use Rattle.pfs_insert.proofs.Exchange.{back_none, operation_before, operation_at}
 use Rattle.pfs_insert.proofs.RowSteps.{next_row_same}
 
--- a path has so many cells
+-- a path that goes `downs` rows down and `ons` machines on has downs + ons + 1 cells, so it weighs at most that many
+-- times the longest time
 most_le : (weigh : ℕ → ℕ → ℕ) → ((row machine : ℕ) → weigh row machine ≤ LONGEST_TIME) → (downs ons row machine : ℕ)
     → most weigh downs ons row machine ≤ (downs + ons + 1) * LONGEST_TIME
 most_le weigh small zero zero row machine = omega (arith, most_here weigh row machine, small row machine)
@@ -28,7 +29,7 @@ most_le weigh small (suc downs) (suc ons) row machine =
     let beside = most_le weigh small (suc downs) ons row (suc machine) in
     omega (arith, most_first weigh downs ons row machine, small row machine)
 
--- values that are the tails from a row on, by how many machines they stand before the last
+-- the values are the tails of a row in reverse, from the last machine to the first
 pub record IsTail (shop : FlowShop) (jobs : List ℕ) (values : ℕ → ℕ) (row : ℕ) : Type 0 where
   pub same : (back : ℕ) → back ≤ shop.machines - 1 →
       values back ≡ heaviest_back shop jobs row (shop.machines - 1 - back)
@@ -51,7 +52,7 @@ module _ (shop : FlowShop) (jobs : List ℕ) where
       let on : last - machine ≡ ons = omega arith in
       rw (lt-ltb row (length jobs) (omega arith), down, on) refl
 
-  -- tails on the last machine
+  -- a tail on the last machine, from the one below it
   pub back_last : (row machine : ℕ) → row < length jobs → machine ≡ last →
       heaviest_back shop jobs row machine ≡ heaviest_back shop jobs (suc row) machine + weigh row machine
   back_last row machine inside at_end =
@@ -73,7 +74,7 @@ module _ (shop : FlowShop) (jobs : List ℕ) where
             )
       ]
 
-  -- and on one before it
+  -- a tail on a machine before the last, from the one below it and the one after it
   pub back_more : (row machine : ℕ) → row < length jobs → machine < last → heaviest_back shop jobs row machine
       ≡ max (heaviest_back shop jobs (suc row) machine) (heaviest_back shop jobs row (suc machine)) + weigh row machine
   back_more row machine inside before =
@@ -98,13 +99,13 @@ module _ (shop : FlowShop) (jobs : List ℕ) where
             )
       ]
 
-  -- a row of heads is the next row of those above it
+  -- a row of heads is `next_row` of the row of heads above it
   next_row_heads : (row machine : ℕ) → next_row (weigh row) (head weigh row) machine ≡ head weigh (suc row) machine
   next_row_heads row zero = omega (arith, head_step weigh row 0)
   next_row_heads row (suc machine) = omega (arith, head_step weigh row (suc machine), next_row_heads row machine)
 
 module _ {shop : FlowShop} {jobs : List ℕ} {values : ℕ → ℕ} {row next job : ℕ} where
-  -- the row of tails of a job, from that of the row below it
+  -- the row of tails of a job, from the row of tails below it
   pub tail_next : IsTail shop jobs values next → next ≡ row + 1 → row < length jobs → job ≡ get_or jobs row 0
       → IsTail shop jobs (tail_row shop job values) row
   tail_next below later inside job_is = record { same = by_machine }
@@ -136,7 +137,7 @@ module _ {shop : FlowShop} {jobs : List ℕ} {values : ℕ → ℕ} {row next jo
           )
 
 module _ (shop : FlowShop) (jobs : List ℕ) (job place : ℕ) (within : place ≤ length jobs) where
-  -- the heads of the rows before the inserted one are those of the sequence
+  -- the heads of the rows before the inserted one are those of the sequence without the job
   pub same_heads : (row machine : ℕ) → row ≤ place →
       head (operation shop jobs) row machine ≡ head (operation shop (insert jobs place job)) row machine
   same_heads zero machine le = refl
@@ -152,7 +153,7 @@ module _ (shop : FlowShop) (jobs : List ℕ) (job place : ℕ) (within : place �
       (λ k le. sym (operation_at shop jobs job place within k)) (λ k le. same_heads place k (omega arith))
       ∙ next_row_heads shop (insert jobs place job) place machine ∙ sym (heaviest_is weigh place machine)
 
--- values that are the heads of the jobs before a place
+-- the values are the heads of the jobs before a place
 pub record AreHeads (shop : FlowShop) (jobs : List ℕ) (values : ℕ → ℕ) (place : ℕ) : Type 0 where
   pub same : (machine : ℕ) → values machine ≡ head_of shop jobs place machine
 
@@ -168,7 +169,7 @@ module _ {shop : FlowShop} {jobs : List ℕ} {values : ℕ → ℕ} {place : ℕ
   same_values : (m : ℕ) → values m ≡ head (operation shop jobs) place m
   same_values m = is.same m ∙ head_of_is shop jobs place m
 
-  -- the row of heads behind the job of a place
+  -- the row of heads of the place after a place
   pub head_next : {job next : ℕ} → next ≡ place + 1 → job ≡ get_or jobs place 0 →
       AreHeads shop jobs (head_row shop job values) next
   head_next {job} later job_is = record {
@@ -178,14 +179,14 @@ module _ {shop : FlowShop} {jobs : List ℕ} {values : ℕ → ℕ} {place : ℕ
         ∙ next_row_heads shop jobs place machine ∙ rw (later, add-one) (sym (head_of_is shop jobs (suc place) machine));
   }
 
-  -- the row of a job that is inserted at a place
+  -- the row of a job inserted at a place
   pub put_row : (job : ℕ) → place ≤ length jobs → (machine : ℕ) →
       head_row shop job values machine ≡ heaviest_front shop (insert jobs place job) place machine
   put_row job within machine =
       next_row_same (time_of shop job) (time_of shop job) values (head (operation shop jobs) place) machine
       (λ m le. refl) (λ m le. same_values m) ∙ front_is shop jobs job place within machine
 
--- heads and tails are as short as a path can be
+-- heads and tails are within the bound on the weight of a path
 module _ (shop : FlowShop) (within : IsWithin limits shop) (jobs : List ℕ) (few : length jobs ≤ shop.jobs) where
   pub tails_short : (row machine : ℕ) → machine < shop.machines →
       heaviest_back shop jobs row machine ≤ (MOST_JOBS + MOST_MACHINES) * LONGEST_TIME
@@ -210,7 +211,7 @@ module _ (shop : FlowShop) (within : IsWithin limits shop) (jobs : List ℕ) (fe
       let small = λ (r m : ℕ). time_of-le shop within (get_or jobs r 0) m in
       omega (arith, head_of_is shop jobs place machine, head_le (operation shop jobs) LONGEST_TIME small place machine)
 
-  -- and so is the row of an inserted job
+  -- the row of an inserted job is within the bound for a path of one cell more
   pub put_short : (job place machine : ℕ) → place ≤ length jobs → machine < shop.machines →
       heaviest_front shop (insert jobs place job) place machine ≤ (MOST_JOBS + MOST_MACHINES + 1) * LONGEST_TIME
   put_short job place machine le lt =

@@ -1,4 +1,4 @@
--- Tables of rows of tails, as a loop splits and fills them.
+-- Tables of rows of tails, which a loop splits and fills.
 use Rattle.std.proofs.Common.{◌≡◌, ℕ, zero, suc, ◌+◌, ◌-◌, ◌*◌, ◌≤◌, List, ◌++◌, length, take, drop, refl, sym, ap}
 use Rattle.std.proofs.Common.{◌∙◌, arith}
 use Rattle.std.proofs.Math.Nat.{add-zero, zero-add}
@@ -10,22 +10,22 @@ use Rattle.pfs_insert.specs.Private.Rows.{AreBack, AreNumbers, AreNumbersFrom, A
 use Rattle.pfs_insert.proofs.FlatRows.{row_split, row_behind, put_behind, put_first}
 use Rattle.pfs_insert.proofs.TailRows.{IsTail, tails_short}
 
--- a row holds the tails from a place of the sequence on
+-- a row contains the tails of a place of the sequence
 abbrev pub HoldsTails : {X : Type 0} → (X → ℕ) → FlowShop → List ℕ → List X → ℕ → Type 0
 HoldsTails {X} number shop jobs row place = AreNumbers number row shop.machines (heaviest_back shop jobs place)
 
--- the rows of tails from a place of the sequence on, of which the first is that of the place
+-- the rows of tails from place `from` of the sequence on, of which the first is the row of `from`
 pub record TailsOn {X : Type 0} (number : X → ℕ) (shop : FlowShop) (jobs : List ℕ) (rows : List X) (from : ℕ)
     : Type 0 where
   pub rows_are : (more : ℕ) → from + more ≤ length jobs →
       AreNumbersFrom number rows (more * shop.machines) shop.machines (heaviest_back shop jobs (from + more))
 
 module _ {X : Type 0} (number : X → ℕ) (shop : FlowShop) (jobs : List ℕ) where
-  -- where the row of a place begins in a table
+  -- where the row of a place begins in a table of tails
   abbrev pub tails_begin : ℕ → ℕ
   tails_begin place = (shop.jobs - 1 - length jobs + place) * shop.machines
 
-  -- the rows behind a front, and a table of a front and these rows
+  -- the rows of tails after a front, and the table that a front and these rows make
   pub tails_behind : (rows front back : List X) (from : ℕ) → rows ≡ front ++ back → length front ≡ tails_begin from
       → HasTails number shop jobs rows from → TailsOn number shop jobs back from
   tails_behind rows front back from parts long has = record {
@@ -46,7 +46,7 @@ module _ {X : Type 0} (number : X → ℕ) (shop : FlowShop) (jobs : List ℕ) w
         (more * shop.machines) (omega arith) (rw same at (on.rows_are more (omega arith)));
   }
 
-  -- the rows of a whole sequence
+  -- the rows of tails of the whole sequence, sliced out of a table
   pub backs_taken : (rows : List X) (start k : ℕ) → start ≡ (shop.jobs - 1 - length jobs) * shop.machines
       → start ≤ length rows → length rows ≤ start + k → HasTails number shop jobs rows 0
       → HasBacks number shop jobs (take k (drop start rows))
@@ -58,7 +58,7 @@ module _ {X : Type 0} (number : X → ℕ) (shop : FlowShop) (jobs : List ℕ) w
       rw (take_all k (drop start rows) (omega (arith, length-drop start rows)))
       (record { rows_are = λ place inside. rw zero-add at (on.rows_are place (omega arith)) })
 
-  -- one row more
+  -- one more row of tails before those of the later places
   pub tails_more : (row back : List X) (place from : ℕ) → from ≡ place + 1 → length row ≡ shop.machines
       → HoldsTails number shop jobs row place → TailsOn number shop jobs back from
       → TailsOn number shop jobs (row ++ back) place
@@ -75,7 +75,7 @@ module _ {X : Type 0} (number : X → ℕ) (shop : FlowShop) (jobs : List ℕ) w
           (suc more * shop.machines) (more * shop.machines) (omega arith)
           (rw same at (on.rows_are more (omega arith)))
 
-  -- the first row
+  -- the first of the rows contains the tails of its place
   pub first_tails : (rows : List X) (from k : ℕ) → shop.machines ≤ k → from ≤ length jobs
       → TailsOn number shop jobs rows from → HoldsTails number shop jobs (take k rows) from
   first_tails rows from k few inside on machine d lt =
@@ -83,13 +83,13 @@ module _ {X : Type 0} (number : X → ℕ) (shop : FlowShop) (jobs : List ℕ) w
       ap number (get_or-take k rows machine d (omega arith))
       ∙ rw (at, add-zero) at (on.rows_are 0 (omega arith) machine d lt)
 
-  -- tails are as short as a path can be
+  -- tails are within the bound on the weight of a path
   pub short_tails : IsWithin limits shop → length jobs ≤ shop.jobs → (place : ℕ) (row : List X)
       → HoldsTails number shop jobs row place → AreShort number row shop.machines
   short_tails within few place row told machine d lt =
       omega (arith, told machine d lt, tails_short shop within jobs few place machine lt)
 
-  -- the same row from the last machine on
+  -- a row of tails in reverse, from the last machine to the first, and back
   pub row_back : (row : List X) (place : ℕ) → 1 ≤ shop.machines → HoldsTails number shop jobs row place
       → AreBack number row (shop.machines - 1) (λ back. heaviest_back shop jobs place (shop.machines - 1 - back))
   row_back row place some told back d le = told (shop.machines - 1 - back) d (omega arith)

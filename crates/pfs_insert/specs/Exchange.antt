@@ -1,22 +1,26 @@
--- The makespan with a job inserted, by the paths that lead to the job's row and on from it.
+-- The makespan with a job inserted, from the paths that lead to the inserted row and those that continue after it. A
+-- row is a place of the sequence.
 use Rattle.std.specs.Prelude.{◌≡◌, ℕ, ◌+◌, ◌-◌, ◌≤◌, List, length, map, nat_lt, insert, if◌then◌else◌}
 use Rattle.std.specs.List.{range_with_len}
 use Rattle.pfs_base.specs.FlowShop.{FlowShop}
 use Rattle.pfs_base.specs.Paths.{heaviest, greatest, operation}
 use Rattle.pfs_insert.specs.Insertion.{makespan_with}
 
--- the heaviest front path, which ends at a machine of a row
+-- the head of a row and a machine: the weight of the heaviest path from the first operation to the row's operation on
+-- the machine
 abbrev pub heaviest_front : FlowShop → List ℕ → ℕ → ℕ → ℕ
 heaviest_front shop jobs row machine = heaviest (operation shop jobs) 0 0 row machine
 
--- the heaviest back path, which begins at a machine of a row, and 0 behind the last row
+-- the tail of a row and a machine: the weight of the heaviest path from the row's operation on the machine to the last
+-- operation; 0 after the last row
 abbrev pub heaviest_back : FlowShop → List ℕ → ℕ → ℕ → ℕ
 heaviest_back shop jobs row machine =
     if nat_lt row (length jobs)
     then heaviest (operation shop jobs) row machine (length jobs - 1) (shop.machines - 1)
     else 0
 
--- a path leaves the inserted row at one machine
+-- the makespan with a job inserted at a place is the greatest, over the machines, of the sum of the inserted row's head
+-- on the machine and the tail of the sequence without the job there: a path leaves the inserted row at one machine
 abbrev pub ExchangeLaw : Type 0
 ExchangeLaw =
     (shop : FlowShop) (jobs : List ℕ) (job place : ℕ) → 1 ≤ shop.machines → place ≤ length jobs →

@@ -1,4 +1,4 @@
-//! The plain way to find the best place: the whole order is evaluated at each.
+//! The plain way to find the best place: evaluate the whole order with the job at each place.
 ghost use Rattle.std.specs.Prelude.{◌≡◌, IfOk, true};
 ghost use Rattle.pfs_insert.specs.Insertion.{afresh_cost};
 
@@ -10,9 +10,9 @@ use pfs_order::Seq;
 use std::alloc::Global;
 use std::marker::PhantomData;
 
-/// An inserter that evaluates the whole order afresh at each place. One insertion counts k·k·m cells,
-/// where k jobs stand in the order with the inserted one, on m machines, and asks for the memory of one
-/// row of lengths for each place.
+/// An inserter that evaluates the whole order from scratch for each place. One insertion counts k·k·m
+/// cells, where the order has k jobs with the inserted one, on m machines. Each evaluation allocates one
+/// row of lengths.
 #[derive(Drop)]
 pub struct Afresh<B> {
     seq: Seq,
@@ -21,7 +21,8 @@ pub struct Afresh<B> {
 }
 
 impl<B: Bench> Afresh<B> {
-    /// An inserter for shops of the bench's sizes. It asks for the memory of a sequence of all jobs.
+    /// An inserter for shops of the bench's sizes. It allocates a sequence with room for all jobs, and
+    /// returns `Memory` where that fails.
     pub fn new(alloc: Global, bench: &B) -> Result<Afresh<B>, InsertFault>
         ensures jobs { IfOk result (λ made.
             (⟦<Afresh<B> as Inserter<B>>⟧.sizes made).jobs ≡ (B.shop bench.now).jobs) }

@@ -1,11 +1,11 @@
-//! Why a place could not be found.
+//! The error of an inserter.
 
 use thiserror::Error;
 
-/// Why a place could not be found, or an inserter not be made.
+/// Why an inserter could not be made, or could not find a place.
 #[derive(Clone, Copy, Debug, PartialEq, Eq, Error)]
 pub enum InsertFault {
-    /// Memory was refused.
+    /// Memory allocation failed.
     #[error("Memory")]
     Memory,
 }

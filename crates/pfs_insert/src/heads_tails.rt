@@ -15,8 +15,9 @@ use std::alloc::Global;
 use std::marker::{Model, PhantomData};
 
 /// An inserter that computes heads and tails of the sequence without the job, and from them the makespan
-/// with the job at each place. One insertion counts (4k - 2)·m cells, where k jobs stand in the order with
-/// the inserted one, on m machines. It reserves its memory when it is made, so `best` takes none.
+/// with the job at each place (Taillard, 1990). One insertion counts (4k - 2)·m cells, where the order has
+/// k jobs with the inserted one, on m machines. It reserves its memory when it is made, so `best`
+/// allocates nothing.
 #[derive(Drop)]
 pub struct HeadsTails<B: Bench> {
     table: Table<B::Span>,
@@ -24,10 +25,10 @@ pub struct HeadsTails<B: Bench> {
 }
 
 // A table of 2n + 1 rows of m lengths, for n jobs on m machines: a row of zeros, n - 1 rows of heads,
-// n - 1 rows of tails, a row of zeros, and the inserted row. The heads of a sequence begin behind the
-// first row, and its tails end before the second row of zeros. Where a loop computes the heads of two jobs,
-// the first one's aren't stored: in their row stands the inserted row before the second job. The rows that a
-// loop borrows are disjoint parts of the table, and none is copied.
+// n - 1 rows of tails, a row of zeros, and the inserted row. The heads of a sequence begin directly after
+// the first row of zeros, and its tails end directly before the second. A loop that computes the heads of
+// two jobs at once doesn't store the first job's: their row takes the inserted row before the second job
+// instead. The rows that a loop borrows are disjoint parts of the table, and none is copied.
 #[derive(Drop)]
 struct Table<S: Length> {
     jobs: usize,
@@ -47,7 +48,8 @@ impl<S: Length> Model for Table<S> {
 }
 
 impl<B: Bench> HeadsTails<B> {
-    /// An inserter for shops of the bench's sizes. It asks for the memory of its table.
+    /// An inserter for shops of the bench's sizes. It allocates its table, 2n + 1 rows of m lengths for
+    /// n jobs on m machines, and returns `Memory` where that fails.
     pub fn new(alloc: Global, bench: &B) -> Result<HeadsTails<B>, InsertFault>
         ensures jobs { IfOk result (λ made.
             (⟦<HeadsTails<B> as Inserter<B>>⟧.sizes made).jobs ≡ (B.shop bench.now).jobs) }
@@ -91,7 +93,8 @@ impl<B: Bench> Inserter<B> for HeadsTails<B> {
     }
 }
 
-// The best place of a job in a sequence, and the makespan with the job there, by a table of an inserter.
+// The best place of a job in a sequence, and the makespan with the job there, computed in an inserter's
+// table.
 #[inline(always)]
 fn best_in_table<B: Bench>(
     bench: &mut B,

@@ -8,8 +8,8 @@ use pfs_base::{Bench, Length};
 use pfs_order::Seq;
 use std::alloc::Global;
 
-/// A place of a sequence, and the makespan of the whole sequence with the job put there. Places count
-/// from 0; the job goes before the job that stood at the place, or behind the last one.
+/// A place of a sequence, and the makespan of the whole sequence with the job inserted there. Places count
+/// from 0: the job goes before the job that was at the place, or after the last job.
 #[derive(Clone, Copy, Debug, PartialEq, Eq)]
 pub struct Placed<S> {
     pub place: usize,
@@ -18,18 +18,20 @@ pub struct Placed<S> {
 
 /// Finds the best place for a job, on a bench whose shop has the sizes that the inserter was made for.
 pub trait Inserter<B: Bench> {
-    /// How many jobs and machines the shops have that it was made for.
+    /// The numbers of jobs and machines of the shops that it was made for.
     ghost sizes: { Self → Sizes };
 
-    /// The cells that one insertion counts, by the number of jobs with the inserted one, and by the
-    /// number of machines.
+    /// The cells that one insertion counts, as a function of the number of jobs with the inserted one, and
+    /// of the number of machines.
     ghost cost: { ℕ → ℕ → ℕ };
 
-    /// Whether `best` can answer want of memory.
+    /// Whether `best` can fail. It always succeeds where this is false.
     ghost can_refuse: { Bool };
 
     /// The place for a job, among all places of the sequence, that gives the shortest makespan; of
-    /// places that give the same, the first. Where memory is refused the inserter may be used again.
+    /// places that give the same makespan, the first. The job must not be in the sequence. A call counts
+    /// `cost` cells on the bench, and one that fails counts at most `cost`. It returns `Memory` where
+    /// allocation fails, and the inserter can be used again after that.
     fn best(
         &mut self,
         alloc: Global,
@@ -50,8 +52,9 @@ pub trait Inserter<B: Bench> {
         ensures still_fits { Fits (B.shop bench.new) (sizes self.new) seq.now.size };
 }
 
-/// The better of the best place so far, of those before a place, and the place itself: of places that are
-/// as good as one another the first.
+/// The better of two places: `best`, which is the best of all places before `place`, and `place` itself,
+/// whose makespan is `span`. Where both give the same makespan, the better is the first, `best`. Place 0
+/// has no places before it, and is always the better.
 #[inline(always)]
 pub(crate) fn better<S: Length>(best: Placed<S>, place: usize, span: S) -> Placed<S>
     ensures { (value : ℕ → ℕ) → (0 < place → IsBest S.number value place best.place best.span)

@@ -1,4 +1,4 @@
-//! The best place for a job in a sequence: what an inserter promises, and the inserters that keep it.
+//! The best place for a job in a sequence: the contract of an inserter, and the inserters that satisfy it.
 #![tactic(auto)]
 
 mod afresh;

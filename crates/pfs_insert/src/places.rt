@@ -1,4 +1,4 @@
-//! The places of a sequence, tried by rows of heads and tails.
+//! The search for the best place of a sequence, by rows of heads and tails.
 ghost use Rattle.std.specs.Prelude.{◌≡◌, ℕ, ◌+◌, ◌-◌, ◌*◌, ◌<◌, ◌≤◌, ◌^◌, length};
 ghost use Rattle.pfs_insert.specs.Insertion.{makespan_with};
 ghost use Rattle.pfs_insert.specs.Private.BestSoFar.{IsBest};
@@ -9,9 +9,9 @@ use crate::rows::{fill_head, fill_two_places};
 use pfs_base::{Bench, Length};
 use pfs_order::Seq;
 
-/// The best place of a job in a sequence, and the makespan with the job there. `backs` has the rows of tails,
-/// from that of the first place on; the rows of heads are filled as the places go on; `put` takes the inserted
-/// row.
+/// The best place of a job in a sequence, and the makespan with the job there. `backs` contains the rows of
+/// tails, beginning with the first place's. The function fills the rows of `heads` while it goes from place to
+/// place, and writes the inserted row to `put`.
 #[inline(always)]
 pub(crate) fn best_by_rows<B: Bench>(
     bench: &mut B,
@@ -49,8 +49,8 @@ pub(crate) fn best_by_rows<B: Bench>(
     try_place(bench, seq, job, len, heads, backs, put, best)
 }
 
-// The better of the best place so far, a place, and the next one. The row of heads of the place after both
-// is filled, and the row of heads between them takes the inserted row of the second.
+// The best of the best place so far, a place, and the place after it. The function fills the row of heads of
+// the place after both, and writes the inserted row of the second place to the row of heads between them.
 #[inline(always)]
 fn try_two_places<B: Bench>(
     bench: &mut B,
@@ -97,7 +97,7 @@ fn try_two_places<B: Bench>(
     better(best, place + 1, span)
 }
 
-// Fills the row of heads behind the job at a place.
+// Fills the row of heads of the place after a place.
 #[inline(always)]
 fn add_head<B: Bench>(bench: &mut B, seq: &Seq, place: usize, heads: &mut [B::Span])
     requires place { place < length seq.now.jobs }
@@ -157,7 +157,7 @@ fn try_place<B: Bench>(
     better(best, place, span)
 }
 
-// The makespan with a job inserted at a place, from its row and the row of tails behind it.
+// The makespan with a job inserted at a place, from the inserted row and the row of tails that begins there.
 #[inline(always)]
 fn makespan_by_rows<B: Bench>(
     bench: &mut B,

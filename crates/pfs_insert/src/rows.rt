@@ -1,4 +1,4 @@
-//! Rows of lengths, each computed from the row beside it.
+//! Rows of lengths, each computed from the row above or below it.
 ghost use Rattle.std.specs.Prelude.{◌≡◌, ◌+◌, ◌*◌, ◌<◌, ◌^◌, [], ◌∷◌, length};
 ghost use Rattle.pfs_insert.specs.Private.Rows.{AreHeadsAfter, AreShort, AreTailsBefore};
 
@@ -82,8 +82,9 @@ pub(crate) fn fill_three_tails<B: Bench>(
     }
 }
 
-/// Fills the rows of a job that is inserted before the first of two jobs, and before the second, and the
-/// second one's row of heads. The first one's row of heads is used as it comes, and isn't stored.
+/// Fills three rows: that of a job inserted before the first of two jobs, that of the job inserted before
+/// the second, and the row of heads of the second. The row of heads of the first is used machine by machine,
+/// and isn't stored.
 #[inline(always)]
 pub(crate) fn fill_two_places<B: Bench>(
     bench: &mut B,

@@ -6,8 +6,8 @@ use crate::rows::{fill_tail, fill_three_tails};
 use pfs_base::{Bench, Length};
 use pfs_order::Seq;
 
-/// Fills the rows of tails of a sequence. The rows are those of the tails of n - 1 jobs, and the row of
-/// zeros behind them; those of the sequence end before the row of zeros.
+/// Fills the rows of tails of a sequence. `rows` has n - 1 rows for tails, where n is the number of the
+/// shop's jobs, and a row of zeros after them. The sequence's rows end directly before the row of zeros.
 #[inline(always)]
 pub(crate) fn fill_tails<B: Bench>(bench: &mut B, seq: &Seq, rows: &mut [B::Span])
     requires partial { IsPartial (B.shop bench.old) seq.now }
@@ -62,7 +62,7 @@ fn add_three_tails<B: Bench>(bench: &mut B, seq: &Seq, rows: &mut [B::Span], fro
     );
 }
 
-// Fills the row of tails of the job at a place, from the row behind it.
+// Fills the row of tails of the job at a place, from the row after it.
 #[inline(always)]
 fn add_tail<B: Bench>(bench: &mut B, seq: &Seq, rows: &mut [B::Span], place: usize)
     requires place { place < length seq.now.jobs }

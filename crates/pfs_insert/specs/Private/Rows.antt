@@ -1,4 +1,4 @@
--- Rows of lengths, each from the row beside it.
+-- Rows of lengths, each computed from the row above or below it.
 use Rattle.std.specs.Prelude.{◌≡◌, ℕ, zero, suc, ◌+◌, ◌-◌, ◌*◌, ◌<◌, ◌≤◌, max, List, length, map, fold, insert}
 use Rattle.std.specs.List.{range_with_len, slice_index_or}
 use Rattle.pfs_base.specs.declared.limits.TheConstants.{MOST_JOBS, MOST_MACHINES, LONGEST_TIME}
@@ -8,7 +8,8 @@ use Rattle.pfs_order.specs.Sequence.{Sequence}
 use Rattle.pfs_insert.specs.Exchange.{heaviest_front, heaviest_back}
 use Rattle.pfs_insert.specs.Inserter.{Sizes}
 
--- the value at a machine is the greater of the one above it and the one before it, plus the time
+-- the row after a row: the value at a machine is the greater of the value above it and the value before it, plus the
+-- time on the machine; before the first machine the value is 0
 abbrev pub next_row : (ℕ → ℕ) → (ℕ → ℕ) → ℕ → ℕ
 next_row times above zero = max (above 0) 0 + times 0
 next_row times above (suc machine) = max (above (suc machine)) (next_row times above machine) + times (suc machine)
@@ -18,100 +19,106 @@ abbrev pub value_before : (ℕ → ℕ) → ℕ → ℕ
 value_before values zero = 0
 value_before values (suc machine) = values machine
 
--- values by how many machines they stand before the last
+-- values in reverse: index 0 is the last machine, index 1 the machine before it
 abbrev pub from_last : ℕ → (ℕ → ℕ) → ℕ → ℕ
 from_last last values back = values (last - back)
 
--- a job's row of heads from the row above it, and its row of tails, from the last machine on, from the row below it
+-- a job's row of heads, computed from the row above it
 abbrev pub head_row : FlowShop → ℕ → (ℕ → ℕ) → ℕ → ℕ
 head_row shop job = next_row (time_of shop job)
 
+-- a job's row of tails in reverse, from the last machine to the first, computed from the row below it in reverse
 abbrev pub tail_row : FlowShop → ℕ → (ℕ → ℕ) → ℕ → ℕ
 tail_row shop job = next_row (from_last (shop.machines - 1) (time_of shop job))
 
--- the greatest sum of a front and a back at one of the machines
+-- the greatest sum, over the machines, of a front and a back at the same machine
 abbrev pub greatest_front_and_back : ℕ → (ℕ → ℕ) → (ℕ → ℕ) → ℕ
 greatest_front_and_back machines fronts backs =
     greatest (map (λ machine. fronts machine + backs machine) (range_with_len 0 machines))
 
--- the lengths of a row are these numbers
+-- the lengths of a row are the numbers `values`, machine by machine
 abbrev pub AreNumbers : {X : Type 0} → (X → ℕ) → List X → ℕ → (ℕ → ℕ) → Type 0
 AreNumbers {X} number row machines values =
     (machine : ℕ) (d : X) → machine < machines → number (slice_index_or row machine d) ≡ values machine
 
--- the same of a row that begins at a place of a list
+-- the lengths of the row that begins at index `start` of a list are the numbers `values`
 abbrev pub AreNumbersFrom : {X : Type 0} → (X → ℕ) → List X → ℕ → ℕ → (ℕ → ℕ) → Type 0
 AreNumbersFrom {X} number rows start machines values =
     (machine : ℕ) (d : X) → machine < machines → number (slice_index_or rows (start + machine) d) ≡ values machine
 
--- the lengths of a row, from the last on, are these numbers
+-- the lengths of a row in reverse, from the last to the first, are the numbers `values`
 abbrev pub AreBack : {X : Type 0} → (X → ℕ) → List X → ℕ → (ℕ → ℕ) → Type 0
 AreBack {X} number row last values =
     (back : ℕ) (d : X) → back ≤ last → number (slice_index_or row (last - back) d) ≡ values back
 
--- whatever heads a row holds, another holds those of the last of some jobs that follow it one after the other
+-- for any heads that the row `above` contains, `row` contains the heads of the last of `jobs`, where these jobs follow
+-- one after another
 abbrev pub AreHeadsAfter : {X : Type 0} → (X → ℕ) → FlowShop → List X → List ℕ → List X → Type 0
 AreHeadsAfter {X} number shop above jobs row =
     (heads : ℕ → ℕ) → AreNumbers number above shop.machines heads
     → AreNumbers number row shop.machines (fold (λ values job. head_row shop job values) heads jobs)
 
--- the same of tails, of jobs that stand one before the other
+-- for any tails that the row `below` contains, `row` contains the tails of the last of `jobs`, where each job is
+-- directly before the one listed before it
 abbrev pub AreTailsBefore : {X : Type 0} → (X → ℕ) → FlowShop → List X → List ℕ → List X → Type 0
 AreTailsBefore {X} number shop below jobs row =
     (tails : ℕ → ℕ) → AreBack number below (shop.machines - 1) tails
     → AreBack number row (shop.machines - 1) (fold (λ values job. tail_row shop job values) tails jobs)
 
--- no length of a row is greater than a path can be
+-- no length of a row is greater than a bound on the weight of any path within the limits
 abbrev pub AreShort : {X : Type 0} → (X → ℕ) → List X → ℕ → Type 0
 AreShort {X} number row machines =
     (machine : ℕ) (d : X) → machine < machines
     → number (slice_index_or row machine d) ≤ (MOST_JOBS + MOST_MACHINES) * LONGEST_TIME
 
--- when the jobs before a place of the sequence are done on a machine, where each begins as soon as it can
+-- the time at which the jobs before a place of the sequence are done on a machine, where each operation begins as soon
+-- as it can
 abbrev pub head_of : FlowShop → List ℕ → ℕ → ℕ → ℕ
 head_of shop jobs zero machine = 0
 head_of shop jobs (suc place) machine = heaviest_front shop jobs place machine
 
--- a row of a table of heads, which counts from 0, holds those of the jobs before a place
+-- row `place` of a table of heads, whose rows count from 0, contains the heads of the jobs before the place
 pub record HasHead {X : Type 0} (number : X → ℕ) (shop : FlowShop) (jobs : List ℕ) (rows : List X) (place : ℕ)
     : Type 0 where
   pub row_is : AreNumbersFrom number rows (place * shop.machines) shop.machines (head_of shop jobs place)
 
--- the rows of tails from a place of the sequence on, which end before the last row of the table, a row of zeros
+-- a table contains the rows of tails from place `from` of the sequence on; the row of the place after the last job, a
+-- row of zeros, is the table's last row
 pub record HasTails {X : Type 0} (number : X → ℕ) (shop : FlowShop) (jobs : List ℕ) (rows : List X) (from : ℕ)
     : Type 0 where
   pub rows_are : (place : ℕ) → from ≤ place → place ≤ length jobs
       → AreNumbersFrom number rows ((shop.jobs - 1 - length jobs + place) * shop.machines) shop.machines
       (heaviest_back shop jobs place)
 
--- a sequence of the shop's jobs that has room for one more
+-- a sequence made for the number of the shop's jobs that has room for at least one more
 pub record IsPartial (shop : FlowShop) (seq : Sequence) : Type 0 where
   pub size : seq.size ≡ shop.jobs
   pub few : length seq.jobs < shop.jobs
 
--- the rows of tails of a sequence, of which the first is that of its first place
+-- `rows` begins with the rows of tails of a sequence, one for each place
 pub record HasBacks {X : Type 0} (number : X → ℕ) (shop : FlowShop) (jobs : List ℕ) (rows : List X) : Type 0 where
   pub rows_are : (place : ℕ) → place ≤ length jobs
       → AreNumbersFrom number rows (place * shop.machines) shop.machines (heaviest_back shop jobs place)
 
--- the parts of a table: the rows of heads, the rows of tails of a sequence with the row of zeros, and the inserted row
+-- the sizes of a table's parts: the rows of heads, the rows of tails of a sequence with the row of zeros after them,
+-- and the inserted row
 pub record AreParts {X : Type 0} (shop : FlowShop) (jobs : List ℕ) (heads backs put : List X) : Type 0 where
   pub heads_long : length heads ≡ shop.jobs * shop.machines
   pub backs_long : length backs ≡ (length jobs + 1) * shop.machines
   pub put_long : length put ≡ shop.machines
 
--- the rows of heads up to that of a place stay
+-- each row of heads up to the row of `place` that is in the table `old` is in the table `new`
 abbrev pub KeepsHeads : {X : Type 0} → (X → ℕ) → FlowShop → List ℕ → List X → List X → ℕ → Type 0
 KeepsHeads {X} number shop jobs old new place =
     (row : ℕ) → row ≤ place → HasHead number shop jobs old row → HasHead number shop jobs new row
 
--- a table of 2n + 1 rows, of which the first and the last but one are of zeros
+-- a table of 2n + 1 rows for n jobs, whose first row and last row but one are rows of zeros
 pub record IsTable {X : Type 0} (number : X → ℕ) (sizes : Sizes) (lengths : List X) : Type 0 where
   pub size : length lengths ≡ (2 * sizes.jobs + 1) * sizes.machines
   pub no_head : AreNumbers number lengths sizes.machines (λ machine. 0)
   pub no_tail : AreNumbersFrom number lengths ((2 * sizes.jobs - 1) * sizes.machines) sizes.machines (λ machine. 0)
 
--- the row of a job that is inserted at a place
+-- `row` contains the heads of a job that is inserted at a place
 pub record IsPut {X : Type 0} (number : X → ℕ) (shop : FlowShop) (jobs : List ℕ) (job place : ℕ) (row : List X)
     : Type 0 where
   pub row_is : AreNumbers number row shop.machines (heaviest_front shop (insert jobs place job) place)

@@ -18,7 +18,7 @@ few_jobs g c =
     c.requires.absent c.size.ensures.sequence in
     omega arith
 
--- how long the rows of heads are, and those of tails
+-- the lengths of the part of the table with the rows of heads, and of the part with the rows of tails
 heads_long : (g : Over) (c : After-split_at_mut-tails g) →
     let shop = g.B.Bench.shop c.args.bench.now in
     length c.split_at_mut-heads.result.0.now ≡ shop.jobs * shop.machines
@@ -31,7 +31,7 @@ tails_long : (g : Over) (c : After-split_at_mut-tails g) →
 tails_long g c =
     rw (c.size-2.ensures.value, c.requires.size, c.machines-machines.ensures) at c.split_at_mut-tails.ensures.front_len
 
--- where the row of zeros behind the tails begins, in the table and behind the heads
+-- where the row of zeros after the tails begins, in the table and in the part after the heads
 no_tail_at : (jobs machines : ℕ) → 1 ≤ jobs → (2 * jobs - 1) * machines ≡ jobs * machines + (jobs - 1) * machines
 no_tail_at jobs machines some = row_split (2 * jobs - 1) jobs (jobs - 1) machines (omega arith)
 
@@ -71,7 +71,7 @@ overflow_sub-first-2 g c =
     let less = few_jobs g (goal.at.overflow_sub-first-2 g c).After-split_at_mut-tails in
     omega (arith, c.size-3.ensures.value, c.len.ensures.value, c.requires.size)
 
--- the rows of tails of the sequence are the last of the table's
+-- the part with the rows of tails ends with those of the sequence and the row of zeros
 rows_of_all : (jobs len machines : ℕ) → len < jobs
     → jobs * machines ≡ (jobs - 1 - len) * machines + (len + 1) * machines
 rows_of_all jobs len machines inside = row_split jobs (jobs - 1 - len) (len + 1) machines (omega arith)
@@ -140,7 +140,7 @@ best_by_rows-requires-clause-no_head g c =
           rw at (ap number (sym read) ∙ told);
     })
 
--- the cells of the tails and of the places
+-- the cells of one insertion are those of the tails and those of the places
 cells : (len machines : ℕ) → (4 * (len + 1) - 2) * machines ≡ len * machines + (3 * len + 2) * machines
 cells len machines = row_split (4 * (len + 1) - 2) len (3 * len + 2) machines (omega arith)
 

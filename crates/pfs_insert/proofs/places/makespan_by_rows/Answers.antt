@@ -11,7 +11,7 @@ use Rattle.pfs_insert.proofs.places.makespan_by_rows.Given.{Over}
 use Rattle.pfs_insert.proofs.places.makespan_by_rows.Goals.{After-machines-machines}
 use Rattle.pfs_insert.proofs.places.makespan_by_rows.Goals as goal
 
--- the inserted row, joined with the row of tails that the code takes out of the table
+-- the inserted row, joined with the row of tails that the code slices out of the table
 joined : (g : Over) (c : After-machines-machines g) →
     let shop = g.B.Bench.shop c.args.bench.now in
     let jobs = c.args.seq.now.jobs in

@@ -8,7 +8,7 @@ use Rattle.pfs_insert.proofs.places.try_two_places.Given.{Over}
 use Rattle.pfs_insert.proofs.places.try_two_places.Goals.{After-at-2, After-fill_two_places}
 use Rattle.pfs_insert.proofs.places.try_two_places.Goals as goal
 
--- what is left behind the row that takes the second inserted row
+-- after the row that takes the second inserted row there is room for one more row
 behind_long : (g : Over) (c : After-at-2 g) → c.machines-machines.result ≤ length c.split_at_mut-next.result.1.now
 behind_long g c =
     let place = c.args.place in

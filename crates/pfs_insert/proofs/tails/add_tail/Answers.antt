@@ -9,7 +9,7 @@ use Rattle.pfs_insert.proofs.tails.add_tail.Given.{Over}
 use Rattle.pfs_insert.proofs.tails.add_tail.Goals.{After-at}
 use Rattle.pfs_insert.proofs.tails.add_tail.Goals as goal
 
--- where the table is split
+-- where the code splits the table
 record Split (g : Over) (c : After-at g) : Type 0 where
   below_is : c.size.result - c.len.result + c.args.place
       ≡ (g.B.Bench.shop c.args.bench.now).jobs - 1 - length c.args.seq.now.jobs + (c.args.place + 1)
@@ -42,7 +42,7 @@ fill_tail-requires-clause-below_width g c =
     let is = split_is g (goal.at.fill_tail-requires-clause-below_width g c).After-at in
     length-take-le _ _ is.back_long ∙ c.machines-machines.ensures
 
--- the row below
+-- the row below the one that is filled
 below_told : (g : Over) (c : After-at g) →
     HoldsTails g.B.Span.Length.number (g.B.Bench.shop c.args.bench.now) c.args.seq.now.jobs
     (take c.machines-machines.result c.split_at_mut-front.result.1.now) (c.args.place + 1)

@@ -8,7 +8,7 @@ use Rattle.pfs_insert.proofs.tails.add_three_tails.Given.{Over}
 use Rattle.pfs_insert.proofs.tails.add_three_tails.Goals.{After-at-third}
 use Rattle.pfs_insert.proofs.tails.add_three_tails.Goals as goal
 
--- where the table is split
+-- where the code splits the table
 record Split (g : Over) (c : After-at-third g) : Type 0 where
   below_is : c.size.result - 1 - c.len.result + c.args.from
       ≡ (g.B.Bench.shop c.args.bench.now).jobs - 1 - length c.args.seq.now.jobs + c.args.from
@@ -45,7 +45,7 @@ fill_three_tails-requires-clause-below_width g c =
     let is = split_is g (goal.at.fill_three_tails-requires-clause-below_width g c).After-at-third in
     length-take-le _ _ is.back_long ∙ c.machines-machines.ensures
 
--- the row below
+-- the row below the three
 below_told : (g : Over) (c : After-at-third g) →
     HoldsTails g.B.Span.Length.number (g.B.Bench.shop c.args.bench.now) c.args.seq.now.jobs
     (take c.machines-machines.result c.split_at_mut-front.result.1.now) c.args.from
