@@ -1,4 +1,4 @@
--- Forms that grow by an argument.
+-- Adding an argument to a command adds its rule to the command's form.
 use Rattle.std.proofs.Common.{◌≡◌, ◌∙◌, ap, false, List, [], ◌∷◌, ◌++◌, Result}
 use Rattle.std.specs.Prelude.{IfOk}
 use Rattle.std.specs.declared.alloc.AllocError.{AllocError}
@@ -8,14 +8,14 @@ use Rattle.clap.specs.declared.builder.arg.Arg.{Arg}
 use Rattle.clap.specs.declared.builder.command.Command.{Command}
 use Rattle.pfs_words.specs.Commands.{flat_form}
 
--- one argument more, by its rule
+-- the form after an argument with this rule was added
 pub one_more : {old new : Command} {argument : Arg} {name : Text} {rules : List Rule} {rule : Rule}
     → AddsArg old argument new → app_of old ≡ flat_form name rules → rule_of argument ≡ rule → argument.global ≡ false
     → app_of new ≡ flat_form name (rules ++ rule ∷ [])
 one_more {argument = argument} {name} {rules} adds form is local =
     adds.shape local ∙ ap (λ app. with_rule app (rule_of argument)) form ∙ ap (λ r. flat_form name (rules ++ r ∷ [])) is
 
--- and as the last call answers it
+-- the same for the result of the call that adds it, which is an error if an allocation fails
 pub last_one : {name : Text} {rules : List Rule} {rule : Rule} (old : Command) (argument : Arg)
     (result : Result Command AllocError) → IfOk result (AddsArg old argument) → app_of old ≡ flat_form name rules
     → rule_of argument ≡ rule → argument.global ≡ false

@@ -1,4 +1,4 @@
--- What the readers of a job are given by a parse of a form.
+-- What a parse by a form gives to the functions that read a job's values.
 use Rattle.std.proofs.Common.{◌≡◌, ◌∙◌, ◌⊎◌, ◌≤◌, ◌||◌, ℕ, true, false, ap, inl, inr, List, [], ◌∷◌}
 use Rattle.std.proofs.Common.{Option, Some, None, arith, option_map, refl, subst, sym, unwrap_or}
 use Rattle.std.specs.Prelude.{IfSome, slice_get}
@@ -25,7 +25,7 @@ use Rattle.pfs_words.specs.declared.job.Job.{Job}
 use Rattle.pfs_layout.specs.declared.layout.Layout.TheVariants.{Taillard, OrLib}
 use Rattle.pfs_words.proofs.FormLemmas.{asks_value, form_has_value, form_passes, has_place}
 
--- names of the layouts, which point nowhere
+-- layout names at no real address
 abbrev pub some_names : Names
 some_names = record {
   ref_ptr = (0, 0);
@@ -33,7 +33,7 @@ some_names = record {
       ∷ [];
 }
 
--- ---- the two answers
+-- ---- the two results
 
 module _ (names : Names) (word : Text) (words : List Text) (are : AreLayoutNames names) where
   pub job_for : (job : Job) → AsksForJob names word words job → AsksFor word words job
@@ -44,14 +44,14 @@ module _ (names : Names) (word : Text) (words : List Text) (are : AreLayoutNames
   unfolding AsksForNothing
   refused denied faulty = (names, are, denied, faulty)
 
-  -- the form of the command that the word names refuses the words
+  -- the form of the command `word` doesn't take the arguments
   pub refused_by_form : {form : App} → form_of names word ≡ Some form → takes form words ≡ false
       → (fault_of form words ≡ [] → ⊥) → AsksForNothing word words
   refused_by_form {form} named denied faulty = refused (rw named denied) (λ faultless.
       let same : faultless.0 ≡ form = ap (λ o. unwrap_or o form) (sym faultless.1 ∙ named) in
       faulty (subst (λ a. fault_of a words ≡ []) same faultless.2))
 
-  -- and so a command of that form does
+  -- the same for a command of that form
   pub refused_by : {app form : App} → app ≡ form → form_of names word ≡ Some form → is_simple_and_free form ≡ true
       → takes app words ≡ false → (is_simple_and_free app ≡ true → fault_of app words ≡ [] → ⊥)
       → AsksForNothing word words
@@ -74,7 +74,7 @@ listed names a b t are any =
       ]
     ]
 
--- a number of 64 bits, whatever its range
+-- a number in any range of 64-bit numbers is a 64-bit number
 any_unsigned : (least most : ℕ) (t : Text) → IsUnsignedIn least most t → IsUnsignedIn 0 18446744073709551615 t
 any_unsigned least most t passed = let fits = passed.1 in (passed.0, fits, omega arith, omega arith)
 
@@ -83,7 +83,7 @@ within_range : (least most : ℕ) (said : Option Text) → ((t : Text) → said 
 within_range least most None passes = tt
 within_range least most (Some t) passes = let passed = passes t refl in (passed.2, passed.3)
 
--- by the place of the argument's rule in the form that the words were parsed by
+-- facts about the argument whose rule has index k in the form that `words` were parsed by
 module _ {command : Command} {form : App} {words : List Text} {m : ArgMatches} (parse : IsParseOf command words m)
     (is : app_of command ≡ form) where
   pub text_given : (k : ℕ) (r : Rule) → slice_get form.top.rules k ≡ Some r → has_place form k r ≡ true

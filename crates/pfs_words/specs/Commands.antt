@@ -1,4 +1,4 @@
--- The form of each command's words behind its name, as clap's definition of a simple command has it.
+-- The form of each command: which arguments may follow its name, as an `App` of clap's definition of simple commands.
 use Rattle.std.specs.Prelude.{◌≡◌, ℕ, true, List, [], ◌∷◌, Option, Some, None, codes, bytes_eq, if◌then◌else◌}
 use Rattle.std.specs.Borrow.{Bor}
 use Rattle.clap.specs.Words.{App, Rule, Text, new_rule}
@@ -10,11 +10,12 @@ use Rattle.pfs_base.specs.declared.limits.TheConstants.{MOST_BLOCKS, MOST_JOBS, 
 use Rattle.pfs_base.specs.declared.limits.TheConstants.{MOST_ROUNDS}
 use Rattle.pfs_layout.specs.declared.layout.Layout.{Layout}
 
--- these arguments, and no program's name before them; no subcommands, and no groups
+-- the form with these arguments, no subcommands and no groups; no program's name comes before the arguments
 abbrev pub flat_form : Text → List Rule → App
 flat_form name rules = record { top = record (new_shape name) { rules = rules; no_binary_name = true }; subs = [] }
 
--- the names of the layouts, as the program holds them; a contract can't say where that is
+-- the list of layout names that a form borrows. Its addresses are part of it, and a contract can't state those of the
+-- program's list: so definitions apply to any `Names` with `AreLayoutNames`
 abbrev pub Names : Type 0
 Names = Bor (List (Bor Text))
 
@@ -22,10 +23,11 @@ abbrev pub layout_name : Layout → Text
 layout_name Layout.Taillard = codes "taillard"
 layout_name Layout.OrLib = codes "orlib"
 
+-- the names are `taillard` and `orlib`, in this order
 abbrev pub AreLayoutNames : Names → Type 0
 AreLayoutNames names = texts names.now ≡ layout_name Layout.Taillard ∷ layout_name Layout.OrLib ∷ []
 
--- `--ID L`, one of the layouts
+-- `--ID L`, required; L is the name of a layout
 abbrev pub layout_rule : Names → Text → Rule
 layout_rule names id = record (new_rule id) {
   long = Some id;
@@ -34,7 +36,7 @@ layout_rule names id = record (new_rule id) {
   required = true;
 }
 
--- `[--ID N]`, a number from `least` to `most`, and its text where it is left out
+-- `[--ID N]`, a number from `least` to `most`; `left_out` is the text of its default, or empty for no default
 abbrev pub option_rule : Text → ℕ → ℕ → List Text → Rule
 option_rule id least most left_out = record (new_rule id) {
   long = Some id;
@@ -43,19 +45,19 @@ option_rule id least most left_out = record (new_rule id) {
   defaults = left_out;
 }
 
--- `[--block K]`, 1 where it is left out
+-- `[--block K]`, from 1 to `MOST_BLOCKS` (default: 1)
 abbrev pub block_rule : Rule
 block_rule = option_rule (codes "block") 1 MOST_BLOCKS (codes "1" ∷ [])
 
--- `[--ID]`
+-- `[--ID]`, a flag
 abbrev pub flag_rule : Text → Rule
 flag_rule id = record (new_rule id) { long = Some id; action = Some SetTrue }
 
--- a path, by its place
+-- a required positional argument: a path
 abbrev pub path_rule : Text → Rule
 path_rule id = record (new_rule id) { action = Some Set; required = true }
 
--- a number from `least` to `most`, by its place
+-- a required positional argument: a number from `least` to `most`
 abbrev pub number_rule : Text → ℕ → ℕ → Rule
 number_rule id least most = record (new_rule id) {
   action = Some Set;
@@ -68,19 +70,19 @@ abbrev pub value_form : Names → App
 value_form names = flat_form (codes "value") (layout_rule names (codes "layout") ∷ block_rule
     ∷ path_rule (codes "file") ∷ [])
 
--- `[--rounds R]`, 0 where it is left out
+-- `[--rounds R]`, from 0 to `MOST_ROUNDS` (default: 0)
 abbrev pub rounds_rule : Rule
 rounds_rule = option_rule (codes "rounds") 0 MOST_ROUNDS (codes "0" ∷ [])
 
--- `[--take D]`
+-- `[--take D]`, the destruction size, from 1 to `MOST_JOBS`; the form has no default
 abbrev pub take_rule : Rule
 take_rule = option_rule (codes "take") 1 MOST_JOBS []
 
--- `[--seed S]`, any number of 64 bits, and 0 where it is left out
+-- `[--seed S]`, any 64-bit number (default: 0)
 abbrev pub search_seed_rule : Rule
 search_seed_rule = option_rule (codes "seed") 0 18446744073709551615 (codes "0" ∷ [])
 
--- `[--passes P]`, 0 where it is left out
+-- `[--passes P]`, from 0 to `MOST_PASSES` (default: 0)
 abbrev pub passes_rule : Rule
 passes_rule = option_rule (codes "passes") 0 MOST_PASSES (codes "0" ∷ [])
 
@@ -100,7 +102,7 @@ abbrev pub convert_form : Names → App
 convert_form names = flat_form (codes "convert") (layout_rule names (codes "from") ∷ layout_rule names (codes "to")
     ∷ block_rule ∷ path_rule (codes "file") ∷ [])
 
--- any number of 64 bits
+-- `SEED`, required; any 64-bit number
 abbrev pub seed_rule : Rule
 seed_rule = number_rule (codes "seed") 0 18446744073709551615
 
@@ -109,7 +111,7 @@ abbrev pub generate_form : App
 generate_form = flat_form (codes "generate") (number_rule (codes "jobs") 1 MOST_JOBS
     ∷ number_rule (codes "machines") 1 MOST_MACHINES ∷ seed_rule ∷ [])
 
--- the form of the command that a word names
+-- the form of the command with this name, or `None` if there is no such command
 abbrev pub form_of : Names → Text → Option App
 form_of names word = if bytes_eq word (codes "value") then Some (value_form names)
     else (if bytes_eq word (codes "solve") then Some (solve_form names)

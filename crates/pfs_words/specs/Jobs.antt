@@ -1,4 +1,4 @@
--- What a command line asks for: a word that names a command, and other words.
+-- What a command line asks for. `word` is its first argument, which names a command; `words` are the others.
 use Rattle.std.specs.Prelude.{◌≡◌, ◌≤◌, ◌↔◌, IsTrue, IfSome, ℕ, Bool, false, List, [], Option, Some, None, codes}
 use Rattle.std.specs.Prelude.{option_map}
 use Rattle.std.specs.Option.{option_map_or}
@@ -13,39 +13,43 @@ use Rattle.pfs_words.specs.declared.job.Job.TheVariants as job
 use Rattle.pfs_words.specs.Commands.{AreLayoutNames, Names, value_form, solve_form, audit_form, convert_form}
 use Rattle.pfs_words.specs.Commands.{generate_form, form_of, layout_name}
 
--- the number that a text of digits writes, where a plus may stand first
+-- the value of a decimal numeral, which may begin with a plus sign
 abbrev pub number_said : Text → ℕ
 number_said text = digits_value 10 (without_leading_plus text)
 
--- the first value that matches have under an id names this layout, writes this number, is this text
+-- `rows` are the values that clap's definition gives to each argument: the first value of `id` names this layout
 abbrev pub SaysLayout : List Row → Text → Layout → Type 0
 SaysLayout rows id layout = first_of id rows ≡ Some (layout_name layout)
 
+-- the first value of `id` is a numeral of this number
 abbrev pub SaysNumber : List Row → Text → ℕ → Type 0
 SaysNumber rows id number = option_map number_said (first_of id rows) ≡ Some number
 
--- the same number, or none on either side
+-- the first value of `id` is a numeral of this number; `None` if `id` has no value
 abbrev pub SaysMaybeNumber : List Row → Text → Option ℕ → Type 0
 SaysMaybeNumber rows id number = option_map number_said (first_of id rows) ≡ number
 
--- a flag that was used has the value `true`
+-- `flag` is true exactly if the first value of `id` is `true`, which is the value of a flag that was used
 abbrev pub SaysFlag : List Row → Text → Bool → Type 0
 SaysFlag rows id flag = IsTrue flag ↔ (first_of id rows ≡ Some (codes "true"))
 
+-- the first value of `id` is this text
 abbrev pub SaysText : List Row → Text → Text → Type 0
 SaysText rows id text = first_of id rows ≡ Some text
 
--- clap's definition finds no fault in the words of this form
+-- clap's definition finds no fault in these arguments of a command of this form
 abbrev pub IsFaultless : App → List Text → Type 0
 IsFaultless form words = fault_of form words ≡ []
 
--- the values are those that clap's definition gives for the words, defaults included
+-- the arguments `words` of `value` are without fault, and these are the values that clap's definition gives to them,
+-- defaults included
 pub record AsksForValue (names : Names) (words : List Text) (layout : Layout) (block : ℕ) (file : Text) : Type 0 where
   pub faultless : IsFaultless (value_form names) words
   pub layout_said : SaysLayout (matches_of (value_form names) words) (codes "layout") layout
   pub block_said : SaysNumber (matches_of (value_form names) words) (codes "block") block
   pub file_said : SaysText (matches_of (value_form names) words) (codes "file") file
 
+-- the same for `solve`
 pub record AsksForSolve (names : Names) (words : List Text) (layout : Layout) (block : ℕ) (options : SolveOptions)
     (file : Text) : Type 0 where
   pub faultless : IsFaultless (solve_form names) words
@@ -58,7 +62,7 @@ pub record AsksForSolve (names : Names) (words : List Text) (layout : Layout) (b
   pub cells_said : SaysFlag (matches_of (solve_form names) words) (codes "cells") options.cells
   pub file_said : SaysText (matches_of (solve_form names) words) (codes "file") file
 
--- the same of a command with an order file
+-- the same for a command with an order file, which has this name
 pub record AsksForAudit (name : Text) (names : Names) (words : List Text) (layout : Layout) (block : ℕ)
     (file order_file : Text) : Type 0 where
   pub faultless : IsFaultless (audit_form name names) words
@@ -67,6 +71,7 @@ pub record AsksForAudit (name : Text) (names : Names) (words : List Text) (layou
   pub file_said : SaysText (matches_of (audit_form name names) words) (codes "file") file
   pub order_said : SaysText (matches_of (audit_form name names) words) (codes "order") order_file
 
+-- the same for `convert`
 pub record AsksForConvert (names : Names) (words : List Text) (source target : Layout) (block : ℕ) (file : Text)
     : Type 0 where
   pub faultless : IsFaultless (convert_form names) words
@@ -75,13 +80,15 @@ pub record AsksForConvert (names : Names) (words : List Text) (source target : L
   pub block_said : SaysNumber (matches_of (convert_form names) words) (codes "block") block
   pub file_said : SaysText (matches_of (convert_form names) words) (codes "file") file
 
+-- the same for `generate`
 pub record AsksForGenerate (words : List Text) (jobs machines seed : ℕ) : Type 0 where
   pub faultless : IsFaultless generate_form words
   pub jobs_said : SaysNumber (matches_of generate_form words) (codes "jobs") jobs
   pub machines_said : SaysNumber (matches_of generate_form words) (codes "machines") machines
   pub seed_said : SaysNumber (matches_of generate_form words) (codes "seed") seed
 
--- the word names the job's command, and the other words ask for its values
+-- `word` names the job's command, and the arguments `words` ask for its values. `value` needs a file here: only the
+-- command line without arguments gives `Job.Value` without one
 abbrev pub AsksForJob : Names → Text → List Text → Job → Type 0
 AsksForJob names word words (job.Value layout block None) = ⊥
 AsksForJob names word words (job.Value layout block (Some file)) = (word ≡ codes "value")
@@ -97,15 +104,16 @@ AsksForJob names word words (job.Convert source target block file) = (word ≡ c
 AsksForJob names word words (job.Generate jobs machines seed) = (word ≡ codes "generate")
     × AsksForGenerate words jobs machines seed
 
+-- a number from 1 to `most`
 abbrev pub IsFrom1To : ℕ → ℕ → Type 0
 IsFrom1To most number = (1 ≤ number) × (number ≤ most)
 
--- what a search is asked for is within the limits
+-- rounds, passes and the destruction size, if it is stated, are within the limits
 abbrev pub AreOptions : SolveOptions → Type 0
 AreOptions options = (options.rounds ≤ MOST_ROUNDS) × IfSome options.take (IsFrom1To MOST_JOBS)
     × (options.passes ≤ MOST_PASSES)
 
--- a job's numbers are within the limits; a generator's seed may be out of its own
+-- the job's numbers are within the limits; only the seed of `Generate` may be outside the generator's range
 abbrev pub IsWithinLimits : Job → Type 0
 IsWithinLimits (job.Value layout block file) = IsFrom1To MOST_BLOCKS block
 IsWithinLimits (job.Solve layout block options file) = IsFrom1To MOST_BLOCKS block × AreOptions options
@@ -114,19 +122,20 @@ IsWithinLimits (job.Table layout block file order_file) = IsFrom1To MOST_BLOCKS 
 IsWithinLimits (job.Convert source target block file) = IsFrom1To MOST_BLOCKS block
 IsWithinLimits (job.Generate jobs machines seed) = IsFrom1To MOST_JOBS jobs × IsFrom1To MOST_MACHINES machines
 
--- the word names a command, whose form takes the other words
+-- `word` names a command, and its form takes the arguments `words`
 abbrev pub takes_line : Names → Text → List Text → Bool
 takes_line names word words = option_map_or (λ form. takes form words) (form_of names word) false
 
--- the word names a command, and clap's definition finds no fault in the other words
+-- `word` names a command, and clap's definition finds no fault in the arguments `words`
 abbrev pub IsFaultlessLine : Names → Text → List Text → Type 0
 IsFaultlessLine names word words = (form : App) × (form_of names word ≡ Some form) × IsFaultless form words
 
--- the job that a command line asks for
+-- the command line, `word` followed by `words`, asks for this job
 unfoldable pub AsksFor : Text → List Text → Job → Type 0
 AsksFor word words job = (names : Names) × AreLayoutNames names × AsksForJob names word words job
 
--- a command line that no command takes, and in which clap's definition finds a fault, or no command
+-- the command line asks for no job: either `word` names no command, or the form of its command doesn't take `words` and
+-- clap's definition finds a fault in them
 unfoldable pub AsksForNothing : Text → List Text → Type 0
 AsksForNothing word words = (names : Names) × AreLayoutNames names × (takes_line names word words ≡ false)
     × ¬ (IsFaultlessLine names word words)

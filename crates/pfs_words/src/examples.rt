@@ -1,11 +1,11 @@
-//! What the definitions say of some command lines.
+//! Examples of the definitions: what some command lines ask for. They are proved.
 ghost use Rattle.std.specs.Prelude.{◌∷◌, [], Some, codes};
 ghost use Rattle.pfs_words.specs.Jobs.{AsksFor, AsksForNothing};
 
 use crate::Job;
 use pfs_layout::Layout;
 
-/// Lines that ask for a job.
+/// Command lines that ask for a job, one for each of these commands.
 pub fn jobs_asked_for()
     ensures value { AsksFor (codes "value") (codes "--layout" ∷ codes "orlib" ∷ codes "f" ∷ [])
         (Job.Value Layout.OrLib 1 (Some (codes "f"))) }
@@ -19,7 +19,7 @@ pub fn jobs_asked_for()
         (Job.Generate 5 1 873654221) }
 {}
 
-/// Lines that ask for nothing.
+/// Command lines that ask for no job, each for another reason.
 pub fn lines_refused()
     ensures no_command { AsksForNothing (codes "help") [] }
     ensures no_layout { AsksForNothing (codes "value") (codes "f" ∷ []) }

@@ -1,4 +1,4 @@
-//! What a command line asks for.
+//! Jobs: what a command line asks the program to do.
 ghost use Rattle.std.specs.Prelude.{◌≡◌, IfOk};
 
 use crate::solve_options::SolveOptions;
@@ -6,7 +6,7 @@ use pfs_layout::Layout;
 use std::alloc::{AllocError, Global};
 use std::marker::Model;
 
-/// The path of a file, which contracts see as the list of its bytes.
+/// The path of a file. Contracts see it as the list of its bytes.
 #[derive(Debug, Drop)]
 pub struct PathText {
     text: String,
@@ -21,7 +21,7 @@ impl Model for PathText {
 }
 
 impl PathText {
-    /// The path with this text. Memory for a copy of it is asked for.
+    /// Returns a path that owns a copy of this text, or an error if the allocation of the copy fails.
     pub(crate) fn new(alloc: Global, text: &str) -> Result<PathText, AllocError>
         ensures { IfOk result (λ path. path ≡ text.now) }
     {
@@ -29,7 +29,7 @@ impl PathText {
         Ok(PathText { text })
     }
 
-    /// The path as text.
+    /// Returns the path as text.
     pub fn as_str(&self) -> &str
         ensures { result.now ≡ self.now }
     {
@@ -37,45 +37,45 @@ impl PathText {
     }
 }
 
-/// What a command line asks for. Blocks count from 1.
+/// What a command line asks the program to do. `block` is a block's number in the instance file, from 1.
 #[derive(Debug, Drop)]
 pub enum Job {
-    /// The makespan of the jobs in the order of their numbers.
+    /// Print the makespan of the jobs in the order of their numbers.
     Value {
         layout: Layout,
         block: usize,
-        /// Standard input where there is none.
+        /// `None` means standard input.
         file: Option<PathText>,
     },
-    /// An order of the search.
+    /// Search for an order with a low makespan and print it.
     Solve {
         layout: Layout,
         block: usize,
         options: SolveOptions,
         file: PathText,
     },
-    /// The verdict on an order file.
+    /// Compare an order file with its instance and print its makespan, or its fault.
     Check {
         layout: Layout,
         block: usize,
         file: PathText,
         order_file: PathText,
     },
-    /// The time table of an order file.
+    /// Print the time table of an order file.
     Table {
         layout: Layout,
         block: usize,
         file: PathText,
         order_file: PathText,
     },
-    /// The instance in another layout.
+    /// Print the instance in another layout.
     Convert {
         source: Layout,
         target: Layout,
         block: usize,
         file: PathText,
     },
-    /// An instance of Taillard's generator.
+    /// Print an instance from Taillard's generator (1993).
     Generate {
         jobs: usize,
         machines: usize,

@@ -3,7 +3,7 @@ ghost use Rattle.std.specs.Prelude.{◌≡◌};
 
 use crate::solve_options::DEFAULT_TAKE;
 
-/// The number of this crate that definitions name, in a numeral: how many jobs a round removes by default.
+/// The value of the constant of this crate that definitions name: the default destruction size is 4.
 pub fn numbers()
     ensures { DEFAULT_TAKE ≡ 4 }
 {}

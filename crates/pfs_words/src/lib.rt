@@ -1,4 +1,4 @@
-//! Command lines: what their words ask for, or that they ask for nothing.
+//! Command lines: the job that the arguments ask for, or why they ask for none.
 #![tactic(auto)]
 
 mod examples;

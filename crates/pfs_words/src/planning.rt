@@ -1,4 +1,4 @@
-//! From the words of a command line to what they ask for.
+//! From the arguments of a command line to the job that they ask for.
 ghost use Rattle.std.specs.Prelude.{◌≡◌, [], ◌∷◌, None, List, IfOk, codes, map, string_bytes};
 ghost use Rattle.clap.specs.Words.{Text};
 ghost use Rattle.pfs_words.specs.Jobs.{AsksFor, AsksForNothing, IsFrom1To, IsWithinLimits};
@@ -25,9 +25,12 @@ const ORLIB: &str = "orlib";
 
 static LAYOUT_NAMES: [&str; 2] = [TAILLARD, ORLIB];
 
-/// What the words of a command line ask for, without the program's name. The first word names the command,
-/// and clap reads the others. Without words it is `value` of block 1 in Taillard's layout, on standard
-/// input.
+/// Returns the job that a command line asks for. `words` are its arguments, without the program's name: the
+/// first names the command, and clap parses the others. Without arguments the job is `value` of block 1 on
+/// standard input, in Taillard's layout.
+///
+/// The error is `Usage` if the first argument names no command or its command rejects the others, and
+/// `Memory` if an allocation fails.
 pub fn plan(alloc: Global, words: &[String]) -> Result<Job, UsageFault>
     ensures no_words { words.now ≡ [] → result ≡ Ok (Job.Value Layout.Taillard 1 None) }
     ensures job { (word : Text) (others : List Text) → map string_bytes words.now ≡ word ∷ others
@@ -120,7 +123,7 @@ fn plan_table(alloc: Global, words: &[String]) -> Result<Job, UsageFault>
     })
 }
 
-// What a command with an order file is asked for.
+// The values of a command with an order file.
 #[derive(Drop)]
 struct Audit {
     layout: Layout,
@@ -129,7 +132,7 @@ struct Audit {
     order_file: PathText,
 }
 
-// What the words behind the name of a command with an order file ask for.
+// Returns the values that `words` state, the arguments after the name of a command with an order file.
 fn plan_audit(alloc: Global, name: &str, words: &[String]) -> Result<Audit, UsageFault>
     requires { IsAudit name.now }
     ensures ok { IfOk result (λ audit. AsksToAudit name.now (map string_bytes words.now)

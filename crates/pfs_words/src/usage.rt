@@ -1,4 +1,4 @@
-//! Why a command line asks for nothing.
+//! The errors of planning a job.
 ghost use Rattle.std.specs.Prelude.{◌≡◌, ◌≢◌};
 ghost use Rattle.clap.specs.Words.{kind_of};
 ghost use Rattle.clap.specs.declared.error.kind.ErrorKind.TheVariants.{OutOfMemory};
@@ -8,14 +8,14 @@ use clap::error::ErrorKind;
 use std::alloc::AllocError;
 use thiserror::Error;
 
-/// Why no job was planned.
+/// Why `plan` returns no job.
 #[derive(Clone, Copy, Debug, PartialEq, Eq, Error)]
 pub enum UsageFault {
-    /// The first word names no command, or its command doesn't take the other words; help asked for is
-    /// among these.
+    /// The first argument names no command, or its command rejects the other arguments. A request for help is
+    /// rejected too.
     #[error("Usage")]
     Usage,
-    /// Memory was refused.
+    /// An allocation failed.
     #[error("Memory")]
     Memory,
 }

@@ -1,4 +1,4 @@
--- What clap's reading of a command's words is known to hold; contracts of private functions cite it.
+-- What is known of clap's parse of a command's arguments. Only contracts of private functions cite these definitions.
 use Rattle.std.specs.Prelude.{◌≡◌, ℕ, true, List, [], Some}
 use Rattle.clap.specs.Words.{Text, app_of, fault_of, first_of, found_of, is_simple_and_free, rows_of}
 use Rattle.clap.specs.Built.{IsParsedFrom}
@@ -10,33 +10,35 @@ use Rattle.pfs_layout.specs.declared.layout.Layout.{Layout}
 use Rattle.pfs_words.specs.Commands.{AreLayoutNames, Names, audit_form, form_of}
 use Rattle.pfs_words.specs.Jobs.{AsksForAudit, SaysLayout, SaysText}
 
--- what a parse of the command made of the words
+-- clap parsed the arguments `words` by `command`, with the result `matches`
 pub record IsParseOf (command : Command) (words : List Text) (matches : ArgMatches) : Type 0 where
   pub facts : IsParsedFrom command matches
   pub rows : HasMatchesOf (app_of command) words matches
   pub faultless : is_simple_and_free (app_of command) ≡ true → fault_of (app_of command) words ≡ []
 
--- a text, a layout, or a number of 64 bits stands under the id
+-- the first value of `id` is some text
 abbrev pub HasTextAt : ArgMatches → Text → Type 0
 HasTextAt matches id = (text : Text) × SaysText (rows_of (found_of matches)) id text
 
+-- the first value of `id` names a layout
 abbrev pub HasLayout : ArgMatches → Text → Type 0
 HasLayout matches id = (layout : Layout) × SaysLayout (rows_of (found_of matches)) id layout
 
+-- the first value of `id` is a numeral of a 64-bit number
 abbrev pub HasNumber : ArgMatches → Text → Type 0
 HasNumber matches id = (text : Text) × (first_of id (rows_of (found_of matches)) ≡ Some text)
     × IsUnsignedIn 0 18446744073709551615 text
 
--- a number of 64 bits, if anything stands under the id
+-- if `id` has a value, the first is a numeral of a 64-bit number
 abbrev pub MayHaveNumber : ArgMatches → Text → Type 0
 MayHaveNumber matches id = (text : Text) → first_of id (rows_of (found_of matches)) ≡ Some text
     → IsUnsignedIn 0 18446744073709551615 text
 
--- the word names a command with an order file
+-- `word` names a command with an order file
 abbrev pub IsAudit : Text → Type 0
 IsAudit word = (names : Names) → form_of names word ≡ Some (audit_form word names)
 
--- the words behind that name ask for these values
+-- the arguments `words` after that name ask for these values
 abbrev pub AsksToAudit : Text → List Text → Layout → ℕ → Text → Text → Type 0
 AsksToAudit word words layout block file order_file =
     (names : Names) × AreLayoutNames names × AsksForAudit word names words layout block file order_file

@@ -1,4 +1,4 @@
-//! The forms that clap reads the words of each command by.
+//! The commands, as clap needs them to parse the arguments of each.
 ghost use Rattle.std.specs.Prelude.{◌≡◌, [], ◌∷◌, IfOk, codes, false};
 ghost use Rattle.clap.specs.Words.{app_of, rule_of};
 ghost use Rattle.pfs_words.specs.Commands.{flat_form, layout_rule, option_rule, block_rule, path_rule, number_rule};
@@ -17,7 +17,7 @@ fn flat_command<'a>(alloc: Global, name: &'a str) -> Command<'a>
     Command::new(alloc, name).no_binary_name(true)
 }
 
-// `--ID L`, where `names` are those of the layouts.
+// `--ID L`, required; `names` are the names of the layouts, one of which is L.
 fn layout_arg<'a>(alloc: Global, id: &'a str, names: &'a [&'a str]) -> Arg<'a>
     ensures rule { rule_of result ≡ layout_rule names.entry id.entry.now }
     ensures local { result.global ≡ false }
@@ -29,7 +29,7 @@ fn layout_arg<'a>(alloc: Global, id: &'a str, names: &'a [&'a str]) -> Arg<'a>
         .value_parser(names)
 }
 
-// `--ID N`.
+// `[--ID N]`, a number from `least` to `most`, without a default.
 fn option_arg<'a>(alloc: Global, id: &'a str, least: u64, most: u64) -> Arg<'a>
     ensures rule { rule_of result ≡ option_rule id.entry.now least most [] }
     ensures local { result.global ≡ false }
@@ -40,7 +40,7 @@ fn option_arg<'a>(alloc: Global, id: &'a str, least: u64, most: u64) -> Arg<'a>
         .value_parser(ValueParser::unsigned(least, most))
 }
 
-// The same, with the number that it has where it is left out.
+// The same with a default, the numeral `value`.
 fn default_arg<'a>(alloc: Global, id: &'a str, least: u64, most: u64, value: &'a str) -> Arg<'a>
     ensures rule { rule_of result ≡ option_rule id.entry.now least most (value.entry.now ∷ []) }
     ensures local { result.global ≡ false }
@@ -48,7 +48,7 @@ fn default_arg<'a>(alloc: Global, id: &'a str, least: u64, most: u64, value: &'a
     option_arg(alloc, id, least, most).default_value(value)
 }
 
-// `--block K`.
+// `[--block K]`, 1 by default.
 fn block_arg<'a>(alloc: Global) -> Arg<'a>
     ensures rule { rule_of result ≡ block_rule }
     ensures local { result.global ≡ false }
@@ -56,7 +56,7 @@ fn block_arg<'a>(alloc: Global) -> Arg<'a>
     default_arg(alloc, "block", 1, MOST_BLOCKS as u64, "1")
 }
 
-// `--ID`.
+// `[--ID]`, a flag.
 fn flag_arg<'a>(alloc: Global, id: &'a str) -> Arg<'a>
     ensures rule { rule_of result ≡ flag_rule id.entry.now }
     ensures local { result.global ≡ false }
@@ -64,7 +64,7 @@ fn flag_arg<'a>(alloc: Global, id: &'a str) -> Arg<'a>
     Arg::new(alloc, id).long(id).action(ArgAction::SetTrue)
 }
 
-// A path, by its place.
+// A required positional argument: a path.
 fn path_arg<'a>(alloc: Global, id: &'a str) -> Arg<'a>
     ensures rule { rule_of result ≡ path_rule id.entry.now }
     ensures local { result.global ≡ false }
@@ -72,7 +72,7 @@ fn path_arg<'a>(alloc: Global, id: &'a str) -> Arg<'a>
     Arg::new(alloc, id).action(ArgAction::Set).required(true)
 }
 
-// A number, by its place.
+// A required positional argument: a number from `least` to `most`.
 fn number_arg<'a>(alloc: Global, id: &'a str, least: u64, most: u64) -> Arg<'a>
     ensures rule { rule_of result ≡ number_rule id.entry.now least most }
     ensures local { result.global ≡ false }
@@ -83,7 +83,7 @@ fn number_arg<'a>(alloc: Global, id: &'a str, least: u64, most: u64) -> Arg<'a>
         .value_parser(ValueParser::unsigned(least, most))
 }
 
-// A command that begins with `--layout L [--block K]`.
+// A command whose first arguments are `--layout L [--block K]`.
 fn layout_command<'a>(
     alloc: Global,
     name: &'a str,
@@ -97,7 +97,8 @@ fn layout_command<'a>(
         .arg(block_arg(alloc))
 }
 
-/// The form of `value`, where `names` are those of the layouts.
+/// Returns the command `value`. For this and the functions below, `names` are the names of the layouts, and an
+/// error means that an allocation failed.
 pub(super) fn value_command<'a>(
     alloc: Global,
     names: &'a [&'a str],
@@ -107,7 +108,7 @@ pub(super) fn value_command<'a>(
     layout_command(alloc, "value", names)?.arg(path_arg(alloc, "file"))
 }
 
-// What stands before the flag of `solve`.
+// The command `solve` as far as its options with a number.
 fn search_command<'a>(alloc: Global, names: &'a [&'a str]) -> Result<Command<'a>, AllocError>
     ensures { IfOk result (λ command. app_of command ≡ flat_form (codes "solve")
         (layout_rule names.entry (codes "layout") ∷ block_rule ∷ rounds_rule ∷ take_rule
@@ -120,7 +121,7 @@ fn search_command<'a>(alloc: Global, names: &'a [&'a str]) -> Result<Command<'a>
         .arg(default_arg(alloc, "passes", 0, MOST_PASSES as u64, "0"))
 }
 
-/// The form of `solve`.
+/// Returns the command `solve`.
 pub(super) fn solve_command<'a>(
     alloc: Global,
     names: &'a [&'a str],
@@ -132,7 +133,7 @@ pub(super) fn solve_command<'a>(
         .arg(path_arg(alloc, "file"))
 }
 
-/// The form of a command with an order file, which has this name.
+/// Returns a command with an order file, which has this name.
 pub(super) fn audit_command<'a>(
     alloc: Global,
     name: &'a str,
@@ -145,7 +146,7 @@ pub(super) fn audit_command<'a>(
         .arg(path_arg(alloc, "order"))
 }
 
-/// The form of `convert`.
+/// Returns the command `convert`.
 pub(super) fn convert_command<'a>(
     alloc: Global,
     names: &'a [&'a str],
@@ -159,7 +160,7 @@ pub(super) fn convert_command<'a>(
         .arg(path_arg(alloc, "file"))
 }
 
-/// The form of `generate`.
+/// Returns the command `generate`.
 pub(super) fn generate_command<'a>(alloc: Global) -> Result<Command<'a>, AllocError>
     ensures { IfOk result (λ command. app_of command ≡ generate_form) }
 {

@@ -1,4 +1,4 @@
-//! The values that clap's reading of the words gives.
+//! The values of arguments, from clap's matches.
 ghost use Rattle.std.specs.Prelude.{◌≡◌, [], IfOk, false, true, map, option_map, string_bytes};
 ghost use Rattle.clap.specs.Words.{app_of, fault_of, first_of, found_of, is_simple_and_free, rows_of, takes};
 ghost use Rattle.pfs_words.specs.Jobs.{SaysFlag, SaysLayout, SaysMaybeNumber, SaysNumber, SaysText};
@@ -11,7 +11,8 @@ use clap::{ArgMatches, Command};
 use pfs_layout::Layout;
 use std::alloc::{AllocError, Global};
 
-/// Clap's reading of the words by a command's form.
+/// Has clap parse `words` as the arguments of a command. The error is `Memory` if an allocation fails, else
+/// `Usage`.
 pub(super) fn matches_for<'a>(
     command: Command<'a>,
     words: &'a [String],
@@ -25,7 +26,7 @@ pub(super) fn matches_for<'a>(
     Ok(command.try_get_matches_from(words)?)
 }
 
-// The first text of an argument, which is its only one here.
+// Returns the first value of an argument, if it has one. Here no argument has more than one.
 fn text_if<'a>(matches: &ArgMatches<'a>, id: &str) -> Option<&'a str>
     ensures { option_map (λ text. text.now) result
         ≡ first_of id.now (rows_of (found_of matches.now)) }
@@ -40,7 +41,7 @@ fn text_in<'a>(matches: &ArgMatches<'a>, id: &str) -> &'a str
     text_if(matches, id).unwrap()
 }
 
-/// The layout that an argument names.
+/// Returns the layout that an argument names.
 pub(super) fn layout_in(matches: &ArgMatches<'_>, id: &str) -> Layout
     requires { HasLayout matches.now id.now }
     ensures { SaysLayout (rows_of (found_of matches.now)) id.now result }
@@ -52,7 +53,7 @@ pub(super) fn layout_in(matches: &ArgMatches<'_>, id: &str) -> Layout
     }
 }
 
-/// The number of an argument.
+/// Returns the number that an argument states.
 pub(super) fn number_in(matches: &ArgMatches<'_>, id: &str) -> u64
     requires { HasNumber matches.now id.now }
     ensures { SaysNumber (rows_of (found_of matches.now)) id.now result }
@@ -60,7 +61,7 @@ pub(super) fn number_in(matches: &ArgMatches<'_>, id: &str) -> u64
     text_in(matches, id).parse().unwrap()
 }
 
-/// The number of an argument, where it has one.
+/// Returns the number that an argument states, or `None` if it has no value.
 pub(super) fn number_in_if(matches: &ArgMatches<'_>, id: &str) -> Option<usize>
     requires { MayHaveNumber matches.now id.now }
     ensures { SaysMaybeNumber (rows_of (found_of matches.now)) id.now result }
@@ -71,14 +72,14 @@ pub(super) fn number_in_if(matches: &ArgMatches<'_>, id: &str) -> Option<usize>
     }
 }
 
-/// Whether a flag is there.
+/// Returns whether a flag was used.
 pub(super) fn flag_in(matches: &ArgMatches<'_>, id: &str) -> bool
     ensures { SaysFlag (rows_of (found_of matches.now)) id.now result }
 {
     text_if(matches, id) == Some("true")
 }
 
-/// The path of an argument.
+/// Returns a copy of the path that an argument states, or an error if the allocation of the copy fails.
 pub(super) fn path_in(
     alloc: Global,
     matches: &ArgMatches<'_>,

@@ -11,7 +11,7 @@ use Rattle.pfs_words.proofs.planning.plan.Goals as goal
 is_other : {word name : Text} → (word ≡ name → ⊥) → bytes_eq word name ≡ false
 is_other {word} {name} other = false_from_ne_true _ (λ same. other ((bytes_eq-Decides word name).0 same))
 
--- a word that names no command
+-- a text that is not the name of a command has no form
 none_named : (names : Names) (word : Text) → (word ≡ codes "value" → ⊥) → (word ≡ codes "solve" → ⊥)
     → (word ≡ codes "check" → ⊥) → (word ≡ codes "table" → ⊥) → (word ≡ codes "convert" → ⊥)
     → (word ≡ codes "generate" → ⊥) → form_of names word ≡ None

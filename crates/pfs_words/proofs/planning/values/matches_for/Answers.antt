@@ -9,7 +9,7 @@ use Rattle.pfs_words.specs.declared.usage.UsageFault.{UsageFault}
 use Rattle.pfs_words.specs.declared.usage.UsageFault.TheVariants.{Memory, Usage}
 use Rattle.pfs_words.proofs.planning.values.matches_for.Goals as goal
 
--- an error is no usage fault where the words are taken
+-- if the form takes the arguments, an error is not a usage fault
 not_taken : (e : Error) (r : Result ArgMatches UsageFault) (taken : Bool)
     → IsErrAnd r (λ f. (kind_of e ≡ OutOfMemory → f ≡ Memory) × (kind_of e ≢ OutOfMemory → f ≡ Usage))
     → (taken ≡ true → kind_of e ≡ OutOfMemory) → r ≡ Err Usage → taken ≡ false
