@@ -1,4 +1,4 @@
--- The code's steps are those of what is read of the bytes behind a place.
+-- The steps of the code are those of reading the bytes from a place on.
 use Rattle.std.proofs.Common.{◌≡◌, ◌≢◌, ℕ, suc, ◌^◌, ◌+◌, ◌-◌, ◌<◌, ◌≤◌, List, [], ◌∷◌, ◌++◌, length, take, drop}
 use Rattle.std.proofs.Common.{get_or, refl, ap}
 use Rattle.std.proofs.Common.{arith, inl, inr, Option, Some}

@@ -1,4 +1,4 @@
--- How far a text can be completed: where a front ends, and where a piece is wanted behind a front.
+-- How far a text can be completed: where a prefix ends, and where a part must follow a prefix.
 use Rattle.std.proofs.Common.{◌≡◌, ℕ, ◌+◌, ◌-◌, ◌≤◌, inl, inr, List, [], ◌∷◌, ◌++◌, zero, suc, length, take, refl}
 use Rattle.std.proofs.Common.{arith}
 use Rattle.std.proofs.lemmas.Bool.{cases_lt}
@@ -7,14 +7,14 @@ use Rattle.std.proofs.Math.Seq.{take-append-add}
 use Rattle.pfs_order.specs.OrderFile.{IsFaultOf, CanBeCompleted}
 use Rattle.pfs_order.proofs.Scanning.{with_tail, with_tail-same}
 
--- some bytes, and others behind them, begin with the same byte
+-- some bytes, with and without others after them, begin with the same byte
 begins_so : (after rest : List ℕ) (n : ℕ) → 1 ≤ n → 1 ≤ length after
     → (other : List ℕ) × (take n after ++ rest ≡ with_tail after other)
 begins_so [] rest n h l = absurd (omega arith)
 begins_so (b ∷ after) rest zero h l = absurd (omega arith)
 begins_so (b ∷ after) rest (suc n) h l = (take n after ++ rest, refl)
 
--- a front that can be completed, but neither ends there nor goes on with the byte that stands behind it
+-- a prefix that can be completed, but neither is a text itself nor continues with the next byte
 pub fault_where_front_ends : (grammar : List ℕ → Type 0) (front after : List ℕ) → CanBeCompleted grammar front
     → ((other : List ℕ) → ¬ grammar (front ++ with_tail after other))
     → IsFaultOf grammar (front ++ after) (length front)

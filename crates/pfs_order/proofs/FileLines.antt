@@ -16,7 +16,7 @@ jobs_line order = with_line_end (spaced (map (λ job. job + 1) order))
 abbrev pub makespan_line : ℕ → List ℕ
 makespan_line makespan = named_number (codes "makespan") makespan
 
--- joined, they are its text
+-- the lines, joined, are the text of the file
 pub order_lines : (order : List ℕ) (count : ℕ) (machines : Option ℕ) (makespan : ℕ) → count ≡ length order
     → (first_line count machines ++ jobs_line order) ++ makespan_line makespan ≡ file_text order machines makespan
 unfolding order_text
@@ -24,7 +24,7 @@ order_lines order count machines makespan e =
     ap (λ n. (first_line n machines ++ jobs_line order) ++ makespan_line makespan)
     (e ∙ sym (length-map order (λ job. job + 1)))
 
--- together they are no longer than an order file may be
+-- together the lines are no longer than an order file may be
 pub lines_fit : (order : List ℕ) (count : ℕ) (machines : Option ℕ) (makespan : ℕ) → count ≡ length order
     → IsSize limits (length order) → IsSequence (length order) order → AreMachines machines → makespan < 10 ^ 18
     → length (first_line count machines) + length (jobs_line order) + length (makespan_line makespan)

@@ -68,7 +68,7 @@ version_reads : Scans (λ version text. text ≡ opening version) version_at
 unfolding version_at
 version_reads = then_reads (word_reads (codes "order")) (λ _. version_end_reads) (λ _ version s t w e. rw (w, e) refl)
 
--- what a first line states, and how
+-- the numbers that a first line states, and its text
 abbrev pub IsFirstLine : Spelling (ℕ × Option ℕ)
 IsFirstLine head text = IsHead head.0 head.1 × (text ≡ first_line head.0 head.1)
 
@@ -84,7 +84,7 @@ first_line_reads : Scans IsFirstLine first_line_at
 unfolding first_line_at
 first_line_reads = then_reads version_reads counts_read (λ version head s t o (h, e). (h, rw o e))
 
--- where a first line stands, it is read, whatever stands behind it
+-- a first line is read, with any bytes after it
 first_line_found : (n : ℕ) (machines : Option ℕ) → IsHead n machines → (other : List ℕ)
     → first_line_at (first_line n machines ++ other) ≡ Ok ((n, machines), other)
 unfolding first_line_at version_at version_end word_at byte_at
@@ -99,7 +99,7 @@ first_line_found n (Some m) h other =
 
 -- ---- the jobs
 
--- each with the byte behind it
+-- each job with the byte after it
 abbrev row : List ℕ → List ℕ
 row [] = []
 row (job ∷ jobs) = decimal job ++ job_end (length jobs) ∷ row jobs
@@ -172,7 +172,7 @@ lines_read = then_joined first_line_reads (λ head. then_joined (row_reads head.
       spelled = rw (f, l, m, text_parts, size, is_row) refl;
     })))
 
--- ---- a text is of the grammar, or has a fault of syntax
+-- ---- a text is of the grammar, or has a syntax fault
 
 text_read : {text jobs : List ℕ} {machines : Option ℕ} {makespan : ℕ} → HasText text jobs machines makespan
     → (other : List ℕ) → lines_at (text ++ other) ≡ Ok ((jobs, machines, makespan), other)
@@ -210,7 +210,7 @@ pub text_of_read : (text : List ℕ) (stated : List ℕ × Option ℕ × ℕ) �
     → HasText text stated.0 stated.1 stated.2
 text_of_read text stated = spells_read lines_read text stated
 
--- behind the last line stands nothing
+-- nothing follows the last line
 pub text_ends : (text more : List ℕ) (b : ℕ) → IsText text → ¬ IsText (text ++ b ∷ more)
 text_ends text more b (jobs, (machines, (makespan, h))) (others, (stated, (other, k))) =
     let same = same_read _ _ lines_at (text ++ b ∷ more) (text_read h (b ∷ more)) (text_alone k) in
@@ -220,7 +220,7 @@ pub more_fault : (text more : List ℕ) (b : ℕ) → IsText text → IsSyntaxFa
 more_fault text more b h =
     fault_where_front_ends IsText text (b ∷ more) ([], rw append-nil h) (λ other. text_ends text other b h)
 
--- what is read of a whole text, or its fault, where it is read no further
+-- what is read of a whole text; or its fault, if it can't be read to its end
 pub data TextRead (text : List ℕ) : Type 0 where
   read_whole : (jobs : List ℕ) (machines : Option ℕ) (makespan : ℕ) → HasText text jobs machines makespan
       → text_at text ≡ Ok ((jobs, machines, makespan), []) → TextRead text

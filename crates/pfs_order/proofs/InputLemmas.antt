@@ -1,4 +1,4 @@
--- What was read of an input, and what its judgement says of the whole.
+-- What was read of an input, and what the result says of the whole input.
 use Rattle.std.proofs.Common.{◌≡◌, ◌≢◌, ℕ, ◌+◌, ◌≤◌, List, ◌++◌, length, take, Option, Some, None, refl, ap, subst}
 use Rattle.std.proofs.Common.{Bool, true, arith, inl, inr}
 use Rattle.std.specs.Prelude.{IfSome, IfOk, IfErr, OnOk, Result, Ok, Err}
@@ -20,35 +20,35 @@ use Rattle.pfs_order.proofs.Published.OrderVerdicts.{one_refusal, not_both, one_
 
 -- ---- bytes that are read into a part of a buffer
 
--- the bytes before those that were written into a part, and some of these
+-- the bytes before a part, and some of those that were written into it
 take_put : (a k n : ℕ) (xs ys : List ℕ) → a ≤ length xs → n ≤ length ys
     → take (a + n) (put_mid a k xs ys) ≡ take a xs ++ take n ys
 take_put a k n xs ys h l =
     let front = take-append-add (take a xs) (ys ++ post_of a k xs) n in
     rw (length-take-le a xs h, take-append-le n ys (post_of a k xs) l) at front
 
--- some bytes were read behind others
+-- some bytes were read after others
 pub read_more : (old mid new : Option (List ℕ)) (a k n : ℕ) (xs ys : List ℕ) → a ≤ length xs → n ≤ length ys
     → Consumes old mid (take a xs) → Consumes mid new (take n ys) → Consumes old new (take (a + n) (put_mid a k xs ys))
 read_more old mid new a k n xs ys h l p q =
     rw (take_put a k n xs ys h l) (Consumes-trans old mid new (take a xs) (take n ys) p q)
 
--- there is room for them
+-- the buffer has room for them
 pub read_within : (a k n : ℕ) (xs ys : List ℕ) → a ≤ length xs → n ≤ length ys → a + n ≤ length (put_mid a k xs ys)
 read_within a k n xs ys h l =
     let rest : List ℕ = post_of a k xs in
     omega (arith, length-take-le a xs h, length-append (take a xs) (ys ++ rest), length-append ys rest)
 
--- what holds of each text that goes on so behind the bytes that were read holds of an input that is known
+-- a property of the bytes that were read with any rest after them is a property of a known input
 holds_of_known_input : (old new : Option (List ℕ)) (bytes : List ℕ) (P : List ℕ → Type 0) → Consumes old new bytes
     → ((rest : List ℕ) → new ≡ Some rest → P (bytes ++ rest)) → IfSome old P
 holds_of_known_input None new bytes P c h = tt
 holds_of_known_input (Some input) None bytes P c h = absurd c
 holds_of_known_input (Some input) (Some rest) bytes P c h = rw c (h rest refl)
 
--- ---- what is told of an input
+-- ---- what is reported of an input
 
--- what was read, and what is answered to it
+-- what was read, and the result for it
 pub data Told (old new : Option (List ℕ)) (answer : Result StatedOrder OrderFault) : Type 0 where
   whole : (bytes : List ℕ) → Consumes old new bytes → IsAtEnd new → length bytes ≤ LONGEST_ORDER_FILE
       → JudgesText bytes answer → Told old new answer
@@ -56,7 +56,7 @@ pub data Told (old new : Option (List ℕ)) (answer : Result StatedOrder OrderFa
       → Told old new answer
   stopped : FillsBelow (LONGEST_ORDER_FILE + 1) old new → answer ≡ Err Read → Told old new answer
 
--- what it says of the input
+-- what a result says of the input
 abbrev Says : Result StatedOrder OrderFault → List ℕ → Type 0
 Says (Ok file) input = IsOrderFile input file
 Says (Err fault) input = RefusesUnlessFailed input fault
@@ -89,7 +89,7 @@ refused : {old new : Option (List ℕ)} (answer : Result StatedOrder OrderFault)
 refused (Ok file) told = tt
 refused (Err fault) told = says told
 
--- no other answer is the right one
+-- only one result is right for an input
 one_answer : (input : List ℕ) (answer right : Result StatedOrder OrderFault) → Says answer input
     → OrderVerdict input right
     → IsUnlessFailed answer right
@@ -107,7 +107,7 @@ ended (Ok file) (long bytes c size is) = absurd (cc)
 ended (Ok file) (stopped f is) = absurd (cc)
 ended (Err fault) told = tt
 
--- how far a known input was read of which this front was read
+-- how far a known input was read, if this prefix of it was read
 reads_front : (old new : Option (List ℕ)) (fault : Option OrderFault) (front : List ℕ) → Consumes old new front
     → length front ≤ LONGEST_ORDER_FILE + 1 → (fault ≡ Some Read → length front ≤ LONGEST_ORDER_FILE)
     → (fault ≡ Some TooLong → length front ≡ LONGEST_ORDER_FILE + 1)
@@ -159,7 +159,7 @@ never_read bytes (Err fault) few (inl (memory, h)) is = absurd (cc)
 never_read bytes (Err Read) few (inr e) is = subst (OrderVerdict bytes) e (text_verdict bytes few)
 never_read bytes (Err fault) few (inr e) is = absurd (cc)
 
--- the clauses of read_order, where a failed read is told just where the device has failed
+-- the contract's clauses of `read_order`, if a failed read is reported exactly when the device has failed
 pub owed : {old new : Option (List ℕ)} {broken late late' : Bool} (answer : Result StatedOrder OrderFault)
     → Told old new answer → (answer ≡ Err Read → broken ≡ true) → (broken ≡ true → answer ≡ Err Read)
     → (answer ≡ Err Read → late' ≡ late) → record {

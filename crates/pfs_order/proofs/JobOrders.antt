@@ -1,4 +1,4 @@
--- The jobs of a text, taken one behind the other, are an order, or one is the first wrong one.
+-- The jobs of a text, read one after the other, are an order, or one is the first wrong one.
 use Rattle.std.proofs.Common.{◌≡◌, ℕ, ◌+◌, ◌-◌, ◌<◌, ◌≤◌, ◌⊎◌, inl, inr, List, [], ◌∷◌, ◌++◌, length, take, map, get_or}
 use Rattle.std.proofs.Common.{Contains, refl, ◌∙◌, ap, arith, eqb, false, drop}
 use Rattle.std.specs.Prelude.{Result, Ok, Err, nat_lt, ◌||◌}
@@ -88,7 +88,7 @@ numbered order = map (λ job. job + 1) order
 pub length-numbered : (order : List ℕ) → length (numbered order) ≡ length order
 length-numbered order = length-map order (λ (job : ℕ). job + 1)
 
--- with other numbers behind them
+-- the same, with other numbers after them
 module _ (size : ℕ) (order rest : List ℕ) (h : IsSequence size order) where
   abbrev all_numbers : List ℕ
   all_numbers = numbered order ++ rest
@@ -122,7 +122,7 @@ contains_next : (jobs : List ℕ) (job : ℕ) → Contains jobs job → Contains
 contains_next jobs job (k, within, at) =
     (k, omega (arith, length-numbered jobs), rw (get_or-map (λ j. j + 1) jobs k job (job + 1) within, at))
 
--- what is told of the numbers
+-- the verdict on the numbers
 abbrev pub JudgesJobs : List ℕ → Result Sequence OrderFault → Type 0
 JudgesJobs numbers (Ok seq) = IsSequence (length numbers) seq.jobs × (numbers ≡ numbered seq.jobs)
 JudgesJobs numbers (Err fault) = IsJobFault numbers fault

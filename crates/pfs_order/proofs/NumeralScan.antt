@@ -28,7 +28,7 @@ module _ (least most end : ℕ) (low : least ≤ 1) (some : least ≤ most) (hig
   abbrev IsInRange : ℕ → Type 0
   IsInRange n = (least ≤ n) × (n ≤ most)
 
-  -- a number that goes on by a byte is spelled so
+  -- a number that a byte continues is spelled with that byte
   goes_on : (number : Option ℕ) (b m : ℕ) → IfSome number IsInRange → longer least most number b ≡ Some m
       → IsInRange m × (decimal m ≡ numeral_of number ++ b ∷ [])
   unfolding longer with_digit
@@ -40,13 +40,13 @@ module _ (least most end : ℕ) (low : least ≤ 1) (some : least ≤ most) (hig
       let (within, front, last) : IsInRange m × (m / 10 ≡ suc n) × (48 + m % 10 ≡ b) = grind (arith, nat_tests) in
       (within, rw (front, last) at (decimal_step_wide m (omega (arith, front)) (omega (arith, within.1))))
 
-  -- and is read so
+  -- such a number is also read with that byte
   more_read : (number : Option ℕ) (b m : ℕ) (text : List ℕ) → 48 ≤ b → longer least most number b ≡ Some m
       → numeral_on least most end number (b ∷ text) ≡ numeral_on least most end (Some m) text
   unfolding numeral_on
   more_read number b m text digit e = rw (ne_eqb b end (omega arith), e) refl
 
-  -- a digit of a number goes on
+  -- a digit continues a number
   first_digit : (n : ℕ) → n < 10 → IsInRange n → longer least most None (48 + n) ≡ Some n
   unfolding longer with_digit
   first_digit n small within = grind (arith, nat_tests)
@@ -70,7 +70,7 @@ module _ (least most end : ℕ) (low : least ≤ 1) (some : least ≤ most) (hig
       ∙ more_read (Some (m / 10)) (48 + m % 10) m other (omega arith) digit)
       n (omega arith) within
 
-  -- with the byte that ends it, a number is read
+  -- a number is read with the byte that ends it
   pub number_ends : (n : ℕ) → IsInRange n → (other : List ℕ)
       → numeral_at least most end (decimal n ++ end ∷ other) ≡ Ok (n, other)
   unfolding numeral_on
@@ -81,7 +81,7 @@ module _ (least most end : ℕ) (low : least ≤ 1) (some : least ≤ most) (hig
   number_found n within =
       record { spelled = (within, refl); read = λ other. rw append_assoc (number_ends n within other) }
 
-  -- nothing goes on behind a front of a numeral
+  -- no byte continues a prefix of a numeral
   stuck_at : (number : Option ℕ) (after : List ℕ) → IfSome number IsInRange
       → ((other : List ℕ) → numeral_on least most end number (with_tail after other) ≡ Err (with_tail after other))
       → ScanVerdict (IsNumeral least most end) (numeral_at least most end) (numeral_of number ++ after)
@@ -90,7 +90,7 @@ module _ (least most end : ℕ) (low : least ≤ 1) (some : least ≤ most) (hig
   stuck_at (Some n) after h stops = stuck n (decimal n) (end ∷ []) after refl (number_found n h)
       (λ other. digits_read n h (with_tail after other) ∙ stops other)
 
-  -- what is read from a front of a numeral on
+  -- what is read after a prefix of a numeral
   verdict_from : (after : List ℕ) (number : Option ℕ) → IfSome number IsInRange
       → ScanVerdict (IsNumeral least most end) (numeral_at least most end) (numeral_of number ++ after)
   unfolding numeral_on

@@ -1,3 +1,3 @@
--- Lemmas that the proofs of crates above may cite.
+-- Lemmas that the proofs of dependent crates may cite.
 pub mod OrderVerdicts
 pub mod Sequences

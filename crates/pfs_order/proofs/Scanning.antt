@@ -1,16 +1,16 @@
--- What is read of a text is what its grammar says, piece by piece.
+-- What is read of a text is what its grammar says, part by part.
 use Rattle.std.proofs.Common.{◌≡◌, ℕ, List, [], ◌∷◌, ◌++◌, refl, ap, subst, inl, inr}
 use Rattle.std.specs.Prelude.{Ok, Err}
 use Rattle.std.proofs.lemmas.Bool.{cases_eq, eq-eqb, ne_eqb}
 use Rattle.std.proofs.lemmas.List.{append_assoc, append-nil}
 use Rattle.pfs_order.specs.Private.Reading.{Scan, ◌>>=◌, yields, byte_at, word_at}
 
--- the same first byte, if any, and other bytes behind it
+-- the same first byte, if any, followed by other bytes
 abbrev pub with_tail : List ℕ → List ℕ → List ℕ
 with_tail [] more = []
 with_tail (b ∷ text) more = b ∷ more
 
--- the bytes themselves are among these
+-- the bytes themselves are of this form
 pub with_tail-same : (after : List ℕ) → (more : List ℕ) × (with_tail after more ≡ after)
 with_tail-same [] = ([], refl)
 with_tail-same (b ∷ after) = (after, refl)
@@ -19,25 +19,24 @@ with_tail-same (b ∷ after) = (after, refl)
 abbrev pub Spelling : Type 0 → Type 1
 Spelling A = A → List ℕ → Type 0
 
--- the value is read where this spelling of it stands, whatever stands behind it
+-- the value is read from this spelling of it, with any bytes after it
 pub record Finds {A : Type 0} (L : Spelling A) (scan : Scan A) (a : A) (text : List ℕ) : Type 0 where
   pub spelled : L a text
   pub read : (other : List ℕ) → scan (text ++ other) ≡ Ok (a, other)
 
--- what stands at the start of a text: a spelling; or a front that some spelling has, while none goes on with
--- the byte behind it
+-- what a text begins with: a spelling; or a prefix of some spelling, while no spelling continues it with the next byte
 pub data ScanVerdict {A : Type 0} (L : Spelling A) (scan : Scan A) (text : List ℕ) : Type 0 where
   found : (a : A) (front rest : List ℕ) → text ≡ front ++ rest → Finds L scan a front → ScanVerdict L scan text
   stuck : (a : A) (front more after : List ℕ) → text ≡ front ++ after → Finds L scan a (front ++ more)
       → ((other : List ℕ) → scan (front ++ with_tail after other) ≡ Err (with_tail after other))
       → ScanVerdict L scan text
 
--- what is read is the spelling that stands there, and there is one
+-- what is read is the spelling at the start of the text, and at least one spelling exists
 pub record Scans {A : Type 0} (L : Spelling A) (scan : Scan A) : Type 0 where
   pub some : (a : A) × ((text : List ℕ) × Finds L scan a text)
   pub verdict : (text : List ℕ) → ScanVerdict L scan text
 
--- one piece, and then another, whose spellings are joined
+-- one part, and then another, whose spellings are joined
 module _ {A B : Type 0} {L : Spelling A} {M : A → Spelling B} {N : Spelling B} {scan : Scan A} {next : A → Scan B}
     (h : Scans L scan) (k : (a : A) → Scans (M a) (next a))
     (join : (a : A) (b : B) (s t : List ℕ) → L a s → M a b t → N b (s ++ t)) where
@@ -75,12 +74,12 @@ none_reads {A} {L} value l =
     let here : Finds L (yields value) value [] = record { spelled = l; read = λ other. refl } in
     record { some = (value, ([], here)); verdict = λ text. found value [] text refl here }
 
--- the second one's spellings are those that make one of the whole behind any of the first
+-- the spellings of the second part are those that give one of the whole after every spelling of the first
 pub then_joined : {A B : Type 0} {L : Spelling A} {N : Spelling B} {scan : Scan A} {next : A → Scan B} → Scans L scan
     → ((a : A) → Scans (λ b t. (s : List ℕ) → L a s → N b (s ++ t)) (next a)) → Scans N (scan >>= next)
 then_joined h k = then_reads h k (λ a b s t l m. m s l)
 
--- another value of what is read
+-- a value computed from what is read
 pub map_reads : {A B : Type 0} {L : Spelling A} {N : Spelling B} {scan : Scan A} (value : A → B) → Scans L scan
     → ((a : A) (text : List ℕ) → L a text → N (value a) text) → Scans N (scan >>= λ a. yields (value a))
 map_reads value h to = then_joined h (λ a. none_reads (value a) (λ s l. rw append-nil (to a s l)))
@@ -89,7 +88,7 @@ pub same_read : {A : Type 0} (one other : A × List ℕ) (scan : Scan A) (text :
     → scan text ≡ Ok other → one ≡ other
 same_read one other scan text e f = cc
 
--- what is read to the end is spelled there
+-- what is read to the end of a text is spelled by the text
 pub spells_read : {A : Type 0} {L : Spelling A} {scan : Scan A} → Scans L scan → (text : List ℕ) (a : A)
     → scan text ≡ Ok (a, []) → L a text
 spells_read {A} {L} {scan} h text a e = elim (h.verdict text) [

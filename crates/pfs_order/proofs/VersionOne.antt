@@ -9,7 +9,7 @@ use Rattle.pfs_order.specs.VersionOne.{IsVersionOne}
 use Rattle.pfs_order.proofs.FileLines.{jobs_line, makespan_line, order_lines}
 use Rattle.pfs_order.proofs.Published.OrderVerdicts.{written_file}
 
--- its lines are those of the text without machines
+-- the lines of version 1 are those of the text without machines
 version_one_lines : (order : List ℕ) (makespan : ℕ)
     → named_number (codes "order") (length order) ++ jobs_line order ++ makespan_line makespan
     ≡ file_text order None makespan

@@ -1,4 +1,4 @@
--- Laws of order files and of how other inputs are refused.
+-- Laws of order files and of how other inputs are rejected.
 use Rattle.std.specs.Prelude.{◌≡◌, ℕ, ◌<◌, ◌≤◌, ◌^◌, ◌↔◌, List, ◌∷◌, ◌++◌, length, take, ◌⊎◌, Option, None}
 use Rattle.pfs_base.specs.Limits.{limits}
 use Rattle.pfs_base.specs.declared.limits.TheConstants.{LONGEST_ORDER_FILE}
@@ -8,14 +8,14 @@ use Rattle.pfs_order.specs.OrderFile.{IsText, IsOrderFile, IsSyntaxFault, Refuse
 use Rattle.pfs_order.specs.Sequence.{StatedOrder, IsSequence, IsSize, AreMachines}
 use Rattle.pfs_order.specs.VersionOne.{IsVersionOne}
 
--- what is written of an order is its order file
+-- the text that is written for an order, a number of machines or none, and a makespan is their order file
 abbrev pub WrittenIsRead : Type 0
 WrittenIsRead = (order : List ℕ) (machines : Option ℕ) (makespan : ℕ) → IsSize limits (length order)
     → IsSequence (length order) order → AreMachines machines → makespan < 10 ^ 18
     → IsOrderFile (file_text order machines makespan)
     (record { order = order; machines = machines; makespan = makespan })
 
--- and no other text is
+-- no other text is their order file
 abbrev pub OnlyWritten : Type 0
 OnlyWritten = (input : List ℕ) (file : StatedOrder) → IsOrderFile input file
     → input ≡ file_text file.order file.machines file.makespan
@@ -25,33 +25,33 @@ abbrev pub OneOrderFile : Type 0
 OneOrderFile = (input : List ℕ) (one other : StatedOrder) → IsOrderFile input one → IsOrderFile input other
     → one ≡ other
 
--- an input is refused in at most one way
+-- an input is rejected in at most one way
 abbrev pub OneRefusal : Type 0
 OneRefusal = (input : List ℕ) (one other : OrderFault) → RefusesOrder input one → RefusesOrder input other → one ≡ other
 
--- no order file is refused
+-- no order file is rejected
 abbrev pub NoneIsBoth : Type 0
 NoneIsBoth = (input : List ℕ) (file : StatedOrder) (fault : OrderFault) → IsOrderFile input file
     → ¬ RefusesOrder input fault
 
--- every text of the grammar is within the limit
+-- every text of the grammar is within the limit of bytes
 abbrev pub TextsFit : Type 0
 TextsFit = (text : List ℕ) → IsText text → length text ≤ LONGEST_ORDER_FILE
 
--- a text of the grammar that is cut is refused where it ends
+-- a text of the grammar that is cut is rejected where it ends
 abbrev pub CutText : Type 0
 CutText = (text : List ℕ) (cut : ℕ) → IsText text → cut < length text → IsSyntaxFault (take cut text) cut
 
--- a text of the grammar with more behind it is refused where it ended
+-- a text of the grammar with more bytes after it is rejected where the text ends
 abbrev pub LongerText : Type 0
 LongerText = (text : List ℕ) (byte : ℕ) (more : List ℕ) → IsText text
     → IsSyntaxFault (text ++ byte ∷ more) (length text)
 
--- each input is a text of the grammar or has a fault of syntax
+-- each input is a text of the grammar or has a syntax fault
 abbrev pub TextOrFault : Type 0
 TextOrFault = (input : List ℕ) → IsText input ⊎ ((offset : ℕ) × IsSyntaxFault input offset)
 
--- each input is an order file or is refused; by the laws above, in one way
+-- each input is an order file or is rejected; by the laws above, in one way
 abbrev pub SomeVerdict : Type 0
 SomeVerdict = (input : List ℕ) → ((file : StatedOrder) × IsOrderFile input file)
     ⊎ ((fault : OrderFault) × RefusesOrder input fault)

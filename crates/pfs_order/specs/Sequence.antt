@@ -4,18 +4,18 @@ use Rattle.std.specs.List.{All, IsDistinct, range_with_len}
 use Rattle.pfs_base.specs.Limits.{Limits}
 use Rattle.pfs_base.specs.declared.limits.TheConstants.{MOST_MACHINES}
 
--- how many jobs there are, and which of them stand in the sequence, in order
+-- the number of all jobs, and those of them that are in the sequence, in order
 pub record Sequence : Type 0 where
   pub size : ℕ
   pub jobs : List ℕ
 
--- an order of all jobs, and the makespan that is stated for it; how many machines there are may be stated too
+-- what an order file states: an order of all jobs, a number of machines or none, and a makespan
 pub record StatedOrder : Type 0 where
   pub order : List ℕ
   pub machines : Option ℕ
   pub makespan : ℕ
 
--- where a number of machines is stated, so many are accepted
+-- if a number of machines is stated, it is at least 1 and within the limit
 abbrev pub AreMachines : Option ℕ → Type 0
 AreMachines machines = IfSome machines (λ m. (1 ≤ m) × (m ≤ MOST_MACHINES))
 
@@ -24,7 +24,7 @@ pub record IsSequence (size : ℕ) (jobs : List ℕ) : Type 0 where
   pub in_range : All (λ job. job < size) jobs
   pub distinct : IsDistinct nat_eq jobs
 
--- so many jobs are accepted
+-- the number of jobs is accepted: it is at least 1 and within the limit
 pub record IsSize (limits : Limits) (size : ℕ) : Type 0 where
   pub some : 1 ≤ size
   pub few : size ≤ limits.jobs

@@ -6,8 +6,8 @@ ghost use Rattle.pfs_order.specs.Sequence.{IsSequence, IsSize, AreMachines};
 use crate::order::Order;
 use std::marker::Model;
 
-/// An order, and the makespan that its file states for it, which need not be the right one. A file of
-/// version 2 states how many machines there are too.
+/// An order, and the makespan that its file states for it, which may be wrong. A file of version 2 also
+/// states the number of machines.
 #[derive(Drop)]
 pub struct OrderFile {
     order: Order,
@@ -46,12 +46,12 @@ impl OrderFile {
         ensures accepted { IsSize limits (length self.now.order) }
         ensures sequence { IsSequence (length self.now.order) self.now.order }
     {
-        // Called for what it ensures of every order.
+        // The proof needs what `len` ensures of every order.
         let _ = self.order.len();
         &self.order
     }
 
-    /// How many machines the file states; a file of version 1 states none.
+    /// The number of machines that the file states. It is `None` for a file of version 1.
     pub fn machines(&self) -> Option<usize>
         ensures value { result ≡ self.now.machines }
         ensures accepted { AreMachines result }
@@ -59,7 +59,7 @@ impl OrderFile {
         self.machines
     }
 
-    /// The makespan as the file states it.
+    /// The makespan that the file states, which may be wrong.
     pub fn makespan(&self) -> u64
         ensures value { result ≡ self.now.makespan }
         ensures within { result < 10 ^ 18 }

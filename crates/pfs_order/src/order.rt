@@ -9,7 +9,7 @@ use pfs_base::MOST_JOBS;
 use std::alloc::Global;
 use std::marker::Model;
 
-/// A sequence of all jobs, each once.
+/// A sequence that contains each job once.
 #[derive(Drop)]
 pub struct Order {
     seq: Seq,
@@ -26,7 +26,7 @@ impl Model for Order {
 }
 
 impl Order {
-    /// The jobs in the order of their numbers. It fails only where the memory for them is refused.
+    /// The jobs in the order of their numbers. The only error is `Memory`, if the allocation fails.
     #[tactic(auto, using(crate::proofs::Published::Sequences::all_jobs_steps))]
     pub fn identity(alloc: Global, size: usize) -> Result<Order, OrderFault>
         requires some { 1 ≤ size }
@@ -42,7 +42,8 @@ impl Order {
         Ok(Order { seq })
     }
 
-    /// A sequence of all jobs as an order. A sequence that lacks some comes back as it was.
+    /// Converts a sequence of all jobs to an order. A sequence that lacks some jobs is returned unchanged, as
+    /// the error.
     pub fn from_seq(seq: Seq) -> Result<Order, Seq>
         ensures full { IsOk result ↔ (length seq.jobs ≡ seq.size) }
         ensures ok { IfOk result (λ order. order ≡ seq.jobs) }
@@ -61,12 +62,12 @@ impl Order {
         ensures accepted { IsSize limits (length self.now) }
         ensures sequence { IsSequence (length self.now) self.now }
     {
-        // Called for what it ensures of every sequence.
+        // The proof needs what `len` ensures of every sequence.
         let _ = self.seq.len();
         &self.seq
     }
 
-    /// How many jobs there are.
+    /// The number of jobs.
     pub fn len(&self) -> usize
         ensures value { result ≡ length self.now }
         ensures accepted { IsSize limits (length self.now) }
@@ -84,7 +85,7 @@ impl Order {
         self.seq.at(place)
     }
 
-    /// Takes over the jobs of a sequence of all jobs, in place of its own order.
+    /// Replaces the order by a sequence of all jobs.
     pub fn copy_from(&mut self, other: &Seq)
         requires sizes { length self.old ≡ other.now.size }
         requires full { length other.now.jobs ≡ other.now.size }

@@ -19,13 +19,13 @@ use crate::seq::Seq;
 use pfs_base::{LONGEST_ORDER_FILE, MOST_JOBS, MOST_MACHINES, Source};
 use std::alloc::Global;
 
-/// Room for the longest order file and one byte more, by which a longer one is known.
+/// Room for the longest order file and one more byte, which shows that the input is longer.
 const ROOM: usize = LONGEST_ORDER_FILE + 1;
 
-/// The greatest number that a job numeral of nine digits writes.
+/// The greatest value of a job numeral, which has at most nine digits.
 const GREATEST_JOB: u64 = 999_999_999;
 
-/// The greatest number that a makespan numeral of eighteen digits writes.
+/// The greatest value of a makespan numeral, which has at most eighteen digits.
 const GREATEST_MAKESPAN: u64 = 999_999_999_999_999_999;
 
 // The versions of order files, which differ in their first lines.
@@ -35,8 +35,8 @@ enum Version {
     Two,
 }
 
-// What the first line states: how many jobs there are, and in version 2 how many machines. The text goes on
-// behind it at `end`.
+// What the first line states: the number of jobs and, in version 2, the number of machines. The text
+// continues after the line at `end`.
 #[derive(Clone, Copy)]
 struct Head {
     jobs: usize,
@@ -44,11 +44,13 @@ struct Head {
     end: usize,
 }
 
-/// Reads an order file of version 1 or 2 to the end of the input, of which nothing else may be left. While
-/// it reads, a failed read and byte `LONGEST_ORDER_FILE` + 1 are told as they come; then the syntax of the
-/// whole, then want of memory, and then the jobs from the left, at each place out of range before repeated.
-/// The bytes stand in its frame, and the one memory that it asks for is that of the order. A failed read is reported
-/// only where the source has not reported its end before.
+/// Reads an order file of version 1 or 2, which must be all that is left of the input.
+///
+/// A failed read, and byte `LONGEST_ORDER_FILE` + 1, are reported as they come. Then come a syntax fault of the
+/// whole text, failed memory allocation, and the first wrong job from the left; at each place, out of range is
+/// reported before repeated. A failed read is reported only if no earlier read reported the end of the source.
+///
+/// The bytes are kept on the stack. The only memory that is allocated is that of the order.
 pub fn read_order<R: Source>(alloc: Global, reader: &mut R) -> Result<OrderFile, OrderFault>
     requires { R.has_failed reader.old ≡ false }
     ensures accepted { IfOk result (λ file.
@@ -101,7 +103,7 @@ fn fill<R: Source>(reader: &mut R, buffer: &mut [u8]) -> Result<usize, OrderFaul
     Ok(filled)
 }
 
-// What a whole text states.
+// Parses a whole text as an order file.
 #[tactic(auto, unfolding(crate::specs::Private::Reading::read_text, crate::specs::Private::Reading::lines_at))]
 fn parse(alloc: Global, text: &[u8]) -> Result<OrderFile, OrderFault>
     ensures { JudgesText text.now result }
@@ -146,7 +148,7 @@ fn first_line(text: &[u8]) -> Result<Head, OrderFault>
     }
 }
 
-// The version that the first line begins with, and where its numbers begin.
+// The version by which the first line begins, and the offset where its numbers begin.
 #[tactic(auto, unfolding(crate::specs::Private::Reading::version_at, crate::specs::Private::Reading::version_end))]
 fn version_of(text: &[u8]) -> Result<(Version, usize), OrderFault>
     ensures { Gives text.now (λ r. r) result (version_at text.now) }
@@ -159,7 +161,7 @@ fn version_of(text: &[u8]) -> Result<(Version, usize), OrderFault>
     Ok((Version::Two, start))
 }
 
-// The numbers of the jobs, and where the line behind theirs begins.
+// Reads the numbers of the jobs into `numbers`, and returns the offset where the next line begins.
 #[tactic(auto, using(crate::proofs::CodeLemmas::job_steps))]
 fn jobs_line(text: &[u8], head: Head, numbers: &mut [u32]) -> Result<usize, OrderFault>
     requires start { head.end ≤ length text.now }
@@ -176,7 +178,7 @@ fn jobs_line(text: &[u8], head: Head, numbers: &mut [u32]) -> Result<usize, Orde
     Ok(at)
 }
 
-// The byte behind a job that so many follow.
+// The byte after a job, by how many jobs follow it.
 fn end_behind(more: usize) -> u8
     ensures { result ≡ job_end more }
 {
@@ -186,7 +188,7 @@ fn end_behind(more: usize) -> u8
     }
 }
 
-// The makespan in the last line, and where the text goes on behind it.
+// The makespan in the last line, and the offset after that line.
 #[tactic(auto, unfolding(crate::specs::Private::Reading::makespan_at))]
 fn makespan_line(text: &[u8], start: usize) -> Result<(u64, usize), OrderFault>
     requires { start ≤ length text.now }
@@ -197,7 +199,7 @@ fn makespan_line(text: &[u8], start: usize) -> Result<(u64, usize), OrderFault>
     numeral(text, at, 0, GREATEST_MAKESPAN, b'\n')
 }
 
-// The order of the jobs with these numbers.
+// The order of the jobs with these numbers, which count from 1.
 #[tactic(auto, using(crate::proofs::JobOrders::order_steps))]
 fn order_of(alloc: Global, numbers: &[u32]) -> Result<Order, OrderFault>
     requires some { 1 ≤ length numbers.now }
@@ -214,7 +216,7 @@ fn order_of(alloc: Global, numbers: &[u32]) -> Result<Order, OrderFault>
     }
 }
 
-// Puts a job, whose number counts from 1, behind those that stand in a sequence.
+// Adds a job, whose number counts from 1, at the end of a sequence.
 #[tactic(auto, using(crate::proofs::JobOrders::add_steps))]
 fn add_job(seq: &mut Seq, number: u32) -> Result<(), OrderFault>
     ensures ok { OnOk result (take_job seq.old number ≡ Ok seq.new) }

@@ -6,8 +6,8 @@ ghost use Rattle.pfs_order.specs.Private.Reading as reading;
 
 use crate::fault::OrderFault;
 
-/// Where a text goes on behind a word that stands at an offset. The fault tells the first byte that
-/// differs.
+/// The offset after a word that begins at an offset. The fault has the offset of the first byte that differs
+/// or is missing.
 #[tactic(auto, using(crate::proofs::CodeLemmas::word_steps), unfolding(crate::specs::Private::Reading::word_at))]
 pub(crate) fn word(text: &[u8], at: usize, word: &[u8]) -> Result<usize, OrderFault>
     requires { at ≤ length text.now }
@@ -23,8 +23,8 @@ pub(crate) fn word(text: &[u8], at: usize, word: &[u8]) -> Result<usize, OrderFa
     Ok(next)
 }
 
-/// The number of a numeral without leading zeros that stands at an offset, and where the text goes on
-/// behind the byte that ends the numeral. The number is from `least` to `most`.
+/// The value of a numeral without leading zeros that begins at an offset, and the offset after the byte
+/// `end`, which ends the numeral. The value is from `least` to `most`.
 #[tactic(auto, using(crate::proofs::CodeLemmas::numeral_steps), unfolding(crate::specs::Private::Reading::numeral_on))]
 pub(crate) fn numeral(
     text: &[u8],
@@ -52,14 +52,14 @@ pub(crate) fn numeral(
     Err(OrderFault::Syntax { offset: text.len() })
 }
 
-// The number that a byte ends, if it does.
+// The number, if this byte ends it.
 fn ended(number: Option<u64>, byte: u8, end: u8) -> Option<u64>
     ensures { result ≡ reading.ended number byte end }
 {
     if byte == end { number } else { None }
 }
 
-// The number with a digit more, if numerals from `least` to `most` go on so.
+// The number with one more digit, if the byte is a digit that continues a numeral from `least` to `most`.
 #[tactic(auto, using(crate::proofs::CodeLemmas::number_tests), unfolding(crate::specs::Private::Reading::longer))]
 fn longer(number: Option<u64>, byte: u8, least: u64, most: u64) -> Option<u64>
     requires { ForSome number (λ n. n < 10 ^ 18) }
@@ -74,7 +74,7 @@ fn longer(number: Option<u64>, byte: u8, least: u64, most: u64) -> Option<u64>
     }
 }
 
-// The number with a digit more, if numerals go on so: none does behind 0.
+// The number with one more digit, if the byte is a digit that continues a numeral: no digit follows 0.
 #[tactic(auto, using(crate::proofs::CodeLemmas::number_tests), unfolding(crate::specs::Private::Reading::with_digit))]
 fn with_digit(number: Option<u64>, byte: u8) -> Option<u64>
     requires { ForSome number (λ n. n < 10 ^ 18) }

@@ -9,8 +9,8 @@ use pfs_base::MOST_JOBS;
 use std::alloc::{AllocError, Global};
 use std::marker::Model;
 
-/// Distinct jobs below a size. Jobs and places count from 0. It reserves its memory when it is made, so
-/// no later call takes memory or fails.
+/// Distinct jobs below a size. Jobs and places count from 0. Memory for all jobs is allocated when the
+/// sequence is created, so no later call allocates memory or fails.
 #[derive(Drop)]
 pub struct Seq {
     size: usize,
@@ -34,8 +34,8 @@ impl Model for Seq {
 }
 
 impl Seq {
-    /// An empty sequence of jobs below a size, with room for all of them. It fails only where that room
-    /// is refused.
+    /// An empty sequence of jobs below a size, with memory for all of them. The only error is `Memory`, if
+    /// the allocation fails.
     pub fn new(alloc: Global, size: usize) -> Result<Seq, OrderFault>
         requires some { 1 ≤ size }
         requires few { size ≤ MOST_JOBS }
@@ -48,7 +48,7 @@ impl Seq {
         }
     }
 
-    /// Every job is below this number.
+    /// The size: every job is below this number.
     #[tactic(auto, using(crate::proofs::Published::Sequences::size_limit))]
     pub fn size(&self) -> usize
         ensures value { result ≡ self.now.size }
@@ -59,7 +59,7 @@ impl Seq {
         self.size
     }
 
-    /// How many jobs stand in the sequence.
+    /// The number of jobs in the sequence.
     #[tactic(auto, using(crate::proofs::Published::Sequences::size_limit))]
     pub fn len(&self) -> usize
         ensures value { result ≡ length self.now.jobs }
@@ -87,14 +87,14 @@ impl Seq {
         self.jobs.as_slice()
     }
 
-    /// Whether a job stands in the sequence. It looks at every place.
+    /// Whether the sequence contains a job. It is a linear search.
     pub fn has(&self, job: usize) -> bool
         ensures { IsTrue result ↔ Contains self.now.jobs job }
     {
         self.jobs.contains(&job)
     }
 
-    /// The place of a job that stands in the sequence. It looks at each place up to there.
+    /// The place of a job that the sequence contains. It is a linear search.
     pub fn place_of(&self, job: usize) -> usize
         requires { Contains self.now.jobs job }
         ensures within { result < length self.now.jobs }
@@ -106,7 +106,7 @@ impl Seq {
         }
     }
 
-    /// Puts a job at a place; the jobs from there on move back by one.
+    /// Inserts a job at a place; the jobs from that place on move back by one.
     pub fn insert_at(&mut self, place: usize, job: usize)
         requires place { place ≤ length self.old.jobs }
         requires in_range { job < self.old.size }
@@ -116,7 +116,7 @@ impl Seq {
         put_in_room(&mut self.jobs, place, job);
     }
 
-    /// Takes the job at a place; the jobs after it move up by one.
+    /// Removes the job at a place and returns it; the jobs after it move up by one.
     pub fn remove_at(&mut self, place: usize) -> usize
         requires { place < length self.old.jobs }
         ensures job { result ≡ slice_index self.old.jobs place }
@@ -125,19 +125,19 @@ impl Seq {
         self.jobs.remove(place)
     }
 
-    /// Takes over the jobs of another sequence, in place of its own.
+    /// Replaces the sequence's jobs by those of another sequence of the same size.
     #[tactic(auto, using(crate::proofs::Published::Sequences::size_limit))]
     pub fn copy_from(&mut self, other: &Seq)
         requires { self.old.size ≡ other.now.size }
         ensures { self.new ≡ other.now }
     {
-        // Read for what is known of the other sequence, as that its jobs have room here.
+        // The proof needs the invariant of the other sequence, which this read gives: its jobs have room here.
         let _size = other.size;
         copy_in_room(&mut self.jobs, &other.jobs);
     }
 }
 
-// Puts a job at a place of a list that has room.
+// Inserts a job at a place of a list that has room.
 fn put_in_room(jobs: &mut Vec<usize>, place: usize, job: usize)
     requires place { place ≤ vec_len jobs.old }
     requires room { vec_len jobs.old < vec_capacity jobs.old }
@@ -150,7 +150,7 @@ fn put_in_room(jobs: &mut Vec<usize>, place: usize, job: usize)
     }
 }
 
-// Makes a list that has room equal to another.
+// Makes a list equal to another one, for which it has room.
 fn copy_in_room(jobs: &mut Vec<usize>, others: &[usize])
     requires { length others.now ≤ vec_capacity jobs.old }
     ensures items { jobs.new.items ≡ others.now }

@@ -9,9 +9,9 @@ use crate::order::Order;
 use pfs_base::print::{put_entry, put_named, put_next};
 use pfs_base::{Sink, WriteFault, put};
 
-/// Writes the order file of an order and a makespan, in which jobs count from 1, and answers how many
-/// bytes it has. It is of version 2 where the number of machines is given, and of version 1 otherwise.
-/// Where a write fails, a front of the file went out.
+/// Writes the order file of an order and a makespan, in which jobs count from 1, and returns its number of
+/// bytes. The file is of version 2 if the number of machines is given, and of version 1 otherwise. If a write
+/// fails, a prefix of the file was sent, and the fault has the length of that prefix.
 pub fn write_order<W: Sink>(
     writer: &mut W,
     order: &Order,
@@ -29,7 +29,7 @@ pub fn write_order<W: Sink>(
     put_named(writer, b"makespan", makespan, sent)
 }
 
-// Writes the first line, of so many jobs and, where they are given, of so many machines.
+// Writes the first line: the number of jobs and, if it is given, the number of machines.
 fn put_first_line<W: Sink>(
     writer: &mut W,
     jobs: usize,
@@ -50,7 +50,7 @@ fn put_first_line<W: Sink>(
     }
 }
 
-// Writes the line of the jobs, whose numbers are from 1 on.
+// Writes the line of the jobs, whose numbers count from 1.
 fn put_jobs<W: Sink>(writer: &mut W, order: &Order, sent: u64) -> Result<u64, WriteFault>
     requires working { W.has_failed writer.old ≡ false }
     requires fits { sent + length (with_line_end (spaced (map (λ job. job + 1) order.now))) < 2 ^ 64 }

@@ -1,4 +1,4 @@
--- One input, one answer.
+-- One input, one verdict.
 use Rattle.std.proofs.Common.{◌≡◌, ℕ, ◌+◌, ◌-◌, ◌*◌, ◌<◌, ◌≤◌, ◌^◌, ◌⊎◌, inl, inr, List, [], ◌∷◌, ◌++◌}
 use Rattle.std.proofs.Common.{length, take, drop, map, get_or, refl, sym, ◌∙◌, ap, arith, lit≤, lit<, Option}
 use Rattle.std.proofs.Common.{Some, None}
@@ -26,7 +26,7 @@ use Rattle.pfs_order.proofs.Grammar.{text_is_read}
 use Rattle.pfs_order.proofs.JobOrders.{numbered, length-numbered, number_in_range, number_is_new, JudgesJobs}
 use Rattle.pfs_order.proofs.JobOrders.{jobs_judged}
 
--- ---- how long a text is
+-- ---- the length of a text
 
 length-decimal : (n : ℕ) → n < 10 ^ 18 → length (decimal n) ≤ 18
 length-decimal n h = length-decimal-le_wide 18 n (lit< tt) h (omega arith)
@@ -99,14 +99,14 @@ one_job_fault jobs (JobRange p) other f g = absurd g
 one_job_fault jobs (Repeated p) other f g = absurd g
 one_job_fault jobs one other f g = absurd f
 
--- ---- refusals
+-- ---- rejected inputs
 
 one_fault_of_jobs : (input : List ℕ) (one other : OrderFault) → HasJobFault input one → HasJobFault input other
     → one ≡ other
 one_fault_of_jobs input one other (jobs, (machines, (makespan, (h, f)))) (others, (stated, (number, (k, g)))) =
     one_job_fault jobs one other f (rw (one_text h k).0 g)
 
--- a text of the grammar is refused for its jobs alone
+-- a text of the grammar is rejected only for its jobs
 refused_jobs : (input : List ℕ) (fault : OrderFault) → IsText input → RefusesOrder input fault → HasJobFault input fault
 refused_jobs input (Syntax p) text h = absurd (h.1.no_text text)
 refused_jobs input (JobRange p) text h = h
@@ -114,7 +114,7 @@ refused_jobs input (Repeated p) text h = h
 refused_jobs input TooLong text h = let fits = text_fits input text in absurd (omega arith)
 refused_jobs input fault text h = absurd h
 
--- another input is refused for its length, or else where it can't be completed
+-- another input is rejected for its length, or else where it can't be completed
 refused_bytes : (input : List ℕ) (p : ℕ) (fault : OrderFault) → IsSyntaxFault input p → RefusesOrder input fault
     → fault ≡ (if nat_lt LONGEST_ORDER_FILE (length input) then TooLong else Syntax p)
 refused_bytes input p (Syntax q) f (few, g) =
@@ -220,7 +220,7 @@ text_verdict text few = of (text_is_read text)
         omega (arith, ap length whole, length-append front rest) in
         rw (e, offset) (few, f)
 
--- each input is an order file or is refused
+-- each input is an order file or is rejected
 pub some_verdict : (input : List ℕ)
     → ((file : StatedOrder) × IsOrderFile input file) ⊎ ((fault : OrderFault) × RefusesOrder input fault)
 some_verdict input = elim (cases_lt LONGEST_ORDER_FILE (length input)) [

@@ -50,7 +50,7 @@ IsSequence-rest size job jobs h = record {
   distinct = IsDistinct-tail eqb job jobs h.distinct;
 }
 
--- ---- a sequence in another order, with one job more or less
+-- ---- a sequence in another order, with one more or one fewer job
 
 pub IsSequence-permutation : (size : ℕ) (jobs others : List ℕ) → IsPermutation jobs others → IsSequence size jobs
     → IsSequence size others
@@ -65,7 +65,7 @@ IsSequence-insert size place job jobs small absent h =
     IsSequence-permutation size (job ∷ jobs) (insert jobs place job) (IsPermutation-insert jobs place job)
     (IsSequence-cons size job jobs small absent h)
 
--- a sequence with the job at a place before all others
+-- a sequence whose job at a place is moved to the front
 taken_first : (size place job : ℕ) (jobs : List ℕ) → place < length jobs → job ≡ get_or jobs place job
     → IsSequence size jobs → IsSequence size (job ∷ remove jobs place)
 taken_first size place job jobs within at =
@@ -76,7 +76,7 @@ pub IsSequence-remove : (size place job : ℕ) (jobs : List ℕ) → place < len
 IsSequence-remove size place job jobs within at h =
     IsSequence-rest size job (remove jobs place) (taken_first size place job jobs within at h)
 
--- a job that goes from before the others to a place among the last of them
+-- a first job that is moved to a place among the last ones
 pub IsSequence-moved : (size job place : ℕ) (rest jobs : List ℕ) → IsSequence size (job ∷ (rest ++ jobs))
     → IsSequence size (rest ++ insert jobs place job)
 IsSequence-moved size job place rest jobs =
@@ -87,16 +87,16 @@ IsSequence-moved size job place rest jobs =
     (IsPermutation-append_comm (job ∷ jobs) rest)
     (IsPermutation-append_right rest (job ∷ jobs) (insert jobs place job) (IsPermutation-insert jobs place job))))
 
--- ---- how many jobs there are
+-- ---- the number of jobs
 
--- at most as many as the size
+-- a sequence has at most `size` jobs
 pub length-le-size : (size : ℕ) (jobs : List ℕ) → IsSequence size jobs → length jobs ≤ size
 length-le-size size jobs h = length-le_from_distinct_below jobs size h.distinct
     (λ job among. All-contains (λ j. j < size) jobs job h.in_range (Contains-from_any eqb-true job jobs among))
 
 pub ruleset size_limit = (length-le-size)
 
--- and fewer, where a job is absent
+-- it has fewer if a job is absent
 pub length-lt-size : (size job : ℕ) (jobs : List ℕ) → job < size → (Contains jobs job → ⊥) → IsSequence size jobs
     → length jobs < size
 length-lt-size size job jobs small absent h =
@@ -108,7 +108,7 @@ cases_Contains jobs job = elim (cases_Bool (list_any (eqb job) jobs)) [
   | inr none ↦ inr (λ among. let found = list_any-from_Contains nat_eq_equiv job jobs among in absurd (cc))
 ]
 
--- each job stands in a sequence of all
+-- a full sequence contains each job
 pub Contains-all : (size job : ℕ) (jobs : List ℕ) → IsSequence size jobs → length jobs ≡ size → job < size
     → Contains jobs job
 Contains-all size job jobs h full small = elim (cases_Contains jobs job) [
@@ -136,9 +136,9 @@ absent-all_jobs n (k, within, at) =
 
 pub ruleset all_jobs_steps = (length-all_jobs, insert-all_jobs)
 
--- ---- a job that leaves and comes back
+-- ---- a job that is removed and inserted again
 
--- without a job that is absent, all are left
+-- without an absent job, all jobs are left
 others-absent : (job : ℕ) (jobs : List ℕ) → (Contains jobs job → ⊥) → filter (λ other. not (eqb other job)) jobs ≡ jobs
 others-absent job [] absent = refl
 others-absent job (first ∷ jobs) absent =
@@ -146,7 +146,7 @@ others-absent job (first ∷ jobs) absent =
     let rest = others-absent job jobs (λ h. absent (suc h.0, omega (arith, h.1), h.2)) in
     rw (apart, rest)
 
--- the others of a job are what is left where it is taken out of its place
+-- the jobs other than one are those that are left when it is removed
 pub others_are : (size place job : ℕ) (jobs : List ℕ) → IsSequence size jobs → place < length jobs
     → job ≡ get_or jobs place 0 → filter (λ other. not (eqb other job)) jobs ≡ remove jobs place
 others_are size place job [] h within at = absurd (omega arith)
@@ -159,14 +159,14 @@ others_are size (suc place) job (first ∷ jobs) h within at =
     let apart = ne_eqb first job (λ same. IsSequence-head size first jobs h (there same)) in
     rw (apart, others_are size place job jobs (IsSequence-rest size first jobs h) short at)
 
--- put back at its place, it is as before
+-- inserted again at its place, a job gives the sequence as before
 pub insert-remove : (place job : ℕ) (jobs : List ℕ) → place < length jobs → job ≡ get_or jobs place 0
     → insert (remove jobs place) place job ≡ jobs
 insert-remove place job [] within at = absurd (omega arith)
 insert-remove zero job (first ∷ jobs) within at = rw at
 insert-remove (suc place) job (first ∷ jobs) within at = rw (insert-remove place job jobs (omega arith) at)
 
--- taken out of its place, it stands nowhere
+-- a sequence does not contain a job that is removed from it
 pub absent-remove : (size place job : ℕ) (jobs : List ℕ) → IsSequence size jobs → place < length jobs
     → job ≡ get_or jobs place 0 → Contains (remove jobs place) job → ⊥
 absent-remove size place job jobs h within at =

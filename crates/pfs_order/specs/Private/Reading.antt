@@ -1,4 +1,4 @@
--- What an order file says, computed from its bytes from the left.
+-- What an order file states, computed from its bytes from left to right.
 use Rattle.std.specs.Prelude.{◌≡◌, ℕ, zero, suc, ◌+◌, ◌-◌, ◌*◌, ◌≤◌, ◌^◌, List, [], ◌∷◌, ◌++◌, length, drop}
 use Rattle.std.specs.Prelude.{slice_index}
 use Rattle.std.specs.Prelude.{codes, Option, Some, None, Result, Ok, Err, nat_lt, nat_le, nat_eq, ◌==◌, ◌&&◌, ◌||◌}
@@ -13,7 +13,7 @@ use Rattle.pfs_order.specs.declared.reading.Version.TheVariants.{One, Two}
 use Rattle.pfs_order.specs.Sequence.{Sequence, StatedOrder, AreMachines}
 use Rattle.pfs_order.specs.OrderFile.{IsText}
 
--- what is read at the start of a text, and the text behind it; or where the text doesn't go on so
+-- what is read at the start of a text, and the rest of the text; or the text from the first byte that doesn't fit
 abbrev pub Scan : Type 0 → Type 0
 Scan A = List ℕ → Result (A × List ℕ) (List ℕ)
 
@@ -39,7 +39,7 @@ unfoldable pub word_at : List ℕ → Scan (Unit {0})
 word_at [] = yields tt
 word_at (c ∷ word) = byte_at c >>= λ _. word_at word
 
--- a number with a digit more behind it; none stands behind 0
+-- the number with one more digit; no digit follows 0
 abbrev pub with_value : Option ℕ → ℕ → Option ℕ
 with_value None digit = Some digit
 with_value (Some zero) digit = None
@@ -56,7 +56,7 @@ if_within least most (Some n) = if nat_le least n && nat_le n most then Some n e
 unfoldable pub longer : ℕ → ℕ → Option ℕ → ℕ → Option ℕ
 longer least most number byte = if_within least most (with_digit number byte)
 
--- the number that a byte ends
+-- the number, if this byte ends it
 abbrev pub ended : Option ℕ → ℕ → ℕ → Option ℕ
 ended number byte end = if byte == end then number else None
 
@@ -64,7 +64,7 @@ abbrev pub or_else : {A : Type 0} → Option ℕ → (ℕ → A) → A → A
 or_else None some none = none
 or_else (Some n) some none = some n
 
--- the number of a numeral that has begun so, and that a byte ends
+-- the number of a numeral of which `number` has been read, up to the byte that ends it
 unfoldable pub numeral_on : ℕ → ℕ → ℕ → Option ℕ → Scan ℕ
 numeral_on least most end number [] = Err []
 numeral_on least most end number (byte ∷ text) = or_else (ended number byte end) (λ n. Ok (n, text))
@@ -75,7 +75,7 @@ numeral_at least most end = numeral_on least most end None
 
 -- ---- the lines
 
--- version 1 has a space behind its name
+-- version 1 has a space after its name, and version 2 a digit 2 and a space
 unfoldable pub version_end : Scan Version
 version_end text =
     if slice_index text 0 == 32 then Ok (One, drop 1 text) else (word_at (codes "2 ") >>= λ _. yields Two) text
@@ -91,7 +91,7 @@ counts_at Two =
 unfoldable pub first_line_at : Scan (ℕ × Option ℕ)
 first_line_at = version_at >>= counts_at
 
--- the byte behind a job that so many follow
+-- the byte after a job, by how many jobs follow it
 abbrev pub job_end : ℕ → ℕ
 job_end zero = 10
 job_end (suc more) = 32
@@ -142,40 +142,40 @@ judged text (Ok ((jobs, machines, makespan), rest)) =
     on_ok (λ seq. Ok (record { order = seq.jobs; machines = machines; makespan = makespan }))
     (take_jobs jobs (none_of (length jobs)))
 
--- what a text states, or why it is refused
+-- what a text states, or why it is rejected
 unfoldable pub read_text : List ℕ → Result StatedOrder OrderFault
 read_text text = judged text (text_at text)
 
--- ---- what functions give
+-- ---- what functions return
 
--- the fault tells the place where a text doesn't go on
+-- the fault has the offset of the first byte that doesn't fit
 pub record Stops {A : Type 0} (text : List ℕ) (fault : OrderFault) (read : Result (A × List ℕ) (List ℕ)) : Type 0 where
   pub offset : ℕ
   pub syntax : fault ≡ Syntax offset
   pub stops : read ≡ Err (drop offset text)
   pub within : offset ≤ length text
 
--- what a function returned, seen as a value and where the text goes on, is what is read
+-- what a function returned, viewed as a value and the offset where the text continues, is what is read
 abbrev pub Gives : {X A : Type 0} → List ℕ → (X → A × ℕ) → Result X OrderFault → Result (A × List ℕ) (List ℕ) → Type 0
 Gives text view (Ok x) read = (read ≡ Ok ((view x).0, drop (view x).1 text)) × ((view x).1 ≤ length text)
 Gives text view (Err fault) read = Stops text fault read
 
--- an order, or the fault of the first wrong job, unless memory is refused
+-- an order, or the fault of the first wrong job, unless memory allocation fails
 abbrev pub Orders : List ℕ → Result (List ℕ) OrderFault → Type 0
 Orders jobs (Ok order) = take_jobs jobs (none_of (length jobs)) ≡ Ok (record { size = length jobs; jobs = order })
 Orders jobs (Err fault) = (fault ≡ Memory) ⊎ (take_jobs jobs (none_of (length jobs)) ≡ Err fault)
 
--- the verdict on a text, unless memory is refused, which is asked for only for a text of the grammar
+-- the verdict on a text, unless memory allocation fails, which is tried only for a text of the grammar
 abbrev pub JudgesText : List ℕ → Result StatedOrder OrderFault → Type 0
 JudgesText text (Ok file) = read_text text ≡ Ok file
 JudgesText text (Err fault) = ((fault ≡ Memory) × IsText text) ⊎ (read_text text ≡ Err fault)
 
--- what a first line may state
+-- the numbers of jobs and machines that a first line may state
 pub record IsHead (count : ℕ) (machines : Option ℕ) : Type 0 where
   pub some : 1 ≤ count
   pub few : count ≤ MOST_JOBS
   pub stated : AreMachines machines
 
--- fewer bytes than there is room for were read
+-- fewer than `room` bytes were read
 abbrev pub FillsBelow : ℕ → Option (List ℕ) → Option (List ℕ) → Type 0
 FillsBelow room old new = (front : List ℕ) × ((length front < room) × Consumes old new front)

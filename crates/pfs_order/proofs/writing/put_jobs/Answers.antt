@@ -8,7 +8,7 @@ use Rattle.pfs_order.proofs.writing.put_jobs.Goals as goal
 abbrev numbers_of : List ℕ → List ℕ
 numbers_of order = map (λ job. job + 1) order
 
--- the line of the jobs goes on with the number of the job at a place
+-- the line of the jobs continues with the number of the job at a place
 line_goes_on : (order : List ℕ) (place job : ℕ) → place < length order → job ≡ get_or order place 0
     → GoesOn (with_line_end (spaced (numbers_of order))) (spaced (take place (numbers_of order)))
     (entry place (job + 1)) (spaced (take (place + 1) (numbers_of order)))
