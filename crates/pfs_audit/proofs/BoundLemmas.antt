@@ -35,7 +35,7 @@ least-range-le f (suc (suc n)) x small =
     ]
 
 module _ (weigh : ℕ → ℕ → ℕ) where
-  -- a path along a row
+  -- the times along a row are at most the head at their end
   row_le_head : (row machine : ℕ) → sum_by (weigh row) (range_with_len 0 (suc machine)) ≤ head weigh (suc row) machine
   row_le_head row zero = let step = head_step weigh row 0 in let one = sum_by-below-suc (weigh row) 0 in omega arith
   row_le_head row (suc machine) =
@@ -44,7 +44,7 @@ module _ (weigh : ℕ → ℕ → ℕ) where
       let more = sum_by-below-suc (weigh row) (suc machine) in
       omega arith
 
-  -- further along it
+  -- the head at a machine and the times further along its row
   pub head_along : (row machine many : ℕ) →
       head weigh (suc row) machine + sum_by (weigh row) (range_with_len (machine + 1) many)
       ≤ head weigh (suc row) (machine + many)
@@ -56,7 +56,7 @@ module _ (weigh : ℕ → ℕ → ℕ) where
       let more = rw e at (sum_by-range-suc (weigh row) (machine + 1) many) in
       rw (add-suc machine many) (omega arith)
 
-  -- down a machine
+  -- the head at a row and the times further down its machine
   pub head_down : (row machine many : ℕ) →
       head weigh row machine + sum_by (λ r. weigh r machine) (range_with_len row many) ≤ head weigh (row + many) machine
   head_down row machine zero = rw (add-zero row) (omega arith)
@@ -66,7 +66,7 @@ module _ (weigh : ℕ → ℕ → ℕ) where
       let more = sum_by-range-suc (λ r. weigh r machine) row many in
       rw (add-suc row many) (omega arith)
 
-  -- down a machine from the first row on, whose own operation is counted on both sides
+  -- the same from the first row on, whose operation is counted on both sides
   head_below : (machine rows : ℕ) →
       head weigh 1 machine + sum_by (λ r. weigh r machine) (range_with_len 0 (suc rows))
       ≤ head weigh (suc rows) machine + weigh 0 machine
@@ -77,7 +77,7 @@ module _ (weigh : ℕ → ℕ → ℕ) where
       let more = sum_by-below-suc (λ r. weigh r machine) (suc rows) in
       omega arith
 
-  -- a row, and then down the last machine
+  -- a path along a row and then down the last machine
   row_le_last : (row machines rows : ℕ) → row < rows
       → sum_by (weigh row) (range_with_len 0 machines) ≤ head weigh rows (machines - 1)
   row_le_last row zero rows small = omega arith
@@ -88,7 +88,7 @@ module _ (weigh : ℕ → ℕ → ℕ) where
       let down = rw all at (head_down (suc row) machine (rows - suc row)) in
       rw last (omega arith)
 
-  -- the first row up to a machine, all rows on it, and the last row from it on
+  -- a path along the first row to a machine, down all rows on it, and along the last row from it
   machine_le_last : (machine machines row : ℕ) → machine < machines →
       sum_by (weigh 0) (range_with_len 0 machine) + sum_by (λ r. weigh r machine) (range_with_len 0 (suc row))
       + sum_by (weigh row) (range_with_len (machine + 1) (machines - (machine + 1)))

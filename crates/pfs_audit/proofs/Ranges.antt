@@ -1,4 +1,4 @@
--- Sums, the greatest and the least over numbers that follow one another, one number more at a time.
+-- Sums, greatest and least numbers over consecutive numbers, with one more number at a time.
 use Rattle.std.proofs.Common.{◌≡◌, ℕ, zero, suc, ◌+◌, ◌*◌, ◌≤◌, max, min, List, [], ◌∷◌, map, length, take}
 use Rattle.std.proofs.Common.{drop, get_or, refl, ap, ◌∙◌, add-one, inl, inr, arith}
 use Rattle.std.specs.List.{sum, sum_by, range_with_len}
@@ -37,7 +37,7 @@ least-range-more f (suc n) some =
     ap least (map-range_with_len_more f 0 (suc n) (suc n) (omega arith))
     ∙ fold-append min (f 0) (map f (range_with_len 1 n)) (f (suc n) ∷ [])
 
--- a part of a list, added up place by place
+-- the sum of a part of a list, place by place
 sum-take-drop : (xs : List ℕ) (at n : ℕ)
     → sum (take n (drop at xs)) ≡ sum_by (λ i. get_or xs (at + i) 0) (range_with_len 0 n)
 sum-take-drop xs at zero = refl

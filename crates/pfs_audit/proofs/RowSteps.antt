@@ -1,10 +1,10 @@
--- A loop that writes a row from its start on.
+-- A loop that writes a row, place by place.
 use Rattle.std.proofs.Common.{◌≡◌, ◌≢◌, ℕ, ◌+◌, ◌<◌, ◌≤◌, List, length, get_or, set, ap, ◌∙◌, inl, inr, arith}
 use Rattle.std.proofs.lemmas.Bool.{cases_eq}
 use Rattle.std.proofs.lemmas.List.{get_or-set_same, get_or-set_other}
 
 module _ {X : Type 0} (number : X → ℕ) (items : List X) (at : ℕ) (x : X) (within : at < length items) where
-  -- what stands before `at` and what is written there
+  -- the entries before `at` and the one that is written at it
   pub written_more : (f : ℕ → ℕ) → ((k : ℕ) (d : X) → k < at → number (get_or items k d) ≡ f k) → number x ≡ f at
       → (k : ℕ) (d : X) → k < at + 1 → number (get_or (set items at x) k d) ≡ f k
   written_more f before here k d below = elim (cases_eq k at) [
@@ -12,7 +12,7 @@ module _ {X : Type 0} (number : X → ℕ) (items : List X) (at : ℕ) (x : X) (
     | inr other ↦ ap number (get_or-set_other items at k x d other) ∙ before k d (omega arith)
   ]
 
-  -- what stands after it stays
+  -- the entries after it are unchanged
   pub written_rest : (f : ℕ → ℕ) (size : ℕ) → ((k : ℕ) (d : X) → at ≤ k → k < size → number (get_or items k d) ≡ f k)
       → (k : ℕ) (d : X) → at + 1 ≤ k → k < size → number (get_or (set items at x) k d) ≡ f k
   written_rest f size after k d above lt =

@@ -1,4 +1,4 @@
--- A table that grows entry by entry, row by row.
+-- A table that is filled entry by entry, row by row.
 use Rattle.std.proofs.Common.{◌≡◌, ℕ, ◌+◌, ◌-◌, ◌*◌, ◌<◌, ◌≤◌, List, [], ◌∷◌, ◌++◌, length, get_or, ◌∙◌, inl}
 use Rattle.std.proofs.Common.{ap, inr, length-append, arith}
 use Rattle.std.proofs.lemmas.Bool.{cases_eq}
@@ -8,7 +8,7 @@ use Rattle.std.proofs.Math.Seq.{get_or-append_seam}
 use Rattle.std.proofs.lemmas.Nat.{row_fits}
 use Rattle.pfs_audit.specs.Private.Rows.{AreRows}
 
--- so many rows are whole, and the next has values of so many machines
+-- the first `row` rows are complete, and the next has the values of the first `machine` machines
 pub record AreEntered (value : ℕ → ℕ → ℕ) (machines row machine : ℕ) (items : List ℕ) : Type 0 where
   pub size : length items ≡ row * machines + machine
   pub earlier : (r i : ℕ) → r < row → i < machines → get_or items (r * machines + i) 0 ≡ value r i

@@ -1,4 +1,4 @@
--- The least schedule, and that none ends before the makespan.
+-- The least schedule, and that no feasible schedule ends before the makespan.
 use Rattle.std.proofs.Common.{◌≡◌, ℕ, zero, suc, ◌+◌, ◌-◌, ◌<◌, ◌≤◌, max, List, [], ◌∷◌, length, add-one}
 use Rattle.std.proofs.Common.{arith}
 use Rattle.pfs_base.specs.FlowShop.{FlowShop}

@@ -1,4 +1,4 @@
--- The sums of the first jobs: one job more, and machine by machine.
+-- The sums of the first jobs, with one more job and machine by machine.
 use Rattle.std.proofs.Common.{◌≡◌, ◌≢◌, ℕ, zero, suc, ◌+◌, ◌-◌, ◌*◌, ◌<◌, ◌≤◌, min, List, [], ◌∷◌, map, length, get_or}
 use Rattle.std.proofs.Common.{replicate, set, ap, ◌∙◌, add-one, inl, inr, arith}
 use Rattle.std.specs.List.{sum_by, range_with_len, fold}
@@ -53,7 +53,7 @@ time_on-le shop within from (suc many) job =
     let here = time_of-le shop within job (from + many) in
     omega arith
 
--- of some jobs the least is that of the definition
+-- for at least one job, the least time is that of the definition
 pub least_among-is : (shop : FlowShop) → IsWithin limits shop → (jobs from many : ℕ) → 1 ≤ jobs → many ≤ MOST_MACHINES
     → least_among shop jobs from many ≡ least (map (time_on shop from many) (range_with_len 0 jobs))
 least_among-is shop within zero from many some few = absurd (omega arith)
@@ -72,7 +72,7 @@ sum_by-parts f n (suc more) =
     let part = sum_by-range-suc f n more in
     rw (add-suc n more) (omega arith)
 
--- the time of a job through a machine, and after it
+-- the times of a job up to a machine, and after it
 pub time_on-parts : (shop : FlowShop) (job machine : ℕ) → machine < shop.machines
     → time_on shop 0 shop.machines job
     ≡ time_on shop 0 (machine + 1) job + time_on shop (machine + 1) (shop.machines - (machine + 1)) job
@@ -80,14 +80,14 @@ time_on-parts shop job machine within =
     let e : machine + 1 + (shop.machines - (machine + 1)) ≡ shop.machines = omega arith in
     rw e at (sum_by-parts (time_of shop job) (machine + 1) (shop.machines - (machine + 1)))
 
--- one number, many times
+-- a list that repeats one number
 pub all_same : (machines many x : ℕ) → machines ≤ many → AreOf (λ _. x) machines (replicate many x)
 all_same machines many x few = record {
   every = omega (arith, length-replicate many x);
   values = λ machine small. get_or-replicate many machine x 0 (omega arith);
 }
 
--- the numbers before a machine have one job more than those from it on
+-- before `machine`, the numbers include one more job than from it on
 pub record HavePartly (value : ℕ → ℕ → ℕ) (machines job machine : ℕ) (numbers : List ℕ) : Type 0 where
   pub every : machines ≤ length numbers
   pub done : (k : ℕ) → k < machine → get_or numbers k 0 ≡ value (job + 1) k

@@ -49,7 +49,7 @@ last_is_makespan shop order some =
     least_end-is shop order (length order - 1) (shop.machines - 1)
     ∙ ap (λ rows. head (operation shop order) rows (shop.machines - 1)) e ∙ sym (makespan_is shop order)
 
--- an entry of a table of so many rows
+-- an entry in the first rows of a table
 pub entry_at : (value : ℕ → ℕ → ℕ) (machines rows width many : ℕ) (items : List ℕ)
     → AreRows value machines rows items → width ≡ machines → many ≤ rows
     → (row machine : ℕ) → row < many → machine < machines → get_or items (row * width + machine) 0 ≡ value row machine

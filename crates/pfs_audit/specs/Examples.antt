@@ -2,7 +2,7 @@
 use Rattle.std.specs.Prelude.{ℕ, List, [], ◌∷◌, Option}
 use Rattle.pfs_order.specs.Sequence.{StatedOrder}
 
--- an order, and the machines and the makespan that are stated for it
+-- an order file: an order, the machines that are stated for it or none, and the stated makespan
 abbrev pub stated : List ℕ → Option ℕ → ℕ → StatedOrder
 stated order machines makespan = record { order = order; machines = machines; makespan = makespan }
 

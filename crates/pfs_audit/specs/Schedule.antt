@@ -18,7 +18,7 @@ pub record IsFeasible (shop : FlowShop) (order : List ℕ) (starts : Starts) : T
   pub one_job : (row machine : ℕ) → row + 1 < length order → machine < shop.machines
       → end_of shop order starts row machine ≤ starts (row + 1) machine
 
--- no feasible schedule starts an operation earlier
+-- a feasible schedule such that no feasible schedule starts an operation earlier
 pub record IsLeastSchedule (shop : FlowShop) (order : List ℕ) (starts : Starts) : Type 0 where
   pub feasible : IsFeasible shop order starts
   pub least : (others : Starts) → IsFeasible shop order others
@@ -34,11 +34,11 @@ abbrev pub NoneEndsBefore : FlowShop → List ℕ → ℕ → Type 0
 NoneEndsBefore shop order time =
     (starts : Starts) (by : ℕ) → IsFeasible shop order starts → EndsBy shop order starts by → time ≤ by
 
--- the heaviest path to an operation
+-- when an operation ends in the least schedule: the weight of the heaviest path to it
 abbrev pub least_end : FlowShop → List ℕ → ℕ → ℕ → ℕ
 least_end shop order row machine = heaviest (operation shop order) 0 0 row machine
 
--- the same without the operation itself
+-- when it starts: the same without the operation's own time
 abbrev pub least_start : FlowShop → List ℕ → ℕ → ℕ → ℕ
 least_start shop order row machine = least_end shop order row machine - operation shop order row machine
 
@@ -48,7 +48,7 @@ LeastScheduleLaw = (shop : FlowShop) (order : List ℕ)
     → IsLeastSchedule shop order (least_start shop order)
     × EndsBy shop order (least_start shop order) (makespan shop order)
 
--- two least schedules start each operation at one time
+-- two least schedules start each operation at the same time
 abbrev pub OneLeastSchedule : Type 0
 OneLeastSchedule = (shop : FlowShop) (order : List ℕ) (one other : Starts)
     → IsLeastSchedule shop order one → IsLeastSchedule shop order other
@@ -70,11 +70,11 @@ pub record Timing : Type 0 where
 abbrev pub start_in : Timing → Starts
 start_in timing row machine = slice_index timing.starts (row * timing.machines + machine)
 
--- and when it ends
+-- when the operation at a row and a machine ends by a time table
 abbrev pub end_in : Timing → ℕ → ℕ → ℕ
 end_in timing row machine = slice_index timing.ends (row * timing.machines + machine)
 
--- each operation ends its time after its start
+-- each operation ends its own time after its start
 abbrev pub EndsInTime : FlowShop → List ℕ → Timing → Type 0
 EndsInTime shop order timing = (row machine : ℕ) → row < length order → machine < shop.machines
     → end_in timing row machine ≡ end_of shop order (start_in timing) row machine
@@ -83,7 +83,7 @@ EndsInTime shop order timing = (row machine : ℕ) → row < length order → ma
 abbrev pub last_end : Timing → ℕ
 last_end timing = end_in timing (length timing.jobs - 1) (timing.machines - 1)
 
--- a time table has an operation, and a start and an end of each
+-- a time table has at least one operation, and a start and an end of each
 pub record IsWhole (timing : Timing) : Type 0 where
   pub some_row : 1 ≤ length timing.jobs
   pub some_machine : 1 ≤ timing.machines

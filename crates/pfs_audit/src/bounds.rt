@@ -1,17 +1,17 @@
-//! A bound below the makespan of every order.
+//! A lower bound of the makespan of every order.
 ghost use Rattle.std.specs.Prelude.{◌≡◌, ℕ, ◌+◌, ◌*◌, ◌<◌, ◌≤◌};
 ghost use Rattle.pfs_audit.specs.Bound.{greatest_machine_bound, bound_of, IsLowerBound};
 ghost use Rattle.pfs_audit.specs.Private.Sums.{AreSumsOf};
 
 use pfs_base::{Instance, LONGEST_TIME, MOST_MACHINES, Shop};
 
-// No job takes longer on all of its machines.
+// No job has a greater total time.
 const LONGEST_TOTAL: u64 = LONGEST_TIME as u64 * MOST_MACHINES as u64;
 
-// What the jobs of an instance take together, machine by machine.
+// Sums and least times of the jobs of an instance, machine by machine.
 #[derive(Drop)]
 struct Sums {
-    // The greatest total of a job.
+    // The greatest total time of a job.
     longest: u64,
     // The least time of a job before each machine.
     before: [u64; MOST_MACHINES],
@@ -21,10 +21,10 @@ struct Sums {
     after: [u64; MOST_MACHINES],
 }
 
-/// A length of time that no order of the jobs can go below (Taillard 1993). It is the greater of the
-/// greatest total of a job and, over all machines, the greatest sum of the least time of a job before the
-/// machine, the times of all jobs on it and the least time of a job after it. It goes through the times
-/// twice, and asks for no memory.
+/// A lower bound of the makespan of every order of all jobs (Taillard 1993), in the instance's own unit of
+/// time. It is the greater of two numbers: the greatest total time of a job; and, over all machines, the
+/// greatest sum of the least time of a job before the machine, the times of all jobs on it, and the least
+/// time of a job after it. It reads the times twice and allocates no memory.
 pub fn bound(instance: &Instance) -> u64
     ensures value { result ≡ bound_of instance.now.shop }
     ensures low { IsLowerBound instance.now.shop result }
@@ -33,7 +33,7 @@ pub fn bound(instance: &Instance) -> u64
     sums.longest.max(longest_machine(instance, &sums))
 }
 
-// The greatest bound of a machine.
+// The greatest of the machines' bounds.
 fn longest_machine(instance: &Instance, sums: &Sums) -> u64
     requires { AreSumsOf instance.now.shop instance.now.shop.jobs sums.now }
     ensures { result ≡ greatest_machine_bound instance.now.shop }
@@ -61,7 +61,7 @@ fn sums_of(instance: &Instance) -> Sums
     sums
 }
 
-// Adds a job to the sums of those before it.
+// Adds a job to the sums of the jobs before it.
 fn add_job(instance: &Instance, job: usize, sums: &mut Sums)
     requires job { job < instance.now.shop.jobs }
     requires sums { AreSumsOf instance.now.shop job sums.old }

@@ -1,4 +1,4 @@
-//! What the definitions say of some shops.
+//! What the definitions say of some small instances.
 ghost use Rattle.std.specs.Prelude.{◌≡◌, [], ◌∷◌, Some, None};
 ghost use Rattle.pfs_base.specs.Paths.{makespan};
 ghost use Rattle.pfs_audit.specs.Bound.{bound_of};
@@ -24,7 +24,7 @@ pub fn schedule()
     ensures ends { table_of (least_end three_jobs (1 ∷ 0 ∷ 2 ∷ [])) ≡ 2 ∷ 7 ∷ 5 ∷ 9 ∷ 9 ∷ 10 ∷ [] }
 {}
 
-/// Verdicts of each kind.
+/// Verdicts of each kind, and which of two faults is reported.
 pub fn verdicts()
     ensures shortest { verdict_on three_jobs (stated (1 ∷ 0 ∷ 2 ∷ []) None 10) ≡ Verdict.Valid 10 10 }
     ensures longer { verdict_on three_jobs (stated (0 ∷ 1 ∷ 2 ∷ []) None 11) ≡ Verdict.Valid 11 10 }

@@ -1,11 +1,11 @@
-//! Why an audit could not be made.
+//! Errors of audits.
 
 use thiserror::Error;
 
-/// Why an audit could not be made.
+/// Why an audit failed.
 #[derive(Clone, Copy, Debug, PartialEq, Eq, Error)]
 pub enum AuditFault {
-    /// Memory was refused.
+    /// Memory allocation failed.
     #[error("Memory")]
     Memory,
 }

@@ -1,4 +1,4 @@
-//! Laws about the definitions alone.
+//! Laws of the definitions alone: each function's contract is one of them.
 ghost use Rattle.pfs_audit.specs.Bound.{BoundLaw};
 ghost use Rattle.pfs_audit.specs.Schedule.{LeastScheduleLaw, NoneEndsEarlier, OneLeastSchedule};
 
@@ -12,7 +12,7 @@ pub fn least_schedule()
     ensures { LeastScheduleLaw }
 {}
 
-/// There is only one least schedule.
+/// An order has only one least schedule.
 pub fn one_least_schedule()
     ensures { OneLeastSchedule }
 {}

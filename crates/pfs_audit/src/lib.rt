@@ -1,5 +1,4 @@
-//! Audits of orders: the makespan, a bound below every makespan, the time table, and the verdict on an order
-//! file.
+//! Audits of orders: the makespan, a lower bound of every makespan, the time table, and the verdict on an order file.
 #![tactic(auto)]
 
 mod bounds;

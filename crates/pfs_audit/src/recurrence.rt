@@ -7,9 +7,11 @@ use pfs_base::{Bench, Length};
 use pfs_order::Seq;
 use std::alloc::Global;
 
-/// The makespan of a sequence: when its last job leaves the last machine, if each operation starts as
-/// early as it can. It computes one row of ends after the other, and counts a cell for each job and
-/// machine. It asks for the memory of one row, before it counts any.
+/// The makespan of a sequence: when its last job leaves the last machine, if each operation starts as early
+/// as possible, and 0 for no jobs. Completion times are computed row by row by the usual recurrence, and one
+/// cell is counted for each job and machine.
+///
+/// Memory for one row is allocated before any cell is counted; the only error is that this allocation fails.
 #[inline(always)]
 pub fn makespan<B: Bench>(alloc: Global, bench: &mut B, seq: &Seq) -> Result<B::Span, AuditFault>
     requires sizes { seq.now.size ≡ (B.shop bench.old).jobs }

@@ -12,8 +12,8 @@ use pfs_order::Order;
 use std::alloc::{AllocError, Global};
 use std::marker::Model;
 
-/// When each operation of an order starts and ends, each as early as it can. Rows, which are places of
-/// the order, and machines count from 0.
+/// When each operation of an order starts and ends, if each starts as early as possible. Rows, which are the
+/// places of the order, and machines count from 0. Times are in the instance's own unit.
 #[derive(Drop)]
 pub struct TimeTable {
     machines: usize,
@@ -43,7 +43,7 @@ impl Model for TimeTable {
 }
 
 impl TimeTable {
-    /// How many rows there are: one for each job.
+    /// The number of rows: one for each job.
     pub fn rows(&self) -> usize
         ensures value { result ≡ length self.now.jobs }
         ensures whole { IsWhole self.now }
@@ -51,7 +51,7 @@ impl TimeTable {
         self.jobs.len()
     }
 
-    /// How many machines there are.
+    /// The number of machines.
     pub fn machines(&self) -> usize
         ensures value { result ≡ self.now.machines }
         ensures whole { IsWhole self.now }
@@ -101,7 +101,7 @@ impl TimeTable {
         &self.ends
     }
 
-    /// When the last job ends on the last machine.
+    /// When the last job ends on the last machine, which is the order's makespan.
     pub fn makespan(&self) -> u64
         ensures { result ≡ last_end self.now }
     {
@@ -109,8 +109,8 @@ impl TimeTable {
     }
 }
 
-/// The time table of an order: the least schedule. It asks for the memory of the table before it fills any
-/// of it.
+/// The time table of an order, which is its least schedule. All memory is allocated before any time is
+/// computed; the only error is that an allocation fails.
 pub fn table(alloc: Global, instance: &Instance, order: &Order) -> Result<TimeTable, AuditFault>
     requires { length order.now ≡ instance.now.shop.jobs }
     ensures jobs { IfOk result (λ table. table.jobs ≡ order.now) }
@@ -137,7 +137,7 @@ pub fn table(alloc: Global, instance: &Instance, order: &Order) -> Result<TimeTa
     })
 }
 
-// The jobs of an order.
+// A copy of the jobs of an order.
 fn copy_of(alloc: Global, order: &Order) -> Result<Vec<usize>, AuditFault>
     ensures { IfOk result (λ jobs. jobs.items ≡ order.now) }
 {
@@ -151,7 +151,7 @@ fn copy_of(alloc: Global, order: &Order) -> Result<Vec<usize>, AuditFault>
     Ok(jobs)
 }
 
-// An empty list with room for so many times.
+// An empty list with room for `many` times.
 fn room_for(alloc: Global, many: usize) -> Result<Vec<u64>, AuditFault>
     ensures empty { IfOk result (λ times. times.items ≡ []) }
     ensures room { IfOk result (λ times. vec_capacity times ≡ many) }
@@ -162,7 +162,7 @@ fn room_for(alloc: Global, many: usize) -> Result<Vec<u64>, AuditFault>
     }
 }
 
-// Adds the starts and the ends of one row more, for which there is room.
+// Adds the starts and the ends of the next row, for which there is room.
 fn add_row(
     instance: &Instance,
     order: &Order,

@@ -11,10 +11,10 @@ use pfs_base::{Bench, Instance};
 use pfs_order::OrderFile;
 use std::alloc::Global;
 
-/// What an order file is worth for an instance.
+/// The result of checking an order file against an instance.
 #[derive(Clone, Copy, Debug, PartialEq, Eq)]
 pub enum Verdict {
-    /// The stated makespan is the order's. Where it equals the bound no order is shorter.
+    /// The stated makespan is the order's. If it equals the bound, no order has a smaller makespan.
     Valid { makespan: u64, bound: u64 },
     /// The order has another number of jobs than the instance.
     WrongSize { order: usize, jobs: usize },
@@ -24,9 +24,9 @@ pub enum Verdict {
     WrongMakespan { stated: u64, computed: u64 },
 }
 
-/// Judges an order file: first the size of its order, then the number of machines where it states one, then
-/// the makespan that it states. It asks for the memory of `makespan`, and for none where the size or the
-/// number of machines is wrong.
+/// Checks an order file: first the size of its order, then the number of machines if the file states one,
+/// then the makespan that it states. Memory is allocated only by `makespan`, after both sizes were found
+/// right; the only error is that this allocation fails.
 pub fn check(alloc: Global, instance: &Instance, file: &OrderFile) -> Result<Verdict, AuditFault>
     ensures verdict { IfOk result (λ verdict. verdict ≡ verdict_on instance.now.shop file.now) }
     ensures shortest { IfOk result (λ verdict. (most : ℕ) → verdict ≡ Verdict.Valid most most

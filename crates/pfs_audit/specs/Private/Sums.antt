@@ -1,4 +1,4 @@
--- What the first jobs of a shop take together, machine by machine. Jobs and machines count from 0.
+-- Sums and least times of the first jobs of a flow shop, machine by machine. Jobs and machines count from 0.
 use Rattle.std.specs.Prelude.{◌≡◌, ℕ, ◌+◌, ◌-◌, ◌<◌, ◌≤◌, min, List, length, map, fold, slice_index, sum_by}
 use Rattle.pfs_base.specs.FlowShop.{FlowShop, time_of, total_of}
 use Rattle.pfs_base.specs.Paths.{greatest}
@@ -7,12 +7,12 @@ use Rattle.pfs_audit.specs.Bound.{time_on}
 use Rattle.pfs_audit.specs.declared.bounds.Sums.{Sums}
 use Rattle.pfs_audit.specs.declared.bounds.TheConstants.{LONGEST_TOTAL}
 
--- the least time that one of the first jobs takes on so many machines from one on; that of none is the
--- longest total
+-- the least time that one of the first jobs takes on `many` machines, beginning with `from`, but at most the
+-- longest total; for no jobs, the longest total
 abbrev pub least_among : FlowShop → ℕ → ℕ → ℕ → ℕ
 least_among shop jobs from many = fold min LONGEST_TOTAL (map (time_on shop from many) (all_jobs jobs))
 
--- the times of the first jobs on a machine, added up
+-- the sum of the times of the first jobs on a machine
 abbrev pub load_among : FlowShop → ℕ → ℕ → ℕ
 load_among shop jobs machine = sum_by (λ job. time_of shop job machine) (all_jobs jobs)
 

@@ -31,7 +31,7 @@ starts_at c =
           omega arith
     ]
 
--- and ends its time later
+-- and it ends its own time later
 ends_at : (c : After-from)
     → c.max-start.result + c.from.result
     ≡ least_end c.args.instance.now.shop c.args.order.now c.args.row c.loop-machine.machine
