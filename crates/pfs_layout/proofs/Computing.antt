@@ -1,4 +1,4 @@
--- Every definition that an example computes with, under one name.
+-- All definitions that the examples compute with, under one name.
 use Rattle.std.specs.Fmt.{digits}
 use Rattle.pfs_layout.proofs.Words.{lines, ended_parts, open_part, numbers, ended_numbers, due_row, due, stated_size}
 use Rattle.pfs_layout.proofs.Words.{due_at, are_due, canonical_text, seed_after, generated, stand_after, stand}

@@ -1,4 +1,4 @@
--- What a file and a fault are, against where lines lead and what is computed.
+-- What files and faults are, compared with the state that lines lead to and with what is computed.
 pub mod DueLemmas
 pub mod EndLemmas
 pub mod FileLemmas

@@ -8,33 +8,33 @@ use Rattle.pfs_layout.specs.Generator.{prime, drawn_time}
 use Rattle.pfs_layout.specs.Laws.{SeedsStay, GeneratedWithin}
 use Rattle.pfs_layout.proofs.Tables.{length-table, same_table, all_table}
 
--- so many draws, and then so many more
+-- `draws` draws, and then `more` draws
 pub seed_after-add : (more draws seed : ℕ) → seed_after (more + draws) seed ≡ seed_after more (seed_after draws seed)
 unfolding seed_after
 seed_after-add zero draws seed = grind arith
 seed_after-add (suc more) draws seed =
     let next : suc more + draws ≡ suc (more + draws) = omega arith in rw (next, seed_after-add more draws seed)
 
--- a time that was set
+-- the time that was set
 pub with_time-same : (shop : FlowShop) (job machine time : ℕ) → length shop.times ≡ shop.jobs * shop.machines
     → job < shop.jobs → machine < shop.machines → time_of (with_time shop job machine time) job machine ≡ time
 with_time-same shop job machine time all j m =
     grind (arith, rows, get_or-set_same shop.times (job * shop.machines + machine) time 0)
 
--- and the others
+-- the other times
 pub with_time-other : (shop : FlowShop) (job machine time other at : ℕ) → machine < shop.machines → at < shop.machines
     → (other ≡ job → at ≢ machine) → time_of (with_time shop job machine time) other at ≡ time_of shop other at
 with_time-other shop job machine time other at m n differ =
     grind (arith, get_or-set_other {A = ℕ}, same_from_place other at job machine shop.machines n m)
 
--- the problem has so many jobs and machines, a time of each job on each machine, and these notes
+-- the problem has this many jobs and machines, a time of each job on each machine, and these notes
 pub record IsOf (jobs machines : ℕ) (notes : Notes) (now : Problem) : Type 0 where
   pub same_jobs : now.shop.jobs ≡ jobs
   pub same_machines : now.shop.machines ≡ machines
   pub every_time : length now.shop.times ≡ jobs * machines
   pub same_notes : now.notes ≡ notes
 
--- so many jobs' times on a machine are drawn, the last by this seed, and the other machines' times are as before
+-- the times of `jobs` jobs on a machine are drawn, the last by this seed, and the times on other machines are as before
 pub record DrawnSoFar (first : ℕ) (before : Problem) (machine jobs seed : ℕ) (now : Problem) : Type 0 where
   pub last : seed ≡ seed_after jobs first
   pub below : seed < prime
@@ -59,7 +59,7 @@ drawn_more first before machine jobs seed now h j m =
       others = λ job other n differ. grind (arith, h.same, h.others, with_time-other);
     }
 
--- the times on so many machines are drawn, the last by this seed
+-- the times on `done` machines are drawn, the last by this seed
 pub record DrawnMachines (jobs machines first done seed : ℕ) (now : Problem) : Type 0 where
   pub last : seed ≡ seed_after (done * jobs) first
   pub below : seed < prime

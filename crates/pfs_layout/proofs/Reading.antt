@@ -1,4 +1,4 @@
--- The reader: what its steps do to its fields, and what they say of the bytes.
+-- The reader: how its steps change its fields, and what the fields mean for the bytes.
 pub mod ByteSteps
 pub mod HeldLemmas
 pub mod LineSteps

@@ -1,4 +1,4 @@
--- Lists of rows of one width, by row and column.
+-- Lists made of rows of one width, by row and column.
 use Rattle.pfs_layout.proofs.Words.{◌≡◌, ℕ, zero, suc, ◌+◌, ◌*◌, ◌/◌, ◌%◌, ◌<◌, List, length, get_or, map, flat_map}
 use Rattle.pfs_layout.proofs.Words.{sym, ◌∙◌, arith, All, length-append, elements, same_number_lists, All-from_get_or}
 use Rattle.pfs_layout.proofs.Words.{get_or-map-range_with_len, length-map-range_with_len, below, flat_map_more}
@@ -14,7 +14,7 @@ module _ (f : ℕ → List ℕ) (w : ℕ) (each : (i : ℕ) → length (f i) ≡
   rows_at n r c d h l =
       let parts = flat_map_from f r n h in grind (arith, elements, parts.1, each, length-rows)
 
--- k is row r and column c of rows of this width
+-- the entry k is in this row and this column, in rows of this width
 pub record IsAt (k rows width : ℕ) : Type 0 where
   pub row : ℕ
   pub column : ℕ
@@ -33,7 +33,7 @@ at_row k rows w h =
       is = omega arith;
     }
 
--- what a function gives at each row and column
+-- the values of a function at each row and column
 abbrev pub table : (ℕ → ℕ → ℕ) → ℕ → ℕ → List ℕ
 table f rows width = flat_map (λ row. map (λ column. f row column) (below width)) (below rows)
 

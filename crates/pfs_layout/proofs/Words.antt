@@ -1,5 +1,5 @@
--- The words of this crate's proofs: names of std, of pfs_base and of the crate's own definitions that several files
--- of lemmas speak with, and two lemmas on options.
+-- The vocabulary of this crate's proofs: the names of std, of pfs_base and of the crate's own definitions that
+-- several files of lemmas use, and two lemmas on options.
 pub use Rattle.std.proofs.Common.{◌%◌, ◌&&◌, ◌*◌, ◌+◌, ◌++◌, ◌-◌, ◌/◌, ◌<◌, ◌==◌, Bool, List, None, Option, Some, []}
 pub use Rattle.std.proofs.Common.{add-one, ap, arith, codes, count_by, drop, false, flat_map, get_or, if◌then◌else◌}
 pub use Rattle.std.proofs.Common.{inl, inr, length, lit≤, map, min, mul-le-mul, nat_le, not, refl, rules, subst, suc}

@@ -1,4 +1,4 @@
--- Taillard's generator of instances: products modulo a prime.
+-- Taillard's generator of instances (1993): its seeds are products modulo a prime.
 use Rattle.std.specs.Prelude.{ℕ, zero, suc, ◌+◌, ◌*◌, ◌/◌, ◌%◌, ◌<◌}
 use Rattle.pfs_base.specs.Problem.{Problem}
 use Rattle.pfs_layout.specs.Block.{problem_of, sized}
@@ -6,10 +6,11 @@ use Rattle.pfs_layout.specs.Block.{problem_of, sized}
 abbrev pub prime : ℕ
 prime = 2147483647
 
+-- a seed is from 1 to 2147483646
 abbrev pub IsSeed : ℕ → Type 0
 IsSeed seed = (0 < seed) × (seed < prime)
 
--- the seed after so many draws
+-- the seed after this many draws
 unfoldable pub seed_after : ℕ → ℕ → ℕ
 seed_after zero seed = seed
 seed_after (suc draws) seed = 16807 * seed_after draws seed % prime
@@ -18,7 +19,7 @@ seed_after (suc draws) seed = 16807 * seed_after draws seed % prime
 abbrev pub drawn_time : ℕ → ℕ
 drawn_time seed = 1 + seed * 99 / prime
 
--- machine by machine, and within a machine job by job; the first seed itself gives no time
+-- the times are drawn machine by machine, and within a machine job by job; the first seed itself gives no time
 unfoldable pub generated : ℕ → ℕ → ℕ → Problem
 unfolding seed_after
 generated jobs machines seed = problem_of (sized jobs machines seed 0 0)

@@ -1,2 +1,2 @@
--- What only contracts of private functions and proofs speak of: no promise to users rests on it.
+-- Definitions for contracts of private functions and for proofs: no promise to users depends on them.
 pub mod Step

@@ -1,4 +1,4 @@
-//! The blocks that a reader has read, and what a byte behind the last line does to them.
+//! The blocks that a reader has read, and what one more byte changes in them.
 ghost use Rattle.std.specs.Prelude.{◌≡◌, ◌≢◌, ◌+◌, ◌-◌, ◌*◌, ◌<◌, ◌≤◌, true, false, ◌==◌, ℕ, List, length, replicate};
 ghost use Rattle.std.specs.Prelude.{Some, None, IfOk, IfErr, OnOk, OnErr, IfSome, option_map, is_some, if◌then◌else◌};
 ghost use Rattle.pfs_layout.specs.Block.{is_within_limits, problem_of};
@@ -22,22 +22,22 @@ use std::alloc::Global;
 pub enum Phase {
     /// The next block is sought.
     Seeking,
-    /// A block is begun, and the line of its last number isn't ended.
+    /// A block has begun, and the line of its last number has not ended.
     Body,
     /// The wanted block has ended.
     Done,
-    /// The input was refused.
+    /// The input was rejected.
     Refused(LayoutFault),
 }
 
-/// How many of a piece's bytes a reader used, from its front, and whether its block has ended.
+/// How many bytes of a piece a reader has used, from its start, and whether the wanted block has ended.
 #[derive(Clone, Copy, Debug, PartialEq, Eq)]
 pub struct Progress {
     pub used: usize,
     pub done: bool,
 }
 
-/// What a reader holds beside the last line.
+/// What a reader keeps, apart from the line that is being read.
 #[derive(Drop)]
 pub struct Blocks {
     pub layout: Layout,
@@ -45,19 +45,19 @@ pub struct Blocks {
     pub wanted: usize,
     /// How many blocks are complete.
     pub complete: usize,
-    /// The number of the line, from 1.
+    /// The number of the line that is being read, from 1.
     pub line: usize,
     pub phase: Phase,
     pub size_line: SizeLine,
     pub body: Body,
-    /// The instance of the wanted block, from the end of its size line on. Times that weren't read are 0.
+    /// The instance of the wanted block, from the end of its size line on. Times that were not read yet are 0.
     pub instance: Option<Instance>,
-    /// How many of its times were read.
+    /// How many times of this instance were read.
     pub held: usize,
 }
 
 impl Blocks {
-    /// Nothing was read, and the block of this number, counted from 1, is wanted.
+    /// A reader's blocks before the first byte. The wanted block is the one with this number, counted from 1.
     pub fn new(layout: Layout, wanted: usize) -> Blocks
         ensures layout { result.layout ≡ layout }
         ensures wanted { result.wanted ≡ wanted }
@@ -83,7 +83,7 @@ impl Blocks {
         }
     }
 
-    /// Refuses the input: the fault is told from now on, and no byte is wanted.
+    /// Rejects the input: from now on this fault is returned, and no further byte is used.
     #[cold]
     #[inline(never)]
     pub fn refuse(&mut self, fault: LayoutFault)
@@ -92,7 +92,7 @@ impl Blocks {
         self.phase = Phase::Refused(fault);
     }
 
-    /// Whether a further byte is wanted.
+    /// Whether the reader needs more bytes.
     pub fn is_live(&self) -> bool
         ensures { result ≡ live_test self.now.phase }
     {
@@ -102,7 +102,7 @@ impl Blocks {
         }
     }
 
-    // A time is after_byte, and kept if its block is the wanted one.
+    // Counts a time that passed its check, and stores it if its block is the wanted one.
     fn count_time(&mut self, time: u32)
         requires can { CanCount self.old }
         requires some { self.old.body.judged < self.old.body.due }
@@ -116,7 +116,7 @@ impl Blocks {
         self.body = self.body.after_time(self.layout);
     }
 
-    // The number is one of a body.
+    // Checks a number of a body against what is due: counts it, or rejects the input.
     fn judge_body(&mut self, value: u64, first: usize)
         requires { CanCount self.old }
         ensures { self.new ≡ body_judged self.old value first }
@@ -130,7 +130,7 @@ impl Blocks {
         }
     }
 
-    // The number stands outside a body.
+    // Records a number outside a body, if a block is sought: its line may be a size line.
     #[inline(never)]
     #[tactic(auto, unfolding(crate::specs::Private::Step::number_ended))]
     fn end_other_number(&mut self, value: u64, first: usize)
@@ -144,7 +144,7 @@ impl Blocks {
         }
     }
 
-    // A blank, a line end or the end of the input ends a number.
+    // Ends a number, at a blank, a line end or the end of the input.
     #[inline(always)]
     #[tactic(auto, unfolding(crate::specs::Private::Step::number_ended))]
     fn end_number(&mut self, number: Number)
@@ -158,7 +158,7 @@ impl Blocks {
         }
     }
 
-    // A line end or the end of the input ends the unfinished number, if there is one.
+    // Ends the unfinished number, if there is one, at a line end or at the end of the input.
     #[inline(always)]
     fn end_last_number(&mut self, number: Option<Number>)
         requires { IsReady self.old }
@@ -169,7 +169,7 @@ impl Blocks {
         }
     }
 
-    // Memory for the block, if it is the wanted one.
+    // Allocates the instance of a block that begins, if it is the wanted one.
     #[tactic(auto, using(crate::proofs::Reading::NumberSteps::idle_problem))]
     fn instance_for(&self, alloc: Global, stated: Size) -> Result<Option<Instance>, BaseFault>
         requires complete { self.now.complete < self.now.wanted }
@@ -189,8 +189,8 @@ impl Blocks {
         }
     }
 
-    // A number line ends while a block is sought: its numbers begin a block, or are refused. It is this
-    // line, counted from 1.
+    // Ends a number line while a block is sought: its numbers begin a block, or the input is rejected. The line
+    // counts from 1.
     #[inline(never)]
     fn end_size_line(&mut self, alloc: Global, size_line: SizeLine, line: usize)
         requires sought { self.old.phase ≡ Phase.Seeking }
@@ -217,7 +217,7 @@ impl Blocks {
         }
     }
 
-    // Byte 10 ends the line.
+    // Ends the line, at byte 10.
     #[tactic(auto, unfolding(crate::specs::Private::Step::line_ended))]
     fn end_line(&mut self, alloc: Global, is_number_line: bool)
         requires complete { self.old.complete < self.old.wanted }
@@ -251,7 +251,7 @@ impl Blocks {
         }
     }
 
-    // The line is mixed with the byte at this offset.
+    // Rejects the input if this line, which the byte at this offset mixed, is one of a block.
     fn meet_mixed_line(&mut self, offset: usize)
         ensures { self.new ≡ mixed_met self.old.phase self.old offset }
     {
@@ -260,7 +260,7 @@ impl Blocks {
         }
     }
 
-    // Judges a byte behind this line that ends it or mixes it.
+    // Reads a byte that follows `last` and ends that line or mixes it.
     #[inline(always)]
     #[tactic(auto, using(crate::proofs::Reading::ByteSteps::keeps_last))]
     fn after(&mut self, alloc: Global, last: Line, b: u8)
@@ -280,7 +280,7 @@ impl Blocks {
         }
     }
 
-    // What is told of so many bytes that were used.
+    // What `feed` returns after it used this many bytes.
     #[inline(never)]
     fn progress(&self, used: usize) -> Result<Progress, LayoutFault>
         ensures { result ≡ progress_of self.now.phase used }
@@ -292,8 +292,8 @@ impl Blocks {
         }
     }
 
-    // Takes bytes behind the last line that are all within the limit, up to the end of the wanted block or
-    // a refusal.
+    // Reads bytes that follow `last` and are all within the limit of the input, up to the end of the wanted block
+    // or to a fault.
     fn take(&mut self, alloc: Global, last: &mut Line, piece: &[u8])
         requires live { live_test self.old.phase ≡ true }
         requires stands { (text : List ℕ) × StandsAfter (fields last.old self.old) text }
@@ -306,12 +306,13 @@ impl Blocks {
             → TakeMeets (fields last.old self.old) text piece.now
             (last.new.digits.offset - last.old.digits.offset) (fields last.new self.new) }
     {
-        // The parts one by one: the padding behind the flags is never copied.
+        // Copied part by part: the padding after the flags is never copied.
         let mut line = Line {
             digits: last.digits,
             kinds: last.kinds,
         };
-        // What means nothing steps on by itself: so the compiler makes a short loop of each such branch.
+        // A byte that changes no block continues the loop by itself: so the compiler makes a short loop of each
+        // such branch.
         for b in piece {
             let b = *b;
             if is_digit(b) {
@@ -345,7 +346,8 @@ impl Blocks {
         *last = line;
     }
 
-    /// Takes a piece behind the last line, up to the end of the wanted block or a refusal.
+    /// Reads a piece that follows `last`, up to the end of the wanted block or to a fault. A byte beyond the
+    /// limit of the input, before that end, is the fault `TooLong`.
     #[inline(never)]
     pub fn feed(
         &mut self,
@@ -380,8 +382,8 @@ impl Blocks {
         self.progress(last.digits.offset - start)
     }
 
-    /// Judges the last number of an input that ends behind this line, and answers the fault of the end, if
-    /// the wanted block isn't complete.
+    /// Ends the last number of an input whose last line is `last`. Returns `None` if the wanted block is complete,
+    /// where the end of the input counts as a line end, and else the fault.
     #[tactic(auto, using(crate::proofs::Reading::ByteSteps::keeps_last))]
     pub fn judge_end(&mut self, last: Line) -> Option<LayoutFault>
         requires { IsReader (fields last self.old) }
@@ -394,7 +396,7 @@ impl Blocks {
         self.end_fault(last.kinds)
     }
 
-    // The fault of an input that ends here, as if its last line ended.
+    // The fault of an input that ends here: its end also ends its last line.
     #[tactic(auto, unfolding(crate::specs::Private::Step::line_ended))]
     fn end_fault(&self, kinds: Kinds) -> Option<LayoutFault>
         requires { live_test self.now.phase ≡ true → self.now.complete < self.now.wanted }

@@ -1,4 +1,4 @@
-//! How far a reader is in the body of a block.
+//! How much of a block's body was read.
 ghost use Rattle.std.specs.Prelude.{◌≡◌, ◌<◌, ◌≤◌, ◌+◌};
 ghost use Rattle.pfs_layout.specs.Block.{times_in};
 ghost use Rattle.pfs_layout.specs.Refuse.{fault_of_due};
@@ -8,7 +8,7 @@ ghost use Rattle.pfs_layout.specs.Private.Step.{after_machine as behind_machine,
 use crate::{Layout, LayoutFault};
 use pfs_base::{MOST_JOBS, MOST_MACHINES};
 
-/// What is due at a place of the body of a block.
+/// What is due at a place of a block's body.
 #[derive(Clone, Copy)]
 pub enum Due {
     /// Any time within the limit.
@@ -20,7 +20,7 @@ pub enum Due {
 }
 
 impl Due {
-    /// The fault of a number at this offset that isn't what is due.
+    /// The fault of a number that is not what is due. The offset is that of the number's first digit.
     #[cold]
     pub fn fault(self, offset: usize) -> LayoutFault
         ensures { result ≡ fault_of_due self offset }
@@ -33,22 +33,22 @@ impl Due {
     }
 }
 
-/// The sizes of a block, how many of its numbers are judged, and where the next time stands.
+/// The sizes of a block, how many numbers of its body were read, and whose time is next.
 #[derive(Clone, Copy)]
 pub struct Body {
     pub jobs: usize,
     pub machines: usize,
-    /// How many numbers are due in all.
+    /// How many numbers the body has in all.
     pub due: usize,
-    /// How many were judged.
+    /// How many numbers were read and passed their checks.
     pub judged: usize,
-    /// The job and the machine of the next time: both 0 behind the last.
+    /// The job and the machine of the next time, counted from 0. Both are 0 after the last time.
     pub job: usize,
     pub machine: usize,
 }
 
 impl Body {
-    /// A block of these sizes, of which nothing is judged.
+    /// A block of these sizes, before the first number of its body.
     pub fn new(layout: Layout, jobs: usize, machines: usize) -> Body
         requires jobs { jobs ≤ MOST_JOBS }
         requires machines { machines ≤ MOST_MACHINES }
@@ -81,7 +81,7 @@ impl Body {
         }
     }
 
-    /// Behind the number of a machine.
+    /// The body after one more number, which is a machine's.
     pub fn after_machine(self) -> Body
         requires { self.judged < self.due }
         ensures { result ≡ behind_machine self }
@@ -91,8 +91,9 @@ impl Body {
         body
     }
 
-    /// Behind a time: the same machine's next job, or the next machine's first, or in the OR-Library's layout the same
-    /// job's next machine, or the next job's first.
+    /// The body after one more time. In Taillard's layout the next time is of the same machine's next job, or
+    /// of the next machine's first job. In the OR-Library's it is of the same job's next machine, or of the
+    /// next job's first machine.
     pub fn after_time(self, layout: Layout) -> Body
         requires some { self.judged < self.due }
         requires job { self.job < self.jobs }
@@ -118,7 +119,7 @@ impl Body {
         body
     }
 
-    /// How many of the judged numbers are times.
+    /// How many of the numbers read are times.
     pub fn times(self, layout: Layout) -> usize
         ensures { result ≡ times_in layout self.judged }
     {
@@ -129,7 +130,7 @@ impl Body {
     }
 }
 
-// The number behind `at`, and 0 behind the last of `count`.
+// The number after `at` among the first `count` numbers from 0, or 0 after the last.
 fn next(at: usize, count: usize) -> usize
     requires { at < count }
     ensures { result ≡ next_of at count }

@@ -1,4 +1,4 @@
-//! What the definitions say of some files.
+//! What the definitions say of some files. The proofs compute it.
 #![tactic(auto, unfolding(crate::proofs::Computing::computing))]
 
 ghost use Rattle.std.specs.Prelude.{◌≡◌, ℕ, ◌+◌, ◌∷◌, [], ◌++◌, codes, length, take, map, replicate, sum};
@@ -15,7 +15,7 @@ ghost use Rattle.pfs_layout.specs.Examples.{with_returns, two_blocks_file, one_j
 
 use crate::{Layout, LayoutFault};
 
-/// Lines and their numbers.
+/// The lines of a text, and the numbers on a line.
 pub fn lines_and_numbers()
     ensures lines { lines (codes "ab\n\n3 4") ≡ codes "ab" ∷ [] ∷ codes "3 4" ∷ [] }
     ensures ended { lines (codes "3 4\n") ≡ codes "3 4" ∷ [] }
@@ -46,7 +46,7 @@ pub fn spellings()
         ≡ Some three_jobs_problem }
 {}
 
-/// A line of a body with a word byte.
+/// Lines of a body with a digit and a word byte.
 pub fn mixed_lines()
     ensures behind_digit { refusal Layout.Taillard (ending_with (codes "2 5x 1")) 1 ≡ Some (LayoutFault.MixedLine 118) }
     ensures before_digit { refusal Layout.Taillard (ending_with (codes "x 2 5 1")) 1
@@ -57,7 +57,7 @@ pub fn mixed_lines()
         ≡ Some (LayoutFault.MixedLine 120) }
 {}
 
-/// Numbers that aren't what is due.
+/// Numbers that are not what is due, and the longest time.
 pub fn wrong_numbers()
     ensures longest { accepted Layout.Taillard (ending_with (codes "2 5 1000000000")) 1
         ≡ Some (three_jobs_with 1000000000) }
@@ -72,7 +72,7 @@ pub fn wrong_numbers()
     ensures extra { refusal Layout.Taillard (ending_with (codes "2 5 1 7")) 1 ≡ Some (LayoutFault.ExtraNumber 121) }
 {}
 
-/// Size lines with a wrong count of numbers, or with a number out of its limit.
+/// Size lines with a wrong count of numbers, or with a number outside its limits.
 pub fn size_lines()
     ensures greatest { refusal Layout.Taillard (codes "5000 200 4294967295 0 0") 1 ≡ Some (LayoutFault.Truncated 0) }
     ensures count { refusal Layout.Taillard (codes "3 2") 1 ≡ Some (LayoutFault.SizeCount 1) }
@@ -84,7 +84,7 @@ pub fn size_lines()
     ensures count_first { refusal Layout.Taillard (codes "5001 1") 1 ≡ Some (LayoutFault.SizeCount 1) }
 {}
 
-/// Several blocks.
+/// Files of several blocks.
 pub fn several_blocks()
     ensures first { accepted Layout.Taillard (three_jobs_file ++ three_jobs_file) 1 ≡ Some three_jobs_problem }
     ensures second { accepted Layout.Taillard (three_jobs_file ++ three_jobs_file) 2 ≡ Some three_jobs_problem }
@@ -94,7 +94,7 @@ pub fn several_blocks()
     ensures no_third { refusal Layout.OrLib two_blocks_file 3 ≡ Some (LayoutFault.NoBlock 2) }
 {}
 
-/// Files that are cut at each byte.
+/// Two files, cut at each byte.
 pub fn cuts()
     ensures three_jobs { map (λ cut. refusal Layout.Taillard (take cut three_jobs_file) 1) (below 122)
         ≡ replicate 81 (Some (LayoutFault.NoBlock 0)) ++ replicate 8 (Some (LayoutFault.SizeCount 2))
@@ -121,7 +121,7 @@ pub fn canonical_texts()
         ≡ codes "flow shop instance\n3 2\n0 3 1 2\n0 2 1 5\n0 4 1 1\n" }
 {}
 
-/// Times that are drawn, machine by machine.
+/// Times that are drawn from seeds, machine by machine.
 pub fn drawn_times()
     ensures five { due Layout.Taillard (generated 5 1 873654221).shop ≡ 54 ∷ 83 ∷ 15 ∷ 71 ∷ 77 ∷ [] }
     ensures four { due Layout.Taillard (generated 2 2 873654221).shop ≡ 54 ∷ 83 ∷ 15 ∷ 71 ∷ [] }

@@ -1,4 +1,4 @@
-//! Instances that are drawn.
+//! Generating instances.
 ghost use Rattle.std.specs.Prelude.{◌≡◌, ◌≢◌, ◌↔◌, ℕ, ◌+◌, ◌*◌, ◌%◌, ◌<◌, ◌≤◌, ◌⊎◌, length, IfOk, IfErr};
 ghost use Rattle.pfs_base.specs.FlowShop.{time_of};
 ghost use Rattle.pfs_base.specs.declared.limits.TheConstants.{MOST_JOBS, MOST_MACHINES};
@@ -8,21 +8,22 @@ use crate::fault::LayoutFault;
 use pfs_base::{Instance, Notes};
 use std::alloc::Global;
 
-// Each seed is the one before times the multiplier, modulo the modulus, which is a prime.
+// Each seed is the one before it times the multiplier, modulo the modulus, which is a prime.
 const MODULUS: u64 = 2_147_483_647;
 
 const MULTIPLIER: u64 = 16_807;
 
-// The modulus divided by the multiplier.
+// The modulus divided by the multiplier: the quotient, and below it the remainder.
 const QUOTIENT: u64 = 127_773;
 
 const REMAINDER: u64 = 2_836;
 
-/// Draws an instance from a seed, whose notes are that seed and two zeros. The seed is judged before any
-/// memory is asked for.
+/// Draws an instance from a seed. Its notes are this seed and two zeros. The error is
+/// [`SeedRange`](LayoutFault::SeedRange) if the seed is not from 1 to 2,147,483,646, or
+/// [`Memory`](LayoutFault::Memory) if the allocation failed. The seed is validated before memory is allocated.
 ///
-/// The method is that of E. Taillard, Benchmarks for basic scheduling problems, European Journal of
-/// Operational Research 64 (1993): times from 1 to 99, machine by machine and within a machine job by job.
+/// The method is that of E. Taillard, Benchmarks for basic scheduling problems, European Journal of Operational
+/// Research 64 (1993): times from 1 to 99, machine by machine and within a machine job by job.
 pub fn generate(
     alloc: Global,
     jobs: usize,
@@ -57,7 +58,7 @@ pub fn generate(
     Ok(instance)
 }
 
-// Draws the times of all jobs on a machine, and answers the last seed.
+// Draws the times of all jobs on a machine, and returns the last seed.
 fn draw_times(instance: &mut Instance, machine: usize, seed: u64) -> u64
     requires machine { machine < instance.old.shop.machines }
     requires seed { seed < prime }
@@ -80,7 +81,7 @@ fn draw_times(instance: &mut Instance, machine: usize, seed: u64) -> u64
     drawn
 }
 
-// The next seed, by Schrage's split: no number on the way is greater than the modulus.
+// The next seed, by Schrage's decomposition (1979): both products are less than the modulus.
 fn next_seed(seed: u64) -> u64
     requires { seed < prime }
     ensures product { result ≡ 16807 * seed % prime }
@@ -95,7 +96,7 @@ fn next_seed(seed: u64) -> u64
     }
 }
 
-// The time that a seed gives.
+// The time that a seed gives, from 1 to 99.
 fn time_from(seed: u64) -> u32
     requires { seed < prime }
     ensures value { result ≡ drawn_time seed }

@@ -2,8 +2,9 @@
 
 /// How an instance file is laid out.
 ///
-/// In both layouts a block is a size line and a body. Lines without a digit are skipped anywhere; so is
-/// every line that has a word byte before a block's size line.
+/// In both layouts a block is a size line and a body. Lines without a digit are skipped everywhere. Before a
+/// block's size line, every line with a word byte is skipped too. A word byte is any byte but a digit, a blank
+/// (space, tab, carriage return) and a line end (byte 10).
 #[derive(Clone, Copy, Debug, PartialEq, Eq)]
 pub enum Layout {
     /// The layout of Taillard's benchmark files. A size line has five numbers: jobs, machines, initial

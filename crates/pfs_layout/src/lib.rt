@@ -1,5 +1,5 @@
-//! The files of flow shop instances in Taillard's layout and OR-Library's: what they are, laws about them,
-//! a reader that takes their bytes in any cutting, a writer, and Taillard's generator.
+//! Instance files of flow shops, in Taillard's layout and the OR-Library's: definitions and laws, a reader that
+//! takes an input in pieces cut anywhere, a writer, and Taillard's generator.
 #![tactic(auto)]
 
 mod blocks;

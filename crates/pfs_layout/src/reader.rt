@@ -1,4 +1,4 @@
-//! The push reader of instance files.
+//! A reader of instance files to which the caller passes the bytes.
 ghost use Rattle.std.specs.Prelude.{◌≡◌, ◌≢◌, ◌↔◌, ℕ, ◌+◌, ◌≤◌, List, [], ◌++◌, length, true, false, IfOk, IfErr};
 ghost use Rattle.std.specs.Prelude.{IfSome};
 ghost use Rattle.std.specs.Result.{result_err};
@@ -15,12 +15,12 @@ use pfs_base::{Instance, MOST_BLOCKS, Source};
 use std::alloc::Global;
 use std::marker::Model;
 
-/// Reads one block of an instance file, which is handed to it in pieces cut anywhere. It keeps the
-/// block's instance, and beside it a fixed number of fields.
+/// Reads one block of an instance file from pieces that may be cut anywhere. It keeps the block's instance and
+/// a fixed number of further fields, but no copy of the input.
 #[derive(Drop)]
 pub struct BlockReader {
     alloc: Global,
-    /// The last line so far.
+    /// The line that is being read.
     last: Line,
     blocks: Blocks,
 }
@@ -36,8 +36,8 @@ impl Model for BlockReader {
 }
 
 impl BlockReader {
-    /// A reader of the block of this number, counted from 1. It asks for memory at the end of this
-    /// block's size line, and nowhere else.
+    /// Makes a reader of the block with this number, counted from 1. The reader allocates memory only where
+    /// this block's size line ends, in [`feed`](BlockReader::feed).
     pub fn new(alloc: Global, layout: Layout, block: usize) -> BlockReader
         requires some { 1 ≤ block }
         requires few { block ≤ MOST_BLOCKS }
@@ -53,8 +53,9 @@ impl BlockReader {
         }
     }
 
-    /// How many times are stored: those of the wanted block that were read, before a refusal if there was
-    /// one. Beside them the reader keeps the number that is being read, and a fixed number of fields.
+    /// How many times of the wanted block were read and stored, up to the fault if there was one. Apart from
+    /// these times, the reader keeps the number that is being read and a fixed number of fields. After a failed
+    /// allocation the count is 0.
     pub fn held(&self) -> usize
         ensures held { result ≡ self.now.held }
         ensures few { (text : List ℕ) → StandsAfter self.now text
@@ -64,10 +65,12 @@ impl BlockReader {
         self.blocks.held
     }
 
-    /// Takes a piece of the input, up to the end of the wanted block. Behind this end it takes nothing
-    /// more. After a refusal it answers the same refusal again.
+    /// Reads a piece of the input, up to the end of the wanted block. Once this block has ended, it uses no
+    /// more bytes. After a fault every call returns the same fault.
     ///
-    /// A reader that was refused memory stands behind no text at all.
+    /// The error is the first fault at a byte of the input, [`TooLong`](LayoutFault::TooLong) included, or
+    /// [`Memory`](LayoutFault::Memory) if the allocation failed. After a failed allocation `StandsAfter` holds
+    /// for no text at all.
     pub fn feed(&mut self, piece: &[u8]) -> Result<Progress, LayoutFault>
         ensures idle { live_test self.old.phase ≡ false
             → (result ≡ progress_of self.old.phase 0) × (self.new ≡ self.old) }
@@ -83,8 +86,8 @@ impl BlockReader {
         self.blocks.feed(self.alloc, &mut self.last, piece)
     }
 
-    /// The instance, if the input may end here. The end of the input ends the last number and the
-    /// last line.
+    /// Returns the instance, if the input may end here. The end of the input ends the last number and the last
+    /// line. The error is the fault of the whole input, or the one that [`feed`](BlockReader::feed) has returned.
     #[tactic(auto, unfolding(crate::specs::Private::Step::line_ended))]
     pub fn finish(self) -> Result<Instance, LayoutFault>
         ensures refused { (fault : LayoutFault) → self.phase ≡ Phase.Refused fault → result ≡ Err fault }
@@ -97,7 +100,7 @@ impl BlockReader {
                 let instance = blocks.instance;
                 match instance {
                     Some(instance) => Ok(instance),
-                    // The input may end here only behind the times of the wanted block.
+                    // The input may end here only after the last time of the wanted block.
                     None => unreachable!(),
                 }
             }
@@ -105,12 +108,15 @@ impl BlockReader {
     }
 }
 
-/// How many bytes of a file are read at once, at most: after the byte that ends the wanted block, or has
-/// a fault, no more than the rest of such a piece is read.
+/// The greatest number of bytes that are read from a source at once. After the byte that ends the wanted block
+/// or has a fault, no more is read than the rest of its piece.
 pub const PIECE: usize = 4096;
 
-/// Reads one block of an instance file, counted from 1, up to its end. A failed read is reported only where the
-/// source has not reported its end before.
+/// Reads one block of an instance file, counted from 1, up to its end.
+///
+/// The error is [`Read`](LayoutFault::Read) if a read failed, [`Memory`](LayoutFault::Memory) if the allocation
+/// failed, and else the fault of the input. A failed read is reported only where the source has not reported
+/// its end before.
 pub fn read_block<R: Source>(
     alloc: Global,
     reader: &mut R,

@@ -1,5 +1,5 @@
-//! The last line so far, and what a byte does to it. Its parts have no padding, so that a step is a
-//! few instructions.
+//! The line that is being read, and what one more byte changes in it. Its parts have no padding, so that adding
+//! a byte takes a few instructions.
 ghost use Rattle.std.specs.Prelude.{◌≡◌, ◌<◌, ◌≤◌, ◌&&◌, ◌||◌, ◌==◌, not, true, false, ◌+◌, ◌-◌, ◌*◌, ℕ, [], min};
 ghost use Rattle.std.specs.Prelude.{if◌then◌else◌};
 ghost use Rattle.pfs_layout.specs.Lines.{is_digit as digit_test, is_blank as blank_test, is_word_byte as word_test};
@@ -8,7 +8,7 @@ ghost use Rattle.pfs_layout.specs.Private.Step.{Pushes, has_numbers_alone, open_
 
 use pfs_base::{GREATEST_NOTE, LONGEST_INPUT};
 
-/// All greater values of a number are kept as this: it is greater than every number that is accepted.
+/// The value that is kept for every greater number. It is itself greater than every number that is accepted.
 pub const CEILING: u64 = GREATEST_NOTE as u64 + 1;
 
 /// The byte that ends a line.
@@ -30,18 +30,18 @@ pub fn is_blank(b: u8) -> bool
     b == 32 || b == 9 || b == 13
 }
 
-/// The number that no byte has ended.
+/// The unfinished number: the digits that no byte has ended yet.
 #[derive(Clone, Copy)]
 pub struct Digits {
     /// The offset of the next byte.
     pub offset: usize,
-    /// The offset of the number's first digit: that of the next byte where there is none.
+    /// The offset of the number's first digit, or that of the next byte if there is no such number.
     pub first: usize,
-    /// Its value, at most the ceiling, and 0 where there is none.
+    /// The number's value, at most the ceiling, or 0 if there is no such number.
     pub value: u64,
 }
 
-/// What the line so far holds.
+/// Which kinds of bytes the line has so far.
 #[derive(Clone, Copy)]
 pub struct Kinds {
     pub has_digit: bool,
@@ -49,7 +49,7 @@ pub struct Kinds {
 }
 
 impl Digits {
-    /// One byte on.
+    /// The digits after one more byte.
     #[inline(always)]
     pub fn after(self, b: u8) -> Digits
         requires offset { self.offset < LONGEST_INPUT }
@@ -71,7 +71,7 @@ impl Digits {
         }
     }
 
-    /// The number, if there is one.
+    /// The unfinished number, if there is one.
     #[inline(always)]
     pub fn number(self) -> Option<Number>
         ensures { result ≡ open_number self }
@@ -88,7 +88,7 @@ impl Digits {
 }
 
 impl Kinds {
-    /// One byte on.
+    /// The kinds of bytes after one more byte.
     #[inline(always)]
     pub fn after(self, b: u8) -> Kinds
         ensures digit { result.has_digit ≡ (digit_test b || (not (b == 10) && self.has_digit)) }
@@ -102,7 +102,7 @@ impl Kinds {
         }
     }
 
-    /// Whether the line is a number line.
+    /// Whether the line is a number line: it has a digit and no word byte.
     pub fn is_number_line(self) -> bool
         ensures { result ≡ has_numbers_alone self }
     {
@@ -110,7 +110,7 @@ impl Kinds {
     }
 }
 
-/// The last line so far.
+/// The line that is being read.
 #[derive(Clone, Copy)]
 pub struct Line {
     pub digits: Digits,
@@ -125,7 +125,7 @@ pub struct Number {
 }
 
 impl Line {
-    /// The first line, of which nothing was read.
+    /// The first line, before its first byte.
     #[tactic(auto, unfolding(crate::specs::Lines::open_part))]
     pub fn new() -> Line
         ensures { FollowsLine result [] }
@@ -143,7 +143,7 @@ impl Line {
         }
     }
 
-    /// One byte on. The parts are set one by one: the padding behind the flags is never copied.
+    /// Adds a byte. The parts are set one by one: the padding after the flags is never copied.
     #[inline(always)]
     pub fn push(&mut self, b: u8)
         requires offset { self.old.digits.offset < LONGEST_INPUT }
@@ -154,7 +154,7 @@ impl Line {
         self.kinds = self.kinds.after(b);
     }
 
-    /// A blank on.
+    /// Adds a blank.
     #[inline(always)]
     pub fn push_blank(&mut self)
         requires { self.old.digits.offset < LONGEST_INPUT }
@@ -174,7 +174,7 @@ impl Line {
         };
     }
 
-    /// A word byte on.
+    /// Adds a word byte.
     #[inline(always)]
     pub fn push_word_byte(&mut self)
         requires { self.old.digits.offset < LONGEST_INPUT }

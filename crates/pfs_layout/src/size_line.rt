@@ -8,12 +8,12 @@ use crate::scan::CEILING;
 use crate::{Layout, LayoutFault};
 use pfs_base::{LONGEST_INPUT, MOST_JOBS, MOST_MACHINES, Notes};
 
-/// The numbers so far of a line that may be a size line.
+/// The numbers read so far on a line that may be a size line.
 #[derive(Clone, Copy)]
 pub struct SizeLine {
-    /// How many there are.
+    /// How many numbers were read.
     pub count: usize,
-    /// The first five, each at most the ceiling. Those that aren't there yet may be any.
+    /// The first five numbers, each at most the ceiling. Entries of numbers that were not read yet may have any value.
     pub values: [u64; 5],
 }
 
@@ -26,7 +26,7 @@ pub struct Size {
 }
 
 impl SizeLine {
-    /// No number yet.
+    /// A line of which no number was read.
     pub fn new() -> SizeLine
         ensures { result ≡ no_numbers }
     {
@@ -36,7 +36,7 @@ impl SizeLine {
         }
     }
 
-    /// One number more.
+    /// The line with one more number.
     pub fn with(self, value: u64) -> SizeLine
         requires { self.count ≤ LONGEST_INPUT }
         ensures { result ≡ with_number self value }
@@ -51,7 +51,8 @@ impl SizeLine {
         }
     }
 
-    /// What the whole line states: the count of its numbers is judged before their ranges.
+    /// What the complete line states in this layout. `line` is its number in the input, from 1, for the fault:
+    /// `SizeCount` if the count of numbers is wrong, else `SizeRange` if one of them is outside its limits.
     pub fn stated(self, layout: Layout, line: usize) -> Result<Size, LayoutFault>
         ensures stated { IfOk result (λ stated. stated_by layout self ≡ Some stated) }
         ensures within { IfOk result (λ stated. is_within_limits stated ≡ true) }
@@ -75,7 +76,7 @@ impl SizeLine {
     }
 }
 
-// What these numbers state, if each is in its limit. They stand on this line, counted from 1.
+// What these numbers state, or `SizeRange` if one of them is outside its limits. They are on this line, counted from 1.
 fn in_range(
     jobs: u64,
     machines: u64,

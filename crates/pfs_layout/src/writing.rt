@@ -8,9 +8,9 @@ use crate::layout::Layout;
 use pfs_base::print::{put_entry, put_numbers};
 use pfs_base::{Instance, Notes, Sink, WriteFault, put};
 
-/// Writes an instance as a file of one block: with single spaces between numbers, no leading zeros, each
-/// row of the body on one line, and each line ended. A file in the OR-Library's layout leaves the notes
-/// out.
+/// Writes an instance as a file of one block: single spaces between numbers, no leading zeros, each row of the
+/// body on one line, and byte 10 after every line. The OR-Library's layout leaves out the notes. If a
+/// write fails, the error says how many bytes of the text were written.
 pub fn write_block<W: Sink>(
     writer: &mut W,
     instance: &Instance,
@@ -28,7 +28,8 @@ pub fn write_block<W: Sink>(
     Ok(())
 }
 
-// Writes the lines before the body.
+// Writes the lines before the body, and returns how many bytes were written. The functions below add the bytes
+// that they write to `sent`, the number of bytes before, and return the sum.
 fn put_head<W: Sink>(
     writer: &mut W,
     layout: Layout,
@@ -126,7 +127,8 @@ fn row_length(instance: &Instance, layout: Layout) -> usize
     }
 }
 
-// The number at a place of a row: a job's time on the row's machine, or a machine and then its time of the row's job.
+// The number at a place of a row. In Taillard's layout it is a job's time on the row's machine, and in the
+// OR-Library's a machine or the time of the row's job on it.
 #[tactic(auto, using(crate::proofs::Files::DueLemmas::length_due_row, crate::proofs::Texts::WritingLemmas::number_is))]
 fn number_at(instance: &Instance, layout: Layout, row: usize, place: usize) -> u64
     requires row { row < row_count layout instance.now.shop }

@@ -1,4 +1,4 @@
--- The numbers that are due: by index, for a problem and back, and their fronts.
+-- The numbers that are due: by index, from a problem and back, and their prefixes.
 use Rattle.pfs_layout.proofs.Words.{arith, ◌≡◌, ℕ, ◌≤◌, true, List, All, nat_tests, LONGEST_TIME, limits, Problem, Size}
 use Rattle.pfs_layout.proofs.Words.{size_of, is_within_limits, IsInstance, ◌+◌, ◌*◌, ◌/◌, ◌%◌, ◌<◌, [], ◌∷◌, length}
 use Rattle.pfs_layout.proofs.Words.{get_or, refl, ◌∙◌, inl, inr, cases_eq, eq-eqb, elements, length-map-range_with_len}
@@ -18,7 +18,7 @@ use Rattle.pfs_layout.specs.Laws.{BeginDue, DueFronts}
 
 -- ---- sizes within the limits
 
--- what the test says
+-- what `is_within_limits` means
 pub record AreWithin (size : Size) : Type 0 where
   pub sizes : AreSizes limits size.jobs size.machines
   pub seed : size.notes.seed ≤ GREATEST_NOTE
@@ -45,7 +45,7 @@ unfolding due_row
 length_due_row Taillard shop r = length-map-range_with_len (λ job. time_of shop job r) 0 shop.jobs
 length_due_row OrLib shop r = length-rows (pairs_of shop r) 2 (λ i. refl) shop.machines
 
--- as many numbers are due as due_count says
+-- their count is `due_count`
 pub length-due : (layout : Layout) (problem : Problem)
     → length (due layout problem.shop) ≡ due_count layout (size_of problem)
 unfolding due
@@ -55,7 +55,7 @@ length-due Taillard problem =
 length-due OrLib problem =
     length-rows (due_row OrLib problem.shop) _ (length_due_row OrLib problem.shop) problem.shop.jobs ∙ grind arith
 
--- the number of a machine and its time of a job, in the OR-Library's layout
+-- in the OR-Library's layout: a machine's number, and the time of a job on it
 pub pair_at : (shop : FlowShop) (job machine c d : ℕ) → job < shop.jobs → machine < shop.machines → c < 2
     → get_or (due OrLib shop) (job * (shop.machines * 2) + (machine * 2 + c)) d ≡ get_or (pairs_of shop job machine) c d
 unfolding due due_row
@@ -64,7 +64,7 @@ pair_at shop job machine c d j m l =
     (omega arith)
     ∙ rows_at (pairs_of shop job) 2 (λ i. refl) shop.machines machine c d m l
 
--- each time stands at its place
+-- each time is at its place
 pub time_due : (layout : Layout) (problem : Problem) (job machine : ℕ) → job < problem.shop.jobs
     → machine < problem.shop.machines
     → get_or (due layout problem.shop) (place_of_time layout (size_of problem) job machine) 0
@@ -85,7 +85,7 @@ pub due_time : (layout : Layout) (size : Size) (job machine : ℕ) → job < siz
 unfolding due_at
 due_time layout size job machine j m = grind (arith, nat_tests, place_within)
 
--- a place is a time's, or a machine number's
+-- a place is that of a time, or that of a machine's number
 pub data PlaceIs (layout : Layout) (problem : Problem) (k : ℕ) : Type 0 where
   a_time : (job machine : ℕ) → job < problem.shop.jobs → machine < problem.shop.machines
       → k ≡ place_of_time layout (size_of problem) job machine → PlaceIs layout problem k
@@ -108,13 +108,13 @@ place_is OrLib problem k h =
       | inr odd ↦ a_time at.row at.column at.row_in at.column_in (omega (arith, at.is))
     ]
 
--- ---- what is due passes
+-- ---- numbers that are due pass the check
 
 -- the times are within the limit
 pub short_at : (times : List ℕ) → All (λ time. time ≤ LONGEST_TIME) times → (k : ℕ) → get_or times k 0 ≤ LONGEST_TIME
 short_at times short k = grind (arith, elements, get_or_past times k 0)
 
--- numbers of which each is what is due at its place
+-- numbers pass if each is what is due at its place
 pub are_due_by_place : (layout : Layout) (size : Size) (numbers : List ℕ)
     → ((k : ℕ) → k < length numbers → is_due (due_at layout size k) (get_or numbers k 0) ≡ true)
     → are_due layout size numbers ≡ true
@@ -135,7 +135,7 @@ due_passes layout problem within = are_due_by_place layout (size_of problem) (du
 
 -- ---- the times of a complete block
 
--- the number at the place of a time
+-- the number at the place of a job's time on a machine
 abbrev pub stands_at : Layout → Size → List ℕ → ℕ → ℕ → ℕ
 stands_at layout size numbers job machine = get_or numbers (place_of_time layout size job machine) 0
 
@@ -208,26 +208,26 @@ unfolding instance_of
 instance_within layout block size all full =
     grind (arith, size_within block.size size, length-times layout block, times_short layout block all full)
 
--- ---- numbers that pass begin what is due for some problem
+-- ---- numbers that pass the check begin what is due for some problem
 
--- the first of numbers that are due are due
+-- the first of numbers that pass the check pass it too
 pub are_due_front : (layout : Layout) (size : Size) (xs ys : List ℕ) → are_due layout size (xs ++ ys) ≡ true
     → are_due layout size xs ≡ true
 unfolding are_due
 are_due_front layout size xs ys e = (and_parts _ _ (rw (enumerate_from-append, list_all-append) at e)).0
 
--- no more numbers than that pass
+-- no more numbers than are due pass it
 pub no_more_than_due : (layout : Layout) (size : Size) (numbers : List ℕ) → are_due layout size numbers ≡ true
     → length numbers ≤ due_count layout size
 unfolding due_at
 no_more_than_due layout size numbers all =
     grind (arith, nat_tests, due_number layout size numbers (due_count layout size) all)
 
--- what is due for a problem of the size in which each time is 0
+-- what is due for the problem of this size whose times are all 0
 abbrev idle_due : Layout → Size → List ℕ
 idle_due layout size = due layout (instance_of layout (begun size)).shop
 
--- the numbers, and behind them what is due for the idle problem
+-- the numbers, and after them what is due for that problem
 abbrev filled : Layout → Size → List ℕ → List ℕ
 filled layout size numbers = numbers ++ drop (length numbers) (idle_due layout size)
 

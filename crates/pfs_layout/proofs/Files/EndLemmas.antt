@@ -10,14 +10,14 @@ use Rattle.pfs_layout.proofs.Published.PlaceLemmas.{byte_fault-push, refusal_end
 use Rattle.pfs_base.specs.Limits.{Limits}
 use Rattle.pfs_base.proofs.Published.Lists.{map-range_with_len-same}
 
--- a fault at a byte stays, whatever follows
+-- a fault at a byte remains, for any bytes that follow
 pub byte_fault-more : (layout : Layout) (k : ℕ) (text more : List ℕ) (fault : LayoutFault)
     → byte_fault layout k text ≡ Some fault → byte_fault layout k (text ++ more) ≡ Some fault
 byte_fault-more layout k text more fault e =
     by_push (λ more. byte_fault layout k (text ++ more) ≡ Some fault) (rw (append-nil text) e)
     (λ more b h. rw (← append_assoc text more (b ∷ []), byte_fault-push layout k (text ++ more) b, h)) more
 
--- where no byte of a text has a fault, each front has the fault of its end
+-- if no byte of a text has a fault, the fault of each prefix is that of its end
 pub front_faults : (layout : Layout) (k : ℕ) (text : List ℕ) (n : ℕ) → byte_fault layout k text ≡ None
     → map (λ cut. refusal layout (take cut text) k) (below n)
     ≡ map (λ cut. fault_of_place layout k (take cut text) None) (below n)
@@ -36,7 +36,7 @@ fault_stays layout text more k fault e =
 
 -- ---- as laws
 
--- behind k complete blocks nothing that follows changes the problem
+-- after k complete blocks, nothing that follows changes the problem
 pub free_behind : FreeBehind
 free_behind layout text more k problem some right enough =
     let held = enough_holds layout k some text right enough in
@@ -50,7 +50,7 @@ free_behind layout text more k problem some right enough =
           completes_file layout text k problem (rw (one_held layout k (text ++ more) held.0 problem all c) at own),
     )
 
--- ---- wider limits keep every file
+-- ---- a file is a file under wider limits
 
 module _ (narrow wide : Limits) (wider : IsWider narrow wide) where
   instance_wider : (problem : Problem) → IsInstance narrow problem → IsInstance wide problem
@@ -65,7 +65,7 @@ module _ (narrow wide : Limits) (wider : IsWider narrow wide) where
     lower = omega arith;
   }
 
-  -- all else that a block is names no limit
+  -- the other parts of a block don't depend on the limits
   block_wider : (layout : Layout) (problem : Problem) (block : List (List ℕ)) → IsBlock narrow layout problem block
       → IsBlock wide layout problem block
   block_wider layout problem block b = let within = instance_wider problem b.within in search

@@ -1,4 +1,4 @@
--- Files, by where their lines lead.
+-- Files, by the state that their lines lead to.
 use Rattle.pfs_layout.proofs.Words.{nat_tests, ◌≡◌, ℕ, ◌+◌, ◌<◌, true, not, List, [], ◌∷◌, ◌++◌, length, flat_map, refl}
 use Rattle.pfs_layout.proofs.Words.{sym, arith, append_assoc, append-nil, length-append, AllByRecursion, list_any, Size}
 use Rattle.pfs_layout.proofs.Words.{list_all, list_all-append, fold-append, Layout, is_digit, limits, Problem, size_of}
@@ -14,7 +14,7 @@ use Rattle.pfs_layout.proofs.Files.DueLemmas.{are_due_front, due_passes, length-
 use Rattle.pfs_layout.proofs.Files.DueLemmas.{due_instance, instance_within, instance_due}
 use Rattle.pfs_layout.proofs.Files.GoodLemmas.{stand-push}
 
--- ---- where a block leads
+-- ---- the state after a block
 
 -- a line with a digit has a number
 numbers_some : (line : List ℕ) → list_any is_digit line ≡ true → 0 < length (numbers line)
@@ -23,7 +23,7 @@ numbers_some [] any = absurd (false≢true any)
 numbers_some (b ∷ line) any =
     let parts = split_some is_no_digit line in grind (arith, parts.is, numbers_some line)
 
--- a block's lines
+-- the lines of a block
 module _ (layout : Layout) (complete : List Block) where
   -- skipped lines change nothing
   skip_fold : (skipped : List (List ℕ)) → list_all (λ line. not (is_number_line line)) skipped ≡ true
@@ -63,7 +63,7 @@ module _ (layout : Layout) (complete : List Block) where
       let joined = fold-append (stand_after layout) (standing complete seeking) b.skipped (b.size_line ∷ tail) in
       grind (arith, b.number_line, b.states)
 
--- blocks lead to as many complete ones, the last of which is the instance's
+-- blocks lead to this count of complete ones, the last of which is the problem's
 pub record LeadsTo (layout : Layout) (complete : List Block) (problem : Problem) (count : ℕ) (text : List (List ℕ))
     : Type 0 where
   pub before : List Block
@@ -99,7 +99,7 @@ no_numbers (b ∷ line) none =
 
 -- ---- lines that are made of blocks
 
--- skipped lines, a size line, and lines that hold the block's numbers so far
+-- skipped lines, a size line, and lines that have the block's numbers so far
 pub record Opens (layout : Layout) (block : Block) (skipped : List (List ℕ)) (size_line : List ℕ)
     (front tail : List (List ℕ)) : Type 0 where
   pub parts : tail ≡ skipped ++ size_line ∷ front
@@ -110,7 +110,7 @@ pub record Opens (layout : Layout) (block : Block) (skipped : List (List ℕ)) (
   pub unmixed : list_all (λ line. not (is_mixed line)) front ≡ true
   pub holds : flat_map numbers front ≡ block.numbers
 
--- a block that is begun and not complete, by its lines
+-- these lines begin the block and don't complete it
 pub record IsBegun (layout : Layout) (block : Block) (tail : List (List ℕ)) : Type 0 where
   pub skipped : List (List ℕ)
   pub size_line : List ℕ
@@ -118,13 +118,13 @@ pub record IsBegun (layout : Layout) (block : Block) (tail : List (List ℕ)) : 
   pub opens : Opens layout block skipped size_line front tail
   pub short : length block.numbers ≡ due_count layout block.size → ⊥
 
--- what the lines behind the last complete block are
+-- what the lines after the last complete block are, in this state
 abbrev pub FitsNow : Layout → Now → List (List ℕ) → Type 0
 FitsNow layout seeking tail = list_all (λ line. not (is_number_line line)) tail ≡ true
 FitsNow layout (inside block) tail = IsBegun layout block tail
 FitsNow layout lost tail = Unit {0}
 
--- lines are those of complete blocks, one behind the other
+-- these lines are those of the complete blocks, one after the other
 abbrev pub AreBlockLines : Layout → List Block → List (List ℕ) → Type 0
 AreBlockLines layout [] text = text ≡ []
 AreBlockLines layout (block ∷ more) text = (own : List (List ℕ)) × (rest : List (List ℕ)) × (text ≡ own ++ rest)
@@ -138,7 +138,7 @@ AreOf-push layout (first ∷ more) text own block are is =
     let others = AreOf-push layout more are.1 own block are.4 is in
     (are.0, are.1 ++ own, rw are.2 (append_assoc are.0 are.1 own), are.3, others)
 
--- lines are those of the complete blocks, and what fits where they lead
+-- these lines are those of the complete blocks, and after them lines that fit the state
 pub record IsMade (layout : Layout) (text : List (List ℕ)) (reached : Stand) : Type 0 where
   pub front : List (List ℕ)
   pub tail : List (List ℕ)
@@ -147,7 +147,7 @@ pub record IsMade (layout : Layout) (text : List (List ℕ)) (reached : Stand) :
   pub fits : FitsNow layout reached.now tail
 
 module _ (layout : Layout) (text : List (List ℕ)) (complete : List Block) (line : List ℕ) where
-  -- one more line behind the complete blocks
+  -- with one more line after the complete blocks
   grown : {now : Now} (next : Now) (m : IsMade layout text (standing complete now))
       → FitsNow layout next (m.tail ++ line ∷ []) → IsMade layout (text ++ line ∷ []) (standing complete next)
   grown next m fits =
@@ -155,7 +155,7 @@ module _ (layout : Layout) (text : List (List ℕ)) (complete : List Block) (lin
       rw m.parts (append_assoc m.front m.tail (line ∷ [])) in
       search
 
-  -- a size line
+  -- with a size line
   began : (m : IsMade layout text (standing complete seeking)) (size : Size)
       → stated_size layout (numbers line) ≡ Some size → is_number_line line ≡ true → is_within_limits size ≡ true
       → IsMade layout (text ++ line ∷ []) (standing complete (inside (begun size)))
@@ -225,7 +225,7 @@ module _ (layout : Layout) (text : List (List ℕ)) (complete : List Block) (lin
   by_now (inside block) m = grind (arith, grown lost m tt, finished block m, unfinished block m)
   by_now lost m = grown lost m tt
 
--- any lines are those of the complete blocks, and what fits where they lead
+-- any lines are those of the complete blocks, and after them lines that fit the state
 pub made : (layout : Layout) (text : List (List ℕ)) → IsMade layout text (stand layout text)
 unfolding stand stand_after
 made layout = by_push (λ text. IsMade layout text (stand layout text))
@@ -249,7 +249,7 @@ file_completes layout input k problem f =
     let is = sym (instance_due layout problem blocks.is_own.within.within.every_time) in
     record { seeks = seeks; earlier = lead.before; own = own; parts = rw stands; is = is }
 
--- ---- and back
+-- ---- and conversely
 
 are_blocks : (layout : Layout) (text : List (List ℕ)) (earlier : List Block) (own : Block)
     → AreBlockLines layout (earlier ++ own ∷ []) text

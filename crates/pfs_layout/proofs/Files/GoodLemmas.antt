@@ -15,7 +15,7 @@ use Rattle.pfs_layout.proofs.Published.PlaceLemmas.{byte_fault-push}
 
 -- ---- numbers that are due
 
--- one number more
+-- with one number more
 are_due-push : (layout : Layout) (size : Size) (ns : List ℕ) (n : ℕ)
     → are_due layout size (ns ++ n ∷ []) ≡ (are_due layout size ns && is_due (due_at layout size (length ns)) n)
 unfolding are_due
@@ -34,20 +34,20 @@ unfolding open_part
 same_last = by_push (λ text. last_digits text ≡ last_digits (open_line text)) refl
     (λ text b h. grind (arith, nat_tests, open_part-push))
 
--- all numbers of the last line are ended, but for the one that digits at the end of the text are
+-- the numbers of the last line are those that were ended, and the one of the last digits, if there are any
 pub line_numbers : (text : List ℕ) → numbers (open_line text)
     ≡ (if is_empty (last_digits text) then ended_numbers (open_line text)
     else ended_numbers (open_line text) ++ digits_value 10 (last_digits text) ∷ [])
 line_numbers text = rw (numbers_is (open_line text), same_last text) (grind (arith, append-nil {A = ℕ}))
 
--- such digits are digits of the last line
+-- these digits are on the last line: without a digit on it there are none
 pub no_last : (text : List ℕ) → list_any is_digit (open_line text) ≡ false → is_empty (last_digits text) ≡ true
 unfolding open_part
 no_last =
     by_push (λ text. list_any is_digit (open_line text) ≡ false → is_empty (last_digits text) ≡ true) (λ none. refl)
     (λ text b h none. grind (arith, nat_tests, list_any-append {X = ℕ}, open_part-push))
 
--- the fault of the number that the last digits are
+-- the fault of the number of the last digits
 abbrev pub number_fault : Layout → Now → List ℕ → Option LayoutFault
 number_fault layout seeking text = None
 number_fault layout (inside block) text = if is_empty (last_digits text)
@@ -56,7 +56,7 @@ number_fault layout (inside block) text = if is_empty (last_digits text)
     (digits_value 10 (last_digits text)) (length text - length (last_digits text))
 number_fault layout lost text = None
 
--- it has none where all numbers of the line are due
+-- all numbers of the line are due, exactly if the ended ones are and the number of the last digits has no fault
 pub due_line : (layout : Layout) (block : Block) (text : List ℕ)
     → are_due layout block.size (block.numbers ++ numbers (open_line text))
     ≡ (are_due layout block.size (block.numbers ++ ended_numbers (open_line text))
@@ -76,7 +76,7 @@ fault_within_limit layout (inside block) text b =
     option_or (mixed_line text (Some b)) (wrong_number layout block text (Some b))
 fault_within_limit layout lost text b = None
 
--- no line of a body is mixed, and the numbers that are ended are due
+-- no line of a body is mixed, and the ended numbers are due
 abbrev pub is_good : Layout → Now → List ℕ → Bool
 is_good layout seeking line = true
 is_good layout (inside block) line =
@@ -92,14 +92,14 @@ pub wrong_number_is : (layout : Layout) (block : Block) (text : List ℕ) (b : �
 unfolding wrong_number
 wrong_number_is layout block text b = grind arith
 
--- a blank and a line end in a block have the fault of the number that they end
+-- in a block, a blank and a line end have the fault of the number that they end
 pub gap_fault : (layout : Layout) (block : Block) (text : List ℕ) (b : ℕ) → (is_blank b || is_line_end b) ≡ true
     → fault_within_limit layout (inside block) text b ≡ number_fault layout (inside block) text
 unfolding mixed_line
 gap_fault layout block text b gap =
     rw (wrong_number_is layout block text b, gap) (grind (arith, nat_tests, list_any-append {X = ℕ}))
 
--- a byte on the line leaves it good exactly where it has no fault
+-- after a byte on the line all is good, exactly if it was before and the byte has no fault
 pub good_on : (layout : Layout) (now : Now) (text : List ℕ) (b : ℕ) → is_line_end b ≡ false
     → is_good layout now (open_line text ++ b ∷ [])
     ≡ (is_good layout now (open_line text) && is_none (fault_within_limit layout now text b))
@@ -116,7 +116,7 @@ pub ended_none : ended_numbers [] ≡ []
 unfolding ended_numbers ended_parts
 ended_none = refl
 
--- a line's end leaves it good exactly where it has no fault
+-- after the end of a line all is good, exactly if it was before and this byte has no fault
 pub good_end : (layout : Layout) (complete : List Block) (now : Now) (text : List ℕ)
     → is_good layout (after_line layout complete now (open_line text)).now []
     ≡ (is_good layout now (open_line text) && is_none (fault_within_limit layout now text 10))
@@ -130,7 +130,7 @@ good_end layout complete lost text = refl
 
 -- ---- a text with one byte more
 
--- where the text stands
+-- the state after the ended lines of a text
 abbrev pub stand_of : Layout → List ℕ → Stand
 stand_of layout text = stand layout (ended_lines text)
 
@@ -139,7 +139,7 @@ pub stand-push : (layout : Layout) (lines : List (List ℕ)) (line : List ℕ)
 unfolding stand
 stand-push layout lines line = fold-append (stand_after layout) _ lines (line ∷ [])
 
--- a byte that ends the line, and one that doesn't
+-- after a byte that ends the line, and after one that doesn't
 pub stand_of-end : (layout : Layout) (text : List ℕ) (b : ℕ) → is_line_end b ≡ true
     → stand_of layout (text ++ b ∷ []) ≡ stand_after layout (stand_of layout text) (open_line text)
 stand_of-end layout text b e = rw (ended_parts-push is_line_end text b, e) (stand-push layout _ _)
@@ -155,16 +155,16 @@ pub open_line-on : (text : List ℕ) (b : ℕ) → is_line_end b ≡ false
     → open_line (text ++ b ∷ []) ≡ open_line text ++ b ∷ []
 open_line-on text b e = rw (open_part-push is_line_end text b, e)
 
--- ---- complete blocks stay
+-- ---- complete blocks remain
 
--- a line completes no block, or one, behind which the next is sought
+-- a line completes no block, or one, after which the next is sought
 pub one_line : (layout : Layout) (before : Stand) (line : List ℕ)
     → ((stand_after layout before line).complete ≡ before.complete)
     ⊎ ((block : Block) × (stand_after layout before line ≡ completed before.complete block))
 unfolding stand_after
 one_line layout before line = grind arith
 
--- these blocks, and maybe more
+-- the longer list is these blocks, and maybe more
 abbrev pub Extends : List Block → List Block → Type 0
 Extends complete longer = (more : List Block) × (longer ≡ complete ++ more)
 
@@ -175,7 +175,7 @@ line_extends layout first before line so_far = elim (one_line layout before line
   | inr one ↦ (so_far.0 ++ one.0 ∷ [], rw (one.1, so_far.1) (append_assoc first so_far.0 (one.0 ∷ [])))
 ]
 
--- the complete blocks of a text are the first of those of a longer one
+-- the complete blocks of a text are the first of those of a longer text
 pub extends : (layout : Layout) (text more : List ℕ)
     → Extends (stand_of layout text).complete (stand_of layout (text ++ more)).complete
 extends layout text =
@@ -196,7 +196,7 @@ fewer_before layout text more =
 -- ---- texts without a fault
 
 module _ (layout : Layout) (k : ℕ) where
-  -- the lines that are ended leave fewer than k blocks
+  -- the ended lines leave fewer than k blocks complete
   abbrev pub Few : List ℕ → Type 0
   Few text = length (stand_of layout text).complete < k
 
@@ -208,19 +208,19 @@ module _ (layout : Layout) (k : ℕ) where
   unfolding fault_of_place ends_early
   place_fault text b few short = grind (arith, nat_tests)
 
-  -- the limit is reached, and a byte follows
+  -- after a text as long as the limit, a byte has the fault `TooLong`
   pub long_fault : (text : List ℕ) (b : ℕ) → Few text → AllGood text ≡ true → length text ≡ LONGEST_INPUT
       → fault_of_place layout k text (Some b) ≡ Some TooLong
   unfolding fault_of_place
   long_fault text b few good full = grind (arith, nat_tests)
 
-  -- behind k complete blocks no place has a fault
+  -- after k complete blocks no place has a fault
   pub enough_right : (text : List ℕ) (next : Option ℕ) → k ≤ length (stand_of layout text).complete
       → fault_of_place layout k text next ≡ None
   unfolding fault_of_place
   enough_right text next enough = rw (le-ltb _ k enough)
 
-  -- a text within the limit has no fault at a byte exactly where k blocks are complete or all is good
+  -- within the limit, no byte of a text has a fault, exactly if k blocks are complete or all is good
   abbrev pub Judged : List ℕ → Type 0
   Judged text = length text ≤ LONGEST_INPUT
       → is_none (byte_fault layout k text) ≡ (nat_le k (length (stand_of layout text).complete) || AllGood text)
@@ -252,12 +252,12 @@ module _ (layout : Layout) (k : ℕ) where
   unfolding byte_fault open_part stand ended_parts
   judged = by_push Judged (λ short. grind (arith, nat_tests)) judged_more
 
-  -- no byte before the last has a fault, nor has the last
+  -- if no byte of a text has a fault, then none before the last has one, and the last has none
   pub faultless_front : (text : List ℕ) (b : ℕ) → byte_fault layout k (text ++ b ∷ []) ≡ None
       → (byte_fault layout k text ≡ None) × (fault_of_place layout k text (Some b) ≡ None)
   faultless_front text b right = or_none _ _ (rw byte_fault-push at right)
 
-  -- one byte more of a good text keeps within the limit
+  -- a good text with one more byte, without a fault, is within the limit
   short_more : (text : List ℕ) (b : ℕ) → byte_fault layout k (text ++ b ∷ []) ≡ None → Few text
       → length text ≤ LONGEST_INPUT → AllGood text ≡ true → length (text ++ b ∷ []) ≤ LONGEST_INPUT
   short_more text b right few short good = elim (cases_eq (length text) LONGEST_INPUT) [
@@ -268,7 +268,7 @@ module _ (layout : Layout) (k : ℕ) where
     | inr differs ↦ omega (arith, length_push text b)
   ]
 
-  -- while no byte has a fault and blocks are wanted, the text is within the limit and all is good
+  -- while no byte has a fault and fewer than k blocks are complete, the text is within the limit and all is good
   pub sound : (text : List ℕ) → byte_fault layout k text ≡ None → Few text
       → (length text ≤ LONGEST_INPUT) × (AllGood text ≡ true)
   unfolding open_part stand ended_parts
@@ -280,7 +280,7 @@ module _ (layout : Layout) (k : ℕ) where
       let within = short_more text b right fewer so_far.0 so_far.1 in
       (within, grind (arith, nat_tests, judged (text ++ b ∷ []) within)))
 
-  -- so the byte by which k blocks are complete is within the limit
+  -- so the byte that completes k blocks is within the limit
   pub sound_more : (text : List ℕ) (b : ℕ) → byte_fault layout k (text ++ b ∷ []) ≡ None → Few text
       → length (text ++ b ∷ []) ≤ LONGEST_INPUT
   sound_more text b right few =

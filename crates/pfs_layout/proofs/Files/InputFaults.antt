@@ -1,5 +1,5 @@
--- Every fault that the definitions put at a place is one of the input: neither a failed read, nor want of
--- memory, nor a seed out of its limit.
+-- Every fault that the definitions find at a place is one of the input: not a failed read, a failed allocation or a
+-- seed that is out of range.
 use Rattle.pfs_layout.proofs.Words.{arith, ◌≡◌, ℕ, Bool, true, false, List, take, Option, Some, None, slice_get, Layout}
 use Rattle.pfs_layout.proofs.Words.{LayoutFault, SeedRange, Read, Memory, Size, Due, mixed_line, misfit, wrong_number}
 use Rattle.pfs_layout.proofs.Words.{size_fault, wrong_size, ends_early, fault_of_place, RefusesInstance, Block}
@@ -10,7 +10,7 @@ is_input_fault Read = false
 is_input_fault Memory = false
 is_input_fault other = true
 
--- a fault of the input, or none
+-- none, or a fault of the input
 abbrev of_input : Option LayoutFault → Bool
 of_input None = true
 of_input (Some fault) = is_input_fault fault
@@ -30,12 +30,12 @@ module _ (layout : Layout) (text : List ℕ) (next : Option ℕ) where
   unfolding ends_early
   of_early k = grind arith
 
-  -- the fault of a place, if it has one, is one of inputs
+  -- the fault of a place, if it has one, is one of the input
   pub of_place : (k : ℕ) → of_input (fault_of_place layout k text next) ≡ true
   unfolding fault_of_place mixed_line wrong_size
   of_place k = grind (arith, of_number, of_early, of_size)
 
--- a refused input has a fault of the input
+-- a rejected input has a fault of the input
 pub refused_input : (layout : Layout) (input : List ℕ) (k : ℕ) (fault : LayoutFault)
     → RefusesInstance layout input k fault
     → is_input_fault fault ≡ true

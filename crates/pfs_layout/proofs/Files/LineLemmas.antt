@@ -31,7 +31,7 @@ pub split_is : (p : ℕ → Bool) (xs : List ℕ) → slice_split p xs ≡ ended
 unfolding ended_parts open_part
 split_is p xs = let s = split_some p xs in rw s.is (all_and_last [] s.first s.more)
 
--- one more element ends the last part, or stands at its end
+-- one more element is added to the last part, or ends it
 split-push : (p : ℕ → Bool) (xs : List ℕ) (b : ℕ)
     → slice_split p (xs ++ b ∷ []) ≡ (if p b then slice_split p xs ++ [] ∷ []
     else all_but_last (slice_split p xs) ++ (last_of [] (slice_split p xs) ++ b ∷ []) ∷ [])
@@ -49,7 +49,7 @@ pub open_part-push : (p : ℕ → Bool) (xs : List ℕ) (b : ℕ)
 unfolding open_part
 open_part-push p xs b = grind (arith, split-push, last_of-push {A = List ℕ})
 
--- the numbers on a line are those that are ended and the one that isn't, if there is one
+-- the numbers on a line are those that were ended and the unfinished one, if there is one
 pub numbers_is : (line : List ℕ) → numbers line ≡ ended_numbers line ++ values (last_digits line ∷ [])
 unfolding numbers ended_numbers
 numbers_is line =
@@ -65,7 +65,7 @@ ended_numbers-push line b = grind (arith, ended_parts-push, split_is)
 
 -- ---- where lines begin and end
 
--- no byte of a line ends it
+-- no byte of the line is a line end
 abbrev pub IsOpen : List ℕ → Type 0
 IsOpen line = All (λ b. is_line_end b ≡ false) line
 
@@ -81,7 +81,7 @@ pub lines-open : (line : List ℕ) → IsOpen line → lines line ≡ last_line 
 unfolding lines ended_parts open_part
 lines-open line none = rw (slice_split_none is_line_end line none)
 
--- a line, its end and the rest
+-- a line, its line end and the rest
 module _ (line : List ℕ) (c : ℕ) (rest : List ℕ) (none : IsOpen line) (ends : is_line_end c ≡ true) where
   pub lines-line : lines (line ++ c ∷ rest) ≡ line ∷ lines rest
   unfolding lines ended_parts open_part
@@ -93,7 +93,7 @@ module _ (line : List ℕ) (c : ℕ) (rest : List ℕ) (none : IsOpen line) (end
   open_line-line =
       let s = split_some is_line_end rest in rw (slice_split_at is_line_end line c rest none ends, s.is)
 
--- a front of a text that is some of its lines
+-- a prefix of the text has these lines
 pub record LinesFront (text : List ℕ) (some : List (List ℕ)) : Type 0 where
   pub front : List ℕ
   pub rest : List ℕ

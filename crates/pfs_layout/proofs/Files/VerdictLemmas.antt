@@ -1,4 +1,4 @@
--- An input holds a file exactly where none of its places has a fault.
+-- An input has a file exactly if none of its places has a fault.
 use Rattle.pfs_layout.proofs.Words.{false_from_ne_true, slice_get-append, nil_from_length, slice_get-push, append_assoc}
 use Rattle.pfs_layout.proofs.Words.{fault_of_place, LONGEST_INPUT, ended_numbers, wrong_number, cases_option, slice_get}
 use Rattle.pfs_layout.proofs.Words.{all_but_last, all_and_last, length_push, is_line_end, ended_lines, ended_parts, ◌≡◌}
@@ -17,7 +17,7 @@ use Rattle.pfs_layout.proofs.Files.GoodLemmas.{sound_more, faultless_front}
 use Rattle.pfs_layout.proofs.Files.FileLemmas.{FitsNow, made}
 use Rattle.pfs_layout.proofs.Files.LineLemmas.{lines-parts}
 
--- a text within the limit is a front of itself
+-- a text within the limit is a prefix of itself
 abbrev pub all_of : (text : List ℕ) → length text ≤ LONGEST_INPUT → Front limits text
 all_of text short = record { text = text; rest = []; whole = sym (append-nil text); ended = inr refl; short = short }
 
@@ -28,7 +28,7 @@ lines_ended text e = rw (lines-parts text, e) (append-nil (ended_lines text))
 nothing_on : (line : List ℕ) → is_empty line ≡ true → line ≡ []
 nothing_on line e = nil_from_length line (eqb-true (length line) 0 e)
 
--- an empty line changes nothing
+-- where all is good, an empty line changes nothing
 empty_line : (layout : Layout) (complete : List Block) (now : Now) (tail : List (List ℕ)) → is_good layout now [] ≡ true
     → FitsNow layout now tail → after_line layout complete now [] ≡ standing complete now
 unfolding numbers ended_numbers ended_parts
@@ -38,7 +38,7 @@ empty_line layout complete (inside block) tail good is =
     rw (append-nil block.numbers, due, ne_eqb _ _ is.short)
 empty_line layout complete lost tail good is = absurd (cc)
 
--- all lines lead where the open line leads from those that are ended
+-- all lines lead to the state after the ended lines and the open line
 stand_filled : (layout : Layout) (text : List ℕ) → is_empty (open_line text) ≡ false
     → stand layout (lines text) ≡ stand_after layout (stand_of layout text) (open_line text)
 stand_filled layout text filled = rw (lines-parts text, filled) (stand-push layout (ended_lines text) (open_line text))
@@ -56,7 +56,7 @@ stand_lines layout text good = elim (cases_Bool (is_empty (open_line text))) [
       (sym (empty_line layout before.complete before.now m.tail (rw nothing at good) m.fits))
 ]
 
--- a block that is complete before the last line stays
+-- a block that was complete before the last line remains
 pub block_stays : (layout : Layout) (text more : List ℕ) (i : ℕ) → i < length (stand_of layout text).complete
     → slice_get (stand layout (lines (text ++ more))).complete i ≡ slice_get (stand_of layout text).complete i
 block_stays layout text more i within =
@@ -70,7 +70,7 @@ block_stays layout text more i within =
     ] in
     rw longer.1 (slice_get-append (stand_of layout text).complete longer.0 i within)
 
--- the fault of the end is that of a line end there, or else what is missing
+-- the fault of the end is that of a line end there, and if there is none, the fault of what is missing
 pub end_faults : (layout : Layout) (k : ℕ) (now : Now) (text : List ℕ) → is_good layout now (open_line text) ≡ true
     → first_some (faults layout k now text None)
     ≡ option_or (fault_within_limit layout now text 10) (ends_early layout k text None)
@@ -82,7 +82,7 @@ end_faults layout k seeking text good = elim (cases_Bool (is_empty (open_line te
 end_faults layout k (inside block) text good = rw (gap_fault layout block text 10 refl) (grind arith)
 end_faults layout k lost text good = absurd (cc)
 
--- the last of the complete blocks is a problem's
+-- the last of the complete blocks is some problem's
 pub seeks_completes : (layout : Layout) (input : List ℕ) (k : ℕ) → 1 ≤ k → (s : Seeks layout input k)
     → (problem : Problem) × (c : Completes layout input k problem) × (c.seeks ≡ s)
 seeks_completes layout input k some s = by_complete (stand layout (lines s.text)).complete refl
@@ -105,7 +105,7 @@ module _ (layout : Layout) (k : ℕ) where
   abbrev pub Faultless : List ℕ → Type 0
   Faultless text = byte_fault layout k text ≡ None
 
-  -- nor has a byte that follows k complete blocks
+  -- and none has one after it, if k blocks are complete
   pub faultless_behind : (text more : List ℕ) → k ≤ length (stand_of layout text).complete → Faultless text
       → Faultless (text ++ more)
   faultless_behind text more enough right = by_push (λ more. Faultless (text ++ more)) (rw (append-nil text) right)
@@ -114,7 +114,7 @@ module _ (layout : Layout) (k : ℕ) where
       rw (← append_assoc text more (b ∷ []), byte_fault-push layout k (text ++ more) b, h)
       (enough_right layout k (text ++ more) (Some b) (omega arith))) more
 
-  -- the end has a fault exactly where the last line leaves fewer than k blocks
+  -- the end has no fault exactly if the last line leaves k blocks complete
   end_is : (text : List ℕ) → Faultless text → Few layout k text
       → is_none (fault_of_place layout k text None) ≡ nat_le k (length (stand layout (lines text)).complete)
   unfolding fault_of_place ends_early stand_after
@@ -129,18 +129,18 @@ module _ (layout : Layout) (k : ℕ) where
 
   -- ---- without a fault there is a file
 
-  -- behind the line by which k blocks are complete the next is sought
+  -- after the line that completes k blocks, the next block is sought
   sought : (text : List ℕ) (reached : Stand) → Few layout k text
       → reached ≡ stand_after layout (stand_of layout text) (open_line text) → k ≤ length reached.complete
       → (length reached.complete ≡ k) × (reached.now ≡ seeking)
   sought text reached few is enough =
       let line = one_line layout (stand_of layout text) (open_line text) in grind (arith, length_push {X = Block})
 
-  -- the problem's file ends with a line end
+  -- the input has the problem's file, which ends with a line end
   abbrev pub EndedHolds : List ℕ → Problem → Type 0
   EndedHolds input problem = (c : Completes layout input k problem) × (open_line c.text ≡ [])
 
-  -- so it is the file whatever follows
+  -- so it has this file with any bytes after it
   pub holds_longer : (text more : List ℕ) (problem : Problem) → EndedHolds text problem
       → EndedHolds (text ++ more) problem
   holds_longer text more problem held =
@@ -151,7 +151,7 @@ module _ (layout : Layout) (k : ℕ) where
       let seeks : Seeks layout (text ++ more) k = record { front = front; complete = c.complete; now = c.now } in
       (record { seeks = seeks; earlier = c.earlier; own = c.own; parts = c.parts; is = c.is }, held.1)
 
-  -- k blocks that are complete before the last line hold a problem
+  -- an input in which k blocks are complete before the last line has a problem
   pub enough_holds : 1 ≤ k → (input : List ℕ) → Faultless input → k ≤ length (stand_of layout input).complete
       → (problem : Problem) × EndedHolds input problem
   unfolding stand ended_parts
@@ -240,7 +240,7 @@ module _ (layout : Layout) (k : ℕ) where
   holds_accepted input problem c =
       rw (holds_unrefused input problem c, kth_block input problem c, c.is)
 
-  -- an input holds one problem
+  -- an input has at most one problem
   pub one_held : (input : List ℕ) (one other : Problem) → Completes layout input k one → Completes layout input k other
       → one ≡ other
   one_held input one other c d = cc (holds_accepted input one c, holds_accepted input other d)

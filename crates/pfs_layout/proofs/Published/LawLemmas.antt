@@ -1,4 +1,4 @@
--- One verdict, and what it is computed by.
+-- The law of one verdict, and the laws on what computes it.
 use Rattle.pfs_layout.proofs.Words.{inl, inr, refusal, cases_option}
 use Rattle.pfs_layout.specs.Laws.{OneVerdict, AcceptedLaw}
 use Rattle.pfs_layout.proofs.Published.PlaceLemmas.{refusal_is, one_fault}

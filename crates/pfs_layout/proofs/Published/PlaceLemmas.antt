@@ -1,4 +1,4 @@
--- Places of a text with one more byte, and the first fault.
+-- The places of a text with one more byte, and the first fault.
 use Rattle.pfs_layout.proofs.Words.{slice_get-push, ◌≡◌, ℕ, suc, ◌+◌, ◌<◌, List, [], ◌∷◌, ◌++◌, length, refl, arith}
 use Rattle.pfs_layout.proofs.Words.{Option, Some, None, option_or, length_push, take_all, slice_get-append, Layout}
 use Rattle.pfs_layout.proofs.Words.{LayoutFault, fault_of_place, refusal, byte_fault, RefusesInstance, zero, ◌≤◌, ◌↔◌}
@@ -9,9 +9,9 @@ use Rattle.pfs_base.proofs.Published.Lists.{map-range_with_len-same, first_some-
 use Rattle.pfs_layout.specs.Laws.{ByteFaultLaw, RefusalLaw}
 use Rattle.pfs_layout.specs.Refuse.{fault_at}
 
--- the first place at which a function is there
+-- the first place at which a function has a value
 module _ {A : Type 0} (f : ℕ → Option A) where
-  -- one place more
+  -- with one place more
   first_push : (n : ℕ) → first_some (map f (below (suc n))) ≡ option_or (first_some (map f (below n))) (f n)
   first_push n =
       let e : 0 + n ≡ n = omega arith in
@@ -23,7 +23,7 @@ module _ {A : Type 0} (f : ℕ → Option A) where
   first_none zero e q h = absurd (omega arith)
   first_none (suc n) e q h = grind (arith, first_push n, first_none n)
 
--- a place within a text has the fault that it has in each longer text
+-- a place within a text has the same fault in each longer text
 fault_at-append : (layout : Layout) (k : ℕ) (text more : List ℕ) (place : ℕ) → place < length text
     → fault_at layout k (text ++ more) place ≡ fault_at layout k text place
 fault_at-append layout k text more place h =
@@ -45,7 +45,7 @@ byte_fault-push layout k text b =
     (λ i low high. fault_at-append layout k text (b ∷ []) i (omega arith)) in
     rw (size, first_push f (length text), front, take_at text (b ∷ []) (length text) refl, slice_get-push text b)
 
--- the fault of an input is the first at a byte, or else that at the end
+-- the fault of an input is the first at a byte, and if there is none, that at the end
 pub refusal_end : (layout : Layout) (k : ℕ) (input : List ℕ)
     → refusal layout input k ≡ option_or (byte_fault layout k input) (fault_of_place layout k input None)
 unfolding refusal byte_fault
@@ -56,7 +56,7 @@ refusal_end layout k input =
 -- ---- the first place that has a fault
 
 module _ (layout : Layout) (input : List ℕ) (k : ℕ) where
-  -- at most one fault
+  -- an input has at most one fault
   pub one_fault : (one other : LayoutFault) → RefusesInstance layout input k one → RefusesInstance layout input k other
       → one ≡ other
   one_fault one other r s = grind (arith, r.first, s.first)
@@ -76,21 +76,21 @@ module _ (layout : Layout) (input : List ℕ) (k : ℕ) where
             (record { place = n; within = omega arith; here = here; first = before }, omega arith)
       ]
 
-  -- the first of the faults of so many places is the fault of the input that is at one of them
+  -- the first fault of the first n places is the fault of the input, at one of these places
   first_is : (n : ℕ) (fault : LayoutFault) → n ≤ length input + 1
       → first_some (map (fault_at layout k input) (below n)) ≡ Some fault
       ↔ ((r : RefusesInstance layout input k fault) × (r.place < n))
   first_is n fault few =
       (first_fault n fault few, λ r. grind (arith, first_none (fault_at layout k input) n, first_fault n, one_fault))
 
--- what refusal computes is the fault of the first place that has one
+-- `refusal` computes the fault of the first place that has one
 pub refusal_is : RefusalLaw
 unfolding refusal
 refusal_is layout input k fault =
     let is = first_is layout input k (length input + 1) fault (omega arith) in
     (λ e. (is.0 e).0, λ r. is.1 (r, omega (arith, r.within)))
 
--- the fault at a byte is the fault of a place that is a byte
+-- the first fault at a byte is the fault of the input, at a place that is a byte
 pub byte_fault_is : ByteFaultLaw
 unfolding byte_fault
 byte_fault_is layout text k fault = first_is layout text k (length text) fault (omega arith)

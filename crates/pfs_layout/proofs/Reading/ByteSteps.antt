@@ -1,4 +1,4 @@
--- A byte more: the fault that its place has, or what the fields say behind it.
+-- One more byte: the fault of its place, or what the fields mean after it.
 use Rattle.pfs_layout.proofs.Words.{◌++◌, ◌∷◌, [], ◌≡◌, ℕ, ◌<◌, Bool, true, false, ◌||◌, List, length, refl, arith}
 use Rattle.pfs_layout.proofs.Words.{Some, None, if◌then◌else◌, inl, inr, ◌≢◌, ◌+◌, ◌-◌, ◌≤◌, count_by, ◌∙◌, Option}
 use Rattle.pfs_layout.proofs.Words.{list_any, cases_Bool, lt-ltb, or_parts, eqb-true, eqb-false, eq-eqb, ne_eqb}
@@ -21,7 +21,7 @@ use Rattle.pfs_layout.proofs.Reading.NumberSteps.{IsRefusal, Outcome, misfit_in,
 use Rattle.pfs_layout.proofs.Reading.LineSteps.{sought_line, body_line}
 use Rattle.pfs_layout.specs.declared.scan.Number.{Number}
 
--- ---- what the judgement of a number leaves as it is
+-- ---- what the check of a number leaves unchanged
 
 pub record Keeps (old new : Blocks) : Type 0 where
   pub layout : new.layout ≡ old.layout
@@ -37,7 +37,7 @@ pub record Keeps (old new : Blocks) : Type 0 where
 pub live-memory : (phase : Phase) → is_live phase ≡ true → phase ≢ phases.Refused Memory
 live-memory phase live e = grind arith
 
--- whether a reader was refused memory
+-- whether a reader's allocation failed
 pub refused_memory : (phase : Phase) → (phase ≡ phases.Refused Memory) ⊎ (phase ≢ phases.Refused Memory)
 refused_memory (phases.Refused Memory) = inl refl
 refused_memory phase = inr (λ e. cc)
@@ -57,9 +57,9 @@ pub keeps_last : (r : Blocks) (number : Option Number) → is_live r.phase ≡ t
 keeps_last r None live = grind arith
 keeps_last r (Some number) live = keeps_number r number.value number.first live
 
--- ---- a line's end
+-- ---- the end of a line
 
--- what a line's end leaves, and what it does beside the block
+-- what the end of a line leaves unchanged, and what it changes apart from the block
 pub record KeepsAtLineEnd (old new : Blocks) : Type 0 where
   pub layout : new.layout ≡ old.layout
   pub wanted : new.wanted ≡ old.wanted
@@ -70,15 +70,15 @@ pub line_end_keeps : (r : Blocks) (numbers : Bool) → KeepsAtLineEnd r (line_en
 unfolding line_ended
 line_end_keeps r numbers = grind arith
 
--- ---- what a live reader says
+-- ---- a reader that needs more bytes
 
 pub live_few : (has_word : Bool) (r : Blocks) (now : Now) (more : List ℕ) → FollowsNow has_word r now more
     → is_live r.phase ≡ true → r.complete < r.wanted
 live_few has_word r now more f live = grind (arith, nat_tests, f)
 
--- ---- the blocks behind a byte
+-- ---- the blocks after a byte
 
--- what the blocks say of this text, which leads to these complete blocks and stands there
+-- what the fields of the blocks mean for this text, whose ended lines lead to this state
 abbrev pub FollowsText : Blocks → List ℕ → List Block → Now → Type 0
 FollowsText r text complete now =
     FollowsBlocks (list_any is_word_byte (open_line text)) r (standing complete now) (ended_numbers (open_line text))
@@ -88,7 +88,7 @@ pub judged_gap : (r : Blocks) (last : Line) (b : ℕ) → (is_blank b || is_line
     if is_line_end b then line_ended behind (has_numbers_alone last.kinds) else behind)
 judged_gap r last b gap = grind (arith, nat_tests)
 
--- the outcome of a byte on the line
+-- the outcome of a byte that doesn't end the line
 abbrev pub FollowsOn : Blocks → Line → List ℕ → ℕ → List Block → Now → Type 0
 FollowsOn r last text b complete now = Outcome r (list_any is_word_byte (open_line text ++ b ∷ []))
     (standing complete now) (ended_numbers (open_line text ++ b ∷ [])) (after_byte r last b)
@@ -96,7 +96,7 @@ FollowsOn r last text b complete now = Outcome r (list_any is_word_byte (open_li
 
 -- ---- a byte that ends neither a number nor a line
 
--- a byte that ends no line has no fault while a block is sought
+-- while a block is sought, a byte that doesn't end the line has no fault
 sought_fine : (layout : Layout) (text : List ℕ) (b : ℕ) → is_line_end b ≡ false
     → wrong_size layout text (Some b) ≡ None
 unfolding wrong_size
@@ -131,7 +131,7 @@ quiet_inside r last text b complete block less ns other line f good words number
     let none = no_last text in
     grind (arith, nat_tests, ended_numbers-push, list_any-append {X = ℕ})
 
--- it is refused where it mixes a line of a block
+-- it has a fault if it mixes a line of a block
 quiet_byte : (r : Blocks) (last : Line) (text : List ℕ) (b : ℕ) (complete : List Block) (now : Now)
     → (is_blank b || is_line_end b) ≡ false → FollowsLine last text → FollowsText r text complete now
     → GoodNow r.layout now (open_line text)
@@ -185,7 +185,7 @@ blank_byte r last text b complete now gap on live five line f =
     grind (arith, nat_tests, ended_numbers-push) in
     rw (words, ended, judged_gap r last b gap, on, fault) (number_part _ r last text complete now live five line f)
 
--- any byte on the line
+-- any byte that doesn't end the line
 pub byte_on : (r : Blocks) (last : Line) (text : List ℕ) (b : ℕ) (complete : List Block) (now : Now)
     → is_line_end b ≡ false → is_live r.phase ≡ true → length r.size_line.values ≡ 5
     → FollowsLine last text → FollowsText r text complete now → GoodNow r.layout now (open_line text)
@@ -197,13 +197,13 @@ byte_on r last text b complete now on live five line f good = elim (cases_Bool (
 
 -- ---- the end of a line
 
--- a line's end changes no refusal
+-- the end of a line changes no fault
 refused_line : (r next : Blocks) (fault : LayoutFault) (numbered : Bool) → IsRefusal r fault next
     → IsRefusal r fault (line_ended next numbered)
 unfolding line_ended
 refused_line r next fault numbered refuses = grind arith
 
--- a line's end has the outcome that it has behind the line's last number
+-- the end of a line has the outcome that it has after the line's last number
 outcome_behind : (r between next : Blocks) (stood : Stand) (fault : Option LayoutFault) → Keeps r between
     → between.held ≡ r.held → Outcome between false stood [] next fault → Outcome r false stood [] next fault
 outcome_behind r between next stood None keeps held o = o

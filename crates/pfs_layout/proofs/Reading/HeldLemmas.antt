@@ -1,4 +1,4 @@
--- No more times are held than the wanted block has.
+-- No more times are stored than the wanted block has.
 use Rattle.pfs_layout.proofs.Words.{◌≡◌, ℕ, ◌≤◌, List, ◌++◌, take, drop, arith, Option, Some, None, inl, inr, Result}
 use Rattle.pfs_layout.proofs.Words.{Ok, Err, All, nat_tests, append_assoc, append-nil, by_push, Layout, LayoutFault}
 use Rattle.pfs_layout.proofs.Words.{Memory, Phase, Progress, ended_lines, Block, stand_after, stand, byte_fault, Fields}
@@ -12,7 +12,7 @@ use Rattle.pfs_layout.proofs.Files.DueLemmas.{no_more_than_due}
 use Rattle.pfs_layout.proofs.Reading.ByteSteps.{refused_memory}
 use Rattle.pfs_layout.proofs.Reading.PieceLemmas.{whole_text}
 
--- ---- blocks that aren't longer than they are due
+-- ---- blocks with no more times than their size says
 
 abbrev IsFew : Layout → Option Block → Type 0
 IsFew layout o = time_count layout o ≤ most_times o
@@ -24,7 +24,7 @@ all_few layout = by_push (λ lines. All (λ b. IsFew layout (Some b)) (stand lay
     (λ k d none. absurd (omega arith)) (λ lines line all. rw (stand-push layout lines line)
     (grind (arith, nat_tests, All-push {X = Block} (λ b. IsFew layout (Some b)))))
 
--- nor has the wanted block, while no byte has a fault
+-- nor has the wanted block, if no byte has a fault
 few_times : (layout : Layout) (k : ℕ) (text : List ℕ) → byte_fault layout k text ≡ None
     → IsFew layout (block_read layout k text)
 unfolding block_read
@@ -41,7 +41,7 @@ unfolding block_read
 few_in (phases.Refused fault) r text s = grind (arith, s, few_times r.layout r.wanted s.front s.sound)
 few_in phase r text s = grind (arith, append-nil text, few_times r.layout r.wanted text s.sound, s.blocks.held)
 
--- behind a piece
+-- after a piece
 pub feed_few : (old : Fields) (text piece : List ℕ) (outcome : Result Progress LayoutFault) (new : Fields)
     → FeedMeets old text piece outcome new → (outcome ≡ Err Memory → new.held ≡ 0)
     → HoldsFew old.layout old.wanted (text ++ piece) new.held

@@ -1,4 +1,4 @@
--- A line that ends: the fault that it has, or what the fields say behind it.
+-- The end of a line: the fault that it has, or what the fields mean after it.
 use Rattle.pfs_layout.proofs.Words.{◌≡◌, ◌≢◌, ℕ, ◌+◌, ◌<◌, min, Bool, true, false, List, [], ◌∷◌, ◌++◌, length, refl}
 use Rattle.pfs_layout.proofs.Words.{◌∙◌, ap, arith, Option, Some, None, if◌then◌else◌, inl, inr, option_map, list_any}
 use Rattle.pfs_layout.proofs.Words.{lt-ltb, le-ltb, eq-eqb, ne_eqb, and_parts, cases_Bool, cases_lt, nat_tests}
@@ -16,7 +16,7 @@ use Rattle.pfs_layout.proofs.Reading.NumberSteps.{Outcome}
 
 -- ---- what a size line states
 
--- the numbers as they are kept
+-- the numbers that are stored, each at most the ceiling
 abbrev pub clipped : Size → Size
 clipped size = record {
   jobs = min CEILING size.jobs;
@@ -28,7 +28,7 @@ clipped size = record {
   };
 }
 
--- what is kept of a stated size, or that none is stated
+-- what is stored of a stated size, or that none is stated
 abbrev pub Clips : Option Size → Option Size → Type 0
 Clips kept stated = kept ≡ option_map clipped stated
 
@@ -44,7 +44,7 @@ pub same_within : (size : Size) → is_within_limits (clipped size) ≡ is_withi
 same_within size =
     grind (arith, nat_tests)
 
--- a size within the limits is kept as it is
+-- a size within the limits is stored unchanged
 clipped_is : (size : Size) → is_within_limits size ≡ true → clipped size ≡ size
 clipped_is size within = let w = size_within size within in grind arith
 
@@ -76,7 +76,7 @@ begun_follows r complete size f few within =
 holds_none : HoldsNumbers no_numbers []
 holds_none = record { count = refl; values = λ i low few. absurd (omega arith) }
 
--- the next block is sought on the next line too, of which no number is known
+-- the next block is sought on the next line too, of which no number was read
 seeks_on : {has_word : Bool} (r : Blocks) (complete : List Block) (more : List ℕ)
     → FollowsBlocks has_word r (standing complete seeking) more
     → FollowsBlocks false (at_next_line r) (standing complete seeking) []
@@ -96,13 +96,13 @@ size_step (Some size) kept r complete same f few = elim (cases_Bool (is_within_l
       rw (same, same_within size, beyond) (record { phase = refl; held = refl; layout = refl; wanted = refl })
 ]
 
--- what a line's end does in this phase
+-- what the end of a line does in this phase
 ended_in : (r : Blocks) (numbered : Bool) (phase : Phase) → r.phase ≡ phase
     → line_ended r numbered ≡ line_ended_in phase r numbered
 unfolding line_ended
 ended_in r numbered phase e = ap (λ p. line_ended_in p r numbered) e
 
--- a line behind which the next block is sought
+-- the end of a line while a block is sought
 pub sought_line : (r : Blocks) (complete : List Block) (line : List ℕ) (numbered : Bool)
     → FollowsBlocks (list_any is_word_byte line) r (standing complete seeking) (numbers line)
     → r.phase ≡ phases.Seeking → r.complete < r.wanted
@@ -122,7 +122,7 @@ sought_line r complete line numbered f phase few same =
 
 -- ---- a line of a body
 
--- the block that a line completes is read as it was while it was open
+-- the block that a line completes is read as it was before the line's end
 completed_is : (wanted : ℕ) (complete : List Block) (block : Block) (line : List ℕ) → length complete < wanted
     → block_of wanted (completed complete (with_line block line)) []
     ≡ block_of wanted (standing complete (inside block)) (numbers line)

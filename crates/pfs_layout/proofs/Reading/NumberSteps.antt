@@ -1,4 +1,4 @@
--- A number more: the fault that it has, or what the fields say behind it.
+-- One more number: the fault that it has, or what the fields mean after it.
 use Rattle.pfs_layout.proofs.Words.{◌≡◌, ◌≢◌, ℕ, ◌+◌, ◌*◌, ◌%◌, ◌<◌, List, [], ◌∷◌, ◌++◌, length, get_or, refl, sym}
 use Rattle.pfs_layout.proofs.Words.{◌∙◌, arith, common_steps, length-replicate, length-set, same_from_place, mul-add-lt}
 use Rattle.pfs_layout.proofs.Words.{rows, with_time, Layout, OrLib, Size, place_of_time}
@@ -24,7 +24,7 @@ use Rattle.pfs_layout.specs.declared.blocks.Phase.TheVariants as phases
 
 -- ---- the problem of a block with one number more
 
--- a table in which one place has another number
+-- a table in which one entry has another value
 table_with : (f g : ℕ → ℕ → ℕ) (jobs machines job machine v : ℕ) → job < jobs → machine < machines
     → g job machine ≡ v → ((r c : ℕ) → r < jobs → c < machines → (r ≡ job → c ≢ machine) → g r c ≡ f r c)
     → set (table f jobs machines) (job * machines + machine) v ≡ table g jobs machines
@@ -43,12 +43,12 @@ same_time_place : (layout : Layout) (size : Size) (r c job machine : ℕ) → r 
 same_time_place layout size r c job machine p q j m e =
     grind (arith, same_from_place r c job machine size.machines, same_from_place c r machine job size.jobs)
 
--- a list with one number more has elsewhere what it had
+-- one more number changes no other number of a list
 index_push_other : (ns : List ℕ) (v p : ℕ) → p ≢ length ns → get_or (ns ++ v ∷ []) p 0 ≡ get_or ns p 0
 index_push_other ns v p other = grind (arith, common_steps)
 
 module _ (layout : Layout) (size : Size) where
-  -- a time more stands at its place
+  -- one more time is at its place
   pub instance_of-time : (ns : List ℕ) (v job machine : ℕ) → job < size.jobs → machine < size.machines
       → place_of_time layout size job machine ≡ length ns
       → instance_of layout (record { size = size; numbers = ns ++ v ∷ [] })
@@ -68,7 +68,7 @@ idle_problem jobs machines =
     same_table (λ r c. 0) jobs machines _ (length-replicate (jobs * machines) 0)
     (λ r c p q. get_or-replicate (jobs * machines) _ 0 0 (grind (arith, rows)))
 
--- the number of a machine changes no time
+-- a machine's number changes no time
 pub instance_of-machine : (size : Size) (ns : List ℕ) (v : ℕ) → length ns % 2 ≡ 0
     → instance_of OrLib (record { size = size; numbers = ns ++ v ∷ [] })
     ≡ instance_of OrLib (record { size = size; numbers = ns })
@@ -103,12 +103,12 @@ next_place width row column rows h k more = elim (cases_Bool (column + 1 == widt
 ]
 
 module _ {layout : Layout} {size : Size} {count : ℕ} {body : Body} (f : FollowsBody layout size count body) where
-  -- what the body says is due
+  -- what is due, by the fields of the body
   pub due_is : due_at layout size count ≡ due_next layout body
   unfolding due_at
   due_is = grind (arith, nat_tests, mod-mul-add body.job size.machines body.machine, f.place)
 
-  -- behind a time, and behind the number of a machine
+  -- after a time, and after a machine's number
   pub time_behind : due_next layout body ≡ Due.Time → FollowsBody layout size (count + 1) (after_time layout body)
   time_behind due = grind (arith, nat_tests, next_place, f.place)
 
@@ -118,7 +118,7 @@ module _ {layout : Layout} {size : Size} {count : ℕ} {body : Body} (f : Follow
 
 -- ---- the wanted block's instance
 
--- what is kept of a block that is wanted or not
+-- what is stored of a block, if it is wanted, or if it isn't
 pub record Keeping (layout : Layout) (wanted : Bool) (block : Block) (kept : Option Problem) (count : ℕ) : Type 0 where
   pub instance : kept ≡ option_map (instance_of layout) (if wanted then Some block else None)
   pub held : count ≡ time_count layout (if wanted then Some block else None)
@@ -139,7 +139,7 @@ module _ {wanted : Bool} {layout : Layout} {size : Size} {ns : List ℕ} (v : �
 
 -- ---- outcomes
 
--- only the fault is new
+-- only the fault has changed
 pub record IsRefusal (old : Blocks) (fault : LayoutFault) (new : Blocks) : Type 0 where
   pub phase : new.phase ≡ phases.Refused fault
   pub held : new.held ≡ old.held
@@ -149,12 +149,12 @@ pub record IsRefusal (old : Blocks) (fault : LayoutFault) (new : Blocks) : Type 
 pub refuses : (r : Blocks) (fault : LayoutFault) → IsRefusal r fault (refused r fault)
 refuses r fault = record { phase = refl; held = refl; layout = refl; wanted = refl }
 
--- the fault, or what the fields say behind these ended numbers of the line, which has a word byte or not
+-- the fault, or what the fields mean after these ended numbers of the line, which has a word byte or not
 abbrev pub Outcome : Blocks → Bool → Stand → List ℕ → Blocks → Option LayoutFault → Type 0
 Outcome r has_word stood more next None = FollowsBlocks has_word next stood more
 Outcome r has_word stood more next (Some fault) = IsRefusal r fault next
 
--- the fault of a number behind these
+-- the fault of a number after these
 abbrev pub misfit_in : Layout → Now → List ℕ → ℕ → ℕ → Option LayoutFault
 misfit_in layout seeking more v first = None
 misfit_in layout (inside block) more v first =
@@ -163,13 +163,13 @@ misfit_in layout lost more v first = None
 
 -- ---- the wanted block
 
--- it is the one that is begun, where that is the next to be complete
+-- it is the one that has begun, if that is the next to be complete
 pub begun_wanted : (complete : List Block) (wanted : ℕ) (now : Now) (more : List ℕ) → length complete < wanted
     → block_of wanted (standing complete now) more
     ≡ (if length complete + 1 == wanted then block_begun_by now more else None)
 begun_wanted complete wanted now more few = rw (lt-ltb (length complete) wanted few)
 
--- what is kept of the block that is begun
+-- what is stored of the block that has begun
 pub keeping_of : (r : Blocks) (complete : List Block) (block : Block) (more : List ℕ) → length complete < r.wanted
     → r.instance ≡ option_map (instance_of r.layout) (block_of r.wanted (standing complete (inside block)) more)
     → r.held ≡ time_count r.layout (block_of r.wanted (standing complete (inside block)) more)
@@ -198,18 +198,18 @@ sought_number r complete more v first f live five =
       held = f.held;
     })
 
--- ---- a block is begun
+-- ---- a block has begun
 
 module _ {has_word : Bool} (r : Blocks) (complete : List Block) (block : Block) (more : List ℕ) (v : ℕ)
     (f : FollowsBlocks has_word r (standing complete (inside block)) more) where
-  -- the fault, or what the fields say with the number
+  -- the fault, or what the fields mean with the number
   abbrev CountsTo : Blocks → Option LayoutFault → Type 0
   CountsTo next fault = Outcome r has_word (standing complete (inside block)) (more ++ v ∷ []) next fault
 
   abbrev so_far : List ℕ
   so_far = block.numbers ++ more
 
-  -- this is kept, where the block has these numbers
+  -- this is stored, if the block has these numbers
   abbrev KeepsOf : List ℕ → Option Problem → ℕ → Type 0
   KeepsOf numbers kept count =
       Keeping r.layout (length complete + 1 == r.wanted) (record { size = block.size; numbers = numbers }) kept count
@@ -220,7 +220,7 @@ module _ {has_word : Bool} (r : Blocks) (complete : List Block) (block : Block) 
   keeps : KeepsOf so_far r.instance r.held
   keeps = keeping_of r complete block more few f.instance f.held
 
-  -- the body has come one number further, and what is kept too
+  -- the body has one more number, and so has what is stored
   counted_follows : {body : Body} {instance : Option Problem} {held : ℕ}
       → FollowsBody r.layout block.size (length so_far + 1) body → KeepsOf (so_far ++ v ∷ []) instance held
       → CountsTo (record r { body = body; instance = instance; held = held }) None
@@ -238,7 +238,7 @@ module _ {has_word : Bool} (r : Blocks) (complete : List Block) (block : Block) 
   follows : FollowsBody r.layout block.size (length so_far) r.body
   follows = rw (← length-append block.numbers more) at f.now.body
 
-  -- a number that is what is due, and is kept as it is
+  -- a number that is what is due: it is below the ceiling
   due_counts : (due : Due) → due_next r.layout r.body ≡ due → is_due due v ≡ true
       → CountsTo (counted r due (min CEILING v)) None
   due_counts Due.Time e is =
@@ -262,7 +262,7 @@ module _ {has_word : Bool} (r : Blocks) (complete : List Block) (block : Block) 
         | inr other ↦ rw other (refuses r _)
       ])
 
--- a number more, wherever it stands
+-- one more number, in any state
 pub number_step : {has_word : Bool} (r : Blocks) (complete : List Block) (now : Now) (more : List ℕ) (v first : ℕ)
     → FollowsBlocks has_word r (standing complete now) more
     → is_live r.phase ≡ true → length r.size_line.values ≡ 5

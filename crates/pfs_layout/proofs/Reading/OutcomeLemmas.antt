@@ -1,4 +1,4 @@
--- What finish owes: the end of an input is judged as a line end there would be, and as what is missing behind it.
+-- What `finish` promises: the end of the input is checked as a line end would be, and then for what is missing.
 use Rattle.pfs_layout.proofs.Words.{◌≡◌, ℕ, ◌-◌, ◌≤◌, true, List, [], refl, sym, ◌∙◌, arith, Option, Some, None, inl}
 use Rattle.pfs_layout.proofs.Words.{inr, Result, Ok, Err, option_or, result_err, nat_tests, lt-ltb, le-ltb, append-nil}
 use Rattle.pfs_layout.proofs.Words.{Problem, LayoutFault, Phase, Blocks, lines, ends_early, fault_of_place, refusal}
@@ -19,19 +19,19 @@ use Rattle.pfs_layout.proofs.Reading.PieceLemmas.{refused_fault, done_enough, li
 
 -- ---- the end of the input
 
--- the blocks behind the end, as if it were a line end
+-- the blocks after the end, as after a line end
 abbrev pub after_end : Fields → Blocks
 after_end r = line_ended (at_end r.last r.blocks) (has_numbers_alone r.kinds)
 
--- the reader's fault is that of the input, and if there is none its instance is that of the input
+-- the reader's fault is that of the input, and if there is none, its instance is that of the input
 record EndOutcome (r : Fields) (text : List ℕ) : Type 0 where
   pub some : 1 ≤ r.wanted
   pub fault : refusal r.layout text r.wanted ≡ end_fault (after_end r)
   pub instance : end_fault (after_end r) ≡ None
       → (at_end r.last r.blocks).instance ≡ accepted r.layout text r.wanted
 
--- a reader that wants more: the last number and the last line end as before a line end, and what is missing then is
--- what the blocks behind it say
+-- a reader that needs more bytes: the last number and the last line end as they do before a line end, and the
+-- blocks after it say what is missing then
 live_end : (r : Fields) (text : List ℕ) → Follows r text → is_live r.phase ≡ true → EndOutcome r text
 unfolding fault_of_place ends_early line_ended accepted
 live_end r text f live =
@@ -50,7 +50,7 @@ live_end r text f live =
           grind (arith, nat_tests, f.some, faults, keeps, follows.complete, follows.instance, follows.now, m.fits)
     ]
 
--- a reader that stands in this phase
+-- a reader in this phase
 end_outcome : (p : Phase) (r : Fields) (text : List ℕ) → r.phase ≡ p → StandsIn p r text → EndOutcome r text
 unfolding line_ended accepted
 -- the wanted block is complete before the last line
@@ -66,7 +66,7 @@ end_outcome phase r text e f = live_end r text f (rw e)
 
 -- ---- the verdict
 
--- finish owes the problem that is accepted, or the fault
+-- `finish` returns the accepted problem, or the fault
 meets : {r : Fields} {text : List ℕ} {outcome : Result Problem LayoutFault} → 1 ≤ r.wanted
     → accepted r.layout text r.wanted ≡ result_ok outcome → refusal r.layout text r.wanted ≡ result_err outcome
     → FinishMeets r text outcome
@@ -75,7 +75,7 @@ meets {r} {text} some ok err = record {
   refused = λ other. let refuses = refusal_is r.layout text r.wanted other in grind arith;
 }
 
--- where a reader stands, the end of the input is judged so
+-- for a reader that has read this text, the end of the input is checked in this way
 pub finish_tells : (r : Fields) (text : List ℕ) → StandsAfter r text
     → ((fault : LayoutFault) → end_fault (after_end r) ≡ Some fault → FinishMeets r text (Err fault))
     × (end_fault (after_end r) ≡ None
@@ -91,7 +91,7 @@ finish_tells r text s =
           (held.0, o.instance e ∙ is, meets o.some is none),
     )
 
--- ---- two answers for the same bytes
+-- ---- two results for the same bytes
 
 pub same_answers : (one other : Fields) (text : List ℕ) (answer second : Result Problem LayoutFault)
     → one.layout ≡ other.layout → one.wanted ≡ other.wanted

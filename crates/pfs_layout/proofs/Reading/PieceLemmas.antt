@@ -1,4 +1,4 @@
--- What a reader owes for a piece.
+-- What a reader promises for a piece.
 use Rattle.pfs_layout.proofs.Words.{nat_tests, ◌≡◌, ◌≢◌, ℕ, ◌+◌, ◌<◌, ◌≤◌, true, not, ◌&&◌, List, [], ◌∷◌, ◌++◌, length}
 use Rattle.pfs_layout.proofs.Words.{take, get_or, refl, ◌∙◌, arith, inl, inr, ◌-◌, cases_eq, append_assoc}
 use Rattle.pfs_layout.proofs.Words.{LONGEST_INPUT, Memory, Line, Blocks, is_digit, after_byte, IsReady, open_number}
@@ -38,14 +38,14 @@ wanted_size {r = r} {new = new} {text = text} {after = after} b f live short pus
     let line = ends_line_at r.blocks new r.last b lacks in
     grind (arith, f.blocks.complete, lacks.wanted, sought_now f lacks.sought, begun, carries r.blocks r.last b live)
 
--- no time is held before it ends
+-- no time is stored before it ends
 none_yet : {r next new : Blocks} {last : Line} {text : List ℕ} → Follows (fields last r) text
     → LacksMemory r next new → r.held ≡ 0
 none_yet f lacks = grind (arith, f.blocks.complete, f.blocks.held, sought_now f lacks.sought, lacks.wanted)
 
 -- ---- within a piece
 
--- a live reader behind the first bytes of a piece
+-- a reader after the first bytes of a piece, which needs more of them
 pub record TakenTo (old now : Fields) (piece : List ℕ) (i : ℕ) : Type 0 where
   pub live : is_live now.phase ≡ true
   pub layout : now.layout ≡ old.layout
@@ -58,7 +58,7 @@ pub record TakenTo (old now : Fields) (piece : List ℕ) (i : ℕ) : Type 0 wher
 -- ---- one byte more, within the limit
 
 module _ {old now : Fields} {piece : List ℕ} {i : ℕ} (t : TakenTo old now piece i) where
-  -- a digit that doesn't mix the line means nothing
+  -- a digit that doesn't mix the line changes no block
   pub digit_judged : (is_digit (get_or piece i 0) && not now.kinds.has_word) ≡ true
       → now.blocks ≡ after_byte now.blocks now.last (get_or piece i 0)
   digit_judged quiet = grind (arith, nat_tests)
@@ -84,7 +84,7 @@ module _ {old now : Fields} {piece : List ℕ} {i : ℕ} (t : TakenTo old now pi
 
   module _ {after : Line} {next : Blocks} (on : Pushes now.last (get_or piece i 0) after)
       (judges : next.phase ≢ phases.Refused Memory → next ≡ after_byte now.blocks now.last (get_or piece i 0)) where
-    -- but for want of memory, the blocks are those behind the byte
+    -- unless the allocation failed, the blocks are those after the byte
     well_then : next.phase ≢ phases.Refused Memory → (next.layout ≡ old.layout) × (next.wanted ≡ old.wanted)
         × ((text : List ℕ) → StandsAfter old text → StandsAfter (fields after next) (text ++ take (i + 1) piece))
     well_then well =
@@ -96,7 +96,7 @@ module _ {old now : Fields} {piece : List ℕ} {i : ℕ} (t : TakenTo old now pi
               (step_stands (get_or piece i 0) (t.follows text s) t.live (short text s) on),
         )
 
-    -- a byte on
+    -- after the byte, if the reader needs more
     pub taken_on : is_live next.phase ≡ true → TakenTo old (fields after next) piece (i + 1)
     taken_on live =
         let then = well_then (live-memory next.phase live) in
@@ -105,7 +105,7 @@ module _ {old now : Fields} {piece : List ℕ} {i : ℕ} (t : TakenTo old now pi
         let offset : after.digits.offset ≡ old.digits.offset + (i + 1) = omega (arith, t.offset, on.offset) in
         search no_more_then
 
-    -- the last byte
+    -- after the last byte
     pub taken_end : (next.phase ≡ phases.Refused Memory
         → LacksMemory now.blocks (after_byte now.blocks now.last (get_or piece i 0)) next)
         → (text : List ℕ) → StandsAfter old text
@@ -122,49 +122,49 @@ module _ {old now : Fields} {piece : List ℕ} {i : ℕ} (t : TakenTo old now pi
               grind (arith, lacks.keeps, t, size, none_yet f lacks, no_more)
         ])
 
-  -- a byte that means nothing
+  -- a byte that changes no block
   pub taken_quiet : {after : Line} → Pushes now.last (get_or piece i 0) after
       → now.blocks ≡ after_byte now.blocks now.last (get_or piece i 0)
       → TakenTo old (fields after now.blocks) piece (i + 1)
   taken_quiet on same = taken_on on (λ well. same) t.live
 
--- ---- behind a fault, and behind the wanted block
+-- ---- after a fault, and after the wanted block
 
--- a reader that was refused memory stands behind no text, since no byte has that fault
+-- a reader whose allocation failed has read no text, since no byte has this fault
 pub memory_nowhere : (r : Fields) (text : List ℕ) → r.phase ≡ phases.Refused Memory → StandsAfter r text → ⊥
 memory_nowhere r text e s =
     let refused : IsRefused r text Memory = subst (λ p. StandsIn p r text) e s in
     absurd (cc (rw refused.here at (of_place r.layout refused.front (Some refused.byte) r.wanted)))
 
--- a refused reader's fault is that of the text
+-- the fault of a reader is that of the text
 pub refused_fault : (r : Fields) (text : List ℕ) (fault : LayoutFault) → IsRefused r text fault
     → byte_fault r.layout r.wanted text ≡ Some fault
 refused_fault r text fault f =
     rw (f.whole, ← append_assoc f.front (f.byte ∷ []) f.rest)
     (byte_fault-more r.layout r.wanted _ f.rest fault (rw (byte_fault-push, f.sound, f.here)))
 
--- a refused reader stands behind every longer text
+-- a reader with a fault has read every longer text too
 refused_more : (r : Fields) (text more : List ℕ) (fault : LayoutFault) → IsRefused r text fault
     → IsRefused r (text ++ more) fault
 refused_more r text more fault f = grind (arith, f, append_assoc {A = ℕ})
 
--- a done reader has the wanted block
+-- when a reader is done, the wanted block is complete
 pub done_enough : (r : Fields) (text : List ℕ) → Follows r text → r.phase ≡ phases.Done
     → r.wanted ≤ length (stand_of r.layout text).complete
 done_enough r text f e = grind (arith, nat_tests, f.blocks.complete, f.blocks.now)
 
--- and a live one hasn't
+-- while it needs more bytes, it is not
 pub live_wants : (r : Fields) (text : List ℕ) → Follows r text → is_live r.phase ≡ true
     → length (stand_of r.layout text).complete < r.wanted
 live_wants r text f live = omega (arith, f.blocks.complete, live_few _ r.blocks _ _ f.blocks.now live)
 
--- ---- what feed owes
+-- ---- what `feed` promises
 
 pub whole_text : (text piece : List ℕ) (used : ℕ) → text ++ piece ≡ (text ++ take used piece) ++ drop used piece
 whole_text text piece used = rw (append_assoc, take-append-drop)
 
 module _ {old new : Fields} {text piece : List ℕ} {used : ℕ} (m : TakeMeets old text piece used new) where
-  -- where a piece leaves a reader, or memory was refused
+  -- the reader after a piece, or after a failed allocation
   pub reader_of : IsReader new
   reader_of = record { stands = λ h. (text ++ take used piece, m.stands h); none = m.none }
 
@@ -193,19 +193,19 @@ module _ {old new : Fields} {text piece : List ℕ} {used : ℕ} (m : TakeMeets 
           let right = rw (take_all used piece (omega arith), m.layout, m.wanted) at follows.sound in
           grind (arith, m, e, all)
 
--- a reader that wants no byte takes none
+-- a reader that needs no more bytes uses none
 pub idle_meets : (r : Fields) (text piece : List ℕ) → StandsAfter r text → TakeMeets r text piece 0 r
 idle_meets r text piece s = grind (arith, memory_nowhere r text, append-nil {A = ℕ})
 
--- ---- a piece that passes the limit
+-- ---- a piece that exceeds the limit
 
--- what was taken of a front was taken of the piece
+-- what holds for the bytes used of a prefix holds for the piece
 pub front_meets : {old new : Fields} {text : List ℕ} {used : ℕ} (piece : List ℕ) (room : ℕ)
     → TakeMeets old text (take room piece) used new → room ≤ length piece → used ≤ room
     → TakeMeets old text piece used new
 front_meets piece room m within few = grind (arith, m, take-take, get_or-take, length-take-le)
 
--- where all of a front up to the limit was taken, the byte behind it is refused
+-- if all of a prefix up to the limit was used, the byte after it has the fault `TooLong`
 pub long_meets : {old mid : Fields} {text : List ℕ} {used : ℕ} (piece : List ℕ) (room : ℕ)
     → TakeMeets old text (take room piece) used mid → used ≡ room → mid.digits.offset ≡ LONGEST_INPUT
     → room < length piece → is_live mid.phase ≡ true

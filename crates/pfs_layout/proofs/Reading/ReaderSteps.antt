@@ -1,4 +1,4 @@
--- Where a reader stands, before the first byte and after one byte more.
+-- What a reader has read, before the first byte and after one more byte.
 use Rattle.pfs_layout.proofs.Words.{CEILING, ◌-◌, ◌≡◌, ℕ, ◌+◌, ◌≤◌, Bool, true, length, Option, Some, None, arith, refl}
 use Rattle.pfs_layout.proofs.Words.{◌⊎◌, inl, inr, Blocks, last_number_ended, is_live, ◌*◌, ◌<◌, not, ◌&&◌, ◌||◌, List}
 use Rattle.pfs_layout.proofs.Words.{[], ◌∷◌, ◌++◌, count_by, if◌then◌else◌, ◌==◌, list_any, length_push}
@@ -36,7 +36,7 @@ pub count_push : (text : List ℕ) (b : ℕ)
     → count_by is_line_end (text ++ b ∷ []) ≡ count_by is_line_end text + (if is_line_end b then 1 else 0)
 count_push text b = grind (arith, sum_by-append (λ x. if is_line_end x then 1 else 0) text (b ∷ []))
 
--- a test of some byte of the last line
+-- whether some byte of the last line passes a test
 any_push : (p : ℕ → Bool) (text : List ℕ) (b : ℕ)
     → list_any p (open_line (text ++ b ∷ [])) ≡ (not (b == 10) && (list_any p (open_line text) || p b))
 any_push p text b =
@@ -68,7 +68,7 @@ line_push {b = b} offset first value digit word = record {
 
 -- ---- a reader that has read nothing
 
--- a reader that is new stands before the first byte
+-- a new reader has read the empty text
 pub new_stands : (last : Line) (r : Blocks) → FollowsLine last [] → 1 ≤ r.wanted
     → r ≡ record r { complete = 0; line = 1; phase = phases.Seeking; size_line = no_numbers; instance = None; held = 0 }
     → StandsAfter (fields last r) []
@@ -92,9 +92,9 @@ new_stands last r line some is = rw is (record {
   };
 })
 
--- ---- a byte more
+-- ---- one more byte
 
--- ---- what a byte leaves as it is
+-- ---- what a byte leaves unchanged
 
 pub record Carries (old new : Blocks) (ends : Bool) : Type 0 where
   pub layout : new.layout ≡ old.layout
@@ -113,14 +113,14 @@ carries r last b live =
       | inr other ↦ grind (arith, nat_tests)
     ]
 
--- ---- the blocks behind a byte
+-- ---- the blocks after a byte
 
 -- the fault, or blocks that follow the text in this layout
 abbrev OutcomeBehind : Blocks → Layout → List ℕ → Blocks → Option LayoutFault → Type 0
 OutcomeBehind r layout text next fault = Outcome r (list_any is_word_byte (open_line text)) (stand_of layout text)
     (ended_numbers (open_line text)) next fault
 
--- a byte more of a live reader, by its kind
+-- one more byte, by its kind, of a reader that needs more
 outcome : (r : Fields) (text : List ℕ) (b : ℕ) → Follows r text → is_live r.phase ≡ true
     → GoodNow r.layout (stand_of r.layout text).now (open_line text)
     → OutcomeBehind r.blocks r.layout (text ++ b ∷ []) (after_byte r.blocks r.last b)
@@ -132,17 +132,17 @@ outcome r text b f live good = elim (cases_Bool (is_line_end b)) [
       (end_byte r.blocks r.last text b _ _ end live f.five_values f.line f.last_line f.blocks good)
 ]
 
--- ---- where a reader stands
+-- ---- what a reader has read
 
--- a reader that has met no fault isn't refused
+-- a reader that has met no fault has read the text
 pub stands_of : {r : Fields} {text : List ℕ} → Follows r text → StandsAfter r text
 stands_of f = grind (arith, f.blocks.now)
 
--- a live reader that stands somewhere has met no fault
+-- a reader that needs more bytes has met no fault
 pub live_follows : (r : Fields) (text : List ℕ) → is_live r.phase ≡ true → StandsAfter r text → Follows r text
 live_follows r text live s = grind arith
 
--- a live reader wants more blocks
+-- it needs more blocks
 pub wants_more : {r : Fields} {text : List ℕ} → Follows r text → is_live r.phase ≡ true → r.complete < r.wanted
 wants_more f live = live_few _ _ _ _ f.blocks.now live
 
@@ -194,13 +194,13 @@ step_stands {r = r} {text = text} {after = after} b f live short pushes =
       | inr one ↦ stands_refused f after next b one.0 (place ∙ one.1) (rw one.1 at out)
     ]
 
--- ---- what a live reader may do next
+-- ---- what a reader that needs more bytes may do next
 
 due_few : (layout : Layout) (size : Size) → is_within_limits size ≡ true → due_count layout size < LONGEST_INPUT
 due_few layout size within =
     let sizes = (size_within size within).sizes in grind (arith, mul-le-mul sizes.few_jobs sizes.few_machines)
 
--- what the phase says of where the lines lead
+-- the state that the ended lines lead to, by the phase
 pub sought_now : {r : Fields} {text : List ℕ} → Follows r text → r.phase ≡ phases.Seeking
     → (stand_of r.layout text).now ≡ seeking
 sought_now f sought = grind (arith, f.blocks.now)

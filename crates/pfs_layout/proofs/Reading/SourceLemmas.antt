@@ -1,4 +1,4 @@
--- A reader that reads pieces of a source.
+-- A reader that reads the pieces of a source.
 use Rattle.pfs_layout.proofs.Words.{◌≡◌, ◌≢◌, ℕ, ◌<◌, ◌≤◌, true, false, List, [], ◌++◌, length, take, drop, refl, subst}
 use Rattle.pfs_layout.proofs.Words.{arith, Option, Some, inl, inr, Bool, ap, Result, Ok, Err, slice_index, ◌↔◌}
 use Rattle.pfs_layout.proofs.Words.{result_err, append_assoc, take_all, limits, Problem, Layout, LayoutFault, Read}
@@ -18,7 +18,7 @@ use Rattle.pfs_layout.proofs.Files.VerdictLemmas.{enough_holds}
 use Rattle.std.proofs.lemmas.Bool.{both_ways}
 use Rattle.pfs_layout.proofs.Files.InputFaults.{is_input_fault, refused_input}
 
--- ---- which faults a read block can have
+-- ---- which faults `read_block` can return
 
 -- the end of an input has no fault but those of inputs
 pub finish_named : {r : Fields} {text : List ℕ} {outcome : Result Problem LayoutFault} → FinishMeets r text outcome
@@ -26,21 +26,21 @@ pub finish_named : {r : Fields} {text : List ℕ} {outcome : Result Problem Layo
 finish_named {r} {text} meets fault other e =
     both_ways _ other (refused_input r.layout text r.wanted fault ((meets.refused fault).0 e))
 
--- nor has a piece, but for want of memory
+-- a piece has no other fault either, unless the allocation failed
 pub feed_named : {r new : Fields} {text piece : List ℕ} {found : LayoutFault} → FeedMeets r text piece (Err found) new
     → (fault : LayoutFault) → fault ≢ Memory → is_input_fault fault ≡ false → found ≢ fault
 feed_named {r} {text} {piece} meets fault no_memory other e =
     let here = (meets.exact (λ z. no_memory (cc)) fault).0 (ap Err e) in
     both_ways _ other (refused_input r.layout _ r.wanted fault (fault_stays r.layout _ [] r.wanted fault here))
 
--- what never holds, exactly where a device that works has failed
+-- if P is false and the device has not failed, then P holds exactly if the device has failed
 pub never_failed : {P : Type 0} {failed : Bool} → failed ≡ false → ¬ P → P ↔ (failed ≡ true)
 never_failed working never = grind arith
 
 -- ---- pieces
 
--- the reader is handed a piece that its source has given
--- a reader of the block that has read a front of what its source had left at first, where that is told
+-- A reader of the block is given the pieces that its source returns. It has read a prefix of what the source had
+-- left at first, if that is known.
 pub record Reading (layout : Layout) (k : ℕ) (first left : Option (List ℕ)) (r : Fields) : Type 0 where
   pub layout_is : r.layout ≡ layout
   pub wanted_is : r.wanted ≡ k
@@ -51,7 +51,7 @@ pub record Reading (layout : Layout) (k : ℕ) (first left : Option (List ℕ)) 
 
 module _ {layout : Layout} {k : ℕ} {first left : Option (List ℕ)} {r : Fields} (t : Reading layout k first left r)
     (next : Option (List ℕ)) (piece : List ℕ) (c : Consumes left next piece) where
-  -- what is left of the bytes, where they are told
+  -- what is left of the bytes, if they are known
   behind : (text : List ℕ) → first ≡ Some text
       → (more : List ℕ) × (next ≡ Some more) × (text ≡ (t.front ++ piece) ++ more)
   behind text e = let rest = t.told text e in grind (arith, append_assoc {A = ℕ})
@@ -63,7 +63,7 @@ module _ {layout : Layout} {k : ℕ} {first left : Option (List ℕ)} {r : Field
     | inr some ↦ let more = behind some.0 some.1 in rw (some.1, more.2) (all more.0 more.1)
   ]
 
-  -- one piece more
+  -- after one more piece
   pub reading_more : {new : Fields} {progress : Progress} → FeedMeets r t.front piece (Ok progress) new
       → progress.done ≡ false → Reading layout k first next new
   reading_more {new} {progress} m still =
@@ -102,9 +102,9 @@ module _ {layout : Layout} {k : ℕ} {first left : Option (List ℕ)} {r : Field
             (simp (m.layout, t.layout_is, m.wanted, t.wanted_is) at file)),
       )
 
-  -- ---- how far is read
+  -- ---- how far the input is read
 
-  -- behind a read that gave this piece, or none
+  -- after a read that returned this piece, or none
   reads_piece : (fault : Option LayoutFault) → length piece ≤ PIECE → (fault ≡ Some Read → piece ≡ [])
       → (fault ≡ Some Memory
       → (n : ℕ) × (n < length piece) × EndsWantedSize layout k (t.front ++ take n piece) (slice_index piece n))
@@ -114,14 +114,14 @@ module _ {layout : Layout} {k : ℕ} {first left : Option (List ℕ)} {r : Field
       let wanted : IsUndecided layout k t.front = grind (arith, f.sound, live_wants r t.front f t.live, t) in
       search)
 
-  -- the input ends behind the piece, or the wanted block has ended in it
+  -- the input ends after the piece, or the wanted block has ended in it
   pub reads_ended : {new : Fields} {text : List ℕ} {outcome : Result Problem LayoutFault} → length piece ≤ PIECE
       → FinishMeets new text outcome → IfSome first (λ bytes. ReadsAsFar layout k bytes next (result_err outcome))
   reads_ended {outcome = outcome} size meets =
       reads_piece (result_err outcome) size (λ e. absurd (finish_named meets Read refl (grind arith)))
       (λ e. absurd (finish_named meets Memory refl (grind arith)))
 
-  -- the piece has a fault, or memory was refused in it
+  -- the piece has a fault, or the allocation failed in it
   pub reads_fault : {new : Fields} {fault : LayoutFault} → length piece ≤ PIECE
       → FeedMeets r t.front piece (Err fault) new → IfSome first (λ bytes. ReadsAsFar layout k bytes next (Some fault))
   reads_fault {fault} size m =

@@ -25,7 +25,7 @@ use Rattle.pfs_layout.proofs.Files.LineLemmas.{lines-line, IsOpen}
 use Rattle.pfs_layout.proofs.Files.FileLemmas.{no_numbers}
 use Rattle.pfs_layout.proofs.Texts.WritingLemmas.{number_is}
 
--- the numbers are of 64 bits
+-- the numbers are less than 2 ^ 64
 abbrev pub NumeralsFit : List ℕ → Type 0
 NumeralsFit ns = AllByRecursion (λ n. n < 2 ^ 64) ns
 
@@ -39,7 +39,7 @@ length-spaced (n ∷ m ∷ ns) fit =
 
 -- ---- the lines before the rows
 
--- the title, the numbers of the size line, and the line behind it
+-- the title, the numbers of the size line, and the line after it
 abbrev pub title : Layout → List ℕ
 title Taillard = codes "number of jobs, number of machines, initial seed, upper bound and lower bound :"
 title OrLib = codes "flow shop instance"
@@ -51,7 +51,7 @@ size_numbers OrLib size = size.jobs ∷ size.machines ∷ []
 abbrev pub times_title : List ℕ
 times_title = codes "processing times :"
 
--- where all numbers of a size are of 64 bits
+-- the length of the lines before the body, if all numbers of the size are less than 2 ^ 64
 pub length-head_lines : (layout : Layout) (size : Size) → NumeralsFit (size_numbers Taillard size)
     → length (head_lines layout size) ≤ 1000
 length-head_lines Taillard size fit =
@@ -79,7 +79,7 @@ length-row_line layout shop row within =
     let numbers = length-spaced (due_row layout shop row) (row_fits layout shop row within) in
     omega (arith, length-append {A = ℕ}, length_due_row layout shop row)
 
--- the body, with room for the lines before it
+-- the length of the body leaves room for the lines before it
 pub length-row_lines : (layout : Layout) (shop : FlowShop) → IsWithin limits shop
     → length (row_lines layout shop) + 1000 ≤ LONGEST_INPUT
 length-row_lines layout shop within =
@@ -95,12 +95,12 @@ length-row_lines layout shop within =
 -- ---- bytes of a line of numbers
 
 module _ (test : ℕ → Bool) (digit : (b : ℕ) → 48 ≤ b → b ≤ 57 → test b ≡ false) where
-  -- a test that fails at the digits fails at each byte of a numeral
+  -- a test that no digit passes, no byte of a numeral passes
   numeral_fails : (n : ℕ) → n < 2 ^ 64 → All (λ b. test b ≡ false) (decimal n)
   numeral_fails n h = All-from_get_or (λ b. test b ≡ false) (decimal n) 0 (λ i within.
       let range = digit_at (decimal n) i (decimal_is_IsNumeral n h).0.1 within in digit _ range.0 range.1)
 
-  -- and if it fails at a space, at each byte of a line of numbers
+  -- and if a space doesn't pass it either, no byte of a line of numbers does
   line_fails : test 32 ≡ false → (ns : List ℕ) → NumeralsFit ns → list_any test (spaced ns) ≡ false
   line_fails space [] fit = refl
   line_fails space (n ∷ []) fit = list_any_none test (decimal n) (numeral_fails n fit.0)
@@ -117,7 +117,7 @@ no_line_end = line_fails is_line_end (λ b low high. grind (arith, nat_tests)) r
 numeral_run : (n : ℕ) → n < 2 ^ 64 → All (λ b. is_no_digit b ≡ false) (decimal n)
 numeral_run = numeral_fails is_no_digit (λ b low high. grind (arith, nat_tests))
 
--- ---- numbers and kind of a line of numbers
+-- ---- the numbers and the kind of a line of numbers
 
 numbers_spaced : (ns : List ℕ) → NumeralsFit ns → numbers (spaced ns) ≡ ns
 unfolding numbers

@@ -15,13 +15,13 @@ use Rattle.pfs_layout.proofs.Tables.{rows_at}
 abbrev pub row_begun : Layout → FlowShop → ℕ → ℕ → List ℕ
 row_begun layout shop row count = spaced (take count (due_row layout shop row))
 
--- a row goes on with the number at a place
+-- a row continues with the number at a place
 pub number_on : (layout : Layout) (shop : FlowShop) (row place : ℕ) → place < length (due_row layout shop row)
     → GoesOn (row_line layout shop row) (row_begun layout shop row place)
     (entry place (slice_index (due_row layout shop row) place)) (row_begun layout shop row (place + 1))
 number_on layout shop row place within = line_on (due_row layout shop row) place within
 
--- which is a time, or a machine and then its time
+-- this number is a time, or a machine and then its time
 abbrev number : Layout → FlowShop → ℕ → ℕ → ℕ
 number Taillard shop row place = time_of shop place row
 number OrLib shop row place = if place % 2 == 0 then place / 2 else time_of shop row (place / 2)
@@ -41,7 +41,7 @@ number_is OrLib shop row place within =
       | inr odd ↦ let one : place % 2 ≡ 1 = omega arith in rw one
     ]
 
--- a row is all of its numbers, and its end
+-- a row is all of its numbers, and a line end
 pub row_ends : (layout : Layout) (shop : FlowShop) (row count : ℕ) → length (due_row layout shop row) ≡ count
     → row_line layout shop row ≡ row_begun layout shop row count ++ 10 ∷ []
 row_ends layout shop row count all = rw (take_all count (due_row layout shop row) (omega arith))

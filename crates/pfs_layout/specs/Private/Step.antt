@@ -1,4 +1,4 @@
--- What bytes do to what a reader keeps. What its fields say of the bytes that it has read stands in `Reader`.
+-- How one more byte changes a reader's fields. What the fields mean for the bytes read so far is in `Reader`.
 use Rattle.std.specs.Prelude.{◌≡◌, ◌≢◌, ℕ, ◌+◌, ◌*◌, ◌<◌, ◌≤◌, Bool, true, not, ◌&&◌}
 use Rattle.std.specs.Prelude.{◌==◌, nat_lt, replicate, slice_index, slice_set, Option, Some, None, is_some, option_map}
 use Rattle.std.specs.Prelude.{IfSome, if◌then◌else◌, List, [], ◌∷◌, ◌++◌, length, take}
@@ -21,34 +21,35 @@ use Rattle.pfs_layout.specs.Block.{due_by, stand}
 use Rattle.pfs_layout.specs.Refuse.{LayoutFault, fault_of_due}
 use Rattle.pfs_layout.specs.Reader.{EndsWantedSize, Fields, FollowsLine, StandsAfter, is_live}
 
--- ---- the last line so far
+-- ---- the line that is being read
 
--- it has come this byte further
+-- `new` is the line `old` with this byte added: where `old` follows a text, `new` follows the text with the byte
 pub record Pushes (old : Line) (b : ℕ) (new : Line) : Type 0 where
   pub offset : new.digits.offset ≡ old.digits.offset + 1
   pub follows : (text : List ℕ) → FollowsLine old text → FollowsLine new (text ++ b ∷ [])
 
--- a number line so far
+-- the line is a number line so far
 abbrev pub has_numbers_alone : Kinds → Bool
 has_numbers_alone k = k.has_digit && not k.has_word
 
--- the number that no byte has ended, if there is one
+-- the unfinished number, if there is one
 abbrev pub open_number : Digits → Option Number
 open_number d = if d.first == d.offset then None else Some (record { value = d.value; first = d.first })
 
 -- ---- a line that may be a size line
 
+-- the line with one more number, which is kept if it is one of the first five
 abbrev pub with_number : SizeLine → ℕ → SizeLine
 with_number line value = record {
   count = line.count + 1;
   values = if nat_lt line.count 5 then slice_set line.values line.count value else line.values;
 }
 
--- no number yet
+-- a line of which no number was read
 abbrev pub no_numbers : SizeLine
 no_numbers = record { count = 0; values = replicate 5 0 }
 
--- what the numbers state, where they are as many as the layout says
+-- the size that the numbers state, if their count is that of the layout
 abbrev pub stated_by : Layout → SizeLine → Option Size
 stated_by Layout.Taillard line = then_some (line.count == 5)
     (sized (slice_index line.values 0) (slice_index line.values 1) (slice_index line.values 2)
@@ -58,6 +59,7 @@ stated_by Layout.OrLib line =
 
 -- ---- the body of a block
 
+-- the body of a block with this many jobs and machines, before its first number
 abbrev pub body_of : Layout → ℕ → ℕ → Body
 body_of layout jobs machines = record {
   jobs = jobs;
@@ -72,13 +74,15 @@ body_of layout jobs machines = record {
 abbrev pub due_next : Layout → Body → Due
 due_next layout body = due_by layout body.due body.machine body.judged
 
+-- the body after a machine's number
 abbrev pub after_machine : Body → Body
 after_machine body = record body { judged = body.judged + 1 }
 
--- the number behind, and 0 behind the last
+-- the number after `at` among the first `count` numbers from 0, or 0 after the last
 abbrev pub next_of : ℕ → ℕ → ℕ
 next_of at count = if at + 1 == count then 0 else at + 1
 
+-- the body after a time, with the job and machine of the next one
 abbrev pub after_time : Layout → Body → Body
 after_time Layout.Taillard body = record body {
   judged = body.judged + 1;
@@ -93,13 +97,15 @@ after_time Layout.OrLib body = record body {
 
 -- ---- the blocks
 
+-- the input is rejected with this fault
 abbrev pub refused : Blocks → LayoutFault → Blocks
 refused r fault = record r { phase = Phase.Refused fault }
 
+-- the problem with this time of the body's job on the body's machine
 abbrev pub with_problem_time : Body → ℕ → Problem → Problem
 with_problem_time body time problem = record problem { shop = with_time problem.shop body.job body.machine time }
 
--- behind a number that is what is due: a time stands in the instance, if there is one
+-- after a number that is what is due: a time is stored in the instance, if there is one
 abbrev pub counted : Blocks → Due → ℕ → Blocks
 counted r Due.Time value = record r {
   body = after_time r.layout r.body;
@@ -108,20 +114,22 @@ counted r Due.Time value = record r {
 }
 counted r other value = record r { body = after_machine r.body }
 
--- a number of the body
+-- after a number of a body: it is counted if it is what is due, and else the input is rejected
 abbrev pub body_judged : Blocks → ℕ → ℕ → Blocks
 body_judged r value first = let due = due_next r.layout r.body in
     if is_due due value then counted r due value else refused r (fault_of_due due first)
 
+-- after a number, in this phase
 abbrev pub number_ended_in : Phase → Blocks → ℕ → ℕ → Blocks
 number_ended_in Phase.Seeking r value first = record r { size_line = with_number r.size_line value }
 number_ended_in Phase.Body r value first = body_judged r value first
 number_ended_in other r value first = r
 
--- behind a number
+-- after a number
 unfoldable pub number_ended : Blocks → ℕ → ℕ → Blocks
 number_ended r value first = number_ended_in r.phase r value first
 
+-- a block of this size begins; if it is the wanted one, its instance has times of 0
 abbrev pub block_begun : Blocks → Size → Blocks
 block_begun r size = record r {
   instance = if r.complete + 1 == r.wanted then Some (problem_of size (λ job machine. 0)) else None;
@@ -129,15 +137,17 @@ block_begun r size = record r {
   phase = Phase.Body;
 }
 
--- the fault of what a size line states, or else the block that it begins
+-- after a size line: the input is rejected with its fault, or the block begins
 abbrev pub size_judged : Blocks → ℕ → Option Size → Blocks
 size_judged r line None = refused r (LayoutFault.SizeCount line)
 size_judged r line (Some size) =
     if is_within_limits size then block_begun r size else refused r (LayoutFault.SizeRange line)
 
+-- the next line, of which no number was read
 abbrev pub at_next_line : Blocks → Blocks
 at_next_line r = record r { line = r.line + 1; size_line = no_numbers }
 
+-- after the end of a line, in this phase
 abbrev pub line_ended_in : Phase → Blocks → Bool → Blocks
 line_ended_in Phase.Seeking r is_number_line = if is_number_line
     then size_judged (at_next_line r) r.line (stated_by r.layout r.size_line)
@@ -149,21 +159,21 @@ line_ended_in Phase.Body r is_number_line = if nat_lt r.body.judged r.body.due t
     }
 line_ended_in other r is_number_line = at_next_line r
 
--- behind a byte 10
+-- after byte 10
 unfoldable pub line_ended : Blocks → Bool → Blocks
 line_ended r is_number_line = line_ended_in r.phase r is_number_line
 
--- behind the number, if there is one
+-- after the unfinished number, if there is one
 abbrev pub last_number_ended : Blocks → Option Number → Blocks
 last_number_ended r None = r
 last_number_ended r (Some number) = number_ended r number.value number.first
 
--- a line of a block that is mixed is refused
+-- the input is rejected if a line of a block is mixed by the byte at this offset
 abbrev pub mixed_met : Phase → Blocks → ℕ → Blocks
 mixed_met Phase.Body r offset = refused r (LayoutFault.MixedLine offset)
 mixed_met other r offset = r
 
--- behind this byte, where this is the last line before it
+-- after this byte, where `last` is the line before it
 abbrev pub after_byte : Blocks → Line → ℕ → Blocks
 after_byte r last b =
     let behind = last_number_ended r (open_number last.digits) in
@@ -172,7 +182,7 @@ after_byte r last b =
     else (if (if is_digit b then last.kinds.has_word else last.kinds.has_digit)
     then mixed_met r.phase r last.digits.offset else r))
 
--- the fault of an input that ends behind a line end, where the wanted block isn't complete
+-- the fault of an input that ends after a line end, if the wanted block isn't complete
 abbrev pub end_fault_in : Phase → Blocks → Option LayoutFault
 end_fault_in Phase.Seeking r = Some (LayoutFault.NoBlock r.complete)
 end_fault_in Phase.Body r = Some (LayoutFault.Truncated (times_in r.layout r.body.judged))
@@ -182,18 +192,18 @@ end_fault_in other r = None
 abbrev pub end_fault : Blocks → Option LayoutFault
 end_fault r = end_fault_in r.phase r
 
--- behind the last number of an input that ends behind this line
+-- after the last number of an input whose last line is `last`
 abbrev pub at_end : Line → Blocks → Blocks
 at_end last r = if is_live r.phase then last_number_ended r (open_number last.digits) else r
 
--- the memory for the wanted block was refused, where its size line ends
+-- the memory for the wanted block could not be allocated where its size line ends
 pub record LacksMemory (old next new : Blocks) : Type 0 where
   pub sought : old.phase ≡ Phase.Seeking
   pub wanted : old.complete + 1 ≡ old.wanted
   pub begins : next.phase ≡ Phase.Body
   pub keeps : new ≡ record new { layout = old.layout; wanted = old.wanted; held = old.held }
 
--- what the judgement of a number of the body needs
+-- what the check of a number of a body requires
 pub record CanCount (r : Blocks) : Type 0 where
   pub job : r.body.job < r.body.jobs
   pub machine : r.body.machine < r.body.machines
@@ -201,7 +211,7 @@ pub record CanCount (r : Blocks) : Type 0 where
   pub instance : IfSome r.instance
       (λ problem. (problem.shop.jobs ≡ r.body.jobs) × (problem.shop.machines ≡ r.body.machines))
 
--- what the judgement of a byte or of the end needs
+-- what the check of a byte, or of the end of the input, requires
 pub record IsReady (r : Blocks) : Type 0 where
   pub live : is_live r.phase ≡ true
   pub can : r.phase ≡ Phase.Body → CanCount r
@@ -211,7 +221,7 @@ pub record IsReady (r : Blocks) : Type 0 where
 
 -- ---- a piece
 
--- what the bytes that were taken leave of a reader that stands after this text
+-- what `used` bytes of a piece make of a reader that has read this text
 pub record TakeMeets (old : Fields) (text piece : List ℕ) (used : ℕ) (new : Fields) : Type 0 where
   pub layout : new.layout ≡ old.layout
   pub wanted : new.wanted ≡ old.wanted

@@ -1,4 +1,5 @@
--- Each piece takes the reader on, a fault of a piece is one of the whole input, and so is the wanted block.
+-- Each piece moves the reader forward. A fault of a piece is one of the whole input, and the wanted block is that
+-- of the whole input.
 use Rattle.pfs_layout.proofs.Words.{refl, rules, ℕ, ◌∙◌, arith, length-take, Read, SeedRange}
 use Rattle.pfs_layout.proofs.Reading.SourceLemmas.{finish_named, feed_named, never_failed, reading_more, reading_fault}
 use Rattle.pfs_layout.proofs.Reading.SourceLemmas.{reading_done, reads_failed, reads_ended, reads_fault}
@@ -19,14 +20,14 @@ pieces-preserved g c =
           reading_more t _ _ c.in-Some.ensures.bytes.1 (c.in-Ok.ensures.meets t.front t.stands) c.if-progress.false;
     }
 
--- a live reader has read no more than the limit, and some bytes more than before
+-- a reader that needs more bytes has read no more than the limit, and more bytes than before
 pub pieces-smaller : goal.pieces-smaller
 pieces-smaller g c =
     let t = (pieces-preserved g c).reading in
     let follows = live_follows c.feed.new.self t.front t.live t.stands in
     omega (arith, c.in-Ok.ensures.moved, c.in-Ok.ensures.whole c.if-progress.false, length-take {A = ℕ})
 
--- ---- the answers
+-- ---- the results
 
 pub returns-in_default-clause-as_far : goal.returns-in_default-clause-as_far
 returns-in_default-clause-as_far g c = reads_failed c.pieces.invariant.reading _ c.in_default.ensures.bytes
@@ -45,7 +46,7 @@ returns-then-n-eq0 g c =
       as_far = reads_ended t _ _ c.in-Some.ensures.bytes.1 (omega (arith, length-take {A = ℕ})) ends;
     }
 
--- a byte of the piece has a fault, or memory was refused
+-- a byte of the piece has a fault, or the allocation failed
 pub returns-in-Err : goal.returns-in-Err
 returns-in-Err g c =
     let t = c.pieces.invariant.reading in

@@ -1,4 +1,4 @@
--- Each piece takes the reader on, and a live reader has read no more than the limit.
+-- Each piece moves the reader forward, and a reader that needs more bytes has read no more than the limit.
 use Rattle.pfs_layout.proofs.Words.{◌≡◌, ◌-◌, false, LONGEST_INPUT}
 use Rattle.pfs_layout.proofs.Reading.SourceLemmas.{Reading}
 use Rattle.pfs_layout.proofs.reader.read_block.Given as goal

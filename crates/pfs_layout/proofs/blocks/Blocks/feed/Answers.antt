@@ -1,4 +1,4 @@
--- What was taken of the piece, or of its front within the limit, is what feed owes.
+-- What was used of the piece, or of its prefix within the limit, is what `feed` promises.
 use Rattle.pfs_layout.proofs.Words.{◌-◌, ◌++◌, sym, ◌∙◌, arith, length-take, LONGEST_INPUT, fields}
 use Rattle.pfs_layout.proofs.Reading.ReaderSteps.{live_follows}
 use Rattle.pfs_layout.proofs.Reading.ByteSteps.{live-memory}

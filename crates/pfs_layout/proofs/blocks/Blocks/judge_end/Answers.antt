@@ -1,4 +1,4 @@
--- A live reader can judge the last number.
+-- A reader that needs more bytes can end the last number.
 use Rattle.pfs_layout.proofs.Words.{sym, ◌∙◌}
 use Rattle.pfs_layout.proofs.Reading.ReaderSteps.{reader_ready}
 use Rattle.pfs_layout.proofs.blocks.Blocks.judge_end.Goals as goal

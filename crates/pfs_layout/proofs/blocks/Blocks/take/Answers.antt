@@ -1,11 +1,11 @@
--- Each byte leads on, and the last one ends the piece or the reading.
+-- Each byte moves the reader forward, and the last one ends the piece or the reading.
 use Rattle.pfs_layout.proofs.Words.{sym, ◌∙◌, arith, ne_eqb}
 use Rattle.pfs_layout.proofs.Reading.PieceLemmas.{digit_judged, blank_judged, taken_ready, taken_quiet, taken_on}
 use Rattle.pfs_layout.proofs.Reading.PieceLemmas.{taken_end}
 use Rattle.pfs_layout.proofs.Reading.ByteSteps.{keeps_last}
 use Rattle.pfs_layout.proofs.blocks.Blocks.take.Goals as goal
 
--- ---- a digit, or a word byte, that means nothing
+-- ---- a digit, or a word byte, that changes no block
 
 pub loop-b-preserved-then-not-line : goal.loop-b-preserved-then-not-line
 loop-b-preserved-then-not-line c =

@@ -1,4 +1,4 @@
--- A live reader behind the bytes so far.
+-- The reader after the bytes so far, which needs more.
 use Rattle.pfs_layout.proofs.Words.{fields}
 use Rattle.pfs_layout.proofs.Reading.PieceLemmas.{TakenTo}
 use Rattle.pfs_layout.proofs.blocks.Blocks.take.Given as goal

@@ -1,4 +1,5 @@
--- A reader that was refused memory stands nowhere, and no more times are held behind a piece than the wanted block has.
+-- A reader whose allocation failed has read no text, and after a piece no more times are stored than the wanted
+-- block has.
 use Rattle.pfs_layout.proofs.Words.{fields}
 use Rattle.pfs_layout.proofs.Reading.PieceLemmas.{memory_nowhere}
 use Rattle.pfs_layout.proofs.Reading.HeldLemmas.{feed_few}

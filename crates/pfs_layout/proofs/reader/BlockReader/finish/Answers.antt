@@ -1,4 +1,4 @@
--- The end of the input is judged as the definitions say, and an accepted instance is there.
+-- `finish` returns what the definitions say of the input, and an accepted instance is stored.
 use Rattle.pfs_layout.proofs.Words.{◌≡◌, sym, ◌∙◌, line_ended, inl, inr}
 use Rattle.pfs_layout.proofs.Reading.OutcomeLemmas.{finish_tells}
 use Rattle.pfs_layout.proofs.Reading.ByteSteps.{refused_memory}
@@ -8,7 +8,7 @@ pub returns-in-Some-clause-meets : goal.returns-in-Some-clause-meets
 returns-in-Some-clause-meets c text =
     rw (← c.self.view_is) (λ s. (finish_tells _ text s).0 _ (sym c.judge_end.ensures.fault ∙ c.in-Some.is))
 
--- an input that may end here has the wanted block
+-- if the input may end here, the wanted block is complete
 pub unreachable-requires : goal.unreachable-requires
 unfolding line_ended
 unreachable-requires c =

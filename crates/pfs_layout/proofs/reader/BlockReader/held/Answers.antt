@@ -1,4 +1,4 @@
--- A reader holds no more times than the wanted block has.
+-- A reader stores no more times than the wanted block has.
 use Rattle.pfs_layout.proofs.Words.{fields}
 use Rattle.pfs_layout.proofs.Reading.HeldLemmas.{few_in}
 use Rattle.pfs_layout.proofs.reader.BlockReader.held.Goals as goal

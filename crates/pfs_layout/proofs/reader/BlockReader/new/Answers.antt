@@ -1,4 +1,4 @@
--- A new reader stands after no bytes.
+-- A new reader has read no bytes.
 use Rattle.pfs_layout.proofs.Words.{[]}
 use Rattle.pfs_layout.proofs.Reading.ReaderSteps.{new_stands}
 use Rattle.pfs_layout.proofs.reader.BlockReader.new.Goals as goal
