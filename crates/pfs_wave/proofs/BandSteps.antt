@@ -12,7 +12,7 @@ use Rattle.pfs_wave.specs.Private.Blending.{Past, AreBlends, pushed, past_at, di
 use Rattle.pfs_wave.proofs.PastRows.{past_is, past_none}
 use Rattle.pfs_wave.specs.declared.blends.Blends.{Blends}
 
--- a row of the sequence, as it is read
+-- a row of the sequence, as the code reads it
 pub row_in : {L : Type 0} (lanes : L → List ℕ) (rows : List L) (order : List ℕ) (first row job : ℕ) (read : L)
     → job ≡ slice_index_or order row 0 → job < length rows → read ≡ get_or rows job read
     → eight_from first (lanes read) ≡ band_rows (map lanes rows) order first row
@@ -63,7 +63,7 @@ filled_none band first from times = record {
   upper = λ step. refl;
 }
 
--- one step more
+-- one more step is filled
 pub filled_more : {L : Type 0} (lanes : L → List ℕ) (band : Rows) (first from width : ℕ) (old times : List L)
     (row at to : ℕ)
     (default new : L) (eight : List ℕ) → IsBandFilled band first from row (map lanes old) (map lanes times) → at
@@ -123,7 +123,7 @@ filled_more lanes band first from width old times row at to default new eight so
           ];
     })
 
--- one row more of the blends
+-- the blends take one more row
 pub next_is : (band : Rows) (row to : ℕ) {now : List ℕ} (next : Blends) → to ≡ row + 1 → now ≡ band row
     → AreBlends (pushed now (past_at band row)) next → AreBlends (past_at band to) next
 next_is band row to next to_is e is = rw (to_is, add-one, ← e) is
@@ -134,7 +134,7 @@ out_is band row e is = rw (add-one, ← e) is
 
 -- ---- blends that begin seven rows before a row
 
--- the blends use no row further back
+-- the blends depend on the last seven rows only
 same_back : (p q : Past) → ((back lane : ℕ) → back ≤ 6 → p back lane ≡ q back lane) → (a b c d e f g h : ℕ)
     → a ≤ 6 → b ≤ 6 → c ≤ 6 → d ≤ 6 → e ≤ 6 → f ≤ 6 → g ≤ 6 → h ≤ 6
     → each_back p a b c d e f g h ≡ each_back q a b c d e f g h

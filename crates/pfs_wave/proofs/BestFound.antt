@@ -26,7 +26,7 @@ module _ (shop : FlowShop) (order : List ℕ) (job width last : ℕ) (times tail
       ∙ sums_law shop order job width times tails job_times fits skewed is_job held place last (omega arith)
       (omega arith) (omega arith)
 
-  -- where no path is as long as the greatest of 16 bits, the first least sum is that of the best place
+  -- where every makespan is below 65,535, the first place of the least sum is the best place
   pub found : {count place least : ℕ} (part : List ℕ) → part ≡ drop last sums
       → IsLeastSoFar (λ place. slice_index_or part place 0) count place least → count ≡ length order + 1
       → ((place : ℕ) → place ≤ length order → makespan_with shop order job place < 65535)

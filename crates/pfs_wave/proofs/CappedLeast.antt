@@ -1,4 +1,4 @@
--- The first least of capped values.
+-- The first place of the least capped value.
 use Rattle.std.proofs.Common.{arith}
 use Rattle.pfs_wave.specs.Wavefront.{CappedLeastLaw}
 

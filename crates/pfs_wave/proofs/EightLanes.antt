@@ -39,7 +39,7 @@ zip_up_last f x a h eight too =
 pub length-down : (a : List ℕ) (x : ℕ) → length a ≡ 8 → length (drop 1 a ++ (x ∷ [])) ≡ 8
 length-down a x eight = omega (arith, length-drop 1 a, length-append (drop 1 a) (x ∷ []))
 
--- one band, in steps
+-- one band of a step, from the vectors that the code computes in between
 pub stepped : {up most new : List ℕ} (left above t : List ℕ) → up ≡ left → most ≡ zip2 max up above
     → new ≡ zip2 capped_add most t → zip2 capped_add (zip2 max left above) t ≡ new
 stepped left above t p q r = cc
@@ -48,7 +48,7 @@ pub summed : {up later new : List ℕ} (left put t : List ℕ) → up ≡ left �
     → new ≡ zip2 max up later → zip2 max left (zip2 capped_add put t) ≡ new
 summed left put t p q r = cc
 
--- the steps of rows that are the same
+-- equal rows give equal steps
 pub same_heads : {a b t c d e : List ℕ} → a ≡ c → b ≡ d → t ≡ e → heads_step a b t ≡ heads_step c d e
 same_heads p q r = cc
 

@@ -1,4 +1,4 @@
--- Rows that the loops fill, a step a time.
+-- Rows that the loops fill, a step at a time.
 use Rattle.std.proofs.Common.{inl, inr, ◌≡◌, ℕ, suc, ◌+◌, ◌-◌, ◌<◌, ◌≤◌, List, [], length, map, get_or, ap, ◌∙◌, sym}
 use Rattle.std.proofs.Common.{add-one, arith, slice_set}
 use Rattle.std.proofs.lemmas.Bool.{cases_lt}
@@ -112,7 +112,7 @@ more_summed {width} {times} {tails} {job} {sums} {head} {inserted} {sum} {new_he
           ];
     }
 
--- the same of rows of any type that has lanes
+-- rows of any type that has lanes, filled a step at a time
 module _ {X : Type 0} (lanes : X → List ℕ) where
   pub row_read : (rows : List X) (step : ℕ) (row : X) → step < length rows → row ≡ get_or rows step row
       → lanes row ≡ slice_index_or (map lanes rows) step []

@@ -1,4 +1,4 @@
--- What skewed times that are kept hold.
+-- Skewed times that are kept from one sequence to the next.
 use Rattle.std.proofs.Common.{inl, inr, max, ◌≡◌, ℕ, zero, suc, ◌+◌, ◌-◌, ◌<◌, ◌≤◌, List, [], ◌++◌, length, take}
 use Rattle.std.proofs.Common.{get_or}
 use Rattle.std.proofs.Common.{replicate, ap, ◌∙◌, sym, refl, arith}
@@ -14,7 +14,7 @@ use Rattle.pfs_wave.proofs.SkewedTimes.{are_skewed}
 
 module _ {rows : List (List ℕ)} {len : ℕ} {order : List ℕ} {width : ℕ} {times : List (List ℕ)}
     (holding : IsHolding rows len order width times) where
-  -- the sequence has as many jobs as it says
+  -- the sequence has `len` jobs
   pub held_len : length (take len order) ≡ len
   held_len = length-take-le len order (omega (arith, holding.some, holding.steps))
 
@@ -48,7 +48,7 @@ module _ {rows : List (List ℕ)} {len : ℕ} {order : List ℕ} {width : ℕ} {
       (padded_take shop.jobs (sym has.count))
       holding.all_times (omega (arith, long, holding.some, holding.steps, holding.all_times)) holding.wide holding.lanes
 
--- jobs that were written over those before
+-- the front of the written rows is the sequence
 pub taken_is : (order seq : List ℕ) (none : ℕ) → IsPadded order seq none → length seq ≤ length order
     → take (length seq) order ≡ seq
 taken_is order seq none padded enough =
@@ -59,7 +59,7 @@ taken_is order seq none padded enough =
     get_or-take (length seq) order row d inside ∙ get_or_default order row d 0 (omega arith)
     ∙ padded row (omega arith) ∙ get_or_default seq row none d inside)
 
--- jobs and padding are rows
+-- all jobs and the padding are numbers of rows
 pub padded_in : (seq others : List ℕ) (rows none : ℕ) → none + 1 ≡ rows → All (λ job. job + 1 < rows) seq
     → IsPadded others seq none → All (λ row. row < rows) others
 padded_in seq others rows none last jobs padded row d lt =
@@ -73,7 +73,7 @@ padded_in seq others rows none last jobs padded row d lt =
           omega (arith, here, padded row lt, rest)
     ]
 
--- another sequence
+-- another sequence is written, and its times are skewed
 pub holding_more : {rows : List (List ℕ)} {len : ℕ} {order : List ℕ} {width : ℕ} {times : List (List ℕ)}
     (seq others : List ℕ) (new : List (List ℕ)) (none : ℕ) → IsHolding rows len order width times → none + 1
     ≡ length rows
@@ -98,7 +98,7 @@ holding_more {rows} {len} {order} {width} {times} seq others new none old last j
       lanes = lanes;
     }
 
--- a list that grew from none
+-- an empty list, resized
 none_taken : (count : ℕ) (rest : List ℕ) → take count [] ++ rest ≡ rest
 none_taken zero rest = refl
 none_taken (suc count) rest = refl
@@ -110,19 +110,19 @@ resized_none items count len value none is =
     ap (λ l. take count l ++ replicate (count - len) value) none ∙ none_taken count (replicate (count - len) value)
     ∙ ap (λ n. replicate n value) all
 
--- rows of the new order whose jobs are those of other rows of the order before
+-- a row of the new order has the times of a row of the order before, where both have the same job
 same_row : (rows : List (List ℕ)) (order others : List ℕ) (row other lane : ℕ) → get_or order other 0
     ≡ get_or others row 0
     → row_lane rows order other lane ≡ row_lane rows others row lane
 unfolding row_lane
 same_row rows order others row other lane same = ap (λ job. get_or (get_or rows job []) lane 0) same
 
--- what is left of the skewed times
+-- the skewed times that are right for the new sequence already
 module _ (rows : List (List ℕ)) (order others held seq : List ℕ) (none front back width : ℕ) (times new : List (List ℕ))
     (old : HoldLanes rows order 0 width times) (kept : IsKept held seq front back)
     (was : IsPadded order held none) (is : IsPadded others seq none)
     (steps : length times ≡ length order) (same_steps : length others ≡ length order) where
-  -- jobs that are the same
+  -- rows with the same job
   same_job : (row other : ℕ) → row < length others → other < length order → get_or held other none ≡ get_or seq row none
       → get_or order other 0 ≡ get_or others row 0
   same_job row other inside before same = was other before ∙ same ∙ sym (is row inside)
@@ -171,7 +171,7 @@ module _ (rows : List (List ℕ)) (order others held seq : List ℕ) (none front
         none_before = old.none_before;
       }
 
-  -- a sequence that is no longer
+  -- a sequence that is at most as long as the one before
   pub outside_kept : length seq ≤ length held → HoldOutside rows others front (length held - back) 0 width times
   outside_kept no_more =
       let in_held = kept.in_held in
@@ -228,7 +228,7 @@ module _ (rows : List (List ℕ)) (order others held seq : List ℕ) (none front
             ∙ old.none_before step lane early low lt (omega arith);
       }
 
--- steps that are moved are as wide
+-- steps that are moved keep the width of a row
 pub moved_wide : (from to by width : ℕ) (times new : List (List ℕ)) → AreMoved from to by times new
     → ((step : ℕ) → step < length times → length (rows_of times step) ≡ width) → (step : ℕ) → step < length new
     → length (rows_of new step) ≡ width
@@ -242,7 +242,7 @@ moved_wide from to by width times new moved wide step inside =
       ]
     ]
 
--- no sequence yet
+-- the skewed times before the first sequence
 pub holding_none : (rows : List (List ℕ)) (jobs width steps : ℕ) (order : List ℕ) (times : List (List ℕ))
     → length rows ≡ jobs + 1 → get_or rows jobs [] ≡ zeros width → steps ≡ jobs + width → order ≡ replicate steps jobs
     → times ≡ replicate steps (zeros width) → IsHolding rows 0 order width times

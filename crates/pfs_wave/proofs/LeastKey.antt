@@ -37,7 +37,7 @@ module _ (value : ℕ → ℕ) (count place best : ℕ) (so_far : IsLeastSoFar v
         value_is = known;
       }
 
--- the least key, as a place and its value
+-- the least key gives the first place of the least value, and that value
 pub record IsLeastKey (value : ℕ → ℕ) (count key : ℕ) : Type 0 where
   pub is : IsLeastSoFar value count (key % 65536) (key / 65536)
 

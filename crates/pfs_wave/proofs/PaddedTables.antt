@@ -15,7 +15,7 @@ use Rattle.pfs_insert.proofs.Published.TableRows.{back_none, back_last, back_mor
 use Rattle.pfs_insert.proofs.Published.TableRows.{same_heads}
 use Rattle.pfs_wave.specs.Wavefront.{on_machine, padded_time, machine_at}
 
--- ---- the greatest of some values, by its last
+-- ---- the greatest of some values, from the last of them
 
 pub greatest_to_more : (f : ℕ → ℕ) (n : ℕ) → greatest_to f (suc n) ≡ max (greatest_to f n) (f (suc n))
 greatest_to_more f zero = refl
@@ -55,7 +55,7 @@ module _ (shop : FlowShop) (jobs : List ℕ) where
   abbrev pub padded_back : ℕ → ℕ → ℕ
   padded_back row lane = on_machine shop (heaviest_back shop jobs row) lane
 
-  -- after the last row there is none
+  -- after the last row the tails are 0
   pub padded_none : (row lane : ℕ) → length jobs ≤ row → padded_back row lane ≡ 0
   padded_none row lane none =
       elim (cases_lt lane shop.machines) [
@@ -63,7 +63,7 @@ module _ (shop : FlowShop) (jobs : List ℕ) where
         | inr behind ↦ on_behind shop (heaviest_back shop jobs row) lane behind
       ]
 
-  -- each tail by the tail of the next machine and the tail of the next row
+  -- each tail, from the tail of the next machine and the tail of the next row
   pub padded_back_step : (row lane : ℕ) →
       padded_back row lane ≡ max (padded_back row (suc lane)) (padded_back (suc row) lane) + padded_time shop jobs
       row lane
@@ -197,7 +197,7 @@ module _ (shop : FlowShop) (some : 1 ≤ shop.machines) (jobs : List ℕ) (job p
             ))
       ]
 
-  -- the path through a machine of the inserted row
+  -- the weight of the heaviest path that leaves the inserted row at a machine
   abbrev through : ℕ → ℕ
   through machine = head weigh_with (suc place) machine + heaviest_back shop jobs place machine
 

@@ -1,4 +1,4 @@
--- Rows that were pushed, and their diagonals.
+-- The rows pushed so far, and their diagonals.
 use Rattle.std.proofs.Common.{◌≡◌, ℕ, zero, suc, ◌+◌, ◌<◌, ◌≤◌, get_or, ap, refl, arith}
 use Rattle.pfs_wave.specs.Lanes.{Rows}
 use Rattle.pfs_wave.specs.Private.Blending.{Past, past_at, diagonal}

@@ -1,4 +1,4 @@
--- No path of a shop that a wavefront serves is as long as the greatest value of 16 bits.
+-- Every path of a shop that a wavefront serves is below 65,535, the greatest value of 16 bits.
 use Rattle.std.proofs.Common.{◌≡◌, ℕ, zero, suc, ◌+◌, ◌-◌, ◌*◌, ◌<◌, ◌≤◌, List, [], ◌∷◌, length, arith, refl}
 use Rattle.std.proofs.Math.Nat.{mul-le-mul_right, add-mul}
 use Rattle.std.specs.List.{All}
@@ -9,7 +9,7 @@ use Rattle.pfs_insert.specs.Insertion.{makespan_with}
 use Rattle.pfs_wave.specs.Served.{IsServed}
 use Rattle.pfs_wave.proofs.Longest.{longest_with_law}
 
--- no number of a list is greater than its greatest
+-- each number of a list is at most the greatest
 pub greatest_all : (numbers : List ℕ) → All (λ number. number ≤ greatest numbers) numbers
 greatest_all [] k d lt = absurd (omega arith)
 greatest_all (x ∷ xs) zero d lt = omega (arith, greatest-cons x xs)
@@ -28,7 +28,7 @@ module _ (shop : FlowShop) (width : ℕ) (served : IsServed shop width) where
         served.short,
       )
 
-  -- so every time has 16 bits
+  -- every time of a shop that a wavefront serves has 16 bits
   pub served_times : All (λ time. time < 65536) shop.times
   served_times k d lt =
       let some = served.some in
@@ -36,7 +36,7 @@ module _ (shop : FlowShop) (width : ℕ) (served : IsServed shop width) where
       let one : 1 ≤ shop.jobs + shop.machines - 1 = omega arith in
       omega (arith, greatest_all shop.times k d lt, mul-le-mul_right (greatest shop.times) one, served.short)
 
--- the cells of the tails, and of all else
+-- the cells of one insertion are those of the tails and those of all else
 pub cells_split : (len machines : ℕ) → len * machines + (3 * len + 2) * machines ≡ (4 * (len + 1) - 2) * machines
 cells_split len machines =
     let all : 4 * (len + 1) - 2 ≡ len + (3 * len + 2) = omega arith in

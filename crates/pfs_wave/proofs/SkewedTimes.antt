@@ -1,4 +1,4 @@
--- Bands that are filled are the skewed times of a sequence.
+-- Filled bands contain the skewed times of a sequence.
 use Rattle.std.proofs.Common.{inl, inr, min, ◌≡◌, ℕ, ◌+◌, ◌-◌, ◌<◌, ◌≤◌, List, [], length, drop, get_or, ap, ◌∙◌, sym}
 use Rattle.std.proofs.Common.{arith}
 use Rattle.std.proofs.lemmas.Bool.{cases_lt, lt-ltb, le-ltb}
@@ -23,7 +23,7 @@ unfolding band_rows row_lane
 band_lane rows order first row part lane few is =
     eight_lane (get_or rows (get_or order row 0) []) first part lane few is
 
--- one band more holds the rows of the sequence
+-- one more band contains the rows of the sequence
 module _ (rows : List (List ℕ)) (order : List ℕ) (first from to end width : ℕ) (old times : List (List ℕ))
     (filled : IsBandFilled (band_rows rows order first) first from end old times)
     (ends : end ≡ min (to + 7) (length old - first)) where

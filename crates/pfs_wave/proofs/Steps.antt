@@ -9,7 +9,7 @@ use Rattle.std.proofs.lemmas.List.{get_or-replicate, length-replicate}
 use Rattle.std.proofs.lemmas.Grind.{get_or_after_one}
 use Rattle.pfs_wave.specs.Lanes.{capped, capped_add, zeros, tails_step, heads_step, sums_step}
 
--- capped values of a step
+-- steps on capped values give capped values
 pub capped_step : (a b c d t : ℕ) → a ≡ capped c → b ≡ capped d → capped_add (max a b) t ≡ capped (max c d + t)
 capped_step a b c d t p q = omega arith
 
@@ -54,7 +54,7 @@ module _ (width : ℕ) where
       → get_or (zip2 f a b) lane 0 ≡ f (get_or a lane 0) (get_or b lane 0)
   zip_lane f a b lane p q lt = get_or-zip2 f a b lane 0 0 0 (omega arith) (omega arith)
 
-  -- a row of tails, and a lane of it
+  -- the length of a row of tails, and a lane of it
   pub length-tails_step : (below times : List ℕ) → 1 ≤ width → length below ≡ width → length times ≡ width
       → length (tails_step below times) ≡ width
   length-tails_step below times some p q =
@@ -74,7 +74,7 @@ module _ (width : ℕ) where
       ∙ ap (λ n. capped_add n (get_or times lane 0)) (zip_lane max down below lane (omega arith) p lt
       ∙ ap (λ n. max n (get_or below lane 0)) (down_next below lane p lt))
 
-  -- a row of heads
+  -- the length of a row of heads, and a lane of it
   pub length-heads_step : (before above times : List ℕ) → length before ≡ width → length above ≡ width
       → length times ≡ width → length (heads_step before above times) ≡ width
   length-heads_step before above times p q r =
@@ -91,7 +91,7 @@ module _ (width : ℕ) where
       zip_lane capped_add (zip2 max up above) times lane (omega arith) r lt
       ∙ ap (λ n. capped_add n (get_or times lane 0)) (zip_lane max up above lane (omega arith) q lt)
 
-  -- a row of sums
+  -- the length of a row of sums, and a lane of it
   pub length-sums_step : (before inserted tail : List ℕ) → length before ≡ width → length inserted ≡ width
       → length tail ≡ width → length (sums_step before inserted tail) ≡ width
   length-sums_step before inserted tail p q r =

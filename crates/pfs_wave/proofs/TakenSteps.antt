@@ -5,7 +5,7 @@ use Rattle.pfs_base.specs.FlowShop.{FlowShop}
 use Rattle.pfs_wave.specs.Lanes.{Rows, rows_of}
 use Rattle.pfs_wave.specs.Wavefront.{lane_of, AreSkewed, HoldTails}
 
--- rows that are the same as far as the steps of a sequence go
+-- rows that are the same in all steps of a sequence
 module _ (shop : FlowShop) (jobs : List ℕ) (width : ℕ) (rows others : Rows)
     (same : (step : ℕ) → step < length jobs + width → others step ≡ rows step) where
   same_lane : (step lane : ℕ) → step < length jobs + width → lane_of others step lane ≡ lane_of rows step lane
@@ -25,7 +25,7 @@ module _ (shop : FlowShop) (jobs : List ℕ) (width : ℕ) (rows others : Rows)
   }
 
 module _ {X : Type 0} (lanes : X → List ℕ) where
-  -- the rows of a table's front
+  -- the rows at the front of a table
   pub front_rows : (front rest : List X) (step : ℕ) → step < length front
       → rows_of (map lanes (front ++ rest)) step ≡ rows_of (map lanes front) step
   front_rows front rest step lt =

@@ -107,11 +107,11 @@ module _ {b1 b2 b3 t1 t2 t3 below times : List ℕ} (b : Eight b1 b2 b3) (t : Ei
       ∙ together_same p q r)
       ∙ same_tails below_is times_is
 
--- the lengths, as an invariant has them
+-- the lengths of the bands, from an invariant
 pub eights : {a b c : List ℕ} → (length a ≡ 8) × (length b ≡ 8) × (length c ≡ 8) → Eight a b c
 eights p = record { one = p.0; two = p.1; three = p.2 }
 
--- the bands of lanes that are together
+-- the three bands of a whole row
 module _ {a b c whole : List ℕ} (long : Eight a b c) (is : together a b c ≡ whole) where
   pub first_of : a ≡ take 8 whole
   first_of = sym (take_at a (b ++ c) 8 long.one) ∙ ap (take 8) is

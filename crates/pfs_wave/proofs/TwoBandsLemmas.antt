@@ -78,11 +78,11 @@ module _ {b1 b2 t1 t2 after times : List ℕ} (b : TwoEights b1 b2) (t : TwoEigh
       ∙ both_same p q)
       ∙ same_tails after_is times_is
 
--- the lengths, as an invariant has them
+-- the lengths of the bands, from an invariant
 pub two_eights : {a b : List ℕ} → (length a ≡ 8) × (length b ≡ 8) → TwoEights a b
 two_eights p = record { one = p.0; two = p.1 }
 
--- the bands of lanes that are together
+-- the two bands of a whole row
 module _ {a b whole : List ℕ} (long : TwoEights a b) (is : a ++ b ≡ whole) where
   pub first_of_two : a ≡ take 8 whole
   first_of_two = sym (take_at a b 8 long.one) ∙ ap (take 8) is

@@ -1,4 +1,4 @@
--- What the lanes of a wavefront hold, step by step.
+-- The values of the lanes of a wavefront, step by step.
 use Rattle.std.proofs.Common.{ℕ, zero, suc, ◌≡◌, ◌+◌, ◌-◌, ◌<◌, ◌≤◌, List, ◌∷◌, max, length, get_or, insert, refl, ap}
 use Rattle.std.proofs.Common.{◌∙◌, sym, arith, add-one, inl, inr}
 use Rattle.std.proofs.lemmas.Bool.{cases_lt}
@@ -61,7 +61,7 @@ module _ (shop : FlowShop) (jobs : List ℕ) (width : ℕ) (times : Rows) (fits 
   abbrev steps : ℕ
   steps = length jobs + width
 
-  -- the time at a cell
+  -- the time of a cell
   time_at : (step row lane : ℕ) → step < steps → step ≡ row + lane → lane < width →
       lane_of times step lane ≡ padded_time shop jobs row lane
   time_at step row lane inside is lt =
@@ -123,7 +123,7 @@ module _ (shop : FlowShop) (jobs : List ℕ) (width : ℕ) (times : Rows) (fits 
       ∙ length-heads_step width (heads_at times width step) (heads_at times width step) (times step) before before
       (skewed.lanes step (omega arith))
 
-  -- a lane of heads, by those before it and above it
+  -- a lane of heads, from the head before it and the head above it
   head_lane : (step lane a b : ℕ) → step < length jobs + width → lane < width
       → get_or (0 ∷ (heads_at times width step)) lane 0 ≡ capped a → get_or (heads_at times width step) lane 0
       ≡ capped b
@@ -135,7 +135,7 @@ module _ (shop : FlowShop) (jobs : List ℕ) (width : ℕ) (times : Rows) (fits 
       ∙ heads_lane width heads heads (times step) lane wide wide (skewed.lanes step le) lt
       ∙ capped_step (get_or (0 ∷ heads) lane 0) (get_or heads lane 0) a b (lane_of times step lane) before above
 
-  -- lanes that are not reached yet
+  -- lanes that the wavefront has not reached yet are 0
   heads_none : (step lane : ℕ) → step ≤ lane → lane < width → get_or (heads_at times width step) lane 0 ≡ 0
   heads_none zero lane le lt = ap (λ v. get_or v lane 0) (heads_first times width) ∙ zeros-get_or width lane lt
   heads_none (suc step) zero le lt = absurd (omega arith)

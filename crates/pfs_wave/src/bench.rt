@@ -14,8 +14,8 @@ use pfs_order::Seq;
 
 /// A bench that also computes heads, tails, inserted rows and sums in lanes of 16 bits, a whole pass over a sequence
 /// at a time. Each pass counts the values of the tables that it computes: a value for each job and machine. Lanes that
-/// hold no value of a table are not counted, nor are the times that are put in the lanes' order, since no sum is
-/// computed there. The bench keeps the times of the last sequence in that order.
+/// contain no value of a table are not counted. Putting times in the lanes' order is not counted either, since it
+/// computes no sum. The bench keeps the times of the last sequence in that order.
 pub trait LaneBench: Bench {
     /// A row of its lanes.
     type Lanes: Lanes;
@@ -36,8 +36,8 @@ pub trait LaneBench: Bench {
             ≡ Self.counted self.old + length seq.now.jobs * (Self.shop self.old).machines }
         ensures shop { Self.shop self.new ≡ Self.shop self.old };
 
-    /// The best place for a job in the sequence that the bench holds, and the makespan there. It counts a cell for each
-    /// head, and for each value of the inserted row and each sum at each place.
+    /// The best place for a job in the sequence whose times the bench keeps, and the makespan with the job there. It
+    /// counts a cell for each head, and for each value of the inserted row and each sum at each place.
     fn best_place(
         &mut self,
         seq: &Seq,

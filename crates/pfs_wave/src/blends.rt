@@ -7,8 +7,8 @@ ghost use Rattle.pfs_wave.specs.Private.Blending.{Past, AreBlends, pushed, past_
 
 use std::simd::prelude::*;
 
-/// What the blends need of the last rows: the last row, the results of the first blend for the last two rows, and of
-/// the second for the last four.
+/// What the blends need of the last rows: the last row, the results of the first blend for the last two rows, and the
+/// results of the second blend for the last four.
 #[derive(Clone, Copy)]
 pub struct Blends {
     before: u16x8,

@@ -3,17 +3,17 @@ ghost use Rattle.std.specs.Prelude.{◌≡◌, ℕ, ◌+◌, ◌-◌, ◌≤◌,
 ghost use Rattle.std.specs.List.{slice_index_or};
 ghost use Rattle.pfs_wave.specs.Private.HeldRows.{IsKept, IsPadded};
 
-/// How many rows of a sequence are those of the sequence before: at its front, and at its end.
+/// The numbers of rows of a sequence that are rows of the sequence before: at its front, and at its end.
 #[derive(Clone, Copy, Debug, PartialEq, Eq)]
 pub struct Kept {
     pub front: usize,
     pub back: usize,
 }
 
-// A sequence of fewer jobs is skewed whole faster than it is compared.
+// For a sequence of fewer jobs it is faster to skew all rows than to compare them.
 const SHORT: usize = 128;
 
-// Whether four rows are the same. Compared at once, they take one jump.
+// Whether four rows are the same. The four comparisons take one jump.
 #[inline(always)]
 fn are_same(held: &[usize], seq: &[usize], a: usize, b: usize) -> bool
     requires held { a + 4 ≤ length held.now }
@@ -27,7 +27,7 @@ fn are_same(held: &[usize], seq: &[usize], a: usize, b: usize) -> bool
         & (held[a + 3] == seq[b + 3])
 }
 
-// How many rows are the same at the front, or up to three fewer.
+// The number of rows that are the same at the front, or up to three fewer.
 #[inline(always)]
 fn common_front(held: &[usize], seq: &[usize]) -> usize
     ensures in_held { result ≤ length held.now }
@@ -44,7 +44,7 @@ fn common_front(held: &[usize], seq: &[usize]) -> usize
     4 * fours
 }
 
-// How many rows are the same at the end, or up to three fewer, of those after the front.
+// The number of rows after the front that are the same at the end, or up to three fewer.
 #[inline(always)]
 fn common_back(held: &[usize], seq: &[usize], front: usize) -> usize
     requires front { front ≤ length held.now }
@@ -63,8 +63,8 @@ fn common_back(held: &[usize], seq: &[usize], front: usize) -> usize
     4 * fours
 }
 
-/// Which rows of a sequence are those of the sequence before. A shorter sequence keeps none at its end, and a short one
-/// none at all.
+/// The rows of a sequence that are rows of the sequence before. A sequence that is shorter than the one before keeps
+/// none at its end, and a sequence of fewer than `SHORT` jobs keeps none.
 #[inline(always)]
 pub fn kept_rows(held: &[usize], seq: &[usize]) -> Kept
     ensures { IsKept held.now seq.now result.front result.back }

@@ -12,14 +12,14 @@ pub trait Lanes: Drop {
 
     ghost WIDTH: { ℕ };
 
-    /// How many lanes a row has.
+    /// The number of lanes of a row: 8, 16 or 24.
     const WIDTH: usize;
 
     /// A row of zeros.
     fn none() -> Self
         ensures { lanes result ≡ zeros WIDTH };
 
-    /// The same lanes again.
+    /// A copy of the row.
     fn again(&self) -> Self
         ensures { lanes result ≡ lanes self.now };
 
@@ -44,8 +44,8 @@ pub trait Lanes: Drop {
     fn tails(after: &Self, times: &Self) -> Self
         ensures { lanes result ≡ tails_step (lanes after.now) (lanes times.now) };
 
-    /// The heads of a step, or the inserted rows, from the row of lanes that holds the values before each, and the one
-    /// that holds the values above each.
+    /// The heads of a step, or the inserted rows: in each lane the greater of the lane before it in `before` (0 for the
+    /// first lane) and the same lane in `above`, plus the time of the lane.
     fn heads(before: &Self, above: &Self, times: &Self) -> Self
         ensures { lanes result ≡ heads_step (lanes before.now) (lanes above.now) (lanes times.now) };
 

@@ -1,34 +1,35 @@
-//! What the lanes of a wavefront hold.
+//! Laws of the definitions: which values the lanes of a wavefront contain.
 ghost use Rattle.pfs_wave.specs.Wavefront.{TailsLaw, HeadsLaw, InsertedRowsLaw, SumsLaw};
 ghost use Rattle.pfs_wave.specs.Wavefront.{CappedLeastLaw, LongestWithLaw};
 
-/// The lanes of tails hold the heaviest back paths.
+/// The lanes of tails contain the tails of the sequence, capped.
 pub fn tails()
     ensures { TailsLaw }
 {}
 
-/// The lanes of heads hold the heaviest front paths.
+/// The lanes of heads contain the heads of the sequence, capped.
 pub fn heads()
     ensures { HeadsLaw }
 {}
 
-/// The lanes of inserted rows hold the heaviest front paths to the inserted job at each place.
+/// The lanes of inserted rows contain the heads of the inserted job at each place, capped.
 pub fn inserted_rows()
     ensures { InsertedRowsLaw }
 {}
 
-/// The last lane of the sums holds the makespan with the job at each place.
+/// The last lane of the sums contains the makespan with the job at each place, capped. So do all lanes from the last
+/// machine's on.
 pub fn sums()
     ensures { SumsLaw }
 {}
 
-/// The first least of capped values below the cap is the first least of the values.
+/// The first place of the least capped value, where that is below the cap, is the first place of the least value.
 pub fn least()
     ensures { CappedLeastLaw }
 {}
 
-/// No makespan with a job inserted is longer than as many of the longest time as there are jobs and machines without
-/// the job.
+/// With a job inserted into a sequence of n jobs, on m machines, no makespan is longer than n + m times the longest
+/// time.
 pub fn longest_with()
     ensures { LongestWithLaw }
 {}

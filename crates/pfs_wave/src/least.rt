@@ -1,4 +1,4 @@
-//! The first least of some sums.
+//! The first place of the least sum.
 ghost use Rattle.std.specs.Prelude.{◌≡◌, ℕ, ◌+◌, ◌*◌, ◌^◌, ◌≤◌, ◌<◌, length};
 ghost use Rattle.std.specs.List.{slice_index_or};
 ghost use Rattle.pfs_wave.specs.Private.LeastSoFar.{IsLeastSoFar};
@@ -19,7 +19,7 @@ fn key(place: usize, sum: u16) -> u32
     u32::from(sum) * 65536 + place as u32
 }
 
-/// The first place with the least sum: that of the least key. The compiler makes vectors of the loop.
+/// The first place of the least sum, which is the place of the least key. The compiler vectorizes the loop.
 pub fn first_least(sums: &[u16]) -> Found
     requires some { 1 ≤ length sums.now }
     requires few { length sums.now ≤ 2 ^ 16 }

@@ -26,8 +26,8 @@ pub struct MeteredLanes<'a, L: Lanes> {
 }
 
 impl<'a, L: Lanes> MeteredLanes<'a, L> {
-    /// A bench over an instance that has counted no cell. It reserves memory for the rows of its jobs and for
-    /// the times of a sequence.
+    /// A bench over an instance, with a count of 0 cells. It reserves memory for the rows of its jobs and for the times
+    /// of a sequence, and returns `AllocError` where that fails.
     pub fn new(alloc: Global, instance: &'a Instance) -> Result<MeteredLanes<'a, L>, AllocError>
         requires { IsServed instance.now.shop L.WIDTH }
         ensures shop { IfOk result (λ made. ⟦<MeteredLanes<'a, L> as Bench>⟧.shop made ≡ instance.now.shop) }
@@ -40,7 +40,7 @@ impl<'a, L: Lanes> MeteredLanes<'a, L> {
         })
     }
 
-    /// The number of a length, for printing. It counts nothing.
+    /// The length as a number, for printing. It counts no cells.
     pub fn reveal(&self, span: Span) -> u64
         ensures { result ≡ span }
     {

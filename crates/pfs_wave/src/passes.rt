@@ -23,7 +23,8 @@ pub(crate) fn fill_front<L: Lanes>(times: &[L], tails: &mut [L])
     fill_tails(times, &mut tails[..times.len()]);
 }
 
-/// The best place of a job in a sequence, and the makespan there, from the skewed times and the tails of the sequence.
+/// The best place of a job in a sequence, and the makespan with the job there, from the skewed times and the tails of
+/// the sequence.
 #[inline(always)]
 pub(crate) fn best_place<L: Lanes>(times: &[L], tails: &[L], job: &L, sums: &mut [u16]) -> Found
     requires some { L.WIDTH ≤ length times.now }

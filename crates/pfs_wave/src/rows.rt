@@ -22,7 +22,7 @@ fn lane_time(instance: &Instance, job: usize, lane: usize) -> u16
     }
 }
 
-// The times of a job in eight lanes, from one on.
+// The times of a job in the eight lanes from `first` on.
 fn eight_times(instance: &Instance, job: usize, first: usize) -> u16x8
     requires job { job < instance.now.shop.jobs }
     requires short { All (λ time. time < 2 ^ 16) instance.now.shop.times }
@@ -55,7 +55,8 @@ fn job_row<L: Lanes>(instance: &Instance, job: usize) -> L
 }
 
 /// Makes the rows of an instance: for each job its times, in the lanes of its machines, and 0 in the lanes after the
-/// last machine; and after them a row of zeros. It reserves memory once.
+/// last machine; and after these rows a row of zeros. It reserves memory once, and returns `AllocError` where that
+/// fails.
 pub fn shop_rows<L: Lanes>(alloc: Global, instance: &Instance) -> Result<Vec<L>, AllocError>
     requires machines { instance.now.shop.machines ≤ L.WIDTH }
     requires short { All (λ time. time < 2 ^ 16) instance.now.shop.times }

@@ -6,7 +6,7 @@ ghost use Rattle.pfs_wave.specs.declared.served.Method.TheVariants.{HeadsTails, 
 
 use pfs_base::Instance;
 
-/// How the best places of a search are found.
+/// The method by which a search finds best places.
 #[derive(Clone, Copy, Debug, PartialEq, Eq)]
 pub enum Method {
     /// Heads and tails in lengths of 64 bits, a row at a time.

@@ -25,7 +25,7 @@ use std::marker::Model;
 pub struct SkewedTimes<L: Lanes> {
     // A row for each job, and after them a row of zeros.
     rows: Vec<L>,
-    // How many jobs the sequence has.
+    // The number of jobs of the sequence.
     len: usize,
     // The jobs of the sequence, and after them, for each step, the number of the row of zeros.
     order: Vec<usize>,
@@ -48,7 +48,8 @@ impl<L: Lanes> Model for SkewedTimes<L> {
 }
 
 impl<L: Lanes> SkewedTimes<L> {
-    /// The times of an instance, and no job in the sequence. It reserves three vectors.
+    /// The times of an instance, and a sequence of no jobs. It reserves three vectors, and returns `AllocError` where
+    /// that fails.
     pub fn new(alloc: Global, instance: &Instance) -> Result<SkewedTimes<L>, AllocError>
         requires machines { instance.now.shop.machines ≤ L.WIDTH }
         requires short { All (λ time. time < 2 ^ 16) instance.now.shop.times }
@@ -104,7 +105,7 @@ impl<L: Lanes> SkewedTimes<L> {
         fill_front(self.times(), tails);
     }
 
-    /// The best place of a job in the sequence, and the makespan there.
+    /// The best place of a job in the sequence, and the makespan with the job there.
     #[inline(always)]
     pub fn best_place(&self, job: usize, tails: &[L], sums: &mut [u16]) -> Found
         requires job { job < length self.now.rows }

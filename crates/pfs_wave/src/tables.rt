@@ -9,7 +9,7 @@ use std::alloc::{AllocError, Global};
 use std::marker::Model;
 
 /// The tables of a wavefront: for each step a row of tails and a sum. A bench fills and reads them (`LaneBench`); no
-/// other code sees what they hold.
+/// code outside this crate sees their values.
 #[derive(Drop)]
 pub struct Tables<L: Lanes> {
     pub(crate) jobs: usize,
@@ -37,7 +37,8 @@ impl<L: Lanes> Model for Tables<L> {
 }
 
 impl<L: Lanes> Tables<L> {
-    /// Tables of zeros for shops of this number of jobs. It reserves two vectors.
+    /// Tables of zeros for shops of this number of jobs. It reserves two vectors, and returns `AllocError` where that
+    /// fails.
     pub fn new(alloc: Global, jobs: usize) -> Result<Tables<L>, AllocError>
         requires { jobs ≤ MOST_JOBS }
         ensures { IfOk result (λ made. made.jobs ≡ jobs) }
@@ -51,7 +52,7 @@ impl<L: Lanes> Tables<L> {
     }
 }
 
-/// `count` rows of zeros.
+/// `count` rows of zeros. It returns `AllocError` where allocation fails.
 pub(crate) fn rows_of_zeros<L: Lanes>(alloc: Global, count: usize) -> Result<Vec<L>, AllocError>
     ensures count { IfOk result (λ made. length made.items ≡ count) }
     ensures zeros { IfOk result (λ made. map L.lanes made.items ≡ replicate count (zeros L.WIDTH)) }

@@ -29,7 +29,7 @@ fn band_of_row<L: Lanes>(rows: &[L], order: &[usize], row: usize, band: usize) -
     rows[job].band(band)
 }
 
-// What the blends keep of the rows before a row. They need no more than seven of them.
+// What the blends keep of the rows before a row. They need at most seven of these.
 #[inline(always)]
 fn blends_before<L: Lanes>(rows: &[L], order: &[usize], row: usize, band: usize) -> Blends
     requires jobs { All (λ job. job < length rows.now) order.now }
@@ -44,8 +44,8 @@ fn blends_before<L: Lanes>(rows: &[L], order: &[usize], row: usize, band: usize)
     last
 }
 
-// Fills one band of the steps that hold a row that changed: those rows, and the seven after them. Four rows a turn let
-// the blends stay in registers without a copy.
+// Fills one band of the steps that contain a row that changed: the steps of those rows, and the seven after them. With
+// four rows in each turn of the loop the blends stay in registers and are not copied.
 #[inline(always)]
 fn fill_band<L: Lanes>(rows: &[L], order: &[usize], times: &mut [L], changed: Changed, band: usize)
     requires jobs { All (λ job. job < length rows.now) order.now }
@@ -124,10 +124,9 @@ pub fn move_steps<L: Lanes>(times: &mut [L], from: usize, to: usize, by: usize)
     }
 }
 
-/// Moves the last `back` rows of a sequence that grew from `old` to `new` jobs to their new steps. Returns from which
-/// row
-/// on the steps are right. A step has rows of both parts up to WIDTH steps after the first row that moves, so only the
-/// steps after that are moved.
+/// Moves the last `back` rows of a sequence that grew from `old` to `new` jobs to their new steps. Returns the row from
+/// which on the steps are right. A step has rows of both parts up to WIDTH steps after the first row that moves, so the
+/// function moves only the steps after that.
 #[inline(always)]
 pub fn move_back<L: Lanes>(times: &mut [L], old: usize, new: usize, back: usize) -> usize
     requires old { back ≤ old }

@@ -12,7 +12,7 @@ use std::marker::PhantomData;
 
 /// An inserter that computes heads and tails (Taillard, 1990) along the anti-diagonals of their tables, whose values
 /// don't depend on one another (Wozniak, 1997). One insertion counts (4k - 2)·m cells, where k jobs are in the
-/// order with the inserted one, on m machines. It reserves its memory when it is made, so `best` takes none.
+/// order with the inserted one, on m machines. It reserves its memory when it is made, so `best` allocates nothing.
 #[derive(Drop)]
 pub struct Wavefront<B: LaneBench> {
     tables: Tables<B::Lanes>,
@@ -21,7 +21,8 @@ pub struct Wavefront<B: LaneBench> {
 }
 
 impl<B: LaneBench> Wavefront<B> {
-    /// An inserter for shops of the bench's sizes. It reserves the memory of its tables.
+    /// An inserter for shops of the bench's sizes. It reserves the memory of its tables, and returns `Memory` where
+    /// that fails.
     pub fn new(alloc: Global, bench: &B) -> Result<Wavefront<B>, InsertFault>
         ensures jobs { IfOk result (λ made.
             (⟦<Wavefront<B> as Inserter<B>>⟧.sizes made).jobs ≡ (B.shop bench.now).jobs) }
@@ -54,7 +55,7 @@ impl<B: LaneBench> Inserter<B> for Wavefront<B> {
         seq: &Seq,
         job: usize,
     ) -> Result<Placed<B::Span>, InsertFault> {
-        // Called for what it says of a sequence: that its jobs are distinct.
+        // Called for its contract, which says that the jobs of a sequence are distinct.
         let _size = seq.size();
         bench.fill_tails(seq, &mut self.tables);
         Ok(bench.best_place(seq, job, &mut self.tables))

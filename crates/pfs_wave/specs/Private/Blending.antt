@@ -4,30 +4,31 @@ use Rattle.std.specs.List.{slice_index_or}
 use Rattle.pfs_wave.specs.Lanes.{Rows}
 use Rattle.pfs_wave.specs.declared.blends.Blends.{Blends}
 
--- by the number of rows back from the last row, and by lane
+-- the values of the rows so far, by the number of rows back from the last row and by lane
 abbrev pub Past : Type 0
 Past = ℕ → ℕ → ℕ
 
--- with one more row
+-- the values with one more row
 abbrev pub pushed : List ℕ → Past → Past
 pushed row past zero lane = slice_index_or row lane 0
 pushed row past (suc back) lane = past back lane
 
--- after the given number of rows of a band; 0 before the first row
+-- the values after a number of rows of a band; before the first row they are 0
 abbrev pub past_at : Rows → ℕ → Past
 past_at rows zero = λ back lane. 0
 past_at rows (suc step) = pushed (rows step) (past_at rows step)
 
--- eight lanes, each from the given number of rows back
+-- eight lanes, each from its given number of rows back
 abbrev pub each_back : Past → ℕ → ℕ → ℕ → ℕ → ℕ → ℕ → ℕ → ℕ → List ℕ
 each_back past a b c d e f g h =
     past a 0 ∷ past b 1 ∷ past c 2 ∷ past d 3 ∷ past e 4 ∷ past f 5 ∷ past g 6 ∷ past h 7 ∷ []
 
--- lane l from l rows back
+-- eight lanes, lane l from l rows back
 abbrev pub diagonal : Past → List ℕ
 diagonal past = each_back past 0 1 2 3 4 5 6 7
 
--- what is kept of the last rows: the last row, the last two after the first blend, the last four after the second
+-- what the blends keep of the last rows: the last row, the last two results of the first blend, and the last four of
+-- the second
 pub record AreBlends (past : Past) (blends : Blends) : Type 0 where
   pub before : blends.before ≡ each_back past 0 0 0 0 0 0 0 0
   pub pair_one : blends.pair_one ≡ each_back past 0 1 0 1 0 1 0 1

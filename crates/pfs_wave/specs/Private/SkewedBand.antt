@@ -4,17 +4,16 @@ use Rattle.std.specs.List.{slice_index_or}
 use Rattle.pfs_wave.specs.Lanes.{Rows}
 use Rattle.pfs_wave.specs.Private.Blending.{past_at, diagonal}
 
--- eight lanes of a row of lanes, from a lane on
+-- the eight lanes of a row from lane `first` on
 abbrev pub eight_from : ℕ → List ℕ → List ℕ
 eight_from first lanes = take 8 (drop first lanes)
 
--- eight lanes of each row of a sequence
+-- the eight lanes from lane `first` on of each row of a sequence
 unfoldable pub band_rows : List (List ℕ) → List ℕ → ℕ → Rows
 band_rows rows order first row = eight_from first (slice_index_or rows (slice_index_or order row 0) [])
 
--- eight lanes from `first` on hold the skewed times in the steps of the rows from `from` to before `to`; all other
--- lanes
--- and steps are unchanged
+-- the eight lanes from `first` on contain the skewed times in the steps from `first` + `from` to before `first` + `to`;
+-- all other lanes and steps are unchanged
 pub record IsBandFilled (band : Rows) (first from to : ℕ) (old times : List (List ℕ)) : Type 0 where
   pub steps : length times ≡ length old
   pub wide : (step : ℕ) → length (slice_index_or times step []) ≡ length (slice_index_or old step [])
