@@ -1,4 +1,4 @@
--- What a search finds and counts, and what rounds of it make of an order.
+-- The result and the count of a search, and of some of its rounds from a given order.
 use Rattle.std.proofs.Common.{◌≡◌, ℕ, ◌+◌, ◌-◌, ◌*◌, ◌<◌, ◌≤◌, ◌^◌, List, length, refl, ap, ap₂, ◌∙◌, arith, lit<}
 use Rattle.std.proofs.Math.Nat.{mul-le-mul, mul-le-mul_left, zero-add}
 use Rattle.rand_core.specs.Pcg32Seed.{pcg32_seed}
@@ -27,7 +27,7 @@ use Rattle.pfs_search.proofs.Published.CostSums.{costs_law}
 closed : HasClosedCosts heads_tails_cost
 closed = costs_law heads_tails_cost (λ count machines some. refl)
 
--- the cells of each round, so many times
+-- the cells of `rounds` rounds
 each_round : (rounds put_back passes jobs machines width : ℕ) → rounds * (put_back + passes * jobs * machines * width)
     ≡ rounds * put_back + rounds * (passes * jobs * machines * width)
 each_round rounds put_back passes jobs machines width = omega arith
@@ -44,7 +44,7 @@ rounds_cells_few : (shop : FlowShop) (rounds take passes : ℕ) → take ≤ sho
 rounds_cells_few shop rounds take passes few =
     rw (rounds_cells_are shop rounds take passes few) at (closed.rounds rounds shop.jobs shop.machines take passes few)
 
--- the cells of two parts are those of all their rounds
+-- the cells of all rounds are the sum of the cells of two parts
 cells_of_parts : (a b put_back passed : ℕ)
     → (a + b) * put_back + (a + b) * passed ≡ a * put_back + a * passed + (b * put_back + b * passed)
 cells_of_parts a b put_back passed = omega arith
@@ -55,7 +55,7 @@ cells-add shop one other take passes =
     cells_of_parts one other (2 * take * shop.machines * (2 * shop.jobs - take))
     (passes * shop.jobs * shop.machines * (4 * shop.jobs - 2))
 
--- and so are their bounds
+-- the bound for all rounds is the sum of the bounds for two parts
 few_of_parts : (a b x machines width one other : ℕ) → one ≤ a * x * machines * width → other ≤ b * x * machines * width
     → one + other ≤ (a + b) * x * machines * width
 few_of_parts a b x machines width one other h k = omega arith
@@ -77,7 +77,7 @@ through a b c h k = omega arith
 below_room : (cells most : ℕ) → cells ≤ most → most < 2 ^ 62 → cells < 2 ^ 62
 below_room cells most h room = omega arith
 
--- at most so many cells are counted
+-- the greatest numbers of cells within the limits
 pub few_neh_cells : FewNehCells
 few_neh_cells shop within =
     mul-le-mul (mul-le-mul_left 2 within.sizes.few_machines) (mul-le-mul within.sizes.few_jobs within.sizes.few_jobs)
@@ -92,7 +92,7 @@ few_rounds_cells shop rounds take passes within few short scarce =
     through _ _ most_rounds_cells (rounds_cells_few shop rounds take passes few)
     (mul-le-mul (mul-le-mul (mul-le-mul short moved) sizes.few_machines) width)
 
--- so many cells can be counted
+-- a count of 64 bits has room for these cells
 pub neh_room : (shop : FlowShop) → IsWithin limits shop → neh_cost heads_tails_cost shop.jobs shop.machines < 2 ^ 62
 neh_room shop within = rw (closed.neh shop.jobs shop.machines)
     (below_room _ most_neh_cells (few_neh_cells shop within) (lit< tt))
@@ -103,7 +103,7 @@ pub rounds_room : (shop : FlowShop) (rounds take passes : ℕ) → IsWithin limi
 rounds_room shop rounds take passes within few short scarce = rw (rounds_cells_are shop rounds take passes few)
     (below_room _ most_rounds_cells (few_rounds_cells shop rounds take passes within few short scarce) (lit< tt))
 
--- the same costs, of insertions that cost as much as those by heads and tails
+-- the costs where insertions cost as much as by heads and tails
 pub same_neh : {cost : ℕ → ℕ → ℕ} (shop : FlowShop) → cost ≡ heads_tails_cost
     → neh_cost_on cost shop ≡ neh_cost_on heads_tails_cost shop
 same_neh shop same = ap (λ c. neh_cost_on c shop) same
@@ -118,15 +118,15 @@ pub makespan_short : (shop : FlowShop) (order : List ℕ) → IsWithin limits sh
     → makespan shop order < 10 ^ 18
 makespan_short shop order within e = omega (arith, none_longer shop order within (omega (arith, e)))
 
--- ---- what is found
+-- ---- results
 
--- NEH is done
+-- NEH is completed
 pub record NehDone (shop : FlowShop) (order : List ℕ) (span cells : ℕ) : Type 0 where
   pub is_order : order ≡ neh_order shop
   pub is_span : span ≡ makespan shop order
   pub counted : cells ≡ neh_cost heads_tails_cost shop.jobs shop.machines
 
--- so many rounds on the words of a stream are done
+-- a number of rounds on the random words of a stream are completed
 pub record RoundsDone (shop : FlowShop) (rounds take passes : ℕ) (stream : Stream) (old : List ℕ)
     (old_span old_cells : ℕ) (order : List ℕ) (span cells : ℕ) : Type 0 where
   pub is_order : order ≡ after_rounds shop passes rounds take old (words_of (rounds * take) stream)
@@ -184,7 +184,7 @@ joined_parts_law shop start first one other take passes seed between order betwe
       few_cells = few-add shop one other take passes begun.few_cells gone_on.few_cells;
     }
 
--- the order of a search that is gone on with
+-- the order of a search that continues
 found_order : (shop : FlowShop) (one other take passes seed : ℕ) (between order : List ℕ)
     → between ≡ searched shop one take passes seed
     → order ≡ improved shop between one other take passes seed

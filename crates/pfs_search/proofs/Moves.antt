@@ -1,4 +1,4 @@
--- Passes make no order longer.
+-- Passes don't increase the makespan of an order.
 use Rattle.std.proofs.Common.{◌≡◌, ℕ, zero, suc, ◌+◌, ◌<◌, ◌≤◌, List, length, fold, get_or, remove, refl, ap, sym, ◌∙◌}
 use Rattle.std.proofs.Common.{add-one, arith}
 use Rattle.std.proofs.lemmas.List.{get_or_default}
@@ -15,12 +15,12 @@ use Rattle.pfs_search.proofs.InTurn.{fold_suc}
 
 -- ---- one job
 
--- it goes back among those that are left where it is taken out of its place
+-- moving a job is removing it from its place and inserting it at its best place
 pub moved_is : (shop : FlowShop) (size place job : ℕ) (jobs : List ℕ) → IsSequence size jobs → place < length jobs
     → job ≡ get_or jobs place 0 → moved shop jobs job ≡ with_job shop (remove jobs place) job
 moved_is shop size place job jobs h within at = rw (others_are size place job jobs h within at)
 
--- an order of all jobs, and one that is no longer
+-- `new` is an order of all jobs whose makespan is at most that of `old`
 record IsNoLonger (shop : FlowShop) (old new : List ℕ) : Type 0 where
   distinct : IsSequence shop.jobs new
   full : length new ≡ shop.jobs
@@ -65,7 +65,7 @@ passes_suc : (shop : FlowShop) (count : ℕ) (jobs : List ℕ)
 passes_suc shop zero jobs = refl
 passes_suc shop (suc count) jobs = passes_suc shop count (pass shop jobs)
 
--- one pass more
+-- one more pass
 pub passes_more : (shop : FlowShop) (count : ℕ) (jobs : List ℕ)
     → after_passes shop (count + 1) jobs ≡ pass shop (after_passes shop count jobs)
 passes_more shop count jobs = rw add-one (passes_suc shop count jobs)

@@ -1,4 +1,4 @@
--- Rounds never make an order longer.
+-- Rounds don't increase the makespan of an order.
 use Rattle.std.proofs.Common.{ℕ, zero, suc, ◌≤◌, List, take as front, drop as behind, arith}
 use Rattle.std.proofs.Math.Dec.{leb}
 use Rattle.std.proofs.lemmas.Bool.{cond_both, leb-true}

@@ -1,4 +1,4 @@
--- There is one ranking of the jobs.
+-- Exactly one list is the ranking of the jobs.
 use Rattle.std.proofs.Common.{◌≡◌, ℕ, zero, suc, ◌+◌, inl, inr, List, [], ◌∷◌, length, fold, ◌↔◌}
 use Rattle.std.proofs.Common.{Contains, true, false, refl, ap, sym, ◌∙◌, arith, add-one}
 use Rattle.std.specs.List.{All, AllPairs}
@@ -19,7 +19,7 @@ use Rattle.pfs_order.proofs.Published.Sequences.{IsSequence-permutation, absent-
 use Rattle.pfs_order.proofs.Published.Sequences.{length-all_jobs}
 use Rattle.pfs_search.specs.Ranking.{RanksBefore, IsRanking, ranks_before, ranked_with, ranking, RankingLaw}
 
--- ---- lists in which each element is before those behind it
+-- ---- lists in which each element is related to all elements after it
 
 Contains-behind : {X : Type 0} (x : X) (xs : List X) (y : X) → Contains xs y → Contains (x ∷ xs) y
 Contains-behind x xs = Contains-append_right (x ∷ []) xs
@@ -31,7 +31,7 @@ module _ {X : Type 0} (R : X → X → Type 0) where
   AllPairs-tail : (x : X) (xs : List X) → AllPairs R (x ∷ xs) → AllPairs R xs
   AllPairs-tail x xs h i j d lt within = h (suc i) (suc j) d (omega arith) (omega arith)
 
--- they are equal where they have the same elements, and no element is before itself or both before and after another
+-- two such lists with the same elements are equal, where no two elements are related both ways, and so none to itself
 module _ {X : Type 0} (R : X → X → Type 0) (one_way : (x y : X) → R x y → R y x → ⊥) where
   only_first : (x y : X) (xs ys : List X) → All (R x) xs → All (R y) ys → Contains (y ∷ ys) x → Contains (x ∷ xs) y
       → x ≡ y
@@ -77,7 +77,7 @@ ranking_unique shop one other left right =
 
 -- ---- the computed ranking is one
 
--- of two jobs the one that isn't ranked behind is ranked before
+-- of two different jobs, where the first doesn't rank before the second, the second ranks before the first
 ranks_or : (shop : FlowShop) (job other : ℕ) → (job ≡ other → ⊥) → ranks_before shop job other ≡ false
     → RanksBefore shop other job
 ranks_or shop job other apart test = grind (arith, nat_tests)

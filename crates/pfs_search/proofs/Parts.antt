@@ -1,4 +1,4 @@
--- Rounds in parts, and the words of each.
+-- Rounds in parts, and the random words of each.
 use Rattle.std.proofs.Common.{◌≡◌, ℕ, zero, suc, ◌+◌, ◌*◌, ◌≤◌, List, ◌∷◌, ◌++◌, length, take as front, drop as behind}
 use Rattle.std.proofs.Common.{refl, ap, ap₂, ◌∙◌, arith}
 use Rattle.std.proofs.Math.Nat.{zero-add, suc-add}
@@ -14,7 +14,7 @@ use Rattle.pfs_base.specs.FlowShop.{FlowShop}
 use Rattle.pfs_search.specs.Greedy.{after_round, after_rounds, words_of}
 use Rattle.pfs_search.specs.Solution.{words_for, words_behind, PartsLaw, SearchedLaw}
 
--- ---- the words of a generator
+-- ---- the random words of a generator
 
 words_of_steps : {S : Type 0} (step : S → ℕ × S) (n : ℕ) (s : S)
     → words_of n (stream_of (steps_u32 step) s) ≡ first_words step n s
@@ -29,11 +29,11 @@ unfolding first_words
 length-first_words step zero s = refl
 length-first_words step (suc n) s = ap suc (length-first_words step n (step s).1)
 
--- the generator after so many words
+-- the generator after a number of words
 abbrev later : ℕ → Lcg → Lcg
 later n g = advance 64 multiplier_64 n g
 
--- some words and those after them
+-- the first words of a generator are some words and the random words after them
 words-add : (a b : ℕ) (g : Lcg)
     → first_words pcg32 (a + b) g ≡ first_words pcg32 a g ++ first_words pcg32 b (later a g)
 unfolding first_words state_after
@@ -45,19 +45,19 @@ unfolding state_after
 later-add zero b g = rw zero-add
 later-add (suc a) b g = rw suc-add (later-add a b (pcg32 g).1)
 
--- the words behind some
+-- the random words after the first `a` words
 words_later : (a b : ℕ) (g : Lcg) → behind a (first_words pcg32 (a + b) g) ≡ first_words pcg32 b (later a g)
 words_later a b g =
     let firsts : List ℕ = first_words pcg32 a g in
     let rest : List ℕ = first_words pcg32 b (later a g) in
     rw (words-add a b g) (rw (length-first_words pcg32 a g) at (drop-append_seam firsts rest))
 
--- ---- the words of a seed
+-- ---- the random words of a seed
 
 abbrev of_seed : ℕ → Lcg
 of_seed seed = pcg32_of_seed (pcg32_seed 16 seed)
 
--- the words that a new generator of a seed gives
+-- the random words of a new generator of a seed
 pub words_are : (seed : ℕ) (generator : Lcg) (count : ℕ) → generator ≡ of_seed seed
     → words_of count (stream_of (steps_u32 pcg32) generator) ≡ words_for seed count
 words_are seed generator count e = rw e (words_of_steps pcg32 count (of_seed seed))
@@ -68,7 +68,7 @@ behind_are seed first count take =
     let all : (first + count) * take ≡ first * take + count * take = omega arith in
     rw all (words_later (first * take) (count * take) (of_seed seed))
 
--- and those that it gives where it has gone on by so many rounds
+-- the random words of a generator of a seed that has advanced past the first rounds
 pub words_behind_are : (seed : ℕ) (generator : Lcg) (first count take : ℕ)
     → generator ≡ later (first * take) (of_seed seed)
     → words_of (count * take) (stream_of (steps_u32 pcg32) generator) ≡ words_behind seed first count take
@@ -77,7 +77,7 @@ words_behind_are seed generator first count take e =
 
 -- ---- parts
 
--- the words of some rounds and those of the rounds after them
+-- the random words of all rounds are those of some rounds and those of the rounds after them
 behind-add : (seed first one other take : ℕ) → words_behind seed first (one + other) take
     ≡ words_behind seed first one take ++ words_behind seed (first + one) other take
 behind-add seed first one other take =
@@ -98,7 +98,7 @@ length-words_behind : (seed first count take : ℕ) → length (words_behind see
 length-words_behind seed first count take =
     rw (behind_are seed first count take) (length-first_words pcg32 (count * take) _)
 
--- rounds on some words, and then on the words after them
+-- rounds on all words are rounds on some words and then on the random words after them
 rounds-add : (shop : FlowShop) (passes take one other : ℕ) (jobs ws us : List ℕ) → length ws ≡ one * take
     → after_rounds shop passes (one + other) take jobs (ws ++ us)
     ≡ after_rounds shop passes other take (after_rounds shop passes one take jobs ws) us

@@ -1,2 +1,2 @@
--- Lemmas that the proofs of crates above may cite.
+-- Lemmas that the proofs of crates above this one may cite.
 pub mod CostSums

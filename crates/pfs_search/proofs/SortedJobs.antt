@@ -17,7 +17,7 @@ use Rattle.pfs_order.proofs.Published.Sequences.{IsSequence-permutation, all_job
 use Rattle.pfs_search.specs.Ranking.{RanksBefore, ranking}
 use Rattle.pfs_search.proofs.OneRanking.{IsSequence-all_jobs, ranking_is, ranking_unique}
 
--- a job behind its total
+-- a pair of a job's total, in decreasing order, and the job
 abbrev pub Listed : Type 0
 Listed = Reverse ℕ × ℕ
 
@@ -29,13 +29,13 @@ listed_order =
     ranks_by (then_total (on_total (λ (x : Listed). x.0.0) (back_total nat_cmp_total))
     (on_total (λ (x : Listed). x.1) nat_cmp_total)) (λ (x : Listed). x)
 
--- one job more behind its total
+-- one more job is listed with its total
 pub listed_more : (listed : List Listed) (total job : ℕ) → map (λ entry. entry.1) listed ≡ all_jobs job
     → map (λ entry. entry.1) (listed ++ (record { 0 = total }, job) ∷ []) ≡ all_jobs (job + 1)
 listed_more listed total job so_far =
     rw (map-append (λ (entry : Listed). entry.1) listed, so_far) (sym (all_jobs_more job))
 
--- of two different jobs the one that is sorted first is ranked before the other
+-- of two different jobs, the one that is sorted first ranks before the other
 sorted_ranks : (shop : FlowShop) (total other_total job other : ℕ)
     → total ≡ total_of shop job → other_total ≡ total_of shop other → job ≢ other
     → is_lt (ordering_then (nat_cmp total other_total) (nat_cmp other job)) ≡ false → RanksBefore shop job other

@@ -1,4 +1,4 @@
--- Taking jobs out.
+-- Removing jobs.
 use Rattle.std.proofs.Common.{◌≡◌, ℕ, ◌+◌, ◌<◌, List, [], ◌∷◌, ◌++◌, length, get_or, drop, insert, remove, Contains}
 use Rattle.std.proofs.Common.{◌∙◌}
 use Rattle.std.proofs.lemmas.List.{get_or_default, drop_more}
@@ -8,14 +8,14 @@ use Rattle.pfs_order.specs.Sequence.{IsSequence}
 use Rattle.pfs_order.proofs.Published.Sequences.{IsSequence-permutation, IsSequence-first, IsSequence-head}
 use Rattle.pfs_order.proofs.Published.Sequences.{IsSequence-moved}
 
--- one more job goes from the jobs that are left to the taken ones
+-- one more job goes from the jobs that are left to the removed jobs
 pub taken_more : (size : ℕ) (done jobs : List ℕ) (place job : ℕ) → place < length jobs → job ≡ get_or jobs place 0
     → IsSequence size (done ++ jobs) → IsSequence size ((done ++ job ∷ []) ++ remove jobs place)
 taken_more size done jobs place job within at =
     let here : job ≡ get_or jobs place job = at ∙ get_or_default jobs place 0 job within in
     IsSequence-permutation size _ _ (IsPermutation-more _ done jobs place job within here (IsPermutation-refl _))
 
--- ---- the job that is put back next, of those that are taken
+-- ---- the removed job that is inserted next
 
 module _ (size : ℕ) (taken jobs : List ℕ) (i : ℕ) (within : i < length taken)
     (together : IsSequence size (drop i taken ++ jobs)) where

@@ -1,4 +1,4 @@
--- The words of a stream, and rounds on them.
+-- The random words of a stream, and rounds on them.
 use Rattle.std.proofs.Common.{◌≡◌, ℕ, zero, suc, ◌+◌, ◌*◌, ◌≤◌, List, ◌∷◌, ◌++◌, length, take as front, drop as behind}
 use Rattle.std.proofs.Common.{refl, ap, arith, add-one}
 use Rattle.std.proofs.Math.Nat.{zero-add, suc-add}
@@ -11,7 +11,7 @@ pub length-words_of : (n : ℕ) (s : Stream) → length (words_of n s) ≡ n
 length-words_of zero s = refl
 length-words_of (suc n) s = ap suc (length-words_of n (next_u32 s).1)
 
--- some words and those after them
+-- the next words of a stream are some words and the random words after them
 pub words_of-add : (a b : ℕ) (s : Stream) → words_of (a + b) s ≡ words_of a s ++ words_of b (stream_after a s)
 words_of-add zero b s = rw zero-add
 words_of-add (suc a) b s = rw suc-add (ap (λ l. (next_u32 s).0 ∷ l) (words_of-add a b (next_u32 s).1))
@@ -20,7 +20,7 @@ pub stream_after-add : (a b : ℕ) (s : Stream) → stream_after (a + b) s ≡ s
 stream_after-add zero b s = rw zero-add
 stream_after-add (suc a) b s = rw suc-add (stream_after-add a b (next_u32 s).1)
 
--- one round more, on the words behind
+-- one more round, on the random words after those of the rounds before
 module _ (shop : FlowShop) (passes take : ℕ) where
   rounds_suc : (n : ℕ) (jobs ws us : List ℕ) → length ws ≡ n * take → length us ≡ take
       → after_rounds shop passes (suc n) take jobs (ws ++ us)

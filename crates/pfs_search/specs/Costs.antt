@@ -1,28 +1,29 @@
--- What a search costs, in cells, by what an insertion costs. The cost of an insertion is a function of the
--- number of jobs with the new one, and the number of machines.
+-- The cost of a search, in cells, from the cost of an insertion. The cost of an insertion is a function of the number
+-- of jobs with the inserted one, and of the number of machines.
 use Rattle.std.specs.Prelude.{◌≡◌, ℕ, ◌+◌, ◌-◌, ◌*◌, ◌≤◌, sum_by}
 use Rattle.std.specs.List.{range_with_len}
 use Rattle.pfs_base.specs.FlowShop.{FlowShop}
 use Rattle.pfs_insert.specs.Insertion.{heads_tails_cost}
 
--- so many insertions, one after the other, into a sequence of so many jobs
+-- the cost of `more` insertions, one after another, into a sequence of `before` jobs
 abbrev pub insertions_cost : (ℕ → ℕ → ℕ) → ℕ → ℕ → ℕ → ℕ
 insertions_cost cost machines before more = sum_by (λ count. cost count machines) (range_with_len (before + 1) more)
 
--- NEH: all jobs
+-- the cost of NEH: all jobs are inserted
 abbrev pub neh_cost : (ℕ → ℕ → ℕ) → ℕ → ℕ → ℕ
 neh_cost cost jobs machines = insertions_cost cost machines 0 jobs
 
--- a pass: each job once, among all others
+-- the cost of a pass: each job is inserted once, among all others
 abbrev pub pass_cost : (ℕ → ℕ → ℕ) → ℕ → ℕ → ℕ
 pass_cost cost jobs machines = jobs * cost jobs machines
 
--- a round that takes so many jobs out: as many are put back, and then the passes are made
+-- the cost of a round that removes `take` jobs and makes `passes` passes: the removed jobs are inserted, and then the
+-- passes are made
 abbrev pub round_cost : (ℕ → ℕ → ℕ) → ℕ → ℕ → ℕ → ℕ → ℕ
 round_cost cost jobs machines take passes =
     insertions_cost cost machines (jobs - take) take + passes * pass_cost cost jobs machines
 
--- the same on a shop
+-- the cost of NEH, of a pass and of a round on a shop
 abbrev pub neh_cost_on : (ℕ → ℕ → ℕ) → FlowShop → ℕ
 neh_cost_on cost shop = neh_cost cost shop.jobs shop.machines
 
@@ -32,12 +33,12 @@ pass_cost_on cost shop = pass_cost cost shop.jobs shop.machines
 abbrev pub round_cost_on : (ℕ → ℕ → ℕ) → FlowShop → ℕ → ℕ → ℕ
 round_cost_on cost shop take passes = round_cost cost shop.jobs shop.machines take passes
 
--- an insertion costs as much as one by heads and tails
+-- each insertion costs as much as one by heads and tails
 abbrev pub CostsAsHeadsTails : (ℕ → ℕ → ℕ) → Type 0
 CostsAsHeadsTails cost = (count machines : ℕ) → 1 ≤ count → cost count machines ≡ heads_tails_cost count machines
 
--- the costs in closed form of NEH, of a pass, of a round that takes so many jobs out and makes so many passes,
--- and of so many such rounds
+-- closed forms of the cost of NEH, of a pass, and of a round that removes `take` jobs and makes `passes` passes; and an
+-- upper bound on the cost of `count` such rounds
 pub record HasClosedCosts (cost : ℕ → ℕ → ℕ) : Type 0 where
   pub neh : (jobs machines : ℕ) → neh_cost cost jobs machines ≡ 2 * machines * (jobs * jobs)
   pub pass : (jobs machines : ℕ) → pass_cost cost jobs machines ≡ jobs * machines * (4 * jobs - 2)
@@ -47,5 +48,6 @@ pub record HasClosedCosts (cost : ℕ → ℕ → ℕ) : Type 0 where
   pub rounds : (count jobs machines take passes : ℕ) → take ≤ jobs
       → count * round_cost cost jobs machines take passes ≤ count * (take + passes * jobs) * machines * (4 * jobs - 2)
 
+-- where each insertion costs as much as by heads and tails, the closed forms are right
 abbrev pub CostsLaw : Type 0
 CostsLaw = (cost : ℕ → ℕ → ℕ) → CostsAsHeadsTails cost → HasClosedCosts cost

@@ -1,4 +1,5 @@
--- Iterated greedy (Ruiz and Stützle 2007): rounds that take some jobs out and put each back at its best place.
+-- Iterated greedy (Ruiz and Stützle 2007): rounds that remove some jobs and insert each again at its best place. The
+-- words are random words, which choose the jobs to remove.
 use Rattle.std.specs.Prelude.{◌≡◌, ℕ, zero, suc, ◌%◌, ◌≤◌, not, List, [], ◌∷◌, length, fold, filter}
 use Rattle.std.specs.Prelude.{nat_le, nat_eq, slice_index, remove, if◌then◌else◌}
 use Rattle.std.specs.Prelude.{take as front, drop as behind}
@@ -9,67 +10,68 @@ use Rattle.pfs_order.specs.Sequence.{IsSequence, all_jobs}
 use Rattle.pfs_insert.specs.Insertion.{with_job}
 use Rattle.pfs_search.specs.Neh.{with_jobs}
 
--- the place that a word names, counted from 0
+-- the place in a list of jobs that a word names, counted from 0: the word modulo the number of jobs
 abbrev pub place_of : List ℕ → ℕ → ℕ
 place_of jobs word = word % length jobs
 
--- the jobs that the words take out one after the other, in this order
+-- the jobs that the random words remove one after another, each from the jobs left, in the order of their removal
 abbrev pub jobs_taken : List ℕ → List ℕ → List ℕ
 jobs_taken jobs [] = []
 jobs_taken jobs (word ∷ words) =
     slice_index jobs (place_of jobs word) ∷ jobs_taken (remove jobs (place_of jobs word)) words
 
--- the jobs that they leave
+-- the jobs left after the random words have removed theirs, in their order
 abbrev pub jobs_left : List ℕ → List ℕ → List ℕ
 jobs_left jobs words = fold (λ rest word. remove rest (place_of rest word)) jobs words
 
--- the order with the taken jobs put back, in the order in which they were taken
+-- the order after the removed jobs are inserted again, in the order of their removal, each at its best place
 abbrev pub rebuilt : FlowShop → List ℕ → List ℕ → List ℕ
 rebuilt shop jobs words = with_jobs shop (jobs_left jobs words) (jobs_taken jobs words)
 
--- a job leaves its place for its best one
+-- the order after a job is removed and inserted at its best place
 abbrev pub moved : FlowShop → List ℕ → ℕ → List ℕ
 moved shop jobs job = with_job shop (filter (λ other. not (nat_eq other job)) jobs) job
 
--- each job does so, in the order of the numbers
+-- the order after a pass: each job in turn, by increasing number, is removed and inserted at its best place
 abbrev pub pass : FlowShop → List ℕ → List ℕ
 pass shop jobs = fold (moved shop) jobs (all_jobs shop.jobs)
 
--- the order after so many passes
+-- the order after a number of passes
 abbrev pub after_passes : FlowShop → ℕ → List ℕ → List ℕ
 after_passes shop zero jobs = jobs
 after_passes shop (suc passes) jobs = after_passes shop passes (pass shop jobs)
 
--- the new order where its makespan is not greater, and else the old one
+-- the new order where its makespan is at most that of the old one, and else the old one
 abbrev pub kept_of : FlowShop → List ℕ → List ℕ → List ℕ
 kept_of shop old new = if nat_le (makespan shop new) (makespan shop old) then new else old
 
--- an order after a round with these words
+-- the order after a round with these words: the jobs are removed and inserted, the passes are made, and only then the
+-- makespans are compared
 abbrev pub after_round : FlowShop → ℕ → List ℕ → List ℕ → List ℕ
 after_round shop passes jobs words = kept_of shop jobs (after_passes shop passes (rebuilt shop jobs words))
 
--- an order after so many rounds, each of which takes so many jobs out by the next so many words
+-- the order after a number of rounds, each of which removes `take` jobs by the next `take` words
 abbrev pub after_rounds : FlowShop → ℕ → ℕ → ℕ → List ℕ → List ℕ → List ℕ
 after_rounds shop passes zero take jobs words = jobs
 after_rounds shop passes (suc rounds) take jobs words =
     after_rounds shop passes rounds take (after_round shop passes jobs (front take words)) (behind take words)
 
--- the next so many words of a stream
+-- the next words of a stream, of the given number
 abbrev pub words_of : ℕ → Stream → List ℕ
 words_of zero stream = []
 words_of (suc count) stream = let next = next_u32 stream in next.0 ∷ words_of count next.1
 
--- the stream after so many words
+-- the stream after a number of words
 abbrev pub stream_after : ℕ → Stream → Stream
 stream_after zero stream = stream
 stream_after (suc count) stream = stream_after count (next_u32 stream).1
 
--- a pass makes no order of all jobs longer
+-- a pass over an order of all jobs doesn't increase its makespan
 abbrev pub PassLaw : Type 0
 PassLaw = (shop : FlowShop) (jobs : List ℕ) → IsSequence shop.jobs jobs → length jobs ≡ shop.jobs
     → makespan shop (pass shop jobs) ≤ makespan shop jobs
 
--- no words make an order longer
+-- rounds don't increase the makespan of an order, for any words
 abbrev pub NoLongerLaw : Type 0
 NoLongerLaw = (shop : FlowShop) (passes rounds take : ℕ) (jobs words : List ℕ)
     → makespan shop (after_rounds shop passes rounds take jobs words) ≤ makespan shop jobs

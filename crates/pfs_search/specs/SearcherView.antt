@@ -1,14 +1,14 @@
--- What contracts see of a searcher.
+-- A searcher in contracts.
 use Rattle.std.specs.Prelude.{◌≡◌, ℕ, List, length}
 use Rattle.pfs_base.specs.FlowShop.{FlowShop}
 use Rattle.pfs_insert.specs.Inserter.{Sizes}
 
--- how many jobs it was made for, and its inserter
+-- the number of jobs that a searcher was made for, and its inserter
 pub record SearcherView (I : Type 0) : Type 0 where
   pub size : ℕ
   pub inserter : I
 
--- a searcher, its inserter and the order that is kept are for shops of this one's sizes
+-- a searcher, its inserter and the order that is kept are for shops of the sizes of `shop`
 pub record AllFit {I : Type 0} (shop : FlowShop) (sizes : I → Sizes) (searcher : SearcherView I) (order : List ℕ)
     : Type 0 where
   pub own_jobs : searcher.size ≡ shop.jobs

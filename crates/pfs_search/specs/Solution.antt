@@ -1,4 +1,4 @@
--- What a search by heads and tails finds, and what rounds of it make of an order.
+-- The result of a search by heads and tails, and the result of some of its rounds from a given order.
 use Rattle.std.specs.Prelude.{◌≡◌, ℕ, ◌+◌, ◌-◌, ◌*◌, ◌≤◌, List, length, drop as behind}
 use Rattle.rand_core.specs.Pcg32Seed.{pcg32_seed}
 use Rattle.rand_core.specs.Steps.{first_words}
@@ -9,21 +9,22 @@ use Rattle.pfs_order.specs.Sequence.{IsSequence}
 use Rattle.pfs_search.specs.Greedy.{after_rounds}
 use Rattle.pfs_search.specs.Neh.{neh_order}
 
--- the first so many words of the Pcg32 of a seed
+-- the first `count` random words of Pcg32 for a seed
 abbrev pub words_for : ℕ → ℕ → List ℕ
 words_for seed count = first_words pcg32 count (pcg32_of_seed (pcg32_seed 16 seed))
 
--- NEH's order followed by so many rounds, each of which takes so many jobs out by the next so many words of the seed,
--- and makes so many passes
+-- the order of a search: NEH's order, and after it `rounds` rounds, each of which removes `take` jobs by the next
+-- `take` random words of the seed, and makes `passes` passes
 abbrev pub searched : FlowShop → ℕ → ℕ → ℕ → ℕ → List ℕ
 searched shop rounds take passes seed = after_rounds shop passes rounds take (neh_order shop)
     (words_for seed (rounds * take))
 
--- the words of so many rounds behind the first so many: those of all these rounds, without those of the first
+-- the random words of the `count` rounds after the first `first` rounds of a seed: the random words of all these rounds
+-- without those of the first
 abbrev pub words_behind : ℕ → ℕ → ℕ → ℕ → List ℕ
 words_behind seed first count take = behind (first * take) (words_for seed ((first + count) * take))
 
--- an order after so many rounds of a seed, the first of which has this number
+-- the order after rounds `first` to `first` + `count` - 1 of a seed, counted from 0, from the order `start`
 abbrev pub improved : FlowShop → List ℕ → ℕ → ℕ → ℕ → ℕ → ℕ → List ℕ
 improved shop start first count take passes seed = after_rounds shop passes count take start
     (words_behind seed first count take)
@@ -32,20 +33,20 @@ improved shop start first count take passes seed = after_rounds shop passes coun
 abbrev pub neh_cells : FlowShop → ℕ
 neh_cells shop = 2 * shop.machines * (shop.jobs * shop.jobs)
 
--- the cells of R rounds that each take d jobs out and make L passes: 2Rdm(2n - d) + RLnm(4n - 2)
+-- the cells of R rounds that each remove d jobs and make L passes: 2Rdm(2n - d) + RLnm(4n - 2)
 abbrev pub rounds_cells : FlowShop → ℕ → ℕ → ℕ → ℕ
 rounds_cells shop rounds take passes =
     rounds * (2 * take * shop.machines * (2 * shop.jobs - take))
     + rounds * (passes * shop.jobs * shop.machines * (4 * shop.jobs - 2))
 
--- what a search of so many rounds finds: an order and its makespan, and the count of its cells
+-- the result of a search of `rounds` rounds: an order, its makespan, and the number of cells that the search counted
 pub record IsFound (shop : FlowShop) (rounds take passes seed : ℕ) (order : List ℕ) (span cells : ℕ) : Type 0 where
-  -- it is NEH's order followed by the rounds
+  -- the order is the one after NEH and the rounds
   pub found : order ≡ searched shop rounds take passes seed
-  -- it has each job once
+  -- the order has each job once
   pub all : length order ≡ shop.jobs
   pub distinct : IsSequence shop.jobs order
-  -- the makespan is this order's, no longer than NEH's
+  -- the makespan is this order's, and at most that of NEH's order
   pub spanned : span ≡ makespan shop order
   pub no_longer : span ≤ makespan shop (neh_order shop)
   -- the cells are those of NEH and those of the rounds, and these are at most R(d + Ln)m(4n - 2)
@@ -53,16 +54,16 @@ pub record IsFound (shop : FlowShop) (rounds take passes seed : ℕ) (order : Li
   pub few_cells : rounds_cells shop rounds take passes ≤ rounds * (take + passes * shop.jobs) * shop.machines
       * (4 * shop.jobs - 2)
 
--- what so many rounds of a seed make of an order, the first of which has this number: an order and its makespan, and
--- the count of the cells of these rounds
+-- the result of rounds `first` to `first` + `count` - 1 of a seed from the order `start`: an order, its makespan, and
+-- the number of cells of these rounds
 pub record IsImproved (shop : FlowShop) (start : List ℕ) (first count take passes seed : ℕ) (order : List ℕ)
     (span cells : ℕ) : Type 0 where
-  -- it is the order handed in followed by the rounds
+  -- the order is the one after the rounds from `start`
   pub found : order ≡ improved shop start first count take passes seed
-  -- it has each job once
+  -- the order has each job once
   pub all : length order ≡ shop.jobs
   pub distinct : IsSequence shop.jobs order
-  -- the makespan is this order's, no longer than that of the order handed in
+  -- the makespan is this order's, and at most that of `start`
   pub spanned : span ≡ makespan shop order
   pub no_longer : span ≤ makespan shop start
   -- the cells are those of the rounds alone, which are at most R(d + Ln)m(4n - 2)
@@ -70,14 +71,14 @@ pub record IsImproved (shop : FlowShop) (start : List ℕ) (first count take pas
   pub few_cells : rounds_cells shop count take passes ≤ count * (take + passes * shop.jobs) * shop.machines
       * (4 * shop.jobs - 2)
 
--- rounds in two parts make the order that all of them make
+-- rounds in two parts find the order that all of them find at once
 abbrev pub PartsLaw : Type 0
 PartsLaw = (shop : FlowShop) (start : List ℕ) (first one other take passes seed : ℕ)
     → improved shop start first (one + other) take passes seed
     ≡ improved shop (improved shop start first one take passes seed) (first + one) other take passes seed
 
--- so the order, makespan and count of both parts, the second of which begins with the order of the first, are those of
--- all these rounds
+-- where the second of two parts begins with the order of the first, its order and makespan, and the sum of both counts,
+-- are those of all these rounds at once
 abbrev pub JoinedPartsLaw : Type 0
 JoinedPartsLaw = (shop : FlowShop) (start : List ℕ) (first one other take passes seed : ℕ)
     (between order : List ℕ) (between_span span cells more : ℕ)
@@ -85,12 +86,13 @@ JoinedPartsLaw = (shop : FlowShop) (start : List ℕ) (first one other take pass
     → IsImproved shop between (first + one) other take passes seed order span more
     → IsImproved shop start first (one + other) take passes seed order span (cells + more)
 
--- a search finds what its rounds, from the first on, make of NEH's order
+-- a search finds the order that its rounds, from round 0 on, find from NEH's order
 abbrev pub SearchedLaw : Type 0
 SearchedLaw = (shop : FlowShop) (rounds take passes seed : ℕ)
     → searched shop rounds take passes seed ≡ improved shop (neh_order shop) 0 rounds take passes seed
 
--- so a search of some rounds, also of none, and then the rounds behind these find what a search of all of them finds
+-- a search of some rounds, or of none, and then the rounds after these have the result of a search of all of them, and
+-- their counts add up to its count
 abbrev pub LongerSearchLaw : Type 0
 LongerSearchLaw = (shop : FlowShop) (one other take passes seed : ℕ)
     (between order : List ℕ) (between_span span cells more : ℕ)

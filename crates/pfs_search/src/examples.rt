@@ -1,4 +1,4 @@
-//! What the definitions say of small shops.
+//! Values of the definitions for small shops.
 ghost use Rattle.std.specs.Prelude.{◌≡◌, ◌+◌, ◌*◌, [], ◌∷◌};
 ghost use Rattle.pfs_base.specs.Paths.{makespan};
 ghost use Rattle.pfs_base.specs.Shops.{three_jobs, unit_times};
@@ -9,7 +9,7 @@ ghost use Rattle.pfs_search.specs.Greedy.{after_round, jobs_left, jobs_taken, re
 ghost use Rattle.pfs_search.specs.Neh.{neh_order};
 ghost use Rattle.pfs_search.specs.Ranking.{ranking};
 
-/// The ranking, and NEH's order.
+/// The ranking and NEH's order, also with equal totals, on one machine and on three.
 pub fn neh()
     ensures ranking { ranking three_jobs ≡ 1 ∷ 0 ∷ 2 ∷ [] }
     ensures order { neh_order three_jobs ≡ 1 ∷ 0 ∷ 2 ∷ [] }
@@ -20,8 +20,8 @@ pub fn neh()
     ensures three_machines { neh_order three_machines ≡ 2 ∷ 1 ∷ 0 ∷ [] }
 {}
 
-/// What words take out and leave, and the order behind a round: rebuilt as it was; equal and kept; put back
-/// in the order of removal; longer and not kept; of one job alone.
+/// The jobs that random words remove and leave, and the order after a round without passes: rebuilt as before; of equal
+/// makespan, and kept; with jobs inserted in the order of their removal; longer, and not kept; of one job alone.
 pub fn rounds()
     ensures left { jobs_left (1 ∷ 0 ∷ 2 ∷ []) (0 ∷ 0 ∷ []) ≡ 2 ∷ [] }
     ensures taken { jobs_taken (1 ∷ 0 ∷ 2 ∷ []) (0 ∷ 0 ∷ []) ≡ 1 ∷ 0 ∷ [] }
@@ -33,7 +33,7 @@ pub fn rounds()
     ensures alone { after_round one_job 0 (0 ∷ []) (7 ∷ []) ≡ 0 ∷ [] }
 {}
 
-/// An order behind a round without a pass, and with one.
+/// An order after a round without a pass, and with one.
 pub fn passes()
     ensures without { after_round three_machines 0 (0 ∷ 1 ∷ 2 ∷ []) (0 ∷ []) ≡ 1 ∷ 2 ∷ 0 ∷ [] }
     ensures with_one { after_round three_machines 1 (0 ∷ 1 ∷ 2 ∷ []) (0 ∷ []) ≡ 2 ∷ 1 ∷ 0 ∷ [] }

@@ -1,11 +1,11 @@
-//! Why a search stops.
+//! The error of a search.
 
 use thiserror::Error;
 
-/// Why a searcher could not be made, or a search not be ended.
+/// Why a searcher could not be made, or a search could not be completed.
 #[derive(Clone, Copy, Debug, PartialEq, Eq, Error)]
 pub enum SearchFault {
-    /// Memory was refused, and so many rounds of the call were done before.
+    /// Memory allocation failed. The call had completed `done` rounds before.
     #[error("Memory")]
     Memory { done: u32 },
 }

@@ -1,4 +1,4 @@
-//! One round of iterated greedy, and the words of the next.
+//! One round of iterated greedy, and the random words of the next.
 ghost use Rattle.std.specs.Prelude.{◌≡◌, ℕ, ◌+◌, ◌<◌, ◌≤◌, ◌^◌, ◌++◌, length, take as front};
 ghost use Rattle.std.specs.Prelude.{vec_len, vec_capacity, false, IsOk, OnOk, OnErr};
 ghost use Rattle.pfs_base.specs.Paths.{makespan};
@@ -17,7 +17,8 @@ use pfs_order::Seq;
 use rand_core::Rng;
 use std::alloc::Global;
 
-/// One round, in a workspace whose queue has room for all jobs.
+/// One round, in a workspace whose queue has room for all jobs. It returns an error where allocation fails in the
+/// inserter, and then `kept` is unchanged.
 #[inline(always)]
 pub(crate) fn play_round<B: Bench, I: Inserter<B>>(
     alloc: Global,
@@ -64,7 +65,7 @@ pub(crate) fn play_round<B: Bench, I: Inserter<B>>(
     Ok(())
 }
 
-// Copies an order, and takes the jobs that the words name out of the copy.
+// Copies an order, and removes the jobs that the random words name from the copy.
 fn take_jobs(order: &Seq, seq: &mut Seq, taken: &mut Vec<usize>, words: &[u32])
     requires sizes { seq.old.size ≡ order.now.size }
     requires distinct { IsSequence order.now.size order.now.jobs }
@@ -89,7 +90,8 @@ fn take_jobs(order: &Seq, seq: &mut Seq, taken: &mut Vec<usize>, words: &[u32])
     }
 }
 
-/// Writes the next words of a generator, one for each job that a round takes out, over the first of a list.
+/// Writes the next `take` random words of a generator, one for each job that a round removes, over the first words of a
+/// list.
 pub(crate) fn draw_words<R: Rng>(rng: &mut R, words: &mut Vec<u32>, take: usize)
     requires { take ≤ vec_len words.old }
     ensures words { front take words.new.items ≡ words_of take (R.stream rng.old) }

@@ -1,4 +1,4 @@
-//! Putting jobs one after the other at their best places.
+//! Inserting jobs one after another, each at its best place.
 ghost use Rattle.std.specs.Prelude.{◌≡◌, ℕ, ◌+◌, ◌<◌, ◌≤◌, ◌^◌, ◌++◌, List, [], length, false, IsOk, IfOk, OnOk};
 ghost use Rattle.pfs_base.specs.Paths.{makespan};
 ghost use Rattle.pfs_order.specs.Sequence.{IsSequence};
@@ -11,7 +11,7 @@ use pfs_insert::{InsertFault, Inserter};
 use pfs_order::Seq;
 use std::alloc::Global;
 
-/// Takes all jobs out of a sequence.
+/// Removes all jobs from a sequence.
 pub(crate) fn clear(seq: &mut Seq)
     ensures size { seq.new.size ≡ seq.old.size }
     ensures jobs { seq.new.jobs ≡ [] }
@@ -21,7 +21,8 @@ pub(crate) fn clear(seq: &mut Seq)
     }
 }
 
-/// Puts some jobs into a sequence, each at its best place in turn, and tells the makespan behind the last.
+/// Inserts jobs into a sequence one after another, each at its best place, and returns the makespan after the last.
+/// There must be at least one job. It returns an error where allocation fails in `inserter.best`.
 #[inline(always)]
 pub(crate) fn insert_all<B: Bench, I: Inserter<B>>(
     alloc: Global,

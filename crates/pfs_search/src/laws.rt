@@ -1,4 +1,4 @@
-//! Laws about the definitions alone.
+//! Laws of the definitions. They are about no code.
 ghost use Rattle.std.specs.Prelude.{◌≡◌, ◌+◌, ◌<◌, ◌^◌};
 ghost use Rattle.pfs_search.specs.Costs.{CostsLaw};
 ghost use Rattle.pfs_search.specs.Greedy.{NoLongerLaw, PassLaw};
@@ -6,25 +6,25 @@ ghost use Rattle.pfs_search.specs.MostCells.{most_neh_cells, most_rounds_cells, 
 ghost use Rattle.pfs_search.specs.Ranking.{RankingLaw};
 ghost use Rattle.pfs_search.specs.Solution.{JoinedPartsLaw, LongerSearchLaw, PartsLaw, SearchedLaw};
 
-/// Of each shop exactly one list is the ranking: all jobs, greater totals first, and the lower number first
+/// For each shop exactly one list is the ranking: all jobs, greater totals first, and the lower number first
 /// at equal totals.
 pub fn ranking()
     ensures { RankingLaw }
 {}
 
-/// Where an insertion that makes k jobs on m machines costs (4k - 2)m cells, as it does by heads and tails,
-/// NEH of n jobs costs 2mn² cells, a pass nm(4n - 2), a round that takes d jobs out and makes L passes
+/// Where an insertion costs (4k - 2)m cells, as it does by heads and tails, with k jobs after it, on m machines:
+/// NEH of n jobs costs 2mn² cells, a pass nm(4n - 2), a round that removes d jobs and makes L passes
 /// 2dm(2n - d) + Lnm(4n - 2), and R such rounds cost at most R(d + Ln)m(4n - 2).
 pub fn costs()
     ensures { CostsLaw }
 {}
 
-/// The order after a pass over an order of all jobs is no longer than that order.
+/// A pass over an order of all jobs doesn't increase its makespan.
 pub fn pass_no_longer()
     ensures { PassLaw }
 {}
 
-/// Whatever the words, the order after rounds is no longer than the order before them.
+/// Rounds don't increase the makespan of an order, for any random words.
 pub fn no_longer()
     ensures { NoLongerLaw }
 {}
@@ -40,14 +40,15 @@ pub fn cells_fit()
     ensures room { most_neh_cells + most_rounds_cells < 2 ^ 64 }
 {}
 
-/// Rounds may be made in parts: those of a part begin with the order that the part before made. Then order and
-/// makespan are those of all rounds at once, and the counts add up.
+/// Rounds can be made in parts, where each part begins with the order that the part before it found. The order and the
+/// makespan are then those of all rounds at once, and the count of all cells is the sum of the parts' counts.
 pub fn parts()
     ensures order { PartsLaw }
     ensures joined { JoinedPartsLaw }
 {}
 
-/// A search is NEH and then its rounds, from round 0 on; and a search may be ended and its rounds be gone on with.
+/// A search is NEH followed by its rounds from round 0 on. And a search can stop after any number of rounds: where its
+/// later rounds continue from the order that it found, the result is that of the whole search.
 pub fn longer_search()
     ensures order { SearchedLaw }
     ensures joined { LongerSearchLaw }

@@ -1,4 +1,4 @@
-//! Passes over an order: each job in the order of the numbers leaves its place for its best one.
+//! Passes over an order: each job in turn, by increasing number, is removed and inserted at its best place.
 ghost use Rattle.std.specs.Prelude.{◌≡◌, ℕ, ◌+◌, ◌*◌, ◌<◌, ◌^◌, length, false, IsOk, IfOk, OnOk};
 ghost use Rattle.pfs_base.specs.Paths.{makespan};
 ghost use Rattle.pfs_insert.specs.Inserter.{Counts, Fits};
@@ -10,8 +10,8 @@ use pfs_insert::{InsertFault, Inserter};
 use pfs_order::Seq;
 use std::alloc::Global;
 
-/// Makes so many passes over an order of all jobs, and tells the makespan behind them, where it is told the one
-/// before.
+/// Makes `passes` passes over an order of all jobs, whose makespan is `span`, and returns the makespan after them. It
+/// returns an error where allocation fails in `inserter.best`.
 #[inline(always)]
 pub(crate) fn make_passes<B: Bench, I: Inserter<B>>(
     alloc: Global,
@@ -41,7 +41,7 @@ pub(crate) fn make_passes<B: Bench, I: Inserter<B>>(
     Ok(span)
 }
 
-// Makes a pass over an order of all jobs, and tells the makespan behind it, where it is told the one before.
+// Makes a pass over an order of all jobs, whose makespan is `span`, and returns the makespan after it.
 #[inline(always)]
 fn make_pass<B: Bench, I: Inserter<B>>(
     alloc: Global,
@@ -70,7 +70,7 @@ fn make_pass<B: Bench, I: Inserter<B>>(
     Ok(span)
 }
 
-// Takes a job of an order of all jobs out of its place, puts it back at its best one, and tells the makespan then.
+// Removes a job from an order of all jobs, inserts it at its best place, and returns the makespan after that.
 #[inline(always)]
 fn move_job<B: Bench, I: Inserter<B>>(
     alloc: Global,
@@ -92,7 +92,7 @@ fn move_job<B: Bench, I: Inserter<B>>(
     ensures shop { B.shop bench.new ≡ B.shop bench.old }
     ensures still_fits { Fits (B.shop bench.new) (I.sizes inserter.new) seq.new.size }
 {
-    // Called for what it says of a sequence: that its jobs are distinct.
+    // Called for its contract, which says that the jobs of a sequence are distinct.
     let _size = seq.size();
     let place = seq.place_of(job);
     seq.remove_at(place);

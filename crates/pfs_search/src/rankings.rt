@@ -10,7 +10,8 @@ ghost use Rattle.pfs_search.specs.Ranking.{ranking};
 use pfs_base::{Bench, Shop};
 use std::cmp::Reverse;
 
-/// Writes the ranking of all jobs over a list, by way of a list of the jobs with their totals. Both have room.
+/// Writes the ranking of all jobs over the list `jobs`. It uses `ranked`, a list of the jobs with their totals. Both
+/// lists must have room for all jobs.
 pub(crate) fn rank_jobs<B: Shop>(
     bench: &B,
     ranked: &mut Vec<(Reverse<u64>, usize)>,
@@ -29,7 +30,7 @@ pub(crate) fn rank_jobs<B: Shop>(
     copy_jobs(ranked, jobs);
 }
 
-// Writes the jobs over a list that has room, by number, each behind its total.
+// Writes all jobs over a list that has room for them, by increasing number, each as a pair of its total and its number.
 fn list_totals<B: Shop>(bench: &B, listed: &mut Vec<(Reverse<u64>, usize)>)
     requires room { (B.shop bench.now).jobs ≤ vec_capacity listed.old }
     ensures jobs { map (λ entry. entry.1) listed.new.items ≡ all_jobs (B.shop bench.now).jobs }
@@ -55,7 +56,7 @@ fn sort_jobs(listed: &mut Vec<(Reverse<u64>, usize)>)
     listed.sort_unstable();
 }
 
-// Writes the jobs of a list over another that has room.
+// Writes the jobs of a list of pairs over a list that has room for them.
 fn copy_jobs(listed: &[(Reverse<u64>, usize)], jobs: &mut Vec<usize>)
     requires room { length listed.now ≤ vec_capacity jobs.old }
     ensures jobs { jobs.new.items ≡ map (λ entry. entry.1) listed.now }

@@ -22,8 +22,8 @@ use std::alloc::Global;
 use std::cmp::Reverse;
 use std::marker::Model;
 
-/// Searches by an inserter, over shops of one number of jobs. It reserves all memory of its own when it is
-/// made.
+/// Searches with an inserter, for shops of one number of jobs. A searcher reserves all its own memory when it is made;
+/// only the inserter can allocate after that.
 #[derive(Drop)]
 pub struct Searcher<I> {
     work: Workspace<I>,
@@ -47,7 +47,8 @@ impl<I> Model for Searcher<I> {
 }
 
 impl<I> Searcher<I> {
-    /// A searcher for shops of so many jobs. Where memory is refused the inserter is dropped.
+    /// A searcher for shops of `size` jobs. It returns `Memory` with `done` 0 where allocation fails, and then drops
+    /// the inserter.
     pub fn new(alloc: Global, size: usize, inserter: I) -> Result<Searcher<I>, SearchFault>
     where
         I: Drop,
@@ -80,9 +81,10 @@ impl<I> Searcher<I> {
         })
     }
 
-    /// NEH (Nawaz, Enscore, Ham 1983): the jobs by decreasing total time, at equal totals the lower number
-    /// first, each put at the place that gives the least makespan of the jobs so far, of equal places the
-    /// earliest. It doesn't look at what `kept` was.
+    /// NEH (Nawaz, Enscore, Ham 1983): takes the jobs by decreasing total time, at equal totals the lower number
+    /// first, and inserts each at the place that gives the least makespan of the jobs so far; of equal places, the
+    /// first. The order that `kept` had before makes no difference. It returns `Memory` with `done` 0 where allocation
+    /// fails in the inserter, and then `kept` is unchanged.
     #[inline(always)]
     pub fn neh<B: Shop>(
         &mut self,
@@ -116,10 +118,11 @@ impl<I> Searcher<I> {
         Ok(())
     }
 
-    /// One round of iterated greedy (Ruiz and Stützle 2007): for each word in turn the job at the place `word`
-    /// modulo the number of jobs that are left, counted from 0, is taken out; then the taken jobs are put
-    /// back in this order, each at its best place, and so many passes are made, in each of which every job, in
-    /// the order of the numbers, leaves its place for its best one. The new order is kept where it is no longer.
+    /// One round of iterated greedy (Ruiz and Stützle 2007). For each random word in turn it removes the job at the
+    /// place that is the word modulo the number of jobs left, counted from 0. Then it inserts the removed jobs in this
+    /// order, each at its best place, and makes `passes` passes; in a pass each job in turn, by increasing number, is
+    /// removed and inserted at its best place. It keeps the new order where that isn't longer than the one before. It
+    /// returns `Memory` with `done` 0 where allocation fails in the inserter, and then `kept` is unchanged.
     #[inline(always)]
     pub fn round<B: Bench>(
         &mut self,
@@ -155,8 +158,9 @@ impl<I> Searcher<I> {
         }
     }
 
-    /// So many rounds, each on the next words of a generator, one for each job that is taken out. Where memory
-    /// is refused in a round, the rounds before it are done and stay, and its words are drawn.
+    /// `count` rounds, each with the next `take` random words of a generator, one for each job that it removes. Where
+    /// allocation fails in a round, the function returns `Memory` with `done`, the number of rounds before it. Then
+    /// `kept` has the order after these rounds, and the random words of the failed round are drawn too.
     #[inline(always)]
     pub fn rounds<B: Bench, R: Rng>(
         &mut self,

@@ -1,4 +1,4 @@
-//! The order that a search finds, and the one that some of its rounds make of a given order.
+//! The order that a search finds, and the order that some of its rounds find from a given one.
 ghost use Rattle.std.specs.Prelude.{◌≡◌, ℕ, ◌+◌, ◌<◌, ◌≤◌, ◌^◌, length, false, IfOk, IfErr};
 ghost use Rattle.pfs_base.specs.Paths.{makespan as makespan_of};
 ghost use Rattle.pfs_insert.specs.Insertion.{heads_tails_cost};
@@ -17,22 +17,22 @@ use rand_core::SeedableRng;
 use rand_pcg::Pcg32;
 use std::alloc::Global;
 
-/// What a search finds.
+/// The result of a search.
 #[derive(Drop)]
 pub struct Solution {
-    /// All jobs, each once.
+    /// The order found: all jobs, each once.
     pub order: Order,
     /// The makespan of this order.
     pub makespan: u64,
-    /// How many cells were counted.
+    /// The number of cells that were counted.
     pub cells: u64,
 }
 
 /// NEH's order (Nawaz, Enscore, Ham 1983), followed by `rounds` rounds of iterated greedy (Ruiz, Stützle 2007). Each
-/// round removes `take` jobs, chosen by the next random numbers of the seed's Pcg32, inserts each at its best place,
+/// round removes `take` jobs, chosen by the next random words of Pcg32 for the seed, inserts each at its best place,
 /// and makes `passes` passes. Best places are found by heads and tails (Taillard 1990): along anti-diagonals where a
-/// wavefront serves the instance (`method_for`), and else by rows. Memory is reserved before NEH begins, and not again;
-/// where that fails the fault is `Memory`.
+/// wavefront serves the instance (`method_for`), and else by rows. The function reserves all memory before NEH begins.
+/// It returns `Memory` with `done` 0 where that fails, and no other error.
 pub fn solve(
     alloc: Global,
     instance: &Instance,
@@ -60,9 +60,10 @@ pub fn solve(
     }
 }
 
-/// Rounds `first` to `first + count - 1` of the search of a seed, counted from 0, from a given order. The
+/// Rounds `first` to `first + count - 1` of the search of a seed, counted from 0, from a given order of all jobs. The
 /// cells are those of these rounds alone: the makespan of the given order isn't counted. The rounds are computed by the
-/// same method as in `solve`. Memory is reserved before the first of them, and not again.
+/// same method as in `solve`. The function reserves all memory before the first round. It returns `Memory` with `done`
+/// 0 where that fails, and no other error.
 pub fn improve(
     alloc: Global,
     instance: &Instance,
@@ -100,7 +101,7 @@ pub fn improve(
     }
 }
 
-// What `solve` returns, by `HeadsTails`.
+// `solve` by `HeadsTails`.
 fn solve_by_rows(
     alloc: Global,
     instance: &Instance,
@@ -130,7 +131,7 @@ fn solve_by_rows(
     })
 }
 
-// What `solve` returns, by a wavefront.
+// `solve` by a wavefront.
 fn solve_in_lanes<L: Lanes>(
     alloc: Global,
     instance: &Instance,
@@ -163,7 +164,7 @@ fn solve_in_lanes<L: Lanes>(
     })
 }
 
-// What `improve` returns, by `HeadsTails`, from an order and its makespan.
+// `improve` by `HeadsTails`, from an order and its makespan.
 fn improve_by_rows(
     alloc: Global,
     instance: &Instance,
@@ -199,7 +200,7 @@ fn improve_by_rows(
     })
 }
 
-// What `improve` returns, by a wavefront, from an order and its makespan.
+// `improve` by a wavefront, from an order and its makespan.
 fn improve_in_lanes<L: Lanes>(
     alloc: Global,
     instance: &Instance,
@@ -238,7 +239,7 @@ fn improve_in_lanes<L: Lanes>(
     })
 }
 
-// NEH's order, and then the rounds of a search, on a bench that has counted nothing.
+// NEH's order, and then the rounds of a search, on a bench with a count of 0.
 #[inline(always)]
 fn search<B: Shop, I: Inserter<B> + Drop>(
     alloc: Global,
@@ -271,12 +272,12 @@ fn search<B: Shop, I: Inserter<B> + Drop>(
     searcher.neh(alloc, bench, &mut kept)?;
     let mut rng = Pcg32::seed_from_u64(seed);
     searcher.rounds(alloc, bench, &mut kept, rounds, take, passes, &mut rng)?;
-    // Called for what it says of an order: that it has each job once.
+    // Called for its contract, which says that an order has each job once.
     let _jobs = kept.order.len();
     Ok(kept)
 }
 
-// An order with its makespan, which is counted on another bench.
+// An order with its makespan, whose cells are counted on another bench.
 fn measure(alloc: Global, instance: &Instance, order: Order) -> Result<Kept<Span>, SearchFault>
     requires order_jobs { length order ≡ instance.now.shop.jobs }
     ensures order { IfOk result (λ kept. kept.order ≡ order) }
@@ -290,8 +291,8 @@ fn measure(alloc: Global, instance: &Instance, order: Order) -> Result<Kept<Span
     Ok(Kept::new(order, span))
 }
 
-// Rounds `first` to `first + count - 1` of the search of a seed, from an order with its makespan, on a bench that has
-// counted nothing.
+// Rounds `first` to `first + count - 1` of the search of a seed, from an order with its makespan, on a bench with a
+// count of 0.
 #[inline(always)]
 fn go_on<B: Shop, I: Inserter<B> + Drop>(
     alloc: Global,
@@ -325,7 +326,7 @@ fn go_on<B: Shop, I: Inserter<B> + Drop>(
     let mut rng = Pcg32::seed_from_u64(seed);
     rng.advance(first as u64 * take as u64);
     searcher.rounds(alloc, bench, &mut kept, count, take, passes, &mut rng)?;
-    // Called for what it says of an order: that it has each job once.
+    // Called for its contract, which says that an order has each job once.
     let _jobs = kept.order.len();
     Ok(kept)
 }

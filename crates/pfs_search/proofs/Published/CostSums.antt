@@ -7,12 +7,12 @@ use Rattle.std.proofs.lemmas.List.Sums.{sum_by_push}
 use Rattle.pfs_base.proofs.Published.Lists.{range_with_len-push}
 use Rattle.pfs_search.specs.Costs.{insertions_cost, neh_cost, pass_cost, round_cost, CostsAsHeadsTails, CostsLaw}
 
--- one more count
+-- the sum with one more count
 sum_range_suc : (cost : ℕ → ℕ) (a n : ℕ)
     → sum_by cost (range_with_len a (suc n)) ≡ sum_by cost (range_with_len a n) + cost (a + n)
 sum_range_suc cost a n = ap (sum_by cost) (range_with_len-push a n) ∙ sum_by_push cost (range_with_len a n) (a + n)
 
--- the counts so far and the next are among all
+-- the sum of the counts so far and the next is at most the sum of all
 sum_range_le : (cost : ℕ → ℕ) (a n k : ℕ) → k < n
     → sum_by cost (range_with_len a k) + cost (a + k) ≤ sum_by cost (range_with_len a n)
 sum_range_le cost a zero k lt = absurd (omega arith)
@@ -23,7 +23,7 @@ sum_range_le cost a (suc n) k lt =
       | inr last ↦ let e : k ≡ n = omega arith in rw e (omega arith)
     ]
 
--- one insertion more
+-- the cost with one more insertion
 pub insertions_more : (cost : ℕ → ℕ → ℕ) (machines before done : ℕ) →
     insertions_cost cost machines before (done + 1)
     ≡ insertions_cost cost machines before done + cost (before + done + 1) machines
@@ -31,7 +31,7 @@ insertions_more cost machines before done =
     let same : before + 1 + done ≡ before + done + 1 = omega arith in
     rw (add-one done, ← same) (sum_range_suc (λ count. cost count machines) (before + 1) done)
 
--- those so far and the next are among all
+-- the cost of the insertions so far and the next is at most that of all
 pub insertions_within : (cost : ℕ → ℕ → ℕ) (machines before take done : ℕ) → done < take →
     insertions_cost cost machines before done + cost (before + done + 1) machines
     ≤ insertions_cost cost machines before take
@@ -41,7 +41,7 @@ insertions_within cost machines before take done lt =
 
 -- ---- closed forms
 
--- so take insertions into a sequence of `a` jobs
+-- the cost of `n` insertions by heads and tails into a sequence of `a` jobs
 heads_tails_sum : (cost : ℕ → ℕ → ℕ) → CostsAsHeadsTails cost → (a machines n : ℕ) →
     insertions_cost cost machines a n ≡ 2 * n * machines * (2 * a + n)
 heads_tails_sum cost is a machines zero = omega arith
@@ -75,7 +75,7 @@ round_closed cost is jobs machines take passes few =
     let closed = ap (λ w. 2 * take * machines * w) width in
     omega arith
 
--- those that are put back cost no more than as take insertions into all jobs
+-- the insertions of a round cost at most `take` insertions into an order of all other jobs
 put_back_few : (count jobs machines take : ℕ) → take ≤ jobs
     → count * (2 * take * machines * (2 * jobs - take)) ≤ count * take * machines * (4 * jobs - 2)
 put_back_few count jobs machines zero few = omega arith

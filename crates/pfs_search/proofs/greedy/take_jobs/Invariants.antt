@@ -3,7 +3,7 @@ use Rattle.pfs_search.specs.Greedy.{jobs_left, jobs_taken}
 use Rattle.pfs_order.specs.Sequence.{IsSequence}
 use Rattle.pfs_search.proofs.greedy.take_jobs.Given as goal
 
--- what is taken so far, and what the words that are left take
+-- the jobs removed so far, and those that the remaining words remove
 abbrev pub invariant-loop-word : goal.invariant-loop-word
 invariant-loop-word l = record {
   same_size : l.seq.size ≡ l.order.size;

@@ -5,7 +5,7 @@ use Rattle.pfs_insert.specs.Inserter.{Fits}
 use Rattle.pfs_search.specs.Greedy.{moved}
 use Rattle.pfs_search.proofs.passes.make_pass.Given as goal
 
--- where the jobs so far have moved
+-- the order after the jobs so far have moved
 abbrev pub invariant-loop-job : goal.invariant-loop-job
 invariant-loop-job g l =
     let shop = g.B.Bench.shop l.fn.bench in

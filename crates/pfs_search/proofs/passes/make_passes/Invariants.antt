@@ -5,7 +5,7 @@ use Rattle.pfs_search.specs.Costs.{pass_cost_on}
 use Rattle.pfs_search.specs.Greedy.{after_passes}
 use Rattle.pfs_search.proofs.passes.make_passes.Given as goal
 
--- what so many passes have done
+-- the result of the passes so far
 abbrev pub invariant-loop-done : goal.invariant-loop-done
 invariant-loop-done g l =
     let shop = g.B.Bench.shop l.fn.bench in

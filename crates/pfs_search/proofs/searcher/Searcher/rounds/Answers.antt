@@ -5,7 +5,7 @@ use Rattle.pfs_search.specs.Greedy.{words_of, stream_after}
 use Rattle.pfs_search.proofs.Words.{length-words_of, rounds_more, stream_group}
 use Rattle.pfs_search.proofs.searcher.Searcher.rounds.Goals as goal
 
--- the rounds so far and one more are among all
+-- the cells of the rounds so far and one more are at most those of all rounds
 next_fits : (old now cells done count : ℕ) → done < count → now ≡ old + done * cells → now + cells ≤ old + count * cells
 next_fits old now cells done count lt so_far =
     let all : (done + 1) * cells ≤ count * cells = mul-le-mul_right cells (omega arith) in omega arith

@@ -5,7 +5,7 @@ use Rattle.pfs_search.specs.Costs.{round_cost_on}
 use Rattle.pfs_search.specs.Greedy.{after_rounds, words_of, stream_after}
 use Rattle.pfs_search.proofs.searcher.Searcher.rounds.Given as goal
 
--- what so many rounds have done
+-- the result of the rounds so far
 abbrev pub invariant-loop-done : goal.invariant-loop-done
 invariant-loop-done g l =
     let shop = g.B.Bench.shop l.fn.bench in
