@@ -1,4 +1,4 @@
--- What an engine's answers say of a file whose bytes are told.
+-- What the results of `solve` say of a file whose bytes are known.
 use Rattle.std.proofs.Common.{◌≡◌, ◌≢◌, ℕ, ◌<◌, ◌≤◌, Bool, true, List, Option, Some, None, Result, Ok, Err}
 use Rattle.std.proofs.Common.{IfSome, IfErr, refl, sym, ap, ◌∙◌, subst, ⊎_elim, arith, true≢false, unwrap_or}
 use Rattle.pfs_base.specs.Limits.{limits}
@@ -30,18 +30,18 @@ module _ (layout : Layout) (file : List ℕ) (block : ℕ) (some : 1 ≤ block) 
   abbrev IsAnswer : Result Outcome DeskFault → Type 0
   IsAnswer result = Solves layout file block options old new reader_failed writer_failed result
 
-  -- a block of a file holds one problem
+  -- a block of a file contains only one problem
   one_problem : (problem other : Problem) → Is problem → Is other → problem ≡ other
   one_problem problem other holds holds_other = ⊎_elim
       (λ accepted. accepted.0.no_other problem holds ∙ sym (accepted.0.no_other other holds_other))
       (λ refused. absurd (refused.1 problem holds)) (one_verdict layout file block some)
 
-  -- and is not refused then
+  -- a block that contains a problem is not rejected
   not_both : (problem : Problem) (fault : LayoutFault) → Is problem → RefusesInstance layout file block fault → ⊥
   not_both problem fault holds refuses = ⊎_elim (λ accepted. accepted.1 fault refuses)
       (λ refused. refused.1 problem holds) (one_verdict layout file block some)
 
-  -- too many are asked for a problem that allows as many as are taken
+  -- the stated destruction size is not above the number of jobs if it is at most that number
   too_many_taken : (problem other : Problem) (asked : ℕ) → Is problem → Is other
       → take_for options.take other.shop.jobs ≤ other.shop.jobs → options.take ≡ Some asked
       → problem.shop.jobs < asked → ⊥
@@ -50,7 +50,7 @@ module _ (layout : Layout) (file : List ℕ) (block : ℕ) (some : 1 ≤ block) 
       let taken : asked ≤ other.shop.jobs = rw is at few in
       omega arith
 
-  -- the file holds a problem with as many jobs as are to be taken out
+  -- the block contains a problem with at least as many jobs as the destruction size
   held : {result : Result Outcome DeskFault} (problem : Problem) → Is problem
       → take_for options.take problem.shop.jobs ≤ problem.shop.jobs
       → (RunsOn reader_failed writer_failed result → PrintsSolution problem options old new result) → IsAnswer result
@@ -62,7 +62,7 @@ module _ (layout : Layout) (file : List ℕ) (block : ℕ) (some : 1 ≤ block) 
         absurd (too_many_taken other problem asked holds_other holds within is above);
   }
 
-  -- the file is refused
+  -- the file is rejected
   refused_file : (fault : LayoutFault) → WritesNothing old new writer_failed
       → (fault ≢ layout_faults.Read → fault ≢ layout_faults.Memory → RefusesInstance layout file block fault)
       → (Some fault ≡ Some layout_faults.Read → reader_failed ≡ true) → IsAnswer (refusing fault)
@@ -110,7 +110,8 @@ module _ (layout : Layout) (file : List ℕ) (block : ℕ) (some : 1 ≤ block) 
   answers (Err faults.Memory) writes allowed read =
       held allowed.problem allowed.holds allowed.within (λ runs. absurd (runs.room refl))
 
--- what a `solve` does that writes its output or nothing, and judges the file and then the take
+-- `Solves` follows from what the engine does: it writes its output or nothing, and validates the file and then the
+-- destruction size
 pub solves : (file : Option (List ℕ)) (layout : Layout) (block : ℕ) (options : SolveOptions)
     (old new : Option (List ℕ)) (reader_failed writer_failed : Bool) (result : Result Outcome DeskFault)
     → 1 ≤ block → WritesOutput (SolveOutput layout file block options) old new writer_failed result

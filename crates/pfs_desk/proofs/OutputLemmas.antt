@@ -1,4 +1,4 @@
--- The texts that are printed in parts.
+-- The texts of `check` and `table`, which are printed in parts.
 use Rattle.std.proofs.Common.{◌≡◌, ◌≢◌, ℕ, Bool, List, ◌++◌, Option, Some, length, codes, refl, sym, ◌∙◌}
 use Rattle.std.proofs.lemmas.Bool.{eq-eqb, ne_eqb}
 use Rattle.std.proofs.lemmas.List.{append-nil}
@@ -32,7 +32,7 @@ pub valid_front : {a b : Option (List ℕ)} {failed : Bool} {sent reached : ℕ}
 unfolding valid_text
 valid_front makespan bound front = front_of _ front
 
--- an order of a wrong size
+-- what `table` prints for an order of a wrong size
 pub wrong_size_prints : (shop : FlowShop) (file : StatedOrder) (size jobs : ℕ) → size ≡ length file.order
     → jobs ≡ shop.jobs → size ≢ jobs → TablePrints shop file CheckFailed (wrong_size_text size jobs)
 wrong_size_prints shop file size jobs e f wrong = record {
@@ -41,7 +41,7 @@ wrong_size_prints shop file size jobs e f wrong = record {
   wrong_machines = λ same stated is other. absurd (wrong (e ∙ same ∙ sym f));
 }
 
--- an order for which wrong machines are stated
+-- what it prints for an order file that states a wrong number of machines
 pub wrong_machines_prints : (shop : FlowShop) (file : StatedOrder) (stated machines : ℕ) → length file.order ≡ shop.jobs
     → file.machines ≡ Some stated → machines ≡ shop.machines → stated ≢ machines
     → TablePrints shop file CheckFailed (wrong_machines_text stated machines)
@@ -55,7 +55,7 @@ pub least_of : (shop : FlowShop) (order other : List ℕ) (timing : Timing) → 
     → IsLeastTable shop order timing → IsLeastTable shop other timing
 least_of shop order other timing e least = rw e at least
 
--- an order that fits
+-- what it prints for an order that fits
 pub fitting_prints : (shop : FlowShop) (file : StatedOrder) (timing : Timing) → SizesMatch shop file
     → IsLeastTable shop file.order timing → TablePrints shop file Done (table_text timing)
 fitting_prints shop file timing fits least = record {

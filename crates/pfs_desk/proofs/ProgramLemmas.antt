@@ -1,4 +1,4 @@
--- From what is written into a buffer to what stands behind it once it was let out.
+-- From what is written into a buffer to what its writer has after the buffer was flushed.
 use Rattle.std.proofs.Common.{◌≡◌, ℕ, ◌≤◌, Bool, false, List, [], ◌∷◌, ◌++◌, Option, None, Some, Result, Ok, Err}
 use Rattle.std.proofs.Common.{length, map, take, sym, ap, subst, ◌∙◌, refl, arith, take-take, inl, inr, true≢false}
 use Rattle.std.proofs.Common.{length-append, length-take}
@@ -35,7 +35,7 @@ appended None c text p q = absurd p
 appended (Some y) None text p q = absurd q
 appended (Some y) (Some z) text p q = ap Some (q ∙ p)
 
--- a front of a front of a text
+-- a prefix of a prefix of a text is a prefix of the text
 front_of_parts : (out : Option (List ℕ)) (held : List ℕ) (sent k told : ℕ) (text : List ℕ)
     → Parts out held sent (take k text) → told ≡ sent → IsFront text out told
 front_of_parts out held sent k told text parts same =
@@ -56,7 +56,7 @@ none_of_none : (bytes held : List ℕ) → bytes ++ held ≡ [] → bytes ≡ []
 none_of_none [] held p = refl
 none_of_none (x ∷ xs) held p = cc
 
--- where no write is told, what was answered stays
+-- a stop that reports no failed write is kept
 stays : (stop : Stop) (held : List ℕ) (sent : ℕ) (ended : Result Outcome Stop) → reports_write (Err stop) ≡ false
     → EndsOutput (Err stop) held sent ended → ended ≡ Err stop
 stays stops_for.Usage held sent ended untold q = q
@@ -109,7 +109,7 @@ module _ {W : Type 0} (written : W → Option (List ℕ)) (old mid new : Bufferi
       let same = stays stop new.held new.sent ended untold (subst (λ r. EndsOutput r new.held new.sent ended) p.0 q) in
       (same, t' ∙ subst (λ r. reports_write r ≡ false) (sym same) untold, given-nothing p.2)
 
--- the words ask for nothing, or memory was refused
+-- the arguments are invalid, or a memory allocation failed
 refuses_words : {A : Type 0} (f : A → List ℕ) (words : List A) (fault : UsageFault) → (words ≡ [] → ⊥)
     → ((word : List ℕ) (others : List (List ℕ)) → map f words ≡ word ∷ others → fault ≡ usage_faults.Usage
     → AsksForNothing word others) → RefusesWords (map f words) (stops (usage_stop fault))

@@ -1,4 +1,4 @@
--- From what an engine answers to what its job comes to.
+-- From the result of an engine to the result of its job.
 use Rattle.std.proofs.Common.{◌≡◌, ℕ, Bool, false, List, [], ◌∷◌, ◌++◌, Option, None, Some, Result, Ok, Err, IfErr}
 use Rattle.std.proofs.Common.{inl, inr, sym, subst, refl, ◌∙◌, ap, append_assoc, append-nil}
 use Rattle.pfs_layout.specs.declared.layout.Layout.{Layout}
@@ -34,7 +34,7 @@ logs_none (Some x) = ap Some (sym (append-nil x))
 pub reads_none : (standing : List ℕ → Standing) (log : Option (List FileEvent)) → ReadsFiles standing log log [] []
 reads_none standing log = record { give = tt; events = logs_none log }
 
--- one file was opened, read and given back
+-- one file was opened, read and closed
 pub reads_file : (standing : List ℕ → Standing) (log between log' : Option (List FileEvent)) (path : List ℕ)
     (file : SourceUse) → MayOpen (standing path) file.given → file.was_ended ≡ false
     → Logs log between (opened path ∷ []) → Logs between log' (closing file ∷ [])
@@ -42,7 +42,7 @@ pub reads_file : (standing : List ℕ → Standing) (log between log' : Option (
 reads_file standing log between log' path file give fresh opens closes =
     record { give = (give, fresh, tt); events = logs_then log between log' _ _ opens closes }
 
--- or two were
+-- two files were opened, read and closed
 pub reads_files : (standing : List ℕ → Standing) (log opens closes log' : Option (List FileEvent))
     (path order_path : List ℕ) (file orders : SourceUse)
     → OpensBoth standing log opens path order_path file.given orders.given → file.was_ended ≡ false
@@ -54,7 +54,7 @@ reads_files standing log opens closes log' path order_path file orders both fres
   events = logs_then log opens log' _ _ both.events (logs_then opens closes log' _ _ p q);
 }
 
--- a fault that tells no write
+-- a stop that reports no failed write
 pub gives_stop : (Comes : Answer → Type 0) (old : Option (List ℕ)) (failed : Bool) (stop : Stop)
     (ended : Result Outcome Stop) → ended ≡ Err stop → reports_write (Err stop) ≡ false → failed ≡ false
     → Comes (stops stop) → Delivers Comes (WritesAnswer old old failed) failed ended
@@ -102,7 +102,7 @@ module _ (standing : List ℕ → Standing) (log log' : Option (List FileEvent))
     reported = refl;
   }
 
-  -- the only path of a job, or the first of two, or the second, was not opened
+  -- the only path of a job, or the first of two, or the second, could not be opened
   pub gives_closed : (asked : Job) (path : List ℕ) (input : SourceUse) (old : Option (List ℕ)) (failed : Bool)
       (fault : OpenFault) (ended : Result Outcome Stop) → paths_of asked ≡ path ∷ [] → IsUnread input → failed ≡ false
       → ended ≡ Err (open_stop fault) → MayRefuse (standing path) fault → Logs log log' (refused path fault ∷ [])
@@ -126,7 +126,7 @@ module _ (standing : List ℕ → Standing) (log log' : Option (List FileEvent))
             (stops_one path order_path fault refuses),
       ))
 
--- what an engine answers, as an answer
+-- the result of an engine as an `Answer`
 module _ (Output : Outcome → List ℕ → Type 0) (IsFault : DeskFault → Type 0) (old new : Option (List ℕ)) (failed : Bool)
     (Comes : Answer → Type 0) where
   abbrev Reaches : Result Outcome DeskFault → Type 0
@@ -187,7 +187,7 @@ module _ (Output : Outcome → List ℕ → Type 0) (IsFault : DeskFault → Typ
   gives result ended e w f comes =
       subst (Delivers Comes (WritesAnswer old new failed) failed) (sym e) (gives_ending result w f comes)
 
--- the same of the same job
+-- what a job delivers, an equal job delivers
 pub gives_job : (asked other : Job) (standing : List ℕ → Standing) (log log' : Option (List FileEvent))
     (input : SourceUse) (Goes : Answer → Result Outcome Stop → Type 0) (failed : Bool) (ended : Result Outcome Stop)
     → other ≡ asked → Delivers (RunsJob asked standing log log' input) Goes failed ended
@@ -195,7 +195,7 @@ pub gives_job : (asked other : Job) (standing : List ℕ → Standing) (log log'
 gives_job asked other standing log log' input Goes failed ended e =
     subst (λ j. Delivers (RunsJob j standing log log' input) Goes failed ended) (sym e)
 
--- of an engine that reads one input
+-- what a job delivers whose engine reads one input
 module _ (asked : Job) (standing : List ℕ → Standing) (log log' : Option (List FileEvent)) (input : SourceUse)
     (layout : Layout) (block : ℕ) (Output : Outcome → List ℕ → Type 0) (old new : Option (List ℕ)) (failed : Bool)
     (result : Result Outcome DeskFault) (ended : Result Outcome Stop) (e : ended ≡ ending result)
@@ -221,7 +221,7 @@ module _ (asked : Job) (standing : List ℕ → Standing) (log log' : Option (Li
         answers = answers answer (record { is = is; reads = first_reads answer first });
       }))
 
-  -- and of one that reads an order file behind it
+  -- what a job delivers whose engine reads an order file after it
   pub gives_on_both : (orders : SourceUse) (files : List SourceUse)
       → IfErr result (IsAuditFault layout file.given block orders.given) → ReadsAll files
       → ReadsOrder orders (layout_fault_of result) (order_fault_of result)
@@ -239,7 +239,7 @@ module _ (asked : Job) (standing : List ℕ → Standing) (log log' : Option (Li
         });
       }))
 
--- a fault of the instance file is told by one result alone
+-- only one result reports a given fault of the instance file
 pub told_by : (fault : LayoutFault) (result : Result Outcome DeskFault) → layout_fault_of result ≡ Some fault
     → result ≡ Err (faults.Layout fault)
 told_by fault (Ok outcome) e = cc

@@ -1,4 +1,4 @@
--- The texts that `solve` prints in parts.
+-- The text of `solve`, which is printed in parts.
 use Rattle.std.proofs.Common.{◌≡◌, ℕ, ◌+◌, ◌<◌, ◌≤◌, ◌^◌, Bool, true, false, List, ◌++◌, Option, Some, length, map}
 use Rattle.std.proofs.Common.{codes}
 use Rattle.std.proofs.lemmas.List.{append-nil}

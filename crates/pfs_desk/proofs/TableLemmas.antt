@@ -22,7 +22,7 @@ module _ (timing : Timing) (row : ℕ) where
   abbrev machine_part : ℕ → List ℕ
   machine_part machine = start_part machine ++ end_part machine
 
-  -- a row as far as a machine
+  -- a row's text before this machine
   unfoldable pub row_to : ℕ → List ℕ
   row_to machine = decimal (get_or timing.jobs row 0 + 1) ++ flat_map machine_part (below machine)
 
@@ -30,7 +30,7 @@ module _ (timing : Timing) (row : ℕ) where
   unfolding row_to
   row_to-more machine = rw (add-one machine, flat_map_more machine_part machine) (simp append_assoc)
 
-  -- the whole line
+  -- the line is the row's text before the machine after the last one, and a line end
   row_whole : row_text timing row ≡ row_to timing.machines ++ 10 ∷ []
   unfolding row_text row_to
   row_whole = rw (spaced-cons, spaced_pairs (start_in timing row) (end_in timing row))
@@ -46,7 +46,7 @@ module _ (timing : Timing) (row : ℕ) where
       rw (row_whole, parts) (simp append_assoc) in
       rw whole (front_of (rest ++ 10 ∷ []) front)
 
-  -- a row's first number, and a front of it
+  -- all of the row's first number was sent, and next, a prefix of it
   pub row_job : {a b : Option (List ℕ)} {failed : Bool} {sent total : ℕ} (job : ℕ) → job ≡ get_or timing.jobs row 0
       → SendsAll a b failed sent (decimal (job + 1)) total → SendsAll a b failed sent (row_to 0) total
   unfolding row_to
@@ -59,7 +59,7 @@ module _ (timing : Timing) (row : ℕ) where
   row_job_front job e front =
       rw row_whole (front_of (10 ∷ []) (front_of (flat_map machine_part (below timing.machines)) (rw e at front)))
 
-  -- a front of a start behind a row's earlier numbers
+  -- a prefix of a start was sent after the row's earlier numbers
   pub row_start_front : {a b c : Option (List ℕ)} {working failed : Bool} {sent middle reached : ℕ}
       (machine start : ℕ) → machine < timing.machines → start ≡ start_in timing row machine
       → SendsAll a b working sent (row_to machine) middle → SendsFront b c failed middle (32 ∷ decimal start) reached
@@ -67,7 +67,7 @@ module _ (timing : Timing) (row : ℕ) where
   row_start_front machine start h e all front =
       row_front machine h (front_of (end_part machine) (then_front all (rw e at front)))
 
-  -- a front of an end behind a row's earlier numbers
+  -- a prefix of an end was sent after the row's earlier numbers
   pub row_end_front : {a b c d : Option (List ℕ)} {working started failed : Bool} {sent middle next reached : ℕ}
       (machine start finish : ℕ) → machine < timing.machines → start ≡ start_in timing row machine
       → finish ≡ end_in timing row machine → SendsAll a b working sent (row_to machine) middle
@@ -76,7 +76,7 @@ module _ (timing : Timing) (row : ℕ) where
   row_end_front machine start finish h e f all one front =
       row_front machine h (then_front (then_all all (rw e at one)) (rw f at front))
 
-  -- a start and an end more
+  -- one more start and one more end were sent
   pub row_next : {a b c d : Option (List ℕ)} {working started failed : Bool} {sent middle next total : ℕ}
       (machine start finish : ℕ) → start ≡ start_in timing row machine → finish ≡ end_in timing row machine
       → SendsAll a b working sent (row_to machine) middle → SendsAll b c started middle (32 ∷ decimal start) next
@@ -84,13 +84,13 @@ module _ (timing : Timing) (row : ℕ) where
   row_next machine start finish e f all one other =
       rw (row_to-more machine) (then_all (then_all all (rw e at one)) (rw f at other))
 
-  -- the end of a row
+  -- a line end completes the row
   pub row_end : (machine : ℕ) → machine ≡ timing.machines → row_text timing row ≡ row_to machine ++ 10 ∷ []
   row_end machine e = rw e row_whole
 
 -- ---- a table
 
--- a table as far as a row
+-- a table's text before this row
 unfoldable pub table_to : Timing → ℕ → List ℕ
 table_to timing row = sizes_text timing ++ flat_map (row_text timing) (below row)
 
@@ -118,13 +118,13 @@ table_front timing row h front =
     rw (table_whole timing, parts) (simp append_assoc) in
     rw whole (front_of (rest ++ last) front)
 
--- the first line is a front of the table
+-- a prefix of the first line is a prefix of the table
 pub sizes_front : {a b : Option (List ℕ)} {failed : Bool} {sent reached : ℕ} (timing : Timing)
     → SendsFront a b failed sent (sizes_text timing) reached → SendsFront a b failed sent (table_text timing) reached
 unfolding table_to
 sizes_front timing front = rw (table_whole timing) (front_of _ (front_of _ front))
 
--- the end of a table
+-- the line of the makespan completes the table
 pub table_end : (timing : Timing) (row makespan : ℕ) → row ≡ length timing.jobs → makespan ≡ last_end timing
     → table_text timing ≡ table_to timing row ++ named_number (codes "makespan") makespan
 table_end timing row makespan e f = rw (e, f) (table_whole timing)

@@ -1,4 +1,5 @@
--- What an engine returns and writes. Bytes are those that a reader has left, where they are known.
+-- What an engine, the function that does a command's work, returns and writes. The bytes of a file are those that its
+-- reader hasn't read yet, or `None` if they aren't known; nothing is said of bytes that aren't known.
 use Rattle.std.specs.Prelude.{⊤, ◌≡◌, ◌≢◌, ◌↔◌, ℕ, ◌≤◌, Bool, true, false, List, Option, Some, None, Result, Ok, Err}
 use Rattle.std.specs.Prelude.{◌⊎◌, IfSome}
 use Rattle.std.specs.Io.KnownBytes.{Appends}
@@ -28,30 +29,31 @@ use Rattle.pfs_words.specs.declared.solve_options.SolveOptions.{SolveOptions}
 use Rattle.pfs_desk.specs.Solve.{take_for, IsTakeFault, IsSolution}
 use Rattle.pfs_desk.specs.OutputText.{value_text, verdict_text, outcome_of, TablePrints}
 
--- a block of an instance file holds this problem
+-- this block of an instance file, counted from 1, contains this problem
 abbrev pub Holds : Layout → Option (List ℕ) → ℕ → Problem → Type 0
 Holds layout file block problem = IfSome file (λ bytes. IsInstanceFile limits layout bytes block problem)
 
--- an instance file has this fault in front of the end of the block, unless a read or a memory allocation failed; the
--- fault is never that of a seed, since no seed is given
+-- an instance file has this fault before the end of the block, or the fault is a failed read or memory allocation; it
+-- is never that of a seed, since no seed is given
 abbrev pub RefusesFirst : Layout → Option (List ℕ) → ℕ → LayoutFault → Type 0
 RefusesFirst layout file block fault = (fault ≢ layout_faults.SeedRange)
     × (fault ≢ layout_faults.Read → fault ≢ layout_faults.Memory
     → IfSome file (λ bytes. RefusesInstance layout bytes block fault))
 
--- an order file states this order and this makespan
+-- an order file states this order, this makespan and, if `stated` has it, this number of machines
 abbrev pub States : Option (List ℕ) → StatedOrder → Type 0
 States file stated = IfSome file (λ bytes. IsOrderFile bytes stated)
 
--- a block of the instance file holds a problem, and the order file is rejected for this fault, or a read of it or a
--- memory allocation failed
+-- the block of the instance file contains a problem; and the order file is rejected with this fault, or the fault is a
+-- failed read or memory allocation
 pub record RefusesSecond (layout : Layout) (file : Option (List ℕ)) (block : ℕ) (order_file : Option (List ℕ))
     (fault : OrderFault) : Type 0 where
   pub problem : Problem
   pub holds : Holds layout file block problem
   pub refused : IfSome order_file (λ bytes. RefusesUnlessFailed bytes fault)
 
--- memory is requested after both files were read, and the order file states an order that fits the instance
+-- when an engine with an order file allocates further memory: after both files were read, if the order file states an
+-- order that fits the instance
 pub record WantsBehindBoth (layout : Layout) (file : Option (List ℕ)) (block : ℕ) (order_file : Option (List ℕ))
     : Type 0 where
   pub problem : Problem
@@ -60,27 +62,29 @@ pub record WantsBehindBoth (layout : Layout) (file : Option (List ℕ)) (block :
   pub states : States order_file stated
   pub fits : SizesMatch problem.shop stated
 
--- a block of the instance file holds a problem with fewer jobs than are to be taken out in a round
+-- the block of the instance file contains a problem with fewer jobs than the stated destruction size; the fault has
+-- both numbers
 pub record RefusesTake (layout : Layout) (file : Option (List ℕ)) (block : ℕ) (asked : Option ℕ) (fault : DeskFault)
     : Type 0 where
   pub problem : Problem
   pub holds : Holds layout file block problem
   pub above : IsTakeFault asked problem.shop.jobs fault
 
--- it holds a problem with as many jobs
+-- the block contains a problem with at least as many jobs as the destruction size
 pub record AllowsTake (layout : Layout) (file : Option (List ℕ)) (block : ℕ) (asked : Option ℕ) : Type 0 where
   pub problem : Problem
   pub holds : Holds layout file block problem
   pub within : take_for asked problem.shop.jobs ≤ problem.shop.jobs
 
--- the faults in which each command may end, and when; that of a write comes where one failed, as below
+-- the faults that each command may report, and when: here those of `value`. `WritesOutput` below says when that of a
+-- write is reported
 abbrev pub IsValueFault : Layout → Option (List ℕ) → ℕ → DeskFault → Type 0
 IsValueFault layout file block (faults.Layout fault) = RefusesFirst layout file block fault
 IsValueFault layout file block faults.Memory = (problem : Problem) × Holds layout file block problem
 IsValueFault layout file block (Write fault) = ⊤
 IsValueFault layout file block others = ⊥
 
--- the number of jobs that leave in a round is validated after the instance file, and before more memory is requested
+-- those of `solve`: the destruction size is validated after the instance file and before more memory is allocated
 abbrev pub IsSolveFault : Layout → Option (List ℕ) → ℕ → Option ℕ → DeskFault → Type 0
 IsSolveFault layout file block asked (faults.Layout fault) = RefusesFirst layout file block fault
 IsSolveFault layout file block asked (faults.TakeRange take jobs) =
@@ -89,7 +93,7 @@ IsSolveFault layout file block asked faults.Memory = AllowsTake layout file bloc
 IsSolveFault layout file block asked (Write fault) = ⊤
 IsSolveFault layout file block asked others = ⊥
 
--- of `check` and of `table`: the order file is validated after the instance file
+-- those of `check` and of `table`: the order file is validated after the instance file
 abbrev pub IsAuditFault : Layout → Option (List ℕ) → ℕ → Option (List ℕ) → DeskFault → Type 0
 IsAuditFault layout file block order_file (faults.Layout fault) = RefusesFirst layout file block fault
 IsAuditFault layout file block order_file (Order fault) = RefusesSecond layout file block order_file fault
@@ -97,22 +101,24 @@ IsAuditFault layout file block order_file faults.Memory = WantsBehindBoth layout
 IsAuditFault layout file block order_file (Write fault) = ⊤
 IsAuditFault layout file block order_file others = ⊥
 
+-- those of `convert`, which allocates no memory after the instance file was read
 abbrev pub IsConvertFault : Layout → Option (List ℕ) → ℕ → DeskFault → Type 0
 IsConvertFault layout file block (faults.Layout fault) = RefusesFirst layout file block fault
 IsConvertFault layout file block (Write fault) = ⊤
 IsConvertFault layout file block others = ⊥
 
--- the fault of the instance file, or of the order file, that a result tells
+-- the fault of the instance file that a result reports, if it reports one
 abbrev pub layout_fault_of : {A : Type 0} → Result A DeskFault → Option LayoutFault
 layout_fault_of (Err (faults.Layout fault)) = Some fault
 layout_fault_of others = None
 
+-- the fault of the order file that a result reports, if it reports one
 abbrev pub order_fault_of : {A : Type 0} → Result A DeskFault → Option OrderFault
 order_fault_of (Err (Order fault)) = Some fault
 order_fault_of others = None
 
--- what a call did with a source: the bytes that the source had and has left, where they are known, whether a read
--- failed, and whether the end of the bytes was reported before the call, and by the end of it
+-- what a call did with a source: the bytes that were left to read before and after the call, if they are known; whether
+-- a read failed; and whether a read had reported the end of the bytes before the call, and by the end of it
 pub record SourceUse : Type 0 where
   pub given : Option (List ℕ)
   pub left : Option (List ℕ)
@@ -124,35 +130,35 @@ abbrev pub source_use : Option (List ℕ) → Option (List ℕ) → Bool → Boo
 source_use given left failed was_ended ended =
     record { given = given; left = left; failed = failed; was_ended = was_ended; ended = ended }
 
--- nothing was read: no byte is gone, no read failed, and none reported the end
+-- nothing was read: all bytes are left, no read failed, and none reported the end
 pub record IsUnread (source : SourceUse) : Type 0 where
   pub kept : source.left ≡ source.given
   pub working : source.failed ≡ false
   pub no_end : source.ended ≡ source.was_ended
 
--- how the instance file is read, where this fault of it is reported, if any
+-- how the instance file is read by an engine that reports this fault of it, or `None`
 pub record ReadsBlock (layout : Layout) (block : ℕ) (source : SourceUse) (fault : Option LayoutFault) : Type 0 where
-  -- a failed read is reported, and none is reported where none failed
+  -- a failed read is reported exactly if a read failed
   pub read : (fault ≡ Some layout_faults.Read) ↔ (source.failed ≡ true)
-  -- nor is one after the end
+  -- if a read failed, then no read of this call reported the end
   pub before_end : fault ≡ Some layout_faults.Read → source.ended ≡ source.was_ended
-  -- up to a last piece, before which more was needed, and no further
+  -- the file is read up to and with a last piece, before which more of it was needed
   pub as_far : IfSome source.given (λ bytes. ReadsAsFar layout block bytes source.left fault)
 
--- how far the order file is read: not at all where the instance file has a fault
+-- how far the order file is read: not at all if the instance file has a fault
 abbrev pub ReadsSecond : SourceUse → Option LayoutFault → Option OrderFault → Type 0
 ReadsSecond source (Some first) fault = IsUnread source
 ReadsSecond source None fault = IfSome source.given (λ bytes. ReadsOrderAsFar bytes source.left fault)
 
--- how the order file is read after the instance file
+-- how the order file is read by an engine that reports these faults of the instance file and of the order file
 pub record ReadsOrder (source : SourceUse) (first : Option LayoutFault) (fault : Option OrderFault) : Type 0 where
-  -- a failed read is reported, and none is reported where none failed
+  -- a failed read is reported exactly if a read failed
   pub read : (fault ≡ Some order_faults.Read) ↔ (source.failed ≡ true)
-  -- nor is one after the end
+  -- if a read failed, then no read of this call reported the end
   pub before_end : fault ≡ Some order_faults.Read → source.ended ≡ source.was_ended
   pub as_far : ReadsSecond source first fault
 
--- all of an output went out
+-- all of an output was written; `old` and `new` are the bytes written before and after
 pub record WritesAll (output : Outcome → List ℕ → Type 0) (old new : Option (List ℕ)) (failed : Bool)
     (outcome : Outcome) : Type 0 where
   pub text : List ℕ
@@ -160,7 +166,7 @@ pub record WritesAll (output : Outcome → List ℕ → Type 0) (old new : Optio
   pub working : failed ≡ false
   pub bytes : Appends old new text
 
--- the writer has failed, and as many of an output's first bytes went out as its fault says
+-- the writer has failed, and a prefix of an output was written, as long as the fault's number `written` says
 pub record WritesFront (output : Outcome → List ℕ → Type 0) (old new : Option (List ℕ)) (failed : Bool) (written : ℕ)
     : Type 0 where
   pub outcome : Outcome
@@ -173,14 +179,14 @@ pub record WritesNothing (old new : Option (List ℕ)) (failed : Bool) : Type 0 
   pub working : failed ≡ false
   pub kept : new ≡ old
 
--- an engine wrote its output, or a front of it where a write failed, and nothing where it met another fault
+-- an engine wrote all of its output, or a prefix of it if a write failed, or nothing if it reports another fault
 abbrev pub WritesOutput : (Outcome → List ℕ → Type 0) → Option (List ℕ) → Option (List ℕ) → Bool
     → Result Outcome DeskFault → Type 0
 WritesOutput output old new failed (Ok outcome) = WritesAll output old new failed outcome
 WritesOutput output old new failed (Err (Write fault)) = WritesFront output old new failed fault.written
 WritesOutput output old new failed (Err others) = WritesNothing old new failed
 
--- the makespan of the jobs of an instance in the order of their numbers
+-- the output of `value`: the makespan of the jobs of an instance in the order of their numbers
 pub record ValueOutput (layout : Layout) (file : Option (List ℕ)) (block : ℕ) (outcome : Outcome) (text : List ℕ)
     : Type 0 where
   pub problem : Problem
@@ -188,7 +194,7 @@ pub record ValueOutput (layout : Layout) (file : Option (List ℕ)) (block : ℕ
   pub done : outcome ≡ Done
   pub spelled : text ≡ value_text problem.shop
 
--- what a search finds of an instance
+-- the output of `solve`: what a search finds for an instance
 pub record SolveOutput (layout : Layout) (file : Option (List ℕ)) (block : ℕ) (options : SolveOptions)
     (outcome : Outcome) (text : List ℕ) : Type 0 where
   pub problem : Problem
@@ -196,7 +202,7 @@ pub record SolveOutput (layout : Layout) (file : Option (List ℕ)) (block : ℕ
   pub done : outcome ≡ Done
   pub solution : IsSolution problem.shop options text
 
--- the block, written as a file with one block in the target layout
+-- the output of `convert`: the problem of the block as a file with one block in the target layout
 pub record ConvertOutput (source target : Layout) (file : Option (List ℕ)) (block : ℕ) (outcome : Outcome)
     (text : List ℕ) : Type 0 where
   pub problem : Problem
@@ -204,18 +210,18 @@ pub record ConvertOutput (source target : Layout) (file : Option (List ℕ)) (bl
   pub done : outcome ≡ Done
   pub spelled : text ≡ canonical_text target problem
 
--- the instance that is drawn from a seed, in Taillard's layout
+-- the output of `generate`: the instance that Taillard's generator draws from a seed, in Taillard's layout
 pub record GenerateOutput (jobs machines seed : ℕ) (outcome : Outcome) (text : List ℕ) : Type 0 where
   pub done : outcome ≡ Done
   pub spelled : text ≡ canonical_text Taillard (generated jobs machines seed)
 
--- generating an instance fails for its seed, when memory for its times cannot be allocated, or when a write fails
+-- the faults of `generate`: the seed is out of range, the allocation of the times fails, or a write fails
 abbrev pub IsGenerateFault : DeskFault → Type 0
 IsGenerateFault (faults.Layout fault) = (fault ≡ layout_faults.SeedRange) ⊎ (fault ≡ layout_faults.Memory)
 IsGenerateFault (Write fault) = ⊤
 IsGenerateFault others = ⊥
 
--- the verdict on the order that an order file states for an instance
+-- the output of `check`: the verdict on the order that an order file states for an instance
 pub record CheckOutput (layout : Layout) (file : Option (List ℕ)) (block : ℕ) (order_file : Option (List ℕ))
     (outcome : Outcome) (text : List ℕ) : Type 0 where
   pub problem : Problem
@@ -225,7 +231,8 @@ pub record CheckOutput (layout : Layout) (file : Option (List ℕ)) (block : ℕ
   pub judged : outcome ≡ outcome_of (verdict_on problem.shop stated)
   pub spelled : text ≡ verdict_text (verdict_on problem.shop stated)
 
--- the time table of the order that an order file states for an instance; the stated makespan isn't compared
+-- the output of `table`: the time table of the order that an order file states for an instance; the stated makespan
+-- isn't compared
 pub record TableOutput (layout : Layout) (file : Option (List ℕ)) (block : ℕ) (order_file : Option (List ℕ))
     (outcome : Outcome) (text : List ℕ) : Type 0 where
   pub problem : Problem

@@ -1,4 +1,4 @@
--- What `solve` does with a file whose bytes are told, however the reader cuts them.
+-- What `solve` does with a file whose bytes are known. It is the same for all pieces in which reads may return them.
 use Rattle.std.specs.Prelude.{◌≡◌, ◌≢◌, ℕ, ◌<◌, ◌≤◌, Bool, false, List, Option, Some, Result, Ok, Err}
 use Rattle.std.specs.Io.KnownBytes.{Appends}
 use Rattle.pfs_base.specs.Limits.{limits}
@@ -20,7 +20,7 @@ pub record ReadsOn (reader_failed : Bool) (result : Result Outcome DeskFault) : 
   pub reading : reader_failed ≡ false
   pub room : result ≢ Err (faults.Layout layout_faults.Memory)
 
--- nor did a write or another memory allocation fail
+-- the same, and no write and no other memory allocation failed
 pub record RunsOn (reader_failed writer_failed : Bool) (result : Result Outcome DeskFault) : Type 0 where
   pub reads : ReadsOn reader_failed result
   pub writing : writer_failed ≡ false
@@ -39,16 +39,17 @@ pub record TellsFault (fault : DeskFault) (old new : Option (List ℕ)) (result 
   pub told : result ≡ Err fault
   pub kept : new ≡ old
 
+-- what `solve` does with a file of these bytes; `old` and `new` are the bytes written before and after
 pub record Solves (layout : Layout) (file : List ℕ) (block : ℕ) (options : SolveOptions) (old new : Option (List ℕ))
     (reader_failed writer_failed : Bool) (result : Result Outcome DeskFault) : Type 0 where
-  -- of every accepted instance with as many jobs as are to be taken out the solution is printed
+  -- for each accepted instance with at least as many jobs as the destruction size, a solution is printed
   pub accepted : (problem : Problem) → IsInstanceFile limits layout file block problem
       → take_for options.take problem.shop.jobs ≤ problem.shop.jobs
       → RunsOn reader_failed writer_failed result → PrintsSolution problem options old new result
-  -- every other file is rejected with its fault
+  -- each other file is rejected with its fault
   pub refused : (fault : LayoutFault) → RefusesInstance layout file block fault
       → ReadsOn reader_failed result → TellsFault (faults.Layout fault) old new result
-  -- and so are options that let more jobs leave in a round than there are
+  -- a stated destruction size above the number of jobs is rejected
   pub too_many : (problem : Problem) (asked : ℕ) → IsInstanceFile limits layout file block problem
       → options.take ≡ Some asked → problem.shop.jobs < asked
       → ReadsOn reader_failed result → TellsFault (faults.TakeRange asked problem.shop.jobs) old new result

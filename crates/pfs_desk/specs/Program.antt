@@ -29,11 +29,12 @@ pub data Answer : Type 0 where
   prints : Outcome → List ℕ → Answer
   stops : Stop → Answer
 
--- the fault of the instance file, or of the order file, that it reports
+-- the fault of the instance file that a job's result reports, if it reports one
 abbrev pub layout_fault_in : Answer → Option LayoutFault
 layout_fault_in (stops (Fault (faults.Layout fault))) = Some fault
 layout_fault_in others = None
 
+-- the fault of the order file that a job's result reports, if it reports one
 abbrev pub order_fault_in : Answer → Option OrderFault
 order_fault_in (stops (Fault (faults.Order fault))) = Some fault
 order_fault_in others = None
@@ -44,7 +45,7 @@ order_fault_in others = None
 abbrev pub unread : Option (List ℕ) → SourceUse
 unread given = source_use given given false false false
 
--- the paths that a job names
+-- the paths that a job names, in the order in which they are opened
 abbrev pub paths_of : Job → List (List ℕ)
 paths_of (job.Value layout block None) = []
 paths_of (job.Value layout block (Some path)) = path ∷ []
@@ -61,6 +62,7 @@ GiveStanding standing (path ∷ paths) (file ∷ files) =
     MayOpen (standing path) file.given × (file.was_ended ≡ false) × GiveStanding standing paths files
 GiveStanding standing paths files = ⊥
 
+-- the event of closing a file after this use
 abbrev pub closing : SourceUse → FileEvent
 closing file = closed file.left file.failed file.ended
 
@@ -86,25 +88,26 @@ pub record StopsAtPath (standing : List ℕ → Standing) (log log' : Option (Li
 
 -- ---- what an engine returns
 
--- one of its outputs, or one of its faults other than a failed write, which any output may meet
+-- the result is one of the engine's outputs, or one of its faults, but not a failed write, which may follow any output
 abbrev pub IsAnswerOf : (Outcome → List ℕ → Type 0) → (DeskFault → Type 0) → Answer → Type 0
 IsAnswerOf Output IsFault (prints outcome text) = Output outcome text
 IsAnswerOf Output IsFault (stops (Fault (faults.Write fault))) = ⊥
 IsAnswerOf Output IsFault (stops (Fault fault)) = IsFault fault
 IsAnswerOf Output IsFault (stops others) = ⊥
 
--- the result for a block of an instance file, which was read as far as needed
+-- the engine has this result for a block of an instance file, which was read as far as needed
 pub record AnswersOn (layout : Layout) (block : ℕ) (Output : Outcome → List ℕ → Type 0) (IsFault : DeskFault → Type 0)
     (file : SourceUse) (answer : Answer) : Type 0 where
   pub is : IsAnswerOf Output IsFault answer
   pub reads : ReadsBlock layout block file (layout_fault_in answer)
 
--- the result for a block and an order file
+-- the engine has this result for a block of an instance file and an order file
 pub record AnswersOnBoth (layout : Layout) (block : ℕ) (Output : Outcome → List ℕ → Type 0) (file orders : SourceUse)
     (answer : Answer) : Type 0 where
   pub first : AnswersOn layout block Output (IsAuditFault layout file.given block orders.given) file answer
   pub reads_order : ReadsOrder orders (layout_fault_in answer) (order_fault_in answer)
 
+-- the engine of `value` has this result for a block of an instance file
 abbrev pub AnswersValue : Layout → ℕ → SourceUse → Answer → Type 0
 AnswersValue layout block file answer =
     AnswersOn layout block (ValueOutput layout file.given block) (IsValueFault layout file.given block) file answer
@@ -129,13 +132,15 @@ AnswersJob (job.Generate jobs machines seed) input [] answer = IsUnread input
     × ((layout_fault_in answer ≡ Some SeedRange) ↔ (¬ IsSeed seed))
 AnswersJob others input files answer = ⊥
 
+-- all files of the job were opened, read and closed, and the job's engine has this result
 pub record RunsEngine (asked : Job) (standing : List ℕ → Standing) (log log' : Option (List FileEvent))
     (input : SourceUse) (answer : Answer) : Type 0 where
   pub files : List SourceUse
   pub reads : ReadsFiles standing log log' (paths_of asked) files
   pub answers : AnswersJob asked input files answer
 
--- what the program does for a job, and the job's result; log and log' are the log before and after
+-- what the program does for a job, and the job's result: a path could not be opened, or the engine ran; log and log'
+-- are the log before and after
 abbrev pub RunsJob : Job → (List ℕ → Standing) → Option (List FileEvent) → Option (List FileEvent) → SourceUse → Answer
     → Type 0
 RunsJob asked standing log log' input answer =
@@ -149,7 +154,7 @@ abbrev pub reports_write : Result Outcome Stop → Bool
 reports_write (Err (Fault (faults.Write fault))) = true
 reports_write others = false
 
--- some result has its text written, and a failed write is reported exactly where a write failed
+-- some result of a job was written as `IsWritten` says, and a failed write is reported exactly if a write failed
 pub record Delivers (IsAnswer : Answer → Type 0) (IsWritten : Answer → Result Outcome Stop → Type 0) (failed : Bool)
     (result : Result Outcome Stop) : Type 0 where
   pub answer : Answer
@@ -157,14 +162,14 @@ pub record Delivers (IsAnswer : Answer → Type 0) (IsWritten : Answer → Resul
   pub is_written : IsWritten answer result
   pub write_failed : failed ≡ reports_write result
 
--- a write failed after a first part of the text
+-- a write failed after a prefix of the text
 pub record WritesFrontOf (text : List ℕ) (old new : Option (List ℕ)) (failed : Bool) (result : Result Outcome Stop)
     : Type 0 where
   pub fault : WriteFault
   pub reported : result ≡ Err (Fault (faults.Write fault))
   pub front : SendsFront old new failed 0 text fault.written
 
--- all of the text is written, or a first part of it, and nothing where there is none
+-- all of the result's text was written, or a prefix of it if a write failed, and nothing if the result has no text
 abbrev pub WritesAnswer : Option (List ℕ) → Option (List ℕ) → Bool → Answer → Result Outcome Stop → Type 0
 WritesAnswer old new failed (prints outcome text) result =
     ((result ≡ Ok outcome) × Appends old new text) ⊎ WritesFrontOf text old new failed result

@@ -1,4 +1,4 @@
--- How the program ends: what it tells, and its exit status.
+-- How the program ends: what it writes to the error output, and its exit status.
 use Rattle.std.specs.Prelude.{◌≡◌, ℕ, Bool, false, List, [], ◌∷◌, Option, Result, Ok, Err, codes}
 use Rattle.std.specs.List.{flat_map}
 use Rattle.pfs_base.specs.declared.device.WriteFault.{WriteFault}
@@ -15,7 +15,7 @@ use Rattle.pfs_words.specs.declared.usage.UsageFault.{UsageFault}
 use Rattle.pfs_words.specs.declared.usage.UsageFault.TheVariants as usage_faults
 use Rattle.pfs_desk.specs.FaultText.{fault_text, status_of}
 
--- the line of each command, after a first line
+-- the usage text: a first line, and a line for each command
 unfoldable pub usage_text : List ℕ
 usage_text = flat_map with_line_end (
     codes "pfs: usage"
@@ -27,40 +27,40 @@ usage_text = flat_map with_line_end (
     ∷ codes "pfs generate N M SEED"
     ∷ [])
 
--- the arguments are invalid, or a memory allocation failed
+-- why the program stops without a job: the arguments are invalid, or a memory allocation failed
 abbrev pub usage_stop : UsageFault → Stop
 usage_stop usage_faults.Usage = stops.Usage
 usage_stop usage_faults.Memory = stops.Fault faults.Memory
 
--- a file can't be opened, or a memory allocation failed
+-- why the program stops without an open file: the file can't be opened, or a memory allocation failed
 abbrev pub open_stop : OpenFault → Stop
 open_stop open_faults.Closed = stops.Open
 open_stop open_faults.Memory = stops.Fault faults.Memory
 
--- the text on the error output
+-- the text on the error output for a stop
 abbrev pub stop_text : Stop → List ℕ
 stop_text stops.Usage = usage_text
 stop_text stops.Open = with_line_end (codes "pfs: cannot open")
 stop_text (stops.Fault fault) = fault_text fault
 
--- 3 where the arguments are invalid, and 4 where a file can't be opened
+-- 3 if the arguments are invalid, 4 if a file can't be opened, and else the status of the fault
 abbrev pub stop_status_of : Stop → ℕ
 stop_status_of stops.Usage = 3
 stop_status_of stops.Open = 4
 stop_status_of (stops.Fault fault) = status_of fault
 
--- 0 where the whole result was printed, and 1 where a check failed
+-- 0 if the whole result was printed, 1 if it was printed and says that a check failed, and else the status of the stop
 abbrev pub exit_status_of : Result Outcome Stop → ℕ
 exit_status_of (Ok Done) = 0
 exit_status_of (Ok CheckFailed) = 1
 exit_status_of (Err stop) = stop_status_of stop
 
--- a text was written, or a front of it where a write failed
+-- the text was written, or a prefix of it if a write failed
 pub record TellsText (text : List ℕ) (old new : Option (List ℕ)) (failed : Bool) : Type 0 where
   pub answer : Result (Unit {0}) WriteFault
   pub printed : Prints old new failed text answer
 
--- the error output has the reason why the program stopped, if it stopped, and else nothing
+-- what is written to the error output: why the program stopped, if it stopped, and else nothing
 abbrev pub Tells : Result Outcome Stop → Option (List ℕ) → Option (List ℕ) → Bool → Type 0
 Tells (Ok outcome) old new failed = (failed ≡ false) × (new ≡ old)
 Tells (Err stop) old new failed = TellsText (stop_text stop) old new failed

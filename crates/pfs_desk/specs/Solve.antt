@@ -1,4 +1,4 @@
--- What `solve` prints.
+-- What `solve` prints, and when it rejects the destruction size.
 use Rattle.std.specs.Prelude.{◌≡◌, ℕ, ◌<◌, ◌≤◌, min, Bool, List, [], ◌++◌, Option, Some, None}
 use Rattle.std.specs.Prelude.{if◌then◌else◌, codes}
 use Rattle.pfs_base.specs.FlowShop.{FlowShop}
@@ -10,23 +10,24 @@ use Rattle.pfs_desk.specs.declared.fault.DeskFault.TheVariants.{TakeRange}
 use Rattle.pfs_words.specs.declared.solve_options.SolveOptions.{SolveOptions}
 use Rattle.pfs_words.specs.declared.solve_options.TheConstants.{DEFAULT_TAKE}
 
--- the number of jobs that leave in a round: the given number, or else the default, but at most all jobs
+-- the destruction size, which is the number of jobs that a round removes: the stated number if there is one, else the
+-- default, or all jobs if there are fewer
 abbrev pub take_for : Option ℕ → ℕ → ℕ
 take_for (Some asked) jobs = asked
 take_for None jobs = min DEFAULT_TAKE jobs
 
--- an order and its makespan as an order file that states the machines too, followed, with `--cells`, by the count of
--- cells
+-- an order file with the order, the number of machines and the makespan, and after it, with `--cells`, a line with the
+-- number of table cells that were computed
 unfoldable pub solution_text : List ℕ → ℕ → ℕ → Bool → ℕ → List ℕ
 solution_text order machines makespan with_cells cells =
     file_text order (Some machines) makespan ++ (if with_cells then named_number (codes "cells") cells else [])
 
--- the given number is above that of all jobs, and the fault has both numbers
+-- the stated destruction size is above the number of jobs, and the fault has both numbers
 abbrev pub IsTakeFault : Option ℕ → ℕ → DeskFault → Type 0
 IsTakeFault asked jobs (TakeRange take others) = (asked ≡ Some take) × (jobs < take) × (others ≡ jobs)
 IsTakeFault asked jobs others = ⊥
 
--- what `solve` prints of a problem that has as many jobs as are to be taken out
+-- what `solve` prints for an instance that has at least as many jobs as the destruction size
 pub record IsSolution (shop : FlowShop) (options : SolveOptions) (text : List ℕ) : Type 0 where
   pub take : ℕ
   pub order : List ℕ

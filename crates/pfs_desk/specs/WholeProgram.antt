@@ -1,4 +1,4 @@
--- The whole program: what its arguments ask for, its result, what its output holds, and why it stopped.
+-- The whole program: what its arguments ask for, its result, what its output contains, and why it stopped.
 use Rattle.std.specs.Prelude.{⊤, ◌≡◌, ℕ, ◌-◌, ◌≤◌, ◌^◌, min, Bool, false, List, [], ◌∷◌, length, take, Option, None}
 use Rattle.std.specs.Prelude.{Some}
 use Rattle.std.specs.Prelude.{Result, Ok, Err, ◌⊎◌}
@@ -16,63 +16,66 @@ use Rattle.pfs_desk.specs.Program.{Answer, prints, stops, Delivers, RunsJob}
 use Rattle.pfs_desk.specs.ProgramText.{Tells, exit_status_of}
 use Rattle.pfs_desk.specs.Standing.{FileEvent, Standing}
 
--- the arguments ask for this job; without arguments it is the value of standard input
+-- the arguments ask for this job; without arguments it is `value` of block 1 of standard input, in Taillard's layout
 abbrev pub WordsAskFor : List (List ℕ) → Job → Type 0
 WordsAskFor [] job = job ≡ Value Taillard 1 None
 WordsAskFor (word ∷ others) job = AsksFor word others job
 
--- the arguments are invalid, or a memory allocation failed before that was known
+-- the program stops without a job: the arguments are invalid, or a memory allocation failed before a job was known
 abbrev pub RefusesWords : List (List ℕ) → Answer → Type 0
 RefusesWords [] (stops Usage) = ⊥
 RefusesWords (word ∷ others) (stops Usage) = AsksForNothing word others
 RefusesWords words (stops (Fault faults.Memory)) = ⊤
 RefusesWords words others = ⊥
 
--- they ask for nothing: no file is opened, and nothing is read
+-- the program stops without a job: it opens no file and reads nothing
 pub record RunsNothing (words : List (List ℕ)) (log log' : Option (List FileEvent)) (input : SourceUse)
     (answer : Answer) : Type 0 where
   pub refused : RefusesWords words answer
   pub none_opened : log' ≡ log
   pub unread : IsUnread input
 
--- they ask for a job, which is run
+-- the arguments ask for a job, which is run
 pub record RunsFor (words : List (List ℕ)) (standing : List ℕ → Standing) (log log' : Option (List FileEvent))
     (input : SourceUse) (answer : Answer) : Type 0 where
   pub job : Job
   pub asks : WordsAskFor words job
   pub runs : RunsJob job standing log log' input answer
 
+-- what the program does for its arguments, and its result: one of the two above
 abbrev pub ComesTo : List (List ℕ) → (List ℕ → Standing) → Option (List FileEvent) → Option (List FileEvent)
     → SourceUse → Answer → Type 0
 ComesTo words standing log log' input answer =
     RunsNothing words log log' input answer ⊎ RunsFor words standing log log' input answer
 
--- the output has a first part of a text, and the number that is reported is its length
+-- the output is a prefix of a text, and the reported number is the prefix's length, or 2^64 - 1 if that is less
 pub record IsFront (text : List ℕ) (out : Option (List ℕ)) (told : ℕ) : Type 0 where
   pub count : ℕ
   pub within : count ≤ length text
   pub stands : out ≡ Some (take count text)
   pub told_is : told ≡ min count (2 ^ 64 - 1)
 
+-- a failed write is reported, and if the output was empty before (`fresh`), then it is a prefix of the text now
 pub record FrontStands (text : List ℕ) (fresh : Type 0) (out : Option (List ℕ)) (ended : Result Outcome Stop)
     : Type 0 where
   pub fault : WriteFault
   pub told : ended ≡ Err (Fault (faults.Write fault))
   pub front : fresh → IsFront text out fault.written
 
--- the output has all of a text, or a first part of it, and nothing where there is none; `fresh` says that it was empty
+-- the output is all of the result's text, or a prefix of it if a write failed, or empty if the result has no text;
+-- `fresh` says that the output was empty before
 abbrev pub Stands : Type 0 → Option (List ℕ) → Bool → Answer → Result Outcome Stop → Type 0
 Stands fresh out failed (prints outcome text) ended =
     ((ended ≡ Ok outcome) × (fresh → out ≡ Some text)) ⊎ FrontStands text fresh out ended
 Stands fresh out failed (stops stop) ended = (ended ≡ Err stop) × (failed ≡ false) × (fresh → out ≡ Some [])
 
--- what the program does before it reports how it ended
+-- what the program does until it reports how it ended
 abbrev pub Runs : List (List ℕ) → (List ℕ → Standing) → Option (List FileEvent) → Option (List FileEvent) → SourceUse
     → Type 0 → Option (List ℕ) → Bool → Result Outcome Stop → Type 0
 Runs words standing log log' input fresh out failed ended =
     Delivers (ComesTo words standing log log' input) (Stands fresh out failed) failed ended
 
--- and how it ends: a failed write to the error output does not change its status
+-- all that the program does, up to its exit status; a failed write to the error output does not change the status
 pub record Ends (words : List (List ℕ)) (standing : List ℕ → Standing) (log log' : Option (List FileEvent))
     (input : SourceUse) (fresh : Type 0) (out : Option (List ℕ)) (failed : Bool) (errors errors' : Option (List ℕ))
     (errors_failed : Bool) (status : ℕ) : Type 0 where

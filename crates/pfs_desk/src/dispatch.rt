@@ -1,4 +1,4 @@
-//! Which job runs: the files that it names are opened, and its engine runs.
+//! Runs a job: opens the files that it names, calls its engine and closes the files.
 ghost use Rattle.std.specs.Prelude.{◌≡◌, false, IfOk, IfErr};
 ghost use Rattle.pfs_base.specs.declared.limits.TheConstants.{MOST_BLOCKS};
 ghost use Rattle.pfs_words.specs.Jobs.{AreOptions, IsFrom1To, IsWithinLimits};
@@ -21,7 +21,10 @@ use pfs_layout::Layout;
 use pfs_words::{Job, PathText, SolveOptions};
 use std::alloc::Global;
 
-/// Opens the files that a job names, and runs it. All are opened before one is read.
+/// Opens the files that a job names, runs it and closes them. All are opened before one is read. `input` is standard
+/// input, and the job's text is written to `writer`.
+///
+/// The error is `Open` if a file can't be opened, and else the fault of an allocation or of the job.
 pub fn run_job<F: Files, R: Source, W: Sink>(
     alloc: Global,
     job: &Job,
@@ -76,14 +79,14 @@ pub fn run_job<F: Files, R: Source, W: Sink>(
     }
 }
 
-// What an engine answers, as the program ends with it.
+// Returns an engine's result as the program's.
 fn ending(answer: Result<Outcome, DeskFault>) -> Result<Outcome, Stop>
     ensures { result ≡ ending_of answer }
 {
     answer.map_err(Stop::Fault)
 }
 
-// Prints the value of a file, or where none is named that of what standard input gives.
+// Prints the makespan of the jobs in the order of their numbers, for a file, or for standard input if there is no path.
 fn print_value<F: Files, R: Source, W: Sink>(
     alloc: Global,
     files: &mut F,
@@ -138,7 +141,7 @@ fn print_order<F: Files, W: Sink>(
     ending(answer)
 }
 
-// Opens two files, one after the other. Where the second can't be opened, the first is closed unread.
+// Opens two files, one after the other. If the second can't be opened, the first is closed unread.
 fn open_both<F: Files>(
     files: &mut F,
     path: &PathText,

@@ -1,6 +1,6 @@
-//! What each command does: it reads, computes all that it prints, and only then writes. So the faults come
-//! in this order: the instance file's, the order file's or the take's, want of memory elsewhere, and a failed
-//! write.
+//! The engine of each command reads its files, computes all that it prints, and only then writes. So the first
+//! of these faults is reported: one of the instance file, one of the order file or of the destruction size,
+//! a failed allocation elsewhere, a failed write.
 
 pub mod check;
 pub mod convert;

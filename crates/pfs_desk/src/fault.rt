@@ -1,4 +1,4 @@
-//! How a command ends: its outcome, or the fault that it tells, in one line and by its exit status.
+//! How a command ends: its outcome, or a fault, which is reported in one line and by the exit status.
 ghost use Rattle.std.specs.Prelude.{◌≡◌, ◌<◌, false, length, codes};
 ghost use Rattle.pfs_base.specs.Sends.{Sends, Prints};
 ghost use Rattle.pfs_base.specs.Text.{number_between};
@@ -14,31 +14,33 @@ use pfs_order::OrderFault;
 use pfs_search::SearchFault;
 use thiserror::Error;
 
-/// How a command that met no fault ended.
+/// How a command ended that reports no fault.
 #[derive(Clone, Copy, Debug, PartialEq, Eq)]
 pub enum Outcome {
-    /// It printed what was asked for.
+    /// It printed its whole result.
     Done,
-    /// It printed that the order file doesn't fit the instance.
+    /// It printed why the order file doesn't fit the instance: its size, its number of machines or its makespan is
+    /// wrong.
     CheckFailed,
 }
 
-/// Why a command could not do what was asked for.
+/// Why a command has no result, or could not write it.
 #[derive(Clone, Copy, Debug, PartialEq, Eq, Error)]
 pub enum DeskFault {
-    /// The instance file is refused, or could not be read, or memory for its instance was refused.
+    /// The instance file is rejected or a read of it failed, a generator's seed is out of range, or an allocation
+    /// for the instance failed.
     #[error("Layout")]
     Layout(LayoutFault),
-    /// The order file is refused, or could not be read, or memory for it was refused.
+    /// The order file is rejected, a read of it failed, or an allocation for it failed.
     #[error("Order")]
     Order(OrderFault),
-    /// More jobs were to be taken out in each round than the instance has.
+    /// The stated destruction size, `take`, is above the instance's number of jobs.
     #[error("TakeRange")]
     TakeRange { take: usize, jobs: usize },
     /// A write of the output failed.
     #[error("Write")]
     Write(WriteFault),
-    /// Memory was refused once all files were read.
+    /// An allocation failed after all files were read, or before a file was read.
     #[error("Memory")]
     Memory,
 }
@@ -83,8 +85,8 @@ impl From<AuditFault> for DeskFault {
     }
 }
 
-/// The exit status of the program for a fault: 2 where a file is refused, 3 where more jobs are to be taken
-/// out than there are, and 4 where a read, a write or memory failed.
+/// Returns the exit status of the program for a fault: 2 if a file or a seed is rejected, 3 if the destruction
+/// size is above the number of jobs, and 4 if a read, a write or an allocation failed.
 pub fn status(fault: &DeskFault) -> u8
     ensures { result ≡ status_of fault.now }
 {
@@ -126,7 +128,7 @@ fn order_status(fault: &OrderFault) -> u8
     }
 }
 
-/// Writes the line that tells a fault. It takes no memory.
+/// Writes the line that reports a fault. It allocates no memory, and its only error is a failed write.
 pub fn write_fault<W: Sink>(writer: &mut W, fault: &DeskFault) -> Result<(), WriteFault>
     requires { W.has_failed writer.old ≡ false }
     ensures { Prints (W.written writer.old) (W.written writer.new) (W.has_failed writer.new)
@@ -183,7 +185,7 @@ fn put_layout_fault<W: Sink>(writer: &mut W, fault: &LayoutFault) -> Result<u64,
     }
 }
 
-// Writes what is wrong with a size line.
+// Writes the line for a fault of a size line. `wrong` is the text after the line's number.
 fn put_size_fault<W: Sink>(writer: &mut W, line: usize, wrong: &[u8]) -> Result<u64, WriteFault>
     requires working { W.has_failed writer.old ≡ false }
     requires short { length wrong.now < 100 }

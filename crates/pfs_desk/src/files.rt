@@ -8,23 +8,23 @@ use pfs_words::PathText;
 /// Why a file was not opened.
 #[derive(Clone, Copy, Debug, PartialEq, Eq)]
 pub enum OpenFault {
-    /// It can't be opened.
+    /// The file can't be opened.
     Closed,
     /// Memory allocation failed.
     Memory,
 }
 
-/// Opens files for reading, and closes them. Contracts see, where they are known, what is at each path, and the log of
-/// what was done with files, in order.
+/// Opens files for reading, and closes them. Contracts see two things, as far as they are known: what is at each path,
+/// and the log of what was done with files, in order.
 pub trait Files {
-    /// A file that is open.
+    /// An open file.
     type File: Source + Drop;
 
     ghost standing: { Self → List ℕ → Standing };
 
     ghost log: { Self → Option (List FileEvent) };
 
-    /// Opens the file at a path.
+    /// Opens the file at a path. No byte of it has been read.
     fn open(&mut self, path: &PathText) -> Result<Self::File, OpenFault>
         ensures log { Logs (log self.old) (log self.new) (open_event path.now result ∷ []) }
         ensures kept { standing self.new ≡ standing self.old }

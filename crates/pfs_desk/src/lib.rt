@@ -1,4 +1,4 @@
-//! The desk: what each command reads, computes and prints, and the faults that it can end in.
+//! The commands: what each reads, computes and prints, and the faults that it reports.
 #![tactic(auto)]
 
 mod dispatch;

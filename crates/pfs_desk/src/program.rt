@@ -1,4 +1,4 @@
-//! The whole program, from the words of its command line to its exit status.
+//! The whole program, from the arguments of its command line to its exit status.
 ghost use Rattle.std.specs.Prelude.{◌≡◌, false, map, string_bytes};
 ghost use Rattle.std.specs.Io.KnownBytes.{Keeps};
 ghost use Rattle.pfs_base.specs.Buffer.{IsNew, bytes_given};
@@ -15,8 +15,8 @@ use pfs_base::{Buffered, Sink, Source, WriteFault};
 use pfs_words::plan;
 use std::alloc::Global;
 
-/// Runs the program on the words of its command line, without its name, and answers its exit status. What it prints
-/// goes to the output, through a buffer, and why it stops to the error output.
+/// Runs the program and returns its exit status. `words` are the arguments of its command line, without the program's
+/// name. The result is written to `output` through a buffer, and why the program stops to `errors`.
 pub fn run_program<F: Files, R: Source, W: Sink, E: Sink>(
     alloc: Global,
     words: &[String],
@@ -38,7 +38,7 @@ pub fn run_program<F: Files, R: Source, W: Sink, E: Sink>(
     finish(errors, &ended)
 }
 
-// Runs the program up to its end.
+// Runs the program until it has an outcome or stops, and writes its output.
 fn run<F: Files, R: Source, W: Sink>(
     alloc: Global,
     words: &[String],
@@ -58,8 +58,8 @@ fn run<F: Files, R: Source, W: Sink>(
     let_out(output, answer)
 }
 
-// The answer, once the rest of the output has gone out. Where a write failed none is tried again, and the
-// fault says how many bytes went out.
+// Writes what is left in the buffer, and returns how the program ends. After a failed write no write is tried
+// again, and the fault has the number of bytes that were written.
 fn let_out<W: Sink>(
     output: &mut Buffered<W>,
     answer: Result<Outcome, Stop>,

@@ -1,4 +1,4 @@
-//! How the program ends: what it tells on the error output, and its exit status.
+//! How the program ends: what it writes to the error output, and its exit status.
 ghost use Rattle.std.specs.Prelude.{◌≡◌, false};
 ghost use Rattle.pfs_base.specs.Sends.{Prints};
 ghost use Rattle.pfs_desk.specs.ProgramText.{Tells, exit_status_of, open_stop, stop_status_of, stop_text, usage_stop};
@@ -17,14 +17,14 @@ pfs convert --from L --to L [--block K] FILE
 pfs generate N M SEED
 ";
 
-/// Why the program ends without what was asked for.
+/// Why the program stops without its whole result.
 #[derive(Clone, Copy, Debug, PartialEq, Eq)]
 pub enum Stop {
-    /// Its words ask for nothing.
+    /// The arguments are invalid.
     Usage,
     /// A file can't be opened.
     Open,
-    /// The fault of what was asked for, or want of memory before it ran.
+    /// The fault of the job, or a failed allocation before the job ran.
     Fault(DeskFault),
 }
 
@@ -50,8 +50,8 @@ impl From<OpenFault> for Stop {
     }
 }
 
-/// Tells on the error output why the program stopped, if it did, and answers its exit status. Where the error
-/// output fails, nothing more is told, and the status is the same.
+/// Writes to the error output why the program stopped, if it did, and returns the exit status. If a write to the
+/// error output fails, no more is written, and the status is the same.
 pub fn finish<E: Sink>(errors: &mut E, answer: &Result<Outcome, Stop>) -> u8
     requires { E.has_failed errors.old ≡ false }
     ensures told { Tells answer.now (E.written errors.old) (E.written errors.new) (E.has_failed errors.new) }

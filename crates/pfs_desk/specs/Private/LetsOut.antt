@@ -1,4 +1,4 @@
--- How the program opens two files, and how it ends once its output was flushed.
+-- How the program opens two files, and how it ends after its output was flushed.
 use Rattle.std.specs.Prelude.{◌≡◌, ℕ, false, List, [], ◌∷◌, Option, Result, Ok, Err, ◌⊎◌}
 use Rattle.pfs_base.specs.declared.device.WriteFault.{WriteFault}
 use Rattle.pfs_desk.specs.declared.fault.DeskFault.{DeskFault}
@@ -9,20 +9,20 @@ use Rattle.pfs_desk.specs.declared.stop.Stop.TheVariants.{Fault}
 use Rattle.pfs_desk.specs.declared.files.OpenFault.{OpenFault}
 use Rattle.pfs_desk.specs.Standing.{Standing, MayOpen, MayRefuse, FileEvent, opened, refused, closed, Logs}
 
--- both were opened
+-- both files were opened, one after the other
 pub record OpensBoth (standing : List ℕ → Standing) (log log' : Option (List FileEvent)) (path order_path : List ℕ)
     (file orders : Option (List ℕ)) : Type 0 where
   pub give : MayOpen (standing path) file
   pub give_orders : MayOpen (standing order_path) orders
   pub events : Logs log log' (opened path ∷ opened order_path ∷ [])
 
--- the first was not opened
+-- the first path could not be opened
 pub record RefusesFirstPath (standing : List ℕ → Standing) (log log' : Option (List FileEvent)) (path : List ℕ)
     (fault : OpenFault) : Type 0 where
   pub may_refuse : MayRefuse (standing path) fault
   pub events : Logs log log' (refused path fault ∷ [])
 
--- the second was not opened, and the first was closed unread
+-- the second path could not be opened, and the first file was closed unread
 pub record RefusesSecondPath (standing : List ℕ → Standing) (log log' : Option (List FileEvent))
     (path order_path : List ℕ) (fault : OpenFault) : Type 0 where
   pub file : Option (List ℕ)
@@ -30,12 +30,13 @@ pub record RefusesSecondPath (standing : List ℕ → Standing) (log log' : Opti
   pub may_refuse : MayRefuse (standing order_path) fault
   pub events : Logs log log' (opened path ∷ refused order_path fault ∷ closed file false false ∷ [])
 
+-- one of the two paths could not be opened
 abbrev pub RefusesOne : (List ℕ → Standing) → Option (List FileEvent) → Option (List FileEvent) → List ℕ → List ℕ
     → OpenFault → Type 0
 RefusesOne standing log log' path order_path fault = RefusesFirstPath standing log log' path fault
     ⊎ RefusesSecondPath standing log log' path order_path fault
 
--- what an engine returns, as the program ends with it
+-- the result of an engine as the program's
 abbrev pub ending : Result Outcome DeskFault → Result Outcome Stop
 ending (Ok outcome) = Ok outcome
 ending (Err fault) = Err (Fault fault)
@@ -46,7 +47,8 @@ pub record TellsSent (sent : ℕ) (ended : Result Outcome Stop) : Type 0 where
   pub told : ended ≡ Err (Fault (faults.Write fault))
   pub counted : fault.written ≡ sent
 
--- after an outcome no byte is buffered, and the fault of a write has the number of bytes that were written
+-- how the program ends, by the engine's result: if it ends with an outcome, then no byte is left in the buffer; if a
+-- write failed, then the fault has the number of bytes that were written; each other stop is kept
 abbrev pub EndsOutput : Result Outcome Stop → List ℕ → ℕ → Result Outcome Stop → Type 0
 EndsOutput (Ok outcome) held sent ended = ((ended ≡ Ok outcome) × (held ≡ [])) ⊎ TellsSent sent ended
 EndsOutput (Err (Fault (faults.Write before))) held sent ended = TellsSent sent ended

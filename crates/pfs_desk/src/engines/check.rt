@@ -1,4 +1,4 @@
-//! The verdict on an order file.
+//! `check`: the verdict on an order file.
 ghost use Rattle.std.specs.Prelude.{◌≡◌, ◌+◌, ◌<◌, ◌≤◌, false, length, IfOk, IfErr};
 ghost use Rattle.pfs_base.specs.Sends.{Sends};
 ghost use Rattle.pfs_desk.specs.Engine.{WritesOutput, CheckOutput, IsAuditFault, ReadsBlock, ReadsOrder};
@@ -14,7 +14,11 @@ use pfs_order::read_order;
 use std::alloc::Global;
 
 /// Reads a block of an instance file and then an order file, and prints the verdict on the order. Blocks
-/// count from 1.
+/// count from 1. The outcome is `CheckFailed` if the order's size, or the number of machines or the makespan that
+/// the file states, is wrong.
+///
+/// The errors come in this order: a fault of the instance file, a fault of the order file, a failed allocation,
+/// a failed write.
 pub fn run_check<R: Source, O: Source, W: Sink>(
     alloc: Global,
     reader: &mut R,
@@ -46,7 +50,7 @@ pub fn run_check<R: Source, O: Source, W: Sink>(
     Ok(outcome_on(verdict))
 }
 
-// How a check with this verdict ends.
+// Returns how a check with this verdict ends.
 fn outcome_on(verdict: Verdict) -> Outcome
     ensures { result ≡ outcome_of verdict }
 {
@@ -57,7 +61,7 @@ fn outcome_on(verdict: Verdict) -> Outcome
     }
 }
 
-/// Writes a verdict.
+/// Writes the lines of a verdict, and returns the number of their bytes.
 pub(super) fn put_verdict<W: Sink>(writer: &mut W, verdict: Verdict) -> Result<u64, WriteFault>
     requires { W.has_failed writer.old ≡ false }
     ensures { Sends (W.written writer.old) (W.written writer.new) (W.has_failed writer.new)
@@ -105,7 +109,7 @@ fn put_valid<W: Sink>(writer: &mut W, makespan: u64, bound: u64) -> Result<u64, 
     }
 }
 
-// Writes a title, and two numbers by their names.
+// Writes three lines: a title, and two numbers, each after its name.
 fn put_finding<W: Sink>(
     writer: &mut W,
     title: &[u8],

@@ -1,4 +1,4 @@
-//! A block of an instance file, written in another layout.
+//! `convert`: a block of an instance file, written in another layout.
 ghost use Rattle.std.specs.Prelude.{◌≡◌, ◌≢◌, ◌≤◌, false, IfErr};
 ghost use Rattle.pfs_desk.specs.Engine.{WritesOutput, ConvertOutput, IsConvertFault, ReadsBlock, layout_fault_of};
 ghost use Rattle.pfs_desk.specs.Engine.{source_use};
@@ -8,9 +8,11 @@ use pfs_base::{MOST_BLOCKS, Sink, Source};
 use pfs_layout::{Layout, read_block, write_block};
 use std::alloc::Global;
 
-/// Reads a block of an instance file in the source layout, and writes it as a file of its own in the target
-/// layout. Blocks count from 1. The OR-Library's layout has no notes: they are lost on the way there, and
-/// are zeros on the way back.
+/// Reads a block of an instance file in the source layout, and writes it as a file with one block in the target
+/// layout. Blocks count from 1. The OR-Library's layout has no notes: a conversion to it loses them, and a
+/// conversion from it writes zeros.
+///
+/// The error is a fault of the instance file or a failed write.
 pub fn run_convert<R: Source, W: Sink>(
     alloc: Global,
     reader: &mut R,

@@ -1,4 +1,4 @@
-//! An instance that is drawn.
+//! `generate`: an instance that is drawn from a seed.
 ghost use Rattle.std.specs.Prelude.{◌≡◌, ◌≤◌, ◌↔◌, false, IfErr};
 ghost use Rattle.pfs_base.specs.declared.limits.TheConstants.{MOST_JOBS, MOST_MACHINES};
 ghost use Rattle.pfs_layout.specs.Generator.{IsSeed};
@@ -9,8 +9,10 @@ use pfs_base::Sink;
 use pfs_layout::{Layout, LayoutFault, generate, write_block};
 use std::alloc::Global;
 
-/// Draws an instance from a seed by Taillard's generator, and writes it in Taillard's layout. A seed out of
-/// range is refused before any memory is asked for.
+/// Draws an instance from a seed by Taillard's generator (1993), and writes it in Taillard's layout.
+///
+/// A seed out of range is rejected before any memory is allocated. The other errors are a failed allocation of
+/// the times and a failed write.
 pub fn run_generate<W: Sink>(
     alloc: Global,
     jobs: usize,

@@ -1,4 +1,4 @@
-//! The order that a search finds.
+//! `solve`: the order that a search finds.
 ghost use Rattle.std.specs.Prelude.{◌≡◌, ◌<◌, ◌≤◌, ◌^◌, false, IfSome, IfOk, IfErr};
 ghost use Rattle.pfs_base.specs.Sends.{Sends};
 ghost use Rattle.pfs_desk.specs.Engine.{WritesOutput, SolveOutput, IsSolveFault, ReadsBlock, layout_fault_of};
@@ -16,11 +16,14 @@ use pfs_search::{Solution, solve};
 use pfs_words::{DEFAULT_TAKE, SolveOptions};
 use std::alloc::Global;
 
-/// Reads a block of an instance file, and prints as an order file of version 2 what a search finds: NEH's order (Nawaz,
-/// Enscore, Ham 1983), followed by rounds of iterated greedy (Ruiz, Stützle 2007), by heads and tails
-/// (Taillard 1990). Where the count is asked for, it is one line more. Blocks count from 1. A take that is
-/// asked for is judged once the block is read, also where there are no rounds, and before more memory is
-/// asked for.
+/// Reads a block of an instance file, and prints what a search finds as an order file of version 2. The search is NEH
+/// (Nawaz, Enscore, Ham 1983), followed by rounds of iterated greedy (Ruiz, Stützle 2007), with heads and tails
+/// (Taillard 1990). If `options.cells` is set, one more line has the number of computed table cells. Blocks count
+/// from 1.
+///
+/// The errors come in this order: a fault of the instance file, a stated destruction size above the number of
+/// jobs, a failed allocation, a failed write. The destruction size is validated even if there are no rounds,
+/// after the block is read and before more memory is allocated.
 pub fn run_solve<R: Source, W: Sink>(
     alloc: Global,
     reader: &mut R,
@@ -53,7 +56,8 @@ pub fn run_solve<R: Source, W: Sink>(
     Ok(Outcome::Done)
 }
 
-// How many jobs each round takes out of so many.
+// Returns the destruction size for this number of jobs: the stated one if there is one, else the default, or all
+// jobs if there are fewer. A stated one above the number of jobs is an error.
 fn take_for(asked: Option<usize>, jobs: usize) -> Result<usize, DeskFault>
     ensures take { IfOk result (λ take. take ≡ take_of asked jobs) }
     ensures few { IfOk result (λ take. take ≤ jobs) }
@@ -66,8 +70,8 @@ fn take_for(asked: Option<usize>, jobs: usize) -> Result<usize, DeskFault>
     }
 }
 
-// Writes an order and its makespan as an order file that states the machines too, and behind it, where that is
-// asked for, the count.
+// Writes an order file with the order, the number of machines and the makespan, and after it, if `with_cells` is
+// set, the line with the number of cells.
 fn put_solution<W: Sink>(
     writer: &mut W,
     machines: usize,
@@ -81,7 +85,7 @@ fn put_solution<W: Sink>(
     ensures { Sends (W.written writer.old) (W.written writer.new) (W.has_failed writer.new)
         0 (solution_text solution.now.order machines solution.now.makespan with_cells solution.now.cells) result }
 {
-    // Called for what it says of an order: how many jobs it has at most, each once.
+    // Called for its contract: an order has each job at most once, and not more jobs than the limit.
     let _jobs = solution.order.len();
     let sent = write_order(writer, &solution.order, Some(machines), solution.makespan)?;
     if with_cells {

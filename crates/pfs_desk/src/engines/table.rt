@@ -1,4 +1,4 @@
-//! The time table of an order.
+//! `table`: the time table of an order.
 ghost use Rattle.std.specs.Prelude.{◌≡◌, ◌+◌, ◌*◌, ◌<◌, ◌≤◌, ◌^◌, false, length, IfOk, IfErr};
 ghost use Rattle.pfs_base.specs.Sends.{Sends};
 ghost use Rattle.pfs_desk.specs.Engine.{WritesOutput, TableOutput, IsAuditFault, ReadsBlock, ReadsOrder};
@@ -16,9 +16,12 @@ use pfs_order::read_order;
 use std::alloc::Global;
 
 /// Reads a block of an instance file and then an order file, and prints when each operation of the order
-/// starts and ends, each as early as it can. Blocks count from 1. The size of the order is judged first, then
-/// the number of machines where the order file states one, before the memory of the table is asked for. The
-/// makespan that it states isn't looked at.
+/// starts and ends, each as early as it can. Blocks count from 1. Before the table is allocated, the size of the
+/// order is compared with the instance, and then the number of machines if the order file states one; if one is
+/// wrong, the outcome is `CheckFailed`. The stated makespan isn't compared.
+///
+/// The errors come in this order: a fault of the instance file, a fault of the order file, a failed allocation,
+/// a failed write.
 pub fn run_table<R: Source, O: Source, W: Sink>(
     alloc: Global,
     reader: &mut R,
@@ -76,7 +79,7 @@ fn put_table<W: Sink>(writer: &mut W, table: &TimeTable) -> Result<u64, WriteFau
     put_named(writer, b"makespan", table.makespan(), sent)
 }
 
-// Writes the line of the sizes.
+// Writes the line of the sizes: the numbers of rows and machines.
 #[tactic(auto, unfolding(crate::specs::OutputText::sizes_text))]
 fn put_sizes<W: Sink>(writer: &mut W, table: &TimeTable) -> Result<u64, WriteFault>
     requires { W.has_failed writer.old ≡ false }
@@ -90,7 +93,7 @@ fn put_sizes<W: Sink>(writer: &mut W, table: &TimeTable) -> Result<u64, WriteFau
     put(writer, b"\n", sent)
 }
 
-// Writes the line of a row.
+// Writes the line of a row, before which `start` bytes were sent. Returns how many were sent after it.
 fn put_row<W: Sink>(
     writer: &mut W,
     table: &TimeTable,

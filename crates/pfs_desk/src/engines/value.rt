@@ -1,4 +1,4 @@
-//! The makespan of an instance's jobs in the order of their numbers.
+//! `value`: the makespan of an instance's jobs in the order of their numbers.
 ghost use Rattle.std.specs.Prelude.{◌≡◌, ◌≤◌, false, IfOk, IfErr};
 ghost use Rattle.pfs_base.specs.Paths.{makespan};
 ghost use Rattle.pfs_order.specs.Sequence.{all_jobs};
@@ -15,6 +15,8 @@ use std::alloc::Global;
 
 /// Reads a block of an instance file, and prints the makespan of its jobs in the order of their numbers.
 /// Blocks count from 1.
+///
+/// The errors come in this order: a fault of the instance file, a failed allocation, a failed write.
 pub fn run_value<R: Source, W: Sink>(
     alloc: Global,
     reader: &mut R,
@@ -39,7 +41,7 @@ pub fn run_value<R: Source, W: Sink>(
     Ok(Outcome::Done)
 }
 
-// The makespan of the jobs in the order of their numbers.
+// Returns the makespan of the jobs in the order of their numbers, or an error if an allocation fails.
 fn value_of(alloc: Global, instance: &Instance) -> Result<u64, DeskFault>
     ensures value { IfOk result (λ value.
         value ≡ makespan instance.now.shop (all_jobs instance.now.shop.jobs)) }
