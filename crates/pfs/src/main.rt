@@ -1,4 +1,4 @@
-//! The command `pfs`: it gathers its words, and hands the streams and the files to the program.
+//! The command `pfs`: it collects its arguments and runs the program with the streams and the files of the system.
 #![tactic(auto)]
 
 ghost use Rattle.std.specs.Prelude.{None};
@@ -11,7 +11,7 @@ use std::io::ErrorKind;
 use std::process::ExitCode;
 use std::{env, io};
 
-/// The files of the system. Contracts see nothing of them.
+/// The files of the system. Contracts state nothing about what they contain.
 #[derive(Drop)]
 struct SystemFiles<'a> {
     rt: &'a HostRuntime,
@@ -43,7 +43,7 @@ fn main(rt: HostRuntime) -> ExitCode {
     ExitCode::from(status)
 }
 
-// Hands the files and the streams of the system to the program.
+// Runs the program on these arguments, with the files and the streams of the system.
 fn run_words(rt: &HostRuntime, words: &[String]) -> u8 {
     let mut files = SystemFiles { rt };
     let mut input = FromRead::new(rt.reader());
@@ -59,7 +59,7 @@ fn run_words(rt: &HostRuntime, words: &[String]) -> u8 {
     )
 }
 
-// The words behind the program's name. Words that aren't UTF-8 ask for nothing.
+// Returns the arguments after the program's name. Arguments that aren't UTF-8 are invalid.
 fn words_of(rt: &HostRuntime) -> Result<Vec<String>, UsageFault> {
     let args = match env::args(rt) {
         Ok(args) => args,
@@ -75,7 +75,7 @@ fn words_of(rt: &HostRuntime) -> Result<Vec<String>, UsageFault> {
     Ok(words)
 }
 
-// Memory was refused.
+// Returns whether an allocation failed.
 fn wants_memory(error: &io::Error) -> bool {
     matches!(error.kind(), ErrorKind::OutOfMemory)
 }
