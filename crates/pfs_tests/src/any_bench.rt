@@ -1,11 +1,11 @@
-//! A function over any bench. `tests/test_bench.py` has others, which compute with times beside the bench and
+//! A function over any bench. `tests/test_bench.py` has others, which compute with times without the bench and
 //! must not compile.
 ghost use Rattle.std.specs.Prelude.{◌≡◌, ◌+◌, ◌<◌, ◌≤◌, ◌^◌, max};
 ghost use Rattle.pfs_base.specs.FlowShop.{time_of};
 
 use pfs_base::{Bench, SPAN_MAX};
 
-/// The greater of two lengths, plus a time.
+/// Returns the greater of two lengths, plus the time of a job on a machine. The bench counts one cell.
 pub fn sum<B: Bench>(bench: &mut B, job: usize, machine: usize, a: B::Span, b: B::Span) -> B::Span
     requires job { job < (B.shop bench.old).jobs }
     requires machine { machine < (B.shop bench.old).machines }

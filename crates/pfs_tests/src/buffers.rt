@@ -1,4 +1,4 @@
-//! A buffer in front of sinks that are short, or fail at each call in turn.
+//! A buffer whose sink takes few bytes a call, or fails at one of its calls, each in turn.
 use crate::failing::CALLS;
 use crate::fakes::{Lengths, Taken};
 use pfs_base::{Buffered, Sink, WriteFault, put};

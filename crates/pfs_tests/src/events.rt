@@ -7,8 +7,9 @@ use pfs_desk::OpenFault;
 pub enum Event<'a> {
     /// The file at this path was opened.
     Opened(Vec<u8>),
-    /// The file at this path was not opened.
+    /// The file at this path could not be opened.
     Refused(Vec<u8>, OpenFault),
-    /// A file was closed, of which these bytes were left. A read of it had failed, or had reported its end.
+    /// A file was closed: the bytes that were left to read, whether a read of it had failed, and whether a read had
+    /// reported its end.
     Closed(&'a [u8], bool, bool),
 }

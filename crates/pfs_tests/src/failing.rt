@@ -1,5 +1,5 @@
-//! Devices that fail at each call in turn, up to the last that is made and behind it: none is made again, and none
-//! behind a failure or the end.
+//! Devices that fail at one of their calls: each call in turn, up to the last that is made, and a later one, which
+//! is never reached. No call is repeated, and none follows a failure or the end.
 use crate::fakes::{Broken, Pieces, Taken};
 use crate::texts::{BY_JOB, BY_MACHINE, ORDER, ORDER2};
 use pfs_base::{FromRead, ToWrite, WriteFault, put};
@@ -10,12 +10,13 @@ use std::io::{ErrorKind, Read};
 use std::process::Abort;
 use std::test::Fail;
 
-/// More calls than any of these texts takes, a byte a call.
+/// More calls than any of these texts needs at one byte a call.
 pub const CALLS: u64 = 150;
 
 const VALUE: &[u8] = b"makespan 11\n";
 
-/// Files, how many bytes of them are given a call, the call that shows the answer, and the fault.
+/// For each instance file: its text, how many bytes a call returns at most, the number of the call after which the
+/// result is known, and the fault.
 const FILES: [(&[u8], usize, u64, Option<LayoutFault>); 7] = [
     (BY_MACHINE, 1, 121, None),
     (BY_MACHINE, 16, 8, None),
@@ -53,7 +54,7 @@ fn a_failed_read_is_no_end(rt: HostRuntime) {
     }
 }
 
-/// Order files, how many bytes of them are given a call, the call that shows the answer, and the fault.
+/// The same for order files.
 const ORDER_FILES: [(&[u8], usize, u64, Option<OrderFault>); 9] = [
     (ORDER, 1, 27, None),
     (ORDER, 10, 4, None),
@@ -104,7 +105,7 @@ fn read_order_reads_no_further_than_too_long_a_file(rt: HostRuntime) -> Result<(
     Ok(())
 }
 
-/// Checks what a sink that fails at this call has taken of a text, and what was told.
+/// Asserts that a sink that fails at this call has the text or a prefix of it, as the fault says.
 pub fn assert_taken(
     rt: &impl Abort,
     writer: &Taken,

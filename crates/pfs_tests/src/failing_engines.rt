@@ -1,5 +1,5 @@
-//! Engines whose devices are short, or fail at each call in turn, up to the last that is made and behind it: none is
-//! made again, and none behind a failure or the end.
+//! Engines whose devices move few bytes a call, or fail at one of their calls: each call in turn, up to the last that
+//! is made, and a later one, which is never reached. No call is repeated, and none follows a failure or the end.
 ghost use Rattle.std.specs.Prelude.{◌≡◌, false};
 
 use crate::failing::{CALLS, assert_taken};
@@ -16,7 +16,7 @@ use std::alloc::Global;
 use std::io::{ErrorKind, Read};
 use std::process::Abort;
 
-/// The engines, each of which reads the three-job instance in Taillard's layout, but for `Generate`.
+/// The engines. Each reads the instance of three jobs in Taillard's layout, except `Generate`, which reads nothing.
 #[derive(Clone, Copy, Debug)]
 enum Engine {
     Value,
@@ -45,13 +45,13 @@ const READING: [Engine; 5] = [
     Engine::Convert,
 ];
 
-/// The engines that read an order too.
+/// The engines that also read an order file.
 const READING_ORDERS: [Engine; 2] = [Engine::Check, Engine::Table];
 
-/// How many bytes of `BY_MACHINE` are given a call, and how many calls it takes to its end.
+/// How many bytes of `BY_MACHINE` a call returns at most, and how many calls read all of it.
 const READS: [(usize, u64); 3] = [(1, 121), (16, 8), (121, 1)];
 
-/// Order files, how many bytes of them are given a call, and how many calls it takes to see that nothing is behind.
+/// Order files, how many bytes a call returns at most, and how many calls read all of them and report the end.
 const ORDER_READS: [(&[u8], usize, u64); 6] = [
     (ORDER, 1, 27),
     (ORDER, 10, 4),
@@ -62,7 +62,7 @@ const ORDER_READS: [(&[u8], usize, u64); 6] = [
 ];
 
 impl Engine {
-    // Runs this engine on what it reads of these.
+    // Runs this engine, which reads what it needs of `reader` and `orders`.
     fn run<R: Source, O: Source, W: Sink>(
         self,
         alloc: Global,
@@ -85,7 +85,7 @@ impl Engine {
         }
     }
 
-    // What this engine prints of the three-job instance and its order in either version.
+    // Returns what this engine prints for the instance of three jobs and its order file, in either version.
     fn text(self) -> &'static [u8] {
         match self {
             Engine::Value => b"makespan 11\n",
@@ -97,7 +97,7 @@ impl Engine {
         }
     }
 
-    // How often it reads its files, where these are the calls up to the end of an instance and of an order.
+    // Returns how often this engine reads each file, given how many calls read an instance and how many an order file.
     fn reads(self, instance: u64, order: u64) -> (u64, u64) {
         match self {
             Engine::Value | Engine::Solve | Engine::Convert => (instance, 0),
@@ -107,7 +107,7 @@ impl Engine {
     }
 }
 
-// Runs `solve` by NEH alone.
+// Runs `solve` with NEH alone, without rounds.
 fn run_neh<R: Source, W: Sink>(
     alloc: Global,
     reader: &mut R,
@@ -126,7 +126,7 @@ fn run_neh<R: Source, W: Sink>(
     run_solve(alloc, reader, Layout::Taillard, 1, &options, writer)
 }
 
-// Checks that an engine whose reader has failed answers this, and has written nothing.
+// Asserts that an engine whose reader failed has returned this fault and written nothing.
 fn assert_unread(
     rt: &impl Abort,
     writer: &Taken,
@@ -138,7 +138,7 @@ fn assert_unread(
     assert_eq!(rt; writer.calls(), 0);
 }
 
-// Checks that an engine has printed its whole text.
+// Asserts that an engine has printed its whole text.
 fn assert_printed(
     rt: &impl Abort,
     engine: Engine,
@@ -270,7 +270,7 @@ fn convert_works_a_byte_a_call_on_a_later_block(rt: HostRuntime) {
     assert_eq!(rt; writer.bytes(), BY_MACHINE);
 }
 
-// Checks that an engine has written so many bytes of its text, and says how many.
+// Asserts that an engine has written the first `room` bytes of its text, and reports this number.
 fn assert_stopped(
     rt: &impl Abort,
     engine: Engine,

@@ -1,12 +1,12 @@
-//! Readers and writers that are short, or fail at a chosen call, and count their calls.
+//! Readers and writers that move few bytes a call, or fail at a chosen call, and count their calls.
 ghost use Rattle.std.specs.Prelude.{◌≡◌, ◌+◌, ◌<◌, ◌≤◌, false, None, Some, IfOk};
 
 use pfs_base::{Sink, Source};
 use std::io;
 use std::io::{ErrorKind, Read, Write};
 
-/// A source that gives the bytes of a text, at most so many a call, and fails at one of its calls, which
-/// count from 1.
+/// A source of the bytes of a text. It returns a limited number of bytes a call, and may fail at one of its calls,
+/// which count from 1.
 #[derive(Drop)]
 pub struct Pieces<'a> {
     rest: &'a [u8],
@@ -19,7 +19,8 @@ pub struct Pieces<'a> {
 }
 
 impl<'a> Pieces<'a> {
-    /// A source that gives at most `most` bytes a call, but not none, and fails at this call, if there is one.
+    /// Returns a source of a text, with at most `most` bytes a call, or 1 if `most` is 0. It fails at the call
+    /// `fails_at`, if that is a number.
     pub fn new(text: &'a [u8], most: usize, fails_at: Option<u64>) -> Pieces<'a>
         ensures left { ⟦<Pieces<'a> as Source>⟧.left result ≡ Some text.now }
         ensures working { ⟦<Pieces<'a> as Source>⟧.has_failed result ≡ false }
@@ -35,7 +36,7 @@ impl<'a> Pieces<'a> {
         }
     }
 
-    /// A source that gives the whole text.
+    /// Returns a source of a text without a limit for each call, which doesn't fail.
     pub fn whole(text: &'a [u8]) -> Pieces<'a>
         ensures left { ⟦<Pieces<'a> as Source>⟧.left result ≡ Some text.now }
         ensures working { ⟦<Pieces<'a> as Source>⟧.has_failed result ≡ false }
@@ -43,19 +44,19 @@ impl<'a> Pieces<'a> {
         Pieces::new(text, usize::MAX, None)
     }
 
-    /// How often it was read.
+    /// Returns how often the source was read.
     pub fn calls(&self) -> u64 {
         self.calls
     }
 
-    /// The bytes that are left.
+    /// Returns the bytes that are left to read.
     pub fn rest(&self) -> &'a [u8]
         ensures { ⟦<Pieces<'a> as Source>⟧.left self.now ≡ Some result.now }
     {
         self.rest
     }
 
-    /// Whether a read has reported the end.
+    /// Returns whether a read has reported the end.
     pub fn ended(&self) -> bool
         ensures { result ≡ ⟦<Pieces<'a> as Source>⟧.has_ended self.now }
     {
@@ -91,7 +92,7 @@ impl Source for Pieces<'_> {
     }
 }
 
-/// A source that gives one byte again and again, so many times, and then ends or fails.
+/// A source that repeats one byte a given number of times, and then ends or fails.
 #[derive(Drop)]
 pub struct Endless {
     byte: u8,
@@ -102,7 +103,7 @@ pub struct Endless {
 }
 
 impl Endless {
-    /// A source of `left` times this byte, that then fails, or ends.
+    /// Returns a source of `left` times this byte, which then fails if `fails` is set, and else ends.
     pub fn new(byte: u8, left: usize, fails: bool) -> Endless
         ensures { ⟦<Endless as Source>⟧.has_failed result ≡ false }
     {
@@ -142,8 +143,8 @@ impl Source for Endless {
     }
 }
 
-/// A sink that keeps what it takes, at most so many bytes a call, and fails once its room is full, or at one of
-/// its calls, which count from 1.
+/// A sink that keeps the bytes that it takes. It takes a limited number of bytes a call, and fails when it is full, or
+/// at one of its calls, which count from 1.
 #[derive(Drop)]
 pub struct Taken {
     bytes: [u8; 256],
@@ -157,7 +158,7 @@ pub struct Taken {
 }
 
 impl Taken {
-    /// A sink that takes at most `most` bytes a call, and `room` bytes in all, of which there are at most 256.
+    /// Returns a sink that takes at most `most` bytes a call, and in all `room` bytes, or 256 if `room` is above 256.
     pub fn new(room: usize, most: usize) -> Taken
         ensures { ⟦<Taken as Sink>⟧.has_failed result ≡ false }
     {
@@ -172,7 +173,7 @@ impl Taken {
         }
     }
 
-    /// A sink that takes at most `most` bytes a call, and fails at this call.
+    /// Returns a sink that takes at most `most` bytes a call and 256 bytes in all, and fails at this call.
     pub fn until(call: u64, most: usize) -> Taken
         ensures { ⟦<Taken as Sink>⟧.has_failed result ≡ false }
     {
@@ -181,12 +182,12 @@ impl Taken {
         taken
     }
 
-    /// What it has taken.
+    /// Returns the bytes that the sink has taken.
     pub fn bytes(&self) -> &[u8] {
         &self.bytes[..self.count]
     }
 
-    /// How often it was written to.
+    /// Returns how often the sink was written to.
     pub fn calls(&self) -> u64 {
         self.calls
     }
@@ -215,7 +216,7 @@ impl Sink for Taken {
     }
 }
 
-/// A sink that takes all that it is given, and keeps how many bytes these were, for its first four calls.
+/// A sink that takes all bytes of each call, and records their number for its first four calls.
 #[derive(Drop)]
 pub struct Lengths {
     given: [usize; 4],
@@ -223,7 +224,7 @@ pub struct Lengths {
 }
 
 impl Lengths {
-    /// A sink that was given nothing.
+    /// Returns a sink that was not called yet.
     pub fn new() -> Lengths
         ensures { ⟦<Lengths as Sink>⟧.has_failed result ≡ false }
     {
@@ -233,7 +234,7 @@ impl Lengths {
         }
     }
 
-    /// How many bytes each of the first four calls gave it, and 0 for those that were not made.
+    /// Returns how many bytes each of the first four calls wrote, or 0 for a call that was not made.
     pub fn given(&self) -> [usize; 4] {
         self.given
     }
@@ -257,8 +258,8 @@ impl Sink for Lengths {
     }
 }
 
-/// A reader and writer of std whose first call answers this error, or takes and gives no byte where there is none. All
-/// further calls work. It counts them.
+/// A reader and writer of std whose first call returns an error, or moves no byte if it has no error. All further
+/// calls succeed. It counts its calls.
 #[derive(Drop)]
 pub struct FailsOnce {
     error: Option<ErrorKind>,
@@ -266,17 +267,17 @@ pub struct FailsOnce {
 }
 
 impl FailsOnce {
-    /// A reader and writer whose first call answers this error, if there is one.
+    /// Returns a reader and writer whose first call returns this error, or moves no byte if it is `None`.
     pub fn new(error: Option<ErrorKind>) -> FailsOnce {
         FailsOnce { error, calls: 0 }
     }
 
-    /// How often it was called.
+    /// Returns how often it was called.
     pub fn calls(&self) -> u64 {
         self.calls
     }
 
-    // What a call for so many bytes answers.
+    // Counts a call for this number of bytes, and returns the call's result.
     fn answer(&mut self, bytes: usize) -> io::Result<usize>
         ensures { IfOk result (λ count. count ≤ bytes) }
     {
@@ -307,7 +308,7 @@ impl Write for FailsOnce {
     }
 }
 
-/// A reader and writer of std whose calls answer this error, or take and give no byte where there is none.
+/// A reader and writer of std whose calls all return this error, or move no byte if it is `None`.
 #[derive(Drop)]
 pub struct Broken {
     pub error: Option<ErrorKind>,

@@ -1,4 +1,4 @@
-//! Texts that are written as far as a writer takes them, some bytes at once.
+//! Texts of which a writer takes only a prefix, one byte a call or many.
 ghost use Rattle.std.specs.Prelude.{◌<◌};
 
 use crate::fakes::Taken;
@@ -10,7 +10,7 @@ use pfs_order::{Order, write_order};
 use std::process::Abort;
 use std::test::Fail;
 
-// Checks that a writer with so much room has taken the front of a text that fits, and what was told.
+// Asserts that a writer with room for `room` bytes has the text's prefix of that length, and that the fault says so.
 fn assert_front(
     rt: &impl Abort,
     writer: &Taken,

@@ -1,5 +1,5 @@
-//! Tests of instances and of devices that fail or are short, and what they and `pfs_calls` share.
-//! What the contracts say is proved and not tested again here.
+//! Tests of instances, and of devices that fail or move few bytes a call, and what these tests and `pfs_calls` share.
+//! What contracts state is proved, and not tested again here.
 #![tactic(auto)]
 
 pub mod any_bench;

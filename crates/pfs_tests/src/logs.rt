@@ -1,4 +1,4 @@
-//! The whole program over files in memory: what its log of files says, and the exit status.
+//! The whole program with files in memory: its log of files and its exit status.
 use crate::events::Event;
 use crate::fakes::{Pieces, Taken};
 use crate::memory_files::{Entry, MemoryFiles};
@@ -43,8 +43,8 @@ fn check<R: Abort>(
     Ok(status)
 }
 
-// The events of a log, each as a letter: `O` opened, `R` not opened, and of a closed file `U` where all of its bytes are
-// left, `F` where a read of it failed, `E` where one reported its end, and else `P`.
+// Writes a letter for each event of a log: `O` for an opened file and `R` for one that could not be opened; and for a
+// closed file `F` if a read of it failed, `E` if one reported its end, `U` if all of its bytes are left, and else `P`.
 fn letters<'a>(events: &[Event<'a>], letters: &mut [u8; 4]) {
     for (letter, event) in letters.iter_mut().zip(events) {
         *letter = match event {
@@ -58,7 +58,7 @@ fn letters<'a>(events: &[Event<'a>], letters: &mut [u8; 4]) {
     }
 }
 
-// The exit status of a `check` of these two paths, and the letters of its log.
+// Runs `check` of these two paths, and returns its exit status and the letters of its log.
 fn logged<R: Abort>(
     rt: &R,
     alloc: Global,

@@ -1,4 +1,4 @@
-//! Files in memory whose log is always known. For tests alone: where no memory is left for the log, they abort.
+//! Files in memory whose log is always known. They are for tests: they abort if an allocation for the log fails.
 ghost use Rattle.std.specs.Prelude.{◌≡◌, ◌++◌, ◌∷◌, [], Some, map};
 ghost use Rattle.pfs_tests.specs.MemoryFiles.{at_path, event_of};
 
@@ -17,7 +17,7 @@ pub struct Entry<'a> {
 }
 
 /// Two files in memory. Contracts see their bytes and the whole log, which shows that some `Files` meets its contract
-/// with everything known. Where a memory allocation for the log fails, the process is aborted.
+/// with everything known. The process is aborted if a memory allocation for the log fails.
 #[derive(Drop)]
 pub struct MemoryFiles<'a, R: Abort> {
     rt: &'a R,
@@ -29,7 +29,7 @@ pub struct MemoryFiles<'a, R: Abort> {
 }
 
 impl<'a, R: Abort> MemoryFiles<'a, R> {
-    /// These two files, of each of which this read fails, if any; reads count from 1.
+    /// Returns these two files. Of each opened file the read `fails_at` fails, if it is a number; reads count from 1.
     pub fn new(
         rt: &'a R,
         alloc: Global,
@@ -47,12 +47,12 @@ impl<'a, R: Abort> MemoryFiles<'a, R> {
         }
     }
 
-    /// The log.
+    /// Returns the log.
     pub fn events(&self) -> &[Event<'a>] {
         self.events.as_slice()
     }
 
-    // A copy of a path.
+    // Returns a copy of a path.
     fn copy(&self, path: &[u8]) -> Vec<u8>
         ensures { result.items ≡ path.now }
     {

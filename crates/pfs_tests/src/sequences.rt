@@ -1,4 +1,4 @@
-//! Sequences of jobs that are edited, and orders that are made of them.
+//! Edits of sequences, and orders that are made from them.
 ghost use Rattle.std.specs.Prelude.{◌≤◌};
 ghost use Rattle.pfs_base.specs.declared.limits.TheConstants.{MOST_JOBS};
 
@@ -7,7 +7,7 @@ use std::alloc::Global;
 use std::process::Abort;
 use std::test::Fail;
 
-// A sequence of these jobs.
+// Returns a sequence of these jobs, which must be different and below `size`.
 fn seq_of(rt: &impl Abort, alloc: Global, size: usize, jobs: &[usize]) -> Result<Seq, OrderFault>
     requires some { 1 ≤ size }
     requires few { size ≤ MOST_JOBS }
@@ -21,7 +21,7 @@ fn seq_of(rt: &impl Abort, alloc: Global, size: usize, jobs: &[usize]) -> Result
     Ok(seq)
 }
 
-// Asserts that the sequence has these jobs in order.
+// Asserts that the sequence has exactly these jobs, in this order.
 fn assert_jobs(rt: &impl Abort, seq: &Seq, jobs: &[usize]) {
     assert_eq!(rt; seq.len(), jobs.len());
     for place in 0..seq.len() {

@@ -1,4 +1,4 @@
-//! Shops and sequences that tests share. Times stand job by job.
+//! Shops and sequences that tests share. Lists of times are job by job.
 ghost use Rattle.std.specs.Prelude.{◌≡◌, [], ◌∷◌, IfOk};
 
 use pfs_base::{BaseFault, Instance, LONGEST_TIME, Notes};
@@ -11,8 +11,8 @@ const NOTES: Notes = Notes {
     lower: 0,
 };
 
-/// A shop with these times. `Size` is also the answer where they are fewer or more than the sizes say, or one is
-/// longer than the limit.
+/// Returns a shop with these times. The error is `Memory` if an allocation fails, and `Size` if the sizes are out of
+/// their limits, if the times are fewer or more than the sizes say, or if a time is above the limit.
 pub fn shop(
     alloc: Global,
     jobs: usize,
@@ -42,7 +42,7 @@ pub fn shop(
     }
 }
 
-/// Three jobs on two machines: 3 and 2, 2 and 5, 4 and 1.
+/// Three jobs on two machines, with the times 3 and 2, 2 and 5, 4 and 1.
 pub fn three_jobs(alloc: Global) -> Result<Instance, BaseFault>
     ensures jobs { IfOk result (λ made. made.shop.jobs ≡ 3) }
     ensures machines { IfOk result (λ made. made.shop.machines ≡ 2) }
@@ -50,7 +50,7 @@ pub fn three_jobs(alloc: Global) -> Result<Instance, BaseFault>
     shop(alloc, 3, 2, &[3, 2, 2, 5, 4, 1])
 }
 
-/// Two jobs on one machine. All orders are as long, so that a job that is taken out goes back first.
+/// Two jobs on one machine. Both orders have the same makespan, so a removed job is inserted at the first place.
 pub fn two_jobs(alloc: Global) -> Result<Instance, BaseFault>
     ensures jobs { IfOk result (λ made. made.shop.jobs ≡ 2) }
     ensures machines { IfOk result (λ made. made.shop.machines ≡ 1) }
@@ -58,7 +58,7 @@ pub fn two_jobs(alloc: Global) -> Result<Instance, BaseFault>
     shop(alloc, 2, 1, &[5, 3])
 }
 
-/// Three jobs on three machines. One order alone is shortest.
+/// Three jobs on three machines. Only one order has the least makespan.
 pub fn three_machines(alloc: Global) -> Result<Instance, BaseFault>
     ensures jobs { IfOk result (λ made. made.shop.jobs ≡ 3) }
     ensures machines { IfOk result (λ made. made.shop.machines ≡ 3) }
@@ -66,7 +66,8 @@ pub fn three_machines(alloc: Global) -> Result<Instance, BaseFault>
     shop(alloc, 3, 3, &[3, 1, 0, 3, 0, 1, 0, 6, 0])
 }
 
-/// A shop whose times a linear congruence draws, small ones, so that many places are as good as others.
+/// Returns a shop with times from 0 to 7, drawn by a linear congruential generator: they are small, so that many places
+/// are equally good.
 pub fn drawn_shop(
     alloc: Global,
     jobs: usize,
@@ -86,7 +87,7 @@ pub fn drawn_shop(
     Ok(instance)
 }
 
-/// A sequence of these of three jobs, without those that aren't among the three or stand there already.
+/// Returns a sequence of these jobs out of three; jobs that aren't below 3 or are already in it are left out.
 pub fn sequence_of(alloc: Global, jobs: &[usize]) -> Result<Seq, OrderFault> {
     let mut seq = Seq::new(alloc, 3)?;
     for job in jobs {
@@ -97,7 +98,7 @@ pub fn sequence_of(alloc: Global, jobs: &[usize]) -> Result<Seq, OrderFault> {
     Ok(seq)
 }
 
-/// The second job and then the first, of three.
+/// Returns the sequence of the second job and then the first, out of three.
 pub fn second_and_first(alloc: Global) -> Result<Seq, OrderFault>
     ensures { IfOk result (λ made. made ≡ record { size = 3; jobs = 1 ∷ 0 ∷ [] }) }
 {

@@ -1,6 +1,6 @@
 //! Files that the tests share.
 
-/// Three jobs on two machines in Taillard's layout, in 121 bytes.
+/// An instance of three jobs on two machines in Taillard's layout, 121 bytes long.
 pub const BY_MACHINE: &[u8] =
     b"number of jobs, number of machines, initial seed, upper bound and lower bound :\n\
       3 2 0 0 0\nprocessing times :\n3 2 4\n2 5 1\n";
@@ -16,5 +16,5 @@ pub const FIVE_JOBS: &[u8] =
 /// An order file of version 1.
 pub const ORDER: &[u8] = b"order 3\n2 1 3\nmakespan 10\n";
 
-/// The same order in version 2, which states the machines too.
+/// The same order in version 2, which also states the number of machines.
 pub const ORDER2: &[u8] = b"order2 3 2\n2 1 3\nmakespan 10\n";

@@ -1,4 +1,4 @@
-//! A generator whose words are known beforehand.
+//! A generator whose random words are known in advance.
 ghost use Rattle.std.specs.Prelude.{ℕ, ◌+◌, ◌%◌, ◌^◌};
 ghost use Rattle.rand_core.specs.Steps.{stream_of, steps_u32};
 
@@ -6,7 +6,7 @@ use rand_core::Rng;
 use rand_core::utils::{self, NextWord};
 use std::marker::Model;
 
-/// A generator that counts from a word on, by steps of the same width, and from 0 again behind the greatest word.
+/// A generator whose words of 32 bits increase by a fixed step, modulo 2^32.
 #[derive(Drop)]
 pub struct Counting {
     word: u32,
@@ -14,7 +14,7 @@ pub struct Counting {
 }
 
 impl Counting {
-    /// A generator whose first word is this.
+    /// Returns a generator whose first word is `first`, and whose words increase by `by`.
     pub fn new(first: u32, by: u32) -> Counting {
         Counting { word: first, by }
     }
