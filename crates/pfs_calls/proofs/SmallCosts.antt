@@ -1,12 +1,12 @@
--- What searches over shops of at most three jobs and machines cost at most, where each place is evaluated afresh, and
--- by rows of heads and tails.
+-- Upper bounds on the cells of searches over shops of at most three jobs and machines, with `Afresh` and with
+-- `HeadsTails`.
 use Rattle.std.proofs.Common.{ℕ, zero, suc, ◌*◌, ◌≤◌, arith}
 use Rattle.std.proofs.Math.Nat.{mul-le-mul}
 use Rattle.pfs_insert.specs.Insertion.{afresh_cost, heads_tails_cost}
 use Rattle.pfs_search.specs.Costs.{neh_cost, pass_cost, round_cost}
 use Rattle.pfs_base.specs.declared.limits.TheConstants.{MOST_PASSES}
 
--- what insertions into sequences that have one, two and three jobs then cost at most
+-- on at most three machines, the insertions that make one, two and three jobs cost at most 6, 18 and 30 cells
 pub record IsSmall (cost : ℕ → ℕ → ℕ) : Type 0 where
   pub one : (machines : ℕ) → machines ≤ 3 → cost 1 machines ≤ 6
   pub two : (machines : ℕ) → machines ≤ 3 → cost 2 machines ≤ 18
@@ -27,7 +27,7 @@ module _ {cost : ℕ → ℕ → ℕ} (small : IsSmall cost) (machines : ℕ) (n
       omega (arith, small.one machines narrow, small.two machines narrow, small.three machines narrow)
   small_neh (suc (suc (suc (suc n)))) few = absurd (omega arith)
 
-  -- a round puts its jobs back as NEH puts in its last ones
+  -- a round inserts its jobs with the cost of NEH's last insertions
   pub small_round : (jobs take : ℕ) → jobs ≤ 3 → take ≤ jobs → round_cost cost jobs machines take 0 ≤ 54
   small_round jobs zero few within = omega arith
   small_round (suc zero) (suc zero) few within = omega (arith, small_neh 1 few)

@@ -1,4 +1,4 @@
-//! The calls that hand an instance file to a reader piece by piece.
+//! The calls that pass an instance file to a reader piece by piece.
 ghost use Rattle.std.specs.Prelude.{◌≤◌, length};
 
 use crate::Stop;
@@ -6,7 +6,7 @@ use crate::words::{input, layout, number};
 use pfs_base::{Instance, MOST_BLOCKS};
 use pfs_layout::{BlockReader, LayoutFault, Progress};
 
-// A reader of the block that these words say: its layout and its number.
+// Returns a reader of a block. The first two arguments are the layout and the block's number, from 1.
 fn reader_of(rt: &HostRuntime, words: &[String]) -> Result<BlockReader, Stop> {
     let (layout, block) = (layout(words, 0)?, number(words, 1)?);
     if 1 <= block && block <= MOST_BLOCKS {
@@ -35,8 +35,8 @@ fn print_times(rt: &HostRuntime, instance: &Instance) -> Result<(), Stop> {
     Ok(())
 }
 
-/// Prints a line for each place where the text on standard input may be cut: what a reader answers that is handed the
-/// text in these two pieces, and last what one answers that is handed it byte by byte.
+/// Cuts the text on standard input into two pieces in each way, and prints a line for each cut: what a reader of these
+/// two pieces returns. The last line is what a reader of the text returns that gets it byte by byte.
 pub(crate) fn cuts_call(rt: &HostRuntime, words: &[String]) -> Result<(), Stop> {
     let text = input(rt)?;
     for cut in 0..=text.len() {
@@ -67,8 +67,8 @@ fn read_bytes(mut reader: BlockReader, text: &[u8]) -> Result<Instance, LayoutFa
     reader.finish()
 }
 
-/// Hands the words behind the first two to a reader, one after the other, also behind a refusal. Prints what it
-/// answers to each, with how many times it holds then, and last the answer.
+/// Passes the arguments after the first two to a reader, one after the other, even after a fault. Prints what the
+/// reader returns for each and the number of processing times that it holds then, and last the instance or the fault.
 pub(crate) fn pieces_call(rt: &HostRuntime, words: &[String]) -> Result<(), Stop> {
     let mut reader = reader_of(rt, words)?;
     for piece in words.iter().skip(2) {

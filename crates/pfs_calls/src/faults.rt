@@ -10,8 +10,8 @@ use pfs_order::OrderFault;
 use pfs_search::SearchFault;
 use std::io;
 
-/// Prints the name of the fault that these words say, which is its text. Behind that of a fault that a command may end
-/// in stand the name that it has there, the line that tells it, and its exit status.
+/// Prints the name of the fault that these arguments state, which is its text. If a command may report the fault, then
+/// the name of its `DeskFault`, the line that reports it and its exit status follow.
 pub(crate) fn fault_call(rt: &HostRuntime, words: &[String]) -> Result<(), Stop> {
     let Some((kind, rest)) = words.split_first() else {
         return Err(Stop::Other);
@@ -31,7 +31,7 @@ pub(crate) fn fault_call(rt: &HostRuntime, words: &[String]) -> Result<(), Stop>
     }
 }
 
-// Prints the name of a command's fault, the line that tells it, and its exit status.
+// Prints the name of a command's fault, the line that reports it, and its exit status.
 fn print_told(rt: &HostRuntime, fault: &DeskFault) -> Result<(), Stop> {
     println!(rt; "{fault}")?;
     let mut writer = ToWrite::new(io::writer(rt));
@@ -51,7 +51,7 @@ fn layout_call(rt: &HostRuntime, words: &[String]) -> Result<(), Stop> {
     print_told(rt, &DeskFault::Layout(fault))
 }
 
-// The fault of an instance file of this name, which has no number.
+// Returns the fault of an instance file with this name, if it has no number.
 fn plain_layout_fault(name: &str) -> Option<LayoutFault> {
     match name {
         "TooLong" => Some(LayoutFault::TooLong),
@@ -62,7 +62,7 @@ fn plain_layout_fault(name: &str) -> Option<LayoutFault> {
     }
 }
 
-// The fault of an instance file of this name and number.
+// Returns the fault of an instance file with this name and number.
 fn layout_fault(name: &str, number: usize) -> Result<LayoutFault, Stop> {
     match name {
         "NoBlock" => Ok(LayoutFault::NoBlock { found: number }),
@@ -88,7 +88,7 @@ fn order_call(rt: &HostRuntime, words: &[String]) -> Result<(), Stop> {
     print_told(rt, &DeskFault::Order(fault))
 }
 
-// The fault of an order file of this name and number.
+// Returns the fault of an order file with this name and number.
 fn order_fault(name: &str, number: usize) -> Result<OrderFault, Stop> {
     match name {
         "Syntax" => Ok(OrderFault::Syntax { offset: number }),

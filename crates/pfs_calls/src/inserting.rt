@@ -1,4 +1,4 @@
-//! The call that puts jobs into a sequence by both inserters.
+//! The call that inserts jobs into a sequence with both inserters.
 ghost use Rattle.std.specs.Prelude.{◌≡◌, ◌<◌, length, Contains, OnOk};
 
 use crate::Stop;
@@ -8,15 +8,15 @@ use pfs_insert::{Afresh, HeadsTails, Inserter};
 use pfs_order::Seq;
 use pfs_tests::shops::drawn_shop;
 
-/// Puts the jobs of a drawn shop, with as many jobs and machines as the words say, into a sequence, each at the best
-/// place in front of it. Prints what both inserters answer to each job, first the one that evaluates each place afresh.
-/// Each inserter is the same for all jobs.
+/// Inserts the jobs of a drawn shop into a sequence, each at its best place. The arguments are the numbers of jobs and
+/// machines. Prints what both inserters return for each job: first `Afresh`, which evaluates each place from scratch,
+/// and then `HeadsTails`. Each inserter is the same for all jobs.
 pub(crate) fn insertions_call(rt: &HostRuntime, words: &[String]) -> Result<(), Stop> {
     let instance = drawn_shop(rt.alloc(), number(words, 0)?, number(words, 1)?, 7)?;
     insert_all(rt, &instance)
 }
 
-/// That a job can be inserted.
+/// Returns `Ok` if a job of the instance can be inserted into the sequence.
 pub(crate) fn insertable(instance: &Instance, seq: &Seq, job: usize) -> Result<(), Stop>
     ensures sizes { OnOk result (seq.now.size ≡ instance.now.shop.jobs) }
     ensures job { OnOk result (job < seq.now.size) }
@@ -49,7 +49,7 @@ fn insert_all(rt: &HostRuntime, instance: &Instance) -> Result<(), Stop> {
     Ok(())
 }
 
-// Prints a place, the makespan with the job there, and how many cells were counted by then.
+// Prints a place, the makespan with the job there, and the number of cells that were counted by then.
 fn print_best(rt: &HostRuntime, bench: &Metered<'_>, place: usize, span: Span) -> Result<(), Stop> {
     println!(rt; "{place} {} {}", bench.reveal(span), bench.cells())?;
     Ok(())

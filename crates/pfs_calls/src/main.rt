@@ -1,7 +1,7 @@
-//! Runs the call that its first word names, on the words behind it and standard input or on a worked example, and
-//! prints the answer, or `memory` where a growth was refused, and then what the refusal has left, if the call has
-//! changed something or could have. `tests/test_growths.py` runs each call on a worked example with each growth
-//! of memory refused in turn.
+//! A program for tests. Its first argument names a call, which it runs on the other arguments and standard input, or
+//! on a worked example, and whose result it prints. If an allocation fails, it prints `memory`, and what the failure
+//! has left if the call has changed something or could have. `tests/test_growths.py` runs each call on a worked
+//! example once for each of its allocations, and makes that one fail.
 #![tactic(auto)]
 
 mod blocks;
@@ -48,15 +48,15 @@ const FILE: &[u8] = b"title :\n3 2 0 0 0\nprocessing times :\n3 2 4\n2 5 1\n";
 
 const ORDER: &[u8] = b"order2 3 2\n2 1 3\nmakespan 10\n";
 
-/// The same order for another number of machines.
+/// The same order, with another number of machines.
 const OTHER_MACHINES: &[u8] = b"order2 3 3\n2 1 3\nmakespan 10\n";
 
-/// Why a call did not answer.
+/// Why a call has no result.
 #[derive(Drop)]
 enum Stop {
-    /// A growth of memory was refused.
+    /// An allocation failed.
     Memory,
-    /// The call answered something that no growth of memory explains.
+    /// Something else: an argument is invalid, or the call returned a fault other than a failed allocation.
     Other,
 }
 
@@ -109,7 +109,7 @@ impl From<InsertFault> for Stop {
     }
 }
 
-// Of a call that has no rounds to do before.
+// For a call without earlier rounds: a number of completed rounds other than 0 is wrong.
 impl From<SearchFault> for Stop {
     fn from(fault: SearchFault) -> Stop {
         match fault {
@@ -137,7 +137,7 @@ fn main(rt: HostRuntime) -> io::Result<()> {
     }
 }
 
-// The words behind the program's name.
+// Returns the arguments after the program's name.
 fn words_of(rt: &HostRuntime) -> Result<Vec<String>, Stop> {
     let Ok(args) = env::args(rt) else {
         return Err(Stop::Memory);
@@ -151,7 +151,7 @@ fn words_of(rt: &HostRuntime) -> Result<Vec<String>, Stop> {
     Ok(words)
 }
 
-// The answer of the call that the first word names, on the words behind it.
+// Runs the call that the first argument names, on the other arguments.
 fn answer_of(rt: &HostRuntime, words: &[String]) -> Result<(), Stop> {
     let Some((name, rest)) = words.split_first() else {
         return Err(Stop::Other);
@@ -170,7 +170,7 @@ fn answer_of(rt: &HostRuntime, words: &[String]) -> Result<(), Stop> {
     }
 }
 
-// A call on a worked example.
+// Runs a call on a worked example.
 fn worked_call(rt: &HostRuntime, name: &str) -> Result<(), Stop> {
     match name {
         "instance" => instance_call(rt),
@@ -252,7 +252,7 @@ fn generate_call(rt: &HostRuntime) -> Result<(), Stop> {
     Ok(())
 }
 
-// Hands the whole file to a reader in one piece.
+// Passes the whole file to a reader in one piece.
 fn feed_call(rt: &HostRuntime) -> Result<(), Stop> {
     let mut reader = BlockReader::new(rt.alloc(), Layout::Taillard, 1);
     match reader.feed(FILE) {
@@ -271,7 +271,7 @@ fn feed_call(rt: &HostRuntime) -> Result<(), Stop> {
     }
 }
 
-// Prints what a refused reader holds, and what it answers from then on.
+// Prints the number of processing times that a reader with a fault holds, and what its next calls return.
 fn told_again(rt: &HostRuntime, reader: BlockReader, fault: LayoutFault) -> Result<(), Stop> {
     let mut reader = reader;
     let held = reader.held();
@@ -319,7 +319,7 @@ fn read_order_call(rt: &HostRuntime) -> Result<(), Stop> {
     Ok(())
 }
 
-// Prints that a growth was refused, and what the instance is then.
+// Prints that an allocation failed, and what the instance is then.
 fn print_refused(rt: &HostRuntime, instance: &Instance) -> Result<(), Stop> {
     let (jobs, machines) = (instance.jobs(), instance.machines());
     print!(rt; "memory, {jobs} jobs, {machines} machines, times")?;
@@ -332,7 +332,7 @@ fn print_refused(rt: &HostRuntime, instance: &Instance) -> Result<(), Stop> {
     Ok(())
 }
 
-// The jobs one behind another in the order of their numbers, and again where that is refused.
+// Computes the makespan of the jobs in the order of their numbers, and again if an allocation fails.
 fn makespan_call(rt: &HostRuntime) -> Result<(), Stop> {
     let instance = three_jobs(rt.alloc())?;
     let order = Order::identity(rt.alloc(), instance.jobs())?;
@@ -350,7 +350,7 @@ fn makespan_call(rt: &HostRuntime) -> Result<(), Stop> {
     Ok(())
 }
 
-// The second job, the first and the third.
+// Computes the makespan of the second job, the first and the third, in this order.
 fn best_makespan_call(rt: &HostRuntime) -> Result<(), Stop> {
     let instance = three_jobs(rt.alloc())?;
     let mut seq = second_and_first(rt.alloc())?;
@@ -395,8 +395,8 @@ fn check_call(rt: &HostRuntime, order: &[u8]) -> Result<(), Stop> {
     Ok(())
 }
 
-// Prints the fault of an engine that has not answered, which says whose growth was refused: the instance's, the
-// order's, or one behind both.
+// Prints the fault of an engine, if it has one. The fault says which allocation failed: one for the instance, one for
+// the order, or a later one.
 fn print_fault(rt: &HostRuntime, answer: Result<Outcome, DeskFault>) -> Result<(), Stop> {
     if let Err(fault) = answer {
         println!(rt; "{fault:?}")?;

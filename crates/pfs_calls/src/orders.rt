@@ -9,8 +9,8 @@ use pfs_order::{Order, OrderFile, read_order, write_order};
 use pfs_tests::fakes::Pieces;
 use std::io;
 
-/// Reads the order file on standard input, of which so many bytes are given at once, and prints what it states, or its
-/// fault.
+/// Reads the order file on standard input, and prints what it states, or its fault. The argument is the number of bytes
+/// that one read returns at most.
 pub(crate) fn order_file_call(rt: &HostRuntime, words: &[String]) -> Result<(), Stop> {
     let text = input(rt)?;
     let mut reader = Pieces::new(text.as_slice(), number(words, 0)?, None);
@@ -33,8 +33,8 @@ fn print_file(rt: &HostRuntime, file: &OrderFile) -> Result<(), Stop> {
     Ok(())
 }
 
-/// Writes an order file of three jobs in the order of their numbers, of makespan 0, which states so many machines, if
-/// there is such a word. Prints behind it how many bytes went out.
+/// Writes an order file of three jobs in the order of their numbers, with makespan 0. It states the number of machines
+/// if there is an argument, which is that number. Prints after it how many bytes were written.
 pub(crate) fn write_order_call(rt: &HostRuntime, words: &[String]) -> Result<(), Stop> {
     let machines = stated_machines(words)?;
     let order = Order::identity(rt.alloc(), 3)?;
@@ -45,7 +45,7 @@ pub(crate) fn write_order_call(rt: &HostRuntime, words: &[String]) -> Result<(),
     }
 }
 
-// The number of machines that the first word states, if there is one.
+// Returns the number of machines that the first argument states, or `None` without arguments.
 fn stated_machines(words: &[String]) -> Result<Option<usize>, Stop>
     ensures { IfOk result AreMachines }
 {

@@ -4,8 +4,8 @@ use pfs_desk::{Job, PathText, SolveOptions, UsageFault, plan};
 use pfs_layout::Layout;
 use std::io;
 
-/// Prints the job that these words ask for, as a line: its name, its layouts as T or O, and its other values, with
-/// `|` between.
+/// Prints the job that these arguments ask for, or `usage` if they are invalid. A job is a line: its name, its layouts
+/// as T or O, and its other values, separated by `|`.
 pub(crate) fn plan_call(rt: &HostRuntime, words: &[String]) -> Result<(), Stop> {
     match plan(rt.alloc(), words) {
         Ok(job) => Ok(print_job(rt, &job)?),
@@ -86,7 +86,7 @@ fn print_value(
     }
 }
 
-// A take that isn't stated is printed as 0.
+// Prints the options of a search; a destruction size that isn't stated is printed as 0.
 fn print_options(rt: &HostRuntime, options: &SolveOptions) -> io::Result<()> {
     let SolveOptions {
         rounds,

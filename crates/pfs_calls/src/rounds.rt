@@ -1,4 +1,4 @@
-//! The call that plays one round by given words on a shop of at most three jobs and machines.
+//! The call that runs one round with given random words, on a shop of at most three jobs and machines.
 ghost use Rattle.std.specs.Prelude.{◌≤◌, length, IfOk};
 
 use crate::Stop;
@@ -11,9 +11,9 @@ use pfs_order::Order;
 use pfs_search::{Kept, MOST_PASSES, Searcher};
 use pfs_tests::shops::shop;
 
-/// Plays a round. The words are `neh` or `numbers`, the order that it begins with, of which NEH's is printed too;
-/// `afresh` or `rows`, the inserter; how many passes, jobs and machines there are; the times, job by job; and the words
-/// that say which jobs are taken out.
+/// Runs a round and prints the order that it keeps. The arguments are: the order that it begins with, `neh` or
+/// `numbers` (NEH's is printed too); the inserter, `afresh` or `rows`; the numbers of passes, jobs and machines; the
+/// times, job by job; and the random words that choose the jobs to remove.
 pub(crate) fn one_round_call(rt: &HostRuntime, words: &[String]) -> Result<(), Stop> {
     let (jobs, machines) = (number(words, 3)?, number(words, 4)?);
     if 3 < jobs || 3 < machines {
@@ -29,8 +29,8 @@ pub(crate) fn one_round_call(rt: &HostRuntime, words: &[String]) -> Result<(), S
     play(rt, words, &instance, drawn)
 }
 
-// Plays a round of an instance by these words, from the order and by the inserter and the passes that the first words
-// of the call say.
+// Runs a round with the random words `drawn`. The first three arguments are the order, the inserter and the number of
+// passes.
 fn play(rt: &HostRuntime, words: &[String], instance: &Instance, drawn: &[u32]) -> Result<(), Stop>
     requires jobs { instance.now.shop.jobs ≤ 3 }
     requires machines { instance.now.shop.machines ≤ 3 }
@@ -48,7 +48,7 @@ fn play(rt: &HostRuntime, words: &[String], instance: &Instance, drawn: &[u32]) 
     }
 }
 
-// The number of passes that the third word says.
+// Returns the number of passes, which is the third argument.
 fn passes_of(words: &[String]) -> Result<u32, Stop>
     ensures { IfOk result (λ passes. passes ≤ MOST_PASSES) }
 {
@@ -62,7 +62,7 @@ fn passes_of(words: &[String]) -> Result<u32, Stop>
     }
 }
 
-// NEH of an instance, and then a round with these words and so many passes.
+// Runs NEH on an instance, and then a round with these random words and this number of passes.
 fn neh_and_round(
     rt: &HostRuntime,
     instance: &Instance,
@@ -86,7 +86,7 @@ fn neh_and_round(
     print_kept(rt, &bench, &kept)
 }
 
-// The same by heads and tails. One function over any inserter would have to ask its callers for the costs.
+// The same with heads and tails. One function for all inserters would need a `requires` on the inserter's costs.
 fn neh_and_round_by_rows(
     rt: &HostRuntime,
     instance: &Instance,
@@ -110,7 +110,7 @@ fn neh_and_round_by_rows(
     print_kept(rt, &bench, &kept)
 }
 
-// The jobs in the order of their numbers, and then a round with these words and so many passes.
+// Runs a round with these random words and this number of passes, from the jobs in the order of their numbers.
 fn numbers_and_round(
     rt: &HostRuntime,
     instance: &Instance,
@@ -134,7 +134,7 @@ fn numbers_and_round(
     print_kept(rt, &bench, &kept)
 }
 
-// The same by heads and tails. One function over any inserter would have to ask its callers for the costs.
+// The same with heads and tails. One function for all inserters would need a `requires` on the inserter's costs.
 fn numbers_and_round_by_rows(
     rt: &HostRuntime,
     instance: &Instance,

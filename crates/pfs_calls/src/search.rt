@@ -1,5 +1,5 @@
-//! The calls of the inserters and of the search. A search is refused a growth only where it evaluates each
-//! place afresh; by heads and tails it takes no memory once all is made.
+//! The calls of the inserters and of the search. Only a search with `Afresh` allocates memory while it runs; one with
+//! `HeadsTails` allocates none after its parts were made.
 use crate::Stop;
 use pfs_base::{Bench, Metered, Span};
 use pfs_insert::{Afresh, HeadsTails, InsertFault, Inserter};
@@ -19,7 +19,7 @@ fn print_order(rt: &HostRuntime, bench: &Metered<'_>, kept: &Kept<Span>) -> Resu
     Ok(())
 }
 
-// Prints what a search keeps that was refused a growth behind so many rounds.
+// Prints what a search keeps in which an allocation failed after `done` rounds.
 fn print_refused(
     rt: &HostRuntime,
     bench: &Metered<'_>,
@@ -32,7 +32,7 @@ fn print_refused(
     Ok(())
 }
 
-/// Prints what a search keeps, and how many cells it has counted.
+/// Prints what a search keeps, and the number of cells that were counted.
 pub(crate) fn print_kept(
     rt: &HostRuntime,
     bench: &Metered<'_>,
@@ -43,7 +43,7 @@ pub(crate) fn print_kept(
     Ok(())
 }
 
-// Prints what rounds have kept, and the word that the generator gives behind them.
+// Prints what rounds have kept, and the next random word of the generator.
 fn print_rounds(
     rt: &HostRuntime,
     bench: &Metered<'_>,
@@ -59,8 +59,8 @@ fn print_rounds(
     Ok(())
 }
 
-/// Puts the third job into the order of the second and the first. Where that is refused, the same inserter does it
-/// again, on the same bench.
+/// Finds the best place for the third job in the sequence of the second and the first. If an allocation fails, the same
+/// inserter tries again, on the same bench.
 pub(crate) fn afresh_call(rt: &HostRuntime) -> Result<(), Stop> {
     let instance = three_jobs(rt.alloc())?;
     let seq = second_and_first(rt.alloc())?;
@@ -78,7 +78,7 @@ pub(crate) fn afresh_call(rt: &HostRuntime) -> Result<(), Stop> {
     Ok(())
 }
 
-/// The same by heads and tails, where only the making of the inserter takes memory.
+/// The same with heads and tails, where only the making of the inserter allocates memory.
 pub(crate) fn heads_tails_call(rt: &HostRuntime) -> Result<(), Stop> {
     let instance = three_jobs(rt.alloc())?;
     let seq = second_and_first(rt.alloc())?;
@@ -92,7 +92,7 @@ pub(crate) fn heads_tails_call(rt: &HostRuntime) -> Result<(), Stop> {
     Ok(())
 }
 
-/// NEH. Where it is refused, what was kept before stays.
+/// Runs NEH. If an allocation fails, what was kept before stays.
 pub(crate) fn neh_call(rt: &HostRuntime) -> Result<(), Stop> {
     let instance = three_jobs(rt.alloc())?;
     let mut bench = instance.metered();
@@ -105,7 +105,8 @@ pub(crate) fn neh_call(rt: &HostRuntime) -> Result<(), Stop> {
     }
 }
 
-/// A round behind NEH, by the words 0 and 0 and with one pass. Where either is refused, NEH's order stays.
+/// Runs a round after NEH, with the random words 0 and 0 and with one pass. If an allocation fails in the round or in
+/// its pass, NEH's order stays.
 pub(crate) fn round_call(rt: &HostRuntime) -> Result<(), Stop> {
     let instance = three_jobs(rt.alloc())?;
     let mut bench = instance.metered();
@@ -119,8 +120,8 @@ pub(crate) fn round_call(rt: &HostRuntime) -> Result<(), Stop> {
     }
 }
 
-/// Five rounds behind NEH, of two words each. No other order is as short as NEH's, so that each round keeps it.
-/// Where one is refused, its words are drawn.
+/// Runs five rounds after NEH, of two random words each. Each other order has a longer makespan than NEH's, so each
+/// round keeps NEH's. A round in which an allocation fails has drawn its random words.
 pub(crate) fn rounds_call(rt: &HostRuntime) -> Result<(), Stop> {
     let instance = three_jobs(rt.alloc())?;
     let mut bench = instance.metered();
@@ -133,8 +134,9 @@ pub(crate) fn rounds_call(rt: &HostRuntime) -> Result<(), Stop> {
     print_rounds(rt, &bench, &kept, answer, &mut rng)
 }
 
-/// Five rounds behind NEH, of one word each, which is odd, so that each round puts the second job first. Where
-/// one is refused, its word is drawn, and the order tells whether the rounds before it are even in number.
+/// Runs five rounds after NEH, of one random word each. All words are odd, so each round moves the second job to the
+/// front. A round in which an allocation fails has drawn its word, and the order shows whether the number of rounds
+/// before it is even.
 pub(crate) fn turns_call(rt: &HostRuntime) -> Result<(), Stop> {
     let instance = two_jobs(rt.alloc())?;
     let mut bench = instance.metered();
@@ -147,7 +149,7 @@ pub(crate) fn turns_call(rt: &HostRuntime) -> Result<(), Stop> {
     print_rounds(rt, &bench, &kept, answer, &mut rng)
 }
 
-/// Two rounds behind NEH, by the words 0 and 1: the first leaves NEH's order, and the second turns it round.
+/// Runs two rounds after NEH, with the random words 0 and 1: the first keeps NEH's order, and the second reverses it.
 pub(crate) fn two_rounds_call(rt: &HostRuntime) -> Result<(), Stop> {
     let instance = two_jobs(rt.alloc())?;
     let mut bench = instance.metered();
@@ -160,7 +162,7 @@ pub(crate) fn two_rounds_call(rt: &HostRuntime) -> Result<(), Stop> {
     print_rounds(rt, &bench, &kept, answer, &mut rng)
 }
 
-/// NEH and twenty rounds of one pass by heads and tails, where only what is made before them takes memory.
+/// Runs NEH and twenty rounds of one pass with heads and tails; only what is made before them allocates memory.
 pub(crate) fn search_call(rt: &HostRuntime) -> Result<(), Stop> {
     let instance = three_machines(rt.alloc())?;
     let mut bench = instance.metered();

@@ -1,5 +1,5 @@
-//! Calls that take no memory. Each prints `ready` once all is made that it needs, and behind that what it answers: no
-//! growth is asked for from there on.
+//! Calls that allocate no memory. Each prints `ready` after all that it needs was made, and then its result. Nothing is
+//! allocated after `ready`.
 use crate::{FILE, ORDER, Stop};
 use pfs_audit::{Verdict, bound, check};
 use pfs_base::{Bench, put};
@@ -18,7 +18,7 @@ fn print_ready(rt: &HostRuntime) -> Result<(), Stop> {
     Ok(())
 }
 
-/// The best place by heads and tails.
+/// Finds the best place of a job with heads and tails.
 pub(crate) fn still_best(rt: &HostRuntime) -> Result<(), Stop> {
     let instance = three_jobs(rt.alloc())?;
     let seq = second_and_first(rt.alloc())?;
@@ -32,7 +32,7 @@ pub(crate) fn still_best(rt: &HostRuntime) -> Result<(), Stop> {
     Ok(())
 }
 
-/// NEH, and five rounds of one pass, by heads and tails.
+/// Runs NEH and five rounds of one pass with heads and tails.
 pub(crate) fn still_search(rt: &HostRuntime) -> Result<(), Stop> {
     let instance = three_machines(rt.alloc())?;
     let mut bench = instance.metered();
@@ -55,7 +55,7 @@ pub(crate) fn still_search(rt: &HostRuntime) -> Result<(), Stop> {
     Ok(())
 }
 
-/// Seeds that the generator refuses.
+/// Generates instances from seeds that are out of range.
 pub(crate) fn still_generate(rt: &HostRuntime) -> Result<(), Stop> {
     print_ready(rt)?;
     for seed in [0, 2147483647] {
@@ -67,7 +67,7 @@ pub(crate) fn still_generate(rt: &HostRuntime) -> Result<(), Stop> {
     Ok(())
 }
 
-/// A whole block in front of the wanted one.
+/// Passes to a reader a whole block before the one that it is to read.
 pub(crate) fn still_feed(rt: &HostRuntime) -> Result<(), Stop> {
     let mut reader = BlockReader::new(rt.alloc(), Layout::Taillard, 2);
     print_ready(rt)?;
@@ -85,7 +85,7 @@ pub(crate) fn still_feed(rt: &HostRuntime) -> Result<(), Stop> {
     Ok(())
 }
 
-/// Files that are refused in front of the end of the wanted block's size line.
+/// Reads files whose fault comes before the end of the size line of the block that is read.
 pub(crate) fn still_read_block(rt: &HostRuntime) -> Result<(), Stop> {
     print_ready(rt)?;
     for (text, fails_at) in [(FILE, Some(1)), (b"", None), (b"3 2 0 0", None)] {
@@ -102,7 +102,7 @@ pub(crate) fn still_read_block(rt: &HostRuntime) -> Result<(), Stop> {
     Ok(())
 }
 
-/// Order files that are no text of the grammar, or too long, and one that can't be read.
+/// Reads order files that fail: one whose read fails, two that aren't texts of the grammar, and one that is too long.
 pub(crate) fn still_read_order(rt: &HostRuntime) -> Result<(), Stop> {
     print_ready(rt)?;
     for (text, fails_at) in [(ORDER, Some(1)), (b"", None), (b"order 3\n2 1\n", None)] {
@@ -118,7 +118,7 @@ pub(crate) fn still_read_order(rt: &HostRuntime) -> Result<(), Stop> {
     Ok(())
 }
 
-/// A bound, and the verdict on an order of another size.
+/// Computes the lower bound, and checks an order of another size.
 pub(crate) fn still_audit(rt: &HostRuntime) -> Result<(), Stop> {
     let instance = two_jobs(rt.alloc())?;
     let file = read_order(rt.alloc(), &mut Pieces::whole(ORDER))?;
@@ -131,7 +131,7 @@ pub(crate) fn still_audit(rt: &HostRuntime) -> Result<(), Stop> {
     Ok(())
 }
 
-/// An instance and an order, written to a sink.
+/// Writes an instance and an order to sinks.
 pub(crate) fn still_write(rt: &HostRuntime) -> Result<(), Stop> {
     let instance = three_jobs(rt.alloc())?;
     let order = Order::identity(rt.alloc(), 3)?;
@@ -151,7 +151,8 @@ pub(crate) fn still_write(rt: &HostRuntime) -> Result<(), Stop> {
     Ok(())
 }
 
-/// Texts that are handed to a sink, with how often it was written to: none but whole pieces, and never of no byte.
+/// Writes texts to sinks, and prints how many writes each text needs: as few as the sink's limit for a call allows, and
+/// none for an empty text.
 pub(crate) fn still_put(rt: &HostRuntime) -> Result<(), Stop> {
     print_ready(rt)?;
     for (bytes, most) in [(EIGHT, 8), (EIGHT, 3), (b"", 8)] {

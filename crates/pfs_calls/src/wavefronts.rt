@@ -1,4 +1,4 @@
-//! The call that puts jobs into a sequence by heads and tails and by each wavefront that serves the shop.
+//! The call that inserts jobs into a sequence with heads and tails and with each wavefront that serves the shop.
 ghost use Rattle.pfs_wave.specs.Served.{IsServed};
 
 use crate::Stop;
@@ -12,8 +12,8 @@ use pfs_wave::{
     Lanes, MeteredLanes, OneBand, ThreeBands, TwoBands, Wavefront, is_served, method_for,
 };
 
-/// Puts the jobs of a shop into a sequence in the order of their numbers, each at its best place. The words are the
-/// number of jobs, the number of machines, and the times, job by job. Prints the method that a search of the shop uses.
+/// Inserts the jobs of a shop into a sequence in the order of their numbers, each at its best place. The arguments are
+/// the numbers of jobs and machines, and the times, job by job. Prints the method that a search of the shop uses.
 /// Then, for each width of a wavefront that serves the shop, it prints what heads and tails and the wavefront return
 /// for each job. Both run on one bench, and each inserter is the same for all jobs.
 pub(crate) fn wavefronts_call(rt: &HostRuntime, words: &[String]) -> Result<(), Stop> {

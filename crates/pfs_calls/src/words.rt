@@ -1,9 +1,9 @@
-//! What calls read of their words, and the text on standard input.
+//! What calls read: their arguments, and the text on standard input.
 use crate::Stop;
 use pfs_layout::Layout;
 use std::io::Read;
 
-/// The word at this place, which is empty where there is none.
+/// Returns the argument at this place, from 0, or an empty text if there are fewer.
 pub(crate) fn word(words: &[String], place: usize) -> &str {
     match words.get(place) {
         Some(word) => word.as_str(),
@@ -11,7 +11,7 @@ pub(crate) fn word(words: &[String], place: usize) -> &str {
     }
 }
 
-/// The number at this place among the words.
+/// Returns the number that the argument at this place states.
 pub(crate) fn number(words: &[String], place: usize) -> Result<usize, Stop> {
     match word(words, place).parse::<usize>() {
         Ok(number) => Ok(number),
@@ -19,7 +19,7 @@ pub(crate) fn number(words: &[String], place: usize) -> Result<usize, Stop> {
     }
 }
 
-/// The numbers from this place on.
+/// Returns the numbers that the arguments from this place on state.
 pub(crate) fn numbers(rt: &HostRuntime, words: &[String], place: usize) -> Result<Vec<u32>, Stop> {
     let mut numbers = Vec::new(rt.alloc());
     for word in words.iter().skip(place) {
@@ -33,7 +33,7 @@ pub(crate) fn numbers(rt: &HostRuntime, words: &[String], place: usize) -> Resul
     Ok(numbers)
 }
 
-/// The layout that the word at this place names.
+/// Returns the layout that the argument at this place names.
 pub(crate) fn layout(words: &[String], place: usize) -> Result<Layout, Stop> {
     match word(words, place) {
         "taillard" => Ok(Layout::Taillard),
@@ -42,7 +42,7 @@ pub(crate) fn layout(words: &[String], place: usize) -> Result<Layout, Stop> {
     }
 }
 
-/// All of standard input.
+/// Returns all bytes of standard input.
 pub(crate) fn input(rt: &HostRuntime) -> Result<Vec<u8>, Stop> {
     let mut text = Vec::new(rt.alloc());
     rt.reader().read_to_end(&mut text)?;
