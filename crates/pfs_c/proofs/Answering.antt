@@ -1,4 +1,4 @@
--- What a call answers where the function that it calls refuses.
+-- What a call returns if the function that it calls returns an error.
 use Rattle.std.proofs.Common.{◌≡◌, ℤ, Err, Option, Some, None, ap, ◌∙◌, inr}
 use Rattle.pfs_c.specs.declared.numbers.Refusal.{Refusal}
 use Rattle.pfs_c.specs.Numbers.{Answers, refusal_number}

@@ -1,4 +1,4 @@
--- Lists of jobs that are judged from the left.
+-- Lists of jobs that are validated from the left.
 use Rattle.std.proofs.Common.{◌≡◌, ◌↔◌, ℕ, zero, suc, ◌+◌, ◌<◌, ◌≤◌, refl, Bool, true, false, List, [], ◌∷◌}
 use Rattle.std.proofs.Common.{length, take, map, get_or, set, nat_eq, nat_lt, All, Contains, insert, sym, ◌∙◌, inl, inr}
 use Rattle.std.proofs.Common.{arith, Option, Some, None, add-zero, add-one, zero-add, ◌||◌, length-set, Result, IsOk}
@@ -21,14 +21,14 @@ use Rattle.pfs_c.specs.declared.numbers.Refusal.TheVariants.{Job, Repeated}
 use Rattle.pfs_c.specs.Private.Refusing.{Judges}
 use Rattle.pfs_c.specs.Judgements.{job_refusal, place_refusal, jobs_refusal}
 
--- ---- the first of several judgements
+-- ---- the first fault that several checks find
 
 pub first_none : (x : Option Refusal) (xs : List (Option Refusal)) → first_some (x ∷ xs) ≡ None
     → (x ≡ None) × (first_some xs ≡ None)
 first_none None xs h = (refl, h)
 first_none (Some why) xs h = absurd (cc)
 
--- nothing before a place, and this there
+-- no fault before a place, and this fault at the place
 first_there : (f : ℕ → Option Refusal) (count from k : ℕ) (why : Refusal) → k < count
     → ((j : ℕ) → j < k → f (from + j) ≡ None) → f (from + k) ≡ Some why
     → first_some (map f (range_with_len from count)) ≡ Some why
@@ -58,7 +58,7 @@ each_none f (suc count) from (suc j) none within =
     let same : from + suc j ≡ from + 1 + j = omega arith in
     rw same (each_none f count (from + 1) j parts.1 (omega arith))
 
--- the same of the numbers below a count
+-- the same for the numbers below a count
 
 pub first_below : (f : ℕ → Option Refusal) (count k : ℕ) (why : Refusal) → k < count
     → ((j : ℕ) → j < k → f j ≡ None) → f k ≡ Some why → first_some (map f (below count)) ≡ Some why
@@ -98,7 +98,7 @@ job_absent size job others h among =
     let twice = job_twice size job others (job_small size job others h) found in
     absurd (cc)
 
--- ---- jobs up to a place, which were judged and marked
+-- ---- the jobs before a place were validated and marked
 
 pub record AreJudged (size : ℕ) (jobs : List ℕ) (marks : List Bool) (place : ℕ) : Type 0 where
   pub enough : size ≤ length marks
@@ -137,7 +137,7 @@ or_false : (b : Bool) → (b || false) ≡ b
 or_false true = refl
 or_false false = refl
 
--- one job more, which is marked
+-- the same after one more job, which is marked
 pub judged_more : (size : ℕ) (jobs : List ℕ) (marks : List Bool) (place : ℕ) (d : Bool)
     → AreJudged size jobs marks place → place < length jobs → get_or jobs place 0 < size
     → get_or marks (get_or jobs place 0) d ≡ false
@@ -171,7 +171,7 @@ pub judged_all : (size : ℕ) (jobs : List ℕ) (marks : List Bool) (place : ℕ
 judged_all size jobs marks place h all =
     none_below (place_refusal size jobs) (length jobs) (λ j lt. h.right j (omega arith))
 
--- ---- a list is right exactly where it is a sequence
+-- ---- a list has no fault exactly if it is a sequence
 
 sequence_to : (size : ℕ) (jobs : List ℕ) (count : ℕ) → jobs_refusal size jobs ≡ None → count ≤ length jobs
     → IsSequence size (take count jobs)
@@ -196,7 +196,7 @@ IsSequence-rest size job jobs h = record {
   distinct = IsDistinct-tail nat_eq job jobs h.distinct;
 }
 
--- the job at a place is in range, and stands nowhere before
+-- the job at a place is in range and at no earlier place
 absent_before : (size : ℕ) (jobs : List ℕ) (place : ℕ) → IsSequence size jobs → place < length jobs
     → list_any (nat_eq (get_or jobs place 0)) (take place jobs) ≡ false
 absent_before size [] place h within = absurd (omega arith)
@@ -228,7 +228,7 @@ grown jobs place within =
     let long = length-take-le place jobs (omega arith) in
     sym (take_more jobs place 0 within ∙ sym (rw long at (insert_end (take place jobs) (get_or jobs place 0))))
 
--- ---- what a judgement says
+-- ---- what the result of a check says
 
 judged_by : (result : Result (Unit {0}) Refusal) (found : Option Refusal) (size : ℕ) (jobs : List ℕ)
     → Judges result found → jobs_refusal size jobs ≡ found → IsOk result ↔ IsSequence size jobs

@@ -1,4 +1,4 @@
--- Sequences that are judged one after the other.
+-- Sequences that are validated one after the other.
 use Rattle.std.proofs.Common.{◌≡◌, ℕ, ◌+◌, ◌-◌, ◌*◌, ◌<◌, List, take, drop, ap, sym, ◌∙◌, arith}
 use Rattle.std.proofs.Common.{Err, Option, Some, None}
 use Rattle.pfs_c.specs.declared.numbers.Refusal.{Refusal}
@@ -11,7 +11,7 @@ judged_why : (A : Type 0) (why : Refusal) (found : Option Refusal) → Judges {A
 judged_why A why None h = absurd (cc)
 judged_why A why (Some other) h = cc
 
--- a sequence as a slice has it
+-- a sequence is the slice that the program takes
 same_slice : (long : ℕ) (sequences : List ℕ) (index : ℕ)
     → take (index * long + long - index * long) (drop (index * long) sequences) ≡ sequence_at long sequences index
 same_slice long sequences index =

@@ -1,4 +1,4 @@
--- Where the memory for the times of a block is asked for.
+-- Where the reader allocates memory for the times of a block.
 use Rattle.std.proofs.Common.{◌≡◌, ℕ, ◌+◌, ◌<◌, List, ◌++◌, length, take, get_or, append_assoc, arith, ◌∙◌, ap}
 use Rattle.std.proofs.Common.{Option, Some}
 use Rattle.std.proofs.lemmas.List.{length-append, take-append-le, get_or_append_left, get_or-append-add}

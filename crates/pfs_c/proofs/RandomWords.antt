@@ -1,4 +1,4 @@
--- The words of a generator, one by one.
+-- The random words of a generator, one by one.
 use Rattle.std.proofs.Common.{◌≡◌, ℕ, zero, suc, ◌+◌, ◌≤◌, List, [], ◌∷◌, ◌++◌, length, take, drop, set, refl}
 use Rattle.std.proofs.Common.{ap, sym, ◌∙◌, arith}
 use Rattle.std.proofs.Math.Nat.{zero-add, suc-add}
@@ -27,7 +27,7 @@ unfolding first_words state_after
 words-joined zero b g = rw zero-add
 words-joined (suc a) b g = rw suc-add (ap (λ l. (pcg32 g).0 ∷ l) (words-joined a b (pcg32 g).1))
 
--- one word more
+-- with one more word
 word-more : (n : ℕ) (g : Lcg)
     → first_words pcg32 (n + 1) g ≡ first_words pcg32 n g ++ (pcg32 (generator_after n g)).0 ∷ []
 unfolding first_words
@@ -38,7 +38,7 @@ unfolding state_after
 generator-more zero g = refl
 generator-more (suc n) g = rw suc-add (generator-more n (pcg32 g).1)
 
--- the first places of a list have the words of a generator, which has gone on by as many
+-- the places of a list before `place` contain the first random words of a generator, and `now` is its state after them
 pub record AreDrawn (g : Lcg) (words : List ℕ) (place : ℕ) (now : Lcg) : Type 0 where
   pub so_far : take place words ≡ first_words pcg32 place g
   pub state : now ≡ generator_after place g

@@ -1,4 +1,4 @@
--- Rows of heads and tails, as loops over the machines fill them, and how short they are.
+-- Rows of heads and tails, as loops over the machines fill them, and bounds of their entries.
 use Rattle.std.proofs.Common.{◌≡◌, ◌≢◌, ℕ, zero, suc, ◌+◌, ◌-◌, ◌*◌, ◌<◌, ◌≤◌, max, List, [], ◌∷◌, length, map, get_or}
 use Rattle.std.proofs.Common.{set, insert, replicate, refl, sym, ap, ◌∙◌, inl, inr, add-one, arith}
 use Rattle.std.specs.List.{range_with_len}
@@ -41,7 +41,7 @@ module _ (shop : FlowShop) (jobs : List ℕ) where
   done_is zero machine = refl
   done_is (suc place) machine = heaviest_is (operation shop jobs) place machine
 
-  -- a row of which so many machines have the heads after the job of a place, and the others those before it
+  -- a row with the heads after the job at a place for the first `machine` machines, and those before it for the others
   pub record HeadsTo (place machine : ℕ) (row : List ℕ) (before : ℕ) : Type 0 where
     pub done : (m : ℕ) → m < machine → get_or row m 0 ≡ head (operation shop jobs) (place + 1) m
     pub to_do : (m : ℕ) → machine ≤ m → m < shop.machines → get_or row m 0 ≡ head (operation shop jobs) place m
@@ -76,11 +76,11 @@ module _ (shop : FlowShop) (jobs : List ℕ) where
   heads_last place machine row before so_far all m lt =
       so_far.done m (omega arith) ∙ sym (done_is (place + 1) m)
 
-  -- no job is done before the first place
+  -- before the first place all heads are 0
   pub heads_none : (count : ℕ) → shop.machines ≤ count → HeadsAt shop jobs 0 (replicate count 0)
   heads_none count few m lt = get_or-replicate count m 0 0 (omega arith)
 
-  -- after the last place, the last machine has the makespan
+  -- after the last place, the head of the last machine is the makespan
   pub heads_makespan : (row : List ℕ) → 1 ≤ shop.machines → HeadsAt shop jobs (length jobs) row
       → get_or row (shop.machines - 1) 0 ≡ makespan shop jobs
   heads_makespan row some holds =
@@ -89,7 +89,7 @@ module _ (shop : FlowShop) (jobs : List ℕ) where
 
   -- ---- tails
 
-  -- a table of tails, of which a place has those from a machine on
+  -- a table of tails in which the row of a place has those of the machines from `machine` on
   pub record TailsTo (place machine : ℕ) (table : List ℕ) (after : ℕ) : Type 0 where
     pub below : TailsFrom shop jobs (place + 1) table
     pub done : (m : ℕ) → machine ≤ m → m < shop.machines
@@ -106,7 +106,7 @@ module _ (shop : FlowShop) (jobs : List ℕ) where
     last = λ lt. absurd (omega arith);
   }
 
-  -- the tail of the place after this one
+  -- the entry that the loop reads is the tail of the place after this one
   pub tail_below : (place machine : ℕ) (table : List ℕ) → TailsFrom shop jobs (place + 1) table → place < length jobs
       → machine < shop.machines → get_or table (place * shop.machines + shop.machines + machine) 0
       ≡ heaviest_back shop jobs (suc place) machine
@@ -226,7 +226,7 @@ module _ (shop : FlowShop) (jobs : List ℕ) (job place : ℕ) where
       so_far.most_it ∙ ap (λ n. greatest (map sum_across (range_with_len 0 n))) all
       ∙ sym (exchange_law shop jobs job place some within)
 
--- ---- how short they are
+-- ---- bounds of heads and tails
 
 module _ (shop : FlowShop) (within : IsWithin limits shop) (jobs : List ℕ) where
   small : (row machine : ℕ) → operation shop jobs row machine ≤ LONGEST_TIME

@@ -1,4 +1,4 @@
--- What is wrong with an order is not that it has no room.
+-- No fault of a list of jobs is `Room`.
 use Rattle.std.proofs.Common.{◌≢◌, ℕ, Bool, true, false, List, [], ◌∷◌, map, length, Option, Some, None}
 use Rattle.pfs_base.specs.Lists.{below, first_some}
 use Rattle.pfs_c.specs.Judgements.{unless, place_refusal, jobs_refusal}
@@ -10,7 +10,7 @@ by_head : (head : Option Refusal) (more : List (Option Refusal)) (why : Refusal)
 by_head None more why no_head none = none
 by_head (Some other) more why no_head none = no_head
 
--- what no element is refused for, a list is not refused for
+-- a refusal that no element has is not that of the list
 none_of : (refusal_of : ℕ → Option Refusal) (why : Refusal) → ((x : ℕ) → refusal_of x ≢ Some why) → (xs : List ℕ)
     → first_some (map refusal_of xs) ≢ Some why
 none_of refusal_of why none [] = λ e. cc

@@ -1,4 +1,4 @@
--- Lists of times that are judged.
+-- Lists of times that are validated.
 use Rattle.std.proofs.Common.{◌≡◌, ℕ, ◌+◌, ◌<◌, ◌≤◌, refl, Bool, true, false, List, [], ◌∷◌, length, take, max, get_or}
 use Rattle.std.proofs.Common.{◌&&◌, nat_le, inl, inr, sym, arith}
 use Rattle.std.specs.List.{list_all}
@@ -7,7 +7,7 @@ use Rattle.std.proofs.lemmas.Bool.Decides.{nat_tests}
 use Rattle.std.proofs.lemmas.List.{take_more, take_all}
 use Rattle.std.proofs.lemmas.List.Folds.{list_all-append}
 
--- the longest of some times is short exactly where each is
+-- the longest of the first times is within the limit exactly if each of them is
 abbrev pub AreShortTo : ℕ → List ℕ → ℕ → ℕ → Type 0
 AreShortTo limit times index longest =
     nat_le longest limit ≡ list_all (λ time. nat_le time limit) (take index times)

@@ -1,4 +1,4 @@
--- What is wrong with the arguments of a call that inserts a job at each place, and what it returns otherwise.
+-- The first fault in the arguments of `pfs_insertions`, and the makespans that it returns if there is none.
 use Rattle.std.specs.Prelude.{◌≡◌, ℕ, ◌+◌, ◌*◌, ◌≤◌, List, [], ◌∷◌, length, slice_index, Option}
 use Rattle.pfs_base.specs.FlowShop.{FlowShop}
 use Rattle.pfs_base.specs.Lists.{first_some}
@@ -6,13 +6,13 @@ use Rattle.pfs_insert.specs.Insertion.{makespan_with}
 use Rattle.pfs_c.specs.declared.numbers.Refusal.{Refusal}
 use Rattle.pfs_c.specs.Judgements.{sizes_refusal, length_refusal, times_refusal, jobs_refusal, job_refusal}
 
--- with room for so many makespans
+-- `room` is the length of the list for the makespans
 abbrev pub insertions_refusal : List ℕ → ℕ → ℕ → List ℕ → ℕ → ℕ → Option Refusal
 insertions_refusal times jobs machines sequence job room = first_some (sizes_refusal jobs machines
     ∷ length_refusal (length times) (jobs * machines) ∷ length_refusal room (length sequence + 1)
     ∷ times_refusal times ∷ jobs_refusal jobs sequence ∷ job_refusal jobs sequence job ∷ [])
 
--- the makespan with a job at each place of a sequence, the one after its last job included
+-- the makespan with a job inserted at each place of a sequence, including the place after its last job
 pub record AreInsertions (shop : FlowShop) (jobs : List ℕ) (job : ℕ) (makespans : List ℕ) : Type 0 where
   pub long : length makespans ≡ length jobs + 1
   pub each : (place : ℕ) → place ≤ length jobs → slice_index makespans place ≡ makespan_with shop jobs job place

@@ -1,4 +1,5 @@
--- What is wrong with what a function is handed in: of its judgements the first that finds something.
+-- The faults that functions find in their arguments. Each function makes its checks in a fixed order, and reports the
+-- first fault that they find.
 use Rattle.std.specs.Prelude.{ℕ, ◌*◌, ◌&&◌, Bool, not, List, [], ◌∷◌, length, map, take, slice_index}
 use Rattle.std.specs.Prelude.{nat_eq, nat_lt, nat_le, Option, Some, None, if◌then◌else◌}
 use Rattle.std.specs.List.{list_all, list_any}
@@ -9,15 +10,15 @@ use Rattle.pfs_layout.specs.Generator.{prime}
 use Rattle.pfs_c.specs.declared.numbers.Refusal.{Refusal}
 use Rattle.pfs_c.specs.declared.numbers.Refusal.TheVariants.{Size, Length, Time, Job, Repeated, Seed}
 
--- the flow shop that C hands in
+-- the flow shop that C passes, with its processing times job by job
 abbrev pub shop_of : List ℕ → ℕ → ℕ → FlowShop
 shop_of times jobs machines = record { jobs = jobs; machines = machines; times = times }
 
--- this refusal, unless a test holds
+-- this refusal, unless the test is true
 abbrev pub unless : Bool → Refusal → Option Refusal
 unless test why = if test then None else Some why
 
--- ---- of lists and sizes
+-- ---- sizes and lists
 
 abbrev pub sizes_refusal : ℕ → ℕ → Option Refusal
 sizes_refusal jobs machines =
@@ -36,22 +37,22 @@ shop_refusals times jobs machines =
 abbrev pub shop_refusal : List ℕ → ℕ → ℕ → Option Refusal
 shop_refusal times jobs machines = first_some (shop_refusals times jobs machines)
 
--- ---- of jobs
+-- ---- jobs
 
--- a job isn't below the size, or stands among others already
+-- `Job` if a job is not below the size, else `Repeated` if it is one of the others
 abbrev pub job_refusal : ℕ → List ℕ → ℕ → Option Refusal
 job_refusal size others job =
     first_some (unless (nat_lt job size) Job ∷ unless (not (list_any (nat_eq job) others)) Repeated ∷ [])
 
--- the same of the job at a place and those before it
+-- the same for the job at a place and the jobs before it
 abbrev pub place_refusal : ℕ → List ℕ → ℕ → Option Refusal
 place_refusal size jobs place = job_refusal size (take place jobs) (slice_index jobs place)
 
--- from the left
+-- the first fault in a list of jobs, from the left
 abbrev pub jobs_refusal : ℕ → List ℕ → Option Refusal
 jobs_refusal size jobs = first_some (map (place_refusal size jobs) (below (length jobs)))
 
--- ---- of each function
+-- ---- the arguments of each function, in the order of its checks
 
 abbrev pub makespan_refusal : List ℕ → ℕ → ℕ → List ℕ → Option Refusal
 makespan_refusal times jobs machines sequence =

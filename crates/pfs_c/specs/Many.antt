@@ -6,16 +6,16 @@ use Rattle.pfs_base.specs.Paths.{makespan}
 use Rattle.pfs_c.specs.declared.numbers.Refusal.{Refusal}
 use Rattle.pfs_c.specs.Judgements.{sizes_refusal, length_refusal, times_refusal, jobs_refusal}
 
--- the sequence with an index, of so many jobs each
+-- the sequence with this index, counted from 0, if each has `long` jobs
 abbrev pub sequence_at : ℕ → List ℕ → ℕ → List ℕ
 sequence_at long sequences index = take long (drop (index * long) sequences)
 
--- of the sequences one after the other, each from the left
+-- the first fault in the sequences, one after the other, each from the left
 abbrev pub sequences_refusal : ℕ → ℕ → ℕ → List ℕ → Option Refusal
 sequences_refusal jobs count long sequences =
     first_some (map (λ index. jobs_refusal jobs (sequence_at long sequences index)) (below count))
 
--- with room for so many makespans
+-- `room` is the length of the list for the makespans, one for each sequence
 abbrev pub makespans_refusal : List ℕ → ℕ → ℕ → List ℕ → ℕ → ℕ → Option Refusal
 makespans_refusal times jobs machines sequences long room = first_some (sizes_refusal jobs machines
     ∷ length_refusal (length times) (jobs * machines) ∷ length_refusal (length sequences) (room * long)

@@ -1,10 +1,10 @@
--- The numbers that the functions answer.
+-- The numbers that the functions return.
 use Rattle.std.specs.Prelude.{◌≡◌, ◌⊎◌, ℤ, Option, Some, None}
 use Rattle.pfs_c.specs.declared.numbers.Refusal.{Refusal}
 use Rattle.pfs_c.specs.declared.numbers.Refusal.TheVariants as refusal
 use Rattle.pfs_c.specs.declared.numbers.TheConstants as numbers
 
--- the number of a refusal
+-- the number that C receives for a refusal
 abbrev pub refusal_number : Refusal → ℤ
 refusal_number refusal.Memory = numbers.PFS_MEMORY
 refusal_number refusal.Size = numbers.PFS_SIZE
@@ -34,7 +34,8 @@ refusal_number refusal.JobRange = numbers.PFS_JOB_RANGE
 refusal_number refusal.JobTwice = numbers.PFS_JOB_TWICE
 refusal_number refusal.FileTooLong = numbers.PFS_FILE_TOO_LONG
 
--- a call answers the number of what is refused; where nothing is, it is done, or memory was refused
+-- a call returns the number of the first fault in its arguments; if there is none, it returns PFS_OK or, if an
+-- allocation failed, PFS_MEMORY
 abbrev pub Answers : ℤ → Option Refusal → Type 0
 Answers result (Some why) = result ≡ refusal_number why
 Answers result None = (result ≡ numbers.PFS_OK) ⊎ (result ≡ numbers.PFS_MEMORY)

@@ -1,3 +1,3 @@
--- What only contracts of private functions and proofs speak of: no promise to users rests on it.
+-- Definitions for contracts of private functions and for proofs only: no promise to users depends on them.
 pub mod Refusing
 pub mod Rows

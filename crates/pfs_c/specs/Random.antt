@@ -2,6 +2,6 @@
 use Rattle.std.specs.Prelude.{ℕ, ◌+◌, List, drop as behind}
 use Rattle.pfs_search.specs.Solution.{words_for}
 
--- so many words of a seed, without the first so many
+-- the `count` random words of a seed that follow its first `first` words
 abbrev pub words_from : ℕ → ℕ → ℕ → List ℕ
 words_from seed first count = behind first (words_for seed (first + count))

@@ -1,4 +1,4 @@
--- What is wrong with what C hands in for a search, and what is found where nothing is.
+-- The first fault in the arguments of `pfs_neh` and of `pfs_rounds`, and what `pfs_neh` returns if there is none.
 use Rattle.std.specs.Prelude.{◌≡◌, ℕ, ◌+◌, ◌*◌, ◌&&◌, List, [], ◌∷◌, length, nat_le, Option}
 use Rattle.pfs_base.specs.FlowShop.{FlowShop}
 use Rattle.pfs_base.specs.Lists.{first_some}
@@ -11,7 +11,7 @@ use Rattle.pfs_c.specs.declared.numbers.Refusal.{Refusal}
 use Rattle.pfs_c.specs.declared.numbers.Refusal.TheVariants.{Take, Passes, Rounds}
 use Rattle.pfs_c.specs.Judgements.{unless, sizes_refusal, length_refusal, times_refusal, jobs_refusal}
 
--- with room for an order of so many jobs
+-- `room` is the length of the list for the order
 abbrev pub neh_refusal : List ℕ → ℕ → ℕ → ℕ → Option Refusal
 neh_refusal times jobs machines room = first_some (sizes_refusal jobs machines
     ∷ length_refusal (length times) (jobs * machines) ∷ length_refusal room jobs ∷ times_refusal times ∷ [])
@@ -30,10 +30,10 @@ rounds_refusal times jobs machines start first count take passes = first_some (s
     ∷ length_refusal (length times) (jobs * machines) ∷ length_refusal (length start) jobs ∷ times_refusal times
     ∷ jobs_refusal jobs start ∷ take_refusal take jobs ∷ passes_refusal passes ∷ count_refusal first count ∷ [])
 
--- NEH's order, its makespan, and how many cells NEH counts
+-- NEH's order, its makespan, and the number of table cells that NEH takes
 pub record IsNeh (shop : FlowShop) (order : List ℕ) (span cells : ℕ) : Type 0 where
   pub found : order ≡ neh_order shop
-  -- it has each job once
+  -- it contains each job once
   pub all : length order ≡ shop.jobs
   pub distinct : IsSequence shop.jobs order
   pub spanned : span ≡ makespan shop order

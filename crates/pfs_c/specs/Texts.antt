@@ -1,4 +1,4 @@
--- What the functions that read and write texts answer.
+-- What the functions that read and write files in memory return.
 use Rattle.std.specs.Prelude.{◌≡◌, ◌⊎◌, ℕ, ℤ, ◌*◌, ◌^◌, ◌<◌, ◌==◌, ◌&&◌, nat_le, nat_lt, if◌then◌else◌}
 use Rattle.std.specs.Prelude.{List, [], ◌∷◌, ◌++◌, length, take, drop, slice_index}
 use Rattle.std.specs.Prelude.{Option, Some, None, is_some, Result, Ok, Err, IsSomeAnd, MatchOption}
@@ -27,21 +27,21 @@ use Rattle.pfs_c.specs.declared.numbers.Refusal.TheVariants as refusal
 use Rattle.pfs_c.specs.declared.numbers.TheConstants.{PFS_OK, PFS_MEMORY}
 use Rattle.pfs_c.specs.declared.texts.PfsNotes.{PfsNotes}
 
--- ---- what C names
+-- ---- arguments, as C passes them
 
--- the layout of a number
+-- the layout that a number names
 abbrev pub layout_named : ℕ → Option Layout
 layout_named number = if number == 0 then Some Taillard else (if number == 1 then Some OrLib else None)
 
--- notes, as C sees them
+-- the notes in a struct of C
 abbrev pub notes_of : PfsNotes → Notes
 notes_of notes = record { seed = notes.seed; upper = notes.upper; lower = notes.lower }
 
--- a number of machines, which is 0 where none is stated
+-- the number of machines that an order file states, where 0 means that it states none
 abbrev pub machines_stated : ℕ → Option ℕ
 machines_stated machines = if machines == 0 then None else Some machines
 
--- a problem and an order file, in their parts
+-- a problem and an order file from their parts, as C passes them
 abbrev pub given_problem : ℕ → ℕ → PfsNotes → List ℕ → Problem
 given_problem jobs machines notes times = record { shop = shop_of times jobs machines; notes = notes_of notes }
 
@@ -49,7 +49,7 @@ abbrev pub order_file_of : List ℕ → ℕ → ℕ → StatedOrder
 order_file_of jobs machines makespan =
     record { order = jobs; machines = machines_stated machines; makespan = makespan }
 
--- ---- what is refused
+-- ---- faults of arguments and of files
 
 abbrev pub layout_refusal : ℕ → Option Refusal
 layout_refusal layout = unless (is_some (layout_named layout)) refusal.Layout
@@ -57,11 +57,11 @@ layout_refusal layout = unless (is_some (layout_named layout)) refusal.Layout
 abbrev pub block_refusal : ℕ → Option Refusal
 block_refusal block = unless (nat_le 1 block && nat_le block MOST_BLOCKS) refusal.Block
 
--- so many entries have to have room
+-- `Room`, unless there is room for `wanted` entries
 abbrev pub room_refusal : ℕ → ℕ → Option Refusal
 room_refusal room wanted = unless (nat_le wanted room) refusal.Room
 
--- a fault of an instance file; the last two are of none
+-- the refusal for a fault of an instance file; the last two are not faults of a file
 abbrev pub file_refusal : LayoutFault → Refusal
 file_refusal (file.NoBlock found) = refusal.NoBlock
 file_refusal (file.SizeCount line) = refusal.SizeCount
@@ -76,7 +76,7 @@ file_refusal file.SeedRange = refusal.Seed
 file_refusal file.Read = refusal.Memory
 file_refusal file.Memory = refusal.Memory
 
--- the number that it holds
+-- the count, line or offset of a fault of an instance file, or 0 if it has none
 abbrev pub file_place : LayoutFault → ℕ
 file_place (file.NoBlock found) = found
 file_place (file.SizeCount line) = line
@@ -88,7 +88,7 @@ file_place (file.ExtraNumber offset) = offset
 file_place (file.Truncated have) = have
 file_place _ = 0
 
--- a fault of an order file; the last two are of none
+-- the refusal for a fault of an order file; the last two are not faults of a file
 abbrev pub order_refusal : OrderFault → Refusal
 order_refusal (order.Syntax offset) = refusal.Syntax
 order_refusal (order.JobRange place) = refusal.JobRange
@@ -97,6 +97,7 @@ order_refusal order.TooLong = refusal.FileTooLong
 order_refusal order.Read = refusal.Memory
 order_refusal order.Memory = refusal.Memory
 
+-- the offset or place of a fault of an order file, or 0 if it has none
 abbrev pub order_place : OrderFault → ℕ
 order_place (order.Syntax offset) = offset
 order_place (order.JobRange place) = place
@@ -105,51 +106,53 @@ order_place _ = 0
 
 -- ---- files in memory
 
--- the bytes hold this problem as a block in the layout of a number, or have this fault
+-- the bytes contain this problem as the block with this number, in the layout that a number names
 abbrev pub HoldsProblem : List ℕ → ℕ → ℕ → Problem → Type 0
 HoldsProblem bytes layout block problem =
     IsSomeAnd (layout_named layout) (λ named. IsInstanceFile limits named bytes block problem)
 
+-- reading this block in this layout finds this fault
 abbrev pub HasFault : List ℕ → ℕ → ℕ → LayoutFault → Type 0
 HasFault bytes layout block fault =
     IsSomeAnd (layout_named layout) (λ named. RefusesInstance named bytes block fault)
 
--- one of the two; by a law, no bytes hold two problems, or a problem and a fault, or two faults
+-- a problem or a fault; by a law, no bytes contain two problems, or a problem and a fault, or two faults
 abbrev pub IsVerdict : List ℕ → ℕ → ℕ → Result Problem LayoutFault → Type 0
 IsVerdict bytes layout block (Ok problem) = HoldsProblem bytes layout block problem
 IsVerdict bytes layout block (Err fault) = HasFault bytes layout block fault
 
--- the same of an order file
+-- the same for an order file
 abbrev pub IsOrderVerdict : List ℕ → Result StatedOrder OrderFault → Type 0
 IsOrderVerdict bytes (Ok file) = IsOrderFile bytes file
 IsOrderVerdict bytes (Err fault) = RefusesOrder bytes fault
 
--- what is refused of a file: its fault, or that what it holds has no room
+-- the refusal for a file: its fault, or `Room` if its times do not fit
 abbrev pub verdict_refusal : ℕ → Result Problem LayoutFault → Option Refusal
 verdict_refusal room (Ok problem) = room_refusal room (problem.shop.jobs * problem.shop.machines)
 verdict_refusal room (Err fault) = Some (file_refusal fault)
 
+-- the refusal for an order file: its fault, or `Room` if its order does not fit
 abbrev pub order_verdict_refusal : ℕ → Result StatedOrder OrderFault → Option Refusal
 order_verdict_refusal room (Ok file) = room_refusal room (length file.order)
 order_verdict_refusal room (Err fault) = Some (order_refusal fault)
 
--- ---- the numbers that are answered
+-- ---- the numbers that are returned
 
 abbrev pub answer_of : Option Refusal → ℤ
 answer_of None = PFS_OK
 answer_of (Some why) = refusal_number why
 
--- the layout and the block are judged first, and then the file
+-- the layout and the block are validated first, then the file
 abbrev pub asked_refusal : ℕ → ℕ → Option Refusal
 asked_refusal layout block = first_some (layout_refusal layout ∷ block_refusal block ∷ [])
 
--- the size line of the wanted block ends at a place, where the memory for its times is asked for
+-- the size line of the requested block ends at a place of the bytes, where memory for its times is allocated
 pub record WantsMemory (bytes : List ℕ) (layout : Layout) (block : ℕ) : Type 0 where
   pub place : ℕ
   pub within : place < length bytes
   pub ends : EndsWantedSize layout block (take place bytes) (slice_index bytes place)
 
--- memory was refused where it is asked for, or the answer is that of the file's verdict, which is one alone
+-- the allocation at the end of the size line failed, or the number is that of the file's verdict, which is unique
 abbrev pub AnswersFile : ℤ → List ℕ → ℕ → ℕ → ℕ → Type 0
 AnswersFile answer bytes layout block room =
     ((answer ≡ PFS_MEMORY) × IsSomeAnd (layout_named layout) (λ named. WantsMemory bytes named block))
@@ -160,7 +163,8 @@ abbrev pub AnswersRead : ℤ → List ℕ → ℕ → ℕ → ℕ → Type 0
 AnswersRead answer bytes layout block room = MatchOption (asked_refusal layout block)
     (AnswersFile answer bytes layout block room) (λ why. answer ≡ refusal_number why)
 
--- memory is asked for where the text is one of the grammar, before its jobs are judged
+-- the allocation for the order failed, which happens only once the text is known to match the grammar and before its
+-- jobs are validated, or the number is that of the file's verdict
 abbrev pub AnswersReadOrder : ℤ → List ℕ → ℕ → Type 0
 AnswersReadOrder answer bytes room = ((answer ≡ PFS_MEMORY) × IsText bytes)
     ⊎ ((verdict : Result StatedOrder OrderFault) × (IsOrderVerdict bytes verdict
@@ -168,11 +172,11 @@ AnswersReadOrder answer bytes room = ((answer ≡ PFS_MEMORY) × IsText bytes)
 
 -- ---- writing
 
--- the text of a problem in the layout of a number
+-- the text of a problem in the layout that a number names
 abbrev pub text_in : ℕ → Problem → List ℕ
 text_in layout problem = option_map_or (λ named. canonical_text named problem) (layout_named layout) []
 
--- a list into the front of which another was written
+-- a list whose front was overwritten with another list
 abbrev pub put_in_front : {A : Type 0} → List A → List A → List A
 put_in_front front whole = front ++ drop (length front) whole
 
@@ -191,7 +195,8 @@ abbrev pub write_order_refusal : List ℕ → ℕ → ℕ → Option Refusal
 write_order_refusal jobs machines makespan = first_some (order_size_refusal (length jobs) machines
     ∷ jobs_refusal (length jobs) jobs ∷ stated_refusal makespan ∷ [])
 
--- what is wrong with what is to be written, or else memory was refused, or the text has room or not
+-- the first fault in the arguments; if there is none, PFS_MEMORY if an allocation failed, or else PFS_OK if the file
+-- fits and PFS_ROOM if not
 abbrev pub AnswersWrite : ℤ → Option Refusal → ℕ → ℕ → Type 0
 AnswersWrite answer (Some why) room wanted = answer ≡ refusal_number why
 AnswersWrite answer None room wanted = (answer ≡ PFS_MEMORY) ⊎ (answer ≡ answer_of (room_refusal room wanted))

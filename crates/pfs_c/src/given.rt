@@ -1,4 +1,4 @@
-//! What C hands in: it is judged, and copied into the types of the crates below.
+//! Arguments from C: they are validated and copied into the types of the crates below.
 ghost use Rattle.std.specs.Prelude.{◌≡◌, ◌≤◌, ◌<◌, ◌*◌, ◌↔◌, length, false, All, Contains, IsOk, IfOk, IfErr};
 ghost use Rattle.pfs_base.specs.FlowShop.{AreSizes, IsWithin};
 ghost use Rattle.pfs_base.specs.Limits.{limits};
@@ -20,11 +20,11 @@ pub(crate) const NO_NOTES: Notes = Notes {
     lower: 0,
 };
 
-// Sequences of jobs below this number are judged with few marks, since clearing many takes longer than
-// judging a few jobs.
+// If there are at most this many jobs, sequences are validated with few marks: clearing many marks takes longer than
+// validating a few jobs.
 const FEW_JOBS: usize = 512;
 
-/// Judges the numbers of jobs and of machines: `Size` where one is out of its limit.
+/// Validates the numbers of jobs and of machines. Returns `Size` if one is outside its limits.
 pub(crate) fn judge_sizes(jobs: usize, machines: usize) -> Result<(), Refusal>
     ensures judged { Judges result (sizes_refusal jobs machines) }
     ensures within { IfOk result (λ done. AreSizes limits jobs machines) }
@@ -36,7 +36,7 @@ pub(crate) fn judge_sizes(jobs: usize, machines: usize) -> Result<(), Refusal>
     }
 }
 
-/// Judges how many entries a list has: `Length` where they aren't as many as are wanted.
+/// Validates the length of a list. Returns `Length` if it is not the wanted one.
 pub(crate) fn judge_length(length: usize, wanted: usize) -> Result<(), Refusal>
     ensures judged { Judges result (length_refusal length wanted) }
     ensures equal { IfOk result (λ done. length ≡ wanted) }
@@ -48,12 +48,12 @@ pub(crate) fn judge_length(length: usize, wanted: usize) -> Result<(), Refusal>
     }
 }
 
-/// Judges times: `Time` where one is too long.
+/// Validates processing times. Returns `Time` if one is greater than `LONGEST_TIME`.
 pub(crate) fn judge_times(times: &[u32]) -> Result<(), Refusal>
     ensures judged { Judges result (times_refusal times.now) }
     ensures short { IfOk result (λ done. All (λ time. time ≤ LONGEST_TIME) times.now) }
 {
-    // The greatest is compared once, since no lanes are made of a loop that may end early.
+    // Only the greatest is compared, since a loop that may end early is not vectorized.
     let mut longest = 0;
     for time in times {
         longest = longest.max(*time);
@@ -65,7 +65,7 @@ pub(crate) fn judge_times(times: &[u32]) -> Result<(), Refusal>
     }
 }
 
-/// Judges the sizes, then how many times there are, then the times.
+/// Validates the sizes, then the number of times, then the times, and returns the first fault.
 pub(crate) fn judge_shop(times: &[u32], jobs: usize, machines: usize) -> Result<(), Refusal>
     ensures judged { Judges result (shop_refusal times.now jobs machines) }
     ensures within { IfOk result (λ done. IsWithin limits (shop_of times.now jobs machines)) }
@@ -75,8 +75,8 @@ pub(crate) fn judge_shop(times: &[u32], jobs: usize, machines: usize) -> Result<
     judge_times(times)
 }
 
-/// Judges a list of jobs from the left: `Job` where one isn't below the size, `Repeated` where one stands at an
-/// earlier place too, whichever place comes first. It asks for no memory, and looks at each job once.
+/// Validates a list of jobs from the left. For the first invalid place it returns `Job` if the job there is not below
+/// the size, and `Repeated` if the job is also at an earlier place. It allocates nothing and reads each job at most once.
 pub(crate) fn judge_jobs(size: usize, jobs: &[u32]) -> Result<(), Refusal>
     requires { size ≤ MOST_JOBS }
     ensures judged { Judges result (jobs_refusal size jobs.now) }
@@ -89,7 +89,7 @@ pub(crate) fn judge_jobs(size: usize, jobs: &[u32]) -> Result<(), Refusal>
     }
 }
 
-// The same with few marks and with many, each in a frame of its own.
+// `judge_jobs` with few marks and with many, each in a separate stack frame.
 #[inline(never)]
 fn judge_few_jobs(size: usize, jobs: &[u32]) -> Result<(), Refusal>
     requires { size ≤ FEW_JOBS }
@@ -106,7 +106,7 @@ fn judge_many_jobs(size: usize, jobs: &[u32]) -> Result<(), Refusal>
     judge_with_marks(size, jobs, &mut [false; MOST_JOBS])
 }
 
-// The same with a mark for each job, of which none is set.
+// `judge_jobs` with a mark for each job below the size, of which none is set yet.
 #[inline(always)]
 fn judge_with_marks(size: usize, jobs: &[u32], marks: &mut [bool]) -> Result<(), Refusal>
     requires enough { size ≤ length marks.old }
@@ -126,8 +126,8 @@ fn judge_with_marks(size: usize, jobs: &[u32], marks: &mut [bool]) -> Result<(),
     Ok(())
 }
 
-/// Judges a job that is to be inserted into a sequence: `Job` where it isn't below the size, and then `Repeated`
-/// where it stands there already. It looks at each place.
+/// Validates a job to insert into a sequence. Returns `Job` if it is not below the size, else `Repeated` if it is in
+/// the sequence already. The time is linear in the length of the sequence.
 pub(crate) fn judge_job(size: usize, sequence: &[u32], job: u32) -> Result<(), Refusal>
     ensures judged { Judges result (job_refusal size sequence.now job) }
     ensures in_range { IfOk result (λ done. job < size) }
@@ -142,7 +142,7 @@ pub(crate) fn judge_job(size: usize, sequence: &[u32], job: u32) -> Result<(), R
     Ok(())
 }
 
-/// An instance of times that were judged. It fails only where its memory is refused, which it asks for once.
+/// Makes an instance of validated times. It allocates once, and returns `Memory` if that fails; it has no other error.
 pub(crate) fn instance_of(
     alloc: Global,
     times: &[u32],
@@ -157,7 +157,7 @@ pub(crate) fn instance_of(
     Instance::of_times(alloc, jobs, machines, times, notes).or(Err(Refusal::Memory))
 }
 
-/// A sequence of jobs that were judged. It fails only where its memory is refused, which it asks for once.
+/// Makes a sequence of validated jobs. It allocates once, and returns `Memory` if that fails; it has no other error.
 pub(crate) fn sequence_of(alloc: Global, size: usize, jobs: &[u32]) -> Result<Seq, Refusal>
     requires some { 1 ≤ size }
     requires few { size ≤ MOST_JOBS }
@@ -172,7 +172,8 @@ pub(crate) fn sequence_of(alloc: Global, size: usize, jobs: &[u32]) -> Result<Se
     Ok(sequence)
 }
 
-/// An order of all jobs, which were judged. It fails only where its memory is refused, which it asks for once.
+/// Makes an order of validated jobs, which are all jobs. It allocates once, and returns `Memory` if that fails; it has
+/// no other error.
 pub(crate) fn order_of(alloc: Global, jobs: &[u32]) -> Result<Order, Refusal>
     requires some { 1 ≤ length jobs.now }
     requires few { length jobs.now ≤ MOST_JOBS }
@@ -186,7 +187,7 @@ pub(crate) fn order_of(alloc: Global, jobs: &[u32]) -> Result<Order, Refusal>
     }
 }
 
-/// Copies an order into the front of a list that has room for it.
+/// Copies an order into the front of a list with room for it. The rest of the list is unchanged.
 pub(crate) fn copy_order(order: &Order, out: &mut [u32])
     requires { length order.now ≤ length out.old }
     ensures front { out.new ≡ put_in_front order.now out.old }

@@ -1,4 +1,4 @@
-//! The best place for a job, by the method that serves the shop.
+//! The best place for a job, by the method that `method_for` chooses for the instance.
 ghost use Rattle.std.specs.Prelude.{◌≡◌, ◌<◌, Contains, IfOk, IfErr};
 ghost use Rattle.pfs_insert.specs.Inserter.{IsBestPlace};
 ghost use Rattle.pfs_wave.specs.Served.{IsServed};
@@ -10,8 +10,8 @@ use pfs_order::Seq;
 use pfs_wave::{Lanes, MeteredLanes, Method, OneBand, ThreeBands, TwoBands, Wavefront, method_for};
 use std::alloc::Global;
 
-/// The best place for a job in a sequence of the instance's jobs, and the makespan there. The only refusal is that of
-/// memory.
+/// Returns the best place for a job in a sequence of the instance's jobs, and the makespan with the job there. The only
+/// error is `Memory`, if an allocation fails.
 pub(crate) fn best_place(
     alloc: Global,
     instance: &Instance,
@@ -33,7 +33,7 @@ pub(crate) fn best_place(
     }
 }
 
-// What `best_place` returns, by `HeadsTails`.
+// `best_place` by `HeadsTails`.
 fn best_by_rows(
     alloc: Global,
     instance: &Instance,
@@ -47,7 +47,7 @@ fn best_by_rows(
         IsBestPlace instance.now.shop sequence.now.jobs job best.place best.span) }
     ensures memory { IfErr result (λ why. why ≡ Refusal.Memory) }
 {
-    // Called for what they say of an instance and a sequence: that they are within the limits.
+    // Called for their contracts: the instance and the sequence are within the limits.
     let _jobs = instance.jobs();
     let _len = sequence.len();
     let mut bench = instance.metered();
@@ -63,7 +63,7 @@ fn best_by_rows(
     })
 }
 
-// What `best_place` returns, by a wavefront.
+// `best_place` by a wavefront.
 fn best_in_lanes<L: Lanes>(
     alloc: Global,
     instance: &Instance,
@@ -78,7 +78,7 @@ fn best_in_lanes<L: Lanes>(
         IsBestPlace instance.now.shop sequence.now.jobs job best.place best.span) }
     ensures memory { IfErr result (λ why. why ≡ Refusal.Memory) }
 {
-    // Called for what they say of an instance and a sequence: that they are within the limits.
+    // Called for their contracts: the instance and the sequence are within the limits.
     let _jobs = instance.jobs();
     let _len = sequence.len();
     let Ok(mut bench) = MeteredLanes::<L>::new(alloc, instance) else {

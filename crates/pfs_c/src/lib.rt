@@ -1,7 +1,7 @@
-//! The library for C. Each function judges all that it is handed in, since C keeps no promise, calls the
-//! proved function of a crate below, and copies the answer out. What each judges, in which order, and what it
-//! answers, stands at its declaration in `lib/pfs.h` too. Times stand job by job: `times[job * machines +
-//! machine]`. Jobs, machines and places count from 0.
+//! The library for C. C gives no guarantees, so each function first validates all of its arguments. It then calls a
+//! proved function, most of them in the crates below, and copies the result out. Its declaration in `lib/pfs.h` also
+//! says what it validates, in which order, and what it returns. Processing times are stored job by job:
+//! `times[job * machines + machine]`. Jobs, machines and places count from 0.
 #![tactic(auto)]
 
 mod given;

@@ -14,8 +14,9 @@ use crate::numbers::{PFS_OK, Refusal};
 use crate::rows::span_of;
 use pfs_base::MOST_JOBS;
 
-/// The makespans of sequences of distinct jobs, which stand one after the other and have `len` jobs each. It asks for
-/// no memory.
+/// Computes the makespans of many sequences, which are stored one after the other. Each has `len` distinct jobs, which
+/// need not be all jobs; with `len` 0, each makespan is 0. If one sequence is invalid, no makespan is written. The
+/// function allocates nothing.
 #[unsafe(no_mangle)]
 pub extern "C" fn pfs_makespans(
     times: &[u32],
@@ -60,7 +61,7 @@ fn judge_makespans(
     judge_sequences(jobs, sequences, long, room)
 }
 
-// Judges how many entries a list has that is to have so many times so many.
+// Validates the length of a list that must have `count * long` entries. If that product overflows, the length is wrong.
 fn judge_product(length: usize, count: usize, long: usize) -> Result<(), Refusal>
     ensures judged { Judges result (length_refusal length (count * long)) }
     ensures equal { IfOk result (λ done. length ≡ count * long) }
@@ -71,7 +72,7 @@ fn judge_product(length: usize, count: usize, long: usize) -> Result<(), Refusal
     }
 }
 
-// Judges the sequences one after the other.
+// Validates the sequences one after the other, each from the left.
 fn judge_sequences(jobs: usize, sequences: &[u32], long: usize, count: usize) -> Result<(), Refusal>
     requires few { jobs ≤ MOST_JOBS }
     requires room { length sequences.now ≡ count * long }
@@ -86,7 +87,7 @@ fn judge_sequences(jobs: usize, sequences: &[u32], long: usize, count: usize) ->
     Ok(())
 }
 
-// Fills the makespans of the sequences.
+// Writes the makespan of each sequence.
 fn fill_makespans(
     times: &[u32],
     jobs: usize,

@@ -1,50 +1,50 @@
-//! The numbers that the functions answer.
+//! The numbers that the functions return.
 ghost use Rattle.std.specs.Prelude.{◌≡◌, ◌≢◌, pos};
 ghost use Rattle.pfs_c.specs.Numbers.{refusal_number};
 
-/// All is done.
+/// The call succeeded.
 pub const PFS_OK: i32 = 0;
 
-/// Memory was refused.
+/// An allocation failed.
 pub const PFS_MEMORY: i32 = 1;
 
-/// The number of jobs or of machines is out of its limit.
+/// The number of jobs or of machines is outside its limits.
 pub const PFS_SIZE: i32 = 2;
 
-/// A list hasn't as many entries as the sizes say.
+/// The length of a list does not match the sizes.
 pub const PFS_LENGTH: i32 = 3;
 
-/// A time is too long.
+/// A processing time is greater than `LONGEST_TIME`.
 pub const PFS_TIME: i32 = 4;
 
-/// A job isn't below the number of jobs.
+/// A job is not below the number of jobs.
 pub const PFS_JOB: i32 = 5;
 
-/// A job stands twice, or one that is to be inserted stands there already.
+/// A job occurs twice, or the job to insert is in the sequence already.
 pub const PFS_REPEATED: i32 = 6;
 
-/// The number of jobs that a round takes out isn't from 1 to the number of jobs.
+/// The destruction size is not from 1 to the number of jobs.
 pub const PFS_TAKE: i32 = 7;
 
-/// Too many passes.
+/// More than `MOST_PASSES` passes.
 pub const PFS_PASSES: i32 = 8;
 
-/// Too many rounds.
+/// Rounds beyond the first `MOST_ROUNDS`.
 pub const PFS_ROUNDS: i32 = 9;
 
-/// A seed that Taillard's generator doesn't take.
+/// A seed that Taillard's generator does not accept: it accepts 1 to 2147483646.
 pub const PFS_SEED: i32 = 10;
 
 /// No layout has this number.
 pub const PFS_LAYOUT: i32 = 11;
 
-/// No block has this number.
+/// The number of a block is not from 1 to `MOST_BLOCKS`.
 pub const PFS_BLOCK: i32 = 12;
 
-/// A makespan that an order file can't state.
+/// A makespan too great for an order file, which states at most 10^18 - 1.
 pub const PFS_MAKESPAN: i32 = 13;
 
-/// Too little room for the answer.
+/// The output has too little room for the result.
 pub const PFS_ROOM: i32 = 14;
 
 /// The file ends before the block.
@@ -53,40 +53,40 @@ pub const PFS_NO_BLOCK: i32 = 20;
 /// A size line has too few or too many numbers.
 pub const PFS_SIZE_COUNT: i32 = 21;
 
-/// A number of a size line is out of its limit.
+/// A number of a size line is outside its limits.
 pub const PFS_SIZE_RANGE: i32 = 22;
 
-/// A line of times has a word too.
+/// A line of a block's times contains both a digit and a word.
 pub const PFS_MIXED_LINE: i32 = 23;
 
-/// A time of the file is too long.
+/// A time in the file is greater than `LONGEST_TIME`.
 pub const PFS_TIME_RANGE: i32 = 24;
 
-/// Another machine's number is due.
+/// The number of another machine is expected here.
 pub const PFS_MACHINE_NUMBER: i32 = 25;
 
-/// A number stands behind a block's last time.
+/// A number follows a block's last time.
 pub const PFS_EXTRA_NUMBER: i32 = 26;
 
 /// The file ends inside a block.
 pub const PFS_TRUNCATED: i32 = 27;
 
-/// The block doesn't end within the longest input.
+/// The block does not end within the longest input that is read.
 pub const PFS_INPUT_TOO_LONG: i32 = 28;
 
-/// No order file.
+/// The bytes are not an order file.
 pub const PFS_SYNTAX: i32 = 30;
 
 /// A job of the order file is out of range.
 pub const PFS_JOB_RANGE: i32 = 31;
 
-/// A job stands twice in the order file.
+/// A job occurs twice in the order file.
 pub const PFS_JOB_TWICE: i32 = 32;
 
 /// The order file is too long.
 pub const PFS_FILE_TOO_LONG: i32 = 33;
 
-/// The numbers, in numerals, as `lib/pfs.h` has them.
+/// The numbers in digits, as in `lib/pfs.h`.
 pub fn numbers()
     ensures ok { PFS_OK ≡ pos 0 }
     ensures memory { PFS_MEMORY ≡ pos 1 }
@@ -118,7 +118,7 @@ pub fn numbers()
     ensures file_too_long { PFS_FILE_TOO_LONG ≡ pos 33 }
 {}
 
-/// Why a function doesn't do what it is asked for, with the number that C is told.
+/// Why a call fails. The value of each variant is the number that C receives.
 #[derive(Clone, Copy)]
 pub(crate) enum Refusal {
     Memory = PFS_MEMORY as isize,
@@ -151,7 +151,7 @@ pub(crate) enum Refusal {
 }
 
 impl Refusal {
-    /// The number that C is told.
+    /// The number that C receives.
     pub(crate) fn number(self) -> i32
         ensures value { result ≡ refusal_number self }
         ensures some { result ≢ PFS_OK }

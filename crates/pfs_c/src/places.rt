@@ -15,8 +15,8 @@ use crate::rows::{add_head, add_tail, span_with};
 use pfs_base::MOST_MACHINES;
 use std::alloc::Global;
 
-/// The makespans with a job at each place of a sequence of others: before the job that stands there, or after the
-/// last.
+/// Computes the makespan with a job at each place of a sequence of others. `makespans[place]` is that with the job
+/// before the one at this place, and the last entry that with the job after the last one.
 #[unsafe(no_mangle)]
 pub extern "C" fn pfs_insertions(
     alloc: Global,
@@ -74,8 +74,8 @@ fn judge_insertions(
     judge_job(jobs, sequence, job)
 }
 
-/// The tails of a sequence, with a row of zeros after them. It fails only where its memory is refused, which it asks
-/// for once.
+/// Returns the tails of a sequence, a row for each place, with a row of zeros after them. It allocates once, and
+/// returns `Memory` if that fails; it has no other error.
 fn tails_of(
     alloc: Global,
     times: &[u32],
@@ -99,7 +99,7 @@ fn tails_of(
     Ok(tails)
 }
 
-// Fills the rows of tails from the last place to the first, in a table of zeros.
+// Fills the rows of tails from the last place to the first, in a table whose last row is zeros.
 fn fill_tails(times: &[u32], jobs: usize, machines: usize, sequence: &[u32], tails: &mut [u64])
     requires within { IsWithin limits (shop_of times.now jobs machines) }
     requires sequence { IsSequence jobs sequence.now }
@@ -112,7 +112,7 @@ fn fill_tails(times: &[u32], jobs: usize, machines: usize, sequence: &[u32], tai
     }
 }
 
-// Fills the makespans from the first place to the last.
+// Writes the makespans from the first place to the last.
 fn fill_insertions(
     times: &[u32],
     jobs: usize,

@@ -7,8 +7,9 @@ use rand_core::SeedableRng;
 use rand_core::utils::NextWord;
 use rand_pcg::Pcg32;
 
-/// Words of the Pcg32 of a seed, from the one with the number `first` on, counted from 0. A round of a search uses as
-/// many words as it takes jobs out, the first round the first words. It needs no memory, and nothing is invalid.
+/// Fills `words` with random words of a seed (Pcg32, O'Neill 2014) from word `first` on, counted from 0. A round of a
+/// search uses one word for each job that it removes, and the first round uses the first words. The function allocates
+/// nothing. All arguments are valid, so it always returns `PFS_OK`.
 #[unsafe(no_mangle)]
 pub extern "C" fn pfs_random(seed: u64, first: u64, words: &mut [u32]) -> i32
     ensures number { result ≡ PFS_OK }

@@ -10,7 +10,7 @@ ghost use Rattle.pfs_c.specs.Private.Rows.{HeadsAt, TailsFrom};
 
 use pfs_base::{LONGEST_TIME, MOST_MACHINES};
 
-/// How long a job takes on a machine.
+/// The processing time of a job on a machine.
 #[inline(always)]
 fn time_at(times: &[u32], jobs: usize, machines: usize, job: usize, machine: usize) -> u64
     requires within { IsWithin limits (shop_of times.now jobs machines) }
@@ -22,7 +22,7 @@ fn time_at(times: &[u32], jobs: usize, machines: usize, job: usize, machine: usi
     u64::from(times[job * machines + machine])
 }
 
-/// Moves a row of heads on over the job at a place of a sequence.
+/// Turns the row of heads before the job at a place of a sequence into the row after it.
 #[inline(always)]
 pub(crate) fn add_head(
     times: &[u32],
@@ -47,7 +47,7 @@ pub(crate) fn add_head(
     }
 }
 
-/// Fills the row of tails of a place of a sequence in a table that has those of the places after it.
+/// Fills the row of tails of a place of a sequence, in a table that contains the rows of the places after it.
 #[inline(always)]
 pub(crate) fn add_tail(
     times: &[u32],
@@ -87,7 +87,7 @@ pub(crate) fn span_of(times: &[u32], jobs: usize, machines: usize, sequence: &[u
     heads[machines - 1]
 }
 
-/// The makespan of a sequence with a job put at a place, from the heads of the jobs before it and the tails of
+/// The makespan of a sequence with a job inserted at a place, from the heads of the jobs before it and the tails of
 /// those after it.
 #[inline(always)]
 pub(crate) fn span_with(

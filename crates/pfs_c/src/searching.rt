@@ -1,4 +1,4 @@
-//! NEH and rounds of a search for C.
+//! NEH and the rounds of a search, for C.
 ghost use Rattle.std.specs.Prelude.{◌≡◌, ◌≢◌, ◌+◌, ◌≤◌, length, IfOk};
 ghost use Rattle.pfs_search.specs.Solution.{IsImproved};
 ghost use Rattle.pfs_c.specs.Judgements.{shop_of};
@@ -15,8 +15,8 @@ use pfs_base::{MOST_PASSES, MOST_ROUNDS};
 use pfs_search::{Solution, improve, solve};
 use std::alloc::Global;
 
-/// NEH's order (Nawaz, Enscore, Ham 1983) by heads and tails (Taillard 1990), its makespan, and how many cells were
-/// counted.
+/// Computes the order of NEH (Nawaz, Enscore and Ham 1983) by heads and tails (Taillard 1990), its makespan, and the
+/// number of table cells that this takes.
 #[unsafe(no_mangle)]
 pub extern "C" fn pfs_neh(
     alloc: Global,
@@ -44,7 +44,7 @@ pub extern "C" fn pfs_neh(
     }
 }
 
-// NEH's order, for a list with room for so many jobs.
+// NEH's order, for an output list with `room` entries.
 fn neh_of(
     alloc: Global,
     times: &[u32],
@@ -68,9 +68,9 @@ fn neh_of(
     }
 }
 
-/// Rounds `first` to `first + count - 1` of the search of a seed, counted from 0, over an order of all jobs that is
-/// handed in. It is written over with the order behind these rounds; beside it stand that order's makespan, and how
-/// many cells these rounds counted.
+/// Makes the rounds `first` to `first + count - 1`, counted from 0, of the iterated greedy search (Ruiz and Stützle
+/// 2007) of a seed, from a given order of all jobs. `order` is overwritten with the order after these rounds, `span`
+/// with its makespan, and `cells` with the number of table cells that these rounds take.
 #[unsafe(no_mangle)]
 pub extern "C" fn pfs_rounds(
     alloc: Global,
@@ -106,7 +106,7 @@ pub extern "C" fn pfs_rounds(
     }
 }
 
-// What so many rounds make of an order.
+// The order after these rounds, with its makespan and its cells.
 fn rounds_of(
     alloc: Global,
     times: &[u32],

@@ -1,4 +1,4 @@
-//! Makespans, bounds, time tables, insertions and generated instances for C.
+//! Makespans, bounds, time tables, insertions and generated instances, for C.
 ghost use Rattle.std.specs.Prelude.{◌≡◌, ◌≢◌, ◌*◌, length, IfOk};
 ghost use Rattle.pfs_base.specs.Paths.{makespan};
 ghost use Rattle.pfs_audit.specs.Bound.{bound_of};
@@ -23,7 +23,7 @@ use pfs_insert::Placed;
 use pfs_layout::generate;
 use std::alloc::Global;
 
-/// The makespan of a sequence of distinct jobs, which need not be all; of no job it is 0.
+/// Computes the makespan of a sequence of distinct jobs, which need not be all jobs. That of no jobs is 0.
 #[unsafe(no_mangle)]
 #[tactic(auto, using(crate::proofs::Answering::refused))]
 pub extern "C" fn pfs_makespan(
@@ -66,7 +66,7 @@ fn makespan_of(
     Ok(bench.reveal(span))
 }
 
-/// A length of time below which no order's makespan goes (Taillard 1993).
+/// Computes a lower bound of the makespans of all orders (Taillard 1993).
 #[unsafe(no_mangle)]
 #[tactic(auto, using(crate::proofs::Answering::refused))]
 pub extern "C" fn pfs_bound(
@@ -102,8 +102,8 @@ fn judged_instance(
     instance_of(alloc, times, jobs, machines, NO_NOTES)
 }
 
-/// When each operation of an order of all jobs starts and ends, each as early as it can, row by row: row r is
-/// the job at place r of the order, and has an entry for each machine.
+/// Computes when each operation of an order of all jobs starts and ends, each as early as possible. Both tables are
+/// stored row by row: row r belongs to the job at place r of the order, and has an entry for each machine.
 #[unsafe(no_mangle)]
 #[tactic(auto, using(crate::proofs::Answering::refused))]
 pub extern "C" fn pfs_table(
@@ -141,7 +141,7 @@ pub extern "C" fn pfs_table(
     }
 }
 
-// The time table, for lists of so many starts and ends.
+// The time table, for output lists with `starts` and `ends` entries.
 fn table_of(
     alloc: Global,
     times: &[u32],
@@ -171,7 +171,7 @@ fn table_of(
     table(alloc, &instance, &order).or(Err(Refusal::Memory))
 }
 
-/// The first best place of a job in a sequence of others, and the makespan with the job there.
+/// Finds the best place of a job in a sequence of others, of equal ones the first, and the makespan with the job there.
 #[unsafe(no_mangle)]
 #[tactic(auto, using(crate::proofs::Answering::refused))]
 pub extern "C" fn pfs_insert(
@@ -220,7 +220,7 @@ fn best_of(
     best_place(alloc, &instance, &sequence, job as usize)
 }
 
-/// Draws times from 1 to 99 from a seed, as Taillard (1993) does for his benchmark.
+/// Draws processing times from 1 to 99 from a seed, as Taillard (1993) does for his benchmark.
 #[unsafe(no_mangle)]
 #[tactic(auto, using(crate::proofs::Answering::refused))]
 pub extern "C" fn pfs_generate(
@@ -243,7 +243,7 @@ pub extern "C" fn pfs_generate(
     }
 }
 
-// The instance of a seed, for a list of so many times.
+// The instance of a seed, for an output list with `long` entries.
 fn generated_of(
     alloc: Global,
     jobs: usize,

@@ -1,4 +1,4 @@
-//! Texts of instances and orders: what C reads of bytes in memory, and what it writes into them.
+//! Instance files and order files in memory, read and written for C.
 ghost use Rattle.std.specs.Prelude.{◌≡◌};
 ghost use Rattle.pfs_c.specs.Texts.{layout_named, notes_of};
 
@@ -11,7 +11,7 @@ mod writing_order;
 use pfs_base::Notes;
 use pfs_layout::Layout;
 
-/// What a size line of Taillard's layout says beside the sizes. Nothing is computed from it.
+/// What a size line of Taillard's layout contains besides the sizes. Nothing is computed from it.
 #[repr(C)]
 #[derive(Clone, Copy)]
 pub struct PfsNotes {
@@ -35,7 +35,7 @@ impl PfsNotes {
         }
     }
 
-    // The notes that C hands in.
+    // The notes that C passes.
     fn notes(&self) -> Notes
         ensures { result ≡ notes_of self.now }
     {

@@ -1,4 +1,4 @@
-//! Bytes in memory, as something that is read from and written to.
+//! Bytes in memory as a source and as a sink.
 ghost use Rattle.std.specs.Prelude.{◌≡◌, ◌≢◌, length, Some, [], false};
 ghost use Rattle.pfs_c.specs.Texts.{put_in_front, room_refusal, answer_of};
 
@@ -14,7 +14,7 @@ pub(super) struct Bytes<'a> {
 }
 
 impl<'a> Bytes<'a> {
-    /// A source of these bytes.
+    /// Makes a source of these bytes.
     pub(super) fn new(bytes: &'a [u8]) -> Bytes<'a>
         ensures left { ⟦<Bytes<'a> as Source>⟧.left result ≡ Some bytes.now }
         ensures working { ⟦<Bytes<'a> as Source>⟧.has_failed result ≡ false }
@@ -49,7 +49,7 @@ impl Source for Bytes<'_> {
     }
 }
 
-/// A sink that gathers a text in memory of its own. It fails where memory for more is refused.
+/// A sink that collects a text in a buffer. It fails if the allocation for more bytes fails.
 #[derive(Drop)]
 pub(super) struct Text {
     bytes: Vec<u8>,
@@ -57,7 +57,7 @@ pub(super) struct Text {
 }
 
 impl Text {
-    /// A sink that was given nothing.
+    /// Makes an empty sink.
     pub(super) fn new(alloc: Global) -> Text
         ensures written { ⟦<Text as Sink>⟧.written result ≡ Some [] }
         ensures working { ⟦<Text as Sink>⟧.has_failed result ≡ false }
@@ -68,7 +68,7 @@ impl Text {
         }
     }
 
-    /// What it was given.
+    /// Returns the bytes that were written to it.
     pub(super) fn into_bytes(self) -> Vec<u8>
         ensures { Some result.items ≡ ⟦<Text as Sink>⟧.written self }
     {
@@ -96,7 +96,8 @@ impl Sink for Text {
     }
 }
 
-/// Tells how long a text is, and puts it into the front of another where it has room there.
+/// Stores the length of a text in `len` and copies the text into the front of `text`. If it does not fit there, `text`
+/// is unchanged and the function returns `PFS_ROOM`.
 pub(super) fn hand_out(bytes: &[u8], text: &mut [u8], len: &mut usize) -> i32
     ensures number { result ≡ answer_of (room_refusal (length text.old) (length bytes.now)) }
     ensures told { len.new ≡ length bytes.now }

@@ -1,4 +1,4 @@
-//! Reading instance files that stand in memory.
+//! Reading instance files in memory.
 ghost use Rattle.std.specs.Prelude.{◌≡◌, ◌≢◌, ℕ, ◌*◌, ◌<◌, ◌≤◌, ◌<ℤ◌, ◌≤ℤ◌, List, ◌++◌, length, take, drop};
 ghost use Rattle.std.specs.Prelude.{IfOk, IfErr};
 ghost use Rattle.pfs_base.specs.Limits.{limits};
@@ -16,13 +16,13 @@ use pfs_base::{Instance, MOST_BLOCKS};
 use pfs_layout::{Layout, LayoutFault, read_block};
 use std::alloc::Global;
 
-/// Reads a block, counted from 1, of an instance file that stands in memory, in the layout of a number. Its
-/// times go into the front of `times`, job by job. Where they have no room there, jobs, machines and notes are
-/// told all the same.
+/// Reads a block, counted from 1, of an instance file in memory, in the layout that a number names. The processing
+/// times are stored in the front of `times`, job by job. If they do not fit there, the function returns `PFS_ROOM` and
+/// still sets jobs, machines and notes.
 ///
-/// It is refused where no layout has the number, where no block can be asked for by its number, and where the
-/// file has a fault, of which `place` is told the count, line or offset. The memory for the times is asked
-/// for at the end of the block's size line, so that want of it says nothing of what follows there.
+/// It returns `PFS_LAYOUT` if no layout has the number, `PFS_BLOCK` if the block's number is invalid, and a number from
+/// `PFS_NO_BLOCK` on if the file has a fault; then `place` is the fault's count, line or offset. Memory for the times
+/// is allocated at the end of the block's size line, so `PFS_MEMORY` says nothing about the bytes after it.
 #[unsafe(no_mangle)]
 pub extern "C" fn pfs_read(
     alloc: Global,
@@ -75,7 +75,7 @@ pub extern "C" fn pfs_read(
     PFS_OK
 }
 
-// The block of this number, counted from 1, of an instance file.
+// Reads the block with this number, counted from 1, of an instance file.
 fn read_file(
     alloc: Global,
     bytes: &[u8],
@@ -95,7 +95,7 @@ fn read_file(
     read_block(alloc, &mut source, layout, block)
 }
 
-// How a fault of an instance file is told.
+// How C receives a fault of an instance file.
 fn refusal_of(fault: LayoutFault) -> Refusal
     ensures { result ≡ file_refusal fault }
 {
@@ -114,7 +114,7 @@ fn refusal_of(fault: LayoutFault) -> Refusal
     }
 }
 
-// The count, line or offset of a fault of an instance file, and 0 where it has none.
+// The count, line or offset of a fault of an instance file, or 0 if it has none.
 fn place_of(fault: LayoutFault) -> u64
     ensures { result ≡ file_place fault }
 {

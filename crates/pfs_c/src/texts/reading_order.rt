@@ -1,4 +1,4 @@
-//! Reading order files that stand in memory.
+//! Reading order files in memory.
 ghost use Rattle.std.specs.Prelude.{◌≡◌, ◌≢◌, ℕ, ◌<◌, ◌≤◌, ◌<ℤ◌, ◌≤ℤ◌, List, length, take, drop, IfOk, IfErr};
 ghost use Rattle.pfs_order.specs.OrderFile.{IsText, IsOrderFile, RefusesOrder};
 ghost use Rattle.pfs_order.specs.declared.fault.OrderFault.{OrderFault};
@@ -12,13 +12,13 @@ use crate::texts::bytes::Bytes;
 use pfs_order::{OrderFault, OrderFile, read_order};
 use std::alloc::Global;
 
-/// Reads an order file, of version 1 or 2, that stands in memory. Its order goes into the front of `order`, in
-/// which jobs count from 0, and `machines` is 0 where the file states none. The makespan is as the file states
-/// it, right or wrong. Where the order has no room, jobs, machines and makespan are told all the same.
+/// Reads an order file of version 1 or 2 in memory. The order is stored in the front of `order`, where jobs count from
+/// 0. `machines` is 0 if the file states none. The makespan is the one that the file states, right or wrong. If the
+/// order does not fit, the function returns `PFS_ROOM` and still sets jobs, machines and makespan.
 ///
-/// It is refused where the file has a fault, of which `place` is told the offset, or the place, counted from 1.
-/// The memory for the order is asked for once the text is known to be one of the grammar, before its jobs are
-/// judged.
+/// It returns a number from `PFS_SYNTAX` on if the file has a fault; then `place` is the fault's offset, or its place
+/// in the order, counted from 1. Memory for the order is allocated once the text is known to match the grammar, before
+/// its jobs are validated.
 #[unsafe(no_mangle)]
 pub extern "C" fn pfs_read_order(
     alloc: Global,
@@ -62,7 +62,7 @@ pub extern "C" fn pfs_read_order(
     PFS_OK
 }
 
-// What an order file states.
+// Reads what an order file states.
 fn read_text(alloc: Global, bytes: &[u8]) -> Result<OrderFile, OrderFault>
     ensures file { IfOk result (λ file. IsOrderFile bytes.now file) }
     ensures refused { IfErr result (λ fault. fault ≢ OrderFault.Memory → RefusesOrder bytes.now fault) }
@@ -73,7 +73,7 @@ fn read_text(alloc: Global, bytes: &[u8]) -> Result<OrderFile, OrderFault>
     read_order(alloc, &mut source)
 }
 
-// How a fault of an order file is told.
+// How C receives a fault of an order file.
 fn refusal_of(fault: OrderFault) -> Refusal
     ensures { result ≡ order_refusal fault }
 {
@@ -86,7 +86,7 @@ fn refusal_of(fault: OrderFault) -> Refusal
     }
 }
 
-// The offset or place of a fault of an order file, and 0 where it has none.
+// The offset or place of a fault of an order file, or 0 if it has none.
 fn place_of(fault: OrderFault) -> u64
     ensures { result ≡ order_place fault }
 {

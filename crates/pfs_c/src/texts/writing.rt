@@ -10,11 +10,11 @@ use crate::texts::{PfsNotes, layout_of};
 use pfs_layout::write_block;
 use std::alloc::Global;
 
-/// Writes an instance as a file of one block, in the layout of a number, into the front of `text`, with single
-/// spaces and no leading zeros; the layout of the OR-Library has no notes. `len` is told how many bytes the
-/// file has, also where `text` has no room for them.
+/// Writes an instance as a file of one block into the front of `text`, in the layout that a number names, with single
+/// spaces and no leading zeros. The layout of the OR-Library has no notes. `len` is set to the number of bytes of the
+/// file; if they do not fit into `text`, it is set too and the function returns `PFS_ROOM`.
 ///
-/// The text is made in memory of its own first, so that want of memory comes before want of room.
+/// The file is written to a buffer first, so `PFS_MEMORY` comes before `PFS_ROOM`.
 #[unsafe(no_mangle)]
 pub extern "C" fn pfs_write(
     alloc: Global,
@@ -43,7 +43,7 @@ pub extern "C" fn pfs_write(
     }
 }
 
-// The file of an instance that C hands in, in the layout of a number.
+// The file of an instance that C passes, in the layout that a number names.
 fn file_of(
     alloc: Global,
     times: &[u32],

@@ -14,11 +14,11 @@ use std::alloc::Global;
 /// The greatest makespan that an order file can state.
 const MOST_MAKESPAN: u64 = 999_999_999_999_999_999;
 
-/// Writes an order of all jobs and a makespan as an order file into the front of `text`: of version 2, or where
-/// `machines` is 0 of version 1. Jobs count from 0 in `order`, and from 1 in the file. `len` is told how many
-/// bytes the file has, also where `text` has no room for them.
+/// Writes an order of all jobs and a makespan as an order file into the front of `text`: a file of version 1 if
+/// `machines` is 0, otherwise one of version 2. Jobs count from 0 in `order` and from 1 in the file. `len` is set to
+/// the number of bytes of the file; if they do not fit into `text`, it is set too and the function returns `PFS_ROOM`.
 ///
-/// The text is made in memory of its own first, so that want of memory comes before want of room.
+/// The file is written to a buffer first, so `PFS_MEMORY` comes before `PFS_ROOM`.
 #[unsafe(no_mangle)]
 pub extern "C" fn pfs_write_order(
     alloc: Global,
@@ -43,7 +43,7 @@ pub extern "C" fn pfs_write_order(
     }
 }
 
-// The order file of an order that C hands in.
+// The order file of an order that C passes.
 #[tactic(auto, using(crate::proofs::TextLemmas::jobs_have_room))]
 fn file_of(alloc: Global, order: &[u32], machines: usize, makespan: u64) -> Result<Vec<u8>, Refusal>
     ensures refused { Refuses result (write_order_refusal order.now machines makespan) }

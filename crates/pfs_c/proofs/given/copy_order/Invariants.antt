@@ -1,4 +1,4 @@
--- The jobs before the place are copied, and what stands from it on is as it was.
+-- The jobs before the place are copied; the list is unchanged from the place on.
 use Rattle.std.proofs.Common.{◌≡◌, take, drop}
 use Rattle.pfs_c.proofs.given.copy_order.Given as goal
 

@@ -1,4 +1,4 @@
--- Memory is wanted where the reader asked for it.
+-- An allocation fails only where the reader allocates.
 use Rattle.std.proofs.Common.{◌≡◌, ap, subst, List, ℕ}
 use Rattle.std.specs.Result.{result_err}
 use Rattle.pfs_c.specs.Texts.{WantsMemory}
