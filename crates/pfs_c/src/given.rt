@@ -76,7 +76,8 @@ pub(crate) fn judge_shop(times: &[u32], jobs: usize, machines: usize) -> Result<
 }
 
 /// Validates a list of jobs from the left. For the first invalid place it returns `Job` if the job there is not below
-/// the size, and `Repeated` if the job is also at an earlier place. It allocates nothing and reads each job at most once.
+/// the size, and `Repeated` if the job is also at an earlier place. It allocates nothing and reads each job at most
+/// once.
 pub(crate) fn judge_jobs(size: usize, jobs: &[u32]) -> Result<(), Refusal>
     requires { size ≤ MOST_JOBS }
     ensures judged { Judges result (jobs_refusal size jobs.now) }
