@@ -1,28 +1,29 @@
-/* libpfs: permutation flow shop instances, orders and searches, proved.
+/** @file
+ * @brief libpfs: permutation flow shop instances, orders and searches, proved.
  *
  * In a permutation flow shop each job runs on machine 0, then on machine 1, and so on to the last; a machine runs one
  * job at a time, and all machines run the jobs in the same order. The makespan of an order is the time at which its
  * last job leaves the last machine.
  *
- * Times stand job by job: times[job * machines + machine], as an array of shape (jobs, machines) in C order. Jobs,
- * machines and places count from 0, in files jobs count from 1. Times and sums have the instance's own unit.
+ * Processing times are stored job by job: times[job * machines + machine], as an array of shape (jobs, machines) in C
+ * order. Jobs, machines and places count from 0; only in files do jobs count from 1. Times and sums are in the
+ * instance's own unit.
  *
- * Each function validates its arguments and returns PFS_OK or the number of a fault: of several faults, the one that
- * comes first in the function's description. Validation needs no memory and writes nothing. Where a function doesn't
- * return PFS_OK, every output is unchanged, except the sizes that it reports with PFS_ROOM and the place of a file's
- * fault.
+ * Each function validates its arguments, and returns PFS_OK or the number of a fault. Of several faults it returns the
+ * one that its description lists first. Validation allocates nothing and writes nothing. If a function does not return
+ * PFS_OK, every output is unchanged, except the sizes that it sets with PFS_ROOM and the place of a file's fault.
  *
- * A pointer may be NULL only where the length that belongs to it is 0, as that of an empty std::vector is. No output
- * may overlap another argument, and no list may change during a call. Nothing is kept between calls: any number of
- * threads may call the library at once, also on the same lists. Memory comes from malloc and is freed before the call
- * returns; if an allocation fails, the function returns PFS_MEMORY. No function may be called from a signal handler.
+ * A pointer may be NULL only if the length that belongs to it is 0, as that of an empty std::vector is. No output may
+ * overlap another argument, and no list may change during a call. Nothing is kept between calls: any number of threads
+ * may call the library at once, also on the same lists. Memory comes from malloc and is freed before the call returns;
+ * if an allocation fails, the function returns PFS_MEMORY. No function may be called from a signal handler.
  *
  * Versions of libpfs.so.0 stay compatible: functions, numbers and struct pfs_notes keep their meaning and their layout.
  * Later versions may add functions and numbers. A program that needs an added one compares PFS_VERSION_NUMBER.
  *
- * For every input, what each function does with its arguments is proved, except pfs_version and pfs_message: the number
- * that it returns, and what it writes. That the declarations below agree with the proved functions (the order and types
- * of the parameters, the fields of pfs_notes, the numbers of the macros) is tested.
+ * For every input, what each function does with its arguments is proved, except for pfs_version and pfs_message: the
+ * number that it returns, and what it writes. That the declarations below agree with the proved functions (the order
+ * and types of the parameters, the fields of pfs_notes, the numbers of the macros) is tested.
  */
 #ifndef PFS_H
 #define PFS_H
@@ -34,176 +35,371 @@
 extern "C" {
 #endif
 
+/** @brief The version of this header. */
 #define PFS_VERSION "1.0.0"
-#define PFS_VERSION_NUMBER 10000 /* 10000 * major + 100 * minor + patch, for the preprocessor */
 
-/* A compiler that knows how warns where the number that a function returns is ignored. */
+/** @brief The same as a number for the preprocessor: 10000 * major + 100 * minor + patch. */
+#define PFS_VERSION_NUMBER 10000
+
+/** @brief Compilers that support it warn if a program ignores the number that a function returns. */
 #ifdef __GNUC__
 #define PFS_CHECKED __attribute__((warn_unused_result))
 #else
 #define PFS_CHECKED
 #endif
 
-/* Limits of what is accepted. */
+/** @name Limits of what is accepted.
+ * @{
+ */
 #define PFS_MOST_JOBS 5000
 #define PFS_MOST_MACHINES 200
 #define PFS_LONGEST_TIME 1000000000
 #define PFS_MOST_ROUNDS 1000000
 #define PFS_MOST_PASSES 100
 #define PFS_MOST_BLOCKS 1000
-#define PFS_LONGEST_INPUT 67108864                     /* bytes of an instance file, up to the end of the block */
-#define PFS_LONGEST_ORDER_FILE 65536                   /* bytes */
-#define PFS_MOST_MAKESPAN UINT64_C(999999999999999999) /* that an order file can state */
+#define PFS_LONGEST_INPUT 67108864                     /**< bytes of an instance file, up to the end of the block */
+#define PFS_LONGEST_ORDER_FILE 65536                   /**< bytes */
+#define PFS_MOST_MAKESPAN UINT64_C(999999999999999999) /**< that an order file can state */
+/** @} */
 
-/* The layouts of instance files. */
-#define PFS_TAILLARD 0
-#define PFS_ORLIB 1
+/** @name The layouts of instance files.
+ * @{
+ */
+#define PFS_TAILLARD 0 /**< the layout of Taillard's benchmark files */
+#define PFS_ORLIB 1    /**< the layout of the OR-Library */
+/** @} */
 
-/* What a function answers. */
-#define PFS_OK 0
-#define PFS_MEMORY 1    /* memory was refused */
-#define PFS_SIZE 2      /* the jobs aren't 1 to PFS_MOST_JOBS, or the machines not 1 to PFS_MOST_MACHINES */
-#define PFS_LENGTH 3    /* a list hasn't as many entries as the sizes say */
-#define PFS_TIME 4      /* a time is greater than PFS_LONGEST_TIME */
-#define PFS_JOB 5       /* a job isn't below the number of jobs */
-#define PFS_REPEATED 6  /* a job stands twice, or one that is to be inserted stands there already */
-#define PFS_TAKE 7      /* the jobs that a round takes out aren't 1 to the number of jobs */
-#define PFS_PASSES 8    /* more than PFS_MOST_PASSES passes */
-#define PFS_ROUNDS 9    /* first + count is more than PFS_MOST_ROUNDS */
-#define PFS_SEED 10     /* not 1 to 2147483646, the seeds of Taillard's generator */
-#define PFS_LAYOUT 11   /* neither PFS_TAILLARD nor PFS_ORLIB */
-#define PFS_BLOCK 12    /* not 1 to PFS_MOST_BLOCKS */
-#define PFS_MAKESPAN 13 /* greater than PFS_MOST_MAKESPAN */
-#define PFS_ROOM 14     /* too little room for the answer; how much is wanted is told */
+/** @name Numbers that functions return.
+ * @{
+ */
+#define PFS_OK 0        /**< the call succeeded */
+#define PFS_MEMORY 1    /**< an allocation failed */
+#define PFS_SIZE 2      /**< not 1 to PFS_MOST_JOBS jobs, or not 1 to PFS_MOST_MACHINES machines */
+#define PFS_LENGTH 3    /**< a list does not have the length that the sizes require */
+#define PFS_TIME 4      /**< a time is greater than PFS_LONGEST_TIME */
+#define PFS_JOB 5       /**< a job is not below the number of jobs */
+#define PFS_REPEATED 6  /**< a job occurs twice, or the job to insert is in the sequence already */
+#define PFS_TAKE 7      /**< the destruction size is not 1 to the number of jobs */
+#define PFS_PASSES 8    /**< more than PFS_MOST_PASSES passes */
+#define PFS_ROUNDS 9    /**< first + count is greater than PFS_MOST_ROUNDS */
+#define PFS_SEED 10     /**< the seed is not 1 to 2147483646, the seeds of Taillard's generator */
+#define PFS_LAYOUT 11   /**< neither PFS_TAILLARD nor PFS_ORLIB */
+#define PFS_BLOCK 12    /**< the number of the block is not 1 to PFS_MOST_BLOCKS */
+#define PFS_MAKESPAN 13 /**< the makespan is greater than PFS_MOST_MAKESPAN */
+#define PFS_ROOM 14     /**< too little room for the result; the outputs say how much it needs */
+/** @} */
 
-/* Faults of instance files, and the number that goes with each: lines count from 1, offsets count bytes from 0. */
-#define PFS_NO_BLOCK 20       /* the file ends before the block; how many complete blocks there are */
-#define PFS_SIZE_COUNT 21     /* a size line has too few or too many numbers; its line */
-#define PFS_SIZE_RANGE 22     /* a number of a size line is out of its limit; its line */
-#define PFS_MIXED_LINE 23     /* a line of times has a word too; the offset of the byte that makes it so */
-#define PFS_TIME_RANGE 24     /* a time is greater than PFS_LONGEST_TIME; the offset of its first digit */
-#define PFS_MACHINE_NUMBER 25 /* another machine's number is due; the offset of its first digit */
-#define PFS_EXTRA_NUMBER 26   /* a number behind a block's last time; the offset of its first digit */
-#define PFS_TRUNCATED 27      /* the file ends inside a block; how many times it has */
-#define PFS_INPUT_TOO_LONG 28 /* the block doesn't end within PFS_LONGEST_INPUT bytes; 0 */
+/** @name Faults of instance files, and what place is then.
+ * Lines count from 1, and offsets count bytes from 0.
+ * @{
+ */
+#define PFS_NO_BLOCK 20       /**< the file ends before the block; place is the number of complete blocks */
+#define PFS_SIZE_COUNT 21     /**< a size line has too few or too many numbers; place is its line */
+#define PFS_SIZE_RANGE 22     /**< a number of a size line is out of range; place is its line */
+#define PFS_MIXED_LINE 23     /**< a line has times and a word; place is the offset of the byte that makes it so */
+#define PFS_TIME_RANGE 24     /**< a time is greater than PFS_LONGEST_TIME; place is the offset of its first digit */
+#define PFS_MACHINE_NUMBER 25 /**< not the expected machine number; place is the offset of its first digit */
+#define PFS_EXTRA_NUMBER 26   /**< a number follows a block's last time; place is the offset of its first digit */
+#define PFS_TRUNCATED 27      /**< the file ends inside a block; place is the number of times that it has */
+#define PFS_INPUT_TOO_LONG 28 /**< the block does not end within PFS_LONGEST_INPUT bytes; place is 0 */
+/** @} */
 
-/* Faults of order files: the offset counts bytes from 0, places count from 1. */
-#define PFS_SYNTAX 30        /* no order file; how many bytes one could begin with */
-#define PFS_JOB_RANGE 31     /* a job is 0 or greater than the number of jobs; its place */
-#define PFS_JOB_TWICE 32     /* a job stands at an earlier place too; its place */
-#define PFS_FILE_TOO_LONG 33 /* longer than PFS_LONGEST_ORDER_FILE bytes; 0 */
+/** @name Faults of order files, and what place is then.
+ * Offsets count bytes from 0, and places in the order count from 1.
+ * @{
+ */
+#define PFS_SYNTAX 30        /**< not an order file; place is the number of its first bytes with which one can begin */
+#define PFS_JOB_RANGE 31     /**< a job is 0 or greater than the number of jobs; place is its place in the order */
+#define PFS_JOB_TWICE 32     /**< a job is at an earlier place too; place is its place in the order */
+#define PFS_FILE_TOO_LONG 33 /**< the file is longer than PFS_LONGEST_ORDER_FILE bytes; place is 0 */
+/** @} */
 
-/* The version of the library, as PFS_VERSION. */
+/** @brief Returns the version of the library, a text in the form of PFS_VERSION.
+ *
+ * @return a constant text, which is never freed
+ */
 const char *pfs_version(void);
 
-/* What an answer means, as a short text in English that is never freed. */
+/** @brief Returns the meaning of a number, as a short text in English.
+ *
+ * @param[in] number a number that a function returned
+ * @return a constant text, which is never freed
+ */
 const char *pfs_message(int number);
 
-/* The makespan of a sequence of distinct jobs, which need not be all; of no job it is 0.
- * Judged: sizes (PFS_SIZE), times_length (PFS_LENGTH), times (PFS_TIME), the jobs from the left (PFS_JOB,
- * PFS_REPEATED). */
+/** @brief Computes the makespan of a sequence of distinct jobs.
+ *
+ * The sequence need not contain all jobs. The makespan of no jobs is 0.
+ *
+ * @param[in] times processing times, job by job
+ * @param[in] times_length number of times, which is jobs * machines
+ * @param[in] jobs number of jobs
+ * @param[in] machines number of machines
+ * @param[in] sequence distinct jobs, in the order in which they are processed
+ * @param[in] sequence_length number of jobs in the sequence
+ * @param[out] makespan makespan of the sequence
+ * @return PFS_OK, or the first of PFS_SIZE (jobs, machines), PFS_LENGTH (times_length), PFS_TIME (times), PFS_JOB or
+ *     PFS_REPEATED (the jobs from the left), PFS_MEMORY
+ */
 int pfs_makespan(const uint32_t *times, size_t times_length, size_t jobs, size_t machines, const uint32_t *sequence,
                  size_t sequence_length, uint64_t *makespan) PFS_CHECKED;
 
-/* The makespans of makespans_length sequences of `length` distinct jobs each, which need not be all. They are stored
- * one after the other: makespans[index] is that of the sequence that begins at sequences[index * length]. It needs no
- * memory.
- * Judged: sizes (PFS_SIZE), times_length, sequences_length, which is makespans_length * length (PFS_LENGTH), times
- * (PFS_TIME), the jobs of the first sequence from the left, then those of the second, and so on (PFS_JOB,
- * PFS_REPEATED). Where one sequence is invalid, no makespan is written. */
+/** @brief Computes the makespans of many sequences of distinct jobs.
+ *
+ * The sequences have the same length and are stored one after the other: makespans[index] is the makespan of the
+ * sequence that begins at sequences[index * length]. A sequence need not contain all jobs. If one sequence is invalid,
+ * no makespan is written. The function allocates nothing.
+ *
+ * @param[in] times processing times, job by job
+ * @param[in] times_length number of times, which is jobs * machines
+ * @param[in] jobs number of jobs
+ * @param[in] machines number of machines
+ * @param[in] sequences the sequences, one after the other
+ * @param[in] sequences_length number of all their jobs, which is makespans_length * length
+ * @param[in] length number of jobs in each sequence
+ * @param[out] makespans makespan of each sequence
+ * @param[in] makespans_length number of sequences
+ * @return PFS_OK, or the first of PFS_SIZE (jobs, machines), PFS_LENGTH (times_length, sequences_length), PFS_TIME
+ *     (times), PFS_JOB or PFS_REPEATED (the jobs of the first sequence from the left, then those of the second, and so
+ *     on)
+ */
 int pfs_makespans(const uint32_t *times, size_t times_length, size_t jobs, size_t machines, const uint32_t *sequences,
                   size_t sequences_length, size_t length, uint64_t *makespans, size_t makespans_length) PFS_CHECKED;
 
-/* A length of time below which no order's makespan goes (Taillard 1993): the greatest over the jobs of their totals,
- * and over the machines of their loads with the least times before and after them.
- * Judged: sizes (PFS_SIZE), times_length (PFS_LENGTH), times (PFS_TIME). */
+/** @brief Computes a lower bound of the makespans of all orders (Taillard 1993).
+ *
+ * The bound is the greatest of the total processing times of the jobs and of a sum for each machine: the load of the
+ * machine, plus the least time that a job takes on the machines before it, plus the least time that a job takes on
+ * those after it.
+ *
+ * @param[in] times processing times, job by job
+ * @param[in] times_length number of times, which is jobs * machines
+ * @param[in] jobs number of jobs
+ * @param[in] machines number of machines
+ * @param[out] bound the lower bound
+ * @return PFS_OK, or the first of PFS_SIZE (jobs, machines), PFS_LENGTH (times_length), PFS_TIME (times), PFS_MEMORY
+ */
 int pfs_bound(const uint32_t *times, size_t times_length, size_t jobs, size_t machines, uint64_t *bound) PFS_CHECKED;
 
-/* When each operation of an order starts and ends, each as early as it can. Entry place * machines + machine is that of
- * the job at this place of the order on this machine.
- * Judged: sizes (PFS_SIZE), times_length, order_length, which is `jobs`, starts_length and ends_length, which are
- * jobs * machines (PFS_LENGTH), times (PFS_TIME), the jobs from the left (PFS_JOB, PFS_REPEATED). */
+/** @brief Computes when each operation of an order starts and ends, each as early as possible.
+ *
+ * Entry place * machines + machine belongs to the job at this place of the order, on this machine.
+ *
+ * @param[in] times processing times, job by job
+ * @param[in] times_length number of times, which is jobs * machines
+ * @param[in] jobs number of jobs
+ * @param[in] machines number of machines
+ * @param[in] order all jobs, in the order in which they are processed
+ * @param[in] order_length length of the order, which is `jobs`
+ * @param[out] starts start of each operation
+ * @param[in] starts_length number of starts, which is jobs * machines
+ * @param[out] ends end of each operation
+ * @param[in] ends_length number of ends, which is jobs * machines
+ * @return PFS_OK, or the first of PFS_SIZE (jobs, machines), PFS_LENGTH (times_length, order_length, starts_length,
+ *     ends_length), PFS_TIME (times), PFS_JOB or PFS_REPEATED (the jobs from the left), PFS_MEMORY
+ */
 int pfs_table(const uint32_t *times, size_t times_length, size_t jobs, size_t machines, const uint32_t *order,
               size_t order_length, uint64_t *starts, size_t starts_length, uint64_t *ends,
               size_t ends_length) PFS_CHECKED;
 
-/* The order of NEH (Nawaz, Enscore, Ham 1983): the jobs by decreasing total time, of equal totals the lower number
- * first, each put at its best place, of equal ones the first. Its makespan, and how many cells of tables were computed,
- * which are 2 * machines * jobs * jobs (heads and tails, Taillard 1990).
- * Judged: sizes (PFS_SIZE), times_length, order_length, which is `jobs` (PFS_LENGTH), times (PFS_TIME). */
+/** @brief Computes the order of NEH (Nawaz, Enscore and Ham 1983), by heads and tails (Taillard 1990).
+ *
+ * NEH takes the jobs by decreasing total processing time, of equal totals the lower job first, and inserts each at its
+ * best place, of equally good places the first.
+ *
+ * @param[in] times processing times, job by job
+ * @param[in] times_length number of times, which is jobs * machines
+ * @param[in] jobs number of jobs
+ * @param[in] machines number of machines
+ * @param[out] order NEH's order
+ * @param[in] order_length length of the order, which is `jobs`
+ * @param[out] makespan makespan of the order
+ * @param[out] cells number of table cells that were computed, which is 2 * machines * jobs * jobs
+ * @return PFS_OK, or the first of PFS_SIZE (jobs, machines), PFS_LENGTH (times_length, order_length), PFS_TIME (times),
+ *     PFS_MEMORY
+ */
 int pfs_neh(const uint32_t *times, size_t times_length, size_t jobs, size_t machines, uint32_t *order,
             size_t order_length, uint64_t *makespan, uint64_t *cells) PFS_CHECKED;
 
-/* Makes the rounds `first` to `first + count - 1` of the iterated greedy search (Ruiz and Stützle 2007) of a seed from
- * the order that is handed in, which may be anybody's, and leaves the order that they end in. A round takes `take` jobs
- * out (the destruction size) by the seed's next words, puts them back at their best places, and then makes `passes`
- * passes, in each of which every job leaves its place for its best one; the new order is kept unless it is longer.
- * Makespan is that of the order that is left, and cells are those of these rounds.
- * A search may be made in parts: rounds 0 to 99 and then 100 to 199 leave what rounds 0 to 199 do. From NEH's order
- * they leave the order that `pfs solve` prints. Tables are made anew in each call, which costs about as much as one
- * insertion.
- * Judged: sizes (PFS_SIZE), times_length, order_length, which is `jobs` (PFS_LENGTH), times (PFS_TIME), the jobs from
- * the left (PFS_JOB, PFS_REPEATED), take (PFS_TAKE), passes (PFS_PASSES), first + count (PFS_ROUNDS). */
+/** @brief Makes rounds of the iterated greedy search (Ruiz and Stützle 2007) from a given order.
+ *
+ * The function makes the rounds `first` to `first + count - 1` of the search with a seed. The given order may be any
+ * order of all jobs; it is replaced by the order after these rounds.
+ *
+ * A round removes `take` jobs (the destruction size), which the next random words of the seed select, and reinserts
+ * them at their best places. Then it makes `passes` passes; in each pass every job leaves its place for its best one.
+ * The new order is kept unless its makespan is greater.
+ *
+ * A search may be made in parts: rounds 0 to 99 and then rounds 100 to 199 leave the same order as rounds 0 to 199.
+ * From NEH's order, the rounds leave the order that `pfs solve` prints. Each call builds its tables again, which costs
+ * about as much as one insertion.
+ *
+ * @param[in] times processing times, job by job
+ * @param[in] times_length number of times, which is jobs * machines
+ * @param[in] jobs number of jobs
+ * @param[in] machines number of machines
+ * @param[in,out] order all jobs; the order to start from, then the order after the rounds
+ * @param[in] order_length length of the order, which is `jobs`
+ * @param[in] first the first round, counted from 0
+ * @param[in] count number of rounds
+ * @param[in] take number of jobs that a round removes
+ * @param[in] passes number of passes in each round
+ * @param[in] seed seed of the random words
+ * @param[out] makespan makespan of the order after the rounds
+ * @param[out] cells number of table cells that these rounds computed
+ * @return PFS_OK, or the first of PFS_SIZE (jobs, machines), PFS_LENGTH (times_length, order_length), PFS_TIME (times),
+ *     PFS_JOB or PFS_REPEATED (the jobs from the left), PFS_TAKE (take), PFS_PASSES (passes), PFS_ROUNDS (first +
+ *     count), PFS_MEMORY
+ */
 int pfs_rounds(const uint32_t *times, size_t times_length, size_t jobs, size_t machines, uint32_t *order,
                size_t order_length, uint32_t first, uint32_t count, size_t take, uint32_t passes, uint64_t seed,
                uint64_t *makespan, uint64_t *cells) PFS_CHECKED;
 
-/* The best place of a job in a sequence of others: the first that gives the least makespan, and that makespan. The job
- * goes before the one that stands at the place, or behind the last.
- * Judged: sizes (PFS_SIZE), times_length (PFS_LENGTH), times (PFS_TIME), the jobs of the sequence from the left
- * (PFS_JOB, PFS_REPEATED), the job (PFS_JOB, PFS_REPEATED). */
+/** @brief Finds the best place of a job in a sequence of other jobs.
+ *
+ * The best place is the first one that gives the least makespan. The job is inserted before the job at this place, or
+ * after the last job.
+ *
+ * @param[in] times processing times, job by job
+ * @param[in] times_length number of times, which is jobs * machines
+ * @param[in] jobs number of jobs
+ * @param[in] machines number of machines
+ * @param[in] sequence distinct jobs, without the job to insert
+ * @param[in] sequence_length number of jobs in the sequence
+ * @param[in] job the job to insert
+ * @param[out] place the best place, from 0 to sequence_length
+ * @param[out] makespan makespan with the job at this place
+ * @return PFS_OK, or the first of PFS_SIZE (jobs, machines), PFS_LENGTH (times_length), PFS_TIME (times), PFS_JOB or
+ *     PFS_REPEATED (the jobs of the sequence from the left), PFS_JOB or PFS_REPEATED (job), PFS_MEMORY
+ */
 int pfs_insert(const uint32_t *times, size_t times_length, size_t jobs, size_t machines, const uint32_t *sequence,
                size_t sequence_length, uint32_t job, size_t *place, uint64_t *makespan) PFS_CHECKED;
 
-/* The makespans with a job at each place of a sequence of others: makespans[place] is that with the job before the one
- * at this place, and makespans[sequence_length] that with the job after the last. The first place that has the least of
- * them is the one that pfs_insert finds.
- * Judged: sizes (PFS_SIZE), times_length, makespans_length, which is sequence_length + 1 (PFS_LENGTH), times
- * (PFS_TIME), the jobs of the sequence from the left (PFS_JOB, PFS_REPEATED), the job (PFS_JOB, PFS_REPEATED). */
+/** @brief Computes the makespan with a job at each place of a sequence of other jobs.
+ *
+ * makespans[place] is the makespan with the job before the one at this place, and makespans[sequence_length] that with
+ * the job after the last one. The first place with the least of them is the one that pfs_insert finds.
+ *
+ * @param[in] times processing times, job by job
+ * @param[in] times_length number of times, which is jobs * machines
+ * @param[in] jobs number of jobs
+ * @param[in] machines number of machines
+ * @param[in] sequence distinct jobs, without the job to insert
+ * @param[in] sequence_length number of jobs in the sequence
+ * @param[in] job the job to insert
+ * @param[out] makespans makespan with the job at each place
+ * @param[in] makespans_length number of makespans, which is sequence_length + 1
+ * @return PFS_OK, or the first of PFS_SIZE (jobs, machines), PFS_LENGTH (times_length, makespans_length), PFS_TIME
+ *     (times), PFS_JOB or PFS_REPEATED (the jobs of the sequence from the left), PFS_JOB or PFS_REPEATED (job),
+ *     PFS_MEMORY
+ */
 int pfs_insertions(const uint32_t *times, size_t times_length, size_t jobs, size_t machines, const uint32_t *sequence,
                    size_t sequence_length, uint32_t job, uint64_t *makespans, size_t makespans_length) PFS_CHECKED;
 
-/* The words `first` to `first + words_length - 1` of the random numbers of a seed (Pcg32, O'Neill 2014), counted from
- * 0. Round r of pfs_rounds uses the `take` words from word r * take on: each takes out the job at the place that is the
- * word's remainder by the number of jobs that are left in the order. It needs no memory, and returns PFS_OK. */
+/** @brief Computes random words of a seed (Pcg32, O'Neill 2014).
+ *
+ * Round r of pfs_rounds uses the `take` words from word r * take on. Each word selects a job to remove: the job at the
+ * place that is the word modulo the number of jobs left in the order. The function allocates nothing.
+ *
+ * @param[in] seed seed of the random words
+ * @param[in] first the first word, counted from 0
+ * @param[out] words the words from `first` on
+ * @param[in] words_length number of words
+ * @return PFS_OK
+ */
 int pfs_random(uint64_t seed, uint64_t first, uint32_t *words, size_t words_length) PFS_CHECKED;
 
-/* Draws times from 1 to 99 from a seed, as Taillard (1993) does for his benchmark.
- * Judged: sizes (PFS_SIZE), seed (PFS_SEED), times_length, which is jobs * machines (PFS_LENGTH). */
+/** @brief Draws processing times from 1 to 99 from a seed, as Taillard (1993) does for his benchmark.
+ *
+ * @param[in] jobs number of jobs
+ * @param[in] machines number of machines
+ * @param[in] seed seed of Taillard's generator
+ * @param[out] times processing times, job by job
+ * @param[in] times_length number of times, which is jobs * machines
+ * @return PFS_OK, or the first of PFS_SIZE (jobs, machines), PFS_SEED (seed), PFS_LENGTH (times_length), PFS_MEMORY
+ */
 int pfs_generate(size_t jobs, size_t machines, uint64_t seed, uint32_t *times, size_t times_length) PFS_CHECKED;
 
-/* What a size line of Taillard's layout says beside the sizes. Nothing is computed from it. */
+/** @brief What a size line of Taillard's layout contains besides the sizes. Nothing is computed from it. */
 struct pfs_notes {
-    uint32_t seed;
-    uint32_t upper;
-    uint32_t lower;
+    uint32_t seed;  /**< the initial seed of the generator */
+    uint32_t upper; /**< the upper bound: some order's makespan is not greater */
+    uint32_t lower; /**< the lower bound: no order's makespan is less */
 };
 
-/* Reads a block, counted from 1, of an instance file that stands in memory. Where `room` is less than jobs * machines
- * the answer is PFS_ROOM, and jobs, machines and notes are told; so a call with room 0 says how much is wanted. On
- * PFS_OK the times stand in the front of `times`. Notes of PFS_ORLIB are 0. Nothing behind the block is looked at.
- * Judged: layout (PFS_LAYOUT), block (PFS_BLOCK), then the file (PFS_NO_BLOCK to PFS_INPUT_TOO_LONG, with its number in
- * *place). */
+/** @brief Reads a block of an instance file in memory.
+ *
+ * If `room` is less than jobs * machines, the function returns PFS_ROOM and still sets jobs, machines and notes, so a
+ * call with room 0 finds the sizes. Nothing after the block is examined. Memory for the times is allocated at the end
+ * of the block's size line, so PFS_MEMORY says nothing about the bytes after it.
+ *
+ * @param[in] bytes the file
+ * @param[in] bytes_length number of bytes in the file
+ * @param[in] layout PFS_TAILLARD or PFS_ORLIB
+ * @param[in] block number of the block, counted from 1
+ * @param[out] jobs number of jobs
+ * @param[out] machines number of machines
+ * @param[out] notes notes of the size line; with PFS_ORLIB all are 0
+ * @param[out] times processing times, job by job, in the front of the list
+ * @param[in] room length of the list `times`
+ * @param[out] place place of the file's fault, as its number says
+ * @return PFS_OK, or the first of PFS_LAYOUT (layout), PFS_BLOCK (block), PFS_NO_BLOCK to PFS_INPUT_TOO_LONG (the file)
+ *     or PFS_MEMORY, PFS_ROOM (room)
+ */
 int pfs_read(const uint8_t *bytes, size_t bytes_length, uint32_t layout, size_t block, size_t *jobs, size_t *machines,
              struct pfs_notes *notes, uint32_t *times, size_t room, uint64_t *place) PFS_CHECKED;
 
-/* Writes an instance as a file of one block into the front of `text`, with single spaces and no leading zeros; the
- * layout PFS_ORLIB leaves the notes out. *length is how many bytes it has, on PFS_OK and on PFS_ROOM.
- * Judged: sizes (PFS_SIZE), times_length (PFS_LENGTH), times (PFS_TIME), layout (PFS_LAYOUT). */
+/** @brief Writes an instance as a file of one block.
+ *
+ * The file has single spaces and no leading zeros. The layout PFS_ORLIB has no notes.
+ *
+ * @param[in] times processing times, job by job
+ * @param[in] times_length number of times, which is jobs * machines
+ * @param[in] jobs number of jobs
+ * @param[in] machines number of machines
+ * @param[in] notes notes for the size line
+ * @param[in] layout PFS_TAILLARD or PFS_ORLIB
+ * @param[out] text the file, in the front of the list
+ * @param[in] room length of the list `text`
+ * @param[out] length number of bytes in the file, on PFS_OK and on PFS_ROOM
+ * @return PFS_OK, or the first of PFS_SIZE (jobs, machines), PFS_LENGTH (times_length), PFS_TIME (times), PFS_LAYOUT
+ *     (layout), PFS_MEMORY, PFS_ROOM (room)
+ */
 int pfs_write(const uint32_t *times, size_t times_length, size_t jobs, size_t machines, const struct pfs_notes *notes,
               uint32_t layout, uint8_t *text, size_t room, size_t *length) PFS_CHECKED;
 
-/* Reads an order file, of version 1 or 2, that stands in memory. Where `room` is less than its jobs the answer is
- * PFS_ROOM, and jobs, machines and makespan are told. On PFS_OK the order stands in the front of `order`, in which jobs
- * count from 0. *machines is 0 where the file states none. The makespan is as the file states it, right or wrong.
- * Judged: the file (PFS_SYNTAX to PFS_FILE_TOO_LONG, with its number in *place). */
+/** @brief Reads an order file of version 1 or 2 in memory.
+ *
+ * If `room` is less than the number of jobs, the function returns PFS_ROOM and still sets jobs, machines and makespan.
+ * The makespan is the one that the file states, right or wrong.
+ *
+ * @param[in] bytes the file
+ * @param[in] bytes_length number of bytes in the file
+ * @param[out] order the order, in the front of the list; its jobs count from 0
+ * @param[in] room length of the list `order`
+ * @param[out] jobs number of jobs
+ * @param[out] machines number of machines, or 0 if the file states none
+ * @param[out] makespan the makespan that the file states
+ * @param[out] place place of the file's fault, as its number says
+ * @return PFS_OK, or the first of PFS_SYNTAX to PFS_FILE_TOO_LONG (the file) or PFS_MEMORY, PFS_ROOM (room)
+ */
 int pfs_read_order(const uint8_t *bytes, size_t bytes_length, uint32_t *order, size_t room, size_t *jobs,
                    size_t *machines, uint64_t *makespan, uint64_t *place) PFS_CHECKED;
 
-/* Writes an order of all jobs, which are order_length, and a makespan as an order file into the front of `text`: of
- * version 2, or where machines is 0 of version 1. *length is how many bytes it has, on PFS_OK and on PFS_ROOM.
- * Judged: order_length and machines (PFS_SIZE), the jobs from the left (PFS_JOB, PFS_REPEATED), makespan
- * (PFS_MAKESPAN). */
+/** @brief Writes an order of all jobs and a makespan as an order file.
+ *
+ * The file is of version 1 if machines is 0, otherwise of version 2.
+ *
+ * @param[in] order all jobs, counted from 0
+ * @param[in] order_length number of jobs
+ * @param[in] machines number of machines, at most PFS_MOST_MACHINES, or 0 to state none
+ * @param[in] makespan the makespan to state, which is not checked
+ * @param[out] text the file, in the front of the list
+ * @param[in] room length of the list `text`
+ * @param[out] length number of bytes in the file, on PFS_OK and on PFS_ROOM
+ * @return PFS_OK, or the first of PFS_SIZE (order_length, machines), PFS_JOB or PFS_REPEATED (the jobs from the left),
+ *     PFS_MAKESPAN (makespan), PFS_MEMORY, PFS_ROOM (room)
+ */
 int pfs_write_order(const uint32_t *order, size_t order_length, size_t machines, uint64_t makespan, uint8_t *text,
                     size_t room, size_t *length) PFS_CHECKED;
 

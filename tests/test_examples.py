@@ -129,7 +129,7 @@ def test_audits(built: pathlib.Path, folder: pathlib.Path) -> None:
     assert run(built, "audit_orders", "shop", "right", "one", cwd=folder) == Told(0, f"right: {valid}one: {valid}", "")
     told = run(built, "audit_orders", "shop", *texts, cwd=folder)
     assert told == Told(1, f"right: {valid}one: {valid}wrong: states 7, takes {makespan}\nother: of another instance\n"
-                           "shorter: of another instance\ntwice: a job of the order file stands twice (3)\n", "")
+                           "shorter: of another instance\ntwice: a job of the order file occurs twice (3)\n", "")
     # At any place of the wrong one.
     for names in (["wrong", "right"], ["right", "wrong"], ["one", "twice", "right"], ["other", "one"], ["wrong"] * 2):
         status = run(built, "audit_orders", "shop", *names, cwd=folder).status
@@ -186,7 +186,7 @@ def test_no_words(built: pathlib.Path, folder: pathlib.Path, name: str) -> None:
 
 # Other languages
 
-IN_OTHER_LANGUAGES = "order [1, 0, 2], makespan 10\na list hasn't as many entries as the sizes say\n"
+IN_OTHER_LANGUAGES = "order [1, 0, 2], makespan 10\na list doesn't have the length that the sizes require\n"
 
 
 def test_the_example_in_rust(installed: pathlib.Path, folder: pathlib.Path) -> None:

@@ -113,11 +113,11 @@ def test_a_compiler_warns_where_a_number_is_ignored(folder: pathlib.Path, compil
 # What the texts of the numbers say, a few words each, which no other text has.
 MEANT = {
     0: "done", 1: "memory", 2: "number of jobs or of machines", 3: "list", 4: "^a time is greater",
-    5: "^a job isn't below", 6: "^a job stands twice", 7: "destruction size", 8: "passes", 9: "rounds", 10: "seed",
+    5: "^a job isn't below", 6: "^a job occurs twice", 7: "destruction size", 8: "passes", 9: "rounds", 10: "seed",
     11: "layout", 12: "block isn't from 1", 13: "makespan", 14: "room", 20: "ends before the block",
-    21: "too few or too many", 22: "number of a size line is out", 23: "has a word", 24: "time of the file is greater",
-    25: "machine's number", 26: "behind the last time", 27: "ends inside a block", 28: "doesn't end within",
-    30: "not an order file", 31: "0 or greater than the number of jobs", 32: "job of the order file stands twice",
+    21: "too few or too many", 22: "number of a size line is out", 23: "and a word", 24: "time of the file is greater",
+    25: "machine number", 26: "follows the last time", 27: "ends inside a block", 28: "doesn't end within",
+    30: "not an order file", 31: "0 or greater than the number of jobs", 32: "job of the order file occurs twice",
     33: "order file of more than"}
 LIMITS_TOLD = {4: ["LONGEST_TIME"], 8: ["MOST_PASSES"], 9: ["MOST_ROUNDS"], 12: ["MOST_BLOCKS"], 24: ["LONGEST_TIME"],
                28: ["LONGEST_INPUT"], 33: ["LONGEST_ORDER_FILE"]}
@@ -150,17 +150,17 @@ def test_other_numbers_have_no_text(texts: dict[int, str]) -> None:
 
 # What the comments of pfs.h say of the numbers, a few words each.
 COMMENTS = {
-    1: "memory was refused", 2: "PFS_MOST_JOBS.*PFS_MOST_MACHINES", 3: "a list hasn't", 4: "a time.*PFS_LONGEST_TIME$",
-    5: "a job isn't below", 6: "a job stands twice", 7: "takes out", 8: "PFS_MOST_PASSES", 9: "PFS_MOST_ROUNDS",
+    1: "allocation failed", 2: "PFS_MOST_JOBS.*PFS_MOST_MACHINES", 3: "a list.*length", 4: "a time.*PFS_LONGEST_TIME$",
+    5: "a job is not below", 6: "a job occurs twice", 7: "destruction size", 8: "PFS_MOST_PASSES", 9: "PFS_MOST_ROUNDS",
     10: "2147483646", 11: "PFS_TAILLARD nor PFS_ORLIB", 12: "PFS_MOST_BLOCKS", 13: "PFS_MOST_MAKESPAN", 14: "room",
-    20: "before the block", 21: "too few or too many", 22: "out of its limit", 23: "a word", 24: "PFS_LONGEST_TIME;",
-    25: "another machine", 26: "last time", 27: "inside a block", 28: "PFS_LONGEST_INPUT", 30: "no order file",
+    20: "before the block", 21: "too few or too many", 22: "out of range", 23: "a word", 24: "PFS_LONGEST_TIME;",
+    25: "machine number", 26: "last time", 27: "inside a block", 28: "PFS_LONGEST_INPUT", 30: "not an order file",
     31: "0 or greater", 32: "at an earlier place", 33: "PFS_LONGEST_ORDER_FILE"}
 
 
 def test_the_header_says_what_each_number_means() -> None:
     comments = {int(value): comment for value, comment in
-                re.findall(r"^#define PFS_[A-Z_]+ (\d+) +/\* (.*?) \*/$", HEADER.read_text(), re.MULTILINE)}
+                re.findall(r"^#define PFS_[A-Z_]+ (\d+) +/\*\*< (.*?) \*/$", HEADER.read_text(), re.MULTILINE)}
     assert COMMENTS.keys() == MEANT.keys() - {0}
     for number, words in COMMENTS.items():
         assert re.search(words, comments[number]), f"the comment of {number} in pfs.h"
