@@ -58,7 +58,7 @@ extern "C" {
 #define PFS_MOST_PASSES 100
 #define PFS_MOST_BLOCKS 1000
 #define PFS_LONGEST_INPUT 67108864                     /**< bytes of an instance file, up to the end of the block */
-#define PFS_LONGEST_ORDER_FILE 65536                   /**< bytes */
+#define PFS_LONGEST_ORDER_FILE 65536                   /**< bytes of an order file */
 #define PFS_MOST_MAKESPAN UINT64_C(999999999999999999) /**< that an order file can state */
 /** @} */
 
@@ -96,7 +96,7 @@ extern "C" {
 #define PFS_NO_BLOCK 20       /**< the file ends before the block; place is the number of complete blocks */
 #define PFS_SIZE_COUNT 21     /**< a size line has too few or too many numbers; place is its line */
 #define PFS_SIZE_RANGE 22     /**< a number of a size line is out of range; place is its line */
-#define PFS_MIXED_LINE 23     /**< a line has times and a word; place is the offset of the byte that makes it so */
+#define PFS_MIXED_LINE 23     /**< a line has numbers and a word; place is the offset of the byte that makes it so */
 #define PFS_TIME_RANGE 24     /**< a time is greater than PFS_LONGEST_TIME; place is the offset of its first digit */
 #define PFS_MACHINE_NUMBER 25 /**< not the expected machine number; place is the offset of its first digit */
 #define PFS_EXTRA_NUMBER 26   /**< a number follows a block's last time; place is the offset of its first digit */

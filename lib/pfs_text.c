@@ -27,7 +27,7 @@ const char *pfs_message(int number) {
     case PFS_NO_BLOCK: return "the file ends before the block";
     case PFS_SIZE_COUNT: return "a size line has too few or too many numbers";
     case PFS_SIZE_RANGE: return "a number of a size line is out of range";
-    case PFS_MIXED_LINE: return "a line has times and a word";
+    case PFS_MIXED_LINE: return "a line has both numbers and a word";
     case PFS_TIME_RANGE: return "a time of the file is greater than 1000000000";
     case PFS_MACHINE_NUMBER: return "a number isn't the expected machine number";
     case PFS_EXTRA_NUMBER: return "a number follows the last time of a block";
