@@ -1,5 +1,6 @@
-/* Audits order files against one instance: whether each is an order of all its jobs and states the right makespan, and
- * what the lower bound is. Ends with status 1 where one of them is wrong.
+/* Audits order files against one instance: whether each is an order of all its jobs and states the right makespan.
+ * Prints the lower bound too. The exit status is 1 if one of the orders is wrong.
+ *
  * usage: audit_orders INSTANCE ORDER ..    (Taillard's layout) */
 #include <inttypes.h>
 #include <pfs.h>
@@ -9,20 +10,22 @@
 static uint8_t bytes[PFS_LONGEST_INPUT + 1];
 static uint32_t times[PFS_MOST_JOBS * PFS_MOST_MACHINES], order[PFS_MOST_JOBS];
 
-/* What a file has, or nothing of one that can't be read. */
-static size_t bytes_of(const char *path) {
+/* Reads a file into `bytes`, or ends the program. */
+static size_t read_file(const char *path) {
     FILE *file = fopen(path, "rb");
-    size_t length = file ? fread(bytes, 1, sizeof bytes, file) : 0;
-    if (file)
-        fclose(file);
+    if (file == NULL)
+        exit((fprintf(stderr, "audit_orders: %s: cannot open\n", path), 4));
+    size_t length = fread(bytes, 1, sizeof bytes, file);
+    if (ferror(file) || fclose(file))
+        exit((fprintf(stderr, "audit_orders: %s: cannot read\n", path), 4));
     return length;
 }
 
-/* Tells of an order file what it is, and whether it is right. */
+/* Prints what is wrong with an order file, or its makespan. Returns whether it is right. */
 static int audit(const char *path, size_t jobs, size_t machines, uint64_t bound) {
     size_t of_jobs, of_machines;
     uint64_t stated, makespan, place;
-    int number = pfs_read_order(bytes, bytes_of(path), order, PFS_MOST_JOBS, &of_jobs, &of_machines, &stated, &place);
+    int number = pfs_read_order(bytes, read_file(path), order, PFS_MOST_JOBS, &of_jobs, &of_machines, &stated, &place);
     if (number != PFS_OK)
         return printf("%s: %s (%" PRIu64 ")\n", path, pfs_message(number), place), 0;
     if (of_jobs != jobs || (of_machines != 0 && of_machines != machines))
@@ -40,16 +43,18 @@ int main(int count, char **words) {
     size_t jobs, machines;
     struct pfs_notes notes;
     uint64_t place, bound;
-    int wrong = 0;
+    int is_wrong = 0;
     if (count < 3)
         return fputs("usage: audit_orders INSTANCE ORDER ..\n", stderr), 3;
-    int number = pfs_read(bytes, bytes_of(words[1]), PFS_TAILLARD, 1, &jobs, &machines, &notes, times,
+    int number = pfs_read(bytes, read_file(words[1]), PFS_TAILLARD, 1, &jobs, &machines, &notes, times,
                           sizeof times / sizeof *times, &place);
     if (number == PFS_OK)
         number = pfs_bound(times, jobs * machines, jobs, machines, &bound);
     if (number != PFS_OK)
         return fprintf(stderr, "audit_orders: %s: %s\n", words[1], pfs_message(number)), 2;
     for (int word = 2; word < count; ++word)
-        wrong |= !audit(words[word], jobs, machines, bound);
-    return wrong;
+        is_wrong |= !audit(words[word], jobs, machines, bound);
+    if (fflush(stdout) || ferror(stdout))
+        return fputs("audit_orders: cannot write\n", stderr), 4;
+    return is_wrong;
 }

@@ -1,7 +1,8 @@
-/* Goes on with a search for so many seconds: from the order of an order file, if it is there, and else from NEH's. The
- * order is written back, and how many rounds were made so far into a file beside it, so that calls with one seed go on
- * where the last one ended: together they leave what one search of all these rounds does.
- * usage: timed_search INSTANCE ORDER SEED SECONDS [ROUNDS]    (Taillard's layout; at most ROUNDS more rounds) */
+/* Continues an iterated greedy search for SECONDS seconds and prints the order found, as an order file. STATE holds the
+ * number of rounds made so far and that order. If there is no such file, the search starts at NEH's order. Calls with
+ * the same seed find what one search of all their rounds finds.
+ *
+ * usage: timed_search INSTANCE STATE SEED SECONDS [ROUNDS]    (Taillard's layout; ROUNDS limits the rounds of a call) */
 #include <inttypes.h>
 #include <pfs.h>
 #include <stdio.h>
@@ -10,50 +11,84 @@
 
 static uint8_t bytes[PFS_LONGEST_INPUT + 1];
 static uint32_t times[PFS_MOST_JOBS * PFS_MOST_MACHINES], order[PFS_MOST_JOBS];
-/* Ends the program where this isn't PFS_OK. */
-static void check(const char *what, int number) {
-    if (number != PFS_OK)
-        exit((fprintf(stderr, "timed_search: %s: %s\n", what, pfs_message(number)), 2));
+
+/* Reports an error and ends the program. */
+static void fail(const char *what, const char *why, int status) {
+    fprintf(stderr, "timed_search: %s: %s\n", what, why);
+    exit(status);
 }
 
-/* What a file has, or nothing of one that isn't there. */
-static size_t bytes_of(const char *path) {
+static void check(const char *what, int number) {
+    if (number != PFS_OK)
+        fail(what, pfs_message(number), 2);
+}
+
+/* Reads the instance into `times`. */
+static void read_instance(const char *path, size_t *jobs, size_t *machines) {
+    struct pfs_notes notes;
+    uint64_t place;
     FILE *file = fopen(path, "rb");
-    size_t length = file ? fread(bytes, 1, sizeof bytes - 1, file) : 0;
-    return file ? fclose(file), length : 0;
+    if (file == NULL)
+        fail(path, "cannot open", 4);
+    size_t length = fread(bytes, 1, sizeof bytes, file);
+    if (ferror(file) || fclose(file))
+        fail(path, "cannot read", 4);
+    check(path, pfs_read(bytes, length, PFS_TAILLARD, 1, jobs, machines, &notes, times, sizeof times / sizeof *times,
+                         &place));
+}
+
+/* Reads the rounds made so far, and the order into `order`. Returns 0 if there is no such file. */
+static int read_state(const char *path, size_t jobs, size_t machines, uint32_t *rounds) {
+    size_t of_jobs, of_machines;
+    uint64_t makespan, place;
+    FILE *file = fopen(path, "rb");
+    if (file == NULL)
+        return 0;
+    if (fscanf(file, "%" SCNu32 "\n", rounds) != 1)
+        fail(path, "not a state of timed_search", 2);
+    size_t length = fread(bytes, 1, sizeof bytes, file);
+    if (ferror(file) || fclose(file))
+        fail(path, "cannot read", 4);
+    check(path, pfs_read_order(bytes, length, order, PFS_MOST_JOBS, &of_jobs, &of_machines, &makespan, &place));
+    if (of_jobs != jobs || of_machines != machines)
+        fail(path, "the order of another instance", 2);
+    return 1;
+}
+
+/* Replaces the state by a new file, so that an interruption leaves the old one or the new one. */
+static void write_state(const char *path, uint32_t rounds, size_t length) {
+    char beside[4096];
+    if ((size_t)snprintf(beside, sizeof beside, "%s.new", path) >= sizeof beside)
+        fail(path, "the name is too long", 3);
+    FILE *file = fopen(beside, "wb");
+    if (file == NULL)
+        fail(beside, "cannot open", 4);
+    int is_written = fprintf(file, "%" PRIu32 "\n", rounds) > 0 && fwrite(bytes, 1, length, file) == length;
+    if (fclose(file) || !is_written || rename(beside, path))
+        fail(path, "cannot write", 4);
 }
 
 int main(int count, char **words) {
-    if (count < 5)
-        return fputs("usage: timed_search INSTANCE ORDER SEED SECONDS [ROUNDS]\n", stderr), 3;
-    uint64_t seed = strtoull(words[3], NULL, 10), place, makespan, cells;
-    clock_t end = clock() + (clock_t)(atof(words[4]) * CLOCKS_PER_SEC);
-    size_t jobs, machines, of_jobs, of_machines, length;
-    struct pfs_notes notes;
-    char beside[4096];
-    check(words[1], pfs_read(bytes, bytes_of(words[1]), PFS_TAILLARD, 1, &jobs, &machines, &notes, times,
-                             sizeof times / sizeof *times, &place));
-    size_t size = jobs * machines;
-    uint32_t first = 0, part;
-    snprintf(beside, sizeof beside, "%s.rounds", words[2]);
-    if ((length = bytes_of(words[2])) == 0) {
-        check("NEH", pfs_neh(times, size, jobs, machines, order, jobs, &makespan, &cells));
-    } else {
-        check(words[2], pfs_read_order(bytes, length, order, PFS_MOST_JOBS, &of_jobs, &of_machines, &makespan, &place));
-        check(words[2], of_jobs == jobs && (!of_machines || of_machines == machines) ? PFS_OK : PFS_LENGTH);
-        bytes[bytes_of(beside)] = 0;
-        first = (uint32_t)strtoul((char *)bytes, NULL, 10);
-    }
-    uint32_t most = count > 5 ? first + (uint32_t)strtoul(words[5], NULL, 10) : PFS_MOST_ROUNDS;
+    if (count < 5 || count > 6)
+        return fputs("usage: timed_search INSTANCE STATE SEED SECONDS [ROUNDS]\n", stderr), 3;
+    clock_t end = clock() + (clock_t)(strtod(words[4], NULL) * CLOCKS_PER_SEC);
+    uint64_t seed = strtoull(words[3], NULL, 10), makespan, cells;
+    size_t jobs, machines, length;
+    uint32_t rounds = 0, part;
+    read_instance(words[1], &jobs, &machines);
+    if (!read_state(words[2], jobs, machines, &rounds))
+        check("NEH", pfs_neh(times, jobs * machines, jobs, machines, order, jobs, &makespan, &cells));
+    uint32_t last = count == 6 ? rounds + (uint32_t)strtoul(words[5], NULL, 10) : PFS_MOST_ROUNDS;
     do {
-        part = most - first < 10 ? most - first : 10;
-        check("rounds", pfs_rounds(times, size, jobs, machines, order, jobs, first, part, jobs < 4 ? jobs : 4, 0, seed,
-                                   &makespan, &cells));
-    } while ((first += part) < most && clock() < end);
+        part = last - rounds < 10 ? last - rounds : 10;
+        check("rounds", pfs_rounds(times, jobs * machines, jobs, machines, order, jobs, rounds, part,
+                                   jobs < 4 ? jobs : 4, 0, seed, &makespan, &cells));
+        rounds += part;
+    } while (rounds < last && clock() < end);
     check("order", pfs_write_order(order, jobs, machines, makespan, bytes, sizeof bytes, &length));
-    FILE *file = fopen(words[2], "wb"), *rounds = fopen(beside, "w");
-    if (!file || !rounds || fwrite(bytes, 1, length, file) != length || fprintf(rounds, "%" PRIu32 "\n", first) < 0
-        || fclose(file) || fclose(rounds))
-        return fputs("timed_search: cannot write\n", stderr), 4;
-    return printf("%" PRIu32 " rounds, makespan %" PRIu64 "\n", first, makespan) < 0;
+    write_state(words[2], rounds, length);
+    fprintf(stderr, "%" PRIu32 " rounds, makespan %" PRIu64 "\n", rounds, makespan);
+    if (fwrite(bytes, 1, length, stdout) != length || fflush(stdout))
+        fail("standard output", "cannot write", 4);
+    return 0;
 }

@@ -1,10 +1,12 @@
-"""The examples of the library for C: each compiles without a warning by the line of their page, with pkg-config over a
-folder like an installed one, prints what the page shows, and what the program or the second program computes. README's
-lines in C and in Python."""
+"""The examples of the library for C. Each compiles without a warning by the command of their page, with pkg-config and a
+folder like an installed one. It prints what the page shows, and what the program or the second program computes.
+README's lines in C and in Python."""
+import os
 import pathlib
 import re
 import shlex
 import shutil
+import subprocess
 
 import pytest
 from support import second_program
@@ -17,7 +19,7 @@ from support.tools import Told, need_of_debian, printed_by, told_by, with_path
 EXAMPLES = HEADER.parent.parent / "examples"
 README = HEADER.parent.parent / "README.md"
 PAGE = (EXAMPLES / "README.md").read_text()
-SOURCES = sorted(path for path in EXAMPLES.iterdir() if path.suffix in (".c", ".cpp"))
+SOURCES = [EXAMPLES / name for name in ("audit_orders.c", "gaps.cpp", "neh_ties.c", "timed_search.c")]
 VERSION = (HEADER.parent.parent / "VERSION").read_text().strip()
 STRICT = {"cc": "-std=c99", "c++": "-std=c++17"}
 SEED = 873654221
@@ -45,7 +47,11 @@ def installed(libpfs: Library, tmp_path_factory: pytest.TempPathFactory) -> path
 @pytest.fixture(scope="session")
 def built(installed: pathlib.Path, tmp_path_factory: pytest.TempPathFactory) -> pathlib.Path:
     """A folder with the examples, compiled as the page says, and with warnings as errors."""
-    folder = tmp_path_factory.mktemp("examples")
+    return compile_examples(installed, tmp_path_factory.mktemp("examples"))
+
+
+def compile_examples(installed: pathlib.Path, folder: pathlib.Path, *options: str) -> pathlib.Path:
+    """Compile the examples into a folder by the commands of the page, with more options of the compiler."""
     lines = {compiler: line for line, compiler in re.findall(r"^((cc|c\+\+) .*)$", PAGE, re.MULTILINE)}
     env = {"PKG_CONFIG_PATH": str(installed / "lib" / "pkgconfig"), "PATH": "/usr/bin:/bin"}
     flags = shlex.split(printed_by([need("pkg-config"), "--cflags", "--libs", "pfs"], folder, env=env))
@@ -53,8 +59,8 @@ def built(installed: pathlib.Path, tmp_path_factory: pytest.TempPathFactory) -> 
         compiler = "cc" if source.suffix == ".c" else "c++"
         assert lines[compiler].endswith("$(pkg-config --cflags --libs pfs)") and STRICT[compiler] in lines[compiler]
         rpath = f"-Wl,-rpath,{installed / 'lib'}"
-        compile_quietly([need(compiler), STRICT[compiler], "-O2", "-Wall", "-Wextra", "-pedantic", "-Werror", "-o",
-                         folder / source.stem, source, *flags, rpath])
+        compile_quietly([need(compiler), STRICT[compiler], "-O2", "-Wall", "-Wextra", "-pedantic", "-Werror",
+                         *options, "-o", folder / source.stem, source, *flags, rpath])
     return folder
 
 
@@ -62,21 +68,33 @@ def run(built: pathlib.Path, name: str, *words: str | pathlib.Path, cwd: pathlib
     return told_by([built / name, *words], cwd)
 
 
-def test_the_page_tells_each_example() -> None:
-    assert [path.name for path in SOURCES] == ["audit_orders.c", "gaps.cpp", "neh_ties.c", "timed_search.c"]
+def test_the_page_has_each_example() -> None:
+    names = {path.name for path in SOURCES} | {"neh.R", "neh.rs", "neh_cffi.py", "pfs_r.c", "README.md"}
+    assert {path.name for path in EXAMPLES.iterdir()} == names
     assert set(re.findall(r"^`(\w+) ", PAGE, re.MULTILINE)) == {path.stem for path in SOURCES}
-    assert all(len(path.read_text().splitlines()) <= 60 for path in SOURCES)
+    assert all(len(path.read_text().splitlines()) <= 100 for path in SOURCES)
 
 
-def test_the_page_shows_what_is_printed(built: pathlib.Path, pfs: Program, folder: pathlib.Path) -> None:
-    """One after the other, in one folder, as a reader would."""
+def run_page(built: pathlib.Path, pfs: Program, folder: pathlib.Path) -> None:
+    """Run the page's commands one after the other in one folder, and compare what they print with the page."""
     for path in (*(built / source.stem for source in SOURCES), pfs.path):
         (folder / path.name).symlink_to(path)
     shown = re.findall(r"^\$ (.*)\n((?:(?!\$|```).*\n)*)", PAGE, re.MULTILINE)
     assert len(shown) == 6
     for line, text in shown:
-        told = told_by(["sh", "-c", line], folder, env=with_path(folder))
-        assert (told.stdout, told.stderr) == (text, ""), line
+        assert printed_by(["sh", "-c", f"{{ {line}; }} 2>&1 || [ $? = 1 ]"], folder, env=with_path(folder)) == text, line
+
+
+def test_the_page_shows_what_is_printed(built: pathlib.Path, pfs: Program, folder: pathlib.Path) -> None:
+    run_page(built, pfs, folder)
+
+
+def test_no_example_leaks_or_reads_out_of_bounds(installed: pathlib.Path, pfs: Program, folder: pathlib.Path) -> None:
+    """The same under the sanitizers of addresses, leaks and undefined behaviour."""
+    (folder / "built").mkdir()
+    built = compile_examples(installed, folder / "built", "-fsanitize=address,undefined", "-fno-sanitize-recover=all")
+    (folder / "run").mkdir()
+    run_page(built, pfs, folder / "run")
 
 
 def last_places(shop: Instance) -> int:
@@ -96,19 +114,57 @@ def test_ties(built: pathlib.Path, folder: pathlib.Path, jobs: int, machines: in
     assert told == Told(0, f"first places {first}\nlast places {last_places(shop)}\n", "")
 
 
-def test_a_search_in_parts(built: pathlib.Path, pfs: Program, folder: pathlib.Path) -> None:
+@pytest.fixture
+def shop(folder: pathlib.Path) -> pathlib.Path:
+    """A folder with an instance of 20 jobs on 5 machines in the file `shop`."""
     (folder / "shop").write_bytes(second_program.canonical(second_program.generated(20, 5, SEED), b"taillard"))
+    return folder
+
+
+def test_a_search_in_parts(built: pathlib.Path, pfs: Program, shop: pathlib.Path) -> None:
     for rounds in (7, 20, 0, 13):
-        assert run(built, "timed_search", "shop", "found", "7", "1000", str(rounds), cwd=folder).status == 0
-    whole = pfs.run("solve --layout taillard --rounds 40 --seed 7 shop", folder).stdout
-    assert (folder / "found").read_bytes() == whole
-    assert (folder / "found.rounds").read_text() == "40\n"
+        found = run(built, "timed_search", "shop", "state", "7", "1000", str(rounds), cwd=shop)
+        assert found.status == 0
+    whole = pfs.run("solve --layout taillard --rounds 40 --seed 7 shop", shop).stdout
+    assert found.stdout.encode() == whole
+    assert (shop / "state").read_bytes() == b"40\n" + whole
+    assert {path.name for path in shop.iterdir()} == {"shop", "state"}
 
 
-def test_a_search_ends_in_time(built: pathlib.Path, folder: pathlib.Path) -> None:
-    (folder / "shop").write_bytes(second_program.canonical(second_program.generated(20, 5, SEED), b"taillard"))
-    told = run(built, "timed_search", "shop", "found", "7", "0", cwd=folder)
-    assert told.stdout.startswith("10 rounds, ")
+def test_a_search_ends_in_time(built: pathlib.Path, shop: pathlib.Path) -> None:
+    assert run(built, "timed_search", "shop", "state", "7", "0", cwd=shop).stderr.startswith("10 rounds, ")
+
+
+@pytest.mark.parametrize(("state", "why"), [
+    (b"", "not a state of timed_search"), (b"no number\n", "not a state of timed_search"),
+    (b"3\n", "no order file"), (b"3\npfs-order 1\njobs 2\n", "no order file"),
+    (b"3\n" + second_program.order_text([1, 0], 5, 7), "the order of another instance"),
+    (b"3\n" + second_program.order_text([*range(20)], 4, 7), "the order of another instance"),
+    (b"2000000\n" + second_program.order_text([*range(20)], 5, 7), "rounds"),
+])
+def test_a_search_rejects_other_states(built: pathlib.Path, shop: pathlib.Path, state: bytes, why: str) -> None:
+    """And leaves them as they are."""
+    (shop / "state").write_bytes(state)
+    told = run(built, "timed_search", "shop", "state", "7", "1", "10", cwd=shop)
+    assert (told.status, told.stdout) == (2, "") and told.stderr.startswith("timed_search: ") and why in told.stderr
+    assert (shop / "state").read_bytes() == state and not (shop / "state.new").exists()
+
+
+def test_files_that_cannot_be_opened_or_written(built: pathlib.Path, shop: pathlib.Path) -> None:
+    told = run(built, "timed_search", "none", "state", "7", "0", cwd=shop)
+    assert told == Told(4, "", "timed_search: none: cannot open\n")
+    told = run(built, "timed_search", "shop", "none/state", "7", "0", cwd=shop)
+    assert told == Told(4, "", "timed_search: none/state.new: cannot open\n")
+    assert run(built, "audit_orders", "none", "x", cwd=shop) == Told(4, "", "audit_orders: none: cannot open\n")
+    assert run(built, "audit_orders", "shop", "none", cwd=shop) == Told(4, "", "audit_orders: none: cannot open\n")
+
+
+@pytest.mark.parametrize("words", [["timed_search", "shop", "state", "7", "0"], ["neh_ties", "5", "2", "1"],
+                                   ["audit_orders", "shop", "shop"]])
+def test_a_full_device_is_reported(built: pathlib.Path, shop: pathlib.Path, words: list[str]) -> None:
+    with open("/dev/full", "wb") as full:
+        done = subprocess.run([built / words[0], *words[1:]], cwd=shop, stdout=full, stderr=subprocess.PIPE, text=True)
+    assert done.returncode == 4 and done.stderr.endswith("cannot write\n")
 
 
 def test_audits(built: pathlib.Path, folder: pathlib.Path) -> None:
@@ -203,3 +259,16 @@ def test_the_example_for_cffi(installed: pathlib.Path, folder: pathlib.Path) -> 
     assert "\npython3 neh_cffi.py\n" in PAGE
     env = {"LD_LIBRARY_PATH": str(installed / "lib"), "PATH": "/usr/bin:/bin"}
     assert printed_by(["/usr/bin/python3", EXAMPLES / "neh_cffi.py"], folder, env=env) == IN_OTHER_LANGUAGES
+
+
+def test_the_example_in_r(installed: pathlib.Path, folder: pathlib.Path) -> None:
+    """By the page's command, in a folder with the two files."""
+    need("R")
+    line = re.search(r"^PKG_CPPFLAGS=.*$", PAGE, re.MULTILINE)
+    assert line
+    for name in ("neh.R", "pfs_r.c"):
+        shutil.copy(EXAMPLES / name, folder)
+    env = dict(os.environ, PKG_CONFIG_PATH=str(installed / "lib" / "pkgconfig"), LD_LIBRARY_PATH=str(installed / "lib"))
+    done = told_by(["sh", "-e", "-c", line[0].replace("pfs_r.c", "pfs_r.c > log", 1)], folder, env=env)
+    assert re.fullmatch("order 2 1 3, makespan 10\npfs: a job .* twice.*\n", done.stdout), done
+    assert "warning" not in (folder / "log").read_text() + done.stderr
