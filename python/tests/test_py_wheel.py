@@ -130,9 +130,10 @@ def test_no_library_no_wheel(tmp_path: pathlib.Path) -> None:
     assert not list(tmp_path.iterdir())
 
 
-@pytest.mark.seconds(60)
+@pytest.mark.seconds(20)
 def test_a_wheel_in_a_clean_environment(wheel: pathlib.Path, tmp_path: pathlib.Path, program: str) -> None:
-    """NumPy and what the tests want is the system's; of pfs there is the wheel alone."""
+    """NumPy and the tests' other packages are the system's, and pfs is the wheel's. The tests that take long are left
+    out."""
     if sys.prefix != sys.base_prefix:
         pytest.skip("an environment inside another one has no packages of the system")
     run([sys.executable, "-m", "venv", "--system-site-packages", tmp_path / "clean"], tmp_path)
@@ -150,5 +151,5 @@ def test_a_wheel_in_a_clean_environment(wheel: pathlib.Path, tmp_path: pathlib.P
     names = ["where", "values", "given", "solve"]
     told = run([python, "-m", "pytest", "-q", "-p", "no:cacheprovider", "-W", "ignore::pytest.PytestUnknownMarkWarning",
                 f"--rootdir={tmp_path}", f"--pfs={program}", *(f"tests/test_py_{name}.py" for name in names),
-                "-k", "not thread and not signal"], tmp_path)
+                "-k", "not thread and not signal", "-m", "not seconds"], tmp_path)
     assert " passed" in told and "failed" not in told
