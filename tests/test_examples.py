@@ -137,7 +137,7 @@ def test_a_search_ends_in_time(built: pathlib.Path, shop: pathlib.Path) -> None:
 
 @pytest.mark.parametrize(("state", "why"), [
     (b"", "not a state of timed_search"), (b"no number\n", "not a state of timed_search"),
-    (b"3\n", "no order file"), (b"3\npfs-order 1\njobs 2\n", "no order file"),
+    (b"3\n", "not an order file"), (b"3\npfs-order 1\njobs 2\n", "not an order file"),
     (b"3\n" + second_program.order_text([1, 0], 5, 7), "the order of another instance"),
     (b"3\n" + second_program.order_text([*range(20)], 4, 7), "the order of another instance"),
     (b"2000000\n" + second_program.order_text([*range(20)], 5, 7), "rounds"),

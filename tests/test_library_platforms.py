@@ -1,0 +1,53 @@
+"""Where the library for C runs: with musl, with old versions of the GNU C library, and on old processors, where the
+loader reports what is missing."""
+import pathlib
+import re
+
+import pytest
+from support.library import HEADER, Library, compile_quietly
+from support.needs import need
+from support.tools import printed_by, told_by
+
+PROGRAM = """#include <pfs.h>
+#include <stdio.h>
+
+int main(void) {
+    uint32_t times[] = {3, 2, 2, 5, 4, 1}, order[3];
+    uint64_t makespan = 0, cells;
+    int number = pfs_neh(times, 6, 3, 2, order, 3, &makespan, &cells);
+    return printf("%d, makespan %d\\n", number, (int)makespan) < 0;
+}
+"""
+SHARED, STATIC = "libpfs.so.0", "libpfs.a"
+
+
+def program(libpfs: Library, folder: pathlib.Path, compiler: str, library: str, *options: str) -> pathlib.Path:
+    """A program over the library, made by a compiler."""
+    (folder / "program.c").write_text(PROGRAM)
+    path = libpfs.path.with_name(library) if library == STATIC else libpfs.path
+    compile_quietly([need(compiler), *options, f"-I{HEADER.parent}", "-o", folder / "program", folder / "program.c", path,
+                     f"-Wl,-rpath,{libpfs.path.parent}"])
+    return folder / "program"
+
+
+@pytest.mark.parametrize(("library", "options"), [(SHARED, []), (STATIC, []), (STATIC, ["-static"])],
+                         ids=["shared", "archive", "static program"])
+def test_a_program_runs_with_musl(libpfs: Library, folder: pathlib.Path, library: str, options: list[str]) -> None:
+    made = program(libpfs, folder, "musl-gcc", library, *options)
+    assert printed_by([made], folder) == "0, makespan 10\n"
+
+
+def test_the_page_names_the_gnu_c_library_that_the_library_needs(libpfs: Library) -> None:
+    versions = re.findall(rb"GLIBC_(\d+)\.(\d+)", libpfs.path.read_bytes())
+    major, minor = max((int(major), int(minor)) for major, minor in versions)
+    page = HEADER.parent.parent / "docs" / "LIBRARY.md"
+    assert f"the GNU C library {major}.{minor} or newer" in page.read_text()
+
+
+@pytest.mark.parametrize("library", [SHARED, STATIC])
+def test_an_old_processor_is_reported(libpfs: Library, folder: pathlib.Path, library: str) -> None:
+    """The page says so: an emulated processor without the instructions of x86-64-v2, and one with them."""
+    made = program(libpfs, folder, "gcc", library)
+    assert printed_by([need("qemu-x86_64"), "-cpu", "Nehalem", made], folder) == "0, makespan 10\n"
+    old = told_by([need("qemu-x86_64"), "-cpu", "qemu64", made], folder)
+    assert (old.status, old.stdout) == (127, "") and "CPU ISA level is lower than required" in old.stderr
