@@ -5,6 +5,8 @@ pub mod ManyLemmas
 pub mod MemoryLemmas
 pub mod RandomWords
 pub mod Rooms
+pub mod RowCopies
 pub mod RowSteps
+pub mod TailRows
 pub mod TextLemmas
 pub mod Times

@@ -1,3 +1,4 @@
+pub mod HeadsTails
 pub mod Inserting
 pub mod Judgements
 pub mod Many

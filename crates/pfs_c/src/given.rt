@@ -6,10 +6,11 @@ ghost use Rattle.pfs_order.specs.Sequence.{IsSequence};
 ghost use Rattle.pfs_c.specs.Judgements.{shop_of, sizes_refusal, length_refusal, times_refusal, shop_refusal};
 ghost use Rattle.pfs_c.specs.Judgements.{jobs_refusal, job_refusal};
 ghost use Rattle.pfs_c.specs.Private.Refusing.{Judges};
+ghost use Rattle.pfs_c.specs.Searching.{passes_refusal};
 ghost use Rattle.pfs_c.specs.Texts.{put_in_front};
 
 use crate::numbers::Refusal;
-use pfs_base::{Instance, LONGEST_TIME, MOST_JOBS, MOST_MACHINES, Notes};
+use pfs_base::{Instance, LONGEST_TIME, MOST_JOBS, MOST_MACHINES, MOST_PASSES, Notes};
 use pfs_order::{Order, Seq};
 use std::alloc::Global;
 
@@ -45,6 +46,17 @@ pub(crate) fn judge_length(length: usize, wanted: usize) -> Result<(), Refusal>
         Ok(())
     } else {
         Err(Refusal::Length)
+    }
+}
+
+/// Validates the length of a list that must have `count * long` entries. If that product overflows, the length is wrong.
+pub(crate) fn judge_product(length: usize, count: usize, long: usize) -> Result<(), Refusal>
+    ensures judged { Judges result (length_refusal length (count * long)) }
+    ensures equal { IfOk result (λ done. length ≡ count * long) }
+{
+    match count.checked_mul(long) {
+        Some(wanted) => judge_length(length, wanted),
+        None => Err(Refusal::Length),
     }
 }
 
@@ -141,6 +153,17 @@ pub(crate) fn judge_job(size: usize, sequence: &[u32], job: u32) -> Result<(), R
         return Err(Refusal::Repeated);
     }
     Ok(())
+}
+
+/// Validates a number of passes: `Passes` if it is above the limit.
+pub(crate) fn judge_passes(passes: u32) -> Result<(), Refusal>
+    ensures { Judges result (passes_refusal passes) }
+{
+    if passes <= MOST_PASSES {
+        Ok(())
+    } else {
+        Err(Refusal::Passes)
+    }
 }
 
 /// Makes an instance of validated times. It allocates once, and returns `Memory` if that fails; it has no other error.

@@ -5,6 +5,7 @@
 #![tactic(auto)]
 
 mod given;
+mod heads;
 mod inserting;
 mod many;
 mod numbers;

@@ -4,12 +4,12 @@ ghost use Rattle.std.specs.Prelude.{ℕ};
 ghost use Rattle.pfs_base.specs.FlowShop.{IsWithin};
 ghost use Rattle.pfs_base.specs.Limits.{limits};
 ghost use Rattle.pfs_order.specs.Sequence.{IsSequence};
-ghost use Rattle.pfs_c.specs.Judgements.{shop_of, length_refusal};
+ghost use Rattle.pfs_c.specs.Judgements.{shop_of};
 ghost use Rattle.pfs_c.specs.Many.{AreMakespans, makespans_refusal, sequence_at, sequences_refusal};
 ghost use Rattle.pfs_c.specs.Private.Refusing.{Judges};
 ghost use Rattle.pfs_c.specs.Texts.{answer_of};
 
-use crate::given::{judge_jobs, judge_length, judge_sizes, judge_times};
+use crate::given::{judge_jobs, judge_length, judge_product, judge_sizes, judge_times};
 use crate::numbers::{PFS_OK, Refusal};
 use crate::rows::span_of;
 use pfs_base::MOST_JOBS;
@@ -59,17 +59,6 @@ fn judge_makespans(
     judge_product(sequences.len(), room, long)?;
     judge_times(times)?;
     judge_sequences(jobs, sequences, long, room)
-}
-
-// Validates the length of a list that must have `count * long` entries. If that product overflows, the length is wrong.
-fn judge_product(length: usize, count: usize, long: usize) -> Result<(), Refusal>
-    ensures judged { Judges result (length_refusal length (count * long)) }
-    ensures equal { IfOk result (λ done. length ≡ count * long) }
-{
-    match count.checked_mul(long) {
-        Some(wanted) => judge_length(length, wanted),
-        None => Err(Refusal::Length),
-    }
 }
 
 // Validates the sequences one after the other, each from the left.

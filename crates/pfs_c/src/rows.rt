@@ -6,7 +6,7 @@ ghost use Rattle.pfs_base.specs.Paths.{makespan};
 ghost use Rattle.pfs_insert.specs.Insertion.{makespan_with};
 ghost use Rattle.pfs_order.specs.Sequence.{IsSequence};
 ghost use Rattle.pfs_c.specs.Judgements.{shop_of};
-ghost use Rattle.pfs_c.specs.Private.Rows.{HeadsAt, TailsFrom};
+ghost use Rattle.pfs_c.specs.Private.Rows.{HeadsAt, TailsAt, TailsFrom};
 
 use pfs_base::{LONGEST_TIME, MOST_MACHINES};
 
@@ -71,6 +71,30 @@ pub(crate) fn add_tail(
         let below = tails[first + machines + machine];
         after = below.max(after) + time_at(times, jobs, machines, job, machine);
         tails[first + machine] = after;
+    }
+}
+
+/// Moves a row of tails back over the job at a place of a sequence.
+pub(crate) fn add_tail_row(
+    times: &[u32],
+    jobs: usize,
+    machines: usize,
+    sequence: &[u32],
+    place: usize,
+    row: &mut [u64],
+)
+    requires within { IsWithin limits (shop_of times.now jobs machines) }
+    requires sequence { IsSequence jobs sequence.now }
+    requires place { place < length sequence.now }
+    requires wide { machines ≤ length row.old }
+    requires tails { TailsAt (shop_of times.now jobs machines) sequence.now (place + 1) row.old }
+    ensures { TailsAt (shop_of times.now jobs machines) sequence.now place row.new }
+{
+    let job = sequence[place] as usize;
+    let mut after = 0;
+    for machine in (0..machines).rev() {
+        after = row[machine].max(after) + time_at(times, jobs, machines, job, machine);
+        row[machine] = after;
     }
 }
 

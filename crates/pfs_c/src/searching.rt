@@ -4,14 +4,15 @@ ghost use Rattle.pfs_search.specs.Solution.{IsImproved};
 ghost use Rattle.pfs_c.specs.Judgements.{shop_of};
 ghost use Rattle.pfs_c.specs.Numbers.{Answers};
 ghost use Rattle.pfs_c.specs.Private.Refusing.{Judges, Refuses};
-ghost use Rattle.pfs_c.specs.Searching.{neh_refusal, rounds_refusal, take_refusal, passes_refusal, count_refusal};
+ghost use Rattle.pfs_c.specs.Searching.{neh_refusal, rounds_refusal, take_refusal, count_refusal};
 ghost use Rattle.pfs_c.specs.Searching.{IsNeh};
 
 use crate::given::{
-    NO_NOTES, copy_order, instance_of, judge_jobs, judge_length, judge_sizes, judge_times, order_of,
+    NO_NOTES, copy_order, instance_of, judge_jobs, judge_length, judge_passes, judge_sizes,
+    judge_times, order_of,
 };
 use crate::numbers::{PFS_OK, Refusal};
-use pfs_base::{MOST_PASSES, MOST_ROUNDS};
+use pfs_base::MOST_ROUNDS;
 use pfs_search::{Solution, improve, solve};
 use std::alloc::Global;
 
@@ -144,16 +145,6 @@ fn judge_take(take: usize, jobs: usize) -> Result<(), Refusal>
         Ok(())
     } else {
         Err(Refusal::Take)
-    }
-}
-
-fn judge_passes(passes: u32) -> Result<(), Refusal>
-    ensures { Judges result (passes_refusal passes) }
-{
-    if passes <= MOST_PASSES {
-        Ok(())
-    } else {
-        Err(Refusal::Passes)
     }
 }
 

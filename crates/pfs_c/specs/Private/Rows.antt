@@ -13,7 +13,22 @@ abbrev pub HeadsAt : FlowShop → List ℕ → ℕ → List ℕ → Type 0
 HeadsAt shop jobs place row = (machine : ℕ) → machine < shop.machines
     → slice_index row machine ≡ done_before shop jobs place machine
 
+-- the same of tails at a place of the sequence
+abbrev pub TailsAt : FlowShop → List ℕ → ℕ → List ℕ → Type 0
+TailsAt shop jobs place row = (machine : ℕ) → machine < shop.machines
+    → slice_index row machine ≡ heaviest_back shop jobs place machine
+
 -- a table contains, row by row, the tails of the places of the sequence from `from` on, and zeros after the last place
 abbrev pub TailsFrom : FlowShop → List ℕ → ℕ → List ℕ → Type 0
 TailsFrom shop jobs from table = (place machine : ℕ) → from ≤ place → place ≤ length jobs → machine < shop.machines
+    → slice_index table (place * shop.machines + machine) ≡ heaviest_back shop jobs place machine
+
+-- the first rows of a table, so many, have the heads of their places
+abbrev pub HeadsTable : FlowShop → List ℕ → ℕ → List ℕ → Type 0
+HeadsTable shop jobs count table = (place machine : ℕ) → place < count → machine < shop.machines
+    → slice_index table (place * shop.machines + machine) ≡ heaviest_front shop jobs place machine
+
+-- the rows of a table from one on, up to the last place, have the tails of their places
+abbrev pub TailsTable : FlowShop → List ℕ → ℕ → List ℕ → Type 0
+TailsTable shop jobs from table = (place machine : ℕ) → from ≤ place → place < length jobs → machine < shop.machines
     → slice_index table (place * shop.machines + machine) ≡ heaviest_back shop jobs place machine

@@ -1,0 +1,25 @@
+-- The heads and tails of a sequence, and which arguments are invalid.
+use Rattle.std.specs.Prelude.{◌≡◌, ℕ, ◌*◌, ◌<◌, List, [], ◌∷◌, length, Option}
+use Rattle.pfs_base.specs.FlowShop.{FlowShop}
+use Rattle.pfs_base.specs.Lists.{first_some}
+use Rattle.pfs_insert.specs.Exchange.{heaviest_front, heaviest_back}
+use Rattle.pfs_c.specs.declared.numbers.Refusal.{Refusal}
+use Rattle.pfs_c.specs.Judgements.{sizes_refusal, length_refusal, times_refusal, jobs_refusal}
+use Rattle.pfs_c.specs.Tables.{table_entry}
+
+-- for tables of heads and of tails of these lengths
+abbrev pub heads_tails_refusal : List ℕ → ℕ → ℕ → List ℕ → ℕ → ℕ → Option Refusal
+heads_tails_refusal times jobs machines sequence heads tails = first_some (sizes_refusal jobs machines
+    ∷ length_refusal (length times) (jobs * machines) ∷ length_refusal heads (length sequence * machines)
+    ∷ length_refusal tails (length sequence * machines) ∷ times_refusal times ∷ jobs_refusal jobs sequence ∷ [])
+
+-- row by row: the heaviest path from the first operation of the sequence to that of the row and the machine, which is
+-- the earliest time at which this operation ends
+abbrev pub AreHeads : FlowShop → List ℕ → List ℕ → Type 0
+AreHeads shop jobs heads = (row machine : ℕ) → row < length jobs → machine < shop.machines
+    → table_entry shop.machines heads row machine ≡ heaviest_front shop jobs row machine
+
+-- row by row: the heaviest path from the operation of the row and the machine to the last operation of the sequence
+abbrev pub AreTails : FlowShop → List ℕ → List ℕ → Type 0
+AreTails shop jobs tails = (row machine : ℕ) → row < length jobs → machine < shop.machines
+    → table_entry shop.machines tails row machine ≡ heaviest_back shop jobs row machine
