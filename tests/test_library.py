@@ -22,8 +22,8 @@ CALLS = SUPPORT / "library_calls.c"
 # Each function that is proved, and whether each call of it asks for memory.
 FUNCTIONS = {
     "makespan": True, "makespans": False, "bound": False, "table": True, "neh": True, "rounds": True, "insert": True,
-    "insertions": True, "random": False, "generate": False, "read": False, "write": False, "read_order": False,
-    "write_order": False,
+    "insertions": True, "heads_tails": False, "construct": True, "local_search": True, "random": False,
+    "generate": False, "read": False, "write": False, "read_order": False, "write_order": False,
 }
 TEXTS = {"pfs_message", "pfs_version"}
 NAMES = {f"pfs_{name}" for name in FUNCTIONS} | TEXTS
@@ -345,6 +345,12 @@ def searches(random: Random, shop: Instance) -> list[Call]:
                         Number(random.choice(fuzz.SEEDS[:-1])), out64(), out64()]),
         ("pfs_insert", [*given(shop), *list32(some), Number(jobs[-1], 32), out64(), out64()]),
         ("pfs_insertions", [*given(shop), *list32(some), Number(jobs[-1], 32), *list64([PATTERN] * (len(some) + 1))]),
+        ("pfs_heads_tails", [*given(shop), *list32(some), *list64([PATTERN] * (len(some) * shop.machines)),
+                             *list64([PATTERN] * (len(some) * shop.machines))]),
+        ("pfs_construct", [*given(shop), *list32(some), *list32(jobs[len(some):]), *list32([PATTERN] * shop.jobs),
+                           out64()]),
+        ("pfs_local_search", [*given(shop), *list32(jobs), *list32(random.sample(jobs, length)),
+                              Number(random.randint(0, 2), 32), *list32([PATTERN] * shop.jobs), out64()]),
         ("pfs_random", [Number(random.choice(fuzz.SEEDS[:-1])), Number(random.randint(0, 9)),
                         *list32([PATTERN] * count)]),
     ]

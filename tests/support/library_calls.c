@@ -106,6 +106,19 @@ static int insertions_on(const uint32_t *shop, size_t length, size_t jobs, size_
     return pfs_insertions(shop, length, jobs, machines, OUTSIDE, 3, 9, out.makespans, 4);
 }
 
+static int heads_on(const uint32_t *shop, size_t length, size_t jobs, size_t machines) {
+    return pfs_heads_tails(shop, length, jobs, machines, OUTSIDE, 3, out.starts, 3 * machines, out.ends, 3 * machines);
+}
+
+static int construct_on(const uint32_t *shop, size_t length, size_t jobs, size_t machines) {
+    return pfs_construct(shop, length, jobs, machines, OUTSIDE, 3, OUTSIDE, 1, out.list, 4, &out.makespan);
+}
+
+static int local_search_on(const uint32_t *shop, size_t length, size_t jobs, size_t machines) {
+    return pfs_local_search(shop, length, jobs, machines, OUTSIDE, 3, OUTSIDE, 3, UINT32_MAX, out.list, 3,
+                            &out.makespan);
+}
+
 static int makespans_on(const uint32_t *shop, size_t length, size_t jobs, size_t machines) {
     return pfs_makespans(shop, length, jobs, machines, OUTSIDE, 3, 3, out.makespans, 1);
 }
@@ -297,6 +310,89 @@ static void all_insertions(void) {
     CALL(PFS_OK, all_places(OUTSIDE, 0, 0));
     want_makespans((uint64_t[]){3, 3, 3}, 3);
     CALL(PFS_OK, pfs_insertions((uint32_t[]){1, 1, 1}, 3, 3, 1, BEST, 2, 2, out.makespans, 3));
+}
+
+static int heads_of(const uint32_t *sequence, size_t length) {
+    return pfs_heads_tails(times, 6, 3, 2, sequence, length, out.starts, 2 * length, out.ends, 2 * length);
+}
+
+static void want_heads(const uint64_t *heads, const uint64_t *tails, size_t count) {
+    memcpy(want.starts, heads, count * sizeof *heads);
+    memcpy(want.ends, tails, count * sizeof *tails);
+}
+
+static void heads_and_tails(void) {
+    CALL(PFS_LENGTH, pfs_heads_tails(long_times, 6, 3, 2, OUTSIDE, 2, out.starts, 6, out.ends, 4));
+    CALL(PFS_LENGTH, pfs_heads_tails(long_times, 6, 3, 2, OUTSIDE, 2, out.starts, 4, out.ends, 6));
+    CALL(PFS_LENGTH, pfs_heads_tails(long_times, 6, 3, 2, OUTSIDE, 0, out.starts, 2, out.ends, 2));
+    wrong_shops(heads_on);
+    CALL(PFS_JOB, heads_of(OUTSIDE, 3));
+    CALL(PFS_JOB, heads_of((uint32_t[]){1, 3, 1}, 3));
+    CALL(PFS_REPEATED, heads_of(TWICE, 3));
+    want_heads((uint64_t[]){2, 7, 5, 9, 9, 10}, (uint64_t[]){10, 8, 8, 3, 5, 1}, 6);
+    CALL(PFS_OK, heads_of(BEST, 3));
+    want_heads((uint64_t[]){4, 5, 7, 9}, (uint64_t[]){9, 3, 5, 2}, 4);
+    CALL(PFS_OK, heads_of((uint32_t[]){2, 0}, 2));
+    CALL(PFS_OK, heads_of(OUTSIDE, 0));
+}
+
+static int constructed(const uint32_t *sequence, size_t length, const uint32_t *more, size_t more_length) {
+    return pfs_construct(times, 6, 3, 2, sequence, length, more, more_length, out.list, length + more_length,
+                         &out.makespan);
+}
+
+static void want_sequence(const uint32_t *jobs, size_t count, uint64_t makespan) {
+    want_list(jobs, count);
+    want.makespan = makespan;
+}
+
+static void constructions(void) {
+    CALL(PFS_LENGTH, pfs_construct(long_times, 6, 3, 2, OUTSIDE, 2, OUTSIDE, 1, out.list, 2, &out.makespan));
+    CALL(PFS_LENGTH, pfs_construct(long_times, 6, 3, 2, OUTSIDE, 2, OUTSIDE, 1, out.list, 4, &out.makespan));
+    wrong_shops(construct_on);
+    CALL(PFS_JOB, constructed(OUTSIDE, 3, TWICE, 2));
+    CALL(PFS_REPEATED, constructed(TWICE, 2, OUTSIDE, 2));
+    CALL(PFS_JOB, constructed(BEST, 2, (uint32_t[]){3, 0}, 2));
+    CALL(PFS_REPEATED, constructed(BEST, 2, (uint32_t[]){0, 3}, 2));
+    CALL(PFS_REPEATED, constructed(BEST, 1, (uint32_t[]){2, 2, 3}, 3));
+    want_sequence(BEST, 3, 10);
+    CALL(PFS_OK, constructed(BEST, 2, (uint32_t[]){2}, 1));
+    want_sequence(BEST, 3, 10);
+    CALL(PFS_OK, constructed(NUMBERED + 2, 1, NUMBERED, 2));
+    want_sequence(BEST, 3, 10);
+    CALL(PFS_OK, constructed(OUTSIDE, 0, BEST, 3));
+    want_sequence(NUMBERED, 3, 11);
+    CALL(PFS_OK, constructed(NUMBERED, 3, OUTSIDE, 0));
+    want.makespan = 0;
+    CALL(PFS_OK, constructed(OUTSIDE, 0, OUTSIDE, 0));
+}
+
+static int local_search(const uint32_t *sequence, size_t length, const uint32_t *list, size_t list_length,
+                        uint32_t passes) {
+    return pfs_local_search(times, 6, 3, 2, sequence, length, list, list_length, passes, out.list, length,
+                            &out.makespan);
+}
+
+static void local_searches(void) {
+    CALL(PFS_LENGTH, pfs_local_search(long_times, 6, 3, 2, OUTSIDE, 3, OUTSIDE, 3, 999, out.list, 2, &out.makespan));
+    CALL(PFS_LENGTH, pfs_local_search(long_times, 6, 3, 2, OUTSIDE, 3, OUTSIDE, 3, 999, out.list, 4, &out.makespan));
+    wrong_shops(local_search_on);
+    CALL(PFS_JOB, local_search(OUTSIDE, 3, TWICE, 3, 999));
+    CALL(PFS_REPEATED, local_search(TWICE, 3, OUTSIDE, 3, 999));
+    CALL(PFS_JOB, local_search(BEST, 2, OUTSIDE, 3, 999));
+    CALL(PFS_REPEATED, local_search(BEST, 2, (uint32_t[]){2, 2}, 2, 999));
+    CALL(PFS_JOB, local_search(BEST, 2, BEST, 3, 999));
+    CALL(PFS_PASSES, local_search(BEST, 3, BEST, 3, PFS_MOST_PASSES + 1));
+    want_sequence(BEST, 3, 10);
+    CALL(PFS_OK, local_search(NUMBERED, 3, (uint32_t[]){1}, 1, PFS_MOST_PASSES));
+    want_sequence(NUMBERED, 3, 11);
+    CALL(PFS_OK, local_search(NUMBERED, 3, (uint32_t[]){2}, 1, 1));
+    want_sequence(NUMBERED, 3, 11);
+    CALL(PFS_OK, local_search(NUMBERED, 3, BEST, 3, 0));
+    want_sequence((uint32_t[]){0, 2}, 2, 8);
+    CALL(PFS_OK, local_search((uint32_t[]){2, 0}, 2, (uint32_t[]){2}, 1, 1));
+    want_sequence(NUMBERED, 3, 11);
+    CALL(PFS_OK, local_search(NUMBERED, 3, OUTSIDE, 0, 1));
 }
 
 /* The first words of seed 7. */
@@ -607,6 +703,12 @@ static int call_on_shop(const char *name) {
         return want.place = 2, want.makespan = 10, pfs_insert(times, 6, 3, 2, BEST, 2, 2, &out.place, &out.makespan);
     if (strcmp(name, "insertions") == 0)
         return want_makespans((uint64_t[]){13, 11, 10}, 3), all_places(BEST, 2, 2);
+    if (strcmp(name, "heads_tails") == 0)
+        return want_heads((uint64_t[]){2, 7, 5, 9}, (uint64_t[]){9, 7, 5, 2}, 4), heads_of(BEST, 2);
+    if (strcmp(name, "construct") == 0)
+        return want_sequence(BEST, 3, 10), constructed(BEST, 2, (uint32_t[]){2}, 1);
+    if (strcmp(name, "local_search") == 0)
+        return want_sequence(BEST, 3, 10), local_search(NUMBERED, 3, (uint32_t[]){1}, 1, 1);
     if (strcmp(name, "makespans") == 0)
         return want.makespans[0] = 10, many_of(BEST, 3, 3, 1);
     if (strcmp(name, "rounds") == 0)
@@ -670,7 +772,8 @@ int main(int count, char **words) {
     fresh();
     if (strcmp(word, "all") == 0) {
         void (*const parts[])(void) = {makespans, many_makespans, bounds, tables, nehs, rounds, insertions,
-                                       all_insertions, random_words, no_lists, drawings, readings, writings,
+                                       all_insertions, heads_and_tails, constructions,
+                                       local_searches, random_words, no_lists, drawings, readings, writings,
                                        order_readings, order_writings, numbers};
         for (size_t part = 0; part < COUNT(parts); ++part)
             parts[part]();

@@ -649,6 +649,80 @@ int pfs_insertions(const uint32_t* times, size_t times_length, size_t jobs, size
     });
 }
 
+int pfs_heads_tails(const uint32_t* times, size_t times_length, size_t jobs, size_t machines, const uint32_t* sequence,
+                    size_t sequence_length, uint64_t* heads, size_t heads_length, uint64_t* tails,
+                    size_t tails_length) {
+    return answer([&] {
+        judge_sizes(jobs, machines);
+        refuse_if(times_length != jobs * machines, PFS_LENGTH);
+        refuse_if(heads_length / machines != sequence_length || heads_length % machines != 0, PFS_LENGTH);
+        refuse_if(tails_length != heads_length, PFS_LENGTH);
+        judge_times(times, times_length);
+        judge_jobs(jobs, sequence, sequence_length);
+        Shop shop{times, jobs, machines};
+        std::vector<uint64_t> ends = ends_of(shop, Jobs(sequence, sequence + sequence_length));
+        // A tail is the makespan of the rest of the sequence, from this operation on, without what is before it.
+        for (size_t at = 0; at < heads_length; ++at) {
+            size_t place = at / machines, machine = at % machines;
+            std::vector<uint64_t> row(machines, 0);
+            for (size_t later = place; later < sequence_length; ++later) {
+                for (size_t next = machine; next < machines; ++next) {
+                    uint64_t before = next == machine ? 0 : row[next - 1];
+                    row[next] = std::max(row[next], before) + shop.time(sequence[later], next);
+                }
+            }
+            tails[at] = row.back();
+        }
+        std::copy(ends.begin(), ends.end(), heads);
+    });
+}
+
+int pfs_construct(const uint32_t* times, size_t times_length, size_t jobs, size_t machines, const uint32_t* sequence,
+                  size_t sequence_length, const uint32_t* more, size_t more_length, uint32_t* order,
+                  size_t order_length, uint64_t* makespan) {
+    return answer([&] {
+        judge_sizes(jobs, machines);
+        refuse_if(times_length != jobs * machines || order_length != sequence_length + more_length, PFS_LENGTH);
+        judge_times(times, times_length);
+        judge_jobs(jobs, sequence, sequence_length);
+        Jobs both(sequence, sequence + sequence_length);
+        both.insert(both.end(), more, more + more_length);
+        judge_jobs(jobs, both.data(), both.size());
+        Shop shop{times, jobs, machines};
+        Jobs made(sequence, sequence + sequence_length);
+        for (size_t index = 0; index < more_length; ++index) {
+            insert(shop, made, more[index]);
+        }
+        *makespan = makespan_of(shop, made);
+        std::copy(made.begin(), made.end(), order);
+    });
+}
+
+int pfs_local_search(const uint32_t* times, size_t times_length, size_t jobs, size_t machines,
+                     const uint32_t* sequence, size_t sequence_length, const uint32_t* list, size_t list_length,
+                     uint32_t passes, uint32_t* order, size_t order_length, uint64_t* makespan) {
+    return answer([&] {
+        judge_sizes(jobs, machines);
+        refuse_if(times_length != jobs * machines || order_length != sequence_length, PFS_LENGTH);
+        judge_times(times, times_length);
+        judge_jobs(jobs, sequence, sequence_length);
+        judge_jobs(jobs, list, list_length);
+        Jobs made(sequence, sequence + sequence_length);
+        for (size_t index = 0; index < list_length; ++index) {
+            refuse_if(std::find(made.begin(), made.end(), list[index]) == made.end(), PFS_JOB);
+        }
+        refuse_if(passes > PFS_MOST_PASSES, PFS_PASSES);
+        Shop shop{times, jobs, machines};
+        for (uint64_t visit = 0; visit < (uint64_t)passes * list_length; ++visit) {
+            uint32_t job = list[visit % list_length];
+            made.erase(std::find(made.begin(), made.end(), job));
+            insert(shop, made, job);
+        }
+        *makespan = makespan_of(shop, made);
+        std::copy(made.begin(), made.end(), order);
+    });
+}
+
 int pfs_random(uint64_t seed, uint64_t first, uint32_t* words, size_t words_length) {
     return answer([&] {
         Pcg32 random(seed);

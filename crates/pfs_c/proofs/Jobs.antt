@@ -75,10 +75,10 @@ each_below f count j none within = rw (zero-add j) at (each_none f count 0 j non
 
 -- ---- a job among others
 
-job_out : (size job : ℕ) (others : List ℕ) → size ≤ job → job_refusal size others job ≡ Some Job
+pub job_out : (size job : ℕ) (others : List ℕ) → size ≤ job → job_refusal size others job ≡ Some Job
 job_out size job others h = let test : nat_lt job size ≡ false = grind (arith, nat_tests) in rw test
 
-job_twice : (size job : ℕ) (others : List ℕ) → job < size → list_any (nat_eq job) others ≡ true
+pub job_twice : (size job : ℕ) (others : List ℕ) → job < size → list_any (nat_eq job) others ≡ true
     → job_refusal size others job ≡ Some Repeated
 job_twice size job others small found = let test : nat_lt job size ≡ true = grind (arith, nat_tests) in rw (test, found)
 

@@ -1,5 +1,6 @@
 pub mod Answering
 pub mod BestPlaces
+pub mod Gathered
 pub mod Jobs
 pub mod ManyLemmas
 pub mod MemoryLemmas
@@ -10,3 +11,4 @@ pub mod RowSteps
 pub mod TailRows
 pub mod TextLemmas
 pub mod Times
+pub mod Visits

@@ -1,3 +1,4 @@
+pub mod Building
 pub mod HeadsTails
 pub mod Inserting
 pub mod Judgements

@@ -4,10 +4,13 @@
 //! `times[job * machines + machine]`. Jobs, machines and places count from 0.
 #![tactic(auto)]
 
+mod building;
 mod given;
 mod heads;
 mod inserting;
+pub mod laws;
 mod many;
+mod moving;
 mod numbers;
 mod places;
 mod random;

@@ -1,0 +1,33 @@
+use Rattle.std.proofs.Common.{sym, ◌∙◌}
+use Rattle.pfs_base.specs.FlowShop.{FlowShop}
+use Rattle.pfs_order.proofs.Published.Sequences.{length-le-size}
+use Rattle.pfs_c.specs.Judgements.{shop_of}
+use Rattle.pfs_c.proofs.Gathered.{search_is}
+use Rattle.pfs_c.proofs.building.pfs_local_search.Goals as goal
+
+pub visits_of-requires-clause-small : goal.visits_of-requires-clause-small
+visits_of-requires-clause-small c = c.in_default.ensures.distinct.in_range
+
+pub visits_of-requires-clause-few : goal.visits_of-requires-clause-few
+visits_of-requires-clause-few c = length-le-size c.args.jobs c.args.list.now c.in_default.ensures.distinct
+
+pub copy_sequence-requires : goal.copy_sequence-requires
+copy_sequence-requires c =
+    let shop : FlowShop = shop_of c.args.times.now c.args.jobs c.args.machines in
+    let found = search_is shop c.args.sequence.now c.args.list.now c.args.passes c.in-Ok.found.jobs
+    c.in_default.ensures.sequence c.in_default.ensures.members c.in-Ok.ensures.jobs in
+    found.long ∙ sym c.in_default.ensures.room
+
+pub span_of-requires-clause-sequence : goal.span_of-requires-clause-sequence
+span_of-requires-clause-sequence c =
+    let shop : FlowShop = shop_of c.args.times.now c.args.jobs c.args.machines in
+    let found = search_is shop c.args.sequence.now c.args.list.now c.args.passes c.in-Ok.found.jobs
+    c.in_default.ensures.sequence c.in_default.ensures.members c.in-Ok.ensures.jobs in
+    rw c.copy_sequence.ensures found.distinct
+
+pub returns-in-Ok-clause-done : goal.returns-in-Ok-clause-done
+returns-in-Ok-clause-done c = λ _.
+    let shop : FlowShop = shop_of c.args.times.now c.args.jobs c.args.machines in
+    let found = search_is shop c.args.sequence.now c.args.list.now c.args.passes c.in-Ok.found.jobs
+    c.in_default.ensures.sequence c.in_default.ensures.members c.in-Ok.ensures.jobs in
+    rw (c.span_of.ensures, c.copy_sequence.ensures) found

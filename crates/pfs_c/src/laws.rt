@@ -1,0 +1,19 @@
+//! Laws about the definitions alone.
+ghost use Rattle.pfs_c.specs.Building.{AllJobsLaw, NehLaw, VisitsLaw};
+
+/// NEH inserts the ranking into the empty sequence.
+pub fn neh()
+    ensures { NehLaw }
+{
+    pfs_search::laws::ranking();
+}
+
+/// The passes of a round are passes over all jobs in the order of their numbers.
+pub fn all_jobs()
+    ensures { AllJobsLaw }
+{}
+
+/// Passes over jobs of a sequence make it no longer.
+pub fn no_longer()
+    ensures { VisitsLaw }
+{}

@@ -1,0 +1,184 @@
+//! Passes over a list of jobs, by the method that serves the shop.
+ghost use Rattle.std.specs.Prelude.{◌≡◌, ◌+◌, ◌-◌, ◌*◌, ◌<◌, ◌≤◌, ◌^◌, ℕ, length, filter, not, nat_eq, false};
+ghost use Rattle.std.specs.Prelude.{All, Contains, IfOk, IfErr, OnOk};
+ghost use Rattle.pfs_insert.specs.Insertion.{heads_tails_cost};
+ghost use Rattle.pfs_insert.specs.Inserter.{Fits};
+ghost use Rattle.pfs_search.specs.Greedy.{moved};
+ghost use Rattle.pfs_wave.specs.Served.{IsServed};
+ghost use Rattle.pfs_c.specs.Building.{after_visits, visited};
+
+use crate::numbers::Refusal;
+use pfs_base::{Bench, Instance, MOST_PASSES};
+use pfs_insert::{HeadsTails, Inserter};
+use pfs_order::Seq;
+use pfs_wave::{Lanes, MeteredLanes, Method, OneBand, ThreeBands, TwoBands, Wavefront, method_for};
+use std::alloc::Global;
+
+/// Makes passes over a list of jobs: each job leaves its place in the sequence, if it is there, for its first best
+/// one. One inserter serves all passes. The only fault is `Memory`.
+pub(crate) fn make_visits(
+    alloc: Global,
+    instance: &Instance,
+    seq: &mut Seq,
+    list: &[u32],
+    passes: u32,
+) -> Result<(), Refusal>
+    requires size { seq.old.size ≡ instance.now.shop.jobs }
+    requires jobs { All (λ job. job < instance.now.shop.jobs) list.now }
+    requires few { length list.now ≤ instance.now.shop.jobs }
+    requires passes { passes ≤ MOST_PASSES }
+    ensures jobs { OnOk result (seq.new.jobs ≡ after_visits instance.now.shop list.now passes seq.old.jobs) }
+    ensures memory { IfErr result (λ why. why ≡ Refusal.Memory) }
+{
+    match method_for(instance) {
+        Method::HeadsTails => visit_by_rows(alloc, instance, seq, list, passes),
+        Method::OneBand => visit_in_lanes::<OneBand>(alloc, instance, seq, list, passes),
+        Method::TwoBands => visit_in_lanes::<TwoBands>(alloc, instance, seq, list, passes),
+        Method::ThreeBands => visit_in_lanes::<ThreeBands>(alloc, instance, seq, list, passes),
+    }
+}
+
+// What `make_visits` does, by `HeadsTails`.
+fn visit_by_rows(
+    alloc: Global,
+    instance: &Instance,
+    seq: &mut Seq,
+    list: &[u32],
+    passes: u32,
+) -> Result<(), Refusal>
+    requires size { seq.old.size ≡ instance.now.shop.jobs }
+    requires jobs { All (λ job. job < instance.now.shop.jobs) list.now }
+    requires few { length list.now ≤ instance.now.shop.jobs }
+    requires passes { passes ≤ MOST_PASSES }
+    ensures jobs { OnOk result (seq.new.jobs ≡ after_visits instance.now.shop list.now passes seq.old.jobs) }
+    ensures memory { IfErr result (λ why. why ≡ Refusal.Memory) }
+{
+    let mut bench = instance.metered();
+    let Ok(mut inserter) = HeadsTails::new(alloc, &bench) else {
+        return Err(Refusal::Memory);
+    };
+    visit_all(alloc, &mut bench, &mut inserter, seq, list, passes)
+}
+
+// What `make_visits` does, by a wavefront.
+fn visit_in_lanes<L: Lanes>(
+    alloc: Global,
+    instance: &Instance,
+    seq: &mut Seq,
+    list: &[u32],
+    passes: u32,
+) -> Result<(), Refusal>
+    requires served { IsServed instance.now.shop L.WIDTH }
+    requires size { seq.old.size ≡ instance.now.shop.jobs }
+    requires jobs { All (λ job. job < instance.now.shop.jobs) list.now }
+    requires few { length list.now ≤ instance.now.shop.jobs }
+    requires passes { passes ≤ MOST_PASSES }
+    ensures jobs { OnOk result (seq.new.jobs ≡ after_visits instance.now.shop list.now passes seq.old.jobs) }
+    ensures memory { IfErr result (λ why. why ≡ Refusal.Memory) }
+{
+    let Ok(mut bench) = MeteredLanes::<L>::new(alloc, instance) else {
+        return Err(Refusal::Memory);
+    };
+    let Ok(mut inserter) = Wavefront::new(alloc, &bench) else {
+        return Err(Refusal::Memory);
+    };
+    visit_all(alloc, &mut bench, &mut inserter, seq, list, passes)
+}
+
+// The passes, by an inserter, on a bench that has counted nothing.
+fn visit_all<B: Bench, I: Inserter<B>>(
+    alloc: Global,
+    bench: &mut B,
+    inserter: &mut I,
+    seq: &mut Seq,
+    list: &[u32],
+    passes: u32,
+) -> Result<(), Refusal>
+    requires fits { Fits (B.shop bench.old) (I.sizes inserter.old) seq.old.size }
+    requires cost { I.cost ≡ heads_tails_cost }
+    requires fresh { B.counted bench.old ≡ 0 }
+    requires jobs { All (λ job. job < (B.shop bench.old).jobs) list.now }
+    requires few { length list.now ≤ (B.shop bench.old).jobs }
+    requires passes { passes ≤ MOST_PASSES }
+    ensures jobs { OnOk result (seq.new.jobs ≡ after_visits (B.shop bench.old) list.now passes seq.old.jobs) }
+    ensures memory { IfErr result (λ why. why ≡ Refusal.Memory) }
+{
+    // Called for what they say of a bench: that its sizes are within the limits.
+    let _jobs = bench.jobs();
+    let _machines = bench.machines();
+    for _done in 0..passes {
+        visit_once(alloc, bench, inserter, seq, list)?;
+    }
+    Ok(())
+}
+
+// One pass.
+fn visit_once<B: Bench, I: Inserter<B>>(
+    alloc: Global,
+    bench: &mut B,
+    inserter: &mut I,
+    seq: &mut Seq,
+    list: &[u32],
+) -> Result<(), Refusal>
+    requires fits { Fits (B.shop bench.old) (I.sizes inserter.old) seq.old.size }
+    requires cost { I.cost ≡ heads_tails_cost }
+    requires jobs { All (λ job. job < (B.shop bench.old).jobs) list.now }
+    requires room { B.counted bench.old
+        + length list.now * (4 * (B.shop bench.old).jobs * (B.shop bench.old).machines) < 2 ^ 64 }
+    ensures jobs { OnOk result (seq.new.jobs ≡ visited (B.shop bench.old) list.now seq.old.jobs) }
+    ensures counted { OnOk result (B.counted bench.new ≤ B.counted bench.old
+        + length list.now * (4 * (B.shop bench.old).jobs * (B.shop bench.old).machines)) }
+    ensures shop { OnOk result (B.shop bench.new ≡ B.shop bench.old) }
+    ensures still_fits { OnOk result (Fits (B.shop bench.new) (I.sizes inserter.new) seq.new.size) }
+    ensures memory { IfErr result (λ why. why ≡ Refusal.Memory) }
+{
+    for job in list {
+        move_job(alloc, bench, inserter, seq, *job as usize)?;
+    }
+    Ok(())
+}
+
+// A job leaves its place, if it has one, for its first best one.
+fn move_job<B: Bench, I: Inserter<B>>(
+    alloc: Global,
+    bench: &mut B,
+    inserter: &mut I,
+    seq: &mut Seq,
+    job: usize,
+) -> Result<(), Refusal>
+    requires fits { Fits (B.shop bench.old) (I.sizes inserter.old) seq.old.size }
+    requires cost { I.cost ≡ heads_tails_cost }
+    requires job { job < (B.shop bench.old).jobs }
+    requires room { B.counted bench.old + 4 * (B.shop bench.old).jobs * (B.shop bench.old).machines < 2 ^ 64 }
+    ensures jobs { OnOk result (seq.new.jobs ≡ moved (B.shop bench.old) seq.old.jobs job) }
+    ensures counted { OnOk result (B.counted bench.new
+        ≤ B.counted bench.old + 4 * (B.shop bench.old).jobs * (B.shop bench.old).machines) }
+    ensures shop { OnOk result (B.shop bench.new ≡ B.shop bench.old) }
+    ensures still_fits { OnOk result (Fits (B.shop bench.new) (I.sizes inserter.new) seq.new.size) }
+    ensures memory { IfErr result (λ why. why ≡ Refusal.Memory) }
+{
+    take_out(seq, job);
+    match inserter.best(alloc, bench, seq, job) {
+        Ok(best) => {
+            seq.insert_at(best.place, job);
+            Ok(())
+        }
+        Err(_) => Err(Refusal::Memory),
+    }
+}
+
+// Takes a job out of a sequence, if it is there.
+fn take_out(seq: &mut Seq, job: usize)
+    requires { job < seq.old.size }
+    ensures size { seq.new.size ≡ seq.old.size }
+    ensures jobs { seq.new.jobs ≡ filter (λ other. not (nat_eq other job)) seq.old.jobs }
+    ensures absent { Contains seq.new.jobs job → ⊥ }
+    ensures fewer { length seq.new.jobs < seq.new.size }
+{
+    // Called for what it says of a sequence: that its jobs are distinct.
+    let _size = seq.size();
+    if seq.has(job) {
+        let place = seq.place_of(job);
+        seq.remove_at(place);
+    }
+}
