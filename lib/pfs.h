@@ -296,6 +296,78 @@ int pfs_insert(const uint32_t *times, size_t times_length, size_t jobs, size_t m
 int pfs_insertions(const uint32_t *times, size_t times_length, size_t jobs, size_t machines, const uint32_t *sequence,
                    size_t sequence_length, uint32_t job, uint64_t *makespans, size_t makespans_length) PFS_CHECKED;
 
+/** @brief Computes the heads and tails of a sequence.
+ *
+ * Entry place * machines + machine belongs to the operation of the job at this place of the sequence, on this machine.
+ * Its head is the earliest time at which the operation ends. Its tail is the longest path from the start of the
+ * operation to the end of the sequence. Both include the time of the operation. The function allocates nothing.
+ *
+ * @param[in] times processing times, job by job
+ * @param[in] times_length number of times, which is jobs * machines
+ * @param[in] jobs number of jobs
+ * @param[in] machines number of machines
+ * @param[in] sequence distinct jobs, in the order in which they are processed
+ * @param[in] sequence_length number of jobs in the sequence
+ * @param[out] heads head of each operation
+ * @param[in] heads_length number of heads, which is sequence_length * machines
+ * @param[out] tails tail of each operation
+ * @param[in] tails_length number of tails, which is sequence_length * machines
+ * @return PFS_OK, or the first of PFS_SIZE (jobs, machines), PFS_LENGTH (times_length, heads_length, tails_length),
+ *     PFS_TIME (times), PFS_JOB or PFS_REPEATED (the jobs from the left)
+ */
+int pfs_heads_tails(const uint32_t *times, size_t times_length, size_t jobs, size_t machines, const uint32_t *sequence,
+                    size_t sequence_length, uint64_t *heads, size_t heads_length, uint64_t *tails,
+                    size_t tails_length) PFS_CHECKED;
+
+/** @brief Inserts jobs into a sequence one after the other, each at its best place.
+ *
+ * The best place is the one that pfs_insert finds. From the empty sequence and all jobs in the order of NEH's ranking,
+ * the function finds NEH's order. The tables are built once for all insertions.
+ *
+ * @param[in] times processing times, job by job
+ * @param[in] times_length number of times, which is jobs * machines
+ * @param[in] jobs number of jobs
+ * @param[in] machines number of machines
+ * @param[in] sequence distinct jobs, to which the others are added
+ * @param[in] sequence_length number of jobs in the sequence
+ * @param[in] more jobs to insert, in this order; they are distinct, and not in the sequence
+ * @param[in] more_length number of jobs to insert
+ * @param[out] order the sequence with all of these jobs
+ * @param[in] order_length length of the order, which is sequence_length + more_length
+ * @param[out] makespan makespan of the order
+ * @return PFS_OK, or the first of PFS_SIZE (jobs, machines), PFS_LENGTH (times_length, order_length), PFS_TIME (times),
+ *     PFS_JOB or PFS_REPEATED (the jobs of the sequence from the left, then those to insert), PFS_MEMORY
+ */
+int pfs_construct(const uint32_t *times, size_t times_length, size_t jobs, size_t machines, const uint32_t *sequence,
+                  size_t sequence_length, const uint32_t *more, size_t more_length, uint32_t *order,
+                  size_t order_length, uint64_t *makespan) PFS_CHECKED;
+
+/** @brief Improves a sequence by passes over a list of its jobs.
+ *
+ * In a pass, each job of the list is removed and inserted at its best place, which is the one that pfs_insert finds.
+ * The result is never longer than the sequence. A list of all jobs from 0 on makes the passes of a round of pfs_rounds.
+ * The tables are built once for all passes.
+ *
+ * @param[in] times processing times, job by job
+ * @param[in] times_length number of times, which is jobs * machines
+ * @param[in] jobs number of jobs
+ * @param[in] machines number of machines
+ * @param[in] sequence distinct jobs
+ * @param[in] sequence_length number of jobs in the sequence
+ * @param[in] list distinct jobs of the sequence, in the order in which they are removed and inserted
+ * @param[in] list_length number of jobs in the list
+ * @param[in] passes number of passes, from 0 to PFS_MOST_PASSES
+ * @param[out] order the sequence after the passes
+ * @param[in] order_length length of the order, which is sequence_length
+ * @param[out] makespan makespan of the order
+ * @return PFS_OK, or the first of PFS_SIZE (jobs, machines), PFS_LENGTH (times_length, order_length), PFS_TIME (times),
+ *     PFS_JOB or PFS_REPEATED (the jobs of the sequence from the left), PFS_JOB or PFS_REPEATED (those of the list),
+ *     PFS_JOB (a job of the list that is not in the sequence), PFS_PASSES (passes), PFS_MEMORY
+ */
+int pfs_local_search(const uint32_t *times, size_t times_length, size_t jobs, size_t machines,
+                     const uint32_t *sequence, size_t sequence_length, const uint32_t *list, size_t list_length,
+                     uint32_t passes, uint32_t *order, size_t order_length, uint64_t *makespan) PFS_CHECKED;
+
 /** @brief Computes random words of a seed (Pcg32, O'Neill 2014).
  *
  * Round r of pfs_rounds uses the `take` words from word r * take on. Each word selects a job to remove: the job at the
