@@ -77,7 +77,7 @@ extern "C" {
 #define PFS_SIZE 2      /**< not 1 to PFS_MOST_JOBS jobs, or not 1 to PFS_MOST_MACHINES machines */
 #define PFS_LENGTH 3    /**< a list does not have the length that the sizes require */
 #define PFS_TIME 4      /**< a time is greater than PFS_LONGEST_TIME */
-#define PFS_JOB 5       /**< a job is not below the number of jobs */
+#define PFS_JOB 5       /**< a job is not below the number of jobs, or a job of a list is not in the sequence */
 #define PFS_REPEATED 6  /**< a job occurs twice, or the job to insert is in the sequence already */
 #define PFS_TAKE 7      /**< the destruction size is not 1 to the number of jobs */
 #define PFS_PASSES 8    /**< more than PFS_MOST_PASSES passes */

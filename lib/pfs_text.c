@@ -14,7 +14,7 @@ const char *pfs_message(int number) {
     case PFS_SIZE: return "the number of jobs or of machines is out of its limits";
     case PFS_LENGTH: return "a list doesn't have the length that the sizes require";
     case PFS_TIME: return "a time is greater than 1000000000";
-    case PFS_JOB: return "a job isn't below the number of jobs";
+    case PFS_JOB: return "a job isn't below the number of jobs, or isn't in the sequence";
     case PFS_REPEATED: return "a job occurs twice";
     case PFS_TAKE: return "the destruction size isn't from 1 to the number of jobs";
     case PFS_PASSES: return "more than 100 passes";

@@ -17,7 +17,7 @@ pub const PFS_LENGTH: i32 = 3;
 /// A processing time is greater than `LONGEST_TIME`.
 pub const PFS_TIME: i32 = 4;
 
-/// A job is not below the number of jobs.
+/// A job is not below the number of jobs, or a job of a list is not in the sequence.
 pub const PFS_JOB: i32 = 5;
 
 /// A job occurs twice, or the job to insert is in the sequence already.
