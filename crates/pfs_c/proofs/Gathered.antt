@@ -6,7 +6,8 @@ use Rattle.std.specs.List.{list_all, list_any}
 use Rattle.std.specs.Cmp.{nat_eq_equiv}
 use Rattle.std.proofs.Math.Seq.{take-append-add}
 use Rattle.std.proofs.lemmas.Bool.{cases_Bool, eqb-true}
-use Rattle.std.proofs.lemmas.List.{get_or-append-add, get_or-take, get_or_default, length-append, length-take-le, take_more}
+use Rattle.std.proofs.lemmas.List.{get_or-append-add, get_or-take, get_or_default, length-append, length-take-le}
+use Rattle.std.proofs.lemmas.List.{take_more}
 use Rattle.std.proofs.lemmas.List.Edits.{insert_end}
 use Rattle.std.proofs.lemmas.List.Elements.{Contains-append_cases}
 use Rattle.std.proofs.lemmas.List.Elements.{Contains-append_left, Contains-append_right}
@@ -54,7 +55,8 @@ wrong_at : (size : ℕ) (jobs : List ℕ) (place : ℕ) (why : Refusal) → plac
     → IsSequence size (take place jobs) → job_refusal size (take place jobs) (get_or jobs place 0) ≡ Some why
     → jobs_refusal size jobs ≡ Some why
 wrong_at size jobs place why within before wrong =
-    first_below (place_refusal size jobs) (length jobs) place why within (right_before size jobs place within before) wrong
+    first_below (place_refusal size jobs) (length jobs) place why within (right_before size jobs place within before)
+    wrong
 
 -- ---- jobs that follow those of a sequence
 

@@ -7,7 +7,8 @@ use Rattle.pfs_c.specs.Many.{sequence_at, sequences_refusal}
 use Rattle.pfs_c.specs.Private.Refusing.{Judges}
 use Rattle.pfs_c.proofs.Jobs.{first_below, none_below}
 
-pub judged_why : (A : Type 0) (why : Refusal) (found : Option Refusal) → Judges {A = A} (Err why) found → found ≡ Some why
+pub judged_why : (A : Type 0) (why : Refusal) (found : Option Refusal) → Judges {A = A} (Err why) found
+    → found ≡ Some why
 judged_why A why None h = absurd (cc)
 judged_why A why (Some other) h = cc
 

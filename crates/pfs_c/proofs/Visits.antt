@@ -1,5 +1,6 @@
 -- Jobs of a list that leave their places for their best ones in turn.
-use Rattle.std.proofs.Common.{◌≡◌, ℕ, zero, suc, ◌+◌, ◌-◌, ◌*◌, ◌<◌, ◌≤◌, ◌^◌, ◌++◌, List, [], ◌∷◌, length, filter, fold, not}
+use Rattle.std.proofs.Common.{◌≡◌, ℕ, zero, suc, ◌+◌, ◌-◌, ◌*◌, ◌<◌, ◌≤◌, ◌^◌, ◌++◌, List, [], ◌∷◌, length, filter}
+use Rattle.std.proofs.Common.{fold, not}
 use Rattle.std.proofs.Common.{get_or, take, insert, remove, eqb, refl, ap, sym, ◌∙◌, add-one, mul-le-mul_left, arith}
 use Rattle.std.proofs.Common.{All, Contains, inl, inr}
 use Rattle.std.specs.List.Sorted.{IsPermutation}

@@ -49,7 +49,8 @@ pub(crate) fn judge_length(length: usize, wanted: usize) -> Result<(), Refusal>
     }
 }
 
-/// Validates the length of a list that must have `count * long` entries. If that product overflows, the length is wrong.
+/// Validates the length of a list that must have `count * long` entries. If that product overflows, the length is
+/// wrong.
 pub(crate) fn judge_product(length: usize, count: usize, long: usize) -> Result<(), Refusal>
     ensures judged { Judges result (length_refusal length (count * long)) }
     ensures equal { IfOk result (λ done. length ≡ count * long) }

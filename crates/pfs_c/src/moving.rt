@@ -14,7 +14,7 @@ use pfs_order::Seq;
 use pfs_wave::{Lanes, MeteredLanes, Method, OneBand, ThreeBands, TwoBands, Wavefront, method_for};
 use std::alloc::Global;
 
-/// Makes passes over a list of jobs: each job leaves its place in the sequence, if it is there, for its first best
+/// Makes passes over a list of jobs: each job leaves its place in the sequence, if it has one, for its first best
 /// one. One inserter serves all passes. The only fault is `Memory`.
 pub(crate) fn make_visits(
     alloc: Global,
@@ -167,7 +167,7 @@ fn move_job<B: Bench, I: Inserter<B>>(
     }
 }
 
-// Takes a job out of a sequence, if it is there.
+// Removes a job from a sequence that may contain it.
 fn take_out(seq: &mut Seq, job: usize)
     requires { job < seq.old.size }
     ensures size { seq.new.size ≡ seq.old.size }

@@ -9,7 +9,8 @@ best-requires-clause-room g c =
     let shop = g.B.Bench.shop c.args.bench.now in
     let few : length c.take_out.new.seq.jobs + 1 ≤ shop.jobs =
     omega (arith, c.take_out.ensures.fewer, c.take_out.ensures.size, c.requires.fits.seq_jobs) in
-    rw c.requires.cost (omega (arith, insertion_few (length c.take_out.new.seq.jobs + 1) shop.jobs shop.machines few, c.requires.room))
+    let low = insertion_few (length c.take_out.new.seq.jobs + 1) shop.jobs shop.machines few in
+    rw c.requires.cost (omega (arith, low, c.requires.room))
 
 pub returns-in-Ok-clause-jobs : goal.returns-in-Ok-clause-jobs
 returns-in-Ok-clause-jobs g c =
