@@ -6,6 +6,7 @@ use Rattle.std.proofs.Math.Nat.{mul-le-mul_right}
 use Rattle.std.proofs.lemmas.Bool.{cases_lt, cases_eq}
 use Rattle.std.proofs.lemmas.List.{get_or-set_same, get_or-set_other, get_or-replicate}
 use Rattle.std.proofs.lemmas.List.FromFn.{map-range_with_len_more}
+use Rattle.pfs_base.specs.declared.bench.TheConstants.{SPAN_MAX}
 use Rattle.pfs_base.specs.declared.limits.TheConstants.{LONGEST_TIME}
 use Rattle.pfs_base.specs.FlowShop.{FlowShop, time_of, IsWithin}
 use Rattle.pfs_base.specs.Limits.{limits}
@@ -185,9 +186,10 @@ module _ (shop : FlowShop) (jobs : List ℕ) (job place : ℕ) where
   pub record SpanTo (machine before most : ℕ) : Type 0 where
     pub before_it : before ≡ head_before weigh_put place machine
     pub most_it : most ≡ greatest (map sum_across (range_with_len 0 machine))
+    pub most_short : most ≤ SPAN_MAX
 
   pub span_first : SpanTo 0 0 0
-  span_first = record { before_it = refl; most_it = refl }
+  span_first = record { before_it = refl; most_it = refl; most_short = omega arith }
 
   greatest_more : (machine : ℕ) → greatest (map sum_across (range_with_len 0 (machine + 1)))
       ≡ max (greatest (map sum_across (range_with_len 0 machine))) (sum_across machine)
@@ -201,8 +203,8 @@ module _ (shop : FlowShop) (jobs : List ℕ) (job place : ℕ) where
   pub span_more : (machine over before time tail new most : ℕ) → SpanTo machine before most → place ≤ length jobs
       → over ≡ done_before shop jobs place machine → time ≡ time_of shop job machine
       → tail ≡ heaviest_back shop jobs place machine → new ≡ max over before + time
-      → SpanTo (machine + 1) new (max (new + tail) most)
-  span_more machine over before time tail new most so_far within over_is time_is tail_is new_is =
+      → max (new + tail) most ≤ SPAN_MAX → SpanTo (machine + 1) new (max (new + tail) most)
+  span_more machine over before time tail new most so_far within over_is time_is tail_is new_is short =
       let written : new ≡ head weigh_put (place + 1) machine =
       omega (
         arith,
@@ -218,6 +220,7 @@ module _ (shop : FlowShop) (jobs : List ℕ) (job place : ℕ) where
       record {
         before_it = written ∙ sym (head_before_more weigh_put place machine);
         most_it = omega (arith, greatest_more machine, front, tail_is, so_far.most_it);
+        most_short = short;
       }
 
   pub span_last : (machine before most : ℕ) → SpanTo machine before most → place ≤ length jobs → 1 ≤ shop.machines

@@ -1,5 +1,5 @@
 //! Rows of heads and tails, computed on the times that C passes.
-ghost use Rattle.std.specs.Prelude.{◌≡◌, ◌+◌, ◌*◌, ◌<◌, ◌≤◌, length};
+ghost use Rattle.std.specs.Prelude.{◌≡◌, ◌+◌, ◌*◌, ◌<◌, ◌≤◌, length, max};
 ghost use Rattle.pfs_base.specs.FlowShop.{IsWithin, time_of};
 ghost use Rattle.pfs_base.specs.Limits.{limits};
 ghost use Rattle.pfs_base.specs.Paths.{makespan};
@@ -8,7 +8,7 @@ ghost use Rattle.pfs_order.specs.Sequence.{IsSequence};
 ghost use Rattle.pfs_c.specs.Judgements.{shop_of};
 ghost use Rattle.pfs_c.specs.Private.Rows.{HeadsAt, TailsAt, TailsFrom};
 
-use pfs_base::{LONGEST_TIME, MOST_MACHINES};
+use pfs_base::{LONGEST_TIME, MOST_MACHINES, SPAN_MAX};
 
 /// The processing time of a job on a machine.
 #[inline(always)]
@@ -20,6 +20,18 @@ fn time_at(times: &[u32], jobs: usize, machines: usize, job: usize, machine: usi
     ensures short { result ≤ LONGEST_TIME }
 {
     u64::from(times[job * machines + machine])
+}
+
+// The greater of two lengths. They are compared as signed numbers, since x86-64 selects by that order in one step
+// (`cmovg`), and by the order of unsigned numbers in two (`cmova`).
+#[inline(always)]
+fn greater(a: u64, b: u64) -> u64
+    requires a { a ≤ SPAN_MAX }
+    requires b { b ≤ SPAN_MAX }
+    ensures value { result ≡ max a b }
+    ensures short { result ≤ SPAN_MAX }
+{
+    if (a as i64) < (b as i64) { b } else { a }
 }
 
 /// Turns the row of heads before the job at a place of a sequence into the row after it.
@@ -42,7 +54,7 @@ pub(crate) fn add_head(
     let job = sequence[place] as usize;
     let mut before = 0;
     for machine in 0..machines {
-        before = heads[machine].max(before) + time_at(times, jobs, machines, job, machine);
+        before = greater(heads[machine], before) + time_at(times, jobs, machines, job, machine);
         heads[machine] = before;
     }
 }
@@ -69,7 +81,7 @@ pub(crate) fn add_tail(
     let mut after = 0;
     for machine in (0..machines).rev() {
         let below = tails[first + machines + machine];
-        after = below.max(after) + time_at(times, jobs, machines, job, machine);
+        after = greater(below, after) + time_at(times, jobs, machines, job, machine);
         tails[first + machine] = after;
     }
 }
@@ -138,8 +150,8 @@ pub(crate) fn span_with(
     let mut before = 0;
     let mut most = 0;
     for machine in 0..machines {
-        before = heads[machine].max(before) + time_at(times, jobs, machines, job, machine);
-        most = (before + tails[first + machine]).max(most);
+        before = greater(heads[machine], before) + time_at(times, jobs, machines, job, machine);
+        most = greater(before + tails[first + machine], most);
     }
     most
 }

@@ -5,20 +5,31 @@ use Rattle.pfs_c.specs.Judgements.{shop_of}
 use Rattle.pfs_c.proofs.RowSteps.{after_short, below_short, tails_more, cell_inside}
 use Rattle.pfs_c.proofs.rows.add_tail.Goals as goal
 
-pub overflow_add-after : goal.overflow_add-after
-overflow_add-after c =
+pub greater-requires-clause-a : goal.greater-requires-clause-a
+greater-requires-clause-a c =
     let shop : FlowShop = shop_of c.args.times.now c.args.jobs c.args.machines in
     let jobs = c.args.sequence.now in
     let at = c.loop-machine in
     let sizes = c.requires.within.sizes in
     omega (
       arith,
-      c.max.ensures,
       below_short shop c.requires.within jobs c.args.place (at.machine - 1) at.tails at.invariant.below
           c.requires.place (omega (arith, c.loop-machine-test.true, at.auto.machine)),
+      length-le-size c.args.jobs jobs c.requires.sequence,
+      sizes.few_jobs,
+      sizes.few_machines,
+    )
+
+pub greater-requires-clause-b : goal.greater-requires-clause-b
+greater-requires-clause-b c =
+    let shop : FlowShop = shop_of c.args.times.now c.args.jobs c.args.machines in
+    let jobs = c.args.sequence.now in
+    let at = c.loop-machine in
+    let sizes = c.requires.within.sizes in
+    omega (
+      arith,
       after_short shop c.requires.within jobs c.args.place at.machine at.tails at.after at.invariant
           (omega (arith, c.requires.place)),
-      c.time_at.ensures.short,
       length-le-size c.args.jobs jobs c.requires.sequence,
       sizes.few_jobs,
       sizes.few_machines,
@@ -33,4 +44,4 @@ loop-machine-preserved c =
     (omega (arith, c.requires.place)) (omega (arith, c.loop-machine-test.true, at.auto.machine)) in
     tails_more shop c.args.sequence.now c.args.place at.machine cell at.tails at.after c.time_at.result _ at.invariant
     c.loop-machine-test.true (omega (arith, at.auto.machine)) c.requires.place refl
-    (omega (arith, inside, at.auto.tails, c.requires.long)) c.time_at.ensures.value (omega (arith, c.max.ensures))
+    (omega (arith, inside, at.auto.tails, c.requires.long)) c.time_at.ensures.value (omega (arith, c.greater.ensures.value))
