@@ -3,13 +3,17 @@
  * usage: library rounds ROUNDS FILE PART    NEH and ROUNDS rounds with seed 1, in calls of PART rounds; prints what
  *                                           `pfs solve --cells` does
  *        library insert COUNT FILE          makes COUNT insertions, of each job in turn into the others in the order
- *                                           of their numbers; prints the sum of the places and the makespans */
+ *                                           of their numbers; prints the sum of the places and the makespans
+ *        library makespans COUNT FILE FORM  computes the makespans of the same 1,000 orders COUNT times, by `one` call
+ *                                           of pfs_makespans or by `many` calls of pfs_makespan; prints their sum */
 #include <inttypes.h>
 #include <stdio.h>
 #include <stdlib.h>
 #include <string.h>
 
 #include "pfs.h"
+
+#define ORDERS ((size_t)1000)
 
 static uint8_t bytes[1 << 24];
 static uint32_t times[PFS_MOST_JOBS * PFS_MOST_MACHINES], order[PFS_MOST_JOBS];
@@ -64,6 +68,36 @@ static void insert(uint64_t count) {
     printf("%" PRIu64 " insertions, sum %" PRIu64 "\n", count, sum);
 }
 
+/* Each order is drawn by a shuffle of its own. */
+static void draw_orders(uint32_t *orders) {
+    uint64_t state = 1;
+    for (size_t index = 0; index < ORDERS; ++index, orders += jobs) {
+        for (size_t place = 0; place < jobs; ++place) {
+            state = state * 6364136223846793005U + 1442695040888963407U;
+            size_t other = (size_t)(state >> 33) % (place + 1);
+            orders[place] = orders[other];
+            orders[other] = (uint32_t)place;
+        }
+    }
+}
+
+static void makespans(uint64_t count, int in_one_call) {
+    static uint32_t orders[ORDERS * PFS_MOST_JOBS];
+    static uint64_t found[ORDERS];
+    uint64_t sum = 0;
+    draw_orders(orders);
+    for (uint64_t made = 0; made < count; ++made) {
+        if (in_one_call)
+            check(pfs_makespans(times, jobs * machines, jobs, machines, orders, ORDERS * jobs, jobs, found, ORDERS));
+        else
+            for (size_t index = 0; index < ORDERS; ++index)
+                check(pfs_makespan(times, jobs * machines, jobs, machines, orders + index * jobs, jobs, found + index));
+        for (size_t index = 0; index < ORDERS; ++index)
+            sum += found[index];
+    }
+    printf("%" PRIu64 " makespans, sum %" PRIu64 "\n", count * ORDERS, sum);
+}
+
 int main(int count, char **words) {
     if (count == 5 && strcmp(words[1], "rounds") == 0) {
         read_shop(words[3]);
@@ -71,6 +105,9 @@ int main(int count, char **words) {
     } else if (count == 4 && strcmp(words[1], "insert") == 0) {
         read_shop(words[3]);
         insert(strtoull(words[2], NULL, 10));
+    } else if (count == 5 && strcmp(words[1], "makespans") == 0) {
+        read_shop(words[3]);
+        makespans(strtoull(words[2], NULL, 10), strcmp(words[4], "one") == 0);
     } else {
         return 3;
     }

@@ -76,7 +76,7 @@ fn judge_insertions(
 
 /// Returns the tails of a sequence, a row for each place, with a row of zeros after them. It allocates once, and
 /// returns `Memory` if that fails; it has no other error.
-fn tails_of(
+pub(crate) fn tails_of(
     alloc: Global,
     times: &[u32],
     jobs: usize,

@@ -15,13 +15,16 @@ use crate::given::{
     NO_NOTES, instance_of, judge_job, judge_jobs, judge_length, judge_shop, judge_sizes,
     judge_times, order_of, sequence_of,
 };
-use crate::inserting::best_place;
+use crate::inserting::{best_on_times, best_place};
 use crate::numbers::{PFS_OK, Refusal};
 use pfs_audit::{TimeTable, bound, makespan, table};
 use pfs_base::Instance;
 use pfs_insert::Placed;
 use pfs_layout::generate;
 use std::alloc::Global;
+
+// Up to this number of times, to make a wavefront's tables takes longer than the whole insertion by heads and tails.
+const FEW_TIMES: usize = 128;
 
 /// Computes the makespan of a sequence of distinct jobs, which need not be all jobs. That of no jobs is 0.
 #[unsafe(no_mangle)]
@@ -215,6 +218,9 @@ fn best_of(
     judge_shop(times, jobs, machines)?;
     judge_jobs(jobs, sequence)?;
     judge_job(jobs, sequence, job)?;
+    if jobs * machines <= FEW_TIMES {
+        return best_on_times(alloc, times, jobs, machines, sequence, job as usize);
+    }
     let instance = instance_of(alloc, times, jobs, machines, NO_NOTES)?;
     let sequence = sequence_of(alloc, jobs, sequence)?;
     best_place(alloc, &instance, &sequence, job as usize)
