@@ -42,9 +42,9 @@ $(PROGRAM) bin/pfs
 tools/pfs-experiments bin/pfs-experiments
 -> ../libexec/pfs/tools/gantt bin/pfs-gantt
 $(foreach name,$(GANTT),tools/$(name) libexec/pfs/tools/$(name)$(newline))
-python/src/pfs/_whole.py libexec/pfs/tools/_whole.py
+python/src/pfs/_atomic.py libexec/pfs/tools/_atomic.py
 $(foreach name,$(EXPERIMENTS),experiments/$(name) libexec/pfs/experiments/$(name)$(newline))
-python/src/pfs/_whole.py libexec/pfs/experiments/_whole.py
+python/src/pfs/_atomic.py libexec/pfs/experiments/_atomic.py
 $(foreach name,pfs pfs-gantt pfs-experiments,share/$(name).1 share/man/man1/$(name).1$(newline))
 share/completions/pfs.bash share/bash-completion/completions/pfs
 share/completions/pfs-tools.bash share/bash-completion/completions/pfs-gantt

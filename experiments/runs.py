@@ -22,7 +22,7 @@ from plan import read_plan
 
 # A module of the package for Python; where the scripts are installed it is in this folder.
 sys.path.append(str(HERE.parent / "python" / "src" / "pfs"))
-import _whole  # type: ignore[import]  # noqa: E402
+import _atomic  # type: ignore[import]  # noqa: E402
 
 # A line of the list of runs, with tabs between the columns. What is not known is a hyphen. The number is that of the
 # line. Rounds of a run by time are `time-FACTOR-SECONDS`.
@@ -49,7 +49,7 @@ def write_whole(path: pathlib.Path, text: str) -> None:
 
 
 def write_bytes(path: pathlib.Path, data: bytes) -> None:
-    _whole.write_whole(path, data)
+    _atomic.atomic_write(path, data)
 
 
 def damaged(path: pathlib.Path, why: object) -> Refused:

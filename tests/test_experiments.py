@@ -1290,7 +1290,7 @@ def test_a_script_without_words_prints_its_usage(script: str, top: pathlib.Path,
     """By the name by which it was called: in the repository, and where it is installed."""
     shutil.copytree(top / "experiments", folder / "libexec" / "pfs" / "experiments",
                     ignore=shutil.ignore_patterns("out", "__pycache__"))
-    shutil.copy(top / "python" / "src" / "pfs" / "_whole.py", folder / "libexec" / "pfs" / "experiments")
+    shutil.copy(top / "python" / "src" / "pfs" / "_atomic.py", folder / "libexec" / "pfs" / "experiments")
     (folder / "bin").mkdir()
     shutil.copy(top / "tools" / "pfs-experiments", folder / "bin")
     lines: list[tuple[list[str | pathlib.Path], str]] = [
@@ -1316,7 +1316,7 @@ def test_the_lines_of_the_way_lead_to_the_reports_plots(top: pathlib.Path, pfs: 
     """In a copy that has the built program, which is taken as it is."""
     shutil.copytree(top / "experiments", folder / "experiments", ignore=shutil.ignore_patterns("out", "__pycache__"))
     (folder / "python" / "src" / "pfs").mkdir(parents=True)
-    for name in ("Makefile", "crates.txt", "python/src/pfs/_whole.py"):
+    for name in ("Makefile", "crates.txt", "python/src/pfs/_atomic.py"):
         shutil.copy(top / name, folder / name)
     (folder / "crates" / "pfs" / "out").mkdir(parents=True)
     shutil.copy(pfs.path, folder / "crates" / "pfs" / "out" / "pfs")

@@ -60,7 +60,7 @@ PLACES = {
     **{f"share/doc/pfs/python/examples/{page.name}": f"python/examples/{page.name}"
        for page in sorted((TOP / "python" / "examples").glob("*.py"))},
     **{f"libexec/pfs/{path.relative_to(TOP)}": str(path.relative_to(TOP)) for path in TOOLS},
-    **{f"libexec/pfs/{folder}/_whole.py": "python/src/pfs/_whole.py" for folder in ("experiments", "tools")},
+    **{f"libexec/pfs/{folder}/_atomic.py": "python/src/pfs/_atomic.py" for folder in ("experiments", "tools")},
 }
 # Which folders the installation has made.
 NOTES = "libexec/pfs/installed-folders"

@@ -19,13 +19,13 @@ class Clock:
 
     def patch(self, monkeypatch: pytest.MonkeyPatch) -> None:
         """Makes it the clock of searches."""
-        made = _search.Search.go_on
+        made = _search.Search.run_rounds
 
-        def go_on(search: _search.Search, count: int) -> None:
+        def run_rounds(search: _search.Search, count: int) -> None:
             made(search, count)
             self.now += count * self.seconds
             self.parts.append(count)
 
-        monkeypatch.setattr(_search.Search, "go_on", go_on)
+        monkeypatch.setattr(_search.Search, "run_rounds", run_rounds)
         for module in (_search, _commands):
             monkeypatch.setattr(module, "time", self)

@@ -30,7 +30,7 @@ def test_bad_input_under_the_sanitizers(tmp_path: pathlib.Path) -> None:
     env = os.environ | {"LD_PRELOAD": f"{file_of('libasan.so')} {file_of('libstdc++.so.6')}", "PYTHONMALLOC": "malloc",
                         "ASAN_OPTIONS": "detect_leaks=0", "PFS_LIBRARY": str(library), "PYTHONDONTWRITEBYTECODE": "1"}
     words = ["-m", "pytest", "-q", "-p", "no:cacheprovider", "-p", "no:xdist", "-x", "-o", "addopts=",
-             "tests/test_py_given.py", "tests/test_py_values.py"]
+             "tests/test_py_validate.py", "tests/test_py_values.py"]
     done = subprocess.run([sys.executable, *words], cwd=TOP / "python", env=env, capture_output=True, text=True,
                           timeout=500)
     assert done.returncode == 0, done.stdout + done.stderr

@@ -318,13 +318,14 @@ def test_jupyter_shows_the_chart(monkeypatch: pytest.MonkeyPatch) -> None:
 
 
 @pytest.mark.parametrize(("words", "kind", "why"), [
-    ({"width": 1}, ValueError, "width is 1, and should be 2 to 100 inches"),
+    ({"width": 1}, ValueError, "width must be from 2 to 100 inches, not 1"),
     ({"width": float("nan")}, ValueError, "width is nan"),
-    ({"width": "4"}, TypeError, "width should be inches, not '4'"), ({"width": True}, TypeError, "width should be"),
-    ({"dpi": 10}, ValueError, "dpi is 10, and should be 20 to 2,400"),
-    ({"dpi": 99.5}, TypeError, "dpi should be a whole"),
-    ({"title": 3}, TypeError, "title should be True, False or a text, not 3"),
-    ({"ax": 3}, TypeError, "ax should be axes of matplotlib, not 3")])
+    ({"width": "4"}, TypeError, "width must be a number of inches, not '4'"),
+    ({"width": True}, TypeError, "width must be a number of inches, not True"),
+    ({"dpi": 10}, ValueError, "dpi must be from 20 to 2,400, not 10"),
+    ({"dpi": 99.5}, TypeError, "dpi must be an integer"),
+    ({"title": 3}, TypeError, "title must be True, False or a text, not 3"),
+    ({"ax": 3}, TypeError, "ax must be matplotlib axes, not 3")])
 def test_frames_of_pictures_that_are_rejected(tmp_path: pathlib.Path, words: dict[str, Any], kind: type[Exception],
                                               why: str) -> None:
     for name in ("chart.svg", "chart.html"):

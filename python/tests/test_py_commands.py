@@ -102,7 +102,7 @@ def test_search_from_an_order_of_ones_own(folder: pathlib.Path, program: str) ->
     assert printed == shop.solve(50, start=order).to_text()
     printed = run([*LONG, "--start", "order", "--rounds", "0"], folder)
     assert printed == plainly.order_file(order, 10, shop.makespan(order))
-    error = "pfs: state: the state of another search: another start\n"
+    error = "pfs: state: the state of a search with another start\n"
     run([*LONG, "--rounds", "60", "--state", "state"], folder, 2, error)
 
 
@@ -201,8 +201,8 @@ def summed(state: dict[str, Any]) -> str:
     return json.dumps(fields | {"sum": hashlib.sha256(json.dumps(fields, sort_keys=True).encode()).hexdigest()})
 
 
-NOT_THE_INSTANCES = "the state of a search, but its order isn't one of the instance"
-DAMAGED = "the state of a search, but it is damaged: its checksum is wrong"
+NOT_THE_INSTANCES = "the state of a search, but its order doesn't fit the instance"
+DAMAGED = "the state of a search, but damaged: its checksum is wrong"
 # What is made of the fields of a state, or its text, and why it is rejected then.
 OTHER_STATES: dict[str, tuple[Callable[[dict[str, Any]], str], str]] = {
     "nothing": (lambda state: "", "not the state of a search"),
@@ -218,7 +218,7 @@ OTHER_STATES: dict[str, tuple[Callable[[dict[str, Any]], str], str]] = {
     "another order": (lambda state: json.dumps(state | {"order": state["order"][::-1]}), DAMAGED),
     "no checksum": (lambda state: json.dumps({name: state[name] for name in state if name != "sum"}), DAMAGED),
     "another seed": (lambda state: summed(state | {"seed": 7}),
-                     "the state of another search: another seed, its is 7"),
+                     "the state of a search with seed 7, not 0"),
     "another order's makespan": (lambda state: summed(state | {"order": state["order"][::-1]}), NOT_THE_INSTANCES),
     "another makespan": (lambda state: summed(state | {"makespan": state["makespan"] - 1}), NOT_THE_INSTANCES),
     "a job twice": (lambda state: summed(state | {"order": [state["order"][1], *state["order"][1:]]}),
@@ -246,9 +246,9 @@ def test_other_states_are_rejected(folder: pathlib.Path, case: str) -> None:
 
 
 @pytest.mark.parametrize(("before", "after", "why"), [
-    ([], ["--seed", "7"], "another seed, its is 0"), (["--seed", "7"], [], "another seed, its is 7"),
-    ([], ["--take", "5"], "another take, its is 4"), (["--take", "5"], [], "another take, its is 5"),
-    ([], ["--passes", "1"], "another passes, its is 0"), (["--passes", "1"], [], "another passes, its is 1"),
+    ([], ["--seed", "7"], "seed 0, not 7"), (["--seed", "7"], [], "seed 7, not 0"),
+    ([], ["--take", "5"], "take 4, not 5"), (["--take", "5"], [], "take 5, not 4"),
+    ([], ["--passes", "1"], "passes 0, not 1"), (["--passes", "1"], [], "passes 1, not 0"),
     (["--start", "order"], [], "another start"), ([], ["--start", "order"], "another start"),
 ])
 def test_a_state_is_for_the_options_of_its_search(folder: pathlib.Path, before: list[str], after: list[str],
@@ -256,7 +256,7 @@ def test_a_state_is_for_the_options_of_its_search(folder: pathlib.Path, before: 
     (folder / "order").write_text(plainly.order_file(range(60), 10, 1))
     run([*LONG, *before, "--rounds", "5", "--state", "state"], folder)
     kept = (folder / "state").read_bytes()
-    error = f"pfs: state: the state of another search: {why}\n"
+    error = f"pfs: state: the state of a search with {why}\n"
     run([*LONG, *after, "--rounds", "9", "--state", "state"], folder, 2, error)
     assert (folder / "state").read_bytes() == kept
     # The default is the option's value.
@@ -266,7 +266,7 @@ def test_a_state_is_for_the_options_of_its_search(folder: pathlib.Path, before: 
 
 def test_a_state_with_more_rounds_than_are_due(folder: pathlib.Path) -> None:
     printed = run([*LONG, "--rounds", "30", "--state", "state"], folder)
-    error = "pfs: state: the search has made 30 rounds, more than 29\n"
+    error = "pfs: state: the search has already made 30 rounds, more than 29\n"
     run([*LONG, "--rounds", "29", "--state", "state"], folder, 2, error)
     assert run([*LONG, "--rounds", "30", "--state", "state"], folder) == printed
 
@@ -302,7 +302,7 @@ def test_other_files_without_end(folder: pathlib.Path, words: list[str]) -> None
 def test_two_searches_with_one_state(folder: pathlib.Path) -> None:
     first = start([*LONG, "--state", "state"], folder)
     wait_until(lambda: rounds_in(folder) > 0)
-    run([*LONG, "--state", "state"], folder, 4, "pfs: state: another search uses this state\n")
+    run([*LONG, "--state", "state"], folder, 4, "pfs: state: another search is using this state\n")
     run([*LONG, "--state", "other", "--rounds", "2"], folder)
     assert first.poll() is None, "the second search has ended the first"
     first.send_signal(signal.SIGTERM)
@@ -364,7 +364,7 @@ def test_the_state_of_another_instance(folder: pathlib.Path) -> None:
     run([*LONG, "--rounds", "5", "--state", "state"], folder)
     pfs.generate(60, 10, 5).write(folder / "shop")
     run([*LONG, "--rounds", "5", "--state", "state"], folder, 2,
-        "pfs: state: the state of another search: another instance\n")
+        "pfs: state: the state of a search with another instance\n")
 
 
 def on_a_terminal(words: list[str], folder: pathlib.Path) -> tuple[str, str]:
@@ -398,7 +398,7 @@ def test_progress_is_told_on_a_terminal_only(folder: pathlib.Path) -> None:
     (["search", "shop", "--layout", "orlib"], 2, "pfs: size line 2 has a wrong count\n"),
     ([*LONG, "--block", "2"], 2, "pfs: no block, found 1\n"),
     ([*LONG, "--start", "shop"], 2, "pfs: order file syntax at 0\n"),
-    ([*LONG, "--take", "61"], 3, "pfs: take is 61, and should be 1 to 60\n"),
+    ([*LONG, "--take", "61"], 3, "pfs: take must be from 1 to 60, not 61\n"),
     ([*LONG, "--start", "for_nine"], 3, "pfs: for_nine: an order for 9 machines, and the instance has 10\n"),
     ([*LONG, "--start", "two"], 3, "pfs: start has 2 jobs, and the instance 60\n"),
     (["plan", "bad.csv"], 2, "pfs: bad.csv: line 2, column 3: 'x' is no time\n"),
@@ -628,9 +628,9 @@ def test_an_order_that_was_changed_by_hand(folder: pathlib.Path) -> None:
 
 
 @pytest.mark.parametrize(("text", "error"), [
-    ("b\na\nd\n", "line 3, no job is named 'd'"), ("1 b\n2 b\n3 a\n", "line 2, the job 'b' is in line 1 too"),
+    ("b\na\nd\n", "line 3, 'd' isn't the name of a job"), ("1 b\n2 b\n3 a\n", "line 2, the job 'b' is in line 1 too"),
     ("a\n", "line 1, 2 of 3 jobs missing: 'b', '2 c'"), ("", "line 1, 3 of 3 jobs missing: 'a', 'b', '2 c'"),
-    ("\u00e4\nb\nb", "line 1, no job is named '\u00e4'")])
+    ("\u00e4\nb\nb", "line 1, '\u00e4' isn't the name of a job")])
 def test_orders_that_are_rejected(folder: pathlib.Path, text: str, error: str) -> None:
     (folder / "times.csv").write_text("job,saw\na,3\nb,2\n2 c,1\n")
     (folder / "order").write_text(text, "utf-8")

@@ -168,10 +168,10 @@ def test_orders_of_papers(text: str, first: int, due: list[int]) -> None:
     ("j1 j2", 1, ValueError, "isn't a list"), ("\u0661", 1, ValueError, "isn't a list"),
     ("2 1 3", 0, ValueError, "3 at place 2 isn't a job: the 3 jobs are 0 to 2"),
     ("0 1", 1, ValueError, "0 at place 0 isn't a job: the 2 jobs are 1 to 2"),
-    ("2 1 2", 1, ValueError, "job 2 stands at place 0 and again at place 2"),
+    ("2 1 2", 1, ValueError, "job 2 occurs twice, at places 0 and 2"),
     ("1 " + "9" * 5000, 1, ValueError, "9{20} at place 1 isn't a job"), ("0 " * 5001, 0, ValueError, "5,001 jobs"),
-    (b"1 2", 1, TypeError, "text should be a str"), ([1, 2], 1, TypeError, "text should be a str"),
-    ("1 2", 2, ValueError, "first is 2, and should be 0 to 1"), ("1 2", True, TypeError, "first should be")])
+    (b"1 2", 1, TypeError, "text must be a str"), ([1, 2], 1, TypeError, "text must be a str"),
+    ("1 2", 2, ValueError, "first must be from 0 to 1, not 2"), ("1 2", True, TypeError, "first must be")])
 def test_orders_of_papers_that_are_rejected(text: Any, first: Any, kind: type[Exception], why: str) -> None:
     with pytest.raises(kind, match=why):
         pfs.parse_order(text, first)
@@ -287,25 +287,25 @@ def test_faults_of_instance_files(tmp_path: pathlib.Path, program: str, case: st
 
 # A file, its layout, and the line, the column and the hint of its fault.
 HINTS = {
-    "nothing": ("", "taillard", 1, 0, "no line has numbers alone, and so none is a size line"),
-    "words": ("a\nb 2\n", "orlib", 2, 0, "no line has numbers alone, and so none is a size line"),
+    "nothing": ("", "taillard", 1, 0, "the file has no size line: no line consists of numbers alone"),
+    "words": ("a\nb 2\n", "orlib", 2, 0, "the file has no size line: no line consists of numbers alone"),
     "the other layout": ("x\n3 2\n", "taillard", 2, 0,
-                         "the line has 2 numbers, and a size line 5; that of the layout 'orlib' has 2"),
-    "three numbers": ("1 2 3\n", "orlib", 1, 0, "the line has 3 numbers, and a size line 2"),
+                         "the line has 2 numbers, but a size line has 5; in the layout 'orlib' it has 2"),
+    "three numbers": ("1 2 3\n", "orlib", 1, 0, "the line has 3 numbers, but a size line has 2"),
     "words beside the size": ("11 5 # 11 jobs\n0 3 1 2 2 7\n", "orlib", 2, 0,
-                              "line 1 has words beside its numbers, so it isn't read as a size line"),
+                              "line 1 has words next to its numbers, so it isn't read as a size line"),
     "many jobs": ("5001 1\n", "orlib", 1, 0,
                   "a block has 1 to 5,000 jobs and 1 to 200 machines, and the notes are at most 4,294,967,295"),
     "a decimal": ("2 1 0 0 0\n3 4.5\n", "taillard", 2, 4,
-                  "a line of times has numbers alone: no words, and no numbers with a sign or a decimal point"),
+                  "a line of times has only digits and blanks: no words, signs or decimal points"),
     "a long time": ("1 1 0 0 0\n 1000000001\n", "taillard", 2, 2, "times are 0 to 1,000,000,000"),
     "a time missing": ("2 2\n0 3 1\n0 5 1 2\n1 1\n0 3\n", "orlib", 3, 3,
-                       "line 2 has 3 numbers, and a row of this block 4"),
+                       "line 2 has 3 numbers, but a row of this block has 4"),
     "a time missing in the second block": ("1 1 0 0 0\n7\n3 2 0 0 0\n1 2 3\n4 5\n1 1 0 0 0\n7\n", "taillard", 6, 3,
-                                           "line 5 has 2 numbers, and a row of this block 3"),
+                                           "line 5 has 2 numbers, but a row of this block has 3"),
     "a plain matrix": ("2 3\n4 5 6\n7 8 9\n", "orlib", 2, 1,
-                       "line 2 has 3 numbers: perhaps times alone, and not pairs of machine and time"),
-    "an end inside": ("2 2 0 0 0\n3 4\n5\n", "taillard", 3, 0, "line 3 has 1 numbers, and a row of this block 2"),
+                       "line 2 has 3 numbers: perhaps only times, instead of pairs of machine and time"),
+    "an end inside": ("2 2 0 0 0\n3 4\n5\n", "taillard", 3, 0, "line 3 has 1 numbers, but a row of this block has 2"),
     "an end after whole rows": ("2 2 0 0 0\n3 4\n", "taillard", 2, 0, ""),
 }
 
@@ -399,8 +399,8 @@ def test_the_longest_order_file(tmp_path: pathlib.Path, program: str) -> None:
 
 
 @pytest.mark.parametrize(("order", "span", "why"), [
-    ([0, 2], 1, "order: 2 at place 1 isn't a job: they are 0 to 1"),
-    ([1, 0, 1], 1, "order: job 1 stands at place 0 and again at place 2"),
+    ([0, 2], 1, "order: 2 at place 1 isn't a job: jobs are 0 to 1"),
+    ([1, 0, 1], 1, "order: job 1 occurs twice, at places 0 and 2"),
     ([], 1, "out of its limits"), ([0], 10**18, "more than 18 digits")])
 def test_solutions_that_no_file_holds(order: list[int], span: int, why: str) -> None:
     with pytest.raises(ValueError, match=why):

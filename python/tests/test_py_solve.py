@@ -504,31 +504,31 @@ def test_a_call_frees_the_lock() -> None:
 
 
 @pytest.mark.parametrize(("words", "kind", "why"), [
-    ({"rounds": -1}, ValueError, "rounds is -1, and should be 0 to 1,000,000"),
-    ({"rounds": 1_000_001}, ValueError, "rounds is 1000001"),
-    ({"rounds": 2, "first": 999_999}, ValueError, "rounds is 2, and should be 0 to 1$"),
-    ({"first": 1_000_001}, ValueError, "first is 1000001"),
-    ({"rounds": 1.5}, TypeError, "rounds should be a whole number, not 1.5"),
-    ({"rounds": True}, TypeError, "rounds should be a whole number, not True"),
-    ({"take": 0}, ValueError, "take is 0, and should be 1 to 20"),
-    ({"take": 21}, ValueError, "take is 21, and should be 1 to 20"),
-    ({"take": 2**64 + 1}, ValueError, "take is 18446744073709551617"),
-    ({"passes": 101}, ValueError, "passes is 101, and should be 0 to 100"),
-    ({"seed": -1}, ValueError, "seed is -1"),
-    ({"seed": 2**64}, ValueError, "seed is 18446744073709551616"),
-    ({"seed": "1"}, TypeError, "seed should be a whole number, not '1'"),
+    ({"rounds": -1}, ValueError, "rounds must be from 0 to 1,000,000, not -1"),
+    ({"rounds": 1_000_001}, ValueError, "rounds must be from .*, not 1000001"),
+    ({"rounds": 2, "first": 999_999}, ValueError, "rounds must be from 0 to 1, not 2$"),
+    ({"first": 1_000_001}, ValueError, "first must be from .*, not 1000001"),
+    ({"rounds": 1.5}, TypeError, "rounds must be an integer, not 1.5"),
+    ({"rounds": True}, TypeError, "rounds must be an integer, not True"),
+    ({"take": 0}, ValueError, "take must be from 1 to 20, not 0"),
+    ({"take": 21}, ValueError, "take must be from 1 to 20, not 21"),
+    ({"take": 2**64 + 1}, ValueError, "take must be from .*, not 18446744073709551617"),
+    ({"passes": 101}, ValueError, "passes must be from 0 to 100, not 101"),
+    ({"seed": -1}, ValueError, "seed must be from .*, not -1"),
+    ({"seed": 2**64}, ValueError, "seed must be from .*, not 18446744073709551616"),
+    ({"seed": "1"}, TypeError, "seed must be an integer, not '1'"),
     ({"start": [0, 1]}, ValueError, "start has 2 jobs, and the instance 20"),
-    ({"start": [0] * 20}, ValueError, "start: job 0 stands at place 0 and again at place 1"),
+    ({"start": [0] * 20}, ValueError, "start: job 0 occurs twice, at places 0 and 1"),
     ({"time_limit": -1}, ValueError, "time_limit is -1.0"),
     ({"time_limit": float("nan")}, ValueError, "time_limit is nan"),
-    ({"time_limit": -10**400}, ValueError, "time_limit is -inf, and should be 0 or more seconds"),
-    ({"time_limit": "1"}, TypeError, "time_limit should be seconds, not '1'"),
-    ({"progress": 3}, TypeError, "progress should be called"),
-    ({"target": -1}, ValueError, "target is -1, and should be 0 to"),
-    ({"target": 1278.0}, TypeError, "target should be a whole number, not 1278.0"),
-    ({"target": True}, TypeError, "target should be a whole number, not True"),
-    ({"stop": True}, TypeError, "stop should be an event with `is_set`, as threading.Event has it, not True"),
-    ({"history": 1}, TypeError, "history should be True or False, not 1"),
+    ({"time_limit": -10**400}, ValueError, "time_limit must be 0 or more seconds, not -inf"),
+    ({"time_limit": "1"}, TypeError, "time_limit must be a number of seconds, not '1'"),
+    ({"progress": 3}, TypeError, "progress must be callable"),
+    ({"target": -1}, ValueError, "target must be from 0 to [0-9,]+, not -1"),
+    ({"target": 1278.0}, TypeError, "target must be an integer, not 1278.0"),
+    ({"target": True}, TypeError, "target must be an integer, not True"),
+    ({"stop": True}, TypeError, "stop must be an event with `is_set`, such as threading.Event, not True"),
+    ({"history": 1}, TypeError, "history must be True or False, not 1"),
     ({"start": pfs.Solution(range(20), 7, machines=4)}, ValueError,
      "start is an order for 4 machines, and the instance has 5"),
 ])
@@ -649,7 +649,7 @@ def test_a_search_by_time_continues_with_the_next_seed(monkeypatch: pytest.Monke
     assert (found.order.tolist(), found.cells) == (after.order.tolist(), before.cells + after.cells)
     assert found.history[0].round == 999_900
     # A number of rounds doesn't go beyond the last one of its seed.
-    with pytest.raises(ValueError, match="rounds is 101, and should be 0 to 100"):
+    with pytest.raises(ValueError, match="rounds must be from 0 to 100, not 101"):
         shop.solve(101, first=999_900, start=range(6), time_limit=1)
 
 
@@ -659,7 +659,7 @@ def test_a_solution_of_another_instance_is_rejected() -> None:
     calls: dict[str, Callable[[], object]] = {
         "start": lambda: other.solve(1, start=best), "order": lambda: other.schedule(best)}
     for what, call in calls.items():
-        with pytest.raises(ValueError, match=f"^{what} is an order for 10 machines, and the instance has 20$"):
+        with pytest.raises(ValueError, match=f"^{what} is an order for 10 machines, but the instance has 20$"):
             call()
     assert other.solve(0, start=best.order).order.tolist() == best.order.tolist()
     assert other.solve(0, start=pfs.Solution(best.order, 1)).order.tolist() == best.order.tolist()

@@ -202,7 +202,7 @@ def test_what_isnt_grouped_by_thousands(tmp_path: pathlib.Path, decimal: str, ce
 
 
 def test_other_decimal_signs_are_rejected(tmp_path: pathlib.Path) -> None:
-    with pytest.raises(ValueError, match="decimal should be '.' or ',', not 'comma'"):
+    with pytest.raises(ValueError, match="decimal must be '.' or ',', not 'comma'"):
         pfs.read_csv(written(tmp_path, "job;saw\na;1\n"), decimal="comma")
 
 

@@ -72,7 +72,7 @@ def test_the_bound_of_pairs_is_below_the_published_makespans() -> None:
 @pytest.mark.parametrize(("method", "kind"), [("johnson", ValueError), ("", ValueError), (None, TypeError),
                                               (b"pairs", TypeError), (True, TypeError)])
 def test_methods_of_bounds_that_are_rejected(method: Any, kind: type[Exception]) -> None:
-    with pytest.raises(kind, match="method (is|should be) .*'machines' or 'pairs'"):
+    with pytest.raises(kind, match="method must be 'machines' or 'pairs', not "):
         pfs.Instance([[1]]).bound(method)
 
 
@@ -207,12 +207,12 @@ def test_rpd() -> None:
 
 
 @pytest.mark.parametrize(("words", "kind", "why"), [
-    ((9,), ValueError, "the instance has no reference: its `upper` is 0"),
-    ((-1, 5), ValueError, "makespan is -1, and should be 0 to"),
-    ((9, 0), ValueError, "reference is 0, and should be 1"),
-    ((9.5, 5), TypeError, "makespan should be a whole number, not 9.5"), ((True, 5), TypeError, "makespan should be"),
-    ((9, True), TypeError, "reference should be"), (([1, 0], 5), TypeError, "makespan should be a whole number"),
-    ((2**64, 5), ValueError, "makespan is 18446744073709551616")])
+    ((9,), ValueError, "rpd needs a reference, since `upper` of the instance is 0"),
+    ((-1, 5), ValueError, "makespan must be from 0 to [0-9,]+, not -1"),
+    ((9, 0), ValueError, "reference must be from 1 to [0-9,]+, not 0"),
+    ((9.5, 5), TypeError, "makespan must be an integer, not 9.5"), ((True, 5), TypeError, "makespan must be"),
+    ((9, True), TypeError, "reference must be"), (([1, 0], 5), TypeError, "makespan must be an integer"),
+    ((2**64, 5), ValueError, "makespan must be from .*, not 18446744073709551616")])
 def test_rpds_that_are_rejected(words: tuple[Any, ...], kind: type[Exception], why: str) -> None:
     with pytest.raises(kind, match=why):
         pfs.Instance([[1]]).rpd(*words)
@@ -351,7 +351,7 @@ def test_a_frame_keeps_its_names() -> None:
     plain = pfs.Instance(pandas.DataFrame([[3, 2], [2, 5]]))
     assert (plain.job_names, plain.machine_names) == (None, None)
     assert pfs.Instance(frame.iloc[::-1].T).job_names == ("saw", "drill")
-    with pytest.raises(ValueError, match="job_names: 'a' stands there twice"):
+    with pytest.raises(ValueError, match="job_names: 'a' occurs twice"):
         pfs.Instance(pandas.DataFrame([[1], [2]], index=["a", "a"]))
 
 
@@ -368,9 +368,9 @@ def test_a_frame_of_decimal_times(times: Any, decimals: int, due: list[list[int]
     ([[2.55]], 1, ValueError, "times: 25.5 at job 0, machine 0 isn't a whole number"),
     ([[2.5]], 0, ValueError, "times: 2.5 at job 0"), ([[1.0, float("nan")]], 1, ValueError, "times: nan at job 0"),
     ([[float("inf")]], 2, ValueError, "times: inf at job 0"), ([[-0.5]], 1, ValueError, "times: -5.0 at job 0"),
-    ([[1_000_000_001]], 0, ValueError, "isn't 0 to 1,000,000,000"), ([[1e9]], 1, ValueError, "isn't 0 to"),
+    ([[1_000_000_001]], 0, ValueError, "isn't from 0 to 1,000,000,000"), ([[1e9]], 1, ValueError, "isn't from 0 to"),
     ([["x"]], 1, TypeError, "times: x at job 0, machine 0 isn't a whole number"), ([[True]], 1, TypeError, "bool"),
-    ([[1]], 10, ValueError, "decimals is 10"), ([[1]], True, TypeError, "decimals should be")])
+    ([[1]], 10, ValueError, "decimals must be from 0 to 9, not 10"), ([[1]], True, TypeError, "decimals must be")])
 def test_frames_that_are_rejected(times: Any, decimals: Any, kind: type[Exception], why: str) -> None:
     pandas = pytest.importorskip("pandas")
     with pytest.raises(kind, match=why):
@@ -380,7 +380,7 @@ def test_frames_that_are_rejected(times: Any, decimals: Any, kind: type[Exceptio
 def test_only_frames_are_frames() -> None:
     others: list[Any] = [[[1]], np.ones((1, 1)), None]
     for other in others:
-        with pytest.raises(TypeError, match="frame should be a DataFrame of pandas, not of the kind"):
+        with pytest.raises(TypeError, match="frame must be a pandas DataFrame, not "):
             pfs.from_frame(other)
 
 
@@ -397,15 +397,15 @@ def test_jobs_by_their_names() -> None:
 
 
 @pytest.mark.parametrize(("order", "kind", "why"), [
-    (["chair", "bed", "box"], ValueError, "no job is named 'bed', which is at place 1"),
-    (["chair", 0, "box"], TypeError, "0 at place 1 isn't a name, as others are"),
-    (["chair", "table", "chair"], ValueError, "job 1 stands at place 0 and again at place 2"),
-    ([0, "table", "box"], TypeError, "(order|start) should be whole numbers")])
+    (["chair", "bed", "box"], ValueError, "'bed' at place 1 isn't the name of a job"),
+    (["chair", 0, "box"], TypeError, "0 at place 1 isn't a name, but others are"),
+    (["chair", "table", "chair"], ValueError, "job 1 occurs twice, at places 0 and 2"),
+    ([0, "table", "box"], TypeError, "(order|start) must be whole numbers")])
 def test_names_that_are_rejected(order: list[Any], kind: type[Exception], why: str) -> None:
     shop = pfs.Instance([[3, 2], [2, 5], [4, 1]], job_names=["table", "chair", "box"])
     calls: list[Callable[[Any], Any]] = [shop.makespan, shop.schedule, lambda start: shop.solve(0, start=start)]
     for call in calls:
         with pytest.raises(kind, match=why):
             call(order)
-    with pytest.raises(TypeError, match="order has names, and the jobs of the instance have none"):
+    with pytest.raises(TypeError, match="order has names, but the jobs of the instance have none"):
         pfs.Instance([[3]]).makespan(["table"])

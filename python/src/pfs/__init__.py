@@ -1,7 +1,7 @@
 """Permutation flow shops: makespans, bounds, NEH and iterated greedy.
 
-Each job runs on machine 0, then on machine 1, and so on to the last; all machines run the jobs in the same order. The
-makespan of an order is when its last job leaves the last machine.
+Each job runs on machine 0, then on machine 1, and so on; all machines run the jobs in the same order. The makespan of
+an order is the time at which its last job leaves the last machine.
 
 Jobs, machines and places count from 0, as arrays do; in files jobs count from 1.
 
@@ -11,7 +11,7 @@ Jobs, machines and places count from 0, as arrays do; in files jobs count from 1
 >>> best.makespan, shop.bound()
 (1278, 1232)
 
-What the functions compute is done by the library ``libpfs``, whose answers are proved for each input.
+The library ``libpfs`` does the computing. Its results are proved correct for every input.
 """
 from pfs._all import solve_all
 from pfs._faults import Fault, FileFault, Interrupted, InterruptedAll, OrderFault, TableFault

@@ -1,4 +1,4 @@
-"""A lower bound that no proof is for: it is computed in Python, and tested."""
+"""A lower bound that is computed in Python. It is tested, not proved."""
 from __future__ import annotations
 
 import itertools
@@ -7,19 +7,21 @@ from typing import TYPE_CHECKING
 import numpy as np
 
 if TYPE_CHECKING:
-    from pfs._given import Order
+    from pfs._validate import Order
 
 
 def bound_by_pairs(times: Order) -> int:
-    """The greatest bound over all pairs of machines (Lageweg, Lenstra and Rinnooy Kan 1978): the shortest time of the
-    two, if the others were free for all jobs at once, with the least times before and after them.
+    """Return the greatest two-machine bound over all pairs of machines (Lageweg, Lenstra and Rinnooy Kan 1978).
+
+    The bound of a pair is the least makespan on these two machines, if the other machines could process all jobs at
+    once, plus the least times before the first machine and after the second.
 
     Examples
     --------
     >>> bound_by_pairs(np.array([[3, 2], [2, 5], [4, 1]]))
     10
     """
-    # What each job needs before each machine, and before the end of it.
+    # The time that each job needs before it starts, and before it ends, on each machine.
     ends = times.cumsum(axis=1)
     starts = ends - times
     best = int(ends[:, -1].max())
@@ -31,8 +33,9 @@ def bound_by_pairs(times: Order) -> int:
 
 
 def two_machines(first: Order, lags: Order, second: Order) -> int:
-    """The shortest makespan of two machines where each job waits for its lag between them (Mitten 1959): the order is
-    Johnson's (1954), with the lag added to both times.
+    """Return the least makespan on two machines with a time lag between them for each job (Mitten 1959).
+
+    The order is Johnson's (1954), with the lag added to both times.
 
     Examples
     --------

@@ -14,9 +14,9 @@ import re
 import sys
 from typing import TYPE_CHECKING, Any, NamedTuple
 
-from pfs._given import whole
+from pfs._atomic import atomic_write
 from pfs._names import amount, shown
-from pfs._whole import write_whole
+from pfs._validate import checked_int
 
 if TYPE_CHECKING:
     from pfs._schedule import Schedule
@@ -59,14 +59,14 @@ class Frame(NamedTuple):
     def checked(self) -> Frame:
         """The same, if each is of its kind and within its limits."""
         if isinstance(self.width, bool) or not isinstance(self.width, (int, float)):
-            raise TypeError(f"width should be inches, not {self.width!r}")
+            raise TypeError(f"width must be a number of inches, not {self.width!r}")
         if not 2 <= self.width <= 100:
-            raise ValueError(f"width is {self.width}, and should be 2 to 100 inches")
+            raise ValueError(f"width must be from 2 to 100 inches, not {self.width}")
         if not isinstance(self.title, (bool, str)):
-            raise TypeError(f"title should be True, False or a text, not {self.title!r}")
+            raise TypeError(f"title must be True, False or a text, not {self.title!r}")
         if self.ax is not None and not hasattr(self.ax, "broken_barh"):
-            raise TypeError(f"ax should be axes of matplotlib, not {self.ax!r}")
-        return self._replace(dpi=whole(self.dpi, "dpi", 20, 2_400))
+            raise TypeError(f"ax must be matplotlib axes, not {self.ax!r}")
+        return self._replace(dpi=checked_int(self.dpi, "dpi", 20, 2_400))
 
 
 def svg_of(schedule: Schedule) -> str | None:
@@ -97,7 +97,7 @@ def plot(schedule: Schedule, path: str | os.PathLike[str] | None, critical: bool
     table = _gantt.Table([job + 1 for job in schedule.order.tolist()], schedule.starts, schedule.ends, jobs, machines)
     if ending == "html":
         assert path is not None
-        write_whole(path, page_of(table, look, shown(shop.name)).encode("utf-8"))
+        atomic_write(path, page_of(table, look, shown(shop.name)).encode("utf-8"))
         return None
     return drawn(table, look, path, ending, frame)
 
@@ -141,7 +141,7 @@ def drawn(table: _gantt.Table, look: _gantt.Look, path: str | os.PathLike[str] |
                 axes = frame.ax or figure.axes[0]
                 axes.set_title(shown(frame.title), parse_math=False)
             if path is not None:
-                write_whole(path, _gantt.picture_of(figure, str(ending), look))
+                atomic_write(path, _gantt.picture_of(figure, str(ending), look))
             return figure
     finally:
         logger.setLevel(level)

@@ -120,7 +120,7 @@ def searched(search: Search, rounds: int, seconds: float | None, stop: Stop,
             if count == 0:
                 return best, None
             begun = time.perf_counter()
-            search.go_on(count)
+            search.run_rounds(count)
             pace.took(count, time.perf_counter() - begun)
             best = search.solution()
     except (OSError, MemoryError) as fault:

@@ -1,4 +1,4 @@
-"""What is wrong with a file, and an interrupted search."""
+"""Exceptions for invalid files and interrupted searches."""
 from __future__ import annotations
 
 from typing import TYPE_CHECKING, Any
@@ -27,7 +27,7 @@ ORDER_FAULTS = {
 
 
 class Fault(ValueError):
-    """What is wrong with a file, and where.
+    """A file is invalid.
 
     Attributes
     ----------
@@ -38,10 +38,10 @@ class Fault(ValueError):
     name : str
         The fault's name, such as ``"truncated"``.
     place : int
-        The number that the fault holds: an offset counts bytes from 0, lines and places count from 1; 0 where the
-        fault holds none.
+        The number in the text of the fault, or 0 if there is none. An offset counts bytes from 0; lines and places
+        count from 1.
     text : str
-        What the program ``pfs`` prints for it.
+        The line that the program ``pfs`` prints for the fault.
     """
 
     def __init__(self, path: str, number: int, place: int) -> None:
@@ -57,17 +57,17 @@ class Fault(ValueError):
 
 
 class FileFault(Fault):
-    """An instance file isn't as its layout says.
+    """An instance file doesn't follow its layout.
 
     Attributes
     ----------
     line : int
-        The line of the fault, counted from 1; of a file that ends too early its last one, and 0 of one that is too
+        The line of the fault, counted from 1. It is the last line if the file ends too early, and 0 if the file is too
         long.
     column : int
-        The byte of the line at which the fault is, counted from 1; 0 where the whole line is wrong.
+        The byte of the line at which the fault is, counted from 1, or 0 for the whole line.
     hint : str
-        What may be wrong with the file, in words; empty where nothing can be said.
+        A probable cause of the fault, or an empty text.
     """
 
     def __init__(self, path: str, number: int, place: int, line: int = 0, column: int = 0, hint: str = "") -> None:
@@ -81,20 +81,20 @@ class FileFault(Fault):
 
 
 class OrderFault(Fault):
-    """A file isn't an order file, or its order isn't one of all jobs."""
+    """A file isn't an order file, or its order isn't an order of all jobs."""
 
 
 class TableFault(ValueError):
-    """A table of times (:func:`pfs.read_csv`) can't be read.
+    """A table of times (:func:`pfs.read_csv`) is invalid.
 
     Attributes
     ----------
     path : str
         The file.
     line, column : int
-        Where, counted from 1; the column counts cells, and is 0 where the whole line is wrong.
+        The position of the fault, counted from 1. The column counts cells, and is 0 for the whole line.
     text : str
-        What is wrong.
+        What is wrong, and what to do.
     """
 
     def __init__(self, path: str, line: int, column: int, text: str) -> None:
@@ -109,12 +109,12 @@ class TableFault(ValueError):
 
 
 class Interrupted(KeyboardInterrupt):
-    """A search was interrupted. It is a ``KeyboardInterrupt``, and caught as one.
+    """A search was interrupted, usually by Ctrl-C. It is a ``KeyboardInterrupt``.
 
     Attributes
     ----------
     solution : Solution
-        The best order so far. ``solve(.., start=solution.order, first=solution.rounds)`` goes on from it.
+        The best order so far. Continue with ``solve(.., start=solution, first=solution.rounds)``.
     """
 
     def __init__(self, solution: Solution) -> None:
@@ -126,13 +126,13 @@ class Interrupted(KeyboardInterrupt):
 
 
 class InterruptedAll(KeyboardInterrupt):
-    """The searches of :func:`pfs.solve_all` were interrupted. It is a ``KeyboardInterrupt``, and caught as one.
+    """The searches of :func:`pfs.solve_all` were interrupted, usually by Ctrl-C. It is a ``KeyboardInterrupt``.
 
     Attributes
     ----------
     found : dict
-        For each place of an instance and seed the best solution so far, where there is one. The same call with
-        ``found=stop.found`` makes the searches that are left.
+        The best solution so far for each ``(i, seed)``, where ``i`` is the index of an instance. The same call with
+        ``found=stop.found`` runs the searches that are left.
     """
 
     def __init__(self, found: dict[tuple[int, int], Solution]) -> None:

@@ -1,4 +1,4 @@
-"""Instances from files, generators and tables, and order files."""
+"""Instances from files, from Taillard's generator and from pandas, and order files."""
 from __future__ import annotations
 
 import contextlib
@@ -16,17 +16,17 @@ import numpy as np
 
 from pfs import _library as c
 from pfs._faults import INSTANCE_FAULTS, ORDER_FAULTS, FileFault, OrderFault
-from pfs._given import Order, layout_of, whole
 from pfs._hints import EXTRA_NUMBER, MACHINE_NUMBER, NUMBER_LINE, TRUNCATED, hint_of, where
 from pfs._instance import Instance
 from pfs._names import is_frame
 from pfs._solution import Solution
+from pfs._validate import Order, checked_int, layout_number
 
 Source: TypeAlias = "str | os.PathLike[str] | IO[bytes]"
 
 
 def bytes_of(source: Source, most: int) -> tuple[bytes, str]:
-    """Return the bytes of a file, at most one more than `most`, and its name."""
+    """Return the content of a file, at most one byte more than `most`, and its name."""
     if hasattr(source, "read"):
         return read_up_to(source.read, most + 1), str(getattr(source, "name", ""))
     with open(source, "rb") as file:
@@ -34,15 +34,15 @@ def bytes_of(source: Source, most: int) -> tuple[bytes, str]:
 
 
 def read_up_to(read_some: Callable[[int], bytes | None], most: int) -> bytes:
-    """Read a file to its end, or the first `most` bytes. A read of an unbuffered pipe may return fewer bytes than it
-    was called with, also before the end."""
+    """Return the content of a file, at most `most` bytes. A read of an unbuffered pipe may return fewer bytes than
+    requested, even before the end."""
     text = bytearray()
     while len(text) < most:
         part = read_some(most - len(text))
         if part is None:
-            raise BlockingIOError("the file has no bytes yet, and doesn't wait for them")
+            raise BlockingIOError("the file is non-blocking and has no data yet: use a blocking one")
         if not isinstance(part, bytes):
-            raise TypeError("the file should be opened in binary mode")
+            raise TypeError("the file must be opened in binary mode")
         if not part:
             break
         text += part
@@ -50,10 +50,10 @@ def read_up_to(read_some: Callable[[int], bytes | None], most: int) -> bytes:
 
 
 def block_of(text: bytes, path: str, layout: int, block: int, start: int = 0) -> Instance:
-    """Read a block of a file from this offset on."""
+    """Return a block of a file, counted from the offset `start`."""
     jobs, machines, place, notes = c_size_t(), c_size_t(), c_uint64(), c.Notes()
     length = len(text) - start
-    # Each time has a digit, and all but the last a byte after it.
+    # Each time takes at least two bytes, except the last, which may take one.
     times = np.empty(min(length // 2 + 1, c.MOST_JOBS * c.MOST_MACHINES), dtype=np.uint32)
     address = cast(c_char_p(text), c_void_p).value or 0
     number = c.library.pfs_read(address + start, length, layout, block, byref(jobs), byref(machines), byref(notes),
@@ -66,7 +66,7 @@ def block_of(text: bytes, path: str, layout: int, block: int, start: int = 0) ->
 
 
 def fault_of(text: bytes, path: str, layout: int, number: int, place: int, start: int) -> FileFault:
-    """A fault of a file that was read from its start, with its line and a hint; one that wasn't has neither."""
+    """Return a fault, with its line and a hint if the file was read from its start."""
     if start:
         return FileFault(path, number, place)
     line, column = where(text, number, place)
@@ -75,7 +75,7 @@ def fault_of(text: bytes, path: str, layout: int, number: int, place: int, start
 
 
 def start_of_fault(text: bytes, layout: int) -> int:
-    """Where the first block begins that can't be read."""
+    """Return the offset of the first block that is invalid."""
     start, numbers = 0, 2 if layout == c.LAYOUTS["orlib"] else 1
     for _ in range(c.MOST_BLOCKS):
         jobs, machines, place, notes = c_size_t(), c_size_t(), c_uint64(), c.Notes()
@@ -88,20 +88,20 @@ def start_of_fault(text: bytes, layout: int) -> int:
     return start
 
 
-# The title of a block in OR-Library's files. Its last word is the name, if there is a letter in it.
+# The title of a block in OR-Library's files. Its last word is the name, if it contains a letter.
 TITLE = re.compile(rb"^[ \t]*instance[ \t]+(\S*[a-zA-Z]\S*)[ \t\r]*$", re.MULTILINE | re.IGNORECASE)
 
 
 def title_of(text: bytes, start: int) -> str:
-    """The name in the last title before the size line of the block that begins here; empty where there is none."""
+    """Return the name in the last title before the size line of the block at `start`, or an empty text."""
     size_line = NUMBER_LINE.search(text, start)
     titles: list[bytes] = TITLE.findall(text, start, size_line.start() if size_line else len(text))
     return titles[-1].decode("utf-8", "replace") if titles else ""
 
 
 def end_of_block(text: bytes, start: int, numbers: int) -> int:
-    """Return where the next block begins: after the line with the last number of this one, which has a size line and
-    then as many numbers. The library has read the block, so its lines are as they should be."""
+    """Return the offset of the next block. A block has a size line and then `numbers` numbers, and ends with the line
+    of the last one. The library has read this block before, so it is valid."""
     size_line = NUMBER_LINE.search(text, start)
     assert size_line is not None
     at, is_inside = size_line.end(), False
@@ -116,7 +116,7 @@ def end_of_block(text: bytes, start: int, numbers: int) -> int:
 
 
 def blocks_of(text: bytes, path: str, layout: int) -> list[Instance]:
-    """Read the blocks before the first fault, each from the end of the one before it."""
+    """Return the blocks before the first fault. Each is read from the end of the one before it."""
     shops: list[Instance] = []
     start, numbers = 0, 2 if layout == c.LAYOUTS["orlib"] else 1
     with contextlib.suppress(FileFault):
@@ -131,7 +131,7 @@ def blocks_of(text: bytes, path: str, layout: int) -> list[Instance]:
 
 
 def read(source: Source, layout: str, block: int = 1) -> Instance:
-    """Reads an instance file.
+    """Read an instance file.
 
     Parameters
     ----------
@@ -140,7 +140,7 @@ def read(source: Source, layout: str, block: int = 1) -> Instance:
     layout : str
         ``"taillard"`` or ``"orlib"``.
     block : int
-        Which of its instances, counted from 1.
+        The number of the block to read, counted from 1.
 
     Returns
     -------
@@ -149,9 +149,9 @@ def read(source: Source, layout: str, block: int = 1) -> Instance:
     Raises
     ------
     FileFault
-        The file isn't as its layout says.
+        If the file doesn't follow its layout.
     OSError
-        It can't be read.
+        If the file can't be read.
 
     Examples
     --------
@@ -165,13 +165,13 @@ def read(source: Source, layout: str, block: int = 1) -> Instance:
     Traceback (most recent call last):
     pfs._faults.FileFault: wrong machine number at 16
     """
-    number, block = layout_of(layout), whole(block, "block", 1, c.MOST_BLOCKS)
+    number, block = layout_number(layout), checked_int(block, "block", 1, c.MOST_BLOCKS)
     text, path = bytes_of(source, c.LONGEST_INPUT)
     return block_of(text, path, number, block)
 
 
 def read_all(source: Source, layout: str) -> list[Instance]:
-    """Reads each instance of a file, to its end.
+    """Read all instances of a file.
 
     Parameters
     ----------
@@ -183,13 +183,13 @@ def read_all(source: Source, layout: str) -> list[Instance]:
     Returns
     -------
     list of Instance
-        One at least, and 1,000 at most. The name of each is the last word of the last line ``instance NAME`` before its
-        size line, as OR-Library's files have it; else the file's name and the number of the block.
+        One at least, and 1,000 at most. An instance is named by the last line ``instance NAME`` before its size line,
+        as in OR-Library's files, or else by the name of the file and the number of the block.
 
     Raises
     ------
     FileFault
-        The file isn't as its layout says, or has no instance.
+        If the file doesn't follow its layout, or has no instance.
 
     Examples
     --------
@@ -197,12 +197,12 @@ def read_all(source: Source, layout: str) -> list[Instance]:
     >>> pfs.read_all(io.BytesIO(b"1 1\\n0 7\\n2 1\\n0 3 0 4\\n"), "orlib")
     [<Instance 1: 1 jobs, 1 machines>, <Instance 2: 2 jobs, 1 machines>]
     """
-    number = layout_of(layout)
+    number = layout_number(layout)
     text, path = bytes_of(source, c.LONGEST_INPUT)
     shops = blocks_of(text, path, number)
     if len(shops) < c.MOST_BLOCKS:
         try:
-            # From the start of the file, so that the fault has the right place.
+            # Read from the start of the file, so that the offset of the fault is right.
             block_of(text, path, number, len(shops) + 1)
         except FileFault as fault:
             if fault.number != c.NO_BLOCK or not shops:
@@ -211,7 +211,7 @@ def read_all(source: Source, layout: str) -> list[Instance]:
 
 
 def read_order(source: Source) -> Solution:
-    """Reads an order file, of version 1 or 2.
+    """Read an order file, of version 1 or 2.
 
     Parameters
     ----------
@@ -221,12 +221,12 @@ def read_order(source: Source) -> Solution:
     Returns
     -------
     Solution
-        The order, in which jobs count from 0, and the makespan that the file states, right or wrong.
+        The order, in which jobs count from 0, and the makespan that the file states, which isn't checked.
 
     Raises
     ------
     OrderFault
-        It isn't an order file, or its order isn't one of all jobs.
+        If it isn't an order file, or its order isn't an order of all jobs.
 
     Examples
     --------
@@ -245,32 +245,32 @@ def read_order(source: Source) -> Solution:
     return Solution(order[:jobs.value], makespan.value, 0, machines.value)
 
 
-# What may stand around and between the numbers of a list.
+# A list of numbers, perhaps in brackets, and the separators between them.
 LIST = re.compile(r"\s*[\[({]?\s*([0-9]+(?:\s*[,;]\s*[0-9]+|\s+[0-9]+)*)\s*[,;]?\s*[\])}]?\s*\Z", re.ASCII)
 MOST_DIGITS = 20
 
 
 def parse_order(text: str, first: int = 0) -> Order:
-    """Reads an order from a text, such as a line of a paper's table.
+    """Read an order from a text, such as a line of a table in a paper.
 
     Parameters
     ----------
     text : str
-        The jobs, with commas, semicolons or blanks between them, and perhaps in brackets: ``"2, 1, 3"``.
+        The jobs, separated by commas, semicolons or blanks, and optionally in brackets: ``"2, 1, 3"``.
     first : int
-        The number of the first job there, 0 or 1; a paper's is mostly 1.
+        The number of the first job in the text, 0 or 1. In most papers it is 1.
 
     Returns
     -------
     numpy.ndarray
-        The jobs, counted from 0, of int64.
+        The jobs, counted from 0, as int64.
 
     Raises
     ------
     TypeError
-        The text isn't a str, or ``first`` isn't a whole number.
+        If the text isn't a str, or ``first`` isn't an integer.
     ValueError
-        The text isn't a list of numbers, or the jobs aren't those from ``first`` on, each once.
+        If the text isn't a list of numbers, or doesn't have each job from ``first`` exactly once.
 
     Examples
     --------
@@ -282,40 +282,40 @@ def parse_order(text: str, first: int = 0) -> Order:
     10
     """
     if not isinstance(text, str):
-        raise TypeError(f"text should be a str, not {text!r}")
-    first = whole(first, "first", 0, 1)
+        raise TypeError(f"text must be a str, not {text!r}")
+    first = checked_int(first, "first", 0, 1)
     match = LIST.match(text)
     if not match:
         raise ValueError(f"{text[:60]!r} isn't a list of whole numbers")
     words = re.findall("[0-9]+", match[1])
     if len(words) > c.MOST_JOBS:
-        raise ValueError(f"the list has {len(words):,} jobs: there may be 1 to {c.MOST_JOBS:,}")
+        raise ValueError(f"the list has {len(words):,} jobs, but at most {c.MOST_JOBS:,} are allowed")
     order: list[int] = []
-    stood: dict[int, int] = {}
+    places: dict[int, int] = {}
     for place, word in enumerate(words):
         job = int(word[:MOST_DIGITS]) - first
         if len(word) > MOST_DIGITS or not 0 <= job < len(words):
             raise ValueError(f"{word[:MOST_DIGITS]} at place {place} isn't a job: the {len(words)} jobs are {first} to "
                              f"{len(words) - 1 + first}")
-        if stood.setdefault(job, place) != place:
-            raise ValueError(f"job {word} stands at place {stood[job]} and again at place {place}")
+        if places.setdefault(job, place) != place:
+            raise ValueError(f"job {word} occurs twice, at places {places[job]} and {place}")
         order.append(job)
     return np.array(order, dtype=np.int64)
 
 
 def from_frame(frame: Any, *, unit: str = "", decimals: int = 0) -> Instance:
-    """Makes an instance of a table of pandas.
+    """Make an instance from a pandas DataFrame.
 
     Parameters
     ----------
     frame : pandas.DataFrame
-        A row for each job and a column for each machine; its index and its columns are the names, unless they count
+        A row for each job and a column for each machine. The index and the columns are the names, unless they count
         from 0.
     unit : str
         The unit of the times, such as ``"min"``.
     decimals : int
-        0 to 9. The times are 10 to this power times those of the frame, which may have as many decimals: 2.5 with 1
-        decimal is the time 25.
+        The number of decimals of the times in the frame, 0 to 9. The times of the instance are integers: with 1
+        decimal, 2.5 becomes 25.
 
     Returns
     -------
@@ -324,9 +324,9 @@ def from_frame(frame: Any, *, unit: str = "", decimals: int = 0) -> Instance:
     Raises
     ------
     TypeError
-        It isn't a frame, or has other things than numbers.
+        If it isn't a DataFrame, or has values that aren't numbers.
     ValueError
-        A time is missing, has more decimals or is out of its limits, or a name stands there twice.
+        If a time is missing, has more decimals or is out of range, or a name occurs twice.
 
     Examples
     --------
@@ -337,11 +337,11 @@ def from_frame(frame: Any, *, unit: str = "", decimals: int = 0) -> Instance:
     ([[30, 25], [20, 50]], ('table', 'chair'), ('saw', 'drill'))
     """
     if not is_frame(frame):
-        raise TypeError(f"frame should be a DataFrame of pandas, not of the kind {type(frame).__name__}")
-    decimals = whole(decimals, "decimals", 0, 9)
+        raise TypeError(f"frame must be a pandas DataFrame, not {type(frame).__name__}")
+    decimals = checked_int(decimals, "decimals", 0, 9)
     if decimals and all(kind.kind in "iuf" for kind in frame.dtypes):
         scaled = frame.to_numpy(dtype=np.float64) * 10**decimals
-        # A float is next to the decimal that it stands for.
+        # A float may differ slightly from the decimal that it represents.
         with np.errstate(invalid="ignore"):
             scaled = np.where(np.abs(scaled - np.rint(scaled)) <= 1e-6, np.rint(scaled), scaled)
         frame = type(frame)(scaled, index=frame.index, columns=frame.columns)
@@ -349,12 +349,12 @@ def from_frame(frame: Any, *, unit: str = "", decimals: int = 0) -> Instance:
 
 
 def generate(jobs: int, machines: int, seed: int) -> Instance:
-    """Draws times from 1 to 99, as Taillard (1993) does for his benchmark.
+    """Generate an instance with Taillard's generator (1993), which draws times from 1 to 99.
 
     Parameters
     ----------
     jobs, machines : int
-        How many there are.
+        The number of jobs and of machines.
     seed : int
         1 to 2,147,483,646.
 
@@ -368,9 +368,9 @@ def generate(jobs: int, machines: int, seed: int) -> Instance:
     >>> pfs.generate(5, 1, 873654221).times.ravel().tolist()
     [54, 83, 15, 71, 77]
     """
-    jobs = whole(jobs, "jobs", 1, c.MOST_JOBS)
-    machines = whole(machines, "machines", 1, c.MOST_MACHINES)
-    seed = whole(seed, "seed", 1, c.MOST_GENERATOR_SEED)
+    jobs = checked_int(jobs, "jobs", 1, c.MOST_JOBS)
+    machines = checked_int(machines, "machines", 1, c.MOST_MACHINES)
+    seed = checked_int(seed, "seed", 1, c.MOST_GENERATOR_SEED)
     times = np.empty((jobs, machines), dtype=np.uint32)
     c.done(c.library.pfs_generate(jobs, machines, seed, times.ctypes.data, times.size))
     return Instance(times, seed=seed)
@@ -378,25 +378,25 @@ def generate(jobs: int, machines: int, seed: int) -> Instance:
 
 @functools.cache
 def taillard_rows() -> tuple[tuple[str, int, int, int, int], ...]:
-    """Taillard's instances: name, jobs, machines, seed and published lower bound of each."""
+    """Return the name, jobs, machines, seed and published lower bound of each of Taillard's instances."""
     return tuple((name, int(jobs), int(machines), int(seed), int(lower))
                  for name, jobs, machines, seed, lower in rows_in("taillard.csv"))
 
 
 @functools.cache
 def best_known() -> dict[str, int]:
-    """The best known makespan of each of Taillard's instances."""
+    """Return the best known makespan of each of Taillard's instances."""
     return {name: int(makespan) for name, makespan, _ in rows_in("best_known.csv")}
 
 
 def rows_in(name: str) -> list[list[str]]:
-    """The rows of a table in the package, without its head."""
+    """Return the rows of a table in the package, without its header."""
     text = importlib.resources.files("pfs").joinpath(name).read_text("utf-8")
     return list(csv.reader(io.StringIO(text)))[1:]
 
 
 def taillard(number: int) -> Instance:
-    """One of the 120 permutation flow shops of Taillard's benchmark (1993).
+    """Return one of the 120 permutation flow shop instances of Taillard's benchmark (1993).
 
     Parameters
     ----------
@@ -406,13 +406,13 @@ def taillard(number: int) -> Instance:
     Returns
     -------
     Instance
-        With its seed, in ``lower`` the published lower bound, and in ``upper`` the best known makespan (Taillard's list
-        of best known bounds). Both are published numbers that nothing here proves.
+        The instance, with its seed. ``lower`` is the published lower bound, and ``upper`` the best known makespan
+        (Taillard's list of best known bounds). Both are published numbers; they aren't proved here.
 
     Raises
     ------
     TypeError, ValueError
-        The number isn't a whole number of these.
+        If the number isn't an integer from 1 to 120.
 
     Examples
     --------
@@ -421,5 +421,5 @@ def taillard(number: int) -> Instance:
     >>> shop, shop.lower, shop.upper
     (<Instance ta001: 20 jobs, 5 machines>, 1232, 1278)
     """
-    name, jobs, machines, seed, lower = taillard_rows()[whole(number, "number", 1, 120) - 1]
+    name, jobs, machines, seed, lower = taillard_rows()[checked_int(number, "number", 1, 120) - 1]
     return Instance(generate(jobs, machines, seed).times, name=name, seed=seed, lower=lower, upper=best_known()[name])

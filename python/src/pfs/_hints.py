@@ -1,11 +1,11 @@
-"""Where the fault of an instance file is, and what may be wrong, in words."""
+"""The position of a fault in an instance file, and a hint at its cause."""
 from __future__ import annotations
 
 import re
 
 from pfs import _library as c
 
-# A line of numbers alone. The first one of a block is its size line.
+# A line that has only numbers. The first one of a block is its size line.
 NUMBER_LINE = re.compile(rb"^[ \t\r]*[0-9][0-9 \t\r]*$", re.MULTILINE)
 
 SIZE_COUNT, SIZE_RANGE, MIXED_LINE, TIME_RANGE, MACHINE_NUMBER, EXTRA_NUMBER, TRUNCATED, TOO_LONG = range(21, 29)
@@ -14,7 +14,7 @@ NUMBERS_OF_SIZE = {c.LAYOUTS["taillard"]: 5, c.LAYOUTS["orlib"]: 2}
 
 
 def where(text: bytes, number: int, place: int) -> tuple[int, int]:
-    """The line and the column of a fault.
+    """Return the line and the column of a fault.
 
     Examples
     --------
@@ -29,34 +29,34 @@ def where(text: bytes, number: int, place: int) -> tuple[int, int]:
 
 
 def hint_of(text: bytes, number: int, layout: int, start: int, line: int) -> str:
-    """What may be wrong with the block that begins at `start`, whose fault is in this line."""
+    """Return a hint for a fault in this line, of the block that begins at `start`."""
     if number == SIZE_COUNT:
         return hint_of_size(text, layout, line)
     if number == SIZE_RANGE:
         return (f"a block has 1 to {c.MOST_JOBS:,} jobs and 1 to {c.MOST_MACHINES} machines, and the notes are at most "
                 f"{c.MOST_NOTE:,}")
     if number == MIXED_LINE:
-        return "a line of times has numbers alone: no words, and no numbers with a sign or a decimal point"
+        return "a line of times has only digits and blanks: no words, signs or decimal points"
     if number == TIME_RANGE:
         return f"times are 0 to {c.LONGEST_TIME:,}"
     if number == c.NO_BLOCK:
-        return "no line has numbers alone, and so none is a size line" if not NUMBER_LINE.search(text) else ""
+        return "the file has no size line: no line consists of numbers alone" if not NUMBER_LINE.search(text) else ""
     return hint_of_rows(text, layout, start, line) if number in (MACHINE_NUMBER, EXTRA_NUMBER, TRUNCATED) else ""
 
 
 def hint_of_size(text: bytes, layout: int, line: int) -> str:
-    """Of a size line with a wrong count. The line before it may be the one that was meant."""
+    """Return a hint for a size line with a wrong count. The line before it may be the intended one."""
     lines = text.split(b"\n")
     count, due = len(lines[line - 1].split()), NUMBERS_OF_SIZE[layout]
     if line > 1 and re.match(rb"[ \t]*[0-9]+[ \t]+[0-9]+\b.*[^0-9 \t\r]", lines[line - 2]):
-        return f"line {line - 1} has words beside its numbers, so it isn't read as a size line"
+        return f"line {line - 1} has words next to its numbers, so it isn't read as a size line"
     other = next((name for name, own in c.LAYOUTS.items() if own != layout and NUMBERS_OF_SIZE[own] == count), None)
-    told = f"the line has {count} numbers, and a size line {due}"
-    return f"{told}; that of the layout {other!r} has {count}" if other else told
+    hint = f"the line has {count} numbers, but a size line has {due}"
+    return f"{hint}; in the layout {other!r} it has {count}" if other else hint
 
 
 def hint_of_rows(text: bytes, layout: int, start: int, line: int) -> str:
-    """The first row of the block that has another count of numbers than the others should have."""
+    """Return a hint at the first row of the block with a wrong count of numbers."""
     size_line = NUMBER_LINE.search(text, start)
     if size_line is None:
         return ""
@@ -66,7 +66,7 @@ def hint_of_rows(text: bytes, layout: int, start: int, line: int) -> str:
     for number, row in enumerate(text.split(b"\n")[at:line], at + 1):
         count = len(row.split()) if NUMBER_LINE.match(row) else 0
         if count == machines != due and layout == c.LAYOUTS["orlib"]:
-            return f"line {number} has {count} numbers: perhaps times alone, and not pairs of machine and time"
+            return f"line {number} has {count} numbers: perhaps only times, instead of pairs of machine and time"
         if count not in (0, due):
-            return f"line {number} has {count} numbers, and a row of this block {due}"
+            return f"line {number} has {count} numbers, but a row of this block has {due}"
     return ""

@@ -1,4 +1,4 @@
-"""Instances, and what is asked of them."""
+"""The class `Instance`."""
 from __future__ import annotations
 
 import os
@@ -11,28 +11,28 @@ import numpy.typing as npt
 
 from pfs import _library as c
 from pfs import _search
+from pfs._atomic import atomic_write
 from pfs._bounds import bound_by_pairs
 from pfs._faults import Interrupted
-from pfs._given import (TRUTHS, Jobs, Order, copied, layout_of, order_of, packed, refused_jobs, times_of, whole,
-                        whole_numbers)
 from pfs._library import LENGTHS, SHORT, library
 from pfs._names import frame_names, is_frame, names_of
 from pfs._schedule import Schedule
 from pfs._search import Progress, Search, Stop
-from pfs._solution import Solution, order_given
-from pfs._whole import write_whole
+from pfs._solution import Solution, as_order
+from pfs._validate import (BOOLS, Jobs, Order, array_copy, as_uint32, as_uint32_bytes, checked_int, checked_order,
+                           checked_times, jobs_error, layout_number)
 
 _pfs_makespan = c.quick_makespan
 _pfs_insert = c.quick_insert
-# A named tuple is made three times as fast by it.
+# Three times as fast as calling the class of a named tuple.
 _new_tuple = tuple.__new__
-# Room for the results of a call, a place and a makespan, with their addresses. A call takes one and puts it back, so
-# that no two calls have the same, in whatever threads; where none is left it makes one.
+# Buffers for the results of a call: a place and a makespan, with their addresses. A call removes a buffer from this
+# list and appends it again when it is done, so no two threads use the same one.
 _free: list[tuple[c_size_t, c_uint64, Any, Any]] = []
 
 
-def _taken() -> tuple[c_size_t, c_uint64, Any, Any]:
-    """Room that no other call uses."""
+def _free_buffer() -> tuple[c_size_t, c_uint64, Any, Any]:
+    """Return a buffer that no other call uses, a new one if none is free."""
     try:
         return _free.pop()
     except IndexError:
@@ -41,7 +41,7 @@ def _taken() -> tuple[c_size_t, c_uint64, Any, Any]:
 
 
 class Place(NamedTuple):
-    """A place for a job, and the makespan that it comes to there."""
+    """A place for a job, and the makespan with the job there."""
 
     place: int
     makespan: int
@@ -57,27 +57,28 @@ class Instance:
         The processing times, a row for each of 1 to 5,000 jobs and a column for each of 1 to 200 machines: whole
         numbers of 0 to 1,000,000,000. They are copied.
     name : str
-        What it is called.
+        The name of the instance.
     job_names, machine_names : list of str, optional
-        Names for schedules and charts. A frame of pandas has them as its index and columns, unless these count from 0.
+        Names for schedules and charts. By default those of a pandas DataFrame are its index and columns, unless these
+        count from 0.
     unit : str
         The unit of the times, such as ``"min"``.
     decimals : int
-        How many digits of each time stand behind the decimal point in that unit, 0 to 9: with 1 a time 25 is 2.5.
+        The number of digits after the decimal point of each time in that unit, 0 to 9. With 1, a time of 25 is 2.5.
     seed, upper, lower : int
-        The notes of a size line in Taillard's layout. Nothing is computed from them.
+        The notes of a size line in Taillard's layout: the seed, an upper and a lower bound. :meth:`rpd` uses ``upper``.
 
     Attributes
     ----------
     times : numpy.ndarray
-        The times, of int64 and of the shape (jobs, machines), as an array that nothing writes to.
+        The times, a read-only array of int64 and of shape (jobs, machines).
     jobs, machines : int
-        How many there are.
+        The number of jobs and of machines.
 
     Raises
     ------
     TypeError, ValueError
-        The times are of another kind or shape, or one of them is out of its limits; the text says which.
+        If an argument is of the wrong type or shape, or out of range. The message says which.
 
     Examples
     --------
@@ -93,78 +94,79 @@ class Instance:
     10
     """
 
-    __slots__ = ("name", "job_names", "machine_names", "unit", "decimals", "seed", "upper", "lower", "_times", "_given",
-                 "_ready")
+    __slots__ = ("name", "job_names", "machine_names", "unit", "decimals", "seed", "upper", "lower", "_times",
+                 "_arguments", "_converted")
 
     def __init__(self, times: npt.ArrayLike, *, name: str = "", job_names: Iterable[str] | None = None,
                  machine_names: Iterable[str] | None = None, unit: str = "", decimals: int = 0, seed: int = 0,
                  upper: int = 0, lower: int = 0) -> None:
-        own = times_of(times)
+        own = checked_times(times)
         if is_frame(times):
             job_names = frame_names(times, "index") if job_names is None else job_names
             machine_names = frame_names(times, "columns") if machine_names is None else machine_names
-        # Nobody can write to `bytes`.
-        text = own.tobytes()
+        # An array over `bytes` can't be made writable.
+        data = own.tobytes()
         self._times: Order = np.frombuffer(own.astype(np.int64).tobytes(), dtype=np.int64).reshape(own.shape)
-        self._given: tuple[bytes, int, int, int] = (text, own.size, own.shape[0], own.shape[1])
-        self._ready = c.ready(self._given)
+        self._arguments: tuple[bytes, int, int, int] = (data, own.size, own.shape[0], own.shape[1])
+        self._converted = c.converted(self._arguments)
         self.name = str(name)
         self.job_names = names_of(job_names, self.jobs, "job_names")
         self.machine_names = names_of(machine_names, self.machines, "machine_names")
         self.unit = str(unit)
-        self.decimals = whole(decimals, "decimals", 0, 9)
-        self.seed = whole(seed, "seed", 0, c.MOST_NOTE)
-        self.upper = whole(upper, "upper", 0, c.MOST_NOTE)
-        self.lower = whole(lower, "lower", 0, c.MOST_NOTE)
+        self.decimals = checked_int(decimals, "decimals", 0, 9)
+        self.seed = checked_int(seed, "seed", 0, c.MOST_NOTE)
+        self.upper = checked_int(upper, "upper", 0, c.MOST_NOTE)
+        self.lower = checked_int(lower, "lower", 0, c.MOST_NOTE)
 
     @property
     def times(self) -> Order:
-        """The times, as an array of int64 that nothing writes to."""
+        """The times, a read-only array of int64."""
         return self._times
 
     @property
     def jobs(self) -> int:
-        """How many jobs there are."""
+        """The number of jobs."""
         return self._times.shape[0]
 
     @property
     def machines(self) -> int:
-        """How many machines there are."""
+        """The number of machines."""
         return self._times.shape[1]
 
     def __repr__(self) -> str:
         return f"<Instance {self.name + ': ' if self.name else ''}{self.jobs} jobs, {self.machines} machines>"
 
-    def _described(self) -> dict[str, Any]:
+    def _metadata(self) -> dict[str, Any]:
         names = ("name", "job_names", "machine_names", "unit", "decimals", "seed", "upper", "lower")
         return {name: getattr(self, name) for name in names}
 
     def __eq__(self, other: object) -> bool:
         if not isinstance(other, Instance):
             return NotImplemented
-        return self._given == other._given and self._described() == other._described()
+        return self._arguments == other._arguments and self._metadata() == other._metadata()
 
     def __hash__(self) -> int:
-        return hash(self._given)
+        return hash(self._arguments)
 
     def __reduce__(self) -> tuple[Any, ...]:
-        return _instance_of, (np.array(self.times), self._described())
+        return _instance_of, (np.array(self.times), self._metadata())
 
     def job_name(self, job: int) -> str:
-        """The name of a job; where it has none its number, counted from 0."""
+        """The name of a job, or its number, counted from 0, if jobs have no names."""
         return str(job) if self.job_names is None else self.job_names[job]
 
     def machine_name(self, machine: int) -> str:
-        """The name of a machine; where it has none its number, counted from 0."""
+        """The name of a machine, or its number, counted from 0, if machines have no names."""
         return str(machine) if self.machine_names is None else self.machine_names[machine]
 
     def makespan(self, order: Jobs) -> int:
-        """When the last job of a sequence leaves the last machine.
+        """Return the time at which the last job of an order leaves the last machine.
 
         Parameters
         ----------
-        order : array_like
-            Distinct jobs, counted from 0 or by their names: all of them or some; of none the makespan is 0.
+        order : array_like or Solution
+            Distinct jobs, by number from 0 or by name: an order of all jobs, or a partial sequence. The makespan of an
+            empty sequence is 0.
 
         Returns
         -------
@@ -173,30 +175,31 @@ class Instance:
         Raises
         ------
         TypeError, ValueError
-            It isn't a list of distinct jobs; the text says which and where.
+            If it isn't a list of distinct jobs. The message says which element is wrong.
         """
-        jobs, count = packed(order, "order", self.job_names)
-        found = _taken()
-        number = _pfs_makespan(*self._ready, jobs, LENGTHS[count] if count < SHORT else c_size_t(count), found[3])
+        jobs, count = as_uint32_bytes(order, "order", self.job_names)
+        found = _free_buffer()
+        number = _pfs_makespan(*self._converted, jobs, LENGTHS[count] if count < SHORT else c_size_t(count), found[3])
         if number:
-            raise refused_jobs(number, self.jobs, jobs)
+            raise jobs_error(number, self.jobs, jobs)
         makespan: int = found[1].value
         _free.append(found)
         return makespan
 
     def bound(self, method: str = "machines") -> int:
-        """A length of time below which no order's makespan goes.
+        """Return a lower bound on the makespan of all orders.
 
         Parameters
         ----------
         method : str
-            ``"machines"``: the greatest over the jobs of their totals, and over the machines of their loads with the
-            least times before and after them (Taillard 1993). The library computes it, and it is proved.
+            ``"machines"``: the greatest of the jobs' total times and of the machine-based bounds, each of which is the
+            load of a machine with the least times before and after it (Taillard 1993). The library computes it, and it
+            is proved.
 
-            ``"pairs"``: the greatest of that one and of those of two machines each, by Johnson's order with lags
-            (Johnson 1954, Mitten 1959; Lageweg, Lenstra and Rinnooy Kan 1978). It is computed in Python, and is
-            **not proved**, but tested against all orders of small shops. It takes a thousandth of a second for 20 jobs
-            on 5 machines, and minutes for 5,000 jobs on 200.
+            ``"pairs"``: the greatest of that bound and of the two-machine bounds of all pairs of machines, by Johnson's
+            order with lags (Johnson 1954, Mitten 1959; Lageweg, Lenstra and Rinnooy Kan 1978). It is computed in
+            Python. It is **not proved**, but tested against all orders of small instances. It takes about a millisecond
+            for 20 jobs on 5 machines, and minutes for 5,000 jobs on 200.
 
         Returns
         -------
@@ -205,7 +208,7 @@ class Instance:
         Raises
         ------
         TypeError, ValueError
-            The method isn't a text, or is another one.
+            If there is no such method.
 
         Examples
         --------
@@ -215,35 +218,35 @@ class Instance:
         (3480, 3527)
         """
         if not isinstance(method, str):
-            raise TypeError(f"method should be 'machines' or 'pairs', not {method!r}")
+            raise TypeError(f"method must be 'machines' or 'pairs', not {method!r}")
         if method not in ("machines", "pairs"):
-            raise ValueError(f"method is {method!r}, and should be 'machines' or 'pairs'")
+            raise ValueError(f"method must be 'machines' or 'pairs', not {method!r}")
         bound = c_uint64()
-        c.done(library.pfs_bound(*self._given, byref(bound)))
+        c.done(library.pfs_bound(*self._arguments, byref(bound)))
         return max(bound.value, bound_by_pairs(self._times)) if method == "pairs" else bound.value
 
     def rpd(self, makespan: int | Solution, reference: int | None = None) -> float:
-        """The relative percentage deviation of a makespan: by how many percent it is above a reference.
+        """Return the relative percentage deviation of a makespan from a reference.
 
         Parameters
         ----------
         makespan : int or Solution
             0 or more.
         reference : int, optional
-            A makespan of 1 or more; where it is left out ``upper``, which of Taillard's instances is the best known
-            makespan.
+            A makespan of 1 or more. The default is ``upper``, which is the best known makespan of an instance of
+            :func:`pfs.taillard`.
 
         Returns
         -------
         float
-            ``100 * (makespan - reference) / reference``; below 0 where the makespan is shorter.
+            ``100 * (makespan - reference) / reference``. It is negative if the makespan is less than the reference.
 
         Raises
         ------
         TypeError
-            One of the two isn't a whole number.
+            If one of the two isn't an integer.
         ValueError
-            One of them is out of its limits, or there is no reference: ``upper`` is 0.
+            If one of them is out of range, or there is no reference and ``upper`` is 0.
 
         Examples
         --------
@@ -252,40 +255,48 @@ class Instance:
         >>> round(shop.rpd(shop.neh()), 2)
         0.63
         """
-        own = whole(makespan.makespan if isinstance(makespan, Solution) else makespan, "makespan", 0, 2**64 - 1)
+        own = checked_int(makespan.makespan if isinstance(makespan, Solution) else makespan, "makespan", 0, 2**64 - 1)
         if reference is None and self.upper == 0:
-            raise ValueError("the instance has no reference: its `upper` is 0, so rpd needs one")
-        base = self.upper if reference is None else whole(reference, "reference", 1, 2**64 - 1)
+            raise ValueError("rpd needs a reference, since `upper` of the instance is 0")
+        base = self.upper if reference is None else checked_int(reference, "reference", 1, 2**64 - 1)
         return 100 * (own - base) / base
 
     def neh(self) -> Solution:
-        """The order of NEH (Nawaz, Enscore and Ham 1983): the jobs by decreasing total time, each put at its best
-        place, of equal ones the first.
+        """Return the order of NEH (Nawaz, Enscore and Ham 1983).
+
+        NEH sorts the jobs by decreasing total time and inserts each at its best place. Of equally good places it
+        chooses the first.
 
         Returns
         -------
         Solution
-            What ``pfs solve`` prints for no rounds.
+            The same order as ``pfs solve`` prints without rounds.
         """
         search = Search(self, None, 0, None, 0, 0)
         search.begin()
         return search.solution()
 
     def best_place(self, sequence: Jobs, job: int) -> Place:
-        """The best place of a job in a sequence of others.
+        """Return the best place for a job in a partial sequence.
 
         Parameters
         ----------
         sequence : array_like
             Distinct jobs, counted from 0.
         job : int
-            Another job.
+            The job to insert, which isn't in the sequence.
 
         Returns
         -------
         Place
-            ``place``, the first that gives the least makespan, and that ``makespan``. The job goes before the one that
-            stands at the place, or behind the last: ``sequence.insert(place, job)``.
+            ``place``, the first place with the least makespan, and this ``makespan``. Insert the job with
+            ``sequence.insert(place, job)``.
+
+        Raises
+        ------
+        TypeError, ValueError
+            If the sequence isn't a list of distinct jobs, or the job isn't another job. The message says which element
+            is wrong.
 
         Examples
         --------
@@ -293,41 +304,42 @@ class Instance:
         >>> pfs.Instance([[3, 2], [2, 5], [4, 1]]).best_place([0, 2], 1)
         Place(place=0, makespan=10)
         """
-        jobs, count = packed(sequence, "sequence")
-        if type(job) is not int or not 0 <= job < self._given[2]:
-            job = whole(job, "job", 0, self.jobs - 1)
-        found = _taken()
-        number = _pfs_insert(*self._ready, jobs, LENGTHS[count] if count < SHORT else c_size_t(count), job, found[2],
-                             found[3])
+        jobs, count = as_uint32_bytes(sequence, "sequence")
+        if type(job) is not int or not 0 <= job < self._arguments[2]:
+            job = checked_int(job, "job", 0, self.jobs - 1)
+        found = _free_buffer()
+        number = _pfs_insert(*self._converted, jobs, LENGTHS[count] if count < SHORT else c_size_t(count), job,
+                             found[2], found[3])
         if number:
-            fault = refused_jobs(number, self.jobs, jobs, "sequence")
+            fault = jobs_error(number, self.jobs, jobs, "sequence")
             if number == c.REPEATED and fault.args == (c.message(number),):
-                raise ValueError(f"job {job} stands in the sequence already")
+                raise ValueError(f"job {job} is already in the sequence")
             raise fault
         best = _new_tuple(Place, (found[0].value, found[1].value))
         _free.append(found)
         return best
 
     def places(self, sequence: Jobs, job: int) -> Order:
-        """The makespans with a job at each place of a sequence of others.
+        """Return the makespans for all places of a job in a partial sequence.
 
         Parameters
         ----------
         sequence : array_like
             Distinct jobs, counted from 0.
         job : int
-            Another job.
+            The job to insert, which isn't in the sequence.
 
         Returns
         -------
         numpy.ndarray
-            Of int64, one more than the sequence has jobs: at each place the makespan with the job before the one that
-            is there, and at the end with the job after the last. The first least one is that of :meth:`best_place`.
+            An array of int64 with ``len(sequence) + 1`` makespans: element ``p`` is the makespan after
+            ``sequence.insert(p, job)``. Its first minimum is the place that :meth:`best_place` returns.
 
         Raises
         ------
         TypeError, ValueError
-            The sequence isn't a list of distinct jobs, or the job isn't another one; the text says which and where.
+            If the sequence isn't a list of distinct jobs, or the job isn't another job. The message says which element
+            is wrong.
 
         Examples
         --------
@@ -335,34 +347,35 @@ class Instance:
         >>> pfs.Instance([[3, 2], [2, 5], [4, 1]]).places([0, 2], 1)
         array([10, 11, 14])
         """
-        jobs, count = packed(sequence, "sequence")
-        job = whole(job, "job", 0, self.jobs - 1)
+        jobs, count = as_uint32_bytes(sequence, "sequence")
+        job = checked_int(job, "job", 0, self.jobs - 1)
         spans = np.empty(min(count, self.jobs) + 1, dtype=np.int64)
-        number = library.pfs_insertions(*self._given, jobs, min(count, self.jobs), job, spans.ctypes.data, spans.size)
+        number = library.pfs_insertions(*self._arguments, jobs, min(count, self.jobs), job, spans.ctypes.data,
+                                        spans.size)
         if number:
-            fault = refused_jobs(number, self.jobs, jobs, "sequence")
+            fault = jobs_error(number, self.jobs, jobs, "sequence")
             if number == c.REPEATED and fault.args == (c.message(number),):
-                raise ValueError(f"job {job} stands in the sequence already")
+                raise ValueError(f"job {job} is already in the sequence")
             raise fault
         return spans
 
     def makespans(self, orders: npt.ArrayLike) -> Order:
-        """The makespans of many sequences of equal length, in one call.
+        """Return the makespans of many sequences of equal length, in one call.
 
         Parameters
         ----------
         orders : array_like
-            A row for each sequence, of distinct jobs counted from 0: all of them or some.
+            A row for each sequence, of distinct jobs, counted from 0: orders of all jobs, or partial sequences.
 
         Returns
         -------
         numpy.ndarray
-            Of int64, the makespan of each row.
+            An array of int64 with the makespan of each row.
 
         Raises
         ------
         TypeError, ValueError
-            It isn't a table of jobs, or a row isn't of distinct jobs; the text says which row.
+            If it isn't a table of jobs, or the jobs of a row aren't distinct. The message says which row is wrong.
 
         Examples
         --------
@@ -370,19 +383,19 @@ class Instance:
         >>> pfs.Instance([[3, 2], [2, 5], [4, 1]]).makespans([[0, 1, 2], [1, 0, 2]])
         array([11, 10])
         """
-        own = copied(orders, "orders")
+        own = array_copy(orders, "orders")
         if own.ndim != 2:
-            raise ValueError(f"orders should have a row for each sequence of jobs, not the shape {own.shape}")
+            raise ValueError(f"orders must have a row for each sequence of jobs, not the shape {own.shape}")
         if own.dtype.kind == "b":
-            raise TypeError("orders should be whole numbers, not of the kind bool")
-        jobs = whole_numbers(own, 2**32 - 1, "orders", "row {}, place {}", "isn't a job: they count from 0")
+            raise TypeError("orders must be whole numbers, not of dtype bool")
+        jobs = as_uint32(own, 2**32 - 1, "orders", "row {}, place {}", "isn't a job: jobs count from 0")
         rows = jobs.tobytes()
         spans = np.empty(len(jobs), dtype=np.int64)
-        number = library.pfs_makespans(*self._given, rows, jobs.size, jobs.shape[1], spans.ctypes.data, spans.size)
+        number = library.pfs_makespans(*self._arguments, rows, jobs.size, jobs.shape[1], spans.ctypes.data, spans.size)
         if number in (c.JOB, c.REPEATED):
             for row, sequence in enumerate(jobs):
-                if library.pfs_makespan(*self._given, sequence.tobytes(), len(sequence), byref(c_uint64())):
-                    raise refused_jobs(number, self.jobs, sequence.tobytes(), f"orders, row {row}")
+                if library.pfs_makespan(*self._arguments, sequence.tobytes(), len(sequence), byref(c_uint64())):
+                    raise jobs_error(number, self.jobs, sequence.tobytes(), f"orders, row {row}")
         c.done(number)
         return spans
 
@@ -390,59 +403,60 @@ class Instance:
               start: Jobs | None = None, first: int = 0, progress: Progress | None = None,
               time_limit: float | None = None, target: int | None = None, stop: Stop | None = None,
               history: bool = False) -> Solution:
-        """NEH's order, or another one, after rounds of iterated greedy (Ruiz and Stützle 2007).
+        """Improve an order by iterated greedy (Ruiz and Stützle 2007).
 
-        A round takes ``take`` jobs out, puts each back at its best place, makes ``passes`` passes, in each of which
-        every job leaves its place for its best one, and keeps the new order unless it is longer. The same options give
-        the same order, and the one that ``pfs solve`` prints.
+        A round removes ``take`` jobs, inserts each at its best place, and makes ``passes`` passes. In a pass each job
+        in turn is removed and inserted at its best place. The new order is kept unless its makespan is greater. The
+        same options give the same order on every machine, which is also the order that ``pfs solve`` prints.
 
         Parameters
         ----------
         rounds : int, optional
-            How many rounds are made; ``first + rounds`` is at most 1,000,000. Where it is left out: 1,000, or with a
-            time limit as many as there is time for. After round 1,000,000 of a seed the search continues then with
-            round 0 of the next seed, and ``seed`` of the solution says so.
+            The number of rounds. ``first + rounds`` is at most 1,000,000. The default is 1,000; with a time limit the
+            search runs until its end. Without ``rounds``, the search continues after round 1,000,000 of a seed with
+            round 0 of the next seed, which is then the ``seed`` of the solution.
         take : int, optional
-            The destruction size, 1 to the number of jobs; where it is left out 4, or all jobs of fewer.
+            The destruction size, 1 to the number of jobs. The default is 4, or the number of jobs if that is less.
         passes : int
-            0 to 100.
+            The number of passes per round, 0 to 100.
         seed : int
-            Any of 64 bits.
+            The seed of the random numbers, of 64 bits.
         start : array_like or Solution, optional
-            The order to begin with, by numbers or names of jobs; where it is left out NEH's.
+            The start order, by numbers or names of jobs. The default is the order of :meth:`neh`.
         first : int
-            The number of the first round, counted from 0: a search that was made up to there continues.
+            The number of the first round, counted from 0. Use it to continue an earlier search.
         progress : callable or tqdm, optional
-            Called after each part of about a tenth of a second with the rounds made so far and the makespan; the search
-            ends if it returns True. Or a progress bar, or its class, whose ``update`` is called with the rounds of the
-            part.
+            A function that is called about every tenth of a second with the number of rounds so far and the makespan.
+            If it returns True, the search ends. Or a progress bar, or its class, whose ``update`` is called with the
+            number of rounds since the last call.
         time_limit : float, optional
-            Seconds; the search ends between two parts.
+            The time limit in seconds. It is checked about every tenth of a second.
         target : int, optional
-            The search ends with the first round after which the makespan is at most this one. Where it is left out, a
-            search that ends by time alone has the target :meth:`bound`, and one of a number of rounds makes them all.
+            The search ends after the first round with a makespan of at most ``target``. By default a search that only
+            has a time limit ends at :meth:`bound`, and any other search makes all of its rounds.
         stop : threading.Event, optional
-            The search ends between two parts if its ``is_set()`` is true.
+            The search ends when the event is set. It is checked about every tenth of a second.
         history : bool
-            Note the round, the seconds and the makespan of each improvement in ``history`` of the solution, the start
-            order first. The rounds of a part that improves are made again to find them, so that a search takes up to
-            twice as long at its beginning. Rounds are exact; the seconds within a part are in proportion to them.
+            Record the round, the seconds and the makespan of each improvement in ``history`` of the solution, the start
+            order first. To find the exact round of an improvement some rounds are repeated, so the search may take up
+            to twice as long while it improves often. The seconds are interpolated.
 
         Returns
         -------
         Solution
-            ``cells`` are those of this call, and ``rounds`` is the round that would be next.
+            The best order. ``cells`` counts the cells of this call, and ``rounds`` is the number of the next round.
 
         Raises
         ------
         TypeError, ValueError
-            An option is of another kind or out of its limits, or ``start`` isn't an order of all jobs, or is a solution
+            If an option is of the wrong type or out of range, or ``start`` isn't an order of all jobs or is a solution
             for another number of machines. The exception has no attribute ``solution``.
         Interrupted
-            A ``KeyboardInterrupt`` whose ``solution`` is the best so far. A search in parts ends where one at once
-            does: ``solve(.., start=stop.solution, first=stop.solution.rounds)`` with the rounds that are left.
+            After Ctrl-C. It is a ``KeyboardInterrupt``, and its ``solution`` is the best so far. To continue, call
+            ``solve(.., start=stop.solution, first=stop.solution.rounds)`` with the rounds that are left. The result is
+            the same as without the interruption.
         Exception
-            What ``progress`` raises. Its attribute ``solution`` is the best so far.
+            If ``progress`` raises it. Its attribute ``solution`` is the best so far.
 
         Examples
         --------
@@ -458,73 +472,78 @@ class Instance:
         (True, 1278)
         """
         search = Search(self, start, first, take, passes, seed)
-        if type(history) not in TRUTHS:
-            raise TypeError(f"history should be True or False, not {history!r}")
+        if type(history) not in BOOLS:
+            raise TypeError(f"history must be True or False, not {history!r}")
         try:
             return _search.solve(search, rounds, progress, time_limit, target, stop, bool(history))
         except Interrupted:
             raise
         except KeyboardInterrupt:
-            # A second interruption, during the handling of the first one.
+            # A second interruption while the first one was being handled.
             raise Interrupted(search.solution()) from None
 
     def schedule(self, order: Jobs) -> Schedule:
-        """When each operation of an order starts and ends, each as early as it can.
+        """Return the schedule of an order, in which each operation starts as early as possible.
 
         Parameters
         ----------
         order : array_like or Solution
-            All jobs, counted from 0 or by their names.
+            An order of all jobs, by number from 0 or by name.
 
         Returns
         -------
         Schedule
+
+        Raises
+        ------
+        TypeError, ValueError
+            If it isn't an order of all jobs. The message says which element is wrong.
         """
-        jobs = order_of(order_given(order, self), self.jobs, "order", self.job_names)
+        jobs = checked_order(as_order(order, self), self.jobs, "order", self.job_names)
         starts = np.empty((self.jobs, self.machines), dtype=np.int64)
         ends = np.empty_like(starts)
-        number = library.pfs_table(*self._given, jobs, self.jobs, starts.ctypes.data, starts.size, ends.ctypes.data,
+        number = library.pfs_table(*self._arguments, jobs, self.jobs, starts.ctypes.data, starts.size, ends.ctypes.data,
                                    ends.size)
         if number:
-            raise refused_jobs(number, self.jobs, jobs)
+            raise jobs_error(number, self.jobs, jobs)
         own = np.frombuffer(jobs, dtype=np.uint32).astype(np.int64)
-        for made in (own, starts, ends):
-            made.setflags(write=False)
+        for result in (own, starts, ends):
+            result.setflags(write=False)
         return Schedule(self, own, starts, ends)
 
     def to_text(self, layout: str = "taillard") -> str:
-        """The instance as a file of one block.
+        """Return the text of an instance file with one block.
 
         Parameters
         ----------
         layout : str
-            ``"taillard"``, or ``"orlib"``, which leaves the notes out.
+            ``"taillard"``, or ``"orlib"``, which has no notes.
 
         Returns
         -------
         str
-            What ``pfs convert`` prints.
+            The same text as ``pfs convert`` prints.
         """
-        number = layout_of(layout)
+        number = layout_number(layout)
         notes = c.Notes(self.seed, self.upper, self.lower)
         length = c_size_t()
         text = create_string_buffer(256 + 16 * self.times.size + 8 * self.jobs)
-        c.done(library.pfs_write(*self._given, byref(notes), number, text, len(text), byref(length)))
+        c.done(library.pfs_write(*self._arguments, byref(notes), number, text, len(text), byref(length)))
         return text.raw[:length.value].decode("ascii")
 
     def write(self, path: str | os.PathLike[str], layout: str = "taillard") -> None:
-        """Writes the instance as a file of one block.
+        """Write an instance file with one block.
 
         Parameters
         ----------
         path : str or os.PathLike
-            The file. It is replaced as a whole.
+            The file. An existing file is replaced atomically.
         layout : str
-            ``"taillard"``, or ``"orlib"``, which leaves the notes out.
+            ``"taillard"``, or ``"orlib"``, which has no notes.
         """
-        write_whole(path, self.to_text(layout).encode("ascii"))
+        atomic_write(path, self.to_text(layout).encode("ascii"))
 
 
-def _instance_of(times: npt.ArrayLike, described: dict[str, Any]) -> Instance:
-    """An instance that was pickled."""
-    return Instance(times, **described)
+def _instance_of(times: npt.ArrayLike, metadata: dict[str, Any]) -> Instance:
+    """Restore a pickled instance."""
+    return Instance(times, **metadata)

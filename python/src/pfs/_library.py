@@ -1,7 +1,7 @@
-"""The shared library, loaded by ctypes: its functions and its numbers, as `pfs.h` has them.
+"""The shared library, loaded with ctypes: the functions and constants of `pfs.h`.
 
-A call through ctypes frees the interpreter's lock. So what it is handed has to be nobody else's: lists go in as
-`bytes`, which nothing changes, and come back in arrays that were made for the call.
+A ctypes call releases the GIL, so other threads run during the call. Therefore its inputs are `bytes`, which are
+immutable, and its outputs are arrays that are allocated for the call.
 """
 from __future__ import annotations
 
@@ -15,7 +15,7 @@ from pfs._version import VERSION
 
 FILE = "libpfs.so.0"
 
-# Limits of what is accepted.
+# The limits of the library.
 MOST_JOBS: Final = 5_000
 MOST_MACHINES: Final = 200
 LONGEST_TIME: Final = 1_000_000_000
@@ -31,7 +31,7 @@ MOST_SEED: Final = 2**64 - 1
 
 LAYOUTS: Final = {"taillard": 0, "orlib": 1}
 
-# What a function answers.
+# Return values of the functions.
 OK: Final = 0
 MEMORY: Final = 1
 JOB: Final = 5
@@ -39,13 +39,15 @@ REPEATED: Final = 6
 ROOM: Final = 14
 NO_BLOCK: Final = 20
 
+NO_MEMORY: Final = "pfs: memory allocation failed"
+
 
 class Notes(ctypes.Structure):
-    """What a size line of Taillard's layout says beside the sizes."""
+    """The numbers after the sizes on a size line of Taillard's layout."""
     _fields_ = [("seed", c_uint32), ("upper", c_uint32), ("lower", c_uint32)]
 
 
-# Each function's parameters.
+# The parameters of each function.
 SHOP = [c_void_p, c_size_t, c_size_t, c_size_t]
 LIST = [c_void_p, c_size_t]
 PROTOTYPES = {
@@ -70,13 +72,13 @@ PROTOTYPES = {
 
 
 def path_of_library() -> str:
-    """The library that the variable PFS_LIBRARY names, else the one inside the package, else the system's."""
+    """Return the library to load: PFS_LIBRARY if it is set, else the one in the package, else the system's."""
     inside = pathlib.Path(__file__).parent / FILE
     return os.environ.get("PFS_LIBRARY") or (str(inside) if inside.exists() else FILE)
 
 
 def load(path: str) -> ctypes.CDLL:
-    """The library at a path, with the types of its functions."""
+    """Load the library at a path, and declare the types of its functions."""
     try:
         loaded = ctypes.CDLL(path)
         for name, parameters in PROTOTYPES.items():
@@ -85,40 +87,40 @@ def load(path: str) -> ctypes.CDLL:
         loaded.pfs_version.argtypes, loaded.pfs_version.restype = [], c_char_p
         loaded.pfs_message.argtypes, loaded.pfs_message.restype = [c_int], c_char_p
     except (OSError, AttributeError) as error:
-        raise ImportError(f"pfs can't load its library {path} ({error}): the variable PFS_LIBRARY can name "
-                          f"another {FILE}") from None
+        raise ImportError(f"pfs can't load its library {path} ({error}): set PFS_LIBRARY to the path of "
+                          f"{FILE}") from None
     version: str = loaded.pfs_version().decode()
     if version.split(".")[0] != VERSION.split(".")[0]:
-        raise ImportError(f"the library {path} is of version {version}, and this package needs {VERSION}")
+        raise ImportError(f"the library {path} has version {version}, but this package needs {VERSION}")
     return loaded
 
 
 PATH = path_of_library()
 library = load(PATH)
-# The two functions that methods call most often, without types: what they are called with is made ready beforehand
-# (`ready`), since converting it takes longer than the call itself.
+# The two functions that methods call most often, without declared types. Their arguments are converted once per
+# instance (`converted`), since the conversion takes longer than the call itself.
 quick_makespan: Any = library["pfs_makespan"]
 quick_insert: Any = library["pfs_insert"]
-# The lengths of short lists, ready for such a call.
+# The lengths of short lists, converted for such a call.
 SHORT: Final = 257
 LENGTHS: Final = [c_size_t.from_param(length) for length in range(SHORT)]
 
 
-def ready(shop: tuple[bytes, int, int, int]) -> tuple[Any, ...]:
-    """The times, their number, the jobs and the machines of an instance, for a function without types."""
-    times, *sizes = shop
+def converted(arguments: tuple[bytes, int, int, int]) -> tuple[Any, ...]:
+    """Convert the times, their number, the jobs and the machines of an instance for a function without types."""
+    times, *sizes = arguments
     return c_void_p.from_param(times), *(c_size_t.from_param(size) for size in sizes)
 
 
 def message(number: int) -> str:
-    """What an answer means."""
+    """Return the library's text for a return value."""
     text: bytes = library.pfs_message(number)
     return text.decode()
 
 
 def done(number: int) -> None:
-    """Raises what an answer means that is about neither a file nor an order."""
+    """Raise the exception for a return value, unless it is `OK`."""
     if number == MEMORY:
-        raise MemoryError("pfs: memory was refused")
+        raise MemoryError(NO_MEMORY)
     if number != OK:
         raise ValueError(message(number))

@@ -1,4 +1,4 @@
-"""Names of jobs and machines, and times as they are written in a table."""
+"""Names of jobs and machines, and times with decimals."""
 from __future__ import annotations
 
 import re
@@ -6,12 +6,12 @@ import sys
 from collections.abc import Iterable
 from typing import Any
 
-# Characters that move the cursor of a terminal, end a line or change its direction, and what is not a character of XML.
+# Characters that move the cursor of a terminal, end a line or change its direction, or aren't allowed in XML.
 UNSHOWN = re.compile("[\0-\x1f\x7f-\x9f\u2028-\u202e\u2066-\u2069\ud800-\udfff\ufffe\uffff]")
 
 
 def shown(name: str) -> str:
-    """Return a name as charts and terminals show it: some characters by their escapes.
+    """Return a name as charts and terminals show it, with escapes for control characters.
 
     Examples
     --------
@@ -22,7 +22,7 @@ def shown(name: str) -> str:
 
 
 def amount(time: int, decimals: int) -> str:
-    """A time with its decimals.
+    """Return a time with its decimals, as text.
 
     Examples
     --------
@@ -36,30 +36,30 @@ def amount(time: int, decimals: int) -> str:
 
 
 def names_of(names: Iterable[str] | None, count: int, what: str) -> tuple[str, ...] | None:
-    """So many names, each another one."""
+    """Return `count` distinct names, or None."""
     if names is None:
         return None
     if isinstance(names, str):
-        raise TypeError(f"{what} should be a list of names, not {names!r}")
+        raise TypeError(f"{what} must be a list of names, not {names!r}")
     own = tuple(names)
     for at, name in enumerate(own):
         if not isinstance(name, str):
-            raise TypeError(f"{what}: {name!r} at place {at} isn't a text")
+            raise TypeError(f"{what}: {name!r} at place {at} isn't a str")
     if len(own) != count:
-        raise ValueError(f"{what}: {len(own)} names for {count}")
+        raise ValueError(f"{what} has {len(own)} names, but {count} are needed")
     if len(set(own)) != count:
         twice = next(name for name in own if own.count(name) > 1)
-        raise ValueError(f"{what}: {twice!r} stands there twice")
+        raise ValueError(f"{what}: {twice!r} occurs twice")
     return own
 
 
 def is_frame(given: Any) -> bool:
-    """Whether it is a table of pandas, which isn't imported for it."""
+    """Whether an argument is a pandas DataFrame. pandas isn't imported for it."""
     pandas = sys.modules.get("pandas")
     return pandas is not None and isinstance(given, pandas.DataFrame)
 
 
 def frame_names(frame: Any, axis: str) -> list[str] | None:
-    """The names of the rows (`index`) or of the columns of a frame, as texts; None where they only count from 0."""
+    """Return the names of the rows (`index`) or `columns` of a frame, or None if they just count from 0."""
     labels = getattr(frame, axis).tolist()
     return None if labels == list(range(len(labels))) else [str(label) for label in labels]

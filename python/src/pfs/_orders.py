@@ -1,4 +1,4 @@
-"""Orders by the names of jobs, as `plan` prints them and people change them."""
+"""Files with an order by the names of jobs, which `plan` prints and people change."""
 from __future__ import annotations
 
 import os
@@ -19,9 +19,10 @@ PLACED = re.compile(r"[0-9]+[.):]?\s+(.+)")
 
 
 def order_in(path: str | os.PathLike[str], shop: Instance) -> list[int]:
-    """The order of all jobs that a file has: what `plan` prints, its schedule as a table, or the names of the jobs, one
-    in a line, with or without a place before it. A `TableFault` names the line of a name that no job has or that occurs
-    twice, or the jobs that are missing."""
+    """Return the order of all jobs in a file.
+
+    The file is the output of `plan`, its schedule as a table, or a list of the names of the jobs, one per line, with or
+    without a place before it. A `TableFault` says which name is unknown or occurs twice, or which jobs are missing."""
     path = os.fspath(path)
     with open(path, "rb") as file:
         content = read_up_to(file.read, c.LONGEST_INPUT + 1)
@@ -32,7 +33,7 @@ def order_in(path: str | os.PathLike[str], shop: Instance) -> list[int]:
     seen: dict[int, int] = {}
     for line, name in named_jobs(text_of(content, path), path, numbers):
         if name not in numbers:
-            raise TableFault(path, line, 0, f"no job is named {name!r}")
+            raise TableFault(path, line, 0, f"{name!r} isn't the name of a job")
         job = numbers[name]
         if job in seen:
             raise TableFault(path, line, 0, f"the job {name!r} is in line {seen[job]} too")
@@ -45,7 +46,7 @@ def order_in(path: str | os.PathLike[str], shop: Instance) -> list[int]:
 
 
 def named_jobs(text: str, path: str, numbers: dict[str, int]) -> Iterator[tuple[int, str]]:
-    """The names of the jobs, each with its line. Of a schedule each job is taken once."""
+    """Return the names of the jobs with their lines. A schedule has each job several times; the first is used."""
     lines = [(line, cell) for line, row in enumerate(text.splitlines(), 1) if (cell := row.strip())]
     if lines and SCHEDULE.fullmatch(lines[0][1]):
         first: dict[str, int] = {}

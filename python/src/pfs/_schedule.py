@@ -1,4 +1,4 @@
-"""When each operation of an order starts and ends."""
+"""The class `Schedule`: when each operation of an order starts and ends."""
 from __future__ import annotations
 
 import csv
@@ -8,29 +8,29 @@ from typing import TYPE_CHECKING, Any
 
 import numpy as np
 
-from pfs._given import Order
+from pfs._atomic import atomic_write
 from pfs._names import amount
-from pfs._whole import write_whole
+from pfs._validate import Order
 
 if TYPE_CHECKING:
     from pfs._instance import Instance
 
 
 class Lines:
-    """The rows that a writer of CSV makes, each with a line end of its own."""
+    """A file for a CSV writer, which collects its rows with `\n` as line end."""
 
     def __init__(self) -> None:
         self.written: list[str] = []
 
     def write(self, row: str) -> None:
-        """Called once for each row."""
+        """Add a row."""
         self.written.append(row.removesuffix("\r\n") + "\n")
 
 
 class Schedule:
-    """When each operation of an order starts and ends, each as early as it can.
+    """A schedule: when each operation of an order starts and ends. Each operation starts as early as possible.
 
-    Made by :meth:`pfs.Instance.schedule`.
+    Schedules are made by :meth:`pfs.Instance.schedule`.
 
     Attributes
     ----------
@@ -39,7 +39,7 @@ class Schedule:
     order : numpy.ndarray
         The jobs, counted from 0, in the order in which they run.
     starts, ends : numpy.ndarray
-        Of the shape (jobs, machines): ``starts[place, machine]`` is when the job ``order[place]`` starts on a machine.
+        Arrays of shape (jobs, machines): the job ``order[place]`` starts at ``starts[place, machine]`` on a machine.
 
     Examples
     --------
@@ -74,23 +74,24 @@ class Schedule:
 
     @property
     def makespan(self) -> int:
-        """When the last job leaves the last machine."""
+        """The time at which the last job leaves the last machine."""
         return int(self.ends[-1, -1])
 
     def _operations(self) -> Iterator[tuple[int, int, int, int]]:
-        """Job, machine, start and end, place by place and machine by machine."""
+        """Yield job, machine, start and end of each operation, by place and then by machine."""
         for job, starts, ends in zip(self.order.tolist(), self.starts.tolist(), self.ends.tolist()):
             for machine, (start, end) in enumerate(zip(starts, ends)):
                 yield job, machine, start, end
 
     def critical_path(self) -> list[tuple[int, int]]:
-        """Operations that follow each other without a wait, from time 0 to the makespan: their times add up to it.
+        """Return a critical path: operations that follow each other without a wait, from time 0 to the makespan.
 
         Returns
         -------
         list of (int, int)
-            The place in the order and the machine of each, jobs + machines - 1 of them: from one to the next either the
-            place or the machine goes up by 1. Of several paths it is the one whose last steps go along the machine.
+            The place in the order and the machine of each operation. From one operation to the next either the place or
+            the machine increases by 1, so there are jobs + machines - 1 of them. Their times add up to the makespan. If
+            there are several paths, then going back from the end a step along the machine is preferred.
 
         Examples
         --------
@@ -110,14 +111,15 @@ class Schedule:
         return path[::-1]
 
     def idle(self) -> Order:
-        """How long each machine waits before each operation.
+        """Return the idle time of each machine before each operation.
 
         Returns
         -------
         numpy.ndarray
-            Of int64 and of the shape (jobs, machines), in the instance's units: ``idle[place, machine]`` is the time
-            from the end of the operation before it on the machine, or from 0, to its start. ``idle.sum(axis=0)`` is how
-            long each machine waits up to its last operation, and ``makespan - ends[-1]`` how long after it.
+            An array of int64 and of shape (jobs, machines), in the unit of ``times``: ``idle[place, machine]`` is the
+            time from the end of the machine's previous operation, or from 0, to the start of this one.
+            ``idle.sum(axis=0)`` is the idle time of each machine before its last operation, and ``makespan - ends[-1]``
+            is that after it.
 
         Examples
         --------
@@ -132,19 +134,19 @@ class Schedule:
         return waits
 
     def to_frame(self) -> Any:
-        """The operations as a table of pandas.
+        """Return the operations as a pandas DataFrame.
 
         Returns
         -------
         pandas.DataFrame
-            The columns ``job``, ``machine``, ``start`` and ``end``, a row for each operation, in the sequence of the
-            order and of the machines. Jobs and machines are named where the instance names them, and else counted from
-            0; times are in the unit of the table that the instance comes from.
+            A row for each operation, by place in the order and then by machine, with the columns ``job``, ``machine``,
+            ``start`` and ``end``. Jobs and machines have their names in the instance, or numbers from 0 if they have no
+            names. Times have the instance's decimals.
 
         Raises
         ------
         ImportError
-            pandas isn't installed.
+            If pandas isn't installed.
 
         Examples
         --------
@@ -160,7 +162,7 @@ class Schedule:
         try:
             import pandas
         except ImportError:
-            raise ImportError("to_frame wants pandas (Debian: python3-pandas)") from None
+            raise ImportError("to_frame needs pandas (Debian: python3-pandas)") from None
         jobs, machines = self.starts.shape
         job_of, machine_of = self.order.repeat(machines), np.tile(np.arange(machines), jobs)
         shop = self.instance
@@ -174,25 +176,25 @@ class Schedule:
 
     def to_csv(self, path: str | os.PathLike[str] | None = None, delimiter: str = ",", *,
                mark: bool = False) -> str | None:
-        """The operations as a table for spreadsheets.
+        """Write the operations as CSV.
 
         Parameters
         ----------
         path : str or os.PathLike, optional
-            The file. It is replaced as a whole.
+            The file. An existing file is replaced atomically. By default the text is returned.
         delimiter : str
-            What separates the columns; with ``;`` decimals have a comma.
+            The separator of the columns. With ``;`` decimals have a comma.
         mark : bool
-            Begin the file with a byte order mark. Excel needs it to read letters such as ``ä`` rightly.
+            Begin the file with a byte order mark. Excel needs it to read letters such as ``ä`` correctly.
 
         Returns
         -------
         str or None
-            The text, where there is no path.
+            The text, if there is no path.
         """
         shop = self.instance
         lines = Lines()
-        # The end of the lines says which characters are quoted in a cell.
+        # With this line terminator, cells that contain \r or \n are quoted.
         rows = csv.writer(lines, delimiter=delimiter, lineterminator="\r\n")
         rows.writerow(["job", "machine", "start", "end"])
         for job, machine, start, end in self._operations():
@@ -202,52 +204,52 @@ class Schedule:
         text = "".join(lines.written)
         if path is None:
             return text
-        write_whole(path, text.encode("utf-8-sig" if mark else "utf-8"))
+        atomic_write(path, text.encode("utf-8-sig" if mark else "utf-8"))
         return None
 
     def plot(self, path: str | os.PathLike[str] | None = None, *, critical: bool = False, bound: bool = False,
              unit: str | None = None, width: float = 12.0, dpi: int = 110, title: bool | str = True,
              ax: Any = None) -> Any:
-        """The Gantt chart: a row for each machine, a colour for each job, idle time in grey.
+        """Draw a Gantt chart, with a row for each machine, a colour for each job, and idle time in grey.
 
         Parameters
         ----------
         path : str or os.PathLike, optional
-            Where the picture goes, which its ending makes SVG, PNG, PDF, or a page (``.html``) that needs nothing else:
-            there pointing at an operation says its job, machine, start and end, and the wheel zooms.
+            The file, whose name ends with ``.svg``, ``.png``, ``.pdf`` or ``.html``. An HTML page is a single file. It
+            shows the job, machine, start and end of the operation under the pointer, and the wheel zooms.
         critical : bool
             Outline a critical path.
         bound : bool
             Draw the instance's bound as a dashed line.
         unit : str, optional
-            The unit of the times; that of the instance, where it has one.
+            The unit of the times (default: the instance's).
         width : float
-            Inches from left to right, 2 to 100. A page has none.
+            The width in inches, 2 to 100. A page ignores it.
         dpi : int
-            Dots an inch of a PNG, 20 to 2,400.
+            The resolution of a PNG in dots per inch, 20 to 2,400.
         title : bool or str
-            Whether there is a title, or another one.
+            Whether to draw a title, or your own title.
         ax : matplotlib.axes.Axes, optional
-            Axes to draw on, of a figure of your own; its width and height stay as they are.
+            The axes to draw on. The size of their figure doesn't change.
 
         Returns
         -------
         matplotlib.figure.Figure or None
-            The figure; None of a page, which doesn't need matplotlib.
+            The figure, or None for a page, which doesn't need matplotlib.
 
         Raises
         ------
         ImportError
-            matplotlib isn't installed.
+            If matplotlib isn't installed.
         TypeError
-            An argument is of another kind.
+            If an argument is of the wrong type.
         ValueError
-            The path has another ending, a number is out of its limits, or there is ``ax`` for a page.
+            If the name has another ending, a number is out of range, or ``ax`` is given for a page.
         """
         from pfs._chart import Frame, plot
         return plot(self, path, critical=critical, bound=bound, unit=unit, frame=Frame(width, dpi, title, ax))
 
     def _repr_svg_(self) -> str | None:
-        """The chart as Jupyter shows it; None without matplotlib, or where the picture would be very large."""
+        """Return the chart for Jupyter, or None without matplotlib or if the chart would be very large."""
         from pfs._chart import svg_of
         return svg_of(self)

@@ -1,4 +1,4 @@
-"""Searches in parts, between which they tell their progress and can be interrupted."""
+"""Searches in parts. Between two parts they report their progress and can be interrupted."""
 from __future__ import annotations
 
 import time
@@ -11,45 +11,46 @@ import numpy.typing as npt
 
 from pfs import _library as c
 from pfs._faults import Interrupted
-from pfs._given import TRUTHS, Jobs, order_of, refused_jobs, whole
-from pfs._solution import Improvement, Solution, order_given
+from pfs._solution import Improvement, Solution, as_order
+from pfs._validate import BOOLS, Jobs, checked_int, checked_order, jobs_error
 
 if TYPE_CHECKING:
     from pfs._instance import Instance
 
-# About how long a part takes, in seconds, and how much longer than the one before.
+# About how long a part takes, in seconds.
 PART = 0.1
-GROWTH = 4
-# No makespan has it, so it stands where none is written yet.
+# A part has at most this many times the rounds of the part before it.
+MOST_INCREASE = 4
+# The makespan of a part that hasn't been run. No order has this makespan.
 UNWRITTEN = 2**64 - 1
 ROUNDS = 1_000
 
 
 class Bar(Protocol):
-    """A progress bar, as `tqdm` has it."""
+    """A progress bar like `tqdm`."""
 
     def update(self, n: int = 1) -> Any: ...
 
 
 class Stop(Protocol):
-    """What asks a search to end, as `threading.Event` does."""
+    """An event that ends a search, such as `threading.Event`."""
 
     def is_set(self) -> bool: ...
 
 
-# What is told rounds and makespan, or a bar, or the class of one.
+# A function of the rounds and the makespan, a progress bar, or the class of one.
 Progress: TypeAlias = "Callable[[int, int], Any] | Bar | type[Any]"
 
 
 class Part:
-    """The place for what one call of the library answers. An interruption may come at any point of the code around the
-    call, and the part tells then whether the call was made."""
+    """The results of one call of the library. The code around the call may be interrupted at any point; `is_done` then
+    says whether the call was made."""
 
     def __init__(self, order: bytes, rounds: int, cells_before: int, seed: int, total: int) -> None:
         self.order: npt.NDArray[np.uint32] = np.frombuffer(bytearray(order), dtype=np.uint32)
         self.makespan = c_uint64(UNWRITTEN)
         self.cells = c_uint64()
-        # The next round of this seed, and how many were made before it, of other seeds too.
+        # The number of the next round with this seed, and the number of rounds so far with all seeds.
         self.rounds = rounds
         self.total = total
         self.seed = seed
@@ -60,84 +61,85 @@ class Part:
 
 
 class Search:
-    """Iterated greedy on an instance. `solution` is the best order so far, also after an interruption."""
+    """Iterated greedy on an instance. `solution` returns the best order so far, also after an interruption."""
 
     def __init__(self, shop: Instance, start: Jobs | None, first: int, take: int | None, passes: int,
                  seed: int) -> None:
         self.shop = shop
-        self.take = whole(min(4, shop.jobs) if take is None else take, "take", 1, shop.jobs)
-        self.passes = whole(passes, "passes", 0, c.MOST_PASSES)
-        self.seed = whole(seed, "seed", 0, c.MOST_SEED)
-        self.first = whole(first, "first", 0, c.MOST_ROUNDS)
+        self.take = checked_int(min(4, shop.jobs) if take is None else take, "take", 1, shop.jobs)
+        self.passes = checked_int(passes, "passes", 0, c.MOST_PASSES)
+        self.seed = checked_int(seed, "seed", 0, c.MOST_SEED)
+        self.first = checked_int(first, "first", 0, c.MOST_ROUNDS)
         self.start = None
         if start is not None:
-            self.start = order_of(order_given(start, shop, "start"), shop.jobs, "start", shop.job_names)
+            self.start = checked_order(as_order(start, shop, "start"), shop.jobs, "start", shop.job_names)
         self.last: Part | None = None
         self.running: Part | None = None
-        # The improvements so far, where they are noted.
+        # The improvements so far, if they are recorded.
         self.history: list[Improvement] = []
-        # The solution of the last part. It is made right after the part, so that running out of memory doesn't lose it.
+        # The solution of the last part. It is built right after the part, so it isn't lost if memory runs out later.
         self.ready: tuple[Part, Solution] | None = None
 
     def begin(self) -> None:
-        """The start order, and its makespan: NEH's, where none was handed in."""
+        """Compute the start order by NEH, or the makespan of the given one."""
         shop = self.shop
         part = Part(self.start or bytes(4 * shop.jobs), self.first, 0, self.seed, self.first)
         self.running = part
         if self.start is None:
-            c.done(c.library.pfs_neh(*shop._given, part.order.ctypes.data, shop.jobs, byref(part.makespan),
+            c.done(c.library.pfs_neh(*shop._arguments, part.order.ctypes.data, shop.jobs, byref(part.makespan),
                                      byref(part.cells)))
         else:
-            number = c.library.pfs_makespan(*shop._given, self.start, shop.jobs, byref(part.makespan))
+            number = c.library.pfs_makespan(*shop._arguments, self.start, shop.jobs, byref(part.makespan))
             if number != c.OK:
-                raise refused_jobs(number, shop.jobs, self.start, "start")
+                raise jobs_error(number, shop.jobs, self.start, "start")
         self.last = part
         self.solution()
 
-    def go_on(self, count: int) -> None:
-        """Makes the next rounds, so many. After the last round of a seed those of the next seed follow."""
+    def run_rounds(self, count: int) -> None:
+        """Run the next `count` rounds. After the last round of a seed, those of the next seed follow."""
         before = self.finished()
         part = self.part_after(before, count)
         self.running = part
-        self.make(part, before, count)
+        self.run_part(part, count)
         self.last = part
         self.solution()
 
     def part_after(self, before: Part, count: int) -> Part:
-        """The place for the next rounds after a part."""
+        """Return a part for the next `count` rounds, which aren't run yet."""
         rounds, seed = before.rounds, before.seed
         if rounds == c.MOST_ROUNDS and count:
             rounds, seed = 0, (seed + 1) % 2**64
         return Part(before.order.tobytes(), rounds + count, before.cells_before + before.cells.value, seed,
                     before.total + count)
 
-    def make(self, part: Part, before: Part, count: int) -> None:
-        """Makes the rounds of a part."""
-        c.done(c.library.pfs_rounds(*self.shop._given, part.order.ctypes.data, self.shop.jobs, part.rounds - count,
+    def run_part(self, part: Part, count: int) -> None:
+        """Run the `count` rounds of a part."""
+        c.done(c.library.pfs_rounds(*self.shop._arguments, part.order.ctypes.data, self.shop.jobs, part.rounds - count,
                                     count, self.take, self.passes, part.seed, byref(part.makespan), byref(part.cells)))
 
     def first_within(self, before: Part, after: Part, makespan: int) -> Part:
-        """The part that ends with the first round after which the makespan is at most this one. `after`, which follows
-        `before`, has such a makespan. No order becomes longer, so the round is found by halving, which takes about
-        as long as the part."""
+        """Return the part up to the first round with at most this makespan.
+
+        `after`, which follows `before`, has such a makespan. Makespans never increase from round to round, so a binary
+        search finds the round. It takes about as long as the part did."""
         while after.total - before.total > 1:
             count = (after.total - before.total) // 2
             half = self.part_after(before, count)
-            self.make(half, before, count)
+            self.run_part(half, count)
             before, after = (before, half) if half.makespan.value <= makespan else (half, after)
         return after
 
     def keep(self, part: Part) -> None:
-        """Makes this part the last one."""
+        """Make this part the last one."""
         self.running = self.last = part
         self.solution()
 
     def left_of_seed(self) -> int:
-        """How many rounds the seed has left; where it has none, those of the next one."""
+        """Return the number of rounds that the seed has left, or those of the next seed if it has none."""
         return c.MOST_ROUNDS - self.finished().rounds or c.MOST_ROUNDS
 
     def finished(self) -> Part:
-        """The last part that was made."""
+        """Return the last part that was run."""
         if self.running is not None and self.running.is_done():
             return self.running
         if self.last is None:
@@ -146,7 +148,7 @@ class Search:
         return self.last
 
     def solution(self) -> Solution:
-        """Return the best order after the last part that was made."""
+        """Return the best order after the last part that was run."""
         part = self.finished()
         if self.ready is None or self.ready[0] is not part:
             cells = part.cells_before + part.cells.value
@@ -158,7 +160,7 @@ class Search:
 
 
 class Pace:
-    """How many rounds a part has, so that it takes about a tenth of a second and ends by the time limit."""
+    """Chooses the rounds of each part, so that it takes about a tenth of a second and ends by the time limit."""
 
     def __init__(self, time_limit: float | None) -> None:
         self.end = None if time_limit is None else time.monotonic() + time_limit
@@ -166,98 +168,98 @@ class Pace:
         self.seconds = PART
 
     def left(self) -> float:
-        """The seconds up to the limit."""
+        """Return the seconds until the limit."""
         return float("inf") if self.end is None else self.end - time.monotonic()
 
     def next(self, most: int) -> int:
-        """How many rounds come next: none behind the limit."""
+        """Return the number of rounds of the next part, at most `most`, and 0 after the time limit."""
         left = self.left()
         if left <= 0:
             return 0
-        wanted = self.count * min(PART, left) / max(self.seconds, 1e-9)
-        return max(1, min(most, GROWTH * self.count, int(wanted)))
+        fitting = self.count * min(PART, left) / max(self.seconds, 1e-9)
+        return max(1, min(most, MOST_INCREASE * self.count, int(fitting)))
 
     def took(self, count: int, seconds: float) -> None:
-        """So many rounds took so long."""
+        """Record how long the last part took."""
         self.count, self.seconds = count, seconds
 
 
-def teller(progress: Progress | None, rounds: int | None) -> tuple[Callable[..., Any], Callable[..., Any]]:
-    """What is called after each part, with the rounds of the part, all rounds so far and the makespan, and returns True
-    to end the search; and what is called at the end."""
+def reporter(progress: Progress | None, rounds: int | None) -> tuple[Callable[..., Any], Callable[..., Any]]:
+    """Return two functions. The first is called after each part with the rounds of the part, all rounds so far and the
+    makespan, and returns True to end the search. The second is called at the end."""
     if progress is None:
-        return nothing, nothing
+        return do_nothing, do_nothing
     bar: Any = progress(total=rounds) if isinstance(progress, type) else progress
     update: Any = getattr(bar, "update", None)
-    close: Any = getattr(bar, "close", nothing) if isinstance(progress, type) else nothing
+    close: Any = getattr(bar, "close", do_nothing) if isinstance(progress, type) else nothing
     if callable(update):
         postfix: Any = getattr(bar, "set_postfix", None)
 
-        def tell(part: int, made: int, makespan: int) -> None:
+        def report(part: int, made: int, makespan: int) -> None:
             if postfix is not None:
                 postfix(makespan=makespan, refresh=False)
             update(part)
 
-        return tell, close
+        return report, close
     if not callable(bar):
-        raise TypeError(f"progress should be called with rounds and makespan, or be a bar with `update`, not {bar!r}")
+        raise TypeError(f"progress must be callable, or a progress bar with `update`, not {bar!r}")
     return (lambda part, made, makespan: is_true(bar(made, makespan))), close
 
 
 def is_true(value: Any) -> bool:
-    """Whether it is True, of Python or NumPy."""
-    return type(value) in TRUTHS and bool(value)
+    """Whether a value is True, of Python or NumPy."""
+    return type(value) in BOOLS and bool(value)
 
 
-def nothing(*_: Any) -> None:
-    """Nobody is told."""
+def do_nothing(*_: Any) -> None:
+    """Report nothing."""
 
 
 def limit_of(time_limit: Any) -> float | None:
-    """A time limit in seconds."""
+    """Return a time limit in seconds."""
     if time_limit is None:
         return None
-    if isinstance(time_limit, (str, bytes)) or type(time_limit) in TRUTHS:
-        raise TypeError(f"time_limit should be seconds, not {time_limit!r}")
+    if isinstance(time_limit, (str, bytes)) or type(time_limit) in BOOLS:
+        raise TypeError(f"time_limit must be a number of seconds, not {time_limit!r}")
     try:
         seconds = float(time_limit)
     except (TypeError, ValueError):
-        raise TypeError(f"time_limit should be seconds, not {time_limit!r}") from None
+        raise TypeError(f"time_limit must be a number of seconds, not {time_limit!r}") from None
     except OverflowError:
         seconds = float("inf") if time_limit > 0 else float("-inf")
     if not seconds >= 0:
-        raise ValueError(f"time_limit is {seconds}, and should be 0 or more seconds")
+        raise ValueError(f"time_limit must be 0 or more seconds, not {seconds}")
     return seconds
 
 
 def stop_of(stop: Any) -> Callable[[], bool]:
-    """What says whether the search should end."""
+    """Return a function that says whether the search should end."""
     if stop is None:
         return bool
     is_set: Any = getattr(stop, "is_set", None)
     if not callable(is_set):
-        raise TypeError(f"stop should be an event with `is_set`, as threading.Event has it, not {stop!r}")
+        raise TypeError(f"stop must be an event with `is_set`, such as threading.Event, not {stop!r}")
     return lambda: bool(is_set())
 
 
 class Limits:
     """When a search ends.
 
-    `rounds` are those that are due, None for as many as there is time for; `target` is a makespan, -1 for none."""
+    `rounds` is the number of rounds, None for no limit. `target` is a makespan, -1 for none."""
 
     def __init__(self, search: Search, rounds: int | None, time_limit: Any, target: int | None, stop: Any) -> None:
         self.seconds = limit_of(time_limit)
         left = c.MOST_ROUNDS - search.first
-        self.rounds: int | None = whole(rounds, "rounds", 0, left) if rounds is not None else None
+        self.rounds: int | None = checked_int(rounds, "rounds", 0, left) if rounds is not None else None
         if rounds is None and self.seconds is None:
             self.rounds = min(ROUNDS, left)
-        self.target = -1 if target is None else whole(target, "target", 0, c.MOST_SEED)
+        self.target = -1 if target is None else checked_int(target, "target", 0, c.MOST_SEED)
         if target is None and self.rounds is None:
             self.target = search.shop.bound()
         self.is_stopped = stop_of(stop)
 
     def left(self, search: Search, made: int) -> int:
-        """How many rounds the next part may have: none where the search has come to its end."""
+        """Return the greatest number of rounds for the next part, 0 if the search has finished."""
         if search.solution().makespan <= self.target or self.is_stopped():
             return 0
         return search.left_of_seed() if self.rounds is None else self.rounds - made
@@ -265,8 +267,8 @@ class Limits:
 
 def solve(search: Search, rounds: int | None, progress: Progress | None, time_limit: Any, target: int | None = None,
           stop: Any = None, history: bool = False) -> Solution:
-    """Run a search, part by part. Every exception after the first order has the best order so far: an interruption as
-    `Interrupted`, and one of `progress` or of a bar in its attribute `solution`."""
+    """Run a search in parts. Every exception has the best order so far in its attribute `solution`, once there is one.
+    An interruption is raised as `Interrupted`."""
     try:
         return in_parts(search, Limits(search, rounds, time_limit, target, stop), progress, history)
     except KeyboardInterrupt:
@@ -280,7 +282,7 @@ def solve(search: Search, rounds: int | None, progress: Progress | None, time_li
 def in_parts(search: Search, limits: Limits, progress: Progress | None, history: bool) -> Solution:
     """Run the search up to its limits."""
     pace = Pace(limits.seconds)
-    tell, close = teller(progress, limits.rounds)
+    report, close = reporter(progress, limits.rounds)
     try:
         begun = time.perf_counter()
         search.begin()
@@ -289,24 +291,24 @@ def in_parts(search: Search, limits: Limits, progress: Progress | None, history:
         made, is_ended = 0, False
         while not is_ended and (left := limits.left(search, made)) and (count := pace.next(left)):
             before, at = search.finished(), time.perf_counter()
-            search.go_on(count)
+            search.run_rounds(count)
             seconds = time.perf_counter() - at
             pace.took(count, seconds)
             if history:
-                note_improvements(search, before, limits.target, at - begun, seconds)
+                record_improvements(search, before, limits.target, at - begun, seconds)
             elif search.solution().makespan <= limits.target:
                 search.keep(search.first_within(before, search.finished(), limits.target))
             count = search.finished().total - before.total
             made += count
-            is_ended = tell(count, made, search.solution().makespan) is True
+            is_ended = report(count, made, search.solution().makespan) is True
         return search.solution()
     finally:
         close()
 
 
-def note_improvements(search: Search, before: Part, target: int, begun: float, seconds: float) -> None:
-    """Notes the improvements of the last part, and ends it with the one that comes to the target. The part began and
-    took so many seconds, and an improvement's share of them is that of its rounds."""
+def record_improvements(search: Search, before: Part, target: int, begun: float, seconds: float) -> None:
+    """Record the improvements of the last part, and cut it after the one that reaches the target. The part began after
+    `begun` seconds and took `seconds`; the time of an improvement is interpolated by its round."""
     first, after = before, search.finished()
     while before.makespan.value > max(after.makespan.value, target):
         before = search.first_within(before, after, before.makespan.value - 1)

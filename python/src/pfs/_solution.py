@@ -1,4 +1,4 @@
-"""An order with its makespan."""
+"""The class `Solution`: an order with its makespan."""
 from __future__ import annotations
 
 import os
@@ -9,15 +9,15 @@ import numpy as np
 import numpy.typing as npt
 
 from pfs import _library as c
-from pfs._given import Order, jobs_of, refused_jobs, whole
-from pfs._whole import write_whole
+from pfs._atomic import atomic_write
+from pfs._validate import Order, checked_int, checked_jobs, jobs_error
 
 if TYPE_CHECKING:
     from pfs._instance import Instance
 
 
 class Improvement(NamedTuple):
-    """A makespan that a search has come to: after how many rounds and seconds."""
+    """A new best makespan of a search, and the round and the seconds after which it was found."""
 
     round: int
     seconds: float
@@ -30,21 +30,22 @@ class Solution:
     Attributes
     ----------
     order : numpy.ndarray
-        The jobs, counted from 0, as an array that nothing writes to.
+        The jobs, counted from 0, as a read-only array.
     makespan : int
-        When the last job leaves the last machine. Of an order file what the file states, right or wrong.
+        The time at which the last job leaves the last machine. :func:`pfs.read_order` doesn't check it: it is the
+        number that the file states.
     cells : int
-        How many cells of tables were computed for it, which is what a search costs whatever the machine.
+        The number of table cells that the search computed. This measures its cost independently of the computer.
     machines : int
-        How many machines the instance has; 0 where it isn't known (order files of version 1).
+        The number of machines of the instance, or 0 if it is unknown (order files of version 1).
     rounds : int
-        The round that is next in the search that it comes from: a search continues by
+        The number of the search's next round. To continue the search, call
         ``solve(.., start=solution, first=solution.rounds, seed=solution.seed)``.
     seed : int
-        The seed of that round. A search that ends by time has the next seed after 1,000,000 rounds.
-    history : tuple of (int, float, int)
-        The round, the seconds and the makespan of each improvement, in the search's order, where ``solve`` was called
-        with ``history=True``; else empty. It isn't compared.
+        The seed of that round. A search that has only a time limit uses the next seed after 1,000,000 rounds.
+    history : tuple of Improvement
+        The round, the seconds and the makespan of each improvement, if ``solve`` was called with ``history=True``, else
+        empty. Comparisons ignore it.
 
     Examples
     --------
@@ -62,14 +63,14 @@ class Solution:
 
     def __init__(self, order: npt.ArrayLike, makespan: int, cells: int = 0, machines: int = 0, rounds: int = 0,
                  seed: int = 0) -> None:
-        own = jobs_of(order, "order").astype(np.int64)
+        own = checked_jobs(order, "order").astype(np.int64)
         own.setflags(write=False)
         self.order: Order = own
-        self.makespan = whole(makespan, "makespan", 0, 2**64 - 1)
-        self.cells = whole(cells, "cells", 0, 2**64 - 1)
-        self.machines = whole(machines, "machines", 0, c.MOST_MACHINES)
-        self.rounds = whole(rounds, "rounds", 0, c.MOST_ROUNDS)
-        self.seed = whole(seed, "seed", 0, c.MOST_SEED)
+        self.makespan = checked_int(makespan, "makespan", 0, 2**64 - 1)
+        self.cells = checked_int(cells, "cells", 0, 2**64 - 1)
+        self.machines = checked_int(machines, "machines", 0, c.MOST_MACHINES)
+        self.rounds = checked_int(rounds, "rounds", 0, c.MOST_ROUNDS)
+        self.seed = checked_int(seed, "seed", 0, c.MOST_SEED)
         self.history: tuple[Improvement, ...] = ()
 
     def __repr__(self) -> str:
@@ -92,17 +93,17 @@ class Solution:
         return type(self), self._fields(), (None, {"history": self.history})
 
     def to_text(self) -> str:
-        """The order file: what ``pfs solve`` prints, in which jobs count from 1.
+        """Return the text of an order file, as ``pfs solve`` prints it. In the file jobs count from 1.
 
         Returns
         -------
         str
-            Of version 2 where ``machines`` is known, else of version 1.
+            An order file of version 2, or of version 1 if ``machines`` is unknown.
 
         Raises
         ------
         ValueError
-            The order isn't one of all jobs, or the makespan has more than 18 digits.
+            If the order isn't one of all jobs, or the makespan has more than 18 digits.
         """
         jobs = self.order.astype(np.uint32).tobytes()
         count = len(self.order)
@@ -110,25 +111,26 @@ class Solution:
         length = c_size_t()
         number = c.library.pfs_write_order(jobs, count, self.machines, self.makespan, text, len(text), byref(length))
         if number in (c.JOB, c.REPEATED):
-            raise refused_jobs(number, count, jobs)
+            raise jobs_error(number, count, jobs)
         c.done(number)
         return text.raw[:length.value].decode("ascii")
 
     def write(self, path: str | os.PathLike[str]) -> None:
-        """Writes the order file, which ``pfs check`` and :func:`pfs.read_order` read.
+        """Write an order file, which ``pfs check`` and :func:`pfs.read_order` read.
 
         Parameters
         ----------
         path : str or os.PathLike
-            The file. It is replaced as a whole.
+            The file. An existing file is replaced atomically.
         """
-        write_whole(path, self.to_text().encode("ascii"))
+        atomic_write(path, self.to_text().encode("ascii"))
 
 
-def order_given(given: Any, shop: Instance, what: str = "order") -> Any:
-    """The order of a solution, or what is one. A solution for another number of machines is rejected."""
+def as_order(given: Any, shop: Instance, what: str = "order") -> Any:
+    """Return the order of a solution, or the argument itself if it isn't a solution. A solution for another number of
+    machines is rejected."""
     if not isinstance(given, Solution):
         return given
     if given.machines not in (0, shop.machines):
-        raise ValueError(f"{what} is an order for {given.machines} machines, and the instance has {shop.machines}")
+        raise ValueError(f"{what} is an order for {given.machines} machines, but the instance has {shop.machines}")
     return given.order

@@ -1,4 +1,4 @@
-"""What a search needs to continue, in a file that is always whole and that one search at a time uses."""
+"""State files, from which searches continue. They are written atomically, and one search at a time uses a file."""
 from __future__ import annotations
 
 import contextlib
@@ -9,30 +9,30 @@ import os
 from typing import Any
 
 from pfs import _library as c
+from pfs._atomic import atomic_write
 from pfs._files import bytes_of
 from pfs._instance import Instance
 from pfs._search import Search
 from pfs._solution import Solution
-from pfs._whole import write_whole
 
 VERSION = "pfs search 2"
 
 
 class StateFault(ValueError):
-    """A file isn't the state of this search."""
+    """A file isn't a state of this search."""
 
 
 class StateInUse(OSError):
-    """Another search has locked a state."""
+    """Another search uses a state file."""
 
 
 class State:
-    """The state file of a search, locked while the context lasts. Without a path it keeps nothing."""
+    """The state file of a search, locked inside a `with` block. Without a path nothing is stored."""
 
     def __init__(self, path: str | None, shop: Instance, search: Search) -> None:
         self.path = path
         self.shop = shop
-        self.asked = asked_for(shop, search)
+        self.identity = identity_of(shop, search)
         self.cells = 0
         self.lock: int | None = None
         self.fault: OSError | None = None
@@ -40,11 +40,11 @@ class State:
     def __enter__(self) -> State:
         if self.path is not None:
             try:
-                self.lock = locked(self.path)
+                self.lock = lock_of(self.path)
             except StateInUse:
                 raise
             except OSError as fault:
-                # The first `write` raises it, so that the order until then isn't lost.
+                # The first `write` raises it. Then the order found so far isn't lost.
                 self.fault = fault
         return self
 
@@ -55,25 +55,25 @@ class State:
             os.close(self.lock)
 
     def read(self, rounds: int) -> Solution | None:
-        """Return the order after the last part that was kept; None without a file."""
-        before = None if self.path is None else read_state(self.path, self.shop, self.asked)
+        """Return the stored order, or None if there is no file."""
+        before = None if self.path is None else read_state(self.path, self.shop, self.identity)
         if before is not None and before.rounds > rounds:
-            raise StateFault(f"{self.path}: the search has made {before.rounds:,} rounds, more than {rounds:,}")
+            raise StateFault(f"{self.path}: the search has already made {before.rounds:,} rounds, more than {rounds:,}")
         self.cells = before.cells if before else 0
         return before
 
     def write(self, best: Solution) -> None:
-        """Keep the order that the search has come to."""
+        """Store the best order so far."""
         if self.fault is not None:
             raise self.fault
         if self.path is not None:
-            text = text_of(self.asked, best, self.cells + best.cells)
-            write_whole(self.path, text.encode("ascii"), f"{os.path.realpath(self.path)}.new")
+            text = state_text(self.identity, best, self.cells + best.cells)
+            atomic_write(self.path, text.encode("ascii"), f"{os.path.realpath(self.path)}.new")
 
 
-def locked(path: str) -> int:
-    """Lock the file `PATH.lock`, and return its descriptor. A file that another process has removed meanwhile doesn't
-    count."""
+def lock_of(path: str) -> int:
+    """Lock the file `PATH.lock`, and return its descriptor. If another process removes the file in the meantime, start
+    again."""
     name = f"{path}.lock"
     while True:
         try:
@@ -85,42 +85,43 @@ def locked(path: str) -> int:
             if os.path.samestat(os.fstat(lock), os.lstat(name)):
                 return lock
         except FileNotFoundError:
-            """It was removed before it was locked."""
+            pass  # another process removed it before it was locked
         except BlockingIOError:
             os.close(lock)
-            raise StateInUse(f"{path}: another search uses this state") from None
+            raise StateInUse(f"{path}: another search is using this state") from None
         os.close(lock)
 
 
-def asked_for(shop: Instance, search: Search) -> dict[str, Any]:
-    """What makes this search this one: another has another end."""
+def identity_of(shop: Instance, search: Search) -> dict[str, Any]:
+    """Return the inputs of a search. Only a search with the same inputs may continue from its state."""
     start = "NEH" if search.start is None else hashlib.sha256(search.start).hexdigest()
-    times = hashlib.sha256(repr(shop.times.shape).encode() + shop._given[0]).hexdigest()
+    times = hashlib.sha256(repr(shop.times.shape).encode() + shop._arguments[0]).hexdigest()
     return {"instance": times, "start": start, "take": search.take, "passes": search.passes, "seed": search.seed}
 
 
-def text_of(asked: dict[str, Any], best: Solution, cells: int) -> str:
-    """The state after these rounds."""
-    state = {"state": VERSION} | asked | {"rounds": best.rounds, "makespan": best.makespan, "cells": cells}
+def state_text(identity: dict[str, Any], best: Solution, cells: int) -> str:
+    """Return the content of a state file."""
+    state = {"state": VERSION} | identity | {"rounds": best.rounds, "makespan": best.makespan, "cells": cells}
     state |= {"order": [job + 1 for job in best.order.tolist()]}
-    return json.dumps(state | {"sum": sum_of(state)}) + "\n"
+    return json.dumps(state | {"sum": checksum(state)}) + "\n"
 
 
-def sum_of(state: dict[str, Any]) -> str:
-    """The checksum of a state."""
+def checksum(state: dict[str, Any]) -> str:
+    """Return the checksum of a state."""
     return hashlib.sha256(json.dumps(state, sort_keys=True).encode()).hexdigest()
 
 
-def read_state(path: str, shop: Instance, asked: dict[str, Any]) -> Solution | None:
-    """Read the order of a state, with its rounds and cells; None without a file."""
+def read_state(path: str, shop: Instance, identity: dict[str, Any]) -> Solution | None:
+    """Return the order of a state file, with its rounds and cells, or None if there is no file."""
     try:
-        state = parsed(path)
+        state = parse_state(path)
     except FileNotFoundError:
         return None
-    for name, value in asked.items():
+    for name, value in identity.items():
         if state.get(name) != value:
-            known = f", its is {state.get(name)}" if name in ("take", "passes", "seed") else ""
-            raise StateFault(f"{path}: the state of another search: another {name}{known}")
+            is_shown = name in ("take", "passes", "seed")
+            other = f"{name} {state.get(name)}, not {value}" if is_shown else f"another {name}"
+            raise StateFault(f"{path}: the state of a search with {other}")
     try:
         order = [job - 1 for job in state["order"]]
         best = Solution(order, state["makespan"], state["cells"], shop.machines, state["rounds"])
@@ -128,12 +129,12 @@ def read_state(path: str, shop: Instance, asked: dict[str, Any]) -> Solution | N
     except (KeyError, TypeError, ValueError):
         is_right = False
     if not is_right:
-        raise StateFault(f"{path}: the state of a search, but its order isn't one of the instance")
+        raise StateFault(f"{path}: the state of a search, but its order doesn't fit the instance")
     return best
 
 
-def parsed(path: str) -> dict[str, Any]:
-    """The fields of a state file whose checksum is right."""
+def parse_state(path: str) -> dict[str, Any]:
+    """Return the fields of a state file, after checking its checksum."""
     text, _ = bytes_of(path, c.LONGEST_INPUT)
     if len(text) > c.LONGEST_INPUT:
         raise StateFault(f"{path}: not the state of a search: longer than {c.LONGEST_INPUT:,} bytes")
@@ -146,6 +147,6 @@ def parsed(path: str) -> dict[str, Any]:
         raise StateFault(f"{path}: the state of a search by another version of pfs")
     if not isinstance(state, dict) or version != VERSION:
         raise StateFault(f"{path}: not the state of a search")
-    if state.pop("sum", None) != sum_of(state):
-        raise StateFault(f"{path}: the state of a search, but it is damaged: its checksum is wrong")
+    if state.pop("sum", None) != checksum(state):
+        raise StateFault(f"{path}: the state of a search, but damaged: its checksum is wrong")
     return state

@@ -138,7 +138,7 @@ def table_of(source: str | os.PathLike[str], unit: str, decimal: str | None = No
              allow_totals: bool = False) -> Table:
     """Read a table. The parameters are those of `read_csv`."""
     if decimal not in (None, ".", ","):
-        raise ValueError(f"decimal should be '.' or ',', not {decimal!r}")
+        raise ValueError(f"decimal must be '.' or ',', not {decimal!r}")
     path = os.fspath(source)
     with open(path, "rb") as file:
         content = read_up_to(file.read, c.LONGEST_INPUT + 1)

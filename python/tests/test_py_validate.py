@@ -15,7 +15,7 @@ import pytest
 from hypothesis import given
 from hypothesis import strategies as st
 from hypothesis.extra import numpy as arrays
-from pfs import _given, _instance, _library
+from pfs import _instance, _library, _validate
 
 TIMES = [[3, 2], [2, 5], [4, 1]]
 KINDS = ["<u1", "<i1", "<u2", ">u2", "<i4", ">i4", "<u4", ">u4", "<i8", ">i8", "<u8", ">u8", "<f2", ">f4", "<f8", ">f8"]
@@ -67,32 +67,32 @@ def test_lists_of_each_make() -> None:
     ([3, 2], ValueError, r"a row for each job and a column for each machine, not the shape \(2,\)"),
     (7, ValueError, r"not the shape \(\)"),
     ([[[1]]], ValueError, r"not the shape \(1, 1, 1\)"),
-    ([[1, 2], [3]], ValueError, "times can't be made an array"),
-    (np.zeros((0, 2)), ValueError, "times of 0 jobs on 2 machines"),
-    (np.zeros((2, 0)), ValueError, "times of 2 jobs on 0 machines"),
-    (np.zeros((5001, 1)), ValueError, "times of 5,001 jobs on 1 machines"),
-    (np.zeros((1, 201)), ValueError, "times of 1 jobs on 201 machines"),
+    ([[1, 2], [3]], ValueError, "times can't be converted to an array"),
+    (np.zeros((0, 2)), ValueError, "times has 0 jobs and 2 machines"),
+    (np.zeros((2, 0)), ValueError, "times has 2 jobs and 0 machines"),
+    (np.zeros((5001, 1)), ValueError, "times has 5,001 jobs and 1 machines"),
+    (np.zeros((1, 201)), ValueError, "times has 1 jobs and 201 machines"),
     ([[1, 2], [3, 2.5]], ValueError, "times: 2.5 at job 1, machine 1 isn't a whole number"),
     ([[1, float("nan")]], ValueError, "times: nan at job 0, machine 1 isn't a whole number"),
     ([[1, float("inf")]], ValueError, "times: inf at job 0, machine 1 isn't a whole number"),
-    ([[1, 2], [-3, 2]], ValueError, "times: -3 at job 1, machine 0 isn't 0 to 1,000,000,000"),
-    ([[1, 1_000_000_001]], ValueError, "times: 1000000001 at job 0, machine 1 isn't 0 to 1,000,000,000"),
-    ([[1, 2**40 + 1.0]], ValueError, "job 0, machine 1 isn't 0 to"),
-    ([[1, 2**70]], ValueError, "times: 1180591620717411303424 at job 0, machine 1 isn't 0 to"),
+    ([[1, 2], [-3, 2]], ValueError, "times: -3 at job 1, machine 0 isn't from 0 to 1,000,000,000"),
+    ([[1, 1_000_000_001]], ValueError, "times: 1000000001 at job 0, machine 1 isn't from 0 to 1,000,000,000"),
+    ([[1, 2**40 + 1.0]], ValueError, "job 0, machine 1 isn't from 0 to"),
+    ([[1, 2**70]], ValueError, "times: 1180591620717411303424 at job 0, machine 1 isn't from 0 to"),
     ([[1, None]], TypeError, "times: None at job 0, machine 1 isn't a whole number"),
-    (np.array([[2**32]], dtype=np.float32), ValueError, "times: 42949[.0-9]+ at job 0, machine 0 isn't 0 to"),
+    (np.array([[2**32]], dtype=np.float32), ValueError, "times: 42949[.0-9]+ at job 0, machine 0 isn't from 0 to"),
     (np.array([[np.inf]], dtype=np.float16), ValueError, "times: inf at job 0, machine 0 isn't a whole number"),
     (np.array([[2**63]], dtype=np.uint64), ValueError, "times: 9223372036854775808 at job 0"),
-    (np.array([[-1]], dtype=np.int8), ValueError, "times: -1 at job 0, machine 0 isn't 0 to"),
-    ([["1", "2"]], TypeError, "times should be whole numbers, not of the kind <U1"),
-    ([[True, 2], [3, 4]], TypeError, "times should be whole numbers, not of the kind bool"),
-    ([[1, 2], (3, np.False_)], TypeError, "times should be whole numbers, not of the kind bool"),
+    (np.array([[-1]], dtype=np.int8), ValueError, "times: -1 at job 0, machine 0 isn't from 0 to"),
+    ([["1", "2"]], TypeError, "times must be whole numbers, not of dtype <U1"),
+    ([[True, 2], [3, 4]], TypeError, "times must be whole numbers, not of dtype bool"),
+    ([[1, 2], (3, np.False_)], TypeError, "times must be whole numbers, not of dtype bool"),
     (np.array([[True, 2]], dtype=object), TypeError, "times: True at job 0, machine 0 isn't a whole number"),
     (np.array([[1, np.True_]], dtype=object), TypeError, "times: True at job 0, machine 1 isn't a whole number"),
-    ([[True, False]], TypeError, "not of the kind bool"),
-    ([[1j]], TypeError, "not of the kind complex"),
-    (np.array([[1]], dtype="M8[s]"), TypeError, "not of the kind datetime"),
-    (np.array([[(1,)]], dtype=[("a", int)]), TypeError, "times should be whole numbers"),
+    ([[True, False]], TypeError, "not of dtype bool"),
+    ([[1j]], TypeError, "not of dtype complex"),
+    (np.array([[1]], dtype="M8[s]"), TypeError, "not of dtype datetime"),
+    (np.array([[(1,)]], dtype=[("a", int)]), TypeError, "times must be whole numbers"),
     (np.ma.masked_array([[1, 2]], mask=[[False, True]]),  # type: ignore[no-untyped-call]
      TypeError, "masked"),
     (None, ValueError, r"not the shape \(\)"),
@@ -104,8 +104,8 @@ def test_times_that_are_refused(times: Any, kind: type[Exception], why: str) -> 
 
 
 @pytest.mark.parametrize(("order", "kind", "why"), [
-    ([0, 3], ValueError, "order: 3 at place 1 isn't a job: they are 0 to 2"),
-    ([1, 0, 1], ValueError, "order: job 1 stands at place 0 and again at place 2"),
+    ([0, 3], ValueError, "order: 3 at place 1 isn't a job: jobs are 0 to 2"),
+    ([1, 0, 1], ValueError, "order: job 1 occurs twice, at places 0 and 2"),
     ([3, 3], ValueError, "order: 3 at place 0 isn't a job"),
     ([0, -1], ValueError, "order: -1 at place 1 isn't a job"),
     (np.array([0, -1]), ValueError, "order: -1 at place 1 isn't a job"),
@@ -114,28 +114,28 @@ def test_times_that_are_refused(times: Any, kind: type[Exception], why: str) -> 
     ([0, 2**32], ValueError, "order: 4294967296 at place 1 isn't a job"),
     ([0, 2**80], ValueError, "at place 1 isn't a job"),
     ([0, 0.5], ValueError, "order: 0.5 at place 1 isn't a whole number"),
-    ([0, "1"], TypeError, "order should be whole numbers"),
+    ([0, "1"], TypeError, "order must be whole numbers"),
     ([0, None], TypeError, "order: None at place 1 isn't a whole number"),
-    (np.array([True, False]), TypeError, "order should be whole numbers, not of the kind bool"),
-    ([True, False], TypeError, "order should be whole numbers, not of the kind bool"),
-    ((2, True, False), TypeError, "order should be whole numbers, not of the kind bool"),
-    ([np.True_, np.False_], TypeError, "order should be whole numbers, not of the kind bool"),
-    ([2, np.True_, 0], TypeError, "order should be whole numbers, not of the kind bool"),
+    (np.array([True, False]), TypeError, "order must be whole numbers, not of dtype bool"),
+    ([True, False], TypeError, "order must be whole numbers, not of dtype bool"),
+    ((2, True, False), TypeError, "order must be whole numbers, not of dtype bool"),
+    ([np.True_, np.False_], TypeError, "order must be whole numbers, not of dtype bool"),
+    ([2, np.True_, 0], TypeError, "order must be whole numbers, not of dtype bool"),
     (np.array([2, True, 0], dtype=object), TypeError, "order: True at place 1 isn't a whole number"),
     (np.array([1, 2**32], dtype=np.float32), ValueError, "order: 42949[.0-9]+ at place 1 isn't a job"),
     (np.array([1, 2**32], dtype=np.float64), ValueError, "order: 42949[.0-9]+ at place 1 isn't a job"),
     (np.array([1, 2**32], dtype=np.longdouble), ValueError, "order: 42949[.0-9]+ at place 1 isn't a job"),
     (np.array([0, 2**33], dtype=np.float32), ValueError, "at place 1 isn't a job"),
-    (np.array([0, 200], dtype=np.uint8), ValueError, "order: 200 at place 1 isn't a job: they are 0 to 2"),
+    (np.array([0, 200], dtype=np.uint8), ValueError, "order: 200 at place 1 isn't a job: jobs are 0 to 2"),
     (np.array([0, -1], dtype=np.int8), ValueError, "order: -1 at place 1 isn't a job"),
     (np.array([np.int8(-1)], dtype=object), ValueError, "order: -1 at place 0 isn't a job"),
-    ([[0, 1, 2]], ValueError, r"order should be a list of jobs, not of the shape \(1, 3\)"),
+    ([[0, 1, 2]], ValueError, r"order must be a list of jobs, not of the shape \(1, 3\)"),
     (0, ValueError, r"not of the shape \(\)"),
     (None, ValueError, r"not of the shape \(\)"),
     ("012", ValueError, r"not of the shape \(\)"),
-    ([0, [1]], ValueError, "order can't be made an array"),
+    ([0, [1]], ValueError, "order can't be converted to an array"),
     (list(range(5000)), ValueError, "order: 3 at place 3 isn't a job"),
-    (np.zeros(100_000, dtype=np.uint32), ValueError, "order: job 0 stands at place 0 and again at place 1"),
+    (np.zeros(100_000, dtype=np.uint32), ValueError, "order: job 0 occurs twice, at places 0 and 1"),
 ])
 def test_orders_that_are_refused(order: Any, kind: type[Exception], why: str) -> None:
     with pytest.raises(kind, match=why):
@@ -146,20 +146,20 @@ def test_orders_of_some_jobs_are_refused_where_all_are_due() -> None:
     shop = pfs.Instance(TIMES)
     orders: list[list[int]] = [[0, 1], [0, 1, 2, 0], []]
     for order in orders:
-        with pytest.raises(ValueError, match=f"order has {len(order)} jobs, and the instance 3"):
+        with pytest.raises(ValueError, match=f"order has {len(order)} jobs, but the instance has 3"):
             shop.schedule(order)
-    with pytest.raises(ValueError, match="order: job 0 stands at place 0 and again at place 2"):
+    with pytest.raises(ValueError, match="order: job 0 occurs twice, at places 0 and 2"):
         shop.schedule([0, 1, 0])
 
 
 @pytest.mark.parametrize(("sequence", "job", "kind", "why"), [
-    ([0, 1], 3, ValueError, "job is 3, and should be 0 to 2"),
-    ([0, 1], -1, ValueError, "job is -1"),
-    ([0, 1], 1, ValueError, "job 1 stands in the sequence already"),
-    ([0, 0], 1, ValueError, "sequence: job 0 stands at place 0 and again at place 1"),
+    ([0, 1], 3, ValueError, "job must be from 0 to 2, not 3"),
+    ([0, 1], -1, ValueError, "job must be from .*, not -1"),
+    ([0, 1], 1, ValueError, "job 1 is already in the sequence"),
+    ([0, 0], 1, ValueError, "sequence: job 0 occurs twice, at places 0 and 1"),
     ([0, 7], 1, ValueError, "sequence: 7 at place 1 isn't a job"),
-    ([0, 1], 2.0, TypeError, "job should be a whole number, not 2.0"),
-    ([0, 1], 2**64 + 2, ValueError, "job is 18446744073709551618"),
+    ([0, 1], 2.0, TypeError, "job must be an integer, not 2.0"),
+    ([0, 1], 2**64 + 2, ValueError, "job must be from .*, not 18446744073709551618"),
 ])
 def test_insertions_that_are_refused(sequence: list[int], job: Any, kind: type[Exception], why: str) -> None:
     with pytest.raises(kind, match=why):
@@ -169,29 +169,29 @@ def test_insertions_that_are_refused(sequence: list[int], job: Any, kind: type[E
 
 
 @pytest.mark.parametrize(("orders", "kind", "why"), [
-    ([0, 1], ValueError, r"orders should have a row for each sequence of jobs, not the shape \(2,\)"),
-    ([[0, 1], [0]], ValueError, "orders can't be made an array"),
-    ([[0, 1], [1, 3]], ValueError, "orders, row 1: 3 at place 1 isn't a job: they are 0 to 2"),
-    ([[0, 1], [2, 2]], ValueError, "orders, row 1: job 2 stands at place 0 and again at place 1"),
+    ([0, 1], ValueError, r"orders must have a row for each sequence of jobs, not the shape \(2,\)"),
+    ([[0, 1], [0]], ValueError, "orders can't be converted to an array"),
+    ([[0, 1], [1, 3]], ValueError, "orders, row 1: 3 at place 1 isn't a job: jobs are 0 to 2"),
+    ([[0, 1], [2, 2]], ValueError, "orders, row 1: job 2 occurs twice, at places 0 and 1"),
     ([[0, -1]], ValueError, "orders: -1 at row 0, place 1 isn't a job"),
     ([[0, 2**32]], ValueError, "orders: 4294967296 at row 0, place 1 isn't a job"),
     ([[0, 0.5]], ValueError, "orders: 0.5 at row 0, place 1 isn't a whole number"),
-    ([[True, False]], TypeError, "orders should be whole numbers, not of the kind bool"),
-    ([["a"]], TypeError, "orders should be whole numbers"), (None, ValueError, "orders should have a row"),
-    (np.zeros((2, 100_000), dtype=np.uint32), ValueError, "orders, row 0: job 0 stands at place 0 and again")])
+    ([[True, False]], TypeError, "orders must be whole numbers, not of dtype bool"),
+    ([["a"]], TypeError, "orders must be whole numbers"), (None, ValueError, "orders must have a row"),
+    (np.zeros((2, 100_000), dtype=np.uint32), ValueError, "orders, row 0: job 0 occurs twice")])
 def test_rows_of_orders_that_are_refused(orders: Any, kind: type[Exception], why: str) -> None:
     with pytest.raises(kind, match=why):
         pfs.Instance(TIMES).makespans(orders)
 
 
 @pytest.mark.parametrize(("words", "kind", "why"), [
-    ((0, 1, 1), ValueError, "jobs is 0, and should be 1 to 5,000"),
-    ((5001, 1, 1), ValueError, "jobs is 5001"),
-    ((1, 201, 1), ValueError, "machines is 201, and should be 1 to 200"),
-    ((1, 1, 0), ValueError, "seed is 0, and should be 1 to 2,147,483,646"),
-    ((1, 1, 2**31 - 1), ValueError, "seed is 2147483647"),
-    ((1, 1, 2**64 + 1), ValueError, "seed is 18446744073709551617"),
-    ((1.0, 1, 1), TypeError, "jobs should be a whole number, not 1.0"),
+    ((0, 1, 1), ValueError, "jobs must be from 1 to 5,000, not 0"),
+    ((5001, 1, 1), ValueError, "jobs must be from .*, not 5001"),
+    ((1, 201, 1), ValueError, "machines must be from 1 to 200, not 201"),
+    ((1, 1, 0), ValueError, "seed must be from 1 to 2,147,483,646, not 0"),
+    ((1, 1, 2**31 - 1), ValueError, "seed must be from .*, not 2147483647"),
+    ((1, 1, 2**64 + 1), ValueError, "seed must be from .*, not 18446744073709551617"),
+    ((1.0, 1, 1), TypeError, "jobs must be an integer, not 1.0"),
 ])
 def test_instances_that_are_not_generated(words: Any, kind: type[Exception], why: str) -> None:
     with pytest.raises(kind, match=why):
@@ -216,25 +216,26 @@ def test_truth_values_are_no_numbers(truth: Any) -> None:
         "order": lambda: pfs.Solution([truth], 1), "start": lambda: shop.solve(1, start=[0, truth, 2]),
         "sequence": lambda: shop.best_place([truth], 0)}
     for name, call in calls.items():
-        with pytest.raises(TypeError, match=f"^{name.split()[0]} should be "):
+        with pytest.raises(TypeError, match=f"^{name.split()[0]} must be "):
             pytest.fail(f"{name} is {call()!r} for {truth!r}")
 
 
 def test_other_words_that_are_refused() -> None:
     shop = pfs.Instance(TIMES)
-    with pytest.raises(ValueError, match="layout is 'csv', and should be 'taillard' or 'orlib'"):
+    with pytest.raises(ValueError, match="layout must be 'taillard' or 'orlib', not 'csv'"):
         shop.to_text("csv")
-    with pytest.raises(TypeError, match="layout should be 'taillard' or 'orlib', not 0"):
+    with pytest.raises(TypeError, match="layout must be 'taillard' or 'orlib', not 0"):
         pfs.read("x", 0)  # type: ignore[arg-type]
     for block in (0, 1001):
-        with pytest.raises(ValueError, match=f"block is {block}, and should be 1 to 1,000"):
+        with pytest.raises(ValueError, match=f"block must be from 1 to 1,000, not {block}"):
             pfs.read("x", "orlib", block)
     for number in (0, 121):
-        with pytest.raises(ValueError, match=f"number is {number}, and should be 1 to 120"):
+        with pytest.raises(ValueError, match=f"number must be from 1 to 120, not {number}"):
             pfs.taillard(number)
     refused: list[tuple[dict[str, Any], str]] = [
-        ({"job_names": ["a"]}, "1 names for 3"), ({"machine_names": ["a", "a"]}, "'a' stands there twice"),
-        ({"decimals": 10}, "decimals is 10"), ({"seed": 2**32}, "seed is 4294967296")]
+        ({"job_names": ["a"]}, "has 1 names, but 3 are needed"), ({"machine_names": ["a", "a"]}, "'a' occurs twice"),
+        ({"decimals": 10}, "decimals must be from .*, not 10"),
+        ({"seed": 2**32}, "seed must be from .*, not 4294967296")]
     for words, why in refused:
         with pytest.raises(ValueError, match=why):
             pfs.Instance(TIMES, **words)
@@ -321,7 +322,7 @@ def test_arrays_that_another_thread_changes(kind: Any) -> None:
 def test_what_is_validated_is_a_copy(kind: str) -> None:
     """So nothing that another thread writes afterwards counts."""
     for times in makes(TIMES, kind):
-        own = _given.copied(times, "times")
+        own = _validate.array_copy(times, "times")
         assert not np.shares_memory(own, times), f"times of the kind {kind} are validated in the caller's memory"
         assert own.tolist() == TIMES
 
@@ -407,7 +408,7 @@ def test_memory_that_is_refused_is_a_memory_error(monkeypatch: pytest.MonkeyPatc
     monkeypatch.setattr(_library.library, name, lambda *_: _library.MEMORY)
     for each in QUICK:
         monkeypatch.setattr(_instance, each, lambda *_: _library.MEMORY)
-    with pytest.raises(MemoryError, match="^pfs: memory was refused$"):
+    with pytest.raises(MemoryError, match="^pfs: memory allocation failed$"):
         call()
 
 
