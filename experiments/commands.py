@@ -13,7 +13,7 @@ import threading
 from collections.abc import Callable
 from typing import NoReturn
 
-from csvs import Refused as Refused
+from csvs import ExperimentError as ExperimentError
 
 HERE = pathlib.Path(__file__).resolve().parent
 # A folder of the repository has the built program; the installed scripts are in PREFIX/libexec/pfs/experiments.
@@ -27,22 +27,22 @@ ONE_JOB = b"\n1 1 1 0 0\nprocessing times :\n1\n"
 
 
 def name_of(script: str) -> str:
-    """How a user calls a script."""
+    """The name by which a user calls a script."""
     return f"pfs-experiments {script}" if IS_INSTALLED else f"experiments/{script}"
 
 
-class Words(argparse.ArgumentParser):
-    """A command line. Faults are reported on one line."""
+class CommandLine(argparse.ArgumentParser):
+    """A parser of command lines. Errors are reported on one line."""
 
     def __init__(self, script: str, usage: str, **how: bool) -> None:
         super().__init__(prog=name_of(script), usage=f"%(prog)s {usage}", **how)  # type: ignore[arg-type]
 
     def error(self, message: str) -> NoReturn:
-        raise Refused(f"{message} ({' '.join(self.format_usage().split())})")
+        raise ExperimentError(f"{message} ({' '.join(self.format_usage().split())})")
 
 
-def whole_from(least: int) -> Callable[[str], int]:
-    """Reads a whole number that is not below the least one."""
+def integer_from(least: int) -> Callable[[str], int]:
+    """Returns a parser of integers from `least`."""
     def read(text: str) -> int:
         if not re.fullmatch("[0-9]{1,9}", text, re.ASCII) or int(text) < least:
             raise argparse.ArgumentTypeError(f"{text!r} is not a whole number from {least}")
@@ -53,21 +53,21 @@ def whole_from(least: int) -> Callable[[str], int]:
 def need(program: str, package: str) -> None:
     """Reports a program that is missing, with its package."""
     if shutil.which(program) is None:
-        raise Refused(f"{program} is not installed (Debian: {package})")
+        raise ExperimentError(f"{program} is not installed (Debian: {package})")
 
 
 def need_pfs(program: str | None) -> str:
     """The path of the program, which must be pfs."""
     if program is None:
-        raise Refused("pfs is not built (make run), and not on the path: name it by --pfs")
+        raise ExperimentError("pfs is not built (make run), and not on the path: name it by --pfs")
     if not os.access(program, os.X_OK) or os.path.isdir(program):
-        raise Refused(f"{program} is not a program")
+        raise ExperimentError(f"{program} is not a program")
     if not prints(program, ONE_JOB):
-        raise Refused(f"{program} is not pfs: `{program} generate 1 1 1` must print an instance")
+        raise ExperimentError(f"{program} is not pfs: `{program} generate 1 1 1` must print an instance")
     return os.path.abspath(program)
 
 
-def prints(program: str, wanted: bytes) -> bool:
+def prints(program: str, expected: bytes) -> bool:
     """Whether the program draws the instance of one job. At most 1,000 bytes of its output are read."""
     words = [os.path.abspath(program), "generate", "1", "1", "1"]
     try:
@@ -79,7 +79,7 @@ def prints(program: str, wanted: bytes) -> bool:
     with process:
         assert process.stdout is not None
         try:
-            return process.stdout.read(1000).endswith(wanted)
+            return process.stdout.read(1000).endswith(expected)
         finally:
             hangs.cancel()
             process.kill()
@@ -91,8 +91,8 @@ def plain(text: str) -> str:
                    for sign in text)
 
 
-def told(script: str, error: Exception) -> int:
-    """Reports on one line why a script can't continue. Returns its exit status."""
+def report_error(script: str, error: Exception) -> int:
+    """Reports on one line why a script can't continue, and returns its exit status."""
     file = (error.filename2 or error.filename) if isinstance(error, OSError) else None
     path = f"{os.fsdecode(file)}: " if isinstance(file, (str, bytes)) else ""
     line = f"{path}{error.strerror}" if isinstance(error, OSError) and error.strerror else str(error)
@@ -100,12 +100,12 @@ def told(script: str, error: Exception) -> int:
     return 2
 
 
-def called(script: str, make: Callable[[], int]) -> int:
+def run_script(script: str, make: Callable[[], int]) -> int:
     """Runs a script, and returns its exit status. Names of files may have bytes that are not UTF-8."""
     for stream in (sys.stdout, sys.stderr):
         if isinstance(stream, io.TextIOWrapper):
             stream.reconfigure(errors="backslashreplace")
     try:
         return make()
-    except (Refused, OSError, ImportError) as error:
-        return told(script, error)
+    except (ExperimentError, OSError, ImportError) as error:
+        return report_error(script, error)

@@ -69,7 +69,7 @@ def means_of(runs: list[Run]) -> dict[str, Mean]:
     return means
 
 
-def strangers(runs: list[Run]) -> list[tuple[str, str]]:
+def unrelated_methods(runs: list[Run]) -> list[tuple[str, str]]:
     """The pairs of methods without a common instance."""
     instances = {method: {run.instance for run in group}
                  for (method,), group in grouped(runs, lambda run: (run.method,))}
@@ -104,10 +104,10 @@ def exact(differences: list[Fraction]) -> float:
 def holm(probabilities: list[float | None]) -> list[float | None]:
     """The probabilities with Holm's correction for their number."""
     found: list[float | None] = [None] * len(probabilities)
-    given = sorted((p, at) for at, p in enumerate(probabilities) if p is not None)
+    present = sorted((p, at) for at, p in enumerate(probabilities) if p is not None)
     greatest = 0.0
-    for place, (p, at) in enumerate(given):
-        greatest = max(greatest, min(1.0, (len(given) - place) * p))
+    for place, (p, at) in enumerate(present):
+        greatest = max(greatest, min(1.0, (len(present) - place) * p))
         found[at] = greatest
     return found
 

@@ -8,8 +8,8 @@ import re
 from collections.abc import Iterable
 
 
-class Refused(Exception):
-    """Why something can't be done, on one line."""
+class ExperimentError(Exception):
+    """An error that is reported on one line."""
 
 
 Row = dict[str, str]
@@ -26,18 +26,18 @@ def rows_of(path: str, needed: Iterable[str]) -> list[Row]:
             reader = csv.DictReader(file, restval="")
             columns, rows = reader.fieldnames or [], list(reader)
     except (OSError, ValueError, csv.Error) as error:
-        raise Refused(f"{path}: {getattr(error, 'strerror', None) or error}") from None
+        raise ExperimentError(f"{path}: {getattr(error, 'strerror', None) or error}") from None
     missing = [column for column in needed if column not in columns]
     if missing:
-        raise Refused(f"{path}: no column {', '.join(missing)}")
+        raise ExperimentError(f"{path}: no column {', '.join(missing)}")
     if not rows:
-        raise Refused(f"{path}: no rows")
+        raise ExperimentError(f"{path}: no rows")
     if any(None in row for row in rows):
-        raise Refused(f"{path}: a row is longer than the first line")
+        raise ExperimentError(f"{path}: a row is longer than the first line")
     return rows
 
 
-def whole(text: str, most: int = MOST) -> int:
+def parse_int(text: str, most: int = MOST) -> int:
     """A whole number from 0, also in the form `5.0`, which other programs write."""
     text = text.strip()
     found = re.fullmatch(r"0*([0-9]{1,20})(?:\.0*)?", text, re.ASCII)
@@ -68,16 +68,16 @@ def reference_of(path: str) -> dict[str, tuple[int, str]]:
     found: dict[str, tuple[int, str]] = {}
     for row in rows_of(path, ["instance", "makespan"]):
         try:
-            told = whole(row["makespan"], MOST_MAKESPAN), row.get("source", "")
+            entry = parse_int(row["makespan"], MOST_MAKESPAN), row.get("source", "")
         except ValueError as error:
-            raise Refused(f"{path}: {error}") from None
-        if found.setdefault(row["instance"], told) != told:
-            raise Refused(f"{path}: two makespans of {row['instance']}")
+            raise ExperimentError(f"{path}: {error}") from None
+        if found.setdefault(row["instance"], entry) != entry:
+            raise ExperimentError(f"{path}: two makespans of {row['instance']}")
     return found
 
 
-def referred(reference: dict[str, tuple[int, str]], instance: str) -> tuple[int, str] | None:
-    """What a reference says of an instance, by its whole name or by the last part of its path."""
+def reference_for(reference: dict[str, tuple[int, str]], instance: str) -> tuple[int, str] | None:
+    """Returns the reference of an instance, by its full name or by the last part of its path."""
     return reference.get(instance) or reference.get(instance.rpartition("/")[2])
 
 
@@ -96,7 +96,7 @@ def text_cell(text: str) -> str:
     return f"'{text}" if FORMULA.match(text) else text
 
 
-# Words of a command line
+# Arguments of a command line
 
 def inches(text: str) -> float:
     if not re.fullmatch(r"[0-9]{1,2}(?:\.[0-9]{1,4})?", text, re.ASCII) or not 2 <= float(text) <= 50:

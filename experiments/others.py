@@ -24,10 +24,10 @@ class Failed(Exception):
     """Why a program has no order."""
 
 
-def printed(words: list[str], folder: str, seconds: float | None) -> tuple[str, float]:
-    """What a program prints on standard output, and its processor seconds, with those of the processes that it has
-    started. A program that takes too long, prints too much or fails is ended, with its processes."""
-    before = used()
+def run_command(words: list[str], folder: str, seconds: float | None) -> tuple[str, float]:
+    """Returns what a program prints on standard output, and its processor seconds, including those of its child
+    processes. A program that takes too long, prints too much or fails is killed, with its child processes."""
+    before = child_seconds()
     try:
         child = subprocess.Popen(words, cwd=folder, stdin=subprocess.DEVNULL, stdout=subprocess.PIPE,
                                  stderr=subprocess.PIPE, start_new_session=True, preexec_fn=end_with_parent)
@@ -35,16 +35,16 @@ def printed(words: list[str], folder: str, seconds: float | None) -> tuple[str, 
         raise Failed(getattr(error, "strerror", None) or str(error)) from None
 
     def stop(number: int, _frame: FrameType | None) -> None:
-        end(child)
+        kill(child)
         os._exit(128 + number)
 
     for number in (signal.SIGTERM, signal.SIGINT, signal.SIGHUP):
         signal.signal(number, stop)
     try:
-        out, errors = watched(child, seconds)
+        out, errors = output_of(child, seconds)
     finally:
-        end(child)
-    spent = used() - before
+        kill(child)
+    spent = child_seconds() - before
     if child.returncode < 0:
         raise Failed(f"signal {-child.returncode}")
     if child.returncode > 0:
@@ -55,21 +55,21 @@ def printed(words: list[str], folder: str, seconds: float | None) -> tuple[str, 
 
 
 def end_with_parent() -> None:
-    """Has the kernel end the program when `one` is killed."""
+    """Makes the kernel kill the program when `one` is killed."""
     ctypes.CDLL(None).prctl(PR_SET_PDEATHSIG, signal.SIGKILL)
 
 
-def used() -> float:
+def child_seconds() -> float:
     spent = resource.getrusage(resource.RUSAGE_CHILDREN)
     return spent.ru_utime + spent.ru_stime
 
 
 def too_long(spent: float, seconds: float) -> Failed:
-    return Failed(f"over its time: {spent:.2f} s, where {seconds:g} s were given")
+    return Failed(f"took too long: {spent:.2f} s of processor time instead of {seconds:g} s")
 
 
-def watched(child: subprocess.Popen[bytes], seconds: float | None) -> tuple[str, str]:
-    """What a program writes until it ends, or is stopped. Its processes end with it."""
+def output_of(child: subprocess.Popen[bytes], seconds: float | None) -> tuple[str, str]:
+    """Returns what a program writes until it ends. Its child processes are killed then."""
     texts: dict[Any, bytes] = {child.stdout: b"", child.stderr: b""}
     start = time.monotonic()
     with selectors.DefaultSelector() as selector:
@@ -77,7 +77,7 @@ def watched(child: subprocess.Popen[bytes], seconds: float | None) -> tuple[str,
             selector.register(stream, selectors.EVENT_READ)
         while selector.get_map() or child.poll() is None:
             if child.poll() is not None:
-                end(child)
+                kill(child)
             for key, _ in selector.select(0.05):
                 data = os.read(key.fd, 65536)
                 texts[key.fileobj] = (texts[key.fileobj] + data)[-2 * MOST_BYTES:]
@@ -96,11 +96,11 @@ def check_time(child: subprocess.Popen[bytes], seconds: float | None, waited: fl
     if spent > TIMES * seconds:
         raise too_long(spent, seconds)
     if waited > 10 * TIMES * seconds + PATIENCE:
-        raise Failed(f"no end after {waited:.0f} s, where {seconds:g} s of processor time were given")
+        raise Failed(f"still running after {waited:.0f} s, instead of {seconds:g} s of processor time")
 
 
 def group_seconds(group: int) -> float:
-    """The processor seconds of all processes of a group, and of those that they have waited for."""
+    """Returns the processor seconds of all processes of a group, and of those that they have waited for."""
     total = 0
     for name in filter(str.isdigit, os.listdir("/proc")):
         try:
@@ -113,8 +113,8 @@ def group_seconds(group: int) -> float:
     return total / os.sysconf("SC_CLK_TCK")
 
 
-def end(child: subprocess.Popen[bytes]) -> None:
-    """Ends a program and all that it has started."""
+def kill(child: subprocess.Popen[bytes]) -> None:
+    """Kills a program and its child processes."""
     try:
         os.killpg(child.pid, signal.SIGKILL)
     except OSError:
@@ -123,7 +123,7 @@ def end(child: subprocess.Popen[bytes]) -> None:
 
 
 def order_of(text: str) -> tuple[str, list[str]]:
-    """The order file that a program has printed, or the job numbers of the one line."""
+    """Returns the order file that a program printed, or the job numbers of its only line."""
     lines = [line for line in text.splitlines() if line.strip()]
     if not lines:
         raise Failed("nothing printed")

@@ -9,7 +9,7 @@ import re
 import shlex
 from typing import Any
 
-from csvs import Refused
+from csvs import ExperimentError
 
 NUMBERS = {"blocks": [1], "rounds": [0], "takes": None, "passes": [0], "seeds": [0]}
 # What pfs accepts.
@@ -23,46 +23,46 @@ LEAST_FACTOR, MOST_FACTOR = 0.001, 10_000
 MOST_BYTES = 1_048_576
 
 
-def parsed(path: str) -> dict[str, Any]:
+def parse_toml(path: str) -> dict[str, Any]:
     """The keys and values of a TOML file."""
     toml: Any = None
     for name in ("tomllib", "tomli"):
         with contextlib.suppress(ImportError):
             toml = toml or importlib.import_module(name)
     if toml is None:
-        raise Refused("a plan needs Python 3.11 or newer, or tomli (Debian: python3-tomli)")
+        raise ExperimentError("a plan needs Python 3.11 or newer, or tomli (Debian: python3-tomli)")
     try:
         with open(path, "rb") as file:
             text = file.read(MOST_BYTES + 1)
         if len(text) > MOST_BYTES:
-            raise Refused(f"{path}: a plan has at most {MOST_BYTES:,} bytes")
+            raise ExperimentError(f"{path}: a plan has at most {MOST_BYTES:,} bytes")
         plan: dict[str, Any] = toml.loads(text.decode())
     except OSError as error:
-        raise Refused(f"{path}: {error.strerror}") from None
+        raise ExperimentError(f"{path}: {error.strerror}") from None
     except ValueError as error:
-        raise Refused(f"{path}: {error}") from None
+        raise ExperimentError(f"{path}: {error}") from None
     except RecursionError:
-        raise Refused(f"{path}: its values are nested too deeply") from None
+        raise ExperimentError(f"{path}: its values are nested too deeply") from None
     return plan
 
 
 def read_plan(path: str) -> dict[str, Any]:
     """The plan with its defaults. Patterns are replaced by the files that they match. `time_factors`, `command`,
     `method` and `files` are missing where the file has none."""
-    plan = parsed(path)
+    plan = parse_toml(path)
     unknown = plan.keys() - KEYS
     if unknown:
-        raise Refused(f"{path}: a plan has no key {min(unknown)!r}")
+        raise ExperimentError(f"{path}: a plan has no key {min(unknown)!r}")
     for key, what in TEXTS.items():
         if not isinstance(plan.get(key, ""), str) or "\0" in plan.get(key, ""):
-            raise Refused(f"{path}: {key} must be {what}")
+            raise ExperimentError(f"{path}: {key} must be {what}")
     full = {key: numbers_of(path, plan, key) for key in NUMBERS}
     full["layout"] = plan.get("layout", "taillard")
     if full["layout"] not in ("taillard", "orlib"):
-        raise Refused(f"{path}: layout must be \"taillard\" or \"orlib\"")
+        raise ExperimentError(f"{path}: layout must be \"taillard\" or \"orlib\"")
     full["repetitions"] = plan.get("repetitions", 1)
     if type(full["repetitions"]) is not int or full["repetitions"] < 1:
-        raise Refused(f"{path}: repetitions must be a whole number from 1")
+        raise ExperimentError(f"{path}: repetitions must be a whole number from 1")
     full["instances"] = matches(path, "instances", plan.get("instances"))
     full["reference"] = plan.get("reference")
     if "time_factors" in plan:
@@ -80,20 +80,20 @@ def numbers_of(path: str, plan: dict[str, Any], key: str) -> Any:
     numbers, (least, most) = plan.get(key, NUMBERS[key]), LIMITS[key]
     if key in plan and not (isinstance(numbers, list) and numbers
                             and all(type(number) is int and least <= number <= most for number in numbers)):
-        raise Refused(f"{path}: {key} must be a list of whole numbers from {least} to {most:,}")
+        raise ExperimentError(f"{path}: {key} must be a list of whole numbers from {least} to {most:,}")
     return numbers
 
 
 def factors_of(path: str, factors: object) -> list[int | float]:
     if not isinstance(factors, list) or not factors or not all(
             type(factor) in (int, float) and LEAST_FACTOR <= factor <= MOST_FACTOR for factor in factors):
-        raise Refused(f"{path}: time_factors must be a list of numbers from {LEAST_FACTOR} to {MOST_FACTOR:,}")
+        raise ExperimentError(f"{path}: time_factors must be a list of numbers from {LEAST_FACTOR} to {MOST_FACTOR:,}")
     return factors
 
 
 def name_of_method(path: str, name: str) -> str:
     if not name or not name.isprintable():
-        raise Refused(f"{path}: method must be a name without control characters")
+        raise ExperimentError(f"{path}: method must be a name without control characters")
     return name
 
 
@@ -102,22 +102,22 @@ def name_of_method(path: str, name: str) -> str:
 def command_of(path: str, plan: dict[str, Any]) -> dict[str, Any]:
     """The command, split into words, and the files that it needs, by their paths from the plan's folder."""
     if not plan.get("command") or "method" not in plan:
-        raise Refused(f"{path}: a command needs a method, which is its name, and files need a command")
+        raise ExperimentError(f"{path}: a command needs a method, which is its name, and files need a command")
     useless = [key for key in OF_PFS if key in plan]
     if useless:
-        raise Refused(f"{path}: {useless[0]} is for pfs, and not for a command")
+        raise ExperimentError(f"{path}: {useless[0]} is for pfs, and not for a command")
     try:
         words = shlex.split(plan["command"])
     except ValueError as error:
-        raise Refused(f"{path}: command: {error}") from None
-    given = {name for word in words for name in re.findall(r"\{(\w*)\}", word)}
+        raise ExperimentError(f"{path}: command: {error}") from None
+    used = {name for word in words for name in re.findall(r"\{(\w*)\}", word)}
     needed = {"instance"} | ({"block"} if plan.get("blocks", [1]) != [1] else set())
     allowed = {"instance", "seed", "block"} | ({"seconds"} if "time_factors" in plan else set())
-    if needed - given:
-        raise Refused(f"{path}: command must have {{{min(needed - given)}}}")
-    if given - allowed:
-        why = ", which needs time_factors" if min(given - allowed) == "seconds" else ""
-        raise Refused(f"{path}: command has {{{min(given - allowed)}}}{why}")
+    if needed - used:
+        raise ExperimentError(f"{path}: command must have {{{min(needed - used)}}}")
+    if used - allowed:
+        why = ", which needs time_factors" if min(used - allowed) == "seconds" else ""
+        raise ExperimentError(f"{path}: command has {{{min(used - allowed)}}}{why}")
     return {"command": words, "files": files_of(path, words[0], plan.get("files")), "rounds": []}
 
 
@@ -130,7 +130,7 @@ def files_of(path: str, program: str, patterns: object) -> list[str]:
         files += matches(path, "command", [glob.escape(program)]) if program not in files else []
     outside = [name for name in files if os.path.isabs(name) or os.path.normpath(name).startswith("..")]
     if outside:
-        raise Refused(f"{path}: {outside[0]} is not in the plan's folder")
+        raise ExperimentError(f"{path}: {outside[0]} is not in the plan's folder")
     return [os.path.normpath(name) for name in files]
 
 
@@ -139,27 +139,27 @@ def files_of(path: str, program: str, patterns: object) -> list[str]:
 def matches(path: str, key: str, patterns: object) -> list[str]:
     """The files that the patterns match, each once, by their paths from the plan's folder."""
     if not isinstance(patterns, list) or not all(isinstance(pattern, str) for pattern in patterns) or not patterns:
-        raise Refused(f"{path}: {key} must be a list of paths")
+        raise ExperimentError(f"{path}: {key} must be a list of paths")
     found: dict[str, None] = {}
     top = os.path.join(os.path.dirname(path) or ".", "")
     for pattern in patterns:
         names = sorted(glob.glob(os.path.join(glob.escape(top), pattern))) if "\0" not in pattern else []
         names = [name[len(top):] if name.startswith(top) and not os.path.isabs(pattern) else name for name in names]
         if not names:
-            raise Refused(f"{path}: no file is {pattern}")
+            raise ExperimentError(f"{path}: no file is {pattern}")
         found.update(dict.fromkeys(names))
     for name in found:
         check_name(path, name)
         if not os.path.isfile(os.path.join(top, name)):
-            raise Refused(f"{path}: {name} is not a file")
+            raise ExperimentError(f"{path}: {name} is not a file")
     return list(found)
 
 
 def check_name(path: str, name: str) -> None:
     """Rejects a name that can't be in a list of runs."""
     if set(name) & set("\t\r\n"):
-        raise Refused(f"{path}: a tab or line end is in the name {name!r}")
+        raise ExperimentError(f"{path}: a tab or line end is in the name {name!r}")
     try:
         name.encode()
     except UnicodeEncodeError:
-        raise Refused(f"{path}: the name {os.fsencode(name)!r} is not UTF-8") from None
+        raise ExperimentError(f"{path}: the name {os.fsencode(name)!r} is not UTF-8") from None

@@ -36,7 +36,7 @@ Colours = Callable[[float], Any]
 
 
 class Look(NamedTuple):
-    """Inches from left to right if they are given, dots an inch, whether there are titles, and what makes figures and
+    """The width in inches, if any, the dots per inch, whether there are titles, and the functions that make figures and
     colours."""
     width: float | None
     dpi: int
@@ -97,27 +97,27 @@ def columns_of(labels: list[str], width: float) -> int:
     return max(1, min(len(labels), int((width - 0.2) / (0.75 + WIDE * max(map(len, labels))))))
 
 
-def panels_of(count: int, beside: int, labels: list[str], look: Look, **shared: Any) -> Panels:
-    """A figure of this number of panels, in lines of at most `beside` panels, fewer if the figure is narrow, and with a
-    legend of these labels below them."""
-    width = look.width or max(6.5, 4.2 * beside)
-    beside = max(1, min(beside, count, int(width / 2.2)))
-    lines = -(-count // beside)
-    height = 3.6 if look.width is None else min(3.4, max(2.0, 0.7 * width / beside))
+def panels_of(count: int, columns: int, labels: list[str], look: Look, **shared: Any) -> Panels:
+    """Returns a figure with this number of panels, in lines of at most `columns` panels, fewer if the figure is narrow,
+    and with a legend of these labels below them."""
+    width = look.width or max(6.5, 4.2 * columns)
+    columns = max(1, min(columns, count, int(width / 2.2)))
+    lines = -(-count // columns)
+    height = 3.6 if look.width is None else min(3.4, max(2.0, 0.7 * width / columns))
     legend = HIGH * (1.5 + -(-len(labels) // columns_of(labels, width)))
     figure = look.figure(figsize=(width, lines * height + legend + 0.3 + 0.25 * look.titles), layout="constrained")
-    grid = figure.add_gridspec(lines + 1, beside, height_ratios=[height] * lines + [legend])
+    grid = figure.add_gridspec(lines + 1, columns, height_ratios=[height] * lines + [legend])
     panels: list[Axis] = []
     for at in range(count):
         axes = {f"share{axis}": panels[0] for axis, is_shared in shared.items() if is_shared and panels}
-        panels.append(figure.add_subplot(grid[at // beside, at % beside], **axes))
-        if shared.get("y") and at % beside:
+        panels.append(figure.add_subplot(grid[at // columns, at % columns], **axes))
+        if shared.get("y") and at % columns:
             panels[-1].tick_params(labelleft=False)
-        if shared.get("x") and at + beside < count:
+        if shared.get("x") and at + columns < count:
             panels[-1].tick_params(labelbottom=False)
     below = figure.add_subplot(grid[lines, :])
     below.set_axis_off()
-    return Panels(figure, panels, below, width / beside - MARGIN)
+    return Panels(figure, panels, below, width / columns - MARGIN)
 
 
 def titled(text: str, inches: float) -> str:

@@ -8,7 +8,7 @@ from collections.abc import Callable, Iterable
 from typing import Any, NamedTuple, TypeVar
 
 import csvs
-from csvs import Refused, finite, whole
+from csvs import ExperimentError, finite, parse_int
 
 HERE = pathlib.Path(__file__).resolve().parent
 # The greatest numbers of columns, beyond which a CSV has a fault.
@@ -47,7 +47,7 @@ class Reported(NamedTuple):
     """The runs, what their RPD is relative to, and the runs that succeeded and have none."""
     runs: list[Run]
     basis: str
-    unreferred: list[Run]
+    unreferenced: list[Run]
 
 
 Each = TypeVar("Each")
@@ -73,7 +73,7 @@ def read_one(path: str, name: str) -> list[Run]:
     try:
         return [run_of(row, name) for row in rows]
     except ValueError as error:
-        raise Refused(f"{path}: {error}") from None
+        raise ExperimentError(f"{path}: {error}") from None
 
 
 def run_of(row: csvs.Row, name: str) -> Run:
@@ -91,7 +91,7 @@ def run_of(row: csvs.Row, name: str) -> Run:
 
 
 def number(row: csvs.Row, column: str, most: int = csvs.MOST) -> int | None:
-    return whole(row[column], most) if row.get(column) else None
+    return parse_int(row[column], most) if row.get(column) else None
 
 
 def short_names(runs: list[Run], count: int) -> list[str]:
@@ -108,10 +108,10 @@ def short_names(runs: list[Run], count: int) -> list[str]:
 def with_deviations(runs: list[Run], reference_path: str | None) -> Reported:
     """The runs with their RPD. If no instance has a reference, the best makespan of the runs is that of each. If any
     has one, the others have none: the best of few runs would make these look good."""
-    told = csvs.reference_of(reference_path) if reference_path else {}
+    stated = csvs.reference_of(reference_path) if reference_path else {}
     done = [run for run in runs if run.makespan is not None]
     columns = {run.instance: run.reference for run in done if run.reference is not None}
-    named = {run.instance: found[0] for run in done for found in [csvs.referred(told, run.instance)] if found}
+    named = {run.instance: found[0] for run in done for found in [csvs.reference_for(stated, run.instance)] if found}
     known = best_known_of([run for run in done if run.instance not in named and run.instance not in columns])
     references = known | columns | named
     parts = [f"that {reference_path} has" if reference_path else "",

@@ -8,7 +8,7 @@ import os
 import pathlib
 import re
 
-from csvs import MOST, MOST_MAKESPAN, Refused, Row, whole
+from csvs import MOST, MOST_MAKESPAN, ExperimentError, Row, parse_int
 from runs import time_of
 
 # The last line that experiments/one prints of a run. Only a run by time has rounds there.
@@ -38,7 +38,7 @@ def has_numbers(result: Row) -> bool:
     try:
         for column, most in (("makespan", MOST_MAKESPAN), ("bound", MOST_MAKESPAN), ("cells", MOST), ("rounds", MOST)):
             # a command has no cells
-            whole(result.get(column) or ("x" if most == MOST_MAKESPAN else "0"), most)
+            parse_int(result.get(column) or ("x" if most == MOST_MAKESPAN else "0"), most)
     except ValueError:
         return False
     return re.fullmatch(r"[0-9]{1,12}\.[0-9]{6}", result["seconds"], re.ASCII) is not None and result["order"] != ""
@@ -103,4 +103,4 @@ def keep_order(folder: pathlib.Path, name: str, text: str) -> None:
         os.replace(new, path)
     except OSError as error:
         new.unlink(missing_ok=True)
-        raise Refused(f"{path}: {error.strerror}") from None
+        raise ExperimentError(f"{path}: {error.strerror}") from None

@@ -1,4 +1,4 @@
-"""The CSV of a plan's runs, and what is reported of them."""
+"""The CSV of a plan's runs, and the report on standard error."""
 from __future__ import annotations
 
 import csv
@@ -8,16 +8,16 @@ import re
 import sys
 
 from commands import plain
-from csvs import Row, path_cell, referred, text_cell
+from csvs import Row, path_cell, reference_for, text_cell
 from results import endings, keep_order, order_name, result_of
-from runs import Begun, in_sequence, time_of, write_whole
+from runs import Experiment, in_plan_order, time_of, write_text
 
 COLUMNS = ["instance", "jobs", "machines", "rounds", "take", "passes", "seed", "repetition",
            "makespan", "bound", "gap_percent", "cells", "seconds", "status", "order", "reference", "source"]
 
 
 def identity(run: Row) -> Row:
-    """What a row says of its run before the run is made. What is not known is empty."""
+    """Returns the columns of a row that are known before the run. Unknown ones are empty."""
     known = {column: value for column, value in run.items() if value != "-" or column == "instance"}
     by_time = time_of(run)
     times = {"rounds": "", "time_factor": by_time[0]} if by_time else {"time_factor": ""}
@@ -33,13 +33,13 @@ def row_of(run: Row, result: Row) -> Row:
     return row | {"status": text_cell(row["status"])}
 
 
-def gather(begun: Begun, csv_path: str) -> tuple[int, int]:
-    """Writes the order files and the CSV of the runs that have ended. Reports and returns how many failed, and how
-    many are missing."""
-    folder = begun.folder
+def gather(experiment: Experiment, csv_path: str) -> tuple[int, int]:
+    """Writes the order files and the CSV of the runs that have ended. Reports and returns the numbers of runs that
+    failed and that are missing."""
+    folder = experiment.folder
     ended = endings(folder)
     rows, left = [], 0
-    for run in in_sequence(folder):
+    for run in in_plan_order(folder):
         result = result_of(folder, run["number"])
         if result is None and run["number"] in ended:
             result = {"status": ended[run["number"]]}
@@ -50,28 +50,28 @@ def gather(begun: Begun, csv_path: str) -> tuple[int, int]:
             keep_order(folder, order_name(run), result["order"])
             result["order"] = path_cell(f"{folder.name}/orders/{order_name(run)}")
         row = row_of(run, result)
-        reference = referred(begun.reference, run["instance"])
+        reference = reference_for(experiment.reference, run["instance"])
         row["reference"], row["source"] = (str(reference[0]), text_cell(reference[1])) if reference else ("", "")
-        rows.append(row | {"method": text_cell(begun.plan.get("method", ""))})
+        rows.append(row | {"method": text_cell(experiment.plan.get("method", ""))})
     text = io.StringIO()
-    more = [column for column, key in (("time_factor", "time_factors"), ("method", "method")) if key in begun.plan]
+    more = [column for column, key in (("time_factor", "time_factors"), ("method", "method")) if key in experiment.plan]
     writer = csv.DictWriter(text, [*COLUMNS, *more], lineterminator="\n", extrasaction="ignore")
     writer.writeheader()
     writer.writerows(rows)
-    write_whole(pathlib.Path(csv_path), text.getvalue())
+    write_text(pathlib.Path(csv_path), text.getvalue())
     failed = sum(row["status"] != "ok" for row in rows)
     report_faults(rows)
-    print(f"{csv_path}: {len(rows)} runs, {failed} of them failed, {left} still to be made", file=sys.stderr)
+    print(f"{csv_path}: {len(rows)} runs, {failed} of them failed, {left} still to run", file=sys.stderr)
     return failed, left
 
 
-# Kinds of faults that are reported, and what is said of the first run of each.
+# The number of kinds of faults that are reported, and the columns that describe the first run of each.
 MOST_KINDS = 10
 DISTINCT = ["rounds", "time_factor", "take", "passes", "seed"]
 
 
 def report_faults(rows: list[Row]) -> None:
-    """Reports the first fault of each kind, with its run. Faults of one kind differ in their numbers alone."""
+    """Reports the first fault of each kind, with its run. Faults of the same kind differ only in numbers."""
     kinds: dict[str, list[Row]] = {}
     for row in rows:
         if row["status"] != "ok":

@@ -17,7 +17,7 @@ from collections.abc import Iterator
 from typing import Any, NamedTuple, TextIO
 
 from commands import HERE, IS_INSTALLED, need_pfs
-from csvs import Refused, Row, reference_of
+from csvs import ExperimentError, Row, reference_of
 from plan import read_plan
 
 # A module of the package for Python; where the scripts are installed it is in this folder.
@@ -34,17 +34,16 @@ Key = tuple[str, ...]
 KEY = ["file", "block", "rounds", "take", "passes", "seed", "repetition"]
 
 
-class Begun(NamedTuple):
-    """The plan, the folder of its runs, the lock, which is held until all that inherit it have ended, and the
-    reference."""
+class Experiment(NamedTuple):
+    """A plan, the folder of its runs, the lock, which all processes that inherit it hold, and the reference."""
     plan: dict[str, Any]
     folder: pathlib.Path
     lock: TextIO
     reference: dict[str, tuple[int, str]]
 
 
-def write_whole(path: pathlib.Path, text: str) -> None:
-    """Replaces a file as a whole."""
+def write_text(path: pathlib.Path, text: str) -> None:
+    """Replaces the content of a file atomically."""
     write_bytes(path, text.encode(errors="backslashreplace"))
 
 
@@ -52,39 +51,39 @@ def write_bytes(path: pathlib.Path, data: bytes) -> None:
     _atomic.atomic_write(path, data)
 
 
-def damaged(path: pathlib.Path, why: object) -> Refused:
-    return Refused(f"{path} is damaged ({why}): delete the folder {path.parent.name} to begin again")
+def damaged(path: pathlib.Path, why: object) -> ExperimentError:
+    return ExperimentError(f"{path} is damaged ({why}): delete the folder {path.parent.name} to begin again")
 
 
-def prepare(plan_path: str, csv_path: str, program: str | None) -> Begun:
-    """Makes ready what the runs of a plan need. A plan that was begun continues with its program, its instances and
-    its runs; what the plan has more is added."""
+def prepare(plan_path: str, csv_path: str, program: str | None) -> Experiment:
+    """Prepares the folder of a plan's runs. If it exists, the experiment continues with its program, its instances and
+    its runs, and new runs of the plan are added."""
     plan = read_plan(plan_path)
     plan_folder = os.path.dirname(os.path.abspath(plan_path))
     reference = plan.pop("reference")
     reference = reference_of(os.path.join(plan_folder, reference)) if reference else {}
     if os.path.isdir(csv_path):
-        raise Refused(f"{csv_path}: Is a directory")
+        raise ExperimentError(f"{csv_path}: Is a directory")
     folder = pathlib.Path(os.path.abspath(csv_path) + ".d")
     if not folder.name.isprintable() or "\t" in folder.name:
-        raise Refused(f"{csv_path}: the name of a CSV must be UTF-8 without control characters")
+        raise ExperimentError(f"{csv_path}: the name of a CSV must be UTF-8 without control characters")
     pfs = "" if (folder / "plan.json").exists() else need_pfs(program)
     folder.mkdir(parents=True, exist_ok=True)
-    lock = locked(folder, csv_path)
+    lock = lock_of(folder, csv_path)
     try:
         if not (folder / "plan.json").exists():
             begin(folder, pfs or need_pfs(program))
-        equip(plan, plan_folder, folder, csv_path)
-        grow(plan, plan_folder, folder, csv_path)
+        copy_inputs(plan, plan_folder, folder, csv_path)
+        add_runs(plan, plan_folder, folder, csv_path)
     except BaseException:
         if not (folder / "plan.json").exists():
             shutil.rmtree(folder, ignore_errors=True)
         raise
-    return Begun(plan, folder, lock, reference)
+    return Experiment(plan, folder, lock, reference)
 
 
-def locked(folder: pathlib.Path, csv_path: str) -> TextIO:
-    """The lock of the folder. This waits for it."""
+def lock_of(folder: pathlib.Path, csv_path: str) -> TextIO:
+    """Returns the lock of the folder. This waits for it."""
     lock = open(os.open(folder / "lock", os.O_WRONLY | os.O_CREAT | os.O_NOFOLLOW | os.O_CLOEXEC, 0o666), "w")
     try:
         fcntl.flock(lock, fcntl.LOCK_EX | fcntl.LOCK_NB)
@@ -107,19 +106,19 @@ def begin(folder: pathlib.Path, program: str) -> None:
         (stage / name).chmod(0o755)
 
 
-def equip(plan: dict[str, Any], plan_folder: str, folder: pathlib.Path, csv_path: str) -> None:
-    """Copies what the runs need besides: the command with its files, or the library for C for runs by time. What was
-    copied before stays."""
-    stage, begun = folder / stage_of(folder), begun_plan(folder)
-    if begun and begun.get("command") != plan.get("command"):
-        raise Refused(f"{csv_path} was begun with another command: name another CSV")
+def copy_inputs(plan: dict[str, Any], plan_folder: str, folder: pathlib.Path, csv_path: str) -> None:
+    """Copies the other inputs of the runs: the command with its files, or, for runs by time, the library for C.
+    Existing copies aren't replaced."""
+    stage, stored = folder / stage_of(folder), stored_plan(folder)
+    if stored and stored.get("command") != plan.get("command"):
+        raise ExperimentError(f"{csv_path} was begun with another command: name another CSV")
     if "command" in plan and not (stage / "command.json").exists():
         for name in plan["files"]:
             (stage / "files" / name).parent.mkdir(parents=True, exist_ok=True)
             shutil.copy(os.path.join(plan_folder, name), stage / "files" / name)
         (stage / "files").mkdir(exist_ok=True)
         shutil.copy(HERE / "others.py", stage)
-        write_whole(stage / "command.json", json.dumps({"method": plan["method"], "words": plan["command"]}))
+        write_text(stage / "command.json", json.dumps({"method": plan["method"], "words": plan["command"]}))
     elif "time_factors" in plan and "command" not in plan and not (stage / LIBRARY).exists():
         for name in ("one", "timed.py"):
             shutil.copy(HERE / name, stage)
@@ -137,46 +136,47 @@ def library() -> pathlib.Path:
     for place in places:
         if place.exists():
             return place
-    raise Refused(f"time_factors needs the library for C, and {places[0]} is missing (make lib, or Debian: libpfs0): "
-                  "PFS_LIBRARY names another one")
+    raise ExperimentError(f"time_factors needs the library for C, and {places[0]} is missing (make lib, or Debian: "
+                          "libpfs0): PFS_LIBRARY names another one")
 
 
-def grow(plan: dict[str, Any], plan_folder: str, folder: pathlib.Path, csv_path: str) -> None:
-    """Adds the instances and the runs that the plan has and the folder does not have. A run keeps its number."""
-    begun = begun_plan(folder)
-    if {key: begun.get(key) for key in plan} == plan:
+def add_runs(plan: dict[str, Any], plan_folder: str, folder: pathlib.Path, csv_path: str) -> None:
+    """Adds the plan's new instances and runs to the folder. A run keeps its number."""
+    stored = stored_plan(folder)
+    if {key: stored.get(key) for key in plan} == plan:
         return
-    if begun.get("layout", plan["layout"]) != plan["layout"]:
-        raise Refused(f"{csv_path} was begun with another plan, of layout {begun['layout']}: name another CSV")
-    places = begun.get("places") or {name: at for at, name in enumerate(begun.get("instances", []), 1)}
+    if stored.get("layout", plan["layout"]) != plan["layout"]:
+        raise ExperimentError(f"{csv_path} was begun with another plan, of layout {stored['layout']}: name another CSV")
+    places = stored.get("places") or {name: at for at, name in enumerate(stored.get("instances", []), 1)}
     for name in plan["instances"]:
         copy_instance(os.path.join(plan_folder, name), folder, places.setdefault(name, len(places) + 1))
     numbers = numbers_of(folder)
     left = dict(numbers)
     runs: dict[int, Row] = {}
     seen: collections.Counter[Key] = collections.Counter()
-    for key, run in without_repeats([(keyed(run, seen), run) for run in each_run(plan, folder, places)], numbers):
+    for key, run in without_repeats([(key_of(run, seen), run) for run in planned_runs(plan, folder, places)], numbers):
         left.pop(key, None)
         runs[numbers.setdefault(key, len(numbers) + 1)] = run
     if left:
         gone = ", ".join(f"{column} {value}" for column, value in zip(KEY[1:], min(left)[1:]))
-        raise Refused(f"{csv_path} was begun with another plan, which has {gone}: name another CSV, or delete {folder}")
+        raise ExperimentError(f"{csv_path} was begun with another plan, which has {gone}: name another CSV, or delete "
+                              f"{folder}")
     lines = ("\t".join([str(number), *(runs[number][column] for column in RUN[1:])]) + "\n" for number in sorted(runs))
-    write_whole(folder / "runs.tsv", "".join(lines))
-    write_whole(folder / "plan.json", json.dumps({**plan, "places": places, "sequence": list(runs)}))
+    write_text(folder / "runs.tsv", "".join(lines))
+    write_text(folder / "plan.json", json.dumps({**plan, "places": places, "sequence": list(runs)}))
 
 
-def without_repeats(wanted: list[tuple[Key, Row]], numbers: dict[Key, int]) -> list[tuple[Key, Row]]:
-    """The runs, with one of 0 rounds for each instance and repetition: take, passes and seed don't change it. Those
-    that are listed already stay."""
+def without_repeats(runs: list[tuple[Key, Row]], numbers: dict[Key, int]) -> list[tuple[Key, Row]]:
+    """Returns the runs, but of those with 0 rounds only one for each instance and repetition, since take, passes and
+    seed don't change it. Runs that are already listed are kept."""
     chosen: dict[tuple[str, ...], Key] = {}
-    for key, run in wanted:
+    for key, run in runs:
         if run["rounds"] == "0":
             place = (run["file"], run["block"], run["repetition"])
             if place not in chosen or (key in numbers and chosen[place] not in numbers):
                 chosen[place] = key
     kept = {*chosen.values(), *numbers}
-    return [(key, run) for key, run in wanted if run["rounds"] != "0" or key in kept]
+    return [(key, run) for key, run in runs if run["rounds"] != "0" or key in kept]
 
 
 def copy_instance(path: str, folder: pathlib.Path, place: int) -> None:
@@ -194,19 +194,19 @@ def numbers_of(folder: pathlib.Path) -> dict[Key, int]:
     numbers: dict[Key, int] = {}
     seen: collections.Counter[Key] = collections.Counter()
     for run in runs_of(folder):
-        numbers[keyed(run, seen)] = int(run["number"])
+        numbers[key_of(run, seen)] = int(run["number"])
     return numbers
 
 
-def keyed(run: Row, seen: collections.Counter[Key]) -> Key:
-    """The key of a run, and how often it was seen."""
+def key_of(run: Row, seen: collections.Counter[Key]) -> Key:
+    """Returns the key of a run, which ends with the number of its occurrence."""
     key = tuple(run[column] for column in KEY)
     seen[key] += 1
     return (*key, str(seen[key]))
 
 
-def each_run(plan: dict[str, Any], folder: pathlib.Path, places: dict[str, int]) -> Iterator[Row]:
-    """The runs in the order of the CSV, instance by instance."""
+def planned_runs(plan: dict[str, Any], folder: pathlib.Path, places: dict[str, int]) -> Iterator[Row]:
+    """Yields the runs of a plan in the order of the CSV, instance by instance."""
     is_pfs = "command" not in plan
     for name, block in itertools.product(plan["instances"], plan["blocks"]):
         file = f"instances/{places[name]}"
@@ -220,9 +220,9 @@ def each_run(plan: dict[str, Any], folder: pathlib.Path, places: dict[str, int])
             if take is None:
                 take = "-" if jobs == "-" or not is_pfs else min(4, int(jobs))  # the default of pfs
             elif jobs != "-" and take > int(jobs):
-                raise Refused(f"takes has {take}, which exceeds the {jobs} jobs of {label}")
-            told = (file, plan["layout"], block, rounds, take, passes, seed, repetition, jobs, machines, label)
-            yield dict(zip(RUN[1:], map(str, told)))
+                raise ExperimentError(f"takes has {take}, which exceeds the {jobs} jobs of {label}")
+            values = (file, plan["layout"], block, rounds, take, passes, seed, repetition, jobs, machines, label)
+            yield dict(zip(RUN[1:], map(str, values)))
 
 
 def by_time(factor: float, jobs: str, machines: str) -> str:
@@ -246,29 +246,29 @@ def size_of(stage: pathlib.Path, file: str, layout: str, block: int) -> tuple[st
     return (size[1], size[2]) if size and done.returncode == 0 else ("-", "-")
 
 
-# What a begun folder has
+# The content of a folder
 
-def begun_plan(folder: pathlib.Path) -> dict[str, Any]:
-    """The plan with which the folder was made, the places of the instances, and the order of the CSV; nothing before
-    that."""
+def stored_plan(folder: pathlib.Path) -> dict[str, Any]:
+    """Returns the stored plan, with the places of the instances and the order of the CSV; an empty one in a new
+    folder."""
     path = folder / "plan.json"
     try:
-        begun = json.loads(path.read_bytes().decode())
+        stored = json.loads(path.read_bytes().decode())
     except FileNotFoundError:
         return {}
     except (ValueError, RecursionError) as error:
         raise damaged(path, error) from None
-    if not isinstance(begun, dict) or not isinstance(begun.get("places", {}), dict) \
-            or not isinstance(begun.get("instances", []), list):
+    if not isinstance(stored, dict) or not isinstance(stored.get("places", {}), dict) \
+            or not isinstance(stored.get("instances", []), list):
         raise damaged(path, "it is not a plan")
-    return begun
+    return stored
 
 
 def stage_of(folder: pathlib.Path) -> str:
     """The name of the folder with the program, the instances and `one`."""
     for stage in folder.glob("pfs-experiment-*"):
         return stage.name
-    raise Refused(f"{folder} has no copy of the program: delete it to begin again")
+    raise ExperimentError(f"{folder} has no copy of the program: delete it to begin again")
 
 
 def runs_of(folder: pathlib.Path) -> list[Row]:
@@ -289,10 +289,10 @@ def runs_of(folder: pathlib.Path) -> list[Row]:
     return runs
 
 
-def in_sequence(folder: pathlib.Path) -> list[Row]:
+def in_plan_order(folder: pathlib.Path) -> list[Row]:
     """The runs in the order of the plan."""
     runs = runs_of(folder)
-    sequence = begun_plan(folder).get("sequence") or list(range(1, len(runs) + 1))
+    sequence = stored_plan(folder).get("sequence") or list(range(1, len(runs) + 1))
     if not isinstance(sequence, list) or set(map(str, sequence)) != {run["number"] for run in runs} \
             or len(sequence) != len(runs):
         raise damaged(folder / "plan.json", "it has other runs than runs.tsv")

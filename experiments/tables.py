@@ -12,7 +12,7 @@ from typing import Any
 from commands import plain
 from csvs import text_cell
 from reported import Reported, Run, grouped, known, names_of
-from runs import write_whole
+from runs import write_text
 
 GROUP = ["method", "jobs", "machines", "rounds", "take", "passes"]
 VALUES = ["runs", "failed", "mean_rpd_percent", "greatest_rpd_percent", "mean_gap_percent", "greatest_gap_percent",
@@ -51,7 +51,7 @@ def write_csv(path: pathlib.Path, rows: list[list[str]]) -> None:
     text = io.StringIO()
     csv.writer(text, lineterminator="\n").writerows([text_cell(cell) if not is_number(cell) else cell for cell in row]
                                                     for row in rows)
-    write_whole(path, text.getvalue())
+    write_text(path, text.getvalue())
 
 
 def is_number(cell: str) -> bool:
@@ -62,7 +62,7 @@ def write_markdown(path: pathlib.Path, columns: list[str], rows: list[list[str]]
     """A table with a note below it."""
     lines = [columns, *([markdown(cell) for cell in row] for row in rows)]
     lines.insert(1, ["---:"] * len(columns))
-    write_whole(path, "".join(f"| {' | '.join(line)} |\n" for line in lines) + f"\n{note}\n")
+    write_text(path, "".join(f"| {' | '.join(line)} |\n" for line in lines) + f"\n{note}\n")
 
 
 def write_tables(columns: list[str], rows: list[list[str]], path: pathlib.Path, note: str) -> None:
@@ -97,10 +97,10 @@ def mean_and_greatest(percent: list[float | None]) -> list[str]:
 def note_of(reported: Reported) -> str:
     """What the RPD is relative to, and the runs that have none."""
     note = markdown(reported.basis).replace(r"\`", "`")
-    names = list(dict.fromkeys(run.instance for run in reported.unreferred))
+    names = list(dict.fromkeys(run.instance for run in reported.unreferenced))
     if names:
         shown = ", ".join(map(markdown, names[:MOST_NAMES])) + (", .." if len(names) > MOST_NAMES else "")
-        note += f"\n{len(reported.unreferred)} runs of {len(names)} instances have no reference, and no RPD: {shown}."
+        note += f"\n{len(reported.unreferenced)} runs of {len(names)} instances have no reference, and no RPD: {shown}."
     return note
 
 
@@ -121,7 +121,7 @@ def write_sizes(runs: list[Run], folder: pathlib.Path) -> None:
     rows.append(["mean", *map(rounded, averages)])
     write_csv(folder / "sizes.csv", [heads, *rows])
     write_markdown(folder / "sizes.md", list(map(markdown, heads)), rows, "Mean RPD, %.")
-    write_whole(folder / "sizes.tex", latex_table(heads, rows))
+    write_text(folder / "sizes.tex", latex_table(heads, rows))
 
 
 def rounded(value: float | None) -> str:

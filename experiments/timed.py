@@ -1,5 +1,5 @@
-"""Searches by time, with the library for C beside this file. Rounds are made in parts, between which the time is
-measured."""
+"""Searches by time, with the library for C in the same folder. Rounds are run in parts, and the time is measured
+between them."""
 from __future__ import annotations
 
 import ctypes
@@ -12,8 +12,8 @@ HERE = os.path.dirname(os.path.abspath(__file__))
 LIBRARY = "libpfs.so.0"
 # A seed has this number of rounds. A longer search continues with rounds of the next seed, which is greater by STEP.
 MOST_ROUNDS, STEP = 1_000_000, 0x9E3779B97F4A7C15
-# About how many seconds a part takes, and how many times the rounds of the one before it has at most.
-PART, GROWTH = 0.05, 4
+# About how many seconds a part takes, and the greatest ratio of its rounds to those of the part before it.
+PART, MOST_INCREASE = 0.05, 4
 
 
 class Found(NamedTuple):
@@ -34,13 +34,13 @@ class Search:
         self.order = (ctypes.c_uint32 * jobs)()
         self.times = (ctypes.c_uint32 * len(times))(*times)
         sizes = [ctypes.c_size_t(size) for size in (len(times), jobs, machines)]
-        self.given = [self.times, *sizes, self.order, ctypes.c_size_t(jobs)]
+        self.arguments = [self.times, *sizes, self.order, ctypes.c_size_t(jobs)]
         self.makespan, self.cells, self.rounds = ctypes.c_uint64(), 0, 0
 
     def call(self, function: str, *arguments: object) -> None:
-        """Calls a function of the library, and adds its cells."""
+        """Calls a function of the library, and adds the cells that it computed."""
         cells = ctypes.c_uint64()
-        number = getattr(self.library, function)(*self.given, *arguments, ctypes.byref(self.makespan),
+        number = getattr(self.library, function)(*self.arguments, *arguments, ctypes.byref(self.makespan),
                                                  ctypes.byref(cells))
         if number == 1:
             raise MemoryError
@@ -51,8 +51,8 @@ class Search:
     def neh(self) -> None:
         self.call("pfs_neh")
 
-    def make(self, count: int) -> None:
-        """Makes rounds of one seed."""
+    def run_rounds(self, count: int) -> None:
+        """Runs rounds of one seed."""
         first, seed = self.rounds % MOST_ROUNDS, self.seed + self.rounds // MOST_ROUNDS * STEP
         self.call("pfs_rounds", ctypes.c_uint32(first), ctypes.c_uint32(count), ctypes.c_size_t(self.take),
                   ctypes.c_uint32(self.passes), ctypes.c_uint64(seed % 2 ** 64))
@@ -63,15 +63,15 @@ class Search:
 
 
 def search(times: list[int], jobs: int, machines: int, take: int, passes: int, seed: int, seconds: float) -> Found:
-    """The search that takes this processor time. No part is begun that would end later, as far as the one before it
-    shows."""
-    made = Search(times, jobs, machines, take, passes, seed)
+    """Searches for this processor time. A part is only started if it should end in time, as estimated from the part
+    before it."""
+    running = Search(times, jobs, machines, take, passes, seed)
     start = time.process_time()
-    made.neh()
+    running.neh()
     for count in counts(start, seconds):
-        left = MOST_ROUNDS - made.rounds % MOST_ROUNDS
-        made.make(min(count, left))
-    return made.found(time.process_time() - start)
+        left = MOST_ROUNDS - running.rounds % MOST_ROUNDS
+        running.run_rounds(min(count, left))
+    return running.found(time.process_time() - start)
 
 
 def counts(start: float, seconds: float) -> Iterator[int]:
@@ -83,6 +83,6 @@ def counts(start: float, seconds: float) -> Iterator[int]:
         yield count
         now = time.process_time()
         each, before = max(now - before, 1e-7) / count, now
-        count = min(GROWTH * count, int(min(PART, seconds - (now - start)) / each))
+        count = min(MOST_INCREASE * count, int(min(PART, seconds - (now - start)) / each))
         if count <= 0:
             return

@@ -37,7 +37,7 @@ KILLING = """#!/bin/sh
 case "$*" in solve*"--seed 2 "*) test -e {folder}/fixed || kill -9 $PPID;; esac
 exec {pfs} "$@"
 """
-TWELVE = "out.csv: 12 runs, 0 of them failed, 0 still to be made\n"
+TWELVE = "out.csv: 12 runs, 0 of them failed, 0 still to run\n"
 
 on_slurm = pytest.mark.xdist_group("slurm")
 over_ssh = pytest.mark.xdist_group("ssh")
@@ -118,7 +118,7 @@ def test_a_missing_plan_is_rejected(experiment: Experiment) -> None:
 def test_the_greatest_values_that_pfs_takes_are_planned(experiment: Experiment) -> None:
     (experiment.folder / "plan.toml").write_text(
         "instances = [\"shops/b\"]\nrounds = [0]\ntakes = [1, 3]\npasses = [100]\nseeds = [18446744073709551615]\n")
-    assert experiment.run() == Told(0, "", "out.csv: 1 runs, 0 of them failed, 0 still to be made\n")
+    assert experiment.run() == Told(0, "", "out.csv: 1 runs, 0 of them failed, 0 still to run\n")
 
 
 PATHS = {"a folder": "shops", "below a file": "plan.toml/out.csv", "a name that is too long": "x" * 255}
@@ -170,7 +170,7 @@ def test_a_full_disk_is_reported(kib: int, experiment: Experiment) -> None:
     assert status == 2 or kib >= 128, "room for all"
     assert (experiment.folder / "halves").read_text() == "", "what is left of files that had no room"
     assert ((experiment.folder / "status2").read_text(), (experiment.folder / "again").read_text()) \
-        == ("0\n", "small/out.csv: 12 runs, 0 of them failed, 0 still to be made\n")
+        == ("0\n", "small/out.csv: 12 runs, 0 of them failed, 0 still to run\n")
     assert experiment.rows("all.csv") == experiment.wanted()
 
 
@@ -251,7 +251,7 @@ def test_a_run_whose_result_is_damaged_is_repeated(data: bytes, experiment: Expe
     (experiment.folder / "plan.toml").write_text(PLAN.replace("[10, 30]", "[10]"))
     assert experiment.run().status == 0
     (experiment.runs / "results" / "1").write_bytes(data)
-    assert experiment.run() == Told(0, "", "out.csv: 6 runs, 0 of them failed, 0 still to be made\n")
+    assert experiment.run() == Told(0, "", "out.csv: 6 runs, 0 of them failed, 0 still to run\n")
     assert experiment.rows() == experiment.wanted(rounds=(10,))
 
 
@@ -261,7 +261,7 @@ def test_after_damage_to_the_log_the_csv_is_the_same(data: bytes, experiment: Ex
     (experiment.folder / "plan.toml").write_text(PLAN.replace("[10, 30]", "[10]"))
     assert experiment.run().status == 0
     (experiment.runs / "joblog").write_bytes(data)
-    assert experiment.run() == Told(0, "", "out.csv: 6 runs, 0 of them failed, 0 still to be made\n")
+    assert experiment.run() == Told(0, "", "out.csv: 6 runs, 0 of them failed, 0 still to run\n")
     assert experiment.rows() == experiment.wanted(rounds=(10,))
 
 
@@ -385,7 +385,7 @@ def test_layouts_blocks_takes_passes_and_repetitions(experiment: Experiment) -> 
     told = experiment.run()
     assert told == Told(1, "", "bad.or:2 (rounds 5, take 2, passes 1, seed 7) failed, as 7 more: "
                                "solve: exit 2, pfs: mixed line at 10\n"
-                               "out.csv: 16 runs, 8 of them failed, 0 still to be made\n")
+                               "out.csv: 16 runs, 8 of them failed, 0 still to run\n")
     rows = experiment.rows()
     wanted = [(f"two.or:{block}", *size, "5", take, "1", "7", again, "ok")
               for block, size in ((2, ("3", "2")), (1, ("20", "5"))) for take in "21" for again in "12"]
@@ -537,7 +537,7 @@ def with_library(libpfs: Library) -> dict[str, str]:
 def test_runs_by_time_take_their_time(experiment: Experiment, with_library: dict[str, str]) -> None:
     """Jobs times half the machines times the factor, in milliseconds. The order is that of the rounds in the CSV."""
     (experiment.folder / "plan.toml").write_text(BY_TIME)
-    assert experiment.run(env=with_library) == Told(0, "", "out.csv: 8 runs, 0 of them failed, 0 still to be made\n")
+    assert experiment.run(env=with_library) == Told(0, "", "out.csv: 8 runs, 0 of them failed, 0 still to run\n")
     names = ("instance", "time_factor", "take", "passes", "seed", "rounds", "seconds", "makespan", "cells", "order")
     rows = experiment.columns(*names)
     assert [row[:5] for row in rows] == [(shop, factor, "2", "0", seed) for shop in ("shops/a", "shops/b")
@@ -583,7 +583,7 @@ def last(first, seed, count, order=None):
     made.order[:] = order or made.order[:]
     made.rounds = first
     while made.rounds < first + count:
-        made.make(min(2, timed.MOST_ROUNDS - made.rounds % timed.MOST_ROUNDS))
+        made.run_rounds(min(2, timed.MOST_ROUNDS - made.rounds % timed.MOST_ROUNDS))
     return made.order[:]
 seed = 2 ** 64 - 5
 before = last(999_996, seed, 4)
@@ -599,7 +599,7 @@ def test_an_instance_that_pfs_rejects_fails_by_time_too(experiment: Experiment, 
     told = experiment.run(env=with_library)
     assert told == Told(1, "", "shops/c (time factor 0.001, passes 0, seed 0) failed: "
                                "convert: exit 2, pfs: no block, found 0\n"
-                               "out.csv: 1 runs, 1 of them failed, 0 still to be made\n")
+                               "out.csv: 1 runs, 1 of them failed, 0 still to run\n")
 
 
 @pytest.mark.parametrize("path", ["none.so", "plan.toml"], ids=["missing", "no library"])
@@ -660,7 +660,8 @@ STATUSES = [
     "ok", "ok", "mine: signal 11", "mine: exit 3, Traceback: something",
     "mine: no order printed: 'the best order is 3 2 1'", "mine: nothing printed",
     "check: exit 2, pfs: order file job repeated at place 2",
-    r"mine: over its time: \d+\.\d\d s, where 0.5 s were given", "mine: more than 1,048,576 bytes printed", "ok",
+    r"mine: took too long: \d+\.\d\d s of processor time instead of 0.5 s",
+    "mine: more than 1,048,576 bytes printed", "ok",
 ]
 
 
@@ -673,7 +674,7 @@ def with_other(experiment: Experiment, plan: str = OTHER) -> Experiment:
 def other_is_right(experiment: Experiment, told: Told) -> None:
     """The runs of the other program are in the CSV, with their orders or with what is wrong."""
     assert told.status == 1
-    assert told.stderr.splitlines()[-1] == "out.csv: 10 runs, 7 of them failed, 0 still to be made"
+    assert told.stderr.splitlines()[-1] == "out.csv: 10 runs, 7 of them failed, 0 still to run"
     rows = experiment.columns("seed", "status", "method", "time_factor", "rounds", "take", "passes", "cells")
     assert [row[0] for row in rows] == [str(seed) for seed in range(1, 11)]
     assert [(row[1], wanted) for row, wanted in zip(rows, STATUSES)
@@ -730,10 +731,10 @@ def test_a_program_that_waits_is_ended(top: pathlib.Path, folder: pathlib.Path) 
     """It uses no processor time. With it end the processes that it has started."""
     write_script(folder / "waits", "#!/bin/sh\nsleep 1000 & echo $! > child\nsleep 1000\n")
     (folder / "try.py").write_text(f"import sys\nsys.path.insert(0, {str(top / 'experiments')!r})\nimport others\n"
-                                   "others.PATIENCE = 0.5\ntry:\n    others.printed(['./waits'], '.', 0.01)\n"
+                                   "others.PATIENCE = 0.5\ntry:\n    others.run_command(['./waits'], '.', 0.01)\n"
                                    "except others.Failed as failure:\n    print(failure)\n")
     told = printed_by(["/usr/bin/python3", "-B", "try.py"], folder)
-    assert re.fullmatch(r"no end after \d s, where 0.01 s of processor time were given\n", told), told
+    assert re.fullmatch(r"still running after \d s, instead of 0.01 s of processor time\n", told), told
     child = (folder / "child").read_text().strip()
     wait_until(lambda: not pathlib.Path(f"/proc/{child}").exists() or "Z" in pathlib.Path(
         f"/proc/{child}/stat").read_text().split(")")[1][:3], "the process that it has started is ended")
@@ -744,10 +745,10 @@ def test_a_program_that_closes_its_streams_is_ended(top: pathlib.Path, folder: p
     (folder / "try.py").write_text(f"import sys\nsys.path.insert(0, {str(top / 'experiments')!r})\nimport others\n"
                                    "others.PATIENCE = 0.5\n"
                                    "for words in ('exec >&- 2>&-; sleep 1000', 'sleep 1000 & echo 1'):\n    try:\n"
-                                   "        print(others.printed(['sh', '-c', words], '.', 0.1)[0].strip())\n"
+                                   "        print(others.run_command(['sh', '-c', words], '.', 0.1)[0].strip())\n"
                                    "    except others.Failed as failure:\n        print(failure)\n")
     told = printed_by(["/usr/bin/python3", "-B", "try.py"], folder)
-    assert re.fullmatch(r"no end after \d s, where 0.1 s of processor time were given\n1\n", told), told
+    assert re.fullmatch(r"still running after \d s, instead of 0.1 s of processor time\n1\n", told), told
 
 
 def test_time_is_measured_at_the_end_too(top: pathlib.Path, folder: pathlib.Path) -> None:
@@ -755,10 +756,10 @@ def test_time_is_measured_at_the_end_too(top: pathlib.Path, folder: pathlib.Path
     (folder / "try.py").write_text(f"import sys\nsys.path.insert(0, {str(top / 'experiments')!r})\nimport others\n"
                                    "others.check_time = lambda *_: None\nwork = 'i=0; while [ $i -lt 100000 ]; do "
                                    "i=$((i+1)); done'\nfor words in (work, f'({work})'):\n    try:\n"
-                                   "        others.printed(['sh', '-c', f'{words}; echo 1'], '.', 0.001)\n"
+                                   "        others.run_command(['sh', '-c', f'{words}; echo 1'], '.', 0.001)\n"
                                    "    except others.Failed as failure:\n        print(failure)\n")
     told = printed_by(["/usr/bin/python3", "-B", "try.py"], folder)
-    failed = re.fullmatch(r"(over its time: \d+\.\d\d s, where 0.001 s were given\n){2}", told)
+    failed = re.fullmatch(r"(took too long: \d+\.\d\d s of processor time instead of 0.001 s\n){2}", told)
     assert failed, f"two programs that took too long: {told!r}"
 
 
@@ -776,9 +777,9 @@ def failing(top: pathlib.Path, pfs: Program, tmp_path_factory: pytest.TempPathFa
 def test_the_csv_has_a_failed_run_with_its_status(failing: tuple[Experiment, Told]) -> None:
     experiment, told = failing
     statuses = ["ok", "check: exit 1, wrong makespan", "solve: signal 9", "solve: exit 4, no memory, perhaps",
-                "solve: no cells are told"]
+                "solve: no cells printed"]
     *lines, last = told.stderr.splitlines()
-    assert (told.status, told.stdout, last) == (1, "", "out.csv: 20 runs, 16 of them failed, 0 still to be made")
+    assert (told.status, told.stdout, last) == (1, "", "out.csv: 20 runs, 16 of them failed, 0 still to run")
     assert lines == [f"shops/a (rounds 10, take 4, passes 0, seed {seed}) failed, as 3 more: {statuses[seed]}"
                      for seed in (1, 2, 3, 4)]
     rows = experiment.rows()
@@ -809,7 +810,7 @@ def test_a_killed_run_is_reported_and_made_by_the_next_start(experiment: Experim
     told = experiment.run(program=program)
     assert told == Told(1, "", "shops/a (rounds 10, take 4, passes 0, seed 2) failed, as 3 more: "
                                "lost: exit 137, signal 0\n"
-                               "out.csv: 12 runs, 4 of them failed, 0 still to be made\n")
+                               "out.csv: 12 runs, 4 of them failed, 0 still to run\n")
     assert {row[8:] for row in experiment.rows() if row.seed == "2"} == {("", "", "", "", "lost: exit 137, signal 0")}
     (experiment.folder / "fixed").touch()
     assert experiment.run().status == 0
@@ -1161,7 +1162,7 @@ def test_a_task_that_ran_out_of_time_is_reported_by_its_last_run(experiment: Exp
     (experiment.folder / "bin").mkdir()
     write_script(experiment.folder / "bin" / "sbatch", OUT_OF_TIME)
     told = experiment.script("slurm", "--tasks", "6", "plan.toml", "out.csv", env=with_path(experiment.folder / "bin"))
-    assert told.status == 1 and told.stderr.endswith("out.csv: 2 runs, 1 of them failed, 10 still to be made\n")
+    assert told.status == 1 and told.stderr.endswith("out.csv: 2 runs, 1 of them failed, 10 still to run\n")
     first, second = experiment.rows()
     assert (first.instance, first.status) == ("shops/a", "ok")
     assert (second.instance, second.rounds, second.seed) == ("shops/b", "10", "1")
@@ -1217,7 +1218,7 @@ def test_a_dry_run_prints_the_line_of_slurm(experiment: Experiment) -> None:
     write_script(experiment.folder / "bin" / "sbatch", "#!/bin/sh\necho \"$@\" > submitted\n")
     env = with_path(experiment.folder / "bin")
     told = experiment.script("slurm", "--dry-run", "plan.toml", "out.csv", "--time=5", env=env)
-    assert (told.status, told.stderr) == (0, "out.csv: 12 runs still to be made\n")
+    assert (told.status, told.stderr) == (0, "out.csv: 12 runs still to run\n")
     assert not (experiment.runs / "submitted").exists() and not (experiment.folder / "out.csv").exists()
     assert told_by(["sh", "-c", told.stdout], experiment.folder, env=env).status == 0
     words = (experiment.runs / "submitted").read_text().split()

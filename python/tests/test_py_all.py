@@ -146,7 +146,7 @@ REFUSED: dict[str, tuple[Callable[[], object], type[Exception], str]] = {
     "rounds": (lambda: pfs.solve_all(SHOPS, [1], 1_000_001), ValueError, "rounds must be from .*, not 1000001"),
     "take": (lambda: pfs.solve_all(SHOPS, [1], 5, take=9), ValueError, "take must be from 1 to 8, not 9"),
     "passes": (lambda: pfs.solve_all(SHOPS, [1], 5, passes=101), ValueError, "passes must be from .*, not 101"),
-    "a time limit": (lambda: pfs.solve_all(SHOPS, [1], time_limit=-1), ValueError, "time_limit is -1.0"),
+    "a time limit": (lambda: pfs.solve_all(SHOPS, [1], time_limit=-1), ValueError, "time_limit must be 0 or more seconds, not -1.0"),
     "a target": (lambda: pfs.solve_all(SHOPS, [1], target=-1), ValueError, "target must be from .*, not -1"),
     "workers": (lambda: pfs.solve_all(SHOPS, [1], workers=0), ValueError, "workers must be from 1 to 1,000, not 0"),
     "half a worker": (lambda: pfs.solve_all(SHOPS, [1], workers=1.5), TypeError,  # type: ignore[arg-type]
@@ -156,11 +156,11 @@ REFUSED: dict[str, tuple[Callable[[], object], type[Exception], str]] = {
     "no solution": (lambda: pfs.solve_all(SHOPS, [1], found={(0, 1): 7}), TypeError,  # type: ignore[dict-item]
                     "found must contain solutions, not 7"),
     "another number of machines": (lambda: pfs.solve_all(SHOPS, [1], found={(0, 1): pfs.generate(8, 2, 1).neh()}),
-                                   ValueError, "found is an order for 2 machines, and the instance has 3"),
+                                   ValueError, "found is an order for 2 machines, but the instance has 3"),
     "another number of jobs": (lambda: pfs.solve_all(SHOPS, [1], found={(0, 1): pfs.generate(7, 3, 1).neh()}),
-                               ValueError, "found has 7 jobs, and the instance 8"),
+                               ValueError, "found has 7 jobs, but the instance has 8"),
     "another makespan": (lambda: pfs.solve_all(SHOPS, [1], found={(0, 1): pfs.generate(8, 3, 9).neh()}), ValueError,
-                         "found: the makespan of a solution of .* is another one"),
+                         "found: a solution for .* has the wrong makespan"),
 }
 
 

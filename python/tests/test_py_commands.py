@@ -400,7 +400,7 @@ def test_progress_is_told_on_a_terminal_only(folder: pathlib.Path) -> None:
     ([*LONG, "--start", "shop"], 2, "pfs: order file syntax at 0\n"),
     ([*LONG, "--take", "61"], 3, "pfs: take must be from 1 to 60, not 61\n"),
     ([*LONG, "--start", "for_nine"], 3, "pfs: for_nine: an order for 9 machines, and the instance has 10\n"),
-    ([*LONG, "--start", "two"], 3, "pfs: start has 2 jobs, and the instance 60\n"),
+    ([*LONG, "--start", "two"], 3, "pfs: start has 2 jobs, but the instance has 60\n"),
     (["plan", "bad.csv"], 2, "pfs: bad.csv: line 2, column 3: 'x' is no time\n"),
     (["plan", "good.csv", "--chart", "chart.jpg"], 3,
      "pfs: chart.jpg: the name of a chart ends with .svg, .png, .pdf or .html\n"),

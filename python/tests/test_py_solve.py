@@ -517,10 +517,10 @@ def test_a_call_frees_the_lock() -> None:
     ({"seed": -1}, ValueError, "seed must be from .*, not -1"),
     ({"seed": 2**64}, ValueError, "seed must be from .*, not 18446744073709551616"),
     ({"seed": "1"}, TypeError, "seed must be an integer, not '1'"),
-    ({"start": [0, 1]}, ValueError, "start has 2 jobs, and the instance 20"),
+    ({"start": [0, 1]}, ValueError, "start has 2 jobs, but the instance has 20"),
     ({"start": [0] * 20}, ValueError, "start: job 0 occurs twice, at places 0 and 1"),
-    ({"time_limit": -1}, ValueError, "time_limit is -1.0"),
-    ({"time_limit": float("nan")}, ValueError, "time_limit is nan"),
+    ({"time_limit": -1}, ValueError, "time_limit must be 0 or more seconds, not -1.0"),
+    ({"time_limit": float("nan")}, ValueError, "time_limit must be 0 or more seconds, not nan"),
     ({"time_limit": -10**400}, ValueError, "time_limit must be 0 or more seconds, not -inf"),
     ({"time_limit": "1"}, TypeError, "time_limit must be a number of seconds, not '1'"),
     ({"progress": 3}, TypeError, "progress must be callable"),
@@ -530,7 +530,7 @@ def test_a_call_frees_the_lock() -> None:
     ({"stop": True}, TypeError, "stop must be an event with `is_set`, such as threading.Event, not True"),
     ({"history": 1}, TypeError, "history must be True or False, not 1"),
     ({"start": pfs.Solution(range(20), 7, machines=4)}, ValueError,
-     "start is an order for 4 machines, and the instance has 5"),
+     "start is an order for 4 machines, but the instance has 5"),
 ])
 def test_options_that_are_refused(words: dict[str, Any], kind: type[Exception], why: str) -> None:
     with pytest.raises(kind, match=why):

@@ -191,7 +191,7 @@ def reporter(progress: Progress | None, rounds: int | None) -> tuple[Callable[..
         return do_nothing, do_nothing
     bar: Any = progress(total=rounds) if isinstance(progress, type) else progress
     update: Any = getattr(bar, "update", None)
-    close: Any = getattr(bar, "close", do_nothing) if isinstance(progress, type) else nothing
+    close: Any = getattr(bar, "close", do_nothing) if isinstance(progress, type) else do_nothing
     if callable(update):
         postfix: Any = getattr(bar, "set_postfix", None)
 
