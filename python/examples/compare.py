@@ -1,5 +1,5 @@
 #!/usr/bin/env python3
-"""Compares a method of one's own with NEH and iterated greedy, on ten instances of Taillard: a place to begin a study.
+"""Compares your own method with NEH and iterated greedy on ten of Taillard's instances. A starting point for a study.
 Writes compare.csv and compare.png into a folder.
 
 usage: compare.py [FOLDER]"""
@@ -17,18 +17,18 @@ ROUNDS = 1_000
 
 
 def neh(shop: pfs.Instance) -> pfs.Solution:
-    """NEH's order."""
+    """Return NEH's order."""
     return shop.neh()
 
 
 def iterated_greedy(shop: pfs.Instance) -> pfs.Solution:
-    """NEH's order after 1,000 rounds of iterated greedy."""
+    """Improve NEH's order by 1,000 rounds of iterated greedy."""
     return shop.solve(ROUNDS, seed=1)
 
 
 def random_insertions(shop: pfs.Instance) -> pfs.Solution:
-    """A method of one's own: one job after the other, drawn at random, leaves its place in NEH's order for its best
-    one, as often as four jobs are in 1,000 rounds."""
+    """Improve NEH's order: remove a random job and insert it at its best place, as many times as 1,000 rounds with four
+    jobs each do. Replace this by your own method."""
     chance = random.Random(1)
     best = shop.neh()
     order, makespan = best.order.tolist(), best.makespan
@@ -50,20 +50,20 @@ METHODS: dict[str, Callable[[pfs.Instance], pfs.Solution]] = {
 
 
 def compare() -> pandas.DataFrame:
-    """For each instance and method the makespan, and by how many percent it is above the published bound."""
+    """Return the makespan of each instance and method, and its gap to the published bound in percent."""
     rows = []
     for number in range(1, 11):
         shop = pfs.taillard(number)
         for name, method in METHODS.items():
             found = method(shop)
-            # What a method says of itself is looked at once more.
+            # Never trust the makespan that a method claims.
             assert shop.makespan(found.order) == found.makespan
             rows.append((shop.name, name, found.makespan, 100 * (found.makespan / shop.lower - 1)))
     return pandas.DataFrame(rows, columns=["instance", "method", "makespan", "gap"])
 
 
 def draw(results: pandas.DataFrame, path: pathlib.Path) -> None:
-    """The gaps, a group of bars for each instance."""
+    """Draw the gaps, with a group of bars for each instance."""
     figure = matplotlib.figure.Figure(figsize=(9, 3.6), layout="constrained")
     axis = figure.subplots()
     results.pivot(index="instance", columns="method", values="gap")[list(METHODS)].plot.bar(
@@ -76,7 +76,7 @@ def draw(results: pandas.DataFrame, path: pathlib.Path) -> None:
 
 
 def main() -> None:
-    """Compares, prints and writes."""
+    """Compare the methods, and print and write the results."""
     folder = pathlib.Path(sys.argv[1] if len(sys.argv) > 1 else ".")
     folder.mkdir(parents=True, exist_ok=True)
     results = compare()

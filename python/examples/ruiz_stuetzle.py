@@ -1,6 +1,6 @@
 #!/usr/bin/env python3
-"""Iterated greedy with temperature and local search as Ruiz and Stützle (2007) published it (IG_RS_LS), beside `solve`
-at equal time, on instances of Taillard. Prints both RPD, and draws how they came to them.
+"""Compares IG_RS_LS, the iterated greedy of Ruiz and Stützle (2007) with temperature and local search, with `solve` at
+equal time, on Taillard's instances. Prints the RPD of both, and draws the RPD over time.
 
 usage: ruiz_stuetzle.py FACTOR PICTURE NUMBER.. (30 search.png 51 52: n (m/2) 30 milliseconds, ta051 and ta052)"""
 import math
@@ -16,7 +16,7 @@ TAKE, TEMPERATURE = 4, 0.4
 
 
 def local_search(shop: pfs.Instance, order: list[int], makespan: int, chance: random.Random) -> tuple[list[int], int]:
-    """Each job, drawn at random, goes to its best place if that is shorter, until none is."""
+    """Insert each job, in random order, at its best place, until the makespan doesn't decrease any more."""
     is_better = True
     while is_better:
         is_better = False
@@ -30,7 +30,7 @@ def local_search(shop: pfs.Instance, order: list[int], makespan: int, chance: ra
 
 
 def destruct_and_construct(shop: pfs.Instance, order: list[int], chance: random.Random) -> tuple[list[int], int]:
-    """Some jobs, drawn at random, leave the order and return to their best places."""
+    """Remove some random jobs, and insert each at its best place."""
     taken, makespan = chance.sample(order, min(TAKE, len(order))), 0
     order = [job for job in order if job not in taken]
     for job in taken:
@@ -40,7 +40,7 @@ def destruct_and_construct(shop: pfs.Instance, order: list[int], chance: random.
 
 
 def iterated_greedy(shop: pfs.Instance, seconds: float, seed: int) -> list[tuple[float, int]]:
-    """The seconds and the makespan of each improvement."""
+    """Search, and return the seconds and the makespan of each improvement."""
     begun, chance = time.perf_counter(), random.Random(seed)
     temperature = TEMPERATURE * float(shop.times.mean()) / 10
     first = shop.neh()
@@ -58,7 +58,7 @@ def iterated_greedy(shop: pfs.Instance, seconds: float, seed: int) -> list[tuple
 
 
 def main() -> None:
-    """Compares both on each instance."""
+    """Compare both methods on each instance."""
     factor, picture, numbers = float(sys.argv[1]), sys.argv[2], [int(word) for word in sys.argv[3:]]
     figure = matplotlib.figure.Figure(figsize=(4 * len(numbers), 3.2), layout="constrained")
     for axis, number in zip(figure.subplots(1, len(numbers), squeeze=False)[0], numbers):

@@ -43,7 +43,7 @@ def loaded(library: pathlib.Path | str, folder: pathlib.Path) -> subprocess.Comp
 def test_a_library_of_another_version_is_rejected(tmp_path: pathlib.Path, version: str) -> None:
     library = library_of(version, tmp_path)
     done = loaded(library, tmp_path)
-    told = f"ImportError: the library {library} is of version {version}, and this package needs {pfs.__version__}"
+    told = f"ImportError: the library {library} has version {version}, but this package needs {pfs.__version__}"
     assert (done.returncode, done.stderr.splitlines()[-1]) == (1, told), f"a library of version {version} is loaded"
 
 
@@ -61,7 +61,7 @@ def test_a_library_without_a_function_is_rejected(tmp_path: pathlib.Path, name: 
     told = loaded(library, tmp_path).stderr.splitlines()[-1]
     assert told.startswith(f"ImportError: pfs can't load its library {library} (")
     assert f"undefined symbol: {name}" in told
-    assert told.endswith("): the variable PFS_LIBRARY can name another libpfs.so.0")
+    assert told.endswith("): set PFS_LIBRARY to the path of libpfs.so.0")
 
 
 @pytest.mark.parametrize("content", [None, b"", b"no library"])
@@ -71,7 +71,7 @@ def test_a_file_that_is_no_library_is_told(tmp_path: pathlib.Path, content: byte
         library.write_bytes(content)
     told = loaded(library, tmp_path).stderr.splitlines()[-1]
     assert told.startswith(f"ImportError: pfs can't load its library {library} (")
-    assert told.endswith("): the variable PFS_LIBRARY can name another libpfs.so.0")
+    assert told.endswith("): set PFS_LIBRARY to the path of libpfs.so.0")
 
 
 def test_the_library_that_the_variable_names_goes_before_the_packages(monkeypatch: pytest.MonkeyPatch,

@@ -53,7 +53,7 @@ def test_each_public_name_is_described(name: str) -> None:
 
 # Texts of docstrings and of README, and the numbers that they tell.
 DEFAULTS = {
-    "Instance.solve": {"rounds": "it is left out: 1,000", "take": "left out 4", "passes": "0 to 100",
+    "Instance.solve": {"rounds": "The default is 1,000", "take": "The default is 4", "passes": "0 to 100",
                        "first": "at most 1,000,000"},
     "Instance": {"decimals": "0 to 9", "times": "1 to 5,000 jobs and a column for each of 1 to 200 machines"},
     "generate": {"seed": "1 to 2,147,483,646"}, "taillard": {"number": "1 to 120"}}
