@@ -9,6 +9,7 @@ from support.facts import FACTS, LIMITS, RANGES
 from support.tools import Told, printed_by, told_by
 
 PAGES = ["docs/COMMANDS.md", "docs/FORMATS.md", "share/pfs.1"]
+FAULTS = "python/src/pfs/_faults.py"
 COMPLETIONS = ["share/completions/_pfs", "share/completions/pfs.fish"]
 # Each numeral of code, by its file, its pattern and its limit.
 NUMERALS = [(each["file"], pattern, limit) for each in FACTS["numerals"] for pattern, limit in each["places"]]
@@ -31,7 +32,7 @@ def test_each_page_with_a_block_is_written(top: pathlib.Path) -> None:
 @pytest.fixture
 def copy(top: pathlib.Path, folder: pathlib.Path) -> pathlib.Path:
     """A folder with what tools/facts reads and writes."""
-    for name in ["tools/facts", "share/facts.toml", *PAGES, *COMPLETIONS, *CODE]:
+    for name in ["tools/facts", "share/facts.toml", *PAGES, FAULTS, *COMPLETIONS, *CODE]:
         (folder / name).parent.mkdir(parents=True, exist_ok=True)
         shutil.copy(top / name, folder / name)
     return folder
@@ -47,6 +48,7 @@ def copy(top: pathlib.Path, folder: pathlib.Path) -> pathlib.Path:
     ("share/completions/_pfs", "read, 1 to 1,000]", "read, 1 to 2,000]"),
     ("share/completions/pfs.fish", "read, 1 to 1,000'", "read, 1 to 2,000'"),
     ("share/completions/pfs.fish", "makes, 0 to 100'", "makes, 0 to 101'"),
+    (FAULTS, '"extra number at {}"', '"extra number after {}"'), (FAULTS, '31: ("job range"', '32: ("job range"'),
 ])
 def test_what_is_out_of_date_is_found_and_written(copy: pathlib.Path, page: str, old: str, new: str) -> None:
     before = (copy / page).read_text()
@@ -57,6 +59,13 @@ def test_what_is_out_of_date_is_found_and_written(copy: pathlib.Path, page: str,
     assert old not in (copy / page).read_text(), "--check writes a page"
     assert printed_by([copy / "tools" / "facts"], copy) == ""
     assert (copy / page).read_text() == before
+
+
+def test_the_numbers_of_faults_are_the_librarys(top: pathlib.Path) -> None:
+    """Those of pfs.h from the first fault of a file on."""
+    defined = re.findall(r"^#define PFS_\w+ (\d+) +/", (top / "lib" / "pfs.h").read_text(), re.MULTILINE)
+    assert sorted(each["number"] for each in FACTS["faults"] if "number" in each) == [
+        number for number in sorted(map(int, defined)) if 20 <= number < 100]
 
 
 def numeral(code: str, pattern: str) -> re.Match[str]:
