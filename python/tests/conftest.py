@@ -11,7 +11,7 @@ from hypothesis import HealthCheck, settings
 TOP = pathlib.Path(__file__).resolve().parents[2]
 SOURCES = TOP / "python" / "src"
 
-# Examples are the same in each run, and none is too slow for a machine that does other things beside.
+# Examples are the same in each run, and none is too slow for a machine that runs other programs too.
 settings.register_profile("pfs", deadline=None, derandomize=True, max_examples=60, database=None,
                           suppress_health_check=[HealthCheck.function_scoped_fixture, HealthCheck.too_slow])
 settings.load_profile("pfs")

@@ -1,4 +1,4 @@
-"""What the package answers, computed plainly from the definitions, over lists: for small shops only. And strategies for
+"""The results of the package, computed plainly from the definitions, over lists: for small shops only. And strategies for
 shops and orders."""
 import itertools
 import subprocess
@@ -14,7 +14,7 @@ TIMES = st.one_of(st.integers(0, 3), st.integers(0, 99), st.sampled_from([0, 1, 
 
 @st.composite
 def shops(draw: st.DrawFn, most_jobs: int = 6, most_machines: int = 4) -> Table:
-    """Times of up to so many jobs and machines."""
+    """Times of up to this number of jobs and machines."""
     jobs, machines = draw(st.integers(1, most_jobs)), draw(st.integers(1, most_machines))
     return draw(st.lists(st.lists(TIMES, min_size=machines, max_size=machines), min_size=jobs, max_size=jobs))
 
@@ -69,7 +69,7 @@ def shortest(times: Table) -> int:
 
 
 def bound(times: Table) -> int:
-    """The greatest total of a job, and load of a machine with the least times before and behind it."""
+    """The greatest total of a job, and load of a machine with the least times before and after it."""
     machines = range(len(times[0]))
     before = [min(sum(row[:at]) for row in times) for at in machines]
     behind = [min(sum(row[at + 1:]) for row in times) for at in machines]

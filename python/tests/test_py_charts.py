@@ -200,7 +200,7 @@ document.body.append(told_);
 """
 
 
-# Names that are shown by escapes: what moves a cursor, ends a line, turns its direction, or is no character of XML.
+# Names that are shown by escapes: what moves a cursor, ends a line, turns its direction, or isn't a character of XML.
 ESCAPED = {"saw\x1b[2J\x07": "saw\\x1b[2J\\x07", "two\nlines": "two\\nlines", "car\rriage": "car\\rriage",
            "a\u2028b\u2029c": "a\\u2028b\\u2029c", "\u202eright to left": "\\u202eright to left", "\x9b5m": "\\x9b5m",
            "p\udce4rt": "p\\udce4rt", "\ufffe": "\\ufffe", "nul\0": "nul\\x00"}

@@ -135,7 +135,7 @@ def test_a_signal_ends_it_with_the_best_order(folder: pathlib.Path, program: str
                         str(folder / "order")]).startswith("valid\n")
     done = rounds_in(folder)
     assert printed.decode() == shop_in(folder).solve(done).to_text()
-    # It goes on to the end of a search that never stopped.
+    # It continues to the same end as a search that never stopped.
     rounds = str(done + 100)
     words = ["solve", "--layout", "taillard", "--rounds", rounds, "--cells", str(folder / "shop")]
     expected = plainly.run([program, *words])
@@ -293,7 +293,7 @@ def test_a_table_without_end(folder: pathlib.Path, path: str) -> None:
 @pytest.mark.parametrize("words", [["search", "/dev/zero", "--layout", "taillard"],
                                    [*LONG, "--start", "/dev/zero"]])
 def test_other_files_without_end(folder: pathlib.Path, words: list[str]) -> None:
-    """They have limits of their own, or their first bytes are wrong."""
+    """Their limits differ, or their first bytes are wrong."""
     child = start(words, folder)
     printed, told = child.communicate(timeout=60)
     assert (child.returncode, printed, told.count(b"\n")) == (2, b"", 1), told
@@ -405,7 +405,7 @@ def test_progress_is_told_on_a_terminal_only(folder: pathlib.Path) -> None:
     (["plan", "good.csv", "--chart", "chart.jpg"], 3,
      "pfs: chart.jpg: the name of a chart ends with .svg, .png, .pdf or .html\n"),
 ])
-def test_what_is_refused(folder: pathlib.Path, words: list[str], status: int, error: str) -> None:
+def test_what_is_rejected(folder: pathlib.Path, words: list[str], status: int, error: str) -> None:
     (folder / "bad.csv").write_text("job,saw,drill\ntable,3,x\n")
     (folder / "good.csv").write_text("job,saw,drill\ntable,3,4\n")
     (folder / "for_nine").write_text(plainly.order_file(range(60), 9, 1))
@@ -419,7 +419,7 @@ def test_what_is_refused(folder: pathlib.Path, words: list[str], status: int, er
     ([*LONG, "--state", "other"], 2, "not the state of a search"),
     (["search", "shop", "--layout", "taillard", "--take", "61"], 3, "take is 61"),
 ])
-def test_what_is_refused_is_refused_before_the_search(folder: pathlib.Path, words: list[str], status: int,
+def test_what_is_rejected_is_rejected_before_the_search(folder: pathlib.Path, words: list[str], status: int,
                                                       error: str) -> None:
     rows = [f"j{at}," + ",".join(map(str, row)) for at, row in enumerate(shop_in(folder).times.tolist())]
     (folder / "large.csv").write_text("\n".join(["job," + ",".join(f"m{at}" for at in range(10)), *rows]))
@@ -428,7 +428,7 @@ def test_what_is_refused_is_refused_before_the_search(folder: pathlib.Path, word
     try:
         told = child.communicate(timeout=30)[1].decode()
     except subprocess.TimeoutExpired:
-        pytest.fail(f"a search is made before {words} are refused")
+        pytest.fail(f"a search is made before {words} are rejected")
     finally:
         child.kill()
     assert child.returncode == status and error in told and told.count("\n") == 1, told
@@ -496,7 +496,7 @@ def is_taken(words: list[str]) -> bool:
     return True
 
 
-def test_memory_that_is_refused_is_told_on_one_line(folder: pathlib.Path, monkeypatch: pytest.MonkeyPatch,
+def test_memory_that_runs_out_is_reported_on_one_line(folder: pathlib.Path, monkeypatch: pytest.MonkeyPatch,
                                                     capsys: pytest.CaptureFixture[str]) -> None:
     monkeypatch.chdir(folder)
     monkeypatch.setattr(_library.library, "pfs_neh", lambda *_: _library.MEMORY)

@@ -58,7 +58,7 @@ def test_read(tmp_path: pathlib.Path, text: str, layout: str, notes: tuple[int, 
         assert shop.name == ("" if isinstance(source, io.BytesIO) else "three")
 
 
-def test_a_file_in_text_mode_is_refused() -> None:
+def test_a_file_in_text_mode_is_rejected() -> None:
     with pytest.raises(TypeError, match="binary mode"):
         pfs.read(io.StringIO(THREE), "taillard")  # type: ignore[arg-type]
 

@@ -65,7 +65,7 @@ def test_a_library_without_a_function_is_rejected(tmp_path: pathlib.Path, name: 
 
 
 @pytest.mark.parametrize("content", [None, b"", b"no library"])
-def test_a_file_that_is_no_library_is_told(tmp_path: pathlib.Path, content: bytes | None) -> None:
+def test_a_file_that_is_not_a_library_is_reported(tmp_path: pathlib.Path, content: bytes | None) -> None:
     library = tmp_path / "libpfs.so.0"
     if content is not None:
         library.write_bytes(content)

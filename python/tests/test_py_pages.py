@@ -117,7 +117,7 @@ def test_the_readme(tmp_path: pathlib.Path, monkeypatch: pytest.MonkeyPatch) -> 
 
 
 def test_the_readmes_command_lines(tmp_path: pathlib.Path, program: str) -> None:
-    """Each console block prints what stands there."""
+    """Each console block prints what the page shows."""
     pfs.taillard(1).write(tmp_path / "ta001")
     table = re.search(r'write_text\("""(.*?)"""', PAGE.read_text(), re.DOTALL)
     assert table

@@ -46,6 +46,6 @@ def test_wrong_words_end_with_a_usage_text_that_names_the_program(tmp_path: path
     assert (done.returncode, done.stdout) == (3, "") and done.stderr.startswith("usage: pfs-plan ")
 
 
-def test_the_version_is_told(tmp_path: pathlib.Path) -> None:
+def test_the_version_is_printed(tmp_path: pathlib.Path) -> None:
     version = (TOP / "VERSION").read_text().strip()
     assert run(tmp_path, "--version").stdout == f"pfs {version}\n"

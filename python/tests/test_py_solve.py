@@ -63,7 +63,7 @@ def test_any_cutting_ends_where_one_part_does(cut: Callable[[list[int]], None], 
     assert [made for made, _ in told] == sorted({made for made, _ in told}) and (not told or told[-1][0] == rounds)
     spans = [span for _, span in told]
     assert spans == sorted(spans, reverse=True) and (not told or spans[-1] == whole.makespan)
-    # In calls of one's own.
+    # In several calls.
     stop = chance.randint(0, rounds)
     half = shop.solve(stop, take=take, passes=passes, seed=seed)
     rest = shop.solve(rounds - stop, take=take, passes=passes, seed=seed, start=half.order, first=half.rounds)
@@ -179,15 +179,15 @@ def test_what_a_bar_raises_has_the_solution(cut: Callable[[list[int]], None]) ->
     assert getattr(stop.value, "solution", None) == shop.solve(50), "an error of `close` has no solution"
 
 
-def test_an_option_that_is_refused_has_no_solution() -> None:
-    refused: list[dict[str, Any]] = [{"rounds": -1}, {"time_limit": -1}, {"progress": 3}, {"start": [0] * 20}]
-    for words in refused:
+def test_an_option_that_is_rejected_has_no_solution() -> None:
+    rejected: list[dict[str, Any]] = [{"rounds": -1}, {"time_limit": -1}, {"progress": 3}, {"start": [0] * 20}]
+    for words in rejected:
         with pytest.raises((TypeError, ValueError)) as fault:
             pfs.taillard(1).solve(**words)
         assert not hasattr(fault.value, "solution")
 
 
-def test_memory_that_is_refused_loses_nothing(cut: Callable[[list[int]], None],
+def test_memory_that_runs_out_loses_nothing(cut: Callable[[list[int]], None],
                                               monkeypatch: pytest.MonkeyPatch) -> None:
     """The rounds before are kept, and nothing is allocated to hand them out."""
     cut([10])
@@ -314,7 +314,7 @@ def test_a_signal_loses_nothing(seconds: float) -> None:
 @pytest.mark.parametrize("call", ["pfs_neh", "pfs_rounds"])
 @pytest.mark.parametrize("when", ["before", "behind"])
 def test_a_signal_right_around_a_call(monkeypatch: pytest.MonkeyPatch, call: str, when: str) -> None:
-    """What a call has answered counts, also where the signal comes before anything is made of it."""
+    """The result of a call counts, also if the signal comes before the result is used."""
     shop = pfs.taillard(12)
     library = _library.library
     real = getattr(library, call)
@@ -482,7 +482,7 @@ def test_four_threads_search_side_by_side() -> None:
 
 
 def test_a_call_frees_the_lock() -> None:
-    """While one thread is in a call of some seconds, another one goes on."""
+    """While one thread is in a call of some seconds, another one continues."""
     shop = pfs.generate(1000, 20, 1)
     beats: list[float] = []
     ended = threading.Event()
@@ -532,7 +532,7 @@ def test_a_call_frees_the_lock() -> None:
     ({"start": pfs.Solution(range(20), 7, machines=4)}, ValueError,
      "start is an order for 4 machines, but the instance has 5"),
 ])
-def test_options_that_are_refused(words: dict[str, Any], kind: type[Exception], why: str) -> None:
+def test_options_that_are_rejected(words: dict[str, Any], kind: type[Exception], why: str) -> None:
     with pytest.raises(kind, match=why):
         pfs.taillard(1).solve(**words)
 
@@ -543,7 +543,7 @@ def test_options_that_are_refused(words: dict[str, Any], kind: type[Exception], 
        chance=st.randoms(use_true_random=False))
 def test_a_search_ends_with_the_first_round_that_comes_to_the_target(
         cut: Callable[[list[int]], None], times: plainly.Table, counts: list[int], seed: int, chance: Any) -> None:
-    """Whatever the parts are, and with the order that so many rounds end with."""
+    """For any parts, and with the order after that number of rounds."""
     shop = pfs.Instance(times)
     start = chance.sample(range(shop.jobs), shop.jobs)
     cut([1])
@@ -582,7 +582,7 @@ def test_the_history_counts_rounds_from_the_first_and_is_kept(cut: Callable[[lis
 
 
 def test_a_search_by_time_ends_at_the_bound() -> None:
-    """And one by rounds doesn't: its order is the one that so many rounds end with."""
+    """And one by rounds doesn't: its order is the one after that number of rounds."""
     shop = pfs.generate(40, 2, 3)
     assert shop.solve(300).makespan == shop.bound()
     begun = time.monotonic()

@@ -1,4 +1,4 @@
-"""A call from Python costs little beside what it computes."""
+"""A call from Python costs little more than what it computes."""
 import os
 import pathlib
 import subprocess
@@ -13,7 +13,7 @@ import pytest
 
 
 def microseconds(call: Callable[[], object]) -> float:
-    """The best of many short runs, since other programs run beside."""
+    """The best of many short runs, since other programs run too."""
     return min(timeit.repeat(call, number=50, repeat=100)) / 50 * 1e6
 
 
@@ -58,7 +58,7 @@ print(quick < 0.9 * slow, f"{quick / 50 * 1e6:.1f} and {slow / 50 * 1e6:.1f} mic
 
 def test_arguments_that_are_ready_make_a_call_faster() -> None:
     """It takes less time than the same call with types, which ctypes converts one by one. Measured in new
-    processes, up to ten, since other programs run beside: a call that isn't faster fails in all of them."""
+    processes, up to ten, since other programs run too: a call that isn't faster fails in all of them."""
     folder = str(pathlib.Path(pfs.__file__).parents[1])
     env = os.environ | {"PYTHONPATH": folder, "PYTHONDONTWRITEBYTECODE": "1"}
     words = [sys.executable, "-c", COMPARED]
@@ -67,7 +67,7 @@ def test_arguments_that_are_ready_make_a_call_faster() -> None:
 
 
 def test_threads_do_not_share_a_result() -> None:
-    """Each call has room of its own, also where other calls run meanwhile."""
+    """No two calls share a buffer, also in several threads."""
     shops = [pfs.generate(20 + at, 5, 1 + at) for at in range(8)]
     due = [shop.makespan(range(shop.jobs)) for shop in shops]
     places = [shop.best_place(range(1, shop.jobs), 0) for shop in shops]

@@ -1,4 +1,4 @@
-"""What callers hand in: arrays of any make are read as they are meant, or refused with what is wrong and where. Nothing
+"""Validation of arguments: arrays of all kinds are read correctly or rejected, with the cause and the position. Nothing
 is read out of bounds."""
 import ctypes
 import functools
@@ -98,7 +98,7 @@ def test_lists_of_each_make() -> None:
     (None, ValueError, r"not the shape \(\)"),
     ({"a": 1}, ValueError, r"not the shape \(\)"),
 ])
-def test_times_that_are_refused(times: Any, kind: type[Exception], why: str) -> None:
+def test_times_that_are_rejected(times: Any, kind: type[Exception], why: str) -> None:
     with pytest.raises(kind, match=why):
         pfs.Instance(times)
 
@@ -137,12 +137,12 @@ def test_times_that_are_refused(times: Any, kind: type[Exception], why: str) -> 
     (list(range(5000)), ValueError, "order: 3 at place 3 isn't a job"),
     (np.zeros(100_000, dtype=np.uint32), ValueError, "order: job 0 occurs twice, at places 0 and 1"),
 ])
-def test_orders_that_are_refused(order: Any, kind: type[Exception], why: str) -> None:
+def test_orders_that_are_rejected(order: Any, kind: type[Exception], why: str) -> None:
     with pytest.raises(kind, match=why):
         pfs.Instance(TIMES).makespan(order)
 
 
-def test_orders_of_some_jobs_are_refused_where_all_are_due() -> None:
+def test_orders_of_some_jobs_are_rejected_where_all_are_due() -> None:
     shop = pfs.Instance(TIMES)
     orders: list[list[int]] = [[0, 1], [0, 1, 2, 0], []]
     for order in orders:
@@ -161,7 +161,7 @@ def test_orders_of_some_jobs_are_refused_where_all_are_due() -> None:
     ([0, 1], 2.0, TypeError, "job must be an integer, not 2.0"),
     ([0, 1], 2**64 + 2, ValueError, "job must be from .*, not 18446744073709551618"),
 ])
-def test_insertions_that_are_refused(sequence: list[int], job: Any, kind: type[Exception], why: str) -> None:
+def test_insertions_that_are_rejected(sequence: list[int], job: Any, kind: type[Exception], why: str) -> None:
     with pytest.raises(kind, match=why):
         pfs.Instance(TIMES).best_place(sequence, job)
     with pytest.raises(kind, match=why):
@@ -179,7 +179,7 @@ def test_insertions_that_are_refused(sequence: list[int], job: Any, kind: type[E
     ([[True, False]], TypeError, "orders must be whole numbers, not of dtype bool"),
     ([["a"]], TypeError, "orders must be whole numbers"), (None, ValueError, "orders must have a row"),
     (np.zeros((2, 100_000), dtype=np.uint32), ValueError, "orders, row 0: job 0 occurs twice")])
-def test_rows_of_orders_that_are_refused(orders: Any, kind: type[Exception], why: str) -> None:
+def test_rows_of_orders_that_are_rejected(orders: Any, kind: type[Exception], why: str) -> None:
     with pytest.raises(kind, match=why):
         pfs.Instance(TIMES).makespans(orders)
 
@@ -220,7 +220,7 @@ def test_truth_values_are_no_numbers(truth: Any) -> None:
             pytest.fail(f"{name} is {call()!r} for {truth!r}")
 
 
-def test_other_words_that_are_refused() -> None:
+def test_other_words_that_are_rejected() -> None:
     shop = pfs.Instance(TIMES)
     with pytest.raises(ValueError, match="layout must be 'taillard' or 'orlib', not 'csv'"):
         shop.to_text("csv")
@@ -232,11 +232,11 @@ def test_other_words_that_are_refused() -> None:
     for number in (0, 121):
         with pytest.raises(ValueError, match=f"number must be from 1 to 120, not {number}"):
             pfs.taillard(number)
-    refused: list[tuple[dict[str, Any], str]] = [
+    rejected: list[tuple[dict[str, Any], str]] = [
         ({"job_names": ["a"]}, "has 1 names, but 3 are needed"), ({"machine_names": ["a", "a"]}, "'a' occurs twice"),
         ({"decimals": 10}, "decimals must be from .*, not 10"),
         ({"seed": 2**32}, "seed must be from .*, not 4294967296")]
-    for words, why in refused:
+    for words, why in rejected:
         with pytest.raises(ValueError, match=why):
             pfs.Instance(TIMES, **words)
     for names in ("abc", [1, 2, 3]):
@@ -256,7 +256,7 @@ ARRAYS = arrays.arrays(SCALARS, arrays.array_shapes(min_dims=0, max_dims=3, min_
 
 @given(ANYTHING | ARRAYS)
 def test_anything_as_times(times: Any) -> None:
-    """It is an instance of what numpy says that it is, or refused."""
+    """It is an instance of what numpy says that it is, or rejected."""
     try:
         shop = pfs.Instance(times)
     except (TypeError, ValueError):
@@ -295,7 +295,7 @@ def test_anything_as_a_file(text: bytes) -> None:
 
 @pytest.mark.parametrize("kind", [np.uint32, np.int64, np.uint64])
 def test_arrays_that_another_thread_changes(kind: Any) -> None:
-    """The order is copied before it is judged: the answer is that of some order, or a refusal."""
+    """The order is copied before it is validated: the result is that of some order, or an exception."""
     shop = pfs.generate(400, 5, 1)
     order = np.arange(400, dtype=kind)
     ended = threading.Event()
@@ -382,7 +382,7 @@ def test_objects_that_change_their_minds() -> None:
             pass
 
 
-def refused_everywhere(shop: pfs.Instance) -> dict[str, Callable[[], Any]]:
+def call_everywhere(shop: pfs.Instance) -> dict[str, Callable[[], Any]]:
     """A call of each function of the library."""
     return {
         "pfs_makespan": lambda: shop.makespan([0, 1, 2]), "pfs_bound": shop.bound, "pfs_neh": shop.neh,
@@ -400,10 +400,10 @@ CALLED = [name for name in _library.PROTOTYPES if name not in UNCALLED]
 
 
 @pytest.mark.parametrize("name", CALLED)
-def test_memory_that_is_refused_is_a_memory_error(monkeypatch: pytest.MonkeyPatch, name: str) -> None:
+def test_memory_that_runs_out_is_a_memory_error(monkeypatch: pytest.MonkeyPatch, name: str) -> None:
     """Each function may return this number."""
     shop = pfs.Instance(TIMES)
-    call = refused_everywhere(shop)[name]
+    call = call_everywhere(shop)[name]
     assert call() is not None
     monkeypatch.setattr(_library.library, name, lambda *_: _library.MEMORY)
     for each in QUICK:
@@ -413,9 +413,9 @@ def test_memory_that_is_refused_is_a_memory_error(monkeypatch: pytest.MonkeyPatc
 
 
 @pytest.mark.parametrize("name", CALLED)
-def test_another_answer_of_the_library_is_told(monkeypatch: pytest.MonkeyPatch, name: str) -> None:
+def test_another_number_of_the_library_is_reported(monkeypatch: pytest.MonkeyPatch, name: str) -> None:
     """By its text, where no argument explains it."""
-    call = refused_everywhere(pfs.Instance(TIMES))[name]
+    call = call_everywhere(pfs.Instance(TIMES))[name]
     monkeypatch.setattr(_library.library, name, lambda *_: 12)
     for each in QUICK:
         monkeypatch.setattr(_instance, each, lambda *_: 12)

@@ -1,4 +1,4 @@
-"""What the package answers is what the definitions say, and what the program prints."""
+"""The results of the package are those of the definitions, and of the program."""
 import copy
 import csv
 import inspect
