@@ -1,5 +1,5 @@
-"""The results of the package, computed plainly from the definitions, over lists: for small shops only. And strategies for
-shops and orders."""
+"""The results of the package, computed plainly from the definitions, over lists: for small instances only. And
+strategies for instances and orders."""
 import itertools
 import subprocess
 from collections.abc import Iterable, Sequence

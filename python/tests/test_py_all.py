@@ -146,7 +146,8 @@ REFUSED: dict[str, tuple[Callable[[], object], type[Exception], str]] = {
     "rounds": (lambda: pfs.solve_all(SHOPS, [1], 1_000_001), ValueError, "rounds must be from .*, not 1000001"),
     "take": (lambda: pfs.solve_all(SHOPS, [1], 5, take=9), ValueError, "take must be from 1 to 8, not 9"),
     "passes": (lambda: pfs.solve_all(SHOPS, [1], 5, passes=101), ValueError, "passes must be from .*, not 101"),
-    "a time limit": (lambda: pfs.solve_all(SHOPS, [1], time_limit=-1), ValueError, "time_limit must be 0 or more seconds, not -1.0"),
+    "a time limit": (lambda: pfs.solve_all(SHOPS, [1], time_limit=-1), ValueError,
+                     "time_limit must be 0 or more seconds, not -1.0"),
     "a target": (lambda: pfs.solve_all(SHOPS, [1], target=-1), ValueError, "target must be from .*, not -1"),
     "workers": (lambda: pfs.solve_all(SHOPS, [1], workers=0), ValueError, "workers must be from 1 to 1,000, not 0"),
     "half a worker": (lambda: pfs.solve_all(SHOPS, [1], workers=1.5), TypeError,  # type: ignore[arg-type]
