@@ -36,12 +36,12 @@ others_absent job (first ∷ jobs) absent =
     rw (apart, rest)
 
 -- a sequence with the same jobs that is no longer
-pub record IsKept (shop : FlowShop) (old new : List ℕ) : Type 0 where
+pub record IsNoLongerThan (shop : FlowShop) (old new : List ℕ) : Type 0 where
   pub same : IsPermutation old new
   pub shorter : makespan shop new ≤ makespan shop old
 
 moved_kept : (shop : FlowShop) (size job : ℕ) (jobs : List ℕ) → IsSequence size jobs → Contains jobs job
-    → IsKept shop jobs (moved shop jobs job)
+    → IsNoLongerThan shop jobs (moved shop jobs job)
 moved_kept shop size job jobs sequence (place, within, is) =
     let at : job ≡ get_or jobs place 0 = sym is ∙ get_or_default jobs place job 0 within in
     let rest : List ℕ = remove jobs place in
@@ -58,7 +58,7 @@ moved_kept shop size job jobs sequence (place, within, is) =
 -- ---- a list of jobs
 
 pub visited_kept : (shop : FlowShop) (size : ℕ) (list jobs : List ℕ) → IsSequence size jobs
-    → All (λ job. Contains jobs job) list → IsKept shop jobs (visited shop list jobs)
+    → All (λ job. Contains jobs job) list → IsNoLongerThan shop jobs (visited shop list jobs)
 visited_kept shop size [] jobs sequence among =
     record { same = IsPermutation-refl jobs; shorter = omega arith }
 visited_kept shop size (job ∷ list) jobs sequence among =
@@ -75,7 +75,7 @@ visited_kept shop size (job ∷ list) jobs sequence among =
     }
 
 pub visits_kept : (shop : FlowShop) (size : ℕ) (list : List ℕ) (passes : ℕ) (jobs : List ℕ) → IsSequence size jobs
-    → All (λ job. Contains jobs job) list → IsKept shop jobs (after_visits shop list passes jobs)
+    → All (λ job. Contains jobs job) list → IsNoLongerThan shop jobs (after_visits shop list passes jobs)
 visits_kept shop size list zero jobs sequence among =
     record { same = IsPermutation-refl jobs; shorter = omega arith }
 visits_kept shop size list (suc passes) jobs sequence among =

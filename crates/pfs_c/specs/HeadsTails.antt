@@ -15,11 +15,11 @@ heads_tails_refusal times jobs machines sequence heads tails = first_some (sizes
 
 -- row by row: the heaviest path from the first operation of the sequence to that of the row and the machine, which is
 -- the earliest time at which this operation ends
-abbrev pub AreHeads : FlowShop → List ℕ → List ℕ → Type 0
-AreHeads shop jobs heads = (row machine : ℕ) → row < length jobs → machine < shop.machines
+abbrev pub AreRowHeads : FlowShop → List ℕ → List ℕ → Type 0
+AreRowHeads shop jobs heads = (row machine : ℕ) → row < length jobs → machine < shop.machines
     → table_entry shop.machines heads row machine ≡ heaviest_front shop jobs row machine
 
 -- row by row: the heaviest path from the operation of the row and the machine to the last operation of the sequence
-abbrev pub AreTails : FlowShop → List ℕ → List ℕ → Type 0
-AreTails shop jobs tails = (row machine : ℕ) → row < length jobs → machine < shop.machines
+abbrev pub AreRowTails : FlowShop → List ℕ → List ℕ → Type 0
+AreRowTails shop jobs tails = (row machine : ℕ) → row < length jobs → machine < shop.machines
     → table_entry shop.machines tails row machine ≡ heaviest_back shop jobs row machine

@@ -3,7 +3,7 @@ ghost use Rattle.std.specs.Prelude.{◌≡◌, ◌≢◌, ◌*◌, ◌<◌, ◌�
 ghost use Rattle.pfs_base.specs.FlowShop.{IsWithin};
 ghost use Rattle.pfs_base.specs.Limits.{limits};
 ghost use Rattle.pfs_order.specs.Sequence.{IsSequence};
-ghost use Rattle.pfs_c.specs.HeadsTails.{AreHeads, AreTails, heads_tails_refusal};
+ghost use Rattle.pfs_c.specs.HeadsTails.{AreRowHeads, AreRowTails, heads_tails_refusal};
 ghost use Rattle.pfs_c.specs.Judgements.{shop_of};
 ghost use Rattle.pfs_c.specs.Private.Refusing.{Judges};
 ghost use Rattle.pfs_c.specs.Texts.{answer_of};
@@ -27,8 +27,8 @@ pub extern "C" fn pfs_heads_tails(
 ) -> i32
     ensures number { result ≡ answer_of
         (heads_tails_refusal times.now jobs machines sequence.now (length heads.old) (length tails.old)) }
-    ensures heads { result ≡ PFS_OK → AreHeads (shop_of times.now jobs machines) sequence.now heads.new }
-    ensures tails { result ≡ PFS_OK → AreTails (shop_of times.now jobs machines) sequence.now tails.new }
+    ensures heads { result ≡ PFS_OK → AreRowHeads (shop_of times.now jobs machines) sequence.now heads.new }
+    ensures tails { result ≡ PFS_OK → AreRowTails (shop_of times.now jobs machines) sequence.now tails.new }
     ensures kept_heads { result ≢ PFS_OK → heads.new ≡ heads.old }
     ensures kept_tails { result ≢ PFS_OK → tails.new ≡ tails.old }
 {
@@ -69,7 +69,7 @@ fn fill_heads(times: &[u32], jobs: usize, machines: usize, sequence: &[u32], hea
     requires within { IsWithin limits (shop_of times.now jobs machines) }
     requires sequence { IsSequence jobs sequence.now }
     requires long { length heads.old ≡ length sequence.now * machines }
-    ensures { AreHeads (shop_of times.now jobs machines) sequence.now heads.new }
+    ensures { AreRowHeads (shop_of times.now jobs machines) sequence.now heads.new }
 {
     let mut row = [0; MOST_MACHINES];
     for place in 0..sequence.len() {
@@ -83,7 +83,7 @@ fn fill_tails(times: &[u32], jobs: usize, machines: usize, sequence: &[u32], tai
     requires within { IsWithin limits (shop_of times.now jobs machines) }
     requires sequence { IsSequence jobs sequence.now }
     requires long { length tails.old ≡ length sequence.now * machines }
-    ensures { AreTails (shop_of times.now jobs machines) sequence.now tails.new }
+    ensures { AreRowTails (shop_of times.now jobs machines) sequence.now tails.new }
 {
     let mut row = [0; MOST_MACHINES];
     for place in (0..sequence.len()).rev() {

@@ -1,4 +1,4 @@
-use Rattle.std.proofs.Common.{◌≡◌, ◌++◌, take, get_or, Contains, inl, inr, refl, rules, arith}
+use Rattle.std.proofs.Common.{◌++◌, take, get_or, Contains, inl, inr, refl, rules}
 use Rattle.std.proofs.lemmas.List.{take_all}
 use Rattle.pfs_c.proofs.Gathered.{more_out, more_right, more_twice}
 use Rattle.pfs_c.proofs.Jobs.{right_of_sequence}

@@ -1,4 +1,4 @@
-use Rattle.std.proofs.Common.{◌+◌, ◌*◌, arith}
+use Rattle.std.proofs.Common.{arith}
 use Rattle.pfs_c.proofs.RowCopies.{copied_more}
 use Rattle.pfs_c.proofs.heads.copy_row.Goals as goal
 

@@ -1,4 +1,4 @@
-use Rattle.std.proofs.Common.{◌+◌, ◌*◌, ◌-◌, ◌≤◌, length, insert, ap, ◌∙◌, arith}
+use Rattle.std.proofs.Common.{◌+◌, ◌≤◌, length, insert, ap, ◌∙◌, arith}
 use Rattle.pfs_order.specs.Sequence.{Sequence}
 use Rattle.pfs_insert.specs.Insertion.{with_job}
 use Rattle.pfs_c.proofs.Visits.{insertion_few}

@@ -1,4 +1,4 @@
-use Rattle.std.proofs.Common.{◌≡◌, Contains, ap, sym, ◌∙◌, rules}
+use Rattle.std.proofs.Common.{Contains, ap, sym, ◌∙◌, rules}
 use Rattle.pfs_order.specs.Sequence.{Sequence}
 use Rattle.pfs_order.proofs.Published.Sequences.{absent-remove, length-lt-size, others_are}
 use Rattle.pfs_c.proofs.Visits.{others_absent}

@@ -1,4 +1,4 @@
-use Rattle.std.proofs.Common.{◌≡◌, ◌+◌, ◌*◌, ◌<◌, length, sym, ◌∙◌, arith}
+use Rattle.std.proofs.Common.{length, sym, ◌∙◌, arith}
 use Rattle.pfs_c.proofs.Visits.{visits_more, visits_room}
 use Rattle.pfs_c.proofs.moving.visit_all.Goals as goal
 

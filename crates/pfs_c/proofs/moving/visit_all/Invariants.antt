@@ -1,4 +1,4 @@
-use Rattle.std.proofs.Common.{◌≡◌, ◌+◌, ◌*◌, ◌≤◌, length}
+use Rattle.std.proofs.Common.{◌≡◌, ◌*◌, ◌≤◌, length}
 use Rattle.pfs_insert.specs.Inserter.{Fits}
 use Rattle.pfs_c.specs.Building.{after_visits}
 use Rattle.pfs_c.proofs.moving.visit_all.Given as goal

@@ -1,4 +1,4 @@
-use Rattle.std.proofs.Common.{◌≡◌, ◌+◌, ◌*◌, ◌<◌, length, get_or, sym, ◌∙◌, arith}
+use Rattle.std.proofs.Common.{◌*◌, length, sym, ◌∙◌, arith}
 use Rattle.pfs_c.proofs.Visits.{part_within, visited_more}
 use Rattle.pfs_c.proofs.moving.visit_once.Goals as goal
 
