@@ -16,6 +16,12 @@ from typing import Any, NamedTuple
 LETTERS = 8
 DIGIT = 0.66 * LETTERS / 72
 HIGHEST_ROWS = 12
+# Rows that aren't higher have no letters.
+SMALLEST_ROW = 0.2
+# The key of places and names: letters in points, their width and the lines in inches.
+KEY_LETTERS = 7
+KEY_DIGIT = 0.62 * KEY_LETTERS / 72
+KEY_LINE = 0.14
 NARROW = 6
 # What stands beside the rows: marks of the machines at the left, idle shares at the right.
 BESIDE = 1.5
@@ -67,7 +73,8 @@ class Table(NamedTuple):
 
 class Look(NamedTuple):
     """How a table is drawn: inches from left to right, dots an inch, whether there are a title and a critical path, a
-    lower bound, the unit of the times, and how many of their digits stand behind the point."""
+    lower bound, the unit of the times, how many decimals they have, for a scale of dates its title and the times that
+    it marks with their texts, and whether bars that are too short for a job's name have its place, with a key below."""
     width: float = 12.0
     dpi: int = 110
     title: bool = True
@@ -75,6 +82,9 @@ class Look(NamedTuple):
     bound: int | None = None
     unit: str = "units of the instance"
     decimals: int = 0
+    scale: str = ""
+    marks: Sequence[tuple[float, str]] = ()
+    key: bool = False
 
     def told(self, time: float) -> str:
         return f"{time:,.0f}" if self.decimals == 0 else f"{time / 10**self.decimals:,.{self.decimals}f}"
@@ -141,8 +151,13 @@ def new_figure(table: Table, look: Look) -> Figure:
     logging.getLogger("matplotlib").setLevel(logging.ERROR)
     matplotlib = importlib.import_module("matplotlib")
     matplotlib.rcParams.update({"svg.fonttype": "none", "svg.hashsalt": "pfs", "pdf.fonttype": 42, "font.size": 9})
-    figure = importlib.import_module("matplotlib.figure").Figure
-    return figure(figsize=(look.width, 1.3 + row_height(table) * table.machines), layout="constrained")
+    height = 1.3 + row_height(table) * table.machines
+    key = key_height(table, look)
+    figure = importlib.import_module("matplotlib.figure").Figure(figsize=(look.width, height + key),
+                                                                 layout="constrained")
+    if key:
+        figure.get_layout_engine().set(rect=(0, key / (height + key), 1, height / (height + key)))
+    return figure
 
 
 def row_height(table: Table) -> float:
@@ -172,6 +187,8 @@ def draw(figure: Figure, table: Table, look: Look) -> None:
         draw_bound(axis, look.bound)
     if look.critical:
         draw_path(axis, table, look)
+    if has_key(table, look):
+        draw_key(figure, table, look)
     if look.title:
         size = 11 if look.width > NARROW else 9
         axis.set_title(title_of(table, look, size), fontsize=size, linespacing=1.3)
@@ -220,15 +237,60 @@ def draw_machine(axis: Axis, table: Table, look: Look, machine: int, fills: list
 
 
 def draw_numbers(axis: Axis, table: Table, look: Look, machine: int, fills: list[Colour]) -> None:
-    """A job's number where it fits into its bar; none in a row where fewer than half of them fit."""
-    if row_height(table) <= 0.2:
+    """A job's name or number where it fits into its bar, or its place in the key. Without a key there is none in a row
+    where fewer than half of them fit."""
+    if row_height(table) <= SMALLEST_ROW:
         return
     starts, ends = table.starts[:, machine].tolist(), table.ends[:, machine].tolist()
-    bars = [bar for bar in zip(table.order, starts, ends, fills) if bar[2] > bar[1]]
-    fit = [bar for bar in bars if inches(table, look) * (bar[2] - bar[1]) > DIGIT * len(table.label(bar[0])) + 0.03]
-    for job, start, end, fill in fit if 2 * len(fit) >= len(bars) else []:
-        axis.text((start + end) / 2, machine + 1, table.label(job), ha="center", va="center", fontsize=LETTERS,
-                  zorder=4, color=ink(fill), clip_on=True, parse_math=False)
+    bars = [(place, start, end) for place, (start, end) in enumerate(zip(starts, ends)) if end > start]
+    texts = [label_of(table, look, place, end - start) for place, start, end in bars]
+    if not look.key and 2 * sum(map(bool, texts)) < len(bars):
+        return
+    for text, (place, start, end) in zip(texts, bars):
+        if text:
+            axis.text((start + end) / 2, machine + 1, text, ha="center", va="center", fontsize=LETTERS, zorder=4,
+                      color=ink(fills[place]), clip_on=True, parse_math=False)
+
+
+def label_of(table: Table, look: Look, place: int, length: int) -> str:
+    """What is written on a bar of this length: the job's name, its place in the key, or nothing."""
+    texts = [table.label(table.order[place]), *([f"#{place + 1}"] if look.key else [])]
+    return next((text for text in texts if inches(table, look) * length > DIGIT * len(text) + 0.03), "")
+
+
+def has_key(table: Table, look: Look) -> bool:
+    """Whether a bar has a place in the key instead of a name."""
+    if not look.key or is_image(table, look) or row_height(table) <= SMALLEST_ROW:
+        return False
+    lengths = (table.ends - table.starts).tolist()
+    return any(label_of(table, look, place, length) not in ("", table.label(table.order[place]))
+               for place, row in enumerate(lengths) for length in row if length)
+
+
+def key_columns(table: Table, look: Look) -> list[list[str]]:
+    """The places and names of all jobs, in columns of equal width."""
+    most = max(8, int((look.width - 0.4) / KEY_DIGIT))
+    items = [f"#{place} {table.label(job)}" for place, job in enumerate(table.order, 1)]
+    items = [item if len(item) <= most else f"{item[:most - 1]}\u2026" for item in items]
+    columns = max(1, min(len(items), int((look.width - 0.4) / (KEY_DIGIT * (2 + max(map(len, items)))))))
+    rows = math.ceil(len(items) / columns)
+    return [items[at:at + rows] for at in range(0, len(items), rows)]
+
+
+def key_height(table: Table, look: Look) -> float:
+    """The height of the key, in inches; 0 without one."""
+    return 0.3 + KEY_LINE * len(key_columns(table, look)[0]) if has_key(table, look) else 0
+
+
+def draw_key(figure: Figure, table: Table, look: Look) -> None:
+    """The key below the rows."""
+    columns = key_columns(table, look)
+    top = (key_height(table, look) - 0.1) / figure.get_figheight()
+    for at, column in enumerate(columns):
+        for line, item in enumerate(column):
+            figure.text((0.2 + at * (look.width - 0.4) / len(columns)) / look.width,
+                        top - line * KEY_LINE / figure.get_figheight(), item, va="top", fontsize=KEY_LETTERS,
+                        parse_math=False)
 
 
 def draw_bound(axis: Axis, bound: int) -> None:
@@ -262,10 +324,13 @@ def scales(axis: Axis, table: Table, look: Look) -> None:
     for label in axis.get_yticklabels():
         label.set_parse_math(False)
     # as it is, also where it looks like a formula
-    axis.set_xlabel(f"time ({look.unit})", parse_math=False)
+    axis.set_xlabel(look.scale or f"time ({look.unit})", parse_math=False)
     axis.set_ylabel("machine")
-    axis.xaxis.set_major_formatter(lambda value, _: look.told(value))
-    axis.xaxis.get_major_locator().set_params(integer=True, **({} if look.width > NARROW else {"nbins": 5}))
+    if look.marks:
+        axis.set_xticks([time for time, _ in look.marks], [text for _, text in look.marks])
+    else:
+        axis.xaxis.set_major_formatter(lambda value, _: look.told(value))
+        axis.xaxis.get_major_locator().set_params(integer=True, **({} if look.width > NARROW else {"nbins": 5}))
     axis.spines[["top", "right", "left"]].set_visible(False)
     axis.tick_params(axis="y", length=0)
     right = axis.secondary_yaxis("right")

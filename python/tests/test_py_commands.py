@@ -398,9 +398,9 @@ def test_progress_is_told_on_a_terminal_only(folder: pathlib.Path) -> None:
     (["search", "shop", "--layout", "orlib"], 2, "pfs: size line 2 has a wrong count\n"),
     ([*LONG, "--block", "2"], 2, "pfs: no block, found 1\n"),
     ([*LONG, "--start", "shop"], 2, "pfs: order file syntax at 0\n"),
-    ([*LONG, "--take", "61"], 3, "pfs: take must be from 1 to 60, not 61\n"),
+    ([*LONG, "--take", "61"], 3, "pfs: --take must be from 1 to 60, not 61\n"),
     ([*LONG, "--start", "for_nine"], 3, "pfs: for_nine: an order for 9 machines, and the instance has 10\n"),
-    ([*LONG, "--start", "two"], 3, "pfs: start has 2 jobs, but the instance has 60\n"),
+    ([*LONG, "--start", "two"], 3, "pfs: --start has 2 jobs, but the instance has 60\n"),
     (["plan", "bad.csv"], 2, "pfs: bad.csv: line 2, column 3: 'x' is no time\n"),
     (["plan", "good.csv", "--chart", "chart.jpg"], 3,
      "pfs: chart.jpg: the name of a chart ends with .svg, .png, .pdf or .html\n"),
@@ -417,7 +417,7 @@ def test_what_is_rejected(folder: pathlib.Path, words: list[str], status: int, e
     (["plan", "large.csv", "--chart", "x.jpg"], 3, "the name of a chart ends with .svg, .png, .pdf or .html"),
     ([*LONG, "--state", "state", "--start", "none"], 4, "No such file or directory: 'none'"),
     ([*LONG, "--state", "other"], 2, "not the state of a search"),
-    (["search", "shop", "--layout", "taillard", "--take", "61"], 3, "take is 61"),
+    (["search", "shop", "--layout", "taillard", "--take", "61"], 3, "--take is 61"),
 ])
 def test_what_is_rejected_is_rejected_before_the_search(folder: pathlib.Path, words: list[str], status: int,
                                                       error: str) -> None:

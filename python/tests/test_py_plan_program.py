@@ -23,7 +23,7 @@ def options_of_usage(folder: pathlib.Path) -> dict[str, str]:
     """Each option of the usage text with the name of its value, or without."""
     usage = run(folder, "--help").stdout.partition("\n\n")[0]
     assert usage.startswith("usage: pfs-plan ")
-    return dict(re.findall(r"\[--([\w-]+)(?: ([A-Za-z.]+|\{point,comma\}))?\]", usage))
+    return dict(re.findall(r"\[--([\w-]+)(?: ([A-Za-z.-]+|\{point,comma\}))?\]", usage))
 
 
 def test_the_page_has_the_programs_options(tmp_path: pathlib.Path) -> None:

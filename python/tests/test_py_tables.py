@@ -11,6 +11,7 @@ MISSING = "the time is missing: write 0 where a job skips a machine (it still wa
 SAVE_AS = "save it as CSV UTF-8 (Excel), or as CSV with the character set Unicode (UTF-8) (LibreOffice)"
 WITHOUT = "leave it out, or allow totals (`allow_totals`)"
 ADD = "were missing: add it, or write `job` into the first cell of the table"
+MINUTES = "times such as 1:30 may be hours and minutes, or minutes and seconds: write [h:mm] instead of {}, or numbers"
 TABLES = {
     "commas": "job,saw,drill\ntable,3,2\nchair,2,5\n",
     "semicolons": "job;saw;drill\ntable;3;2\nchair;2;5\n",
@@ -86,6 +87,32 @@ WRONG_TABLES = {
                  f"the names of the machines are numbers, as if the row of names {ADD}"),
     "no row of names above hours": ("a;3:00;1:12\nb;0:20;5:00\n", 1, 2,
                                     f"the names of the machines are numbers, as if the row of names {ADD}"),
+    "no row of names, and times that count from 1": (
+        "a;1;2\nb;20;5\n", 1, 2, f"the names of the machines are numbers, as if the row of names {ADD}"),
+    "no row of names, and times that count from 0": (
+        "a;0;1\nb;20;5\n", 1, 2, f"the names of the machines are numbers, as if the row of names {ADD}"),
+    "no row of names, and a job in brackets": (
+        "chair (red);1;2\nb;20;5\n", 1, 2, f"the names of the machines are numbers, as if the row of names {ADD}"),
+    "no column of names, and times that count from 1": (
+        "saw;drill\n1;12\n2;5\n", 2, 1, f"the names of the jobs are numbers, as if the column of names {ADD}"),
+    "minutes and seconds": ("job [min];saw\na;1:30\n", 1, 1, MINUTES.format("min")),
+    "minutes and seconds in German": ("job;saw [Minuten]\na;1:30\n", 1, 1, MINUTES.format("Minuten")),
+    "hours, minutes and seconds": ("job;saw\na;1:30:00\n", 2, 2,
+                                   "'1:30:00' is no time: write hours and minutes, as 1:30, or a number"),
+    "hours, minutes and seconds beside others": (
+        "job;saw\na;1:30\nb;1:30:00\n", 3, 2,
+        "'1:30:00' isn't hours and minutes, as other times of the table are: leave out the seconds"),
+    "thousands with apostrophes": ("job;saw\na;1'000\n", 2, 2, '"1\'000" is no time: leave out thousands separators'),
+    "thousands with typographic apostrophes": ("job;saw\na;1\u2019000,5\n", 2, 2,
+                                               "'1\u2019000,5' is no time: leave out thousands separators"),
+    "thousands with blanks": ("job;saw\na;12 345 678\n", 2, 2,
+                              "'12 345 678' is no time: leave out thousands separators"),
+    "thousands with fixed blanks": ("job;saw\na;1\xa0000\n", 2, 2,
+                                    "'1\\xa0000' is no time: leave out thousands separators"),
+    "thousands with narrow blanks": ("job;saw\na;1\u202f000\n", 2, 2,
+                                     "'1\\u202f000' is no time: leave out thousands separators"),
+    "a unit at a time": ("job;saw\na;1,5 h\n", 2, 2,
+                         "'1,5 h' is no time: write the unit in brackets into the first cell of the table"),
     "two units": ("job;saw [min];drill [h]\na;3;2\n", 1, 3,
                   "the times of the machine are in h, and others are in min: use one unit"),
     "a machine without a unit": ("job;saw [min];drill\na;3;2\n", 1, 3,
@@ -118,8 +145,11 @@ RIGHT_TABLES = {
     "one job": ("job;saw;drill;paint\na;1;2;3\n", [[1, 2, 3]]),
     "no work": ("job;saw;drill;paint\na;0;0;0\nb;0;0;0\nc;0;0;0\n", [[0, 0, 0]] * 3),
     "a total that is none": ("job;saw;drill\na;1;2\nb;3;4\nTotal;4;7\n", [[1, 2], [3, 4], [4, 7]]),
-    "counted machines": ("x;1;2\na;3;12\nb;20;5\n", [[3, 12], [20, 5]]),
-    "counted jobs": ("x;saw;drill\n0;3;12\n1;20;5\n", [[3, 12], [20, 5]]),
+    "counted machines": ("job;1;2\na;3;12\nb;20;5\n", [[3, 12], [20, 5]]),
+    "counted jobs": ("Jobs;saw;drill\n0;3;12\n1;20;5\n", [[3, 12], [20, 5]]),
+    "counted machines below a unit": ("Auftrag [Min];1;2\na;3;12\nb;20;5\n", [[3, 12], [20, 5]]),
+    "counted jobs below a unit": ("part (h);saw;drill\n1;3;12\n2;20;5\n", [[3, 12], [20, 5]]),
+    "a unit in two languages": ("job [min];saw [Minuten];drill [MIN]\na;3;12\n", [[3, 12]]),
     "numbers of orders": ("job [min];saw\n4711;3\n4713;20\n", [[3], [20]]),
     "an empty first cell": (";101;102\na;3;12\n", [[3, 12]]),
     "brackets that are no unit": ("job;drill (left);drill (right)\na;3;12\n", [[3, 12]]),
@@ -161,12 +191,21 @@ def test_utf_16(tmp_path: pathlib.Path, encoding: str) -> None:
 
 
 @pytest.mark.parametrize(("head", "given_unit", "unit"), [
-    ("job [min]", "", "min"), ("times ( h )", "", "h"), ("job", "s", "s"), ("job [min]", "s", "s"),
-    ("[min] job", "", "")])
+    ("job [min]", "", "min"), ("times ( h )", "", "h"), ("job", "s", "s"), ("job [min]", "Minuten", "Minuten"),
+    ("job (week 48)", "s", "s"), ("[min] job", "", "")])
 def test_units_and_decimals(tmp_path: pathlib.Path, head: str, given_unit: str, unit: str) -> None:
     path = written(tmp_path, f"{head};saw;drill\ntable;3,25;2\nchair;0,5;5\n")
     shop = pfs.read_csv(path, unit=given_unit)
     assert (shop.unit, shop.decimals, shop.times.tolist()) == (unit, 2, [[325, 200], [50, 500]])
+
+
+@pytest.mark.parametrize(("head", "column", "why"), [
+    ("job [min];saw;drill", 1, "the times are in min, and `unit` is s: use one unit"),
+    ("job;saw;drill [h]", 3, "the times of the machine are in h, and `unit` is s: use one unit")])
+def test_another_unit_than_the_tables(tmp_path: pathlib.Path, head: str, column: int, why: str) -> None:
+    with pytest.raises(pfs.TableFault) as fault:
+        pfs.read_csv(written(tmp_path, f"{head}\na;3;2\n"), unit="s")
+    assert (fault.value.line, fault.value.column, fault.value.text) == (1, column, why)
 
 
 @pytest.mark.parametrize(("head", "given_unit"), [
@@ -177,7 +216,7 @@ def test_units_of_machines(tmp_path: pathlib.Path, head: str, given_unit: str) -
 
 
 def test_hours_and_minutes_are_minutes(tmp_path: pathlib.Path) -> None:
-    for head in ("job", "job [h]", "job [h:mm]", "job [min]"):
+    for head in ("job", "job [h]", "job [h:mm]", "job [HH:MM]", "job [Std]"):
         shop = pfs.read_csv(written(tmp_path, f"{head};saw\na;100:59\n"))
         assert (shop.times.tolist(), shop.unit, shop.decimals) == ([[6059]], "min", 0)
 

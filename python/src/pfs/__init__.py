@@ -14,6 +14,7 @@ Jobs, machines and places count from 0, as arrays do; in files jobs count from 1
 The library ``libpfs`` does the computing. Its results are proved correct for every input.
 """
 from pfs._all import solve_all
+from pfs._calendar import Calendar
 from pfs._faults import Fault, FileFault, Interrupted, InterruptedAll, OrderFault, TableFault
 from pfs._files import from_frame, generate, parse_order, read, read_all, read_order, taillard
 from pfs._instance import Instance, Place
@@ -23,7 +24,7 @@ from pfs._tables import read_csv
 from pfs._version import VERSION as __version__
 
 __all__ = [
-    "Fault", "FileFault", "Improvement", "Instance", "Interrupted", "InterruptedAll", "OrderFault", "Place", "Schedule",
-    "Solution", "TableFault", "__version__", "from_frame", "generate", "parse_order", "read", "read_all", "read_csv",
+    "Calendar", "Fault", "FileFault", "Improvement", "Instance", "Interrupted", "InterruptedAll", "OrderFault", "Place",
+    "Schedule", "Solution", "TableFault", "__version__", "from_frame", "generate", "parse_order", "read", "read_all", "read_csv",
     "read_order", "solve_all", "taillard",
 ]

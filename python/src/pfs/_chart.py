@@ -15,6 +15,7 @@ import sys
 from typing import TYPE_CHECKING, Any, NamedTuple
 
 from pfs._atomic import atomic_write
+from pfs._calendar import Calendar, Clock
 from pfs._names import amount, shown
 from pfs._validate import checked_int
 
@@ -82,22 +83,27 @@ def svg_of(schedule: Schedule) -> str | None:
 
 
 def plot(schedule: Schedule, path: str | os.PathLike[str] | None, critical: bool, bound: bool, unit: str | None,
-         frame: Frame = Frame()) -> Any:
+         frame: Frame = Frame(), calendar: Calendar | None = None) -> Any:
     """The figure, or, where the path is that of a page, none."""
     shop = schedule.instance
+    clock = None if calendar is None else Clock(calendar, shop)
     ending = None if path is None else ending_of(path)
     frame = frame.checked()
     if ending == "html" and frame.ax is not None:
         raise ValueError("ax is for pictures, and a page has none")
     look = _gantt.Look(critical=critical, bound=shop.bound() if bound else None,
                        unit=shown(unit or shop.unit or UNIT), decimals=shop.decimals, width=float(frame.width),
-                       dpi=frame.dpi, title=frame.title is True)
+                       dpi=frame.dpi, title=frame.title is True,
+                       key=shop.job_names is not None and frame.ax is None)
+    if clock is not None:
+        look = look._replace(scale=scale_of(clock), marks=clock.marks(schedule.makespan, most_marks(look.width)))
     jobs, machines = ([shown(name) for name in names or counted(count)]
                       for names, count in ((shop.job_names, shop.jobs), (shop.machine_names, shop.machines)))
     table = _gantt.Table([job + 1 for job in schedule.order.tolist()], schedule.starts, schedule.ends, jobs, machines)
     if ending == "html":
         assert path is not None
-        atomic_write(path, page_of(table, look, shown(shop.name)).encode("utf-8"))
+        more = {"named": shop.job_names is not None, "dates": None if clock is None else dates_of(clock, schedule)}
+        atomic_write(path, page_of(table, look, shown(shop.name), more).encode("utf-8"))
         return None
     return drawn(table, look, path, ending, frame)
 
@@ -157,8 +163,25 @@ class Given:
         return self.ax
 
 
-def page_of(table: _gantt.Table, look: _gantt.Look, name: str) -> str:
-    """The page: one file, that asks for nothing else."""
+def scale_of(clock: Clock) -> str:
+    """The title of a scale of dates."""
+    return "date and time" if clock.calendar.is_always else "date and time, in shifts only"
+
+
+def most_marks(width: float) -> int:
+    """How many dates a scale of this width has room for."""
+    return max(1, int((width - _gantt.BESIDE) / 1.1))
+
+
+def dates_of(clock: Clock, schedule: Schedule) -> dict[str, Any]:
+    """What the page computes dates of."""
+    times, microseconds = clock.ratio()
+    return {"spans": clock.calendar.spans, "begun": clock.begun, "times": times, "microseconds": microseconds,
+            "digits": clock.digits(schedule.starts, schedule.ends), "steps": clock.steps(), "scale": scale_of(clock)}
+
+
+def page_of(table: _gantt.Table, look: _gantt.Look, name: str, more: dict[str, Any]) -> str:
+    """The page: one file, that asks for nothing else. Its data has more than a picture needs."""
     title = f"{table.jobs} jobs on {table.machines} machines: makespan {amount(table.makespan, look.decimals)}"
     title += f" {look.unit}" if look.unit != UNIT else ""
     title += f", bound {amount(look.bound, look.decimals)} (dashed)" if look.bound is not None else ""
@@ -177,6 +200,7 @@ def page_of(table: _gantt.Table, look: _gantt.Look, name: str) -> str:
         "critical": _gantt.critical_path(table) if look.critical else [],
         "decimals": look.decimals,
         "unit": look.unit,
+        **more,
     }
     text = json.dumps(data, ensure_ascii=False, separators=(",", ":")).replace("<", "\\u003c")
     return filled({"title": html.escape(f"{name}: {title}" if name else title), "data": text})

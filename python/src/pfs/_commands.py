@@ -5,6 +5,7 @@ from __future__ import annotations
 import argparse
 import errno
 import os
+import re
 import signal
 import sys
 import time
@@ -13,6 +14,7 @@ from functools import partial
 from typing import Any, NoReturn, TextIO
 
 from pfs import _library as c
+from pfs._calendar import Calendar, Clock, begin_of, days_of, shifts_of, told as date_told
 from pfs._chart import ending_of, require_matplotlib
 from pfs._faults import Fault, TableFault
 from pfs._files import read, read_order
@@ -29,6 +31,10 @@ from pfs._version import VERSION
 REFUSED, USAGE, SYSTEM = 2, 3, 4
 SIGNALS = (signal.SIGINT, signal.SIGTERM)
 DECIMAL_SIGNS = {"point": ".", "comma": ","}
+# The options for the arguments that messages about tables name, and the beginnings of messages about other options.
+OPTIONS = {"decimal": "--decimal point or --decimal comma", "allow_totals": "--allow-totals", "unit": "--unit"}
+ARGUMENT = re.compile(f"`({'|'.join(OPTIONS)})`")
+NUMBER_OPTION = re.compile("^(?=(?:rounds|take|passes|seed) must |start has )")
 VERSION_OPTION: dict[str, Any] = {"action": "version", "version": f"pfs {VERSION}"}
 
 
@@ -149,27 +155,39 @@ def search_command(given: argparse.Namespace) -> int:
 
 def plan_command(given: argparse.Namespace) -> int:
     """Finds an order for a table with names, and prints it. The order comes first: no other output can lose it."""
+    calendar = calendar_of(given)
     check_outputs(given.schedule, given.chart)
     shop, delimiter, has_mark = table_of(given.table, given.unit, DECIMAL_SIGNS.get(given.decimal),
                                          given.allow_totals)
+    clock = None if calendar is None else Clock(calendar, shop)
     written(sys.stderr, f"{shown(described(shop))}\n")
     start = None if given.order is None else order_in(given.order, shop)
     search = Search(shop, start, 0, given.take, given.passes, given.seed)
     with Stop() as stop:
         best, fault = searched(search, given.rounds, given.seconds, stop, lambda _: None)
-        outputs: list[Callable[[], object]] = [lambda: printed(listed(shop, best))]
+        outputs: list[Callable[[], object]] = [lambda: printed(listed(shop, best, clock))]
         if given.schedule is not None:
             mark = has_mark or delimiter == ";"
-            outputs.append(lambda: shop.schedule(best).to_csv(given.schedule, delimiter, mark=mark))
-        outputs += [partial(draw, shop, best, chart) for chart in given.chart]
+            outputs.append(lambda: shop.schedule(best).to_csv(given.schedule, delimiter, mark=mark, calendar=calendar))
+        outputs += [partial(draw, shop, best, chart, calendar) for chart in given.chart]
         faults = [fault, *(failure_of(output) for output in outputs)]
     statuses = [told(line_of(each), SYSTEM) for each in faults if each is not None]
     return statuses[0] if statuses else stop.status()
 
 
-def draw(shop: Instance, best: Solution, chart: str) -> None:
+def draw(shop: Instance, best: Solution, chart: str, calendar: Calendar | None) -> None:
     """Write a chart of an order."""
-    shop.schedule(best).plot(chart, critical=True, bound=True)
+    shop.schedule(best).plot(chart, critical=True, bound=True, calendar=calendar)
+
+
+def calendar_of(given: argparse.Namespace) -> Calendar | None:
+    """The calendar that a plan names, if it does."""
+    if given.begin is not None:
+        return Calendar(given.begin, given.shift, given.days)
+    option = "--shift" if given.shift else "--days" if given.days else ""
+    if option:
+        raise ValueError(f"{option} needs --begin, which says when the work begins")
+    return None
 
 
 def check_outputs(schedule: str | None, charts: Sequence[str]) -> None:
@@ -183,15 +201,25 @@ def check_outputs(schedule: str | None, charts: Sequence[str]) -> None:
         require_matplotlib()
 
 
-def listed(shop: Instance, best: Solution) -> str:
+def listed(shop: Instance, best: Solution, clock: Clock | None = None) -> str:
     """The text of a plan."""
     bound = shop.bound()
     unit = f" {shown(shop.unit)}" if shop.unit else ""
     spans = {"makespan": best.makespan, "bound": bound}
     lines = [f"{name} {amount(span, shop.decimals)}{unit}" for name, span in spans.items()]
     lines += ["optimal"] if best.makespan == bound else []
+    lines += [] if clock is None else ended(shop, best, clock)
     lines += [f"{place} {shown(shop.job_name(job))}" for place, job in enumerate(best.order.tolist(), 1)]
     return "\n".join(lines) + "\n"
+
+
+def ended(shop: Instance, best: Solution, clock: Clock) -> list[str]:
+    """The line that says when a plan is finished; none if the calendar ends before."""
+    try:
+        schedule = shop.schedule(best)
+        return [f"end {date_told(clock.span(0, best.makespan)[1], clock.digits(schedule.starts, schedule.ends))}"]
+    except ValueError:
+        return []
 
 
 def failure_of(output: Callable[[], object]) -> Exception | None:
@@ -231,6 +259,19 @@ def number(least: int, most: int) -> Callable[[str], int]:
     return read_number
 
 
+def checked(reader: Callable[[str], object]) -> Callable[[str], str]:
+    """Takes the texts that this reads."""
+
+    def read_text(text: str) -> str:
+        try:
+            reader(text)
+        except ValueError as fault:
+            raise argparse.ArgumentTypeError(str(fault)) from None
+        return text
+
+    return read_text
+
+
 def search_words() -> Words:
     """The options of all searches."""
     options = Words(add_help=False)
@@ -256,6 +297,15 @@ def add_plan_words(plan: argparse.ArgumentParser) -> None:
     plan.add_argument("--order", metavar="FILE",
                       help="an order to begin with, which is evaluated if neither --rounds nor --seconds is there: the "
                       "names of the jobs, one in a line, or what plan printed, or its schedule")
+    plan.add_argument("--begin", type=checked(begin_of), metavar="DATETIME",
+                      help="when the work begins, such as 2026-11-30T06:00; the schedule and the chart then have local "
+                      "dates and times of day, for which times need the unit min, h, s or d")
+    plan.add_argument("--shift", type=checked(shifts_of), action="append", default=[], metavar="FROM-TO",
+                      help="when there is work, such as 06:00-14:00, also across midnight; several with commas, or "
+                      "the option more than once; by default around the clock. Operations stop at the end of a shift "
+                      "and continue with the next one; this changes neither the order nor the makespan")
+    plan.add_argument("--days", type=checked(days_of), action="append", default=[], metavar="DAYS",
+                      help="the days on which shifts start, such as mon-fri or mon,wed,fri; by default all days")
     plan.add_argument("--schedule", metavar="OUT.csv", help="when each operation starts and ends")
     plan.add_argument("--chart", metavar="OUT.svg", action="append", default=[],
                       help="the chart, as .svg, .png, .pdf or a page .html; may be given more than once")
@@ -323,8 +373,11 @@ def rounds_of(given: argparse.Namespace) -> int:
 
 
 def line_of(fault: Exception) -> str:
-    """Return what is printed for an error."""
-    return "pfs: no memory" if isinstance(fault, MemoryError) else f"pfs: {shown(str(fault))}"
+    """Return what is printed for an error. Arguments of the package for Python are named as options."""
+    if isinstance(fault, MemoryError):
+        return "pfs: no memory"
+    text = ARGUMENT.sub(lambda found: OPTIONS[found[1]], shown(str(fault)))
+    return f"pfs: {NUMBER_OPTION.sub('--', text)}"
 
 
 def told(line: str, status: int) -> int:

@@ -9,6 +9,15 @@ from typing import Any
 # Characters that move the cursor of a terminal, end a line or change its direction, or aren't allowed in XML.
 UNSHOWN = re.compile("[\0-\x1f\x7f-\x9f\u2028-\u202e\u2066-\u2069\ud800-\udfff\ufffe\uffff]")
 
+# Units of time, in which machines may be named too, and how many seconds each has. Other words in brackets, as in
+# "drill (left)", belong to the machine's name.
+UNITS_OF_TIME = {unit: seconds for seconds, units in {
+    1: "s sec secs second seconds sek sekunde sekunden seconde secondes segundo segundos secondo secondi",
+    60: "min mins minute minutes minuten minuto minutos minuti",
+    3_600: "h hr hrs hour hours std stunde stunden heure heures hora horas ora ore uur uren",
+    86_400: "d day days tag tage jour jours día días dia dias giorno giorni dag dagen",
+}.items() for unit in units.split()}
+
 
 def shown(name: str) -> str:
     """Return a name as charts and terminals show it, with escapes for control characters.

@@ -14,7 +14,8 @@ from pfs._tables import counted, rows_of, text_of
 
 SCHEDULE = re.compile(r"job([;,\t])machine\1start\1end")
 # The lines of a plan before its jobs, and a job after its place.
-HEAD = re.compile(r"(makespan|bound) \S.*|optimal")
+HEAD = re.compile(r"(makespan|bound) \S.*")
+AFTER = (re.compile("optimal"), re.compile(r"end [0-9]{4}-[0-9]{2}-[0-9]{2} [0-9:.]+"))
 PLACED = re.compile(r"[0-9]+[.):]?\s+(.+)")
 
 
@@ -56,7 +57,9 @@ def named_jobs(text: str, path: str, numbers: dict[str, int]) -> Iterator[tuple[
         return
     is_plan = len(lines) > 2 and all(HEAD.fullmatch(lines[at][1]) for at in (0, 1))
     if is_plan:
-        lines = lines[3:] if lines[2][1] == "optimal" else lines[2:]
+        lines = lines[2:]
+        for after in AFTER:
+            lines = lines[1:] if lines and after.fullmatch(lines[0][1]) else lines
     for line, name in lines:
         placed = PLACED.fullmatch(name)
         yield line, placed[1] if placed and (is_plan or name not in numbers) else name

@@ -3,12 +3,13 @@ from __future__ import annotations
 
 import csv
 import os
-from collections.abc import Iterator
+from collections.abc import Callable, Iterator
 from typing import TYPE_CHECKING, Any
 
 import numpy as np
 
 from pfs._atomic import atomic_write
+from pfs._calendar import Calendar, Clock, told
 from pfs._names import amount
 from pfs._validate import Order
 
@@ -175,7 +176,7 @@ class Schedule:
         })
 
     def to_csv(self, path: str | os.PathLike[str] | None = None, delimiter: str = ",", *,
-               mark: bool = False) -> str | None:
+               mark: bool = False, calendar: Calendar | None = None) -> str | None:
         """Write the operations as CSV.
 
         Parameters
@@ -186,20 +187,28 @@ class Schedule:
             The separator of the columns. With ``;`` decimals have a comma.
         mark : bool
             Begin the file with a byte order mark. Excel needs it to read letters such as ``ä`` correctly.
+        calendar : Calendar, optional
+            Write dates and times of day, such as ``2026-11-30 06:00``, instead of times.
 
         Returns
         -------
         str or None
             The text, if there is no path.
+
+        Raises
+        ------
+        ValueError
+            If there is a calendar, but the instance's unit is not a unit of time, or the schedule ends after the year
+            9999.
         """
         shop = self.instance
+        times_of = self._told if calendar is None else self._dates(calendar)
         lines = Lines()
         # With this line terminator, cells that contain \r or \n are quoted.
         rows = csv.writer(lines, delimiter=delimiter, lineterminator="\r\n")
         rows.writerow(["job", "machine", "start", "end"])
         for job, machine, start, end in self._operations():
-            times = (amount(time, shop.decimals) for time in (start, end))
-            shown = (time.replace(".", ",") if delimiter == ";" else time for time in times)
+            shown = (time.replace(".", ",") if delimiter == ";" else time for time in times_of(start, end))
             rows.writerow([shop.job_name(job), shop.machine_name(machine), *shown])
         text = "".join(lines.written)
         if path is None:
@@ -207,9 +216,24 @@ class Schedule:
         atomic_write(path, text.encode("utf-8-sig" if mark else "utf-8"))
         return None
 
+    def _told(self, start: int, end: int) -> tuple[str, str]:
+        """The times of an operation as they are written."""
+        return amount(start, self.instance.decimals), amount(end, self.instance.decimals)
+
+    def _dates(self, calendar: Calendar) -> Callable[[int, int], tuple[str, str]]:
+        """What writes the times of an operation as dates and times of day."""
+        clock = Clock(calendar, self.instance)
+        digits = clock.digits(self.starts, self.ends)
+
+        def dates(start: int, end: int) -> tuple[str, str]:
+            first, last = clock.span(start, end)
+            return told(first, digits), told(last, digits)
+
+        return dates
+
     def plot(self, path: str | os.PathLike[str] | None = None, *, critical: bool = False, bound: bool = False,
              unit: str | None = None, width: float = 12.0, dpi: int = 110, title: bool | str = True,
-             ax: Any = None) -> Any:
+             ax: Any = None, calendar: Calendar | None = None) -> Any:
         """Draw a Gantt chart, with a row for each machine, a colour for each job, and idle time in grey.
 
         Parameters
@@ -231,6 +255,9 @@ class Schedule:
             Whether to draw a title, or your own title.
         ax : matplotlib.axes.Axes, optional
             The axes to draw on. The size of their figure doesn't change.
+        calendar : Calendar, optional
+            Show dates and times of day instead of times. The axis shows working time only: the next shift follows
+            directly.
 
         Returns
         -------
@@ -244,10 +271,12 @@ class Schedule:
         TypeError
             If an argument is of the wrong type.
         ValueError
-            If the name has another ending, a number is out of range, or ``ax`` is given for a page.
+            If the name has another ending, a number is out of range, ``ax`` is given for a page, or a calendar for times
+            whose unit is not a unit of time.
         """
         from pfs._chart import Frame, plot
-        return plot(self, path, critical=critical, bound=bound, unit=unit, frame=Frame(width, dpi, title, ax))
+        return plot(self, path, critical=critical, bound=bound, unit=unit, frame=Frame(width, dpi, title, ax),
+                    calendar=calendar)
 
     def _repr_svg_(self) -> str | None:
         """Return the chart for Jupyter, or None without matplotlib or if the chart would be very large."""

@@ -12,18 +12,20 @@ from pfs import _library as c
 from pfs._faults import TableFault
 from pfs._files import read_up_to
 from pfs._instance import Instance
+from pfs._names import UNITS_OF_TIME
 
+# A unit in brackets at the end of a name.
 UNIT = re.compile(r"\s*[\[(]([^\[\]()]+)[\])]\s*\Z")
-# Units that machines may name. Other words in brackets, as in "drill (left)", belong to the machine's name.
-UNITS_OF_TIME = set("""
-    s sec secs second seconds sek sekunde sekunden seconde secondes segundo segundos secondo secondi
-    min mins minute minutes minuten minuto minutos minuti
-    h hr hrs hour hours std stunde stunden heure heures hora horas ora ore uur uren
-    d day days tag tage jour jours día días dia dias giorno giorni dag dagen
-""".split())
 NUMBER = re.compile(r"([0-9]{1,20})(?:([.,])([0-9]{1,20}))?\Z", re.ASCII)
 CLOCK = re.compile(r"([0-9]{1,6}):([0-5][0-9])\Z", re.ASCII)
-CLOCK_UNITS = ("", "min", "h", "h:mm", "hh:mm")
+CLOCK_UNITS = ("", "h:mm", "hh:mm")
+# What isn't a time, and what to write instead.
+HINTS = (
+    (re.compile(r"[0-9]+:[0-9]{2}:[0-9]{2}", re.ASCII), "write hours and minutes, as 1:30, or a number"),
+    (re.compile(r"[0-9]{1,3}(?:['\u2019\u02bc\s][0-9]{3})+(?:[.,][0-9]+)?", re.ASCII), "leave out thousands separators"),
+    (re.compile(r"[0-9]{1,3}(?:[\xa0\u2009\u202f][0-9]{3})+(?:[.,][0-9]+)?"), "leave out thousands separators"),
+    (re.compile(r"[0-9]+(?:[.,][0-9]+)?\s*[^\W\d]+\.?"), "write the unit in brackets into the first cell of the table"),
+)
 # What may be a number with thousands separators as well as one with three decimals. A number doesn't begin with the
 # group "0", so 0.125 has decimals.
 GROUPED = re.compile(r"(?!0[.,])[0-9]{1,3}(?:([.,])[0-9]{3})(?:\1[0-9]{3})*\Z", re.ASCII)
@@ -65,10 +67,6 @@ class Rows(NamedTuple):
     def fault(self, cell: Cell, text: str) -> TableFault:
         return TableFault(self.path, cell.line, cell.column, text)
 
-    def first(self) -> str:
-        """The first cell, without a unit."""
-        return UNIT.sub("", self.rows[0][1][0])
-
     def machines(self) -> list[Cell]:
         line, head = self.rows[0]
         return [Cell(line, column, text) for column, text in enumerate(head[1:], 2)]
@@ -92,6 +90,7 @@ def read_csv(source: str | os.PathLike[str], unit: str = "", *, decimal: str | N
         rows and empty columns at the right are skipped.
     unit : str
         The unit of all times. The table can name it in its first cell, in brackets: ``job [min]``, or at each machine.
+        Two different units of time are rejected.
     decimal : str, optional
         The decimal sign, ``"."`` or ``","``. The other one may then group digits by thousands. By default it is the
         point where commas separate the columns. Elsewhere it is the one that the table uses, and a number such as
@@ -209,10 +208,10 @@ def without_titles(rows: list[tuple[int, list[str]]], path: str) -> list[tuple[i
     and the first job like the names, which would lose the job: a `TableFault`."""
     first = next((at for at, (_, row) in enumerate(rows) if any(row[1:])), 0)
     for line, row in rows[:first]:
-        if row[0] and SAYS_JOB.match(UNIT.sub("", row[0])):
+        if row[0] and is_above_names(row[0]):
             raise TableFault(path, line, 2, "the machine has no name")
     line, head = rows[first]
-    if first and all(is_time(name) for name in head[1:] if name) and not SAYS_JOB.match(UNIT.sub("", head[0])):
+    if first and all(is_time(name) for name in head[1:] if name) and not is_above_names(head[0]):
         raise TableFault(path, line, 2, TIMES_AS_NAMES.format(what="machine", part="row"))
     return rows[first:]
 
@@ -231,21 +230,41 @@ def names_in(path: str, cells: Iterable[Cell], what: str) -> list[str]:
     return list(seen)
 
 
+def unit_in(text: str) -> str:
+    """The text in brackets at the end of a name."""
+    found = UNIT.search(text)
+    return found[1].strip() if found else ""
+
+
+def is_same_unit(one: str, other: str) -> bool:
+    """Whether two units are the same, perhaps in two languages."""
+    first, second = one.casefold(), other.casefold()
+    return first == second or UNITS_OF_TIME.get(first, 0) == UNITS_OF_TIME.get(second, 1)
+
+
 def without_units(table: Rows, heads: Sequence[Cell], unit: str) -> tuple[list[Cell], str]:
     """The names of the machines without a unit that they all have, and the unit of the table."""
-    found = UNIT.search(table.rows[0][1][0])
-    unit = unit or (found[1].strip() if found else "")
-    units = [match[1].strip() if (match := UNIT.search(head.text)) else "" for head in heads]
-    units = [each if each.casefold() in UNITS_OF_TIME else "" for each in units]
+    line, first = table.rows[0][0], unit_in(table.rows[0][1][0])
+    if unit and first.casefold() in UNITS_OF_TIME and not is_same_unit(unit, first):
+        raise TableFault(table.path, line, 1, f"the times are in {first}, and `unit` is {unit}: use one unit")
+    named = unit or first
+    units = [own if (own := unit_in(head.text)).casefold() in UNITS_OF_TIME else "" for head in heads]
     if not any(units):
-        return list(heads), unit
-    wanted = unit or next(filter(None, units))
+        return list(heads), named
+    wanted = named or next(filter(None, units))
     for head, own in zip(heads, units):
-        if own != wanted and (own or not unit):
-            raise table.fault(head, f"the times of the machine are in {own or 'no unit'}, and others are in {wanted}: "
-                                    "use one unit")
+        if not is_same_unit(own, wanted) and (own or not named):
+            others = "`unit` is" if unit else "others are in"
+            raise table.fault(head, f"the times of the machine are in {own or 'no unit'}, and {others} {wanted}: use "
+                                    "one unit")
     return [Cell(head.line, head.column, UNIT.sub("", head.text) if own else head.text)
             for head, own in zip(heads, units)], wanted
+
+
+def is_above_names(first: str) -> bool:
+    """Whether the first cell of a row says that names follow to the right and below: it is `job`, empty, or has a unit
+    of time."""
+    return bool(SAYS_JOB.match(UNIT.sub("", first))) or unit_in(first).casefold() in UNITS_OF_TIME
 
 
 def is_time(text: str) -> bool:
@@ -253,14 +272,13 @@ def is_time(text: str) -> bool:
 
 
 def reject_times_as_names(table: Rows, machines: Sequence[str], jobs: Sequence[str]) -> None:
-    """Names that are all numbers are probably times: the row or the column of names is missing. They may count from 0
-    or 1, and the first cell of the table may say by the word `job`, or by being empty, that they are names."""
-    if SAYS_JOB.match(table.first()):
+    """Names that are all numbers are probably times: the row or the column of names is missing. The first cell of the
+    table may say that they are names."""
+    if is_above_names(table.rows[0][1][0]):
         return
     for names, what, part, line, column in ((machines, "machine", "row", table.rows[0][0], 2),
                                             (jobs, "job", "column", table.rows[1][0], 1)):
-        counted = [[str(at) for at in range(start, start + len(names))] for start in (0, 1)]
-        if all(is_time(name) for name in names) and list(names) not in counted:
+        if all(is_time(name) for name in names):
             raise TableFault(table.path, line, column, TIMES_AS_NAMES.format(what=what, part=part))
 
 
@@ -286,14 +304,18 @@ def times_of(table: Rows, decimal: str | None, unit: str) -> tuple[list[list[int
 
 def minutes_of(table: Rows, rows: Sequence[Sequence[Cell]], unit: str) -> list[list[int]]:
     """Times that are all written as hours and minutes, in minutes."""
-    if unit not in CLOCK_UNITS:
+    if is_same_unit(unit, "min"):
+        raise TableFault(table.path, table.rows[0][0], 1, "times such as 1:30 may be hours and minutes, or minutes and "
+                                                          f"seconds: write [h:mm] instead of {unit}, or numbers")
+    if unit.casefold() not in CLOCK_UNITS and not is_same_unit(unit, "h"):
         raise TableFault(table.path, table.rows[0][0], 1, f"times such as 1:30 are hours and minutes, not {unit}")
     times = []
     for row in rows:
         found = [CLOCK.match(cell.text) for cell in row]
         for cell, match in zip(row, found):
             if match is None:
-                raise table.fault(cell, f"{cell.text!r} isn't hours and minutes, as other times of the table are")
+                hint = ": leave out the seconds" if HINTS[0][0].fullmatch(cell.text) else ""
+                raise table.fault(cell, f"{cell.text!r} isn't hours and minutes, as other times of the table are{hint}")
         times.append([60 * int(match[1]) + int(match[2]) for match in found if match])
     reject_long_times(table, rows, times, " minutes")
     return times
@@ -328,7 +350,8 @@ class DecimalSign:
                                          "or say which decimal sign the table has (`decimal`)")
         match = NUMBER.match(text)
         if match is None or (match[2] not in (None, self.sign) and self.first is None):
-            raise self.table.fault(cell, f"{cell.text!r} is no time")
+            hint = next((f": {hint}" for wrong, hint in HINTS if wrong.fullmatch(cell.text)), "")
+            raise self.table.fault(cell, f"{cell.text!r} is no time{hint}")
         if match[2] not in (None, self.sign) and self.first is not None:
             raise self.table.fault(cell, f"{cell.text!r} has another decimal sign than {self.first.text!r} in line "
                                          f"{self.first.line}, column {self.first.column}")

@@ -1,0 +1,393 @@
+"""Dates and times of day for the times of a schedule: by hand, against a walk minute by minute, in files and charts."""
+import datetime
+import json
+import pathlib
+import re
+from collections.abc import Iterator
+from typing import Any
+from xml.etree import ElementTree
+
+import pfs
+import pytest
+from browser import PEN, looked_at
+from hypothesis import assume, given
+from hypothesis import strategies as st
+from pfs import _commands
+from pfs._calendar import Clock
+
+DAYS = ["mon", "tue", "wed", "thu", "fri", "sat", "sun"]
+EARLY = {"shifts": "06:00-14:00", "days": "mon-fri"}
+NIGHT = {"shifts": "22:00-06:00", "days": "mon-fri"}
+BREAK = {"shifts": ["06:00-09:00", "09:30-14:00"], "days": "mon-fri"}
+ALWAYS: dict[str, Any] = {}
+# A calendar, the times of an operation in minutes, and when it starts and ends. 2026-11-30 is a Monday.
+BY_HAND: dict[str, tuple[str, dict[str, Any], int, int, str, str]] = {
+    "at the begin": ("2026-11-30T06:00", EARLY, 0, 60, "2026-11-30 06:00", "2026-11-30 07:00"),
+    "up to the end of a shift": ("2026-11-30T06:00", EARLY, 420, 480, "2026-11-30 13:00", "2026-11-30 14:00"),
+    "after a shift": ("2026-11-30T06:00", EARLY, 480, 490, "2026-12-01 06:00", "2026-12-01 06:10"),
+    "interrupted": ("2026-11-30T06:00", EARLY, 470, 490, "2026-11-30 13:50", "2026-12-01 06:10"),
+    "two shifts long": ("2026-11-30T06:00", EARLY, 0, 960, "2026-11-30 06:00", "2026-12-01 14:00"),
+    "up to the weekend": ("2026-11-30T06:00", EARLY, 2390, 2400, "2026-12-04 13:50", "2026-12-04 14:00"),
+    "after the weekend": ("2026-11-30T06:00", EARLY, 2400, 2401, "2026-12-07 06:00", "2026-12-07 06:01"),
+    "a week later": ("2026-11-30T06:00", EARLY, 4800, 4801, "2026-12-14 06:00", "2026-12-14 06:01"),
+    "before the shift": ("2026-11-30T05:00", EARLY, 0, 60, "2026-11-30 06:00", "2026-11-30 07:00"),
+    "at the end of the shift": ("2026-11-30T14:00", EARLY, 0, 60, "2026-12-01 06:00", "2026-12-01 07:00"),
+    "in the shift": ("2026-11-30T13:30", EARLY, 0, 60, "2026-11-30 13:30", "2026-12-01 06:30"),
+    "on a Saturday": ("2026-12-05T08:00", EARLY, 0, 480, "2026-12-07 06:00", "2026-12-07 14:00"),
+    "over the break": ("2026-11-30T08:00", BREAK, 30, 90, "2026-11-30 08:30", "2026-11-30 10:00"),
+    "up to the break": ("2026-11-30T08:00", BREAK, 30, 60, "2026-11-30 08:30", "2026-11-30 09:00"),
+    "after the break": ("2026-11-30T08:00", BREAK, 60, 61, "2026-11-30 09:30", "2026-11-30 09:31"),
+    "in the break": ("2026-11-30T09:15", BREAK, 0, 1, "2026-11-30 09:30", "2026-11-30 09:31"),
+    "on Friday night": ("2026-12-04T22:00", NIGHT, 0, 480, "2026-12-04 22:00", "2026-12-05 06:00"),
+    "after Friday night": ("2026-12-04T22:00", NIGHT, 480, 481, "2026-12-07 22:00", "2026-12-07 22:01"),
+    "in Friday night": ("2026-12-05T03:00", NIGHT, 0, 180, "2026-12-05 03:00", "2026-12-05 06:00"),
+    "in Sunday night": ("2026-12-07T03:00", NIGHT, 0, 60, "2026-12-07 22:00", "2026-12-07 23:00"),
+    "over midnight": ("2026-11-30T22:00", NIGHT, 110, 130, "2026-11-30 23:50", "2026-12-01 00:10"),
+    "the night to Monday": ("2026-12-06T23:00", NIGHT | {"days": "sun"}, 0, 480, "2026-12-06 23:00",
+                            "2026-12-13 23:00"),
+    "to midnight": ("2026-11-30T06:00", {"shifts": "16:00-24:00"}, 0, 480, "2026-11-30 16:00", "2026-12-01 00:00"),
+    "to 00:00": ("2026-11-30T06:00", {"shifts": "16:00-0:00"}, 480, 481, "2026-12-01 16:00", "2026-12-01 16:01"),
+    "days alone": ("2026-12-04T23:00", {"days": "mon,fri"}, 60, 120, "2026-12-07 00:00", "2026-12-07 01:00"),
+    "days over Sunday": ("2026-12-05T08:00", {"shifts": "8:00-9:00", "days": "sat-mon"}, 60, 180,
+                         "2026-12-06 08:00", "2026-12-07 09:00"),
+    "around the clock": ("2026-11-30T06:00", ALWAYS, 1440, 11520, "2026-12-01 06:00", "2026-12-08 06:00"),
+    "the clocks change": ("2026-03-28T22:00", {"shifts": "22:00-06:00"}, 0, 480, "2026-03-28 22:00",
+                          "2026-03-29 06:00"),
+    "the year ends": ("2027-12-31T23:30", ALWAYS, 0, 60, "2027-12-31 23:30", "2028-01-01 00:30"),
+    "a leap day": ("2028-02-28T23:00", ALWAYS, 60, 1500, "2028-02-29 00:00", "2028-03-01 00:00"),
+    "before 1970": ("1969-12-31T23:00", ALWAYS, 0, 120, "1969-12-31 23:00", "1970-01-01 01:00"),
+    "no time at the begin": ("2026-11-30T05:00", EARLY, 0, 0, "2026-11-30 06:00", "2026-11-30 06:00"),
+    "no time at the end of a shift": ("2026-11-30T06:00", EARLY, 480, 480, "2026-11-30 14:00", "2026-11-30 14:00"),
+}
+
+
+def clock_of(begin: str, words: dict[str, Any], unit: str = "min", decimals: int = 0) -> Clock:
+    return Clock(pfs.Calendar(begin, **words), pfs.Instance([[1]], unit=unit, decimals=decimals))
+
+
+def minutes(moment: datetime.datetime) -> str:
+    assert moment.second == moment.microsecond == 0
+    return moment.strftime("%Y-%m-%d %H:%M")
+
+
+@pytest.mark.parametrize("case", BY_HAND)
+def test_calendars_by_hand(case: str) -> None:
+    begin, words, start, end, first, last = BY_HAND[case]
+    assert [minutes(moment) for moment in clock_of(begin, words).span(start, end)] == [first, last]
+
+
+@pytest.mark.parametrize(("unit", "decimals", "time", "end"), [
+    ("min", 0, 90, "07:30:00"), ("Minuten", 1, 905, "07:30:30"), ("h", 0, 2, "08:00:00"), ("Std", 2, 125, "07:15:00"),
+    ("s", 0, 61, "06:01:01"), ("S", 3, 1500, "06:00:01.500000"), ("d", 1, 5, "18:00:00"), ("h", 3, 1, "06:00:03.600000"),
+    ("s", 9, 500, "06:00:00.000001"), ("s", 9, 499, "06:00:00"), ("min", 9, 10**9, "06:01:00")])
+def test_units_and_decimals(unit: str, decimals: int, time: int, end: str) -> None:
+    """To the nearest microsecond."""
+    moment = clock_of("2026-11-30T06:00", ALWAYS, unit, decimals).span(0, time)[1]
+    assert str(moment) == f"2026-11-30 {end}"
+
+
+def work_minutes(begin: datetime.datetime, shifts: list[tuple[int, int]], days: list[int],
+                 count: int) -> list[datetime.datetime]:
+    """The first minutes with work from the begin on, found by looking at one after the other. A shift from its start on
+    has a length, and may reach into the next day."""
+    def is_work(moment: datetime.datetime) -> bool:
+        minute = 60 * moment.hour + moment.minute
+        return any(moment.weekday() in days and start <= minute < start + length
+                   or (moment.weekday() - 1) % 7 in days and start <= minute + 1440 < start + length
+                   for start, length in shifts)
+
+    def walk() -> Iterator[datetime.datetime]:
+        moment = begin
+        while True:
+            if is_work(moment):
+                yield moment
+            moment += datetime.timedelta(minutes=1)
+
+    return [moment for _, moment in zip(range(count), walk())]
+
+
+@st.composite
+def calendars(draw: st.DrawFn) -> tuple[datetime.datetime, list[tuple[int, int]], list[int]]:
+    """A begin, shifts with their lengths that don't overlap, and days."""
+    begin = draw(st.datetimes(datetime.datetime(1960, 1, 1), datetime.datetime(2090, 1, 1)))
+    cuts = sorted(draw(st.sets(st.integers(0, 1439), min_size=2, max_size=6)))
+    cuts = cuts[:len(cuts) // 2 * 2]
+    if draw(st.booleans()):
+        # The last shift crosses midnight.
+        cuts = [*cuts[1:], cuts[0] + 1440]
+    shifts = [(start, end - start) for start, end in zip(cuts[::2], cuts[1::2])]
+    return begin.replace(second=0, microsecond=0), shifts, sorted(draw(st.sets(st.integers(0, 6), min_size=1)))
+
+
+def written(minute: int) -> str:
+    return f"{minute % 1440 // 60:02}:{minute % 60:02}"
+
+
+def calendar_of(begin: datetime.datetime, shifts: list[tuple[int, int]], days: list[int]) -> pfs.Calendar:
+    words = [f"{written(start)}-{written(start + length)}" for start, length in shifts]
+    return pfs.Calendar(begin, words, [DAYS[day] for day in days])
+
+
+@given(calendars(), st.integers(1, 400))
+def test_calendars_are_those_of_a_walk(drawn: tuple[datetime.datetime, list[tuple[int, int]], list[int]],
+                                       count: int) -> None:
+    """Minute by minute: an operation of a minute is there in the minute of work that it is in its turn."""
+    clock = Clock(calendar_of(*drawn), pfs.Instance([[1]], unit="min"))
+    minute = datetime.timedelta(minutes=1)
+    due = work_minutes(*drawn, count)
+    assert [clock.span(time, time + 1) for time in range(count)] == [(moment, moment + minute) for moment in due]
+    assert clock.span(0, count) == (due[0], due[-1] + minute)
+
+
+@given(calendars(), st.lists(st.integers(0, 10**6), min_size=2, max_size=20), st.sampled_from(["s", "min", "h"]))
+def test_dates_increase_and_lead_back_to_the_times(drawn: tuple[datetime.datetime, list[tuple[int, int]], list[int]],
+                                                   times: list[int], unit: str) -> None:
+    calendar = calendar_of(*drawn)
+    clock = Clock(calendar, pfs.Instance([[1]], unit=unit))
+    times = sorted(set(times))
+    moments = [moment for time in times for moment in clock.span(time, time + 1)]
+    assume(len(times) > 1)
+    assert moments == sorted(moments) and all(first < last for first, last in zip(moments[::2], moments[1::2]))
+    begun = calendar.worked(calendar.begin)
+    seconds = {"s": 1, "min": 60, "h": 3600}[unit]
+    for time in times:
+        first, last = clock.span(time, time + 1)
+        worked = [(calendar.worked(moment) - begun) / 10**6 / seconds for moment in (first, last)]
+        assert worked == [time, time + 1], "the working time up to a moment is the time that was mapped to it"
+
+
+@pytest.mark.parametrize(("words", "kind", "why"), [
+    ({"begin": "2026-11-30"}, ValueError, "'2026-11-30' is not a local date and time such as 2026-11-30T06:00"),
+    ({"begin": "30.11.2026 06:00"}, ValueError, "is not a local date and time"),
+    ({"begin": "2026-11-31T06:00"}, ValueError, "is not a local date and time"),
+    ({"begin": "2026-11-30T24:00"}, ValueError, "is not a local date and time"),
+    ({"begin": "2026-11-30T06:00Z"}, ValueError, "is not a local date and time"),
+    ({"begin": "2026-11-30T06:00+01:00"}, ValueError, "is not a local date and time"),
+    ({"begin": "\u0662026-11-30T06:00"}, ValueError, "is not a local date and time"),
+    ({"begin": ""}, ValueError, "is not a local date and time"),
+    ({"begin": 2026}, TypeError, "begin should be a date and time, not 2026"),
+    ({"begin": datetime.datetime(2026, 11, 30, tzinfo=datetime.timezone.utc)}, ValueError, "without a time zone"),
+    ({"begin": datetime.datetime(2026, 11, 30, microsecond=1)}, ValueError, "in whole seconds"),
+    ({"shifts": "6-14"}, ValueError, "'6-14' is not a shift such as 06:00-14:00"),
+    ({"shifts": "06:00"}, ValueError, "'06:00' is not a shift"), ({"shifts": ""}, ValueError, "'' is not a shift"),
+    ({"shifts": "06:00-14:00,"}, ValueError, "'' is not a shift"),
+    ({"shifts": "06:00-14:60"}, ValueError, "'06:00-14:60' is not a shift such as 06:00-14:00: 14:60 is not a time"),
+    ({"shifts": "06:00-24:01"}, ValueError, "24:01 is not a time of day"),
+    ({"shifts": "06:00-06:00"}, ValueError, "'06:00-06:00' has no length: a whole day is 00:00-24:00"),
+    ({"shifts": "24:00-06:00"}, ValueError, "'24:00-06:00' starts at 24:00: write 00:00"),
+    ({"shifts": "06:00-14:00,13:00-20:00"}, ValueError, "shifts overlap at 13:00"),
+    ({"shifts": ["06:00-14:00", "06:00-14:00"]}, ValueError, "shifts overlap at 06:00"),
+    ({"shifts": ["22:00-06:00", "05:00-13:00"]}, ValueError, "shifts overlap at 05:00"),
+    ({"shifts": ["00:00-24:00", "05:00-13:00"]}, ValueError, "shifts overlap at 05:00"),
+    ({"shifts": [6]}, TypeError, "shifts should be texts, not 6"),
+    ({"days": "mo-fr"}, ValueError, "'mo-fr' is not a day of the week such as mon, or days such as mon-fri"),
+    ({"days": "mon-wed-fri"}, ValueError, "is not a day"), ({"days": ""}, ValueError, "'' is not a day"),
+    ({"days": "mon,,tue"}, ValueError, "'' is not a day"),
+    ({"days": "mon-mon"}, ValueError, "'mon-mon' has the same day twice: write mon"),
+    ({"days": "mon-wed,tue"}, ValueError, "the day tue is there twice"),
+    ({"days": [1]}, TypeError, "days should be texts, not 1"),
+])
+def test_calendars_that_are_rejected(words: dict[str, Any], kind: type[Exception], why: str) -> None:
+    with pytest.raises(kind, match=re.escape(why)):
+        pfs.Calendar(**{"begin": "2026-11-30T06:00"} | words)
+
+
+def test_what_is_read_as_the_same_calendar() -> None:
+    plain = pfs.Calendar("2026-11-30T06:00", ["06:00-14:00", "14:00-22:00"], "mon-wed")
+    begins: list[str | datetime.datetime] = ["2026-11-30 06:00", "2026-11-30T06:00:00",
+                                             datetime.datetime(2026, 11, 30, 6)]
+    for begin in begins:
+        other = pfs.Calendar(begin, "14:00-22:00, 6:00-14:00", ["MON", "wed", "tue"])
+        assert (other.begin, other.spans) == (plain.begin, plain.spans)
+    assert len(plain.spans) == 3, "shifts that follow each other are one span of work"
+    three = pfs.Calendar("2026-11-30T06:00", "06:00-14:00,14:00-22:00,22:00-06:00")
+    assert three.spans == pfs.Calendar("2026-11-30T06:00").spans and three.is_always
+
+
+NEEDED = "which dates need: write min, h, s or d in brackets into the first cell of the table, as in 'job [min]', or " \
+         "give "
+
+
+@pytest.mark.parametrize(("unit", "why"), [
+    ("", f"the times have no unit, {NEEDED}`unit`"), ("pieces", f"'pieces' is not a unit of time, {NEEDED}`unit`"),
+    ("d", "a day of work may be 24 hours or the shifts of a day: give the times in hours")])
+def test_units_that_have_no_dates(tmp_path: pathlib.Path, unit: str, why: str) -> None:
+    made = pfs.Instance([[3, 2]], unit=unit).schedule([0])
+    calendar = pfs.Calendar("2026-11-30T06:00", days="mon-fri")
+    with pytest.raises(ValueError, match=f"^{re.escape(why)}$"):
+        made.to_csv(calendar=calendar)
+    with pytest.raises(ValueError, match=f"^{re.escape(why)}$"):
+        made.plot(tmp_path / "chart.html", calendar=calendar)
+    assert not list(tmp_path.iterdir())
+
+
+def test_the_calendar_ends() -> None:
+    made = pfs.Instance([[10**9]], unit="h").schedule([0])
+    with pytest.raises(ValueError, match="^the schedule ends after the year 9999$"):
+        made.to_csv(calendar=pfs.Calendar("2026-11-30T06:00"))
+
+
+# Files
+
+@pytest.mark.parametrize(("unit", "decimals", "begin", "rows"), [
+    ("min", 0, "2026-11-30T06:00", ["a;x;2026-11-30 06:00;2026-11-30 06:30", "a;y;2026-11-30 06:30;2026-11-30 06:45"]),
+    ("h", 1, "2026-11-30T13:00", ["a;x;2026-11-30 13:00;2026-12-01 08:00", "a;y;2026-12-01 08:00;2026-12-01 09:30"]),
+    ("min", 0, "2026-11-30T06:00:20", ["a;x;2026-11-30 06:00:20;2026-11-30 06:30:20",
+                                       "a;y;2026-11-30 06:30:20;2026-11-30 06:45:20"]),
+    ("s", 0, "2026-11-30T06:00", ["a;x;2026-11-30 06:00:00;2026-11-30 06:00:30",
+                                  "a;y;2026-11-30 06:00:30;2026-11-30 06:00:45"]),
+    ("s", 2, "2026-11-30T06:00", ["a;x;2026-11-30 06:00:00,00;2026-11-30 06:00:00,30",
+                                  "a;y;2026-11-30 06:00:00,30;2026-11-30 06:00:00,45"]),
+])
+def test_a_schedule_has_dates(unit: str, decimals: int, begin: str, rows: list[str]) -> None:
+    """As exact as all of its times need."""
+    shop = pfs.Instance([[30, 15]], job_names=["a"], machine_names=["x", "y"], unit=unit, decimals=decimals)
+    text = shop.schedule([0]).to_csv(None, ";", calendar=pfs.Calendar(begin, **EARLY))
+    assert text is not None and text.splitlines() == ["job;machine;start;end", *rows]
+
+
+def plan(unit: str = "min") -> pfs.Schedule:
+    shop = pfs.Instance([[240, 250, 0], [200, 500, 150], [400, 100, 200]], name="plan", unit=unit,
+                        job_names=["table", "chair", "box"], machine_names=["saw", "drill", "paint"])
+    return shop.schedule([1, 0, 2])
+
+
+def test_a_picture_has_dates_on_its_scale(tmp_path: pathlib.Path) -> None:
+    """The work begins at 12:00, and the shift of 8 hours ends at 14:00."""
+    pytest.importorskip("matplotlib")
+    figure = plan().plot(tmp_path / "chart.svg", calendar=pfs.Calendar("2026-11-30T12:00", **EARLY))
+    axis = figure.axes[0]
+    marks = [(mark.get_position()[0], mark.get_text()) for mark in axis.get_xticklabels()]
+    assert marks == [(0, "12:00\n2026-11-30"), (240, "08:00\n2026-12-01"), (480, "12:00"), (720, "08:00\n2026-12-02"),
+                     (960, "12:00"), (1200, "08:00\n2026-12-03")]
+    assert axis.get_xlabel() == "date and time, in shifts only"
+    texts = {text.text for text in ElementTree.parse(tmp_path / "chart.svg").iter("{http://www.w3.org/2000/svg}text")}
+    assert {"2026-11-30", "2026-12-02"} <= texts
+    always = plan().plot(calendar=pfs.Calendar("2026-11-30T12:00"))
+    assert always.axes[0].get_xlabel() == "date and time"
+    assert plan().plot().axes[0].get_xlabel() == "time (min)"
+
+
+# What the page says of each operation that one points at, and what its scale has.
+SAID = PEN + """
+const seen = {tips: [], lists: [], scale: drawnBy(() => press("0")).texts.filter(text => text.y > yOf(machines))};
+for (let machine = 0; machine < machines; ++machine) {
+  for (let place = 0; place < jobs; ++place) {
+    const middle = (table.starts[machine][place] + table.ends[machine][place]) / 2;
+    send("pointermove", PointerEvent, xOf(middle), yOf(machine) + ROW / 2);
+    seen.tips.push(table.starts[machine][place] < table.ends[machine][place] ? tip.textContent : "");
+  }
+  choice.value = machine;
+  choice.dispatchEvent(new Event("change"));
+  seen.lists.push([...lists.querySelectorAll("tbody tr")].map(row => [...row.cells].map(cell => cell.textContent)));
+}
+tell(seen);
+"""
+PAGES: dict[str, tuple[str, dict[str, Any], str]] = {
+    "shifts": ("2026-11-30T12:00", EARLY, "min"), "nights": ("2026-12-04T20:00", NIGHT, "min"),
+    "breaks": ("2026-12-04T08:00:30", BREAK, "min"), "always": ("2026-12-30T12:00", ALWAYS, "h"),
+    "seconds": ("1969-12-31T23:59:50", {"shifts": "23:59-00:01"}, "s"),
+    "Sunday": ("2026-12-06T23:00", NIGHT | {"days": "sun"}, "min"),
+}
+
+
+@pytest.mark.seconds(15)
+@pytest.mark.parametrize("case", PAGES)
+def test_a_page_has_the_dates_of_the_schedule(chromium: str, tmp_path: pathlib.Path, case: str) -> None:
+    """What it says of each operation, and its list of each machine, are the rows of the table."""
+    begin, words, unit = PAGES[case]
+    calendar, made = pfs.Calendar(begin, **words), plan(unit)
+    made.plot(tmp_path / "chart.html", calendar=calendar)
+    seen = looked_at(chromium, tmp_path / "chart.html", tmp_path, SAID)
+    text = made.to_csv(calendar=calendar)
+    assert text is not None
+    rows = [line.split(",") for line in text.splitlines()[1:]]
+    by_machine = [rows[at::3] for at in range(3)]
+    assert seen["lists"] == [[[str(place), job, start, end] for place, (job, _, start, end) in enumerate(each, 1)]
+                             for each in by_machine]
+    due = [f"job {job}\nmachine {machine}\nstart {start}\nend {end}" for each in by_machine
+           for job, machine, start, end in each]
+    assert [tip for tip in seen["tips"] if tip] == [text for text in due if " 0\n" not in text and not is_empty(text)]
+    dates = [text["text"] for text in seen["scale"] if re.fullmatch(r"\d{4}-\d\d-\d\d", text["text"])]
+    assert dates and dates == sorted(set(dates)), "each date once, from left to right"
+    assert dates[0] == rows[0][2][:10]
+
+
+def is_empty(text: str) -> bool:
+    """Whether an operation takes no time."""
+    start, end = re.findall(r"(?:start|end) (.*)", text)
+    return bool(start == end)
+
+
+# The command line
+
+TABLE = "job [min];saw;drill\ntable;300;200\nchair;250;400\n"
+
+
+def planned(folder: pathlib.Path, monkeypatch: pytest.MonkeyPatch, *words: str, table: str = TABLE) -> int:
+    monkeypatch.chdir(folder)
+    (folder / "times.csv").write_text(table)
+    return _commands.main(["plan", "times.csv", "--rounds", "10", *words])
+
+
+def test_a_plan_on_the_calendar(tmp_path: pathlib.Path, monkeypatch: pytest.MonkeyPatch,
+                                capsys: pytest.CaptureFixture[str]) -> None:
+    words = ["--begin", "2026-11-30T06:00", "--shift", "06:00-09:00,09:30-11:30", "--shift", "12:00-15:00", "--days",
+             "mon-wed", "--days", "fri"]
+    assert planned(tmp_path, monkeypatch, *words, "--schedule", "out.csv", "--chart", "out.html") == 0
+    printed = capsys.readouterr().out
+    # 8 hours a day: chair up to minute 250 and 650, table from 250 to 550 and from 650 to 850.
+    assert printed == "makespan 850 min\nbound 850 min\noptimal\nend 2026-12-01 13:10\n1 chair\n2 table\n"
+    assert (tmp_path / "out.csv").read_text("utf-8-sig").splitlines() == [
+        "job;machine;start;end", "chair;saw;2026-11-30 06:00;2026-11-30 10:40",
+        "chair;drill;2026-11-30 10:40;2026-12-01 08:50", "table;saw;2026-11-30 10:40;2026-12-01 07:10",
+        "table;drill;2026-12-01 08:50;2026-12-01 13:10"]
+    found = re.search(r'id="data">(.*?)</script>', (tmp_path / "out.html").read_text("utf-8"))
+    assert found and len(json.loads(found[1])["dates"]["spans"]) == 3 * 4
+    for order in ("out.csv", "printed"):
+        (tmp_path / "printed").write_text(printed)
+        assert planned(tmp_path, monkeypatch, *words, "--order", order) == 0
+        assert capsys.readouterr().out == printed, f"the order of {order} is read back"
+
+
+@pytest.mark.parametrize(("words", "table", "error"), [
+    (["--begin", "tomorrow"], TABLE,
+     "argument --begin: 'tomorrow' is not a local date and time such as 2026-11-30T06:00\n"),
+    (["--begin", "2026-11-30T06:00", "--shift", "6-14"], TABLE,
+     "argument --shift: '6-14' is not a shift such as 06:00-14:00\n"),
+    (["--begin", "2026-11-30T06:00", "--days", "mo-fr"], TABLE,
+     "argument --days: 'mo-fr' is not a day of the week such as mon, or days such as mon-fri\n"),
+    (["--shift", "06:00-14:00"], TABLE, "pfs: --shift needs --begin, which says when the work begins\n"),
+    (["--days", "mon-fri"], TABLE, "pfs: --days needs --begin, which says when the work begins\n"),
+    (["--begin", "2026-11-30T06:00", "--shift", "06:00-14:00", "--shift", "13:00-20:00"], TABLE,
+     "pfs: shifts overlap at 13:00\n"),
+    (["--begin", "2026-11-30T06:00", "--days", "mon", "--days", "sun-mon"], TABLE,
+     "pfs: the day mon is there twice\n"),
+    (["--begin", "2026-11-30T06:00"], TABLE.replace(" [min]", ""),
+     f"pfs: the times have no unit, {NEEDED}--unit\n"),
+    (["--begin", "2026-11-30T06:00"], TABLE.replace("[min]", "[m]"),
+     f"pfs: 'm' is not a unit of time, {NEEDED}--unit\n"),
+    (["--begin", "2026-11-30T06:00", "--days", "mon-fri", "--unit", "days"], TABLE.replace(" [min]", ""),
+     "pfs: a day of work may be 24 hours or the shifts of a day: give the times in hours\n"),
+])
+def test_calendars_that_the_command_rejects(tmp_path: pathlib.Path, monkeypatch: pytest.MonkeyPatch, words: list[str],
+                                            table: str, error: str, capsys: pytest.CaptureFixture[str]) -> None:
+    """Before the search."""
+    monkeypatch.setattr(_commands, "searched", None)
+    try:
+        status = planned(tmp_path, monkeypatch, *words, "--schedule", "out.csv", table=table)
+    except SystemExit as end:
+        status = int(str(end.code))
+    seen = capsys.readouterr()
+    assert (status, seen.out) == (3, "") and seen.err.endswith(error), seen.err
+    assert not (tmp_path / "out.csv").exists()
+
+
+def test_a_schedule_that_no_calendar_has(tmp_path: pathlib.Path, monkeypatch: pytest.MonkeyPatch,
+                                         capsys: pytest.CaptureFixture[str]) -> None:
+    """The order is printed all the same."""
+    words = ["--begin", "9999-12-30T06:00", "--shift", "06:00-07:00", "--schedule", "out.csv"]
+    assert planned(tmp_path, monkeypatch, *words) == 4
+    seen = capsys.readouterr()
+    assert seen.out == "makespan 850 min\nbound 850 min\noptimal\n1 chair\n2 table\n"
+    assert seen.err.endswith("pfs: the schedule ends after the year 9999\n")
