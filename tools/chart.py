@@ -20,7 +20,7 @@ HIGHEST_ROWS = 12
 SMALLEST_ROW = 0.2
 # The key of places and names: letters in points, their width and the lines in inches.
 KEY_LETTERS = 7
-KEY_DIGIT = 0.62 * KEY_LETTERS / 72
+KEY_DIGIT = 0.64 * KEY_LETTERS / 72
 KEY_LINE = 0.14
 NARROW = 6
 # What stands beside the rows: marks of the machines at the left, idle shares at the right.
@@ -188,7 +188,7 @@ def draw(figure: Figure, table: Table, look: Look) -> None:
     if look.critical:
         draw_path(axis, table, look)
     if has_key(table, look):
-        draw_key(figure, table, look)
+        draw_key(figure, table, look, fills)
     if look.title:
         size = 11 if look.width > NARROW else 9
         axis.set_title(title_of(table, look, size), fontsize=size, linespacing=1.3)
@@ -243,19 +243,35 @@ def draw_numbers(axis: Axis, table: Table, look: Look, machine: int, fills: list
         return
     starts, ends = table.starts[:, machine].tolist(), table.ends[:, machine].tolist()
     bars = [(place, start, end) for place, (start, end) in enumerate(zip(starts, ends)) if end > start]
-    texts = [label_of(table, look, place, end - start) for place, start, end in bars]
-    if not look.key and 2 * sum(map(bool, texts)) < len(bars):
+    labels = [label_of(table, look, place, end - start) for place, start, end in bars]
+    if not look.key and 2 * sum(bool(label.text) for label in labels) < len(bars):
         return
-    for text, (place, start, end) in zip(texts, bars):
-        if text:
-            axis.text((start + end) / 2, machine + 1, text, ha="center", va="center", fontsize=LETTERS, zorder=4,
-                      color=ink(fills[place]), clip_on=True, parse_math=False)
+    for label, (place, start, end) in zip(labels, bars):
+        if label.text:
+            axis.text((start + end) / 2, machine + 1, label.text, ha="center", va="center", fontsize=label.letters,
+                      zorder=4, color=ink(fills[place]), clip_on=True, parse_math=False)
 
 
-def label_of(table: Table, look: Look, place: int, length: int) -> str:
+class Label(NamedTuple):
+    """What is written on a bar, and the size of its letters; whether it is the place in the key."""
+    text: str
+    letters: int = LETTERS
+    is_place: bool = False
+
+
+def label_of(table: Table, look: Look, place: int, length: int) -> Label:
     """What is written on a bar of this length: the job's name, its place in the key, or nothing."""
-    texts = [table.label(table.order[place]), *([f"#{place + 1}"] if look.key else [])]
-    return next((text for text in texts if inches(table, look) * length > DIGIT * len(text) + 0.03), "")
+    room, name = inches(table, look) * length, table.label(table.order[place])
+    if room > DIGIT * len(name) + 0.03:
+        return Label(name)
+    number = sign_of(table) + str(place + 1)
+    fits = look.key and room > KEY_DIGIT * len(number) + 0.02
+    return Label(number, KEY_LETTERS, True) if fits else Label("")
+
+
+def sign_of(table: Table) -> str:
+    """What is before the number of a place, if names are numbers too."""
+    return "#" if any(name.isdecimal() for name in table.job_names) else ""
 
 
 def has_key(table: Table, look: Look) -> bool:
@@ -263,34 +279,36 @@ def has_key(table: Table, look: Look) -> bool:
     if not look.key or is_image(table, look) or row_height(table) <= SMALLEST_ROW:
         return False
     lengths = (table.ends - table.starts).tolist()
-    return any(label_of(table, look, place, length) not in ("", table.label(table.order[place]))
-               for place, row in enumerate(lengths) for length in row if length)
+    return any(label_of(table, look, place, length).is_place for place, row in enumerate(lengths) for length in row
+               if length)
 
 
 def key_columns(table: Table, look: Look) -> list[list[str]]:
     """The places and names of all jobs, in columns of equal width."""
-    most = max(8, int((look.width - 0.4) / KEY_DIGIT))
-    items = [f"#{place} {table.label(job)}" for place, job in enumerate(table.order, 1)]
+    most = max(8, int((look.width - 0.4) / KEY_DIGIT) - 4)
+    items = [f"{sign_of(table)}{place} {table.label(job)}" for place, job in enumerate(table.order, 1)]
     items = [item if len(item) <= most else f"{item[:most - 1]}\u2026" for item in items]
-    columns = max(1, min(len(items), int((look.width - 0.4) / (KEY_DIGIT * (2 + max(map(len, items)))))))
+    columns = max(1, min(len(items), int((look.width - 0.4) / (KEY_DIGIT * (4 + max(map(len, items)))))))
     rows = math.ceil(len(items) / columns)
     return [items[at:at + rows] for at in range(0, len(items), rows)]
 
 
 def key_height(table: Table, look: Look) -> float:
     """The height of the key, in inches; 0 without one."""
-    return 0.3 + KEY_LINE * len(key_columns(table, look)[0]) if has_key(table, look) else 0
+    return 0.2 + KEY_LINE * len(key_columns(table, look)[0]) if has_key(table, look) else 0
 
 
-def draw_key(figure: Figure, table: Table, look: Look) -> None:
-    """The key below the rows."""
+def draw_key(figure: Figure, table: Table, look: Look, fills: list[Colour]) -> None:
+    """The key below the rows: a square of each job's colour, its place and its name."""
     columns = key_columns(table, look)
-    top = (key_height(table, look) - 0.1) / figure.get_figheight()
+    height, wide = figure.get_figheight(), (look.width - 0.4) / len(columns)
+    colour = iter(fills)
     for at, column in enumerate(columns):
         for line, item in enumerate(column):
-            figure.text((0.2 + at * (look.width - 0.4) / len(columns)) / look.width,
-                        top - line * KEY_LINE / figure.get_figheight(), item, va="top", fontsize=KEY_LETTERS,
-                        parse_math=False)
+            left, top = 0.2 + at * wide, key_height(table, look) - 0.1 - line * KEY_LINE
+            for shift, text, ink_of in ((0, "\u25a0", next(colour)), (2 * KEY_DIGIT, item, "black")):
+                figure.text((left + shift) / look.width, top / height, text, va="baseline", fontsize=KEY_LETTERS,
+                            color=ink_of, parse_math=False)
 
 
 def draw_bound(axis: Axis, bound: int) -> None:

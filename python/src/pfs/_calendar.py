@@ -121,7 +121,7 @@ class Clock:
         if seconds * SECOND == DAY and not calendar.is_always:
             raise ValueError("a day of work may be 24 hours or the shifts of a day: give the times in hours")
         self.calendar = calendar
-        self.scale = 10**shop.decimals
+        self.scale: int = 10**shop.decimals
         self.tick = seconds * SECOND
         self.begun = calendar.worked(calendar.begin)
 
