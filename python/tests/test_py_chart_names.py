@@ -28,7 +28,8 @@ function now(done) {
     if (x > left && x < width - RIGHT && place < jobs) bars[`${machine} ${place}`] = text;
   }
   return {bars, key: [...key.children].map(item => item.textContent),
-          colours: [...key.querySelectorAll("span")].map(square => square.style.color), display: getComputedStyle(key).display};
+          colours: [...key.querySelectorAll("span")].map(square => square.style.color),
+          display: getComputedStyle(key).display};
 }
 tell({screen: now(() => press("0")), paper: now(() => window.dispatchEvent(new Event("beforeprint"))),
       after: now(() => window.dispatchEvent(new Event("afterprint"))), fills: table.fills});
@@ -153,7 +154,8 @@ function type(text) {
   return {found: document.getElementById("found").textContent, lists: rows(), colours: pixelsAt(middles)};
 }
 const seen = {};
-for (const text of ["", "box", "BOX", " box ", "shelf", "o", "nothing", "a", ""]) seen[`${text}${seen[text] ? "2" : ""}`] = type(text);
+for (const text of ["", "box", "BOX", " box ", "shelf", "o", "nothing", "a"]) seen[text] = type(text);
+seen.again = type("");
 choice.value = "1";
 choice.dispatchEvent(new Event("change"));
 seen.machine = rows();
@@ -162,7 +164,8 @@ choice.value = "";
 choice.dispatchEvent(new Event("change"));
 seen.none = rows();
 const status = document.getElementById("found");
-seen.reached = [field, choice].map(each => [each.tabIndex, each.labels.length, each.labels[0].textContent.trim().split(":")[0]]);
+seen.reached = [field, choice].map(each =>
+  [each.tabIndex, each.labels.length, each.labels[0].textContent.trim().split(":")[0]]);
 seen.role = status.getAttribute("role");
 const submit = new Event("submit", {cancelable: true});
 document.querySelector("form").dispatchEvent(submit);
@@ -205,7 +208,7 @@ def test_a_job_that_is_sought_is_listed_and_seen(sought: dict[str, Any], text: s
 
 @TOGETHER
 def test_an_empty_search_shows_all_again(sought: dict[str, Any]) -> None:
-    assert sought["2"] == sought[""]
+    assert sought["again"] == sought[""]
 
 
 @TOGETHER

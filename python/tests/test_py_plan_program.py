@@ -4,7 +4,8 @@ import re
 import subprocess
 import sys
 
-from pfs import _library
+import pytest
+from pfs import _commands, _library
 
 TOP = pathlib.Path(__file__).resolve().parents[2]
 PAGE = (TOP / "python" / "pfs-plan.1").read_text()
@@ -46,6 +47,51 @@ def test_wrong_words_end_with_a_usage_text_that_names_the_program(tmp_path: path
     assert (done.returncode, done.stdout) == (3, "") and done.stderr.startswith("usage: pfs-plan ")
 
 
-def test_the_version_is_printed(tmp_path: pathlib.Path) -> None:
+@pytest.mark.parametrize("words", [["--version"], ["times.csv", "--version"]])
+def test_the_version_is_printed(tmp_path: pathlib.Path, capsys: pytest.CaptureFixture[str], words: list[str]) -> None:
     version = (TOP / "VERSION").read_text().strip()
-    assert run(tmp_path, "--version").stdout == f"pfs {version}\n"
+    assert run(tmp_path, *words).stdout == f"pfs {version}\n"
+    with pytest.raises(SystemExit, match="0"):
+        _commands.main(["plan", *words])
+    assert capsys.readouterr().out == f"pfs {version}\n"
+
+
+# A table that is rejected, options, and what is said of it: with options, where the package for Python has arguments.
+MESSAGES = [
+    ("job;saw\na;1.000\n", [], 2, "line 2, column 2: '1.000' may be 1000, or have decimals: leave out thousands "
+     "separators, or say which decimal sign the table has (--decimal point or --decimal comma)"),
+    ("job;saw;drill\na;1;2\nb;3;4\nc;4;6\n", [], 2, "line 4, the row 'c' has the sums of the rows above: leave it out, "
+     "or allow totals (--allow-totals)"),
+    ("job;saw;drill;all\na;1;2;3\nb;3;4;7\n", [], 2, "line 1, column 4: the column 'all' has the sums of the columns "
+     "before: leave it out, or allow totals (--allow-totals)"),
+    ("job [min];saw\na;1\n", ["--unit", "h"], 2,
+     "line 1, column 1: the times are in min, and --unit is h: use one unit"),
+    ("job;saw [min]\na;1\n", ["--unit", "h"], 2,
+     "line 1, column 2: the times of the machine are in min, and --unit is h: use one unit"),
+    ("job [min];saw\na;1:30\n", [], 2, "line 1, column 1: times such as 1:30 may be hours and minutes, or minutes and "
+     "seconds: write [h:mm] instead of min, or numbers"),
+    ("a;1;2\nb;20;5\n", [], 2, "line 1, column 2: the names of the machines are numbers, as if the row of names were "
+     "missing: add it, or write `job` into the first cell of the table"),
+]
+
+
+@pytest.mark.parametrize(("table", "words", "status", "error"), MESSAGES)
+def test_messages_name_options(tmp_path: pathlib.Path, monkeypatch: pytest.MonkeyPatch, table: str, words: list[str],
+                               status: int, error: str, capsys: pytest.CaptureFixture[str]) -> None:
+    monkeypatch.chdir(tmp_path)
+    (tmp_path / "times.csv").write_text(table)
+    assert _commands.main(["plan", "times.csv", *words]) == status
+    assert capsys.readouterr() == ("", f"pfs: times.csv: {error}\n")
+
+
+def test_what_the_messages_propose_is_taken(tmp_path: pathlib.Path, monkeypatch: pytest.MonkeyPatch,
+                                            capsys: pytest.CaptureFixture[str]) -> None:
+    monkeypatch.chdir(tmp_path)
+    proposed: dict[str, list[str]] = {
+        "job;saw\na;1.000\n": ["--decimal", "comma"], "job [min];saw\na;1\n": ["--unit", "minutes"],
+        "job;saw;drill\na;1;2\nb;3;4\nc;4;6\n": ["--allow-totals"], "job [h:mm];saw\na;1:30\n": [],
+        "job;1;2\nb;20;5\n": [],
+    }
+    for table, words in proposed.items():
+        (tmp_path / "times.csv").write_text(table)
+        assert _commands.main(["plan", "times.csv", "--rounds", "0", *words]) == 0, capsys.readouterr()

@@ -25,6 +25,6 @@ from pfs._version import VERSION as __version__
 
 __all__ = [
     "Calendar", "Fault", "FileFault", "Improvement", "Instance", "Interrupted", "InterruptedAll", "OrderFault", "Place",
-    "Schedule", "Solution", "TableFault", "__version__", "from_frame", "generate", "parse_order", "read", "read_all", "read_csv",
-    "read_order", "solve_all", "taillard",
+    "Schedule", "Solution", "TableFault", "__version__", "from_frame", "generate", "parse_order", "read", "read_all",
+    "read_csv", "read_order", "solve_all", "taillard",
 ]

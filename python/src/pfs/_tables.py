@@ -21,9 +21,8 @@ CLOCK = re.compile(r"([0-9]{1,6}):([0-5][0-9])\Z", re.ASCII)
 CLOCK_UNITS = ("", "h:mm", "hh:mm")
 # What isn't a time, and what to write instead.
 HINTS = (
-    (re.compile(r"[0-9]+:[0-9]{2}:[0-9]{2}", re.ASCII), "write hours and minutes, as 1:30, or a number"),
-    (re.compile(r"[0-9]{1,3}(?:['\u2019\u02bc\s][0-9]{3})+(?:[.,][0-9]+)?", re.ASCII), "leave out thousands separators"),
-    (re.compile(r"[0-9]{1,3}(?:[\xa0\u2009\u202f][0-9]{3})+(?:[.,][0-9]+)?"), "leave out thousands separators"),
+    (re.compile(r"[0-9]+:[0-9]{2}:[0-9]{2}"), "write hours and minutes, as 1:30, or a number"),
+    (re.compile(r"[0-9]{1,3}(?:['\u2019\u02bc\s][0-9]{3})+(?:[.,][0-9]+)?"), "leave out thousands separators"),
     (re.compile(r"[0-9]+(?:[.,][0-9]+)?\s*[^\W\d]+\.?"), "write the unit in brackets into the first cell of the table"),
 )
 # What may be a number with thousands separators as well as one with three decimals. A number doesn't begin with the
