@@ -595,7 +595,7 @@ def test_a_plan(folder: pathlib.Path) -> None:
     assert (data["bound"], data["makespan"], data["unit"]) == (plainly.bound(times), best, "h")
     assert data["jobs"] == [names[job] for job in order] and data["machines"] == ["saw", "drill", "paint"]
     assert data["critical"][0] == [0, 0] and data["critical"][-1] == [3, 2]
-    assert run(["plan", "times.csv", "--unit", "min", "--rounds", "0"], folder).startswith("makespan ")
+    assert run(["plan", "times.csv", "--unit", "Stunden", "--rounds", "0"], folder).startswith("makespan ")
 
 
 def test_an_order_that_was_changed_by_hand(folder: pathlib.Path) -> None:

@@ -125,7 +125,7 @@ def test_the_readmes_command_lines(tmp_path: pathlib.Path, program: str) -> None
     env = os.environ | {"PYTHONPATH": str(pathlib.Path(pfs.__file__).parents[1]), "PYTHONDONTWRITEBYTECODE": "1",
                         "PATH": f"{pathlib.Path(program).parent}:{os.environ['PATH']}"}
     blocks = re.findall(r"```console\n(.*?)```", PAGE.read_text(), re.DOTALL)
-    assert len(blocks) == 2
+    assert len(blocks) == 3
     for block in blocks:
         lines = [line[2:].replace("python3 ", shlex.quote(sys.executable) + " ", 1) for line in block.splitlines()
                  if line.startswith("$ ")]

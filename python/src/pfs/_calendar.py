@@ -52,10 +52,19 @@ class Calendar:
     days : str or iterable of str
         The days on which shifts start, as ``"mon-fri"`` or ``"mon,wed,fri"``. By default all days.
 
+    Attributes
+    ----------
+    begin : datetime.datetime
+        When the work begins.
+    spans : list of (int, int)
+        From when to when there is work in a week, in microseconds from Monday, 0:00.
+
     Raises
     ------
     ValueError
         A text has another form, shifts overlap, or a day is named twice.
+    TypeError
+        An argument is of another kind.
 
     Examples
     --------
