@@ -131,7 +131,7 @@ def calendar_of(begin: datetime.datetime, shifts: list[tuple[int, int]], days: l
 @given(calendars(), st.integers(1, 400))
 def test_calendars_are_those_of_a_walk(drawn: tuple[datetime.datetime, list[tuple[int, int]], list[int]],
                                        count: int) -> None:
-    """Minute by minute: an operation of a minute is there in the minute of work that it is in its turn."""
+    """Operations of a minute each take one minute with work after the other."""
     clock = Clock(calendar_of(*drawn), pfs.Instance([[1]], unit="min"))
     minute = datetime.timedelta(minutes=1)
     due = work_minutes(*drawn, count)

@@ -417,7 +417,7 @@ def test_what_is_rejected(folder: pathlib.Path, words: list[str], status: int, e
     (["plan", "large.csv", "--chart", "x.jpg"], 3, "the name of a chart ends with .svg, .png, .pdf or .html"),
     ([*LONG, "--state", "state", "--start", "none"], 4, "No such file or directory: 'none'"),
     ([*LONG, "--state", "other"], 2, "not the state of a search"),
-    (["search", "shop", "--layout", "taillard", "--take", "61"], 3, "--take is 61"),
+    (["search", "shop", "--layout", "taillard", "--take", "61"], 3, "--take must be from 1 to 60, not 61"),
 ])
 def test_what_is_rejected_is_rejected_before_the_search(folder: pathlib.Path, words: list[str], status: int,
                                                       error: str) -> None:

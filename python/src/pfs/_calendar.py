@@ -45,12 +45,12 @@ class Calendar:
     Parameters
     ----------
     begin : str or datetime.datetime
-        When the work begins, as ``2026-11-30T06:00``. If there is no shift then, it begins with the next one.
+        When the work begins, such as ``2026-11-30T06:00``. Outside a shift, it begins with the next one.
     shifts : str or iterable of str
-        The shifts of a working day, as ``"06:00-14:00"``; several as a list or with commas. A shift may cross midnight;
-        it then belongs to the day on which it starts. By default work goes on around the clock.
+        The shifts of a working day, such as ``"06:00-14:00"``; several in a list or with commas. A shift may cross
+        midnight; it then belongs to the day on which it starts. By default there is work around the clock.
     days : str or iterable of str
-        The days on which shifts start, as ``"mon-fri"`` or ``"mon,wed,fri"``. By default all days.
+        The days on which shifts start, such as ``"mon-fri"`` or ``"mon,wed,fri"``. By default all days.
 
     Attributes
     ----------
@@ -95,7 +95,7 @@ class Calendar:
 
     @property
     def is_always(self) -> bool:
-        """Whether work goes on around the clock."""
+        """Whether there is work around the clock."""
         return self.week == WEEK
 
     def worked(self, moment: datetime) -> int:
@@ -156,8 +156,8 @@ class Clock:
         return [step * SECOND * self.scale / self.tick for step in STEPS]
 
     def marks(self, end: int, most: int) -> list[tuple[float, str]]:
-        """Times from 0 to the end, at most so many and two, and what a scale says there: the time of day, and the date
-        where it is another one than before."""
+        """The times of the marks of a scale from 0 to `end`, about `most` of them, and their texts: the time of day, and
+        the date if it differs from that of the mark before."""
         step = next((step for step in self.steps() if step * most >= end), max(1.0, end / most))
         digits = 0 if step * self.tick < MINUTE * self.scale else -1
         found: list[tuple[float, str]] = []
