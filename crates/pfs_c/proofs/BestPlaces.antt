@@ -5,8 +5,8 @@ use Rattle.pfs_base.specs.FlowShop.{FlowShop}
 use Rattle.pfs_insert.specs.Inserter.{IsBestPlace}
 use Rattle.pfs_insert.specs.Insertion.{IsFirstLeast}
 
-pub same_best : {shop other : FlowShop} {jobs : List ℕ} {job place span number : ℕ} → IsBestPlace shop jobs job place span
-    → shop ≡ other → number ≡ span → IsBestPlace other jobs job place number
+pub same_best : {shop other : FlowShop} {jobs : List ℕ} {job place span number : ℕ}
+    → IsBestPlace shop jobs job place span → shop ≡ other → number ≡ span → IsBestPlace other jobs job place number
 same_best best same is = rw (← same, is) best
 
 module _ (value : ℕ → ℕ) where

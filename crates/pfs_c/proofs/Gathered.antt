@@ -1,8 +1,8 @@
 -- Jobs to insert that are validated after those of the sequence, and lists of jobs of a sequence.
-use Rattle.std.proofs.Common.{◌≡◌, ℕ, zero, suc, ◌+◌, ◌<◌, ◌≤◌, ◌++◌, refl, Bool, true, false, List, [], ◌∷◌, length}
-use Rattle.std.proofs.Common.{take, get_or, nat_eq, nat_lt, All, Contains, insert, ap, sym, ◌∙◌, ◌⊎◌, inl, inr, arith}
-use Rattle.std.proofs.Common.{Option, Some, None, append_assoc, Result, Err}
-use Rattle.std.specs.List.{list_all, list_any}
+use Rattle.std.proofs.Common.{◌≡◌, ℕ, zero, suc, ◌+◌, ◌<◌, ◌≤◌, ◌++◌, refl, false, List, [], ◌∷◌, length}
+use Rattle.std.proofs.Common.{take, get_or, nat_eq, All, Contains, insert, ap, ◌∙◌, ◌⊎◌, inl, inr, arith}
+use Rattle.std.proofs.Common.{Some, None, append_assoc}
+use Rattle.std.specs.List.{list_any}
 use Rattle.std.specs.Cmp.{nat_eq_equiv}
 use Rattle.std.proofs.Math.Seq.{take-append-add}
 use Rattle.std.proofs.lemmas.Bool.{cases_Bool, eqb-true}

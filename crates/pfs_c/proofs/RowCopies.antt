@@ -18,7 +18,7 @@ cells_apart a b m n width other in_row in_other = elim (cases_lt a b) [
       let fits : (b + 1) * width ≤ a * width = mul-le-mul_right width later in omega (arith, fits)
 ]
 
--- a row of which so many entries are copied to a table, in which the other rows are as before
+-- the first `done` entries of a row are copied to a table, in which the other rows are as before
 pub record IsCopied (row old : List ℕ) (width place done : ℕ) (table : List ℕ) : Type 0 where
   pub copied : (k : ℕ) → k < done → get_or table (place * width + k) 0 ≡ get_or row k 0
   pub others : (other k : ℕ) → other ≢ place → k < width

@@ -1,14 +1,14 @@
 -- Jobs of a list that leave their places for their best ones in turn.
 use Rattle.std.proofs.Common.{◌≡◌, ℕ, zero, suc, ◌+◌, ◌-◌, ◌*◌, ◌<◌, ◌≤◌, ◌^◌, ◌++◌, List, [], ◌∷◌, length, filter}
-use Rattle.std.proofs.Common.{fold, not}
-use Rattle.std.proofs.Common.{get_or, take, insert, remove, eqb, refl, ap, sym, ◌∙◌, add-one, mul-le-mul_left, arith}
-use Rattle.std.proofs.Common.{All, Contains, inl, inr}
+use Rattle.std.proofs.Common.{not}
+use Rattle.std.proofs.Common.{get_or, take, insert, remove, eqb, refl, ap, sym, ◌∙◌, add-one, arith}
+use Rattle.std.proofs.Common.{All, Contains}
 use Rattle.std.specs.List.Sorted.{IsPermutation}
 use Rattle.std.proofs.Math.Nat.{mul-le-mul, mul-le-mul_right}
 use Rattle.std.proofs.lemmas.Bool.{ne_eqb}
 use Rattle.std.proofs.lemmas.List.{get_or_default, take_more}
 use Rattle.std.proofs.lemmas.List.Edits.{length-insert, length-remove}
-use Rattle.std.proofs.lemmas.List.Elements.{All-from_recursion, All-head, All-tail, Contains-append_right}
+use Rattle.std.proofs.lemmas.List.Elements.{All-head, All-tail, Contains-append_right}
 use Rattle.std.proofs.lemmas.List.Sorted.{Contains-permutation, IsPermutation-append_comm, IsPermutation-insert}
 use Rattle.std.proofs.lemmas.List.Sorted.{IsPermutation-refl, IsPermutation-remove, IsPermutation-trans}
 use Rattle.std.proofs.lemmas.List.Sums.{fold_push}
@@ -18,9 +18,9 @@ use Rattle.pfs_base.specs.Paths.{makespan}
 use Rattle.pfs_order.specs.Sequence.{IsSequence, all_jobs}
 use Rattle.pfs_order.proofs.Published.Sequences.{IsSequence-head, IsSequence-moved, IsSequence-permutation}
 use Rattle.pfs_order.proofs.Published.Sequences.{insert-remove, others_are}
-use Rattle.pfs_insert.specs.Insertion.{best_place, with_job}
+use Rattle.pfs_insert.specs.Insertion.{best_place}
 use Rattle.pfs_insert.proofs.Published.BestPlaces.{best_place_within, best_place_least}
-use Rattle.pfs_search.specs.Greedy.{moved, after_passes}
+use Rattle.pfs_search.specs.Greedy.{moved}
 use Rattle.pfs_search.specs.Neh.{with_jobs}
 use Rattle.pfs_c.specs.Building.{visited, after_visits, AllJobsLaw, VisitsLaw}
 

@@ -87,7 +87,8 @@ fn fill_makespans(
 )
     requires within { IsWithin limits (shop_of times.now jobs machines) }
     requires room { length sequences.now ≡ length makespans.old * long }
-    requires each { (index : ℕ) → index < length makespans.old → IsSequence jobs (sequence_at long sequences.now index) }
+    requires each { (index : ℕ) → index < length makespans.old
+        → IsSequence jobs (sequence_at long sequences.now index) }
     ensures { AreMakespans (shop_of times.now jobs machines) sequences.now long makespans.new }
 {
     for index in 0..makespans.len() {

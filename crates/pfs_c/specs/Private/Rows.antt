@@ -23,7 +23,7 @@ abbrev pub TailsFrom : FlowShop → List ℕ → ℕ → List ℕ → Type 0
 TailsFrom shop jobs from table = (place machine : ℕ) → from ≤ place → place ≤ length jobs → machine < shop.machines
     → slice_index table (place * shop.machines + machine) ≡ heaviest_back shop jobs place machine
 
--- the first rows of a table, so many, have the heads of their places
+-- the first `count` rows of a table have the heads of their places
 abbrev pub HeadsTable : FlowShop → List ℕ → ℕ → List ℕ → Type 0
 HeadsTable shop jobs count table = (place machine : ℕ) → place < count → machine < shop.machines
     → slice_index table (place * shop.machines + machine) ≡ heaviest_front shop jobs place machine

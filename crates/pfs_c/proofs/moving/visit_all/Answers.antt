@@ -11,8 +11,8 @@ visit_once-requires-clause-room g c =
     let sizes = (g.met.B.Bench.within c.args.bench.now).sizes in
     rw c.loop-done.invariant.same_shop
     (visits_room (g.B.Bench.counted c.loop-done.bench) c.loop-done._done c.args.passes (length c.args.list.now)
-    shop.jobs shop.machines c.loop-done.invariant.counted c.loop-done-test.true c.requires.passes c.requires.few sizes.few_jobs
-    sizes.few_machines)
+    shop.jobs shop.machines c.loop-done.invariant.counted c.loop-done-test.true c.requires.passes c.requires.few
+    sizes.few_jobs sizes.few_machines)
 
 pub loop-done-preserved : goal.loop-done-preserved
 loop-done-preserved g c =

@@ -44,4 +44,5 @@ loop-machine-preserved c =
     (omega (arith, c.requires.place)) (omega (arith, c.loop-machine-test.true, at.auto.machine)) in
     tails_more shop c.args.sequence.now c.args.place at.machine cell at.tails at.after c.time_at.result _ at.invariant
     c.loop-machine-test.true (omega (arith, at.auto.machine)) c.requires.place refl
-    (omega (arith, inside, at.auto.tails, c.requires.long)) c.time_at.ensures.value (omega (arith, c.greater.ensures.value))
+    (omega (arith, inside, at.auto.tails, c.requires.long)) c.time_at.ensures.value
+    (omega (arith, c.greater.ensures.value))

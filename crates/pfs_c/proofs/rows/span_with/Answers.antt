@@ -88,7 +88,8 @@ loop-machine-preserved c =
     c.time_at.result (get_or c.args.tails.now (place * c.args.machines + at.machine) 0) _ at.most at.invariant
     c.requires.place (c.requires.heads at.machine c.loop-machine-test.true) c.time_at.ensures.value
     (c.requires.tails place at.machine (omega arith) c.requires.place c.loop-machine-test.true)
-    (omega (arith, c.greater.ensures.value)) (omega (arith, c.greater-most.ensures.short, c.greater-most.ensures.value)))
+    (omega (arith, c.greater.ensures.value))
+    (omega (arith, c.greater-most.ensures.short, c.greater-most.ensures.value)))
 
 pub returns : goal.returns
 returns c =

@@ -9,4 +9,5 @@ copy_from_slice-requires c =
     let jobs : c.in-Ok.instance.shop.jobs ≡ c.args.jobs = ap (λ (p : Problem). p.shop.jobs) c.in-Ok.ensures.drawn in
     let machines : c.in-Ok.instance.shop.machines ≡ c.args.machines =
     ap (λ (p : Problem). p.shop.machines) c.in-Ok.ensures.drawn in
-    c.in-Ok.ensures.long ∙ sym (ap length c.times.ensures.value ∙ rw (jobs, machines) at c.times.ensures.within.every_time)
+    c.in-Ok.ensures.long
+    ∙ sym (ap length c.times.ensures.value ∙ rw (jobs, machines) at c.times.ensures.within.every_time)
