@@ -17,7 +17,7 @@ from pfs._all import solve_all
 from pfs._calendar import Calendar
 from pfs._faults import Fault, FileFault, Interrupted, InterruptedAll, OrderFault, TableFault
 from pfs._files import from_frame, generate, parse_order, read, read_all, read_order, taillard
-from pfs._instance import Instance, Place
+from pfs._instance import Instance, Place, Sequence
 from pfs._schedule import Schedule
 from pfs._solution import Improvement, Solution
 from pfs._tables import read_csv
@@ -25,6 +25,6 @@ from pfs._version import VERSION as __version__
 
 __all__ = [
     "Calendar", "Fault", "FileFault", "Improvement", "Instance", "Interrupted", "InterruptedAll", "OrderFault", "Place",
-    "Schedule", "Solution", "TableFault", "__version__", "from_frame", "generate", "parse_order", "read", "read_all",
-    "read_csv", "read_order", "solve_all", "taillard",
+    "Schedule", "Sequence", "Solution", "TableFault", "__version__", "from_frame", "generate", "parse_order", "read",
+    "read_all", "read_csv", "read_order", "solve_all", "taillard",
 ]

@@ -19,8 +19,8 @@ from pfs._names import frame_names, is_frame, names_of
 from pfs._schedule import Schedule
 from pfs._search import Progress, Search, Stop
 from pfs._solution import Solution, as_order
-from pfs._validate import (BOOLS, Jobs, Order, array_copy, as_uint32, as_uint32_bytes, checked_int, checked_order,
-                           checked_times, jobs_error, layout_number)
+from pfs._validate import (BOOLS, Jobs, Order, array_copy, as_uint32, as_uint32_bytes, checked_int, checked_jobs,
+                           checked_order, checked_times, jobs_error, layout_number)
 
 _pfs_makespan = c.quick_makespan
 _pfs_insert = c.quick_insert
@@ -44,6 +44,13 @@ class Place(NamedTuple):
     """A place for a job, and the makespan with the job there."""
 
     place: int
+    makespan: int
+
+
+class Sequence(NamedTuple):
+    """A sequence of jobs, and its makespan."""
+
+    jobs: Order
     makespan: int
 
 
@@ -358,6 +365,176 @@ class Instance:
                 raise ValueError(f"job {job} is already in the sequence")
             raise fault
         return spans
+
+    def heads(self, sequence: Jobs) -> Order:
+        """Return the earliest end of each operation of a sequence of jobs.
+
+        Parameters
+        ----------
+        sequence : array_like
+            Distinct jobs, counted from 0.
+
+        Returns
+        -------
+        numpy.ndarray
+            An array of int64 with a row for each job of the sequence, in its order, and a column for each machine.
+
+        Raises
+        ------
+        TypeError, ValueError
+            If the sequence isn't a list of distinct jobs. The message says which element is wrong.
+
+        See Also
+        --------
+        tails : The longest path from each operation to the end of the sequence.
+
+        Examples
+        --------
+        >>> import pfs
+        >>> pfs.Instance([[3, 2], [2, 5], [4, 1]]).heads([1, 0])
+        array([[2, 7],
+               [5, 9]])
+        """
+        return self._heads_tails(sequence)[0]
+
+    def tails(self, sequence: Jobs) -> Order:
+        """Return the longest path from the start of each operation to the end of a sequence of jobs.
+
+        The longest path through an operation is its head plus its tail minus its processing time. On a critical path
+        that is the makespan (Taillard 1990).
+
+        Parameters
+        ----------
+        sequence : array_like
+            Distinct jobs, counted from 0.
+
+        Returns
+        -------
+        numpy.ndarray
+            An array of int64 with a row for each job of the sequence, in its order, and a column for each machine.
+
+        Raises
+        ------
+        TypeError, ValueError
+            If the sequence isn't a list of distinct jobs. The message says which element is wrong.
+
+        See Also
+        --------
+        heads : The earliest end of each operation.
+
+        Examples
+        --------
+        >>> import pfs
+        >>> pfs.Instance([[3, 2], [2, 5], [4, 1]]).tails([1, 0])
+        array([[9, 7],
+               [5, 2]])
+        """
+        return self._heads_tails(sequence)[1]
+
+    def _heads_tails(self, sequence: Jobs) -> tuple[Order, Order]:
+        jobs, count = as_uint32_bytes(sequence, "sequence")
+        shape = min(count, self.jobs + 1), self.machines
+        heads, tails = np.empty(shape, dtype=np.int64), np.empty(shape, dtype=np.int64)
+        number = library.pfs_heads_tails(*self._arguments, jobs, shape[0], heads.ctypes.data, heads.size,
+                                         tails.ctypes.data, tails.size)
+        if number:
+            raise jobs_error(number, self.jobs, jobs, "sequence")
+        return heads, tails
+
+    def insert_all(self, sequence: Jobs, jobs: Jobs) -> Sequence:
+        """Insert jobs into a partial sequence one after the other, each at its best place.
+
+        One call takes less time than a call of :meth:`best_place` for each job. From an empty sequence and all jobs by
+        decreasing total processing time, it finds the order of :meth:`neh`.
+
+        Parameters
+        ----------
+        sequence : array_like
+            Distinct jobs, counted from 0. It isn't changed.
+        jobs : array_like
+            The jobs to insert, in this order; they are distinct, and none is in the sequence.
+
+        Returns
+        -------
+        Sequence
+            The ``jobs`` of the longer sequence, an array of int64, and its ``makespan``.
+
+        Raises
+        ------
+        TypeError, ValueError
+            If the arguments aren't lists of distinct jobs, or a job to insert is in the sequence. The message says
+            which element is wrong.
+
+        Examples
+        --------
+        >>> import pfs
+        >>> pfs.Instance([[3, 2], [2, 5], [4, 1]]).insert_all([2], [0, 1])
+        Sequence(jobs=array([1, 0, 2]), makespan=10)
+        """
+        return self._reinserted("pfs_construct", sequence, jobs)
+
+    def local_search(self, sequence: Jobs, jobs: Jobs | None = None, *, passes: int = 1) -> Sequence:
+        """Improve a sequence of jobs: in a pass, each of some jobs is removed and inserted at its best place.
+
+        The result is never longer than the sequence.
+
+        Parameters
+        ----------
+        sequence : array_like
+            Distinct jobs, counted from 0. It isn't changed.
+        jobs : array_like, optional
+            Distinct jobs of the sequence, in the order in which they are removed. By default all of them by their
+            numbers, as in the passes of :meth:`solve`.
+        passes : int
+            The number of passes, 0 to 100.
+
+        Returns
+        -------
+        Sequence
+            The ``jobs`` of the new sequence, an array of int64, and its ``makespan``.
+
+        Raises
+        ------
+        TypeError, ValueError
+            If the arguments aren't lists of distinct jobs, or a job to move isn't in the sequence. The message says
+            which element is wrong.
+
+        Examples
+        --------
+        >>> import pfs
+        >>> pfs.Instance([[3, 2], [2, 5], [4, 1]]).local_search([2, 1, 0])
+        Sequence(jobs=array([1, 2, 0]), makespan=10)
+        """
+        passes = checked_int(passes, "passes", 0, c.MOST_PASSES)
+        if jobs is None:
+            jobs = np.sort(checked_jobs(sequence, "sequence"))
+        return self._reinserted("pfs_local_search", sequence, jobs, passes)
+
+    def _reinserted(self, name: str, sequence: Jobs, jobs: Jobs, *passes: int) -> Sequence:
+        """Call a function that inserts jobs into a sequence. Only pfs_local_search has passes."""
+        given, count = as_uint32_bytes(sequence, "sequence")
+        moved, more = as_uint32_bytes(jobs, "jobs")
+        found = np.empty(min(count + (0 if passes else more), 2 * c.MOST_JOBS), dtype=np.uint32)
+        makespan = c_uint64()
+        number = getattr(library, name)(*self._arguments, given, count, moved, more, *passes, found.ctypes.data,
+                                        found.size, byref(makespan))
+        if number:
+            raise self._reinsertion_error(number, given, moved, is_in=not passes)
+        return Sequence(found.astype(np.int64), makespan.value)
+
+    def _reinsertion_error(self, number: int, given: bytes, moved: bytes, *, is_in: bool) -> Exception:
+        """Return the exception for a number that such a function returned. With `is_in` a job of the list is wrong if
+        it is in the sequence, otherwise if it isn't."""
+        generic = (c.message(number),)
+        fault = jobs_error(number, self.jobs, given, "sequence")
+        if number == c.MEMORY or fault.args != generic:
+            return fault
+        fault = jobs_error(number, self.jobs, moved, "jobs")
+        sequence = set(np.frombuffer(given, dtype=np.uint32).tolist())
+        wrong = [job for job in np.frombuffer(moved, dtype=np.uint32).tolist() if (job in sequence) == is_in]
+        if fault.args != generic or not wrong:
+            return fault
+        return ValueError(f"jobs: job {wrong[0]} {'is already' if is_in else 'is not'} in the sequence")
 
     def makespans(self, orders: npt.ArrayLike) -> Order:
         """Return the makespans of many sequences of equal length, in one call.

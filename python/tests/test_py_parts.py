@@ -1,0 +1,124 @@
+"""The parts of a method of one's own: heads and tails, construction and local search."""
+import itertools
+from collections.abc import Callable
+from typing import Any
+
+import numpy as np
+import pfs
+import plainly
+import pytest
+from hypothesis import given
+from hypothesis import strategies as st
+
+SHOP = pfs.Instance([[3, 2], [2, 5], [4, 1]])
+
+
+@st.composite
+def parts(draw: st.DrawFn) -> tuple[plainly.Table, list[int], list[int]]:
+    """Times, a sequence of some jobs, and some of the other jobs."""
+    times, order = draw(plainly.shops_and_orders())
+    first, second = sorted(draw(st.tuples(*[st.integers(0, len(order))] * 2)))
+    return times, order[:first], order[first:second]
+
+
+@given(plainly.shops_and_sequences())
+def test_heads_are_the_ends_of_the_schedule(case: tuple[plainly.Table, list[int]]) -> None:
+    times, sequence = case
+    ends = [[end for _, end in row] for row in plainly.schedule(times, sequence)]
+    heads = pfs.Instance(times).heads(sequence)
+    assert heads.tolist() == ends and heads.shape == (len(sequence), len(times[0])) and heads.dtype == np.int64
+
+
+@given(plainly.shops_and_sequences())
+def test_tails_are_the_heads_of_the_reversed_instance(case: tuple[plainly.Table, list[int]]) -> None:
+    """Each job backwards over the machines, and the sequence from its last job to its first."""
+    times, sequence = case
+    backwards = [row[::-1] for row in times]
+    ends = [[end for _, end in row][::-1] for row in plainly.schedule(backwards, sequence[::-1])][::-1]
+    assert pfs.Instance(times).tails(sequence).tolist() == ends
+
+
+@given(parts())
+def test_insert_all_inserts_each_at_its_best_place(case: tuple[plainly.Table, list[int], list[int]]) -> None:
+    times, sequence, more = case
+    kept = list(sequence)
+    found = pfs.Instance(times).insert_all(sequence, more)
+    assert sequence == kept
+    for job in more:
+        kept.insert(plainly.best_place(times, kept, job)[0], job)
+    assert (found.jobs.tolist(), found.makespan) == (kept, plainly.makespan(times, kept))
+
+
+def moved(times: plainly.Table, sequence: list[int], jobs: list[int], passes: int) -> list[int]:
+    """The sequence after passes over some of its jobs."""
+    for job in jobs * passes:
+        others = [other for other in sequence if other != job]
+        place, _ = plainly.best_place(times, others, job)
+        sequence = [*others[:place], job, *others[place:]]
+    return sequence
+
+
+@given(plainly.shops_and_sequences(), st.integers(0, 3), st.randoms())
+def test_local_search_moves_each_job_to_its_best_place(case: tuple[plainly.Table, list[int]], passes: int,
+                                                       chance: Any) -> None:
+    times, sequence = case
+    shop = pfs.Instance(times)
+    jobs = chance.sample(sequence, chance.randint(0, len(sequence)))
+    found = shop.local_search(sequence, jobs, passes=passes)
+    due = moved(times, sequence, jobs, passes)
+    assert (found.jobs.tolist(), found.makespan) == (due, plainly.makespan(times, due))
+    assert found.makespan <= shop.makespan(sequence)
+    by_number = shop.local_search(sequence, passes=passes)
+    assert by_number.jobs.tolist() == moved(times, sequence, sorted(sequence), passes)
+
+
+def test_neh_inserts_by_decreasing_totals() -> None:
+    shop = pfs.taillard(1)
+    neh = shop.neh()
+    found = shop.insert_all([], (-shop.times.sum(axis=1)).argsort(kind="stable"))
+    assert (found.jobs.tolist(), found.makespan) == (neh.order.tolist(), neh.makespan)
+
+
+def test_the_greatest_number_of_jobs() -> None:
+    shop = pfs.generate(5000, 1, 1)
+    found = shop.insert_all(range(2500), range(2500, 5000))
+    assert sorted(found.jobs.tolist()) == [*range(5000)] and found.makespan == shop.makespan(found.jobs)
+    assert shop.heads(range(5000))[-1, -1] == found.makespan
+
+
+WRONG: dict[str, tuple[Callable[[], object], type[Exception], str]] = {
+    "heads, twice": (lambda: SHOP.heads([0, 0]), ValueError, "sequence: job 0 occurs twice, at places 0 and 1"),
+    "tails, no job": (lambda: SHOP.tails([3]), ValueError, "sequence: 3 at place 0 isn't a job: jobs are 0 to 2"),
+    "heads, many": (lambda: SHOP.heads([0, 1, 2, 0]), ValueError, "sequence: job 0 occurs twice, at places 0 and 3"),
+    "heads, text": (lambda: SHOP.heads("0"), ValueError, "sequence must be a list of jobs"),
+    "insert, twice": (lambda: SHOP.insert_all([0, 0], [1]), ValueError, "sequence: job 0 occurs twice"),
+    "insert, twice to insert": (lambda: SHOP.insert_all([0], [1, 1]), ValueError, "jobs: job 1 occurs twice"),
+    "insert, no job": (lambda: SHOP.insert_all([0], [1, 7]), ValueError, "jobs: 7 at place 1 isn't a job"),
+    "insert, there already": (lambda: SHOP.insert_all([2, 0], [1, 0]), ValueError,
+                              "jobs: job 0 is already in the sequence"),
+    "insert, many": (lambda: SHOP.insert_all([0, 1, 2], range(9000)), ValueError, "jobs: 3 at place 3 isn't a job"),
+    "insert, more jobs than there are": (lambda: SHOP.insert_all([0, 1, 2], [*range(3), *[0] * 20_000]), ValueError,
+                                         "jobs: job 0 occurs twice, at places 0 and 3"),
+    "insert, a fraction": (lambda: SHOP.insert_all([0], [1.5]), ValueError, "jobs: 1.5"),
+    "search, elsewhere": (lambda: SHOP.local_search([0, 1], [2]), ValueError, "jobs: job 2 is not in the sequence"),
+    "search, twice": (lambda: SHOP.local_search([0, 1], [1, 1]), ValueError, "jobs: job 1 occurs twice"),
+    "search, no job": (lambda: SHOP.local_search([0, 4]), ValueError, "sequence: 4 at place 1 isn't a job"),
+    "search, many passes": (lambda: SHOP.local_search([0], passes=101), ValueError, "passes must be from 0 to 100"),
+    "search, passes by place": (lambda: SHOP.local_search([0], [0], 1), TypeError, "positional"),  # type: ignore[misc]
+    "search, a truth": (lambda: SHOP.local_search([0], passes=True), TypeError, "passes must be an integer"),
+}
+
+
+@pytest.mark.parametrize("case", WRONG)
+def test_wrong_arguments(case: str) -> None:
+    call, kind, text = WRONG[case]
+    with pytest.raises(kind) as error:
+        call()
+    assert text in str(error.value)
+
+
+def test_each_pair_of_two_wrong_lists_reports_the_sequence_first() -> None:
+    for sequence, jobs in itertools.product([[0, 0], [5]], [[1, 1], [6]]):
+        for call in (SHOP.insert_all, SHOP.local_search):
+            with pytest.raises(ValueError, match="^sequence: "):
+                call(sequence, jobs)
