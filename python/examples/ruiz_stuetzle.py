@@ -9,34 +9,27 @@ import sys
 import time
 
 import matplotlib.figure
+import numpy as np
+import numpy.typing as npt
 
 import pfs
 
 TAKE, TEMPERATURE = 4, 0.4
 
 
-def local_search(shop: pfs.Instance, order: list[int], makespan: int, chance: random.Random) -> tuple[list[int], int]:
+def local_search(shop: pfs.Instance, found: pfs.Sequence, chance: random.Random) -> pfs.Sequence:
     """Insert each job, in random order, at its best place, until the makespan doesn't decrease any more."""
-    is_better = True
-    while is_better:
-        is_better = False
-        for job in chance.sample(order, len(order)):
-            others = [other for other in order if other != job]
-            place, found = shop.best_place(others, job)
-            if found < makespan:
-                others.insert(place, job)
-                order, makespan, is_better = others, found, True
-    return order, makespan
+    while True:
+        before = found.makespan
+        found = shop.local_search(found.jobs, chance.sample(range(shop.jobs), shop.jobs))
+        if found.makespan == before:
+            return found
 
 
-def destruct_and_construct(shop: pfs.Instance, order: list[int], chance: random.Random) -> tuple[list[int], int]:
+def destruct_and_construct(shop: pfs.Instance, order: npt.NDArray[np.int64], chance: random.Random) -> pfs.Sequence:
     """Remove some random jobs, and insert each at its best place."""
-    taken, makespan = chance.sample(order, min(TAKE, len(order))), 0
-    order = [job for job in order if job not in taken]
-    for job in taken:
-        place, makespan = shop.best_place(order, job)
-        order.insert(place, job)
-    return order, makespan
+    removed = chance.sample(range(shop.jobs), min(TAKE, shop.jobs))
+    return shop.insert_all(order[~np.isin(order, removed)], removed)
 
 
 def iterated_greedy(shop: pfs.Instance, seconds: float, seed: int) -> list[tuple[float, int]]:
@@ -44,16 +37,17 @@ def iterated_greedy(shop: pfs.Instance, seconds: float, seed: int) -> list[tuple
     begun, chance = time.perf_counter(), random.Random(seed)
     temperature = TEMPERATURE * float(shop.times.mean()) / 10
     first = shop.neh()
-    order, makespan = local_search(shop, first.order.tolist(), first.makespan, chance)
-    best, best_order, history = makespan, order, [(time.perf_counter() - begun, makespan)]
-    while time.perf_counter() - begun < seconds and best > shop.bound():
-        other, found = local_search(shop, *destruct_and_construct(shop, order, chance), chance)
-        if found < makespan or chance.random() < math.exp((makespan - found) / temperature):
-            order, makespan = other, found
-        if makespan < best:
-            best, best_order = makespan, order
-            history.append((time.perf_counter() - begun, best))
-    assert shop.makespan(best_order) == best
+    now = best = local_search(shop, pfs.Sequence(first.order, first.makespan), chance)
+    history = [(time.perf_counter() - begun, best.makespan)]
+    while time.perf_counter() - begun < seconds and best.makespan > shop.bound():
+        found = local_search(shop, destruct_and_construct(shop, now.jobs, chance), chance)
+        more = found.makespan - now.makespan
+        if more < 0 or chance.random() < math.exp(-more / temperature):
+            now = found
+        if now.makespan < best.makespan:
+            best = now
+            history.append((time.perf_counter() - begun, best.makespan))
+    assert shop.makespan(best.jobs) == best.makespan
     return history
 
 
