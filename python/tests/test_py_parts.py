@@ -1,7 +1,6 @@
 """The parts of a method of one's own: heads and tails, construction and local search."""
 import itertools
 from collections.abc import Callable
-from typing import Any
 
 import numpy as np
 import pfs
@@ -58,12 +57,12 @@ def moved(times: plainly.Table, sequence: list[int], jobs: list[int], passes: in
     return sequence
 
 
-@given(plainly.shops_and_sequences(), st.integers(0, 3), st.randoms())
-def test_local_search_moves_each_job_to_its_best_place(case: tuple[plainly.Table, list[int]], passes: int,
-                                                       chance: Any) -> None:
+@given(st.data(), plainly.shops_and_sequences(), st.integers(0, 3))
+def test_local_search_moves_each_job_to_its_best_place(data: st.DataObject, case: tuple[plainly.Table, list[int]],
+                                                       passes: int) -> None:
     times, sequence = case
     shop = pfs.Instance(times)
-    jobs = chance.sample(sequence, chance.randint(0, len(sequence)))
+    jobs = data.draw(st.permutations(sequence))[:data.draw(st.integers(0, len(sequence)))]
     found = shop.local_search(sequence, jobs, passes=passes)
     due = moved(times, sequence, jobs, passes)
     assert (found.jobs.tolist(), found.makespan) == (due, plainly.makespan(times, due))

@@ -503,7 +503,7 @@ class Instance:
         --------
         >>> import pfs
         >>> pfs.Instance([[3, 2], [2, 5], [4, 1]]).local_search([2, 1, 0])
-        Sequence(jobs=array([1, 2, 0]), makespan=10)
+        Sequence(jobs=array([1, 0, 2]), makespan=10)
         """
         passes = checked_int(passes, "passes", 0, c.MOST_PASSES)
         if jobs is None:
