@@ -1,4 +1,4 @@
-"""The chart of a schedule: a picture, by the code that tools/gantt draws with, or a page."""
+"""Charts of schedules: pictures, drawn with the code of tools/gantt, and HTML pages."""
 from __future__ import annotations
 
 import base64
@@ -24,7 +24,7 @@ if TYPE_CHECKING:
 
 
 def _drawing() -> Any:
-    """What tools/gantt draws with: a wheel has it as a module of the package, a checkout in tools/."""
+    """Import the drawing code of tools/gantt. A wheel has it as a module of the package, a checkout in tools/."""
     try:
         return importlib.import_module("pfs._gantt")
     except ModuleNotFoundError:
@@ -46,19 +46,19 @@ ENDINGS = ("svg", "png", "pdf", "html")
 UNIT = "units of the instance"
 
 
-# Jupyter shows no more operations than these.
+# The greatest number of operations that Jupyter shows.
 MOST_SHOWN = 2_000
 
 
 class Frame(NamedTuple):
-    """What is around the rows: inches, dots an inch, the title, and axes to draw on."""
+    """The width in inches, the dots per inch, the title, and axes to draw on."""
     width: float = 12.0
     dpi: int = 110
     title: bool | str = True
     ax: Any = None
 
     def checked(self) -> Frame:
-        """The same, if each is of its kind and within its limits."""
+        """Return the frame after validating it."""
         if isinstance(self.width, bool) or not isinstance(self.width, (int, float)):
             raise TypeError(f"width must be a number of inches, not {self.width!r}")
         if not 2 <= self.width <= 100:
@@ -71,7 +71,7 @@ class Frame(NamedTuple):
 
 
 def svg_of(schedule: Schedule) -> str | None:
-    """The picture that Jupyter shows."""
+    """Return the picture for Jupyter."""
     if schedule.starts.size > MOST_SHOWN:
         return None
     try:
@@ -109,7 +109,7 @@ def plot(schedule: Schedule, path: str | os.PathLike[str] | None, critical: bool
 
 
 def ending_of(path: str | os.PathLike[str]) -> str:
-    """What a chart's name ends with."""
+    """Return the ending of a chart's name."""
     ending = os.path.splitext(os.fspath(path))[1][1:].lower()
     if ending not in ENDINGS:
         raise ValueError(f"{os.fspath(path)}: the name of a chart ends with .svg, .png, .pdf or .html")
@@ -117,12 +117,12 @@ def ending_of(path: str | os.PathLike[str]) -> str:
 
 
 def counted(count: int) -> list[str]:
-    """The numbers of jobs or machines, from 0 as they are counted here."""
+    """Return the numbers of jobs or machines, from 0."""
     return [str(number) for number in range(count)]
 
 
 def require_matplotlib() -> Any:
-    """Matplotlib, or an error that says how to install it."""
+    """Import matplotlib, or raise an error that says how to install it."""
     try:
         import matplotlib
     except ImportError:
@@ -132,7 +132,7 @@ def require_matplotlib() -> Any:
 
 def drawn(table: _gantt.Table, look: _gantt.Look, path: str | os.PathLike[str] | None, ending: str | None,
           frame: Frame) -> Any:
-    """The figure, which is saved where there is a path. The settings of matplotlib stay as they are."""
+    """Draw the figure, and save it if there is a path. The settings of matplotlib don't change."""
     matplotlib = require_matplotlib()
     logger = logging.getLogger("matplotlib")
     level = logger.level
@@ -154,7 +154,7 @@ def drawn(table: _gantt.Table, look: _gantt.Look, path: str | os.PathLike[str] |
 
 
 class Given:
-    """In the place of a figure: its only axes are those that it was given."""
+    """A stand-in for a figure, whose only axes are the given ones."""
 
     def __init__(self, ax: Any) -> None:
         self.ax = ax

@@ -1,5 +1,5 @@
-"""Searches and plans from the command line. What is asked for goes to standard output; progress goes to standard error
-where that is a terminal."""
+"""The commands `search` and `plan`. Results go to standard output, and progress to standard error if that is a
+terminal."""
 from __future__ import annotations
 
 import argparse
@@ -27,7 +27,7 @@ from pfs._state import State, StateFault
 from pfs._tables import described, table_of
 from pfs._version import VERSION
 
-# Exit statuses, as those of the program.
+# Exit statuses, the same as those of the program.
 REFUSED, USAGE, SYSTEM = 2, 3, 4
 SIGNALS = (signal.SIGINT, signal.SIGTERM)
 DECIMAL_SIGNS = {"point": ".", "comma": ","}
@@ -39,14 +39,14 @@ VERSION_OPTION: dict[str, Any] = {"action": "version", "version": f"pfs {VERSION
 
 
 class Words(argparse.ArgumentParser):
-    """A command line; wrong words end with the status that the program has for them."""
+    """A parser of command lines. An invalid command line ends with the status that the program has for it."""
 
     def error(self, message: str) -> NoReturn:
         sys.exit(told(f"{self.format_usage()}pfs: {shown(message)}", USAGE))
 
 
 class Stop:
-    """Remembers the first signal that asks for an end. It comes between two parts."""
+    """Records the first signal that ends the search. The search checks it between two parts."""
 
     def __init__(self) -> None:
         self.signal = 0
@@ -63,12 +63,12 @@ class Stop:
         self.signal = self.signal or number
 
     def status(self) -> int:
-        """The exit status that a shell gives to a program which the signal ended."""
+        """Return the exit status that a shell reports for a program that the signal killed."""
         return 128 + self.signal if self.signal else 0
 
 
 class Told:
-    """The line about the progress of a search, on a terminal."""
+    """The progress line of a search, on a terminal."""
 
     def __init__(self, shop: Instance, rounds: int, pace: Pace) -> None:
         self.shown = sys.stderr is not None and sys.stderr.isatty()
@@ -77,7 +77,7 @@ class Told:
         self.begun, self.first = time.monotonic(), -1
 
     def tell(self, rounds: int, makespan: int) -> None:
-        """Where the search is now."""
+        """Show the progress of the search."""
         if not self.shown:
             return
         self.first = rounds if self.first < 0 else self.first
@@ -94,12 +94,12 @@ class Told:
             self.show("")
 
     def show(self, line: str) -> None:
-        """Replace the line. A terminal that is gone ends no search."""
+        """Replace the line. If the terminal is closed, the search continues."""
         self.shown = written(sys.stderr, f"\r{line}\x1b[K")
 
 
 def clock(seconds: float) -> str:
-    """Hours, minutes and seconds.
+    """Return a time in hours, minutes and seconds.
 
     Examples
     --------
@@ -136,7 +136,7 @@ def searched(search: Search, rounds: int, seconds: float | None, stop: Stop,
 
 
 def search_command(given: argparse.Namespace) -> int:
-    """Searches an instance file, and prints an order file."""
+    """Search an instance file, and print an order file."""
     shop = read(given.file, given.layout, given.block)
     start = None if given.start is None else read_order(given.start)
     if start is not None and start.machines not in (0, shop.machines):
@@ -154,7 +154,8 @@ def search_command(given: argparse.Namespace) -> int:
 
 
 def plan_command(given: argparse.Namespace) -> int:
-    """Finds an order for a table with names, and prints it. The order comes first: no other output can lose it."""
+    """Find an order for a table with names, and print it. It is printed before all other output, so an error doesn't
+    lose it."""
     calendar = calendar_of(given)
     check_outputs(given.schedule, given.chart)
     shop, delimiter, has_mark = table_of(given.table, given.unit, DECIMAL_SIGNS.get(given.decimal),
@@ -191,8 +192,8 @@ def calendar_of(given: argparse.Namespace) -> Calendar | None:
 
 
 def check_outputs(schedule: str | None, charts: Sequence[str]) -> None:
-    """Report before the search what would prevent an output after it: another ending of a chart's name, a folder that
-    doesn't exist, or no matplotlib."""
+    """Raise an error before the search if an output would fail after it: for an unknown ending of a chart's name, a
+    missing folder, or no matplotlib."""
     endings = {ending_of(chart) for chart in charts}
     for path in charts if schedule is None else [schedule, *charts]:
         if not os.path.isdir(os.path.dirname(path) or "."):
@@ -232,28 +233,28 @@ def failure_of(output: Callable[[], object]) -> Exception | None:
 
 
 def printed(text: str) -> None:
-    """Write a text to standard output. A character that its encoding lacks is written by its number."""
+    """Write a text to standard output, with escapes for characters that its encoding lacks."""
     encoding = sys.stdout.encoding or "utf-8"
     sys.stdout.write(text.encode(encoding, "backslashreplace").decode(encoding))
     sys.stdout.flush()
 
 
 def seconds_of(text: str) -> float:
-    """A time limit."""
+    """Parse a time limit."""
     try:
         seconds = limit_of(float(text))
     except ValueError:
-        raise argparse.ArgumentTypeError(f"{text!r} is no number of seconds") from None
+        raise argparse.ArgumentTypeError(f"{text!r} is not a number of seconds") from None
     assert seconds is not None
     return seconds
 
 
 def number(least: int, most: int) -> Callable[[str], int]:
-    """Reads a number of these."""
+    """Return a parser of integers from `least` to `most`."""
 
     def read_number(text: str) -> int:
         if not (text.isascii() and text.isdigit() and len(text) <= 30 and least <= int(text) <= most):
-            raise argparse.ArgumentTypeError(f"{text!r} is no number of {least:,} to {most:,}")
+            raise argparse.ArgumentTypeError(f"{text!r} is not a number from {least:,} to {most:,}")
         return int(text)
 
     return read_number
@@ -273,7 +274,7 @@ def checked(reader: Callable[[str], object]) -> Callable[[str], str]:
 
 
 def search_words() -> Words:
-    """The options of all searches."""
+    """Return the options of all searches."""
     options = Words(add_help=False)
     options.add_argument("--rounds", type=number(0, c.MOST_ROUNDS), metavar="R",
                          help="up to which round; else 1,000,000, and of a plan without a time limit 1,000")
@@ -285,7 +286,7 @@ def search_words() -> Words:
 
 
 def add_plan_words(plan: argparse.ArgumentParser) -> None:
-    """Add the words of a plan."""
+    """Add the arguments of `plan`."""
     plan.add_argument("--version", **VERSION_OPTION)
     plan.add_argument("table", metavar="TIMES.csv", help="a row for each job, a column for each machine, with names")
     plan.add_argument("--unit", default="", help="of the times; else what stands in brackets in the first cell")
@@ -313,7 +314,7 @@ def add_plan_words(plan: argparse.ArgumentParser) -> None:
 
 
 def plan_words() -> Words:
-    """The command line of the program pfs-plan."""
+    """Return the command line of the program pfs-plan."""
     parser = Words(prog="pfs-plan", parents=[search_words()], description="An order and a schedule for a table of "
                    "times, which has a row for each job and a column for each machine, with names.")
     add_plan_words(parser)
@@ -321,7 +322,7 @@ def plan_words() -> Words:
 
 
 def words() -> argparse.ArgumentParser:
-    """The command lines."""
+    """Return the command line of `python3 -m pfs`."""
     parser = Words(prog="python3 -m pfs", description="Searches of permutation flow shops that can be interrupted.")
     parser.add_argument("--version", **VERSION_OPTION)
     commands = parser.add_subparsers(required=True, metavar="COMMAND")
@@ -366,7 +367,7 @@ def main(line: list[str], parser: argparse.ArgumentParser | None = None) -> int:
 
 
 def rounds_of(given: argparse.Namespace) -> int:
-    """How many rounds a command makes that names none."""
+    """Return the default number of rounds of a command."""
     if given.run is not plan_command or given.seconds is not None:
         return c.MOST_ROUNDS
     return ROUNDS if given.order is None else 0
@@ -381,7 +382,7 @@ def line_of(fault: Exception) -> str:
 
 
 def told(line: str, status: int) -> int:
-    """Report a fault on standard error, and return the status. Where nobody hears it, the status is the same."""
+    """Report a fault on standard error, and return the status, also if the report can't be written."""
     written(sys.stderr, f"{line}\n")
     if status == SYSTEM:
         written(sys.stdout, "")
@@ -389,8 +390,8 @@ def told(line: str, status: int) -> int:
 
 
 def written(stream: TextIO | None, text: str) -> bool:
-    """Write a text, and return whether that worked. A stream that fails is closed off, so that flushing it when the
-    interpreter ends is no second error."""
+    """Write a text, and return whether that worked. A stream that fails is redirected to /dev/null, so that flushing it
+    when the interpreter ends doesn't fail again."""
     if stream is None:
         return False
     try:

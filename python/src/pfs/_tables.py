@@ -25,13 +25,13 @@ HINTS = (
     (re.compile(r"[0-9]{1,3}(?:['\u2019\u02bc\s][0-9]{3})+(?:[.,][0-9]+)?"), "leave out thousands separators"),
     (re.compile(r"[0-9]+(?:[.,][0-9]+)?\s*[^\W\d]+\.?"), "write the unit in brackets into the first cell of the table"),
 )
-# What may be a number with thousands separators as well as one with three decimals. A number doesn't begin with the
-# group "0", so 0.125 has decimals.
+# A number with thousands separators, which could also be one with three decimals. A number doesn't begin with the group
+# "0", so 0.125 has decimals.
 GROUPED = re.compile(r"(?!0[.,])[0-9]{1,3}(?:([.,])[0-9]{3})(?:\1[0-9]{3})*\Z", re.ASCII)
 TOTAL = re.compile(r"(sums?|totals?|summe|gesamt|somme|suma|totale|totaal|Σ)\b", re.IGNORECASE)
-# The first cell of a table that says that names follow, though they are numbers.
+# The first cell of a table in which the names may be numbers.
 SAYS_JOB = re.compile(r"(jobs?)?\Z", re.IGNORECASE)
-# What files begin with that are no text: spreadsheets' own formats, which are archives or compound documents.
+# The first bytes of spreadsheets in their own formats, which are archives or compound documents.
 SPREADSHEETS = (b"PK\x03\x04", b"\xd0\xcf\x11\xe0")
 TIMES_AS_NAMES = ("the names of the {what}s are numbers, as if the {part} of names were missing: add it, or write "
                   "`job` into the first cell of the table")
@@ -42,14 +42,14 @@ class Table(NamedTuple):
     """A table that was read."""
 
     shop: Instance
-    # What separates the columns.
+    # The separator of the columns.
     delimiter: str
     # Whether the file begins with a byte order mark, as Excel's do.
     has_mark: bool
 
 
 class Cell(NamedTuple):
-    """A cell that isn't the first of its row, and where it is, counted from 1."""
+    """A cell, with its position, counted from 1."""
 
     line: int
     column: int
@@ -79,7 +79,7 @@ class Rows(NamedTuple):
 
 def read_csv(source: str | os.PathLike[str], unit: str = "", *, decimal: str | None = None,
              allow_totals: bool = False) -> Instance:
-    """Reads a table of times, as spreadsheets export them: a row for each job, a column for each machine.
+    """Read a table of times from a CSV file: a row for each job, a column for each machine.
 
     Parameters
     ----------
@@ -95,22 +95,22 @@ def read_csv(source: str | os.PathLike[str], unit: str = "", *, decimal: str | N
         point where commas separate the columns. Elsewhere it is the one that the table uses, and a number such as
         ``1.000``, which may be 1 or 1000, is rejected.
     allow_totals : bool
-        Whether the last row may have the sums of the rows above, and the last column those of the columns before.
-        By default such a table is rejected, since its totals would be planned as a job or a machine.
+        Whether the last row may be the sum of the rows above, and the last column the sum of the columns before it. By
+        default such a table is rejected, since its totals would be planned as a job or a machine.
 
     Returns
     -------
     Instance
-        With names. Decimal times are counted in the last decimal that occurs: ``times`` are 10 to the power of
-        ``decimals`` times those of the table. Times written as hours and minutes, ``1:30``, are read in minutes.
+        The instance, with names. Its ``times`` are the times of the table, times 10 to the power of ``decimals``, the
+        number of decimals in the table. Hours and minutes, such as ``1:30``, are read as minutes.
 
     Raises
     ------
     TableFault
-        A cell is no time or may be two different ones, a row has too many or too few cells, a name is missing or
-        occurs twice, all names are numbers as if they were times, units differ, or there are totals.
+        If a cell isn't a time or is ambiguous, a row has too many or too few cells, a name is missing or occurs twice,
+        all names are numbers as if they were times, units differ, or there are totals.
     ValueError
-        `decimal` is another text.
+        If ``decimal`` is another text.
 
     Examples
     --------
@@ -161,7 +161,7 @@ def table_of(source: str | os.PathLike[str], unit: str, decimal: str | None = No
 
 
 def text_of(content: bytes, path: str) -> str:
-    """The text of a file."""
+    """Return the text of a file."""
     if content.startswith(SPREADSHEETS):
         raise TableFault(path, 1, 0, f"is a spreadsheet's own file: {SAVE_AS}")
     encoding = "utf-16" if content.startswith((b"\xff\xfe", b"\xfe\xff")) else "utf-8-sig"
@@ -173,13 +173,13 @@ def text_of(content: bytes, path: str) -> str:
 
 
 def delimiter_of(lines: Iterable[str]) -> str:
-    """What separates the columns: of semicolon, tab and comma the first that is in more than half of the lines."""
+    """Return the separator of the columns: `;` or tab if it is in more than half of the lines, else a comma."""
     filled = [line for line in lines if line.strip()]
     return next((sign for sign in ";\t" if 2 * sum(sign in line for line in filled) > len(filled)), ",")
 
 
 def rows_of(text: str, path: str) -> Rows:
-    """The rows of a table that aren't empty, each with its line, without titles and empty columns at the right."""
+    """Return the rows that aren't empty, with their lines, without titles and empty columns at the right."""
     lines = list(io.StringIO(text, newline=""))
     first = next((line for line in lines if line.strip()), "")
     named = re.match(r"sep=(.)\s*\Z", first)
@@ -216,7 +216,7 @@ def without_titles(rows: list[tuple[int, list[str]]], path: str) -> list[tuple[i
 
 
 def names_in(path: str, cells: Iterable[Cell], what: str) -> list[str]:
-    """The names in these cells."""
+    """Return the names in these cells, which must be distinct."""
     seen: dict[str, Cell] = {}
     for cell in cells:
         if not cell.text:
@@ -282,7 +282,7 @@ def reject_times_as_names(table: Rows, machines: Sequence[str], jobs: Sequence[s
 
 
 def times_of(table: Rows, decimal: str | None, unit: str) -> tuple[list[list[int]], int, str]:
-    """The times, in how many decimals they are counted, and their unit."""
+    """Return the times, the number of their decimals, and their unit."""
     rows, machines = table.times(), len(table.rows[0][1]) - 1
     for (line, _), row in zip(table.rows[1:], rows):
         if len(row) != machines:
@@ -302,7 +302,7 @@ def times_of(table: Rows, decimal: str | None, unit: str) -> tuple[list[list[int
 
 
 def minutes_of(table: Rows, rows: Sequence[Sequence[Cell]], unit: str) -> list[list[int]]:
-    """Times that are all written as hours and minutes, in minutes."""
+    """Return times in minutes that are all written as hours and minutes."""
     if is_same_unit(unit, "min"):
         raise TableFault(table.path, table.rows[0][0], 1, "times such as 1:30 may be hours and minutes, or minutes and "
                                                           f"seconds: write [h:mm] instead of {unit}, or numbers")
@@ -328,7 +328,7 @@ def reject_long_times(table: Rows, rows: Sequence[Sequence[Cell]], times: Sequen
 
 
 class DecimalSign:
-    """The decimal sign of a table. Where it isn't given, the first time shows it whose sign can't group thousands."""
+    """The decimal sign of a table. By default it is the sign of the first time in which it can't group thousands."""
 
     def __init__(self, table: Rows, rows: Iterable[Iterable[Cell]], decimal: str | None) -> None:
         self.table = table
@@ -341,7 +341,7 @@ class DecimalSign:
             self.first, self.sign = next(clear, (None, None))
 
     def parts_of(self, cell: Cell) -> tuple[str, str]:
-        """The digits before and after the decimal sign of a time, without zeros at the end."""
+        """Return the digits before and after the decimal sign of a time, without trailing zeros."""
         text = self.without_groups(cell.text) if self.given else cell.text
         if self.sign is None and GROUPED.match(text):
             digits = re.sub("[.,]", "", text)
@@ -360,15 +360,15 @@ class DecimalSign:
         return match[1], part
 
     def without_groups(self, text: str) -> str:
-        """A number without its thousands separators."""
+        """Return a number without its thousands separators."""
         other = "," if self.given == "." else "."
         grouped = rf"(?!0)[0-9]{{1,3}}(?:\{other}[0-9]{{3}})+(?:\{self.given}[0-9]+)?\Z"
         return text.replace(other, "") if re.match(grouped, text, re.ASCII) else text
 
 
 def reject_totals(table: Rows, times: Sequence[Sequence[int]]) -> None:
-    """The last row or the last column may have the sums of the others. One equal number says little, so two rows and
-    two columns have to be summed, unless the name says that it is a total."""
+    """Reject a table whose last row or column is the sum of the others. A single equal number may be a coincidence, so
+    at least two rows and two columns must be summed, unless the name says that it is a total."""
     line, last = table.rows[-1]
     total = [sum(column) for column in zip(*times[:-1])]
     enough = 2 if TOTAL.match(last[0]) else 3
@@ -384,7 +384,7 @@ def reject_totals(table: Rows, times: Sequence[Sequence[int]]) -> None:
 
 
 def counted(number: int, what: str) -> str:
-    """A number of things.
+    """Return a number with its noun.
 
     Examples
     --------
@@ -395,7 +395,7 @@ def counted(number: int, what: str) -> str:
 
 
 def described(shop: Instance) -> str:
-    """What was read, in one line.
+    """Return one line about what was read.
 
     Examples
     --------
