@@ -319,7 +319,7 @@ def test_jupyter_shows_the_chart(monkeypatch: pytest.MonkeyPatch) -> None:
 
 @pytest.mark.parametrize(("words", "kind", "why"), [
     ({"width": 1}, ValueError, "width must be from 2 to 100 inches, not 1"),
-    ({"width": float("nan")}, ValueError, "width is nan"),
+    ({"width": float("nan")}, ValueError, "width must be from 2 to 100 inches, not nan"),
     ({"width": "4"}, TypeError, "width must be a number of inches, not '4'"),
     ({"width": True}, TypeError, "width must be a number of inches, not True"),
     ({"dpi": 10}, ValueError, "dpi must be from 20 to 2,400, not 10"),
