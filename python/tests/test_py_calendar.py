@@ -79,7 +79,8 @@ def test_calendars_by_hand(case: str) -> None:
 @pytest.mark.parametrize(("unit", "decimals", "time", "end"), [
     ("min", 0, 90, "07:30:00"), ("Minuten", 1, 905, "07:30:30"), ("h", 0, 2, "08:00:00"), ("Std", 2, 125, "07:15:00"),
     ("s", 0, 61, "06:01:01"), ("S", 3, 1500, "06:00:01.500000"), ("d", 1, 5, "18:00:00"),
-    ("h", 3, 1, "06:00:03.600000"), ("s", 9, 500, "06:00:00.000001"), ("s", 9, 499, "06:00:00"), ("min", 9, 10**9, "06:01:00")])
+    ("h", 3, 1, "06:00:03.600000"), ("s", 9, 500, "06:00:00.000001"), ("s", 9, 499, "06:00:00"),
+    ("min", 9, 10**9, "06:01:00")])
 def test_units_and_decimals(unit: str, decimals: int, time: int, end: str) -> None:
     """To the nearest microsecond."""
     moment = clock_of("2026-11-30T06:00", ALWAYS, unit, decimals).span(0, time)[1]

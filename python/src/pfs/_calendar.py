@@ -156,8 +156,8 @@ class Clock:
         return [step * SECOND * self.scale / self.tick for step in STEPS]
 
     def marks(self, end: int, most: int) -> list[tuple[float, str]]:
-        """The times of the marks of a scale from 0 to `end`, about `most` of them, and their texts: the time of day, and
-        the date if it differs from that of the mark before."""
+        """Return about `most` marks of a scale from 0 to `end`, each a time and its text: the time of day, and the date
+        if it differs from that of the mark before."""
         step = next((step for step in self.steps() if step * most >= end), max(1.0, end / most))
         digits = 0 if step * self.tick < MINUTE * self.scale else -1
         found: list[tuple[float, str]] = []

@@ -38,11 +38,11 @@ NUMBER_OPTION = re.compile("^(?=(?:rounds|take|passes|seed) must |start has )")
 VERSION_OPTION: dict[str, Any] = {"action": "version", "version": f"pfs {VERSION}"}
 
 
-class Words(argparse.ArgumentParser):
+class CommandLine(argparse.ArgumentParser):
     """A parser of command lines. An invalid command line ends with the status that the program has for it."""
 
     def error(self, message: str) -> NoReturn:
-        sys.exit(told(f"{self.format_usage()}pfs: {shown(message)}", USAGE))
+        sys.exit(report(f"{self.format_usage()}pfs: {shown(message)}", USAGE))
 
 
 class Stop:
@@ -67,7 +67,7 @@ class Stop:
         return 128 + self.signal if self.signal else 0
 
 
-class Told:
+class ProgressLine:
     """The progress line of a search, on a terminal."""
 
     def __init__(self, shop: Instance, rounds: int, pace: Pace) -> None:
@@ -76,7 +76,7 @@ class Told:
         self.bound = shop.bound() if self.shown else 0
         self.begun, self.first = time.monotonic(), -1
 
-    def tell(self, rounds: int, makespan: int) -> None:
+    def update(self, rounds: int, makespan: int) -> None:
         """Show the progress of the search."""
         if not self.shown:
             return
@@ -115,13 +115,13 @@ def searched(search: Search, rounds: int, seconds: float | None, stop: Stop,
     """Search up to a round, in parts, and call `keep` with the best order after each of them. Return the best order,
     and the error that ended the search early."""
     pace = Pace(seconds)
-    told = Told(search.shop, rounds, pace)
+    progress = ProgressLine(search.shop, rounds, pace)
     search.begin()
     best = search.solution()
     try:
         while True:
             keep(best)
-            told.tell(best.rounds, best.makespan)
+            progress.update(best.rounds, best.makespan)
             count = 0 if stop.signal or best.rounds >= rounds else pace.next(rounds - best.rounds)
             if count == 0:
                 return best, None
@@ -132,7 +132,7 @@ def searched(search: Search, rounds: int, seconds: float | None, stop: Stop,
     except (OSError, MemoryError) as fault:
         return best, fault
     finally:
-        told.end()
+        progress.end()
 
 
 def search_command(given: argparse.Namespace) -> int:
@@ -172,7 +172,7 @@ def plan_command(given: argparse.Namespace) -> int:
             outputs.append(lambda: shop.schedule(best).to_csv(given.schedule, delimiter, mark=mark, calendar=calendar))
         outputs += [partial(draw, shop, best, chart, calendar) for chart in given.chart]
         faults = [fault, *(failure_of(output) for output in outputs)]
-    statuses = [told(line_of(each), SYSTEM) for each in faults if each is not None]
+    statuses = [report(line_of(each), SYSTEM) for each in faults if each is not None]
     return statuses[0] if statuses else stop.status()
 
 
@@ -273,9 +273,9 @@ def checked(reader: Callable[[str], object]) -> Callable[[str], str]:
     return read_text
 
 
-def search_words() -> Words:
+def search_words() -> CommandLine:
     """Return the options of all searches."""
-    options = Words(add_help=False)
+    options = CommandLine(add_help=False)
     options.add_argument("--rounds", type=number(0, c.MOST_ROUNDS), metavar="R",
                          help="up to which round; else 1,000,000, and of a plan without a time limit 1,000")
     options.add_argument("--seconds", type=seconds_of, metavar="S", help="a time limit")
@@ -313,17 +313,19 @@ def add_plan_words(plan: argparse.ArgumentParser) -> None:
     plan.set_defaults(run=plan_command)
 
 
-def plan_words() -> Words:
+def plan_words() -> CommandLine:
     """Return the command line of the program pfs-plan."""
-    parser = Words(prog="pfs-plan", parents=[search_words()], description="An order and a schedule for a table of "
-                   "times, which has a row for each job and a column for each machine, with names.")
+    parser = CommandLine(prog="pfs-plan", parents=[search_words()],
+                         description="An order and a schedule for a table of times, which has a row for each job and "
+                         "a column for each machine, with names.")
     add_plan_words(parser)
     return parser
 
 
 def words() -> argparse.ArgumentParser:
     """Return the command line of `python3 -m pfs`."""
-    parser = Words(prog="python3 -m pfs", description="Searches of permutation flow shops that can be interrupted.")
+    parser = CommandLine(prog="python3 -m pfs",
+                         description="Searches of permutation flow shops that can be interrupted.")
     parser.add_argument("--version", **VERSION_OPTION)
     commands = parser.add_subparsers(required=True, metavar="COMMAND")
     options = search_words()
@@ -355,13 +357,13 @@ def main(line: list[str], parser: argparse.ArgumentParser | None = None) -> int:
         status: Any = given.run(given)
         return int(status)
     except Fault as fault:
-        return told(fault.text, REFUSED)
+        return report(fault.text, REFUSED)
     except (TableFault, StateFault) as fault:
-        return told(line_of(fault), REFUSED)
+        return report(line_of(fault), REFUSED)
     except ValueError as fault:
-        return told(line_of(fault), USAGE)
+        return report(line_of(fault), USAGE)
     except (OSError, MemoryError, ImportError) as fault:
-        return told(line_of(fault), SYSTEM)
+        return report(line_of(fault), SYSTEM)
     except KeyboardInterrupt:
         return 128 + signal.SIGINT
 
@@ -381,7 +383,7 @@ def line_of(fault: Exception) -> str:
     return f"pfs: {NUMBER_OPTION.sub('--', text)}"
 
 
-def told(line: str, status: int) -> int:
+def report(line: str, status: int) -> int:
     """Report a fault on standard error, and return the status, also if the report can't be written."""
     written(sys.stderr, f"{line}\n")
     if status == SYSTEM:

@@ -271,8 +271,8 @@ class Schedule:
         TypeError
             If an argument is of the wrong type.
         ValueError
-            If the name has another ending, a number is out of range, ``ax`` is given for a page, or a calendar for times
-            whose unit is not a unit of time.
+            If the name has another ending, a number is out of range, ``ax`` is given for a page, or a calendar
+            for times whose unit is not a unit of time.
         """
         from pfs._chart import Frame, plot
         return plot(self, path, critical=critical, bound=bound, unit=unit, frame=Frame(width, dpi, title, ax),
