@@ -1,7 +1,7 @@
 """An installation has the program, the manual page and the completions where each is looked for, runs, and leaves
-nothing when it is taken away. The tarball and the Debian package are made twice, compared, unpacked and installed into
-empty folders, and the program runs there. All of it happens in a copy of the repository that is a repository of git of
-its own, with a kit that only tells its version and notes what it is asked."""
+nothing when it is removed. The tarball and the Debian packages are made twice, compared, unpacked and installed into
+empty folders, and the programs run there. All of it happens in a copy of the repository with its own git, and with a
+script in place of the kit, which prints a version and notes its calls."""
 import contextlib
 import csv
 import datetime
@@ -15,6 +15,7 @@ import re
 import shutil
 import subprocess
 import tarfile
+import tomllib
 from collections.abc import Callable, Iterator
 from typing import NamedTuple
 
@@ -69,8 +70,8 @@ LIBRARY = {"lib/libpfs.a": "lib/out/libpfs.a", "lib/libpfs.so.0": "lib/out/libpf
            "lib/libpfs.so": "lib/out/libpfs.so.0", "include/pfs.h": "lib/pfs.h",
            "lib/cmake/pfs/pfsConfig.cmake": "lib/pfsConfig.cmake", "share/man/man3/pfs.3": "share/pfs.3"}
 COPIED = [".gitattributes", "CHANGELOG.md", "CITATION.cff", "CONTRIBUTING.md", "HANDLES", "LICENSE-APACHE",
-          "LICENSE-MIT", "Makefile",
-          "README.md", "SECURITY.md", "VERSION", "crates", "crates.txt", "docs", "experiments", "lib", "share", "tools",
+          "LICENSE-MIT", "Makefile", "README.md", "SECURITY.md", "VERSION", "crates", "crates.txt", "debian", "docs",
+          "experiments", "lib", "share", "tools",
           *(name for name in ("examples", "python") if (TOP / name).is_dir())]
 KIT = "rattle-kit-7x logic {logic}"
 RT = """#!/bin/sh
@@ -230,7 +231,7 @@ def assert_usual_modes(folder: pathlib.Path) -> None:
     wrong = {}
     for path, mode in modes_below(folder).items():
         is_script = "/libexec/" in f"/{path}" and not path.endswith((".py", ".csv", "/task", "installed-folders"))
-        is_run = (folder / path).is_dir() or is_script or re.search(r"(^|/)bin/", path)
+        is_run = (folder / path).is_dir() or is_script or re.search(r"(^|/)(bin|runtime.d)/", path)
         if mode != (0o755 if is_run else 0o644):
             wrong[path] = oct(mode)
     assert wrong == {}, "modes that aren't the usual ones"
@@ -254,12 +255,6 @@ def test_an_installation_has_these_files(installed: Installed, copy: Copy) -> No
     found = files_below(installed.root)
     del found[str(prefix / NOTES)]
     assert_same_files(found, {str(prefix / place): (copy.top / file).read_bytes() for place, file in PLACES.items()})
-
-
-@pytest.mark.parametrize("place", PLACES)
-def test_an_installed_file_has_the_usual_mode(installed: Installed, place: str) -> None:
-    is_run = place.startswith("bin/") or "libexec" in place and not place.endswith((".py", ".csv", "/task"))
-    assert (installed.prefix / place).stat().st_mode & 0o777 == (0o755 if is_run else 0o644)
 
 
 def test_all_that_is_installed_has_the_usual_mode(installed: Installed) -> None:
@@ -295,7 +290,10 @@ def test_zsh_finds_its_installed_completion(copy: Copy, folder: pathlib.Path) ->
 
 @pytest.mark.parametrize("prefix", PREFIXES)
 def test_nothing_is_left_of_an_installation(copy: Copy, folder: pathlib.Path, prefix: str) -> None:
-    root = install(copy, prefix, folder / "a place").root
+    """Nor of the modules that Python has compiled where root has run the tools."""
+    root, place = install(copy, prefix, folder / "a place")
+    printed_by(["/usr/bin/python3", "-m", "compileall", "-q", place / "libexec"], folder)
+    assert list(place.rglob("__pycache__"))
     assert copy.make("uninstall", *variables(prefix, root)) == Told(0, "", "")
     assert list(root.iterdir()) == []
 
@@ -405,28 +403,36 @@ int main(void) { return printf("%s %s\\n", pfs_version(), PFS_VERSION) < 0; }
 """
 
 
-@pytest.fixture
-def library(copy: Copy) -> Iterator[pathlib.Path]:
-    """A library that stands in for the proved one: its texts alone, which are no proved functions."""
+# Beside its texts, a call of the C library, which `libpfs0` depends on.
+CALL = "int puts(const char *); int pfs_call(void) { return puts(\"\"); }\n"
+
+
+@contextlib.contextmanager
+def library_in(copy: Copy) -> Iterator[None]:
+    """A library in the place of the proved one: its texts, without the proved functions."""
     need("cc")
     out = copy.top / "lib" / "out"
     out.mkdir()
-    for words in (["cc", "-fPIC", "-c", "lib/pfs_text.c", "-o", "lib/out/pfs_text.o"],
-                  ["cc", "-shared", "-Wl,-soname,libpfs.so.0", "-o", "lib/out/libpfs.so.0", "lib/out/pfs_text.o"],
-                  ["ar", "rcD", "lib/out/libpfs.a", "lib/out/pfs_text.o"]):
-        printed_by([*words], copy.top)
-    yield out
-    shutil.rmtree(out)
+    (out / "call.c").write_text(CALL)
+    objects = ["lib/out/pfs_text.o", "lib/out/call.o"]
+    try:
+        for words in (["cc", "-fPIC", "-c", "lib/pfs_text.c", "-o", objects[0]],
+                      ["cc", "-fPIC", "-c", "lib/out/call.c", "-o", objects[1]],
+                      ["cc", "-shared", "-Wl,-soname,libpfs.so.0", "-o", "lib/out/libpfs.so.0", *objects],
+                      ["ar", "rcD", "lib/out/libpfs.a", *objects]):
+            printed_by([*words], copy.top)
+        yield
+    finally:
+        shutil.rmtree(out)
 
 
 @pytest.fixture(params=["install", "install-lib"])
-def with_library(request: pytest.FixtureRequest, library: pathlib.Path, copy: Copy,
-                 folder: pathlib.Path) -> pathlib.Path:
+def with_library(request: pytest.FixtureRequest, copy: Copy, folder: pathlib.Path) -> Iterator[pathlib.Path]:
     """The prefix of an installation that has the library, with the program or alone."""
-    assert library.is_dir()
-    with private_files():
-        assert copy.make(request.param, f"PREFIX={folder}/place") == Told(0, "", "")
-    return folder / "place"
+    with library_in(copy):
+        with private_files():
+            assert copy.make(request.param, f"PREFIX={folder}/place") == Told(0, "", "")
+        yield folder / "place"
 
 
 def test_the_librarys_installation_has_these_files(with_library: pathlib.Path, copy: Copy) -> None:
@@ -535,24 +541,10 @@ def test_a_missing_program_is_built_and_no_older_one(copy: Copy, folder: pathlib
 # What the program needs
 
 def newest_libc(program: pathlib.Path) -> str:
-    """The newest version of the C library of which the program wants a symbol."""
+    """The newest version of the C library of which the program needs a symbol."""
     versions = re.findall(rb"GLIBC_([0-9.]+)", program.read_bytes())
     newest: bytes = max(versions, key=lambda version: [int(part) for part in version.split(b".")])
     return newest.decode()
-
-
-@pytest.mark.parametrize(("content", "package"), [
-    (b"GLIBC_2.4\0GLIBC_2.34\0", "libc6 (>= 2.34)"), (b"GLIBC_2.34\0GLIBC_2.4\0", "libc6 (>= 2.34)"),
-    (b"x\0GLIBC_2.9\0\xff\0GLIBC_2.10.1\n", "libc6 (>= 2.10.1)"), (b"GLIBC_2.17", "libc6 (>= 2.17)"),
-    (b"no symbol", "libc6")])
-def test_versions_of_the_c_library_are_compared_as_numbers(top: pathlib.Path, folder: pathlib.Path, content: bytes,
-                                                          package: str) -> None:
-    """By the function of tools/dist that says what a package depends on."""
-    function = re.search(r"^libc_of\(\) \{.*?^\}$", (top / "tools" / "dist").read_text(), re.MULTILINE | re.DOTALL)
-    assert function
-    (folder / "program").write_bytes(content)
-    script = f"export LC_ALL=C\n{function[0]}\nlibc_of program"
-    assert printed_by(["sh", "-euc", script], folder) == f"{package}\n"
 
 
 def test_the_page_names_the_c_library_that_the_program_needs(top: pathlib.Path, pfs: Program) -> None:
@@ -567,59 +559,25 @@ def test_the_page_names_the_libraries_that_the_program_takes(top: pathlib.Path, 
     assert libraries == told
 
 
-# The tarball and the package
+# What the packages are called
 
-class Made(NamedTuple):
-    """What `make dist` has made."""
-    folder: pathlib.Path
-    files: dict[str, bytes]
-
-    def path(self, part: str) -> pathlib.Path:
-        """The one whose name has this part, or begins with it where a slash stands before."""
-        name, = (name for name in self.files if part in f"/{name}")
-        return self.folder / name
+class Release(NamedTuple):
+    """The output of tools/release."""
+    version: str
+    commit: str
+    time: str
+    maintainer: str
 
 
-def made_in(copy: Copy, folder: pathlib.Path, **env: str) -> Made:
-    need("dpkg-deb")
-    told = copy.make("dist", f"DIST={folder}", **env)
+def release(copy: Copy, **env: str) -> tuple[Release, str]:
+    """What the script prints, and its messages."""
+    told = told_by(["tools/release"], copy.top, env=copy.env | env)
     assert told.status == 0, told
-    return Made(folder, files_below(folder))
+    return Release(*told.stdout.splitlines()), told.stderr
 
 
-@pytest.fixture(scope="module")
-def made(copy: Copy, tmp_path_factory: pytest.TempPathFactory) -> Made:
-    return made_in(copy, tmp_path_factory.mktemp("first"))
-
-
-@pytest.fixture(scope="module")
-def made_again(made: Made, copy: Copy, tmp_path_factory: pytest.TempPathFactory) -> Made:
-    """Made later, with another umask, language and folder."""
-    old = os.umask(0o077)
-    try:
-        folder = tmp_path_factory.mktemp("second")
-        return made_in(copy, folder, TZ="Asia/Tokyo", LC_ALL="C.UTF-8", TMPDIR=str(folder.parent))
-    finally:
-        os.umask(old)
-
-
-@pytest.fixture(scope="module")
-def unpacked(made: Made, tmp_path_factory: pytest.TempPathFactory) -> pathlib.Path:
-    """The one folder of the tarball."""
-    folder = tmp_path_factory.mktemp("unpacked")
-    with tarfile.open(made.path(".tar.gz")) as tar:
-        tar.extractall(folder)
-    top, = folder.iterdir()
-    return top
-
-
-@pytest.fixture(scope="module")
-def extracted(made: Made, tmp_path_factory: pytest.TempPathFactory) -> pathlib.Path:
-    """The root in which the packages of the program and of the tools are."""
-    folder = tmp_path_factory.mktemp("extracted")
-    for package in ("/pfs_", "/pfs-tools_"):
-        printed_by(["dpkg-deb", "--extract", made.path(package), "."], folder)
-    return folder
+def head(copy: Copy) -> str:
+    return copy.git("rev-parse", "HEAD").strip()
 
 
 def commit_time(copy: Copy) -> int:
@@ -627,17 +585,9 @@ def commit_time(copy: Copy) -> int:
 
 
 def version(copy: Copy) -> str:
-    """Of what is made of a commit that is no release."""
-    env = copy.env | {"TZ": "UTC"}
-    return f"{VERSION}+" + Copy(copy.top, env).git("log", "-1", "--format=%cd",
-                                                   "--date=format-local:%Y%m%d.%H%M%S").strip()
-
-
-def names(told: str, *libraries: str) -> list[str]:
-    """What is made of this version."""
-    return sorted(["SHA256SUMS", f"pfs-{told}-linux-x86_64.tar.gz", f"pfs-{told}.spdx.json", f"pfs_{told}-1_amd64.deb",
-                   f"pfs-tools_{told}-1_all.deb", *(f"{name}_{told}-1_amd64.deb" for name in libraries),
-                   *([f"python3-pfs_{told}-1_all.deb"] if libraries else [])])
+    """The version of a commit that is no release."""
+    time = datetime.datetime.fromtimestamp(commit_time(copy), datetime.timezone.utc)
+    return f"{VERSION}+{time:%Y%m%d.%H%M%S}"
 
 
 @pytest.mark.parametrize("goal", ["dist", "wheel"])
@@ -663,31 +613,27 @@ def test_a_source_tree_without_git(copy: Copy, folder: pathlib.Path, goal: str) 
     assert ("SOURCE_DATE_EPOCH=" in told.stderr) == (goal == "wheel")
 
 
-def test_a_tarball_packages_and_their_sums_are_made(made: Made, copy: Copy) -> None:
-    assert sorted(made.files) == names(version(copy))
-
-
-def test_a_commit_that_is_tagged_with_the_version_has_it_alone(copy: Copy, folder: pathlib.Path) -> None:
+def test_a_commit_that_is_tagged_with_the_version_has_it_alone(copy: Copy) -> None:
     copy.git("tag", f"v{VERSION}")
     try:
-        assert sorted(made_in(copy, folder).files) == names(VERSION)
+        assert release(copy)[0].version == VERSION
     finally:
         copy.git("tag", "-d", f"v{VERSION}")
 
 
 def test_a_release_by_its_changelog_has_its_number_alone(copy: Copy, folder: pathlib.Path) -> None:
-    """Where no tag says which commit it is, and nothing is changed. What comes later is later to Debian."""
-    assert VERSION in copy.make("dist", f"DIST={folder}/before").stderr.splitlines()[0], "no release: it is told"
+    """If there is no tag and nothing has changed. Debian sorts later commits after the release."""
+    found, messages = release(copy)
+    assert found.version == version(copy) and VERSION in messages.splitlines()[0]
     changes = copy.top / "CHANGELOG.md"
     changes.write_text(changes.read_text().replace("## [Unreleased]\n", ""))
     try:
-        assert sorted(made_in(copy, folder / "changed").files) == names(version(copy))
+        assert release(copy)[0].version == version(copy)
         copy.git("commit", "-q", "-a", "-m", "The release")
-        released = copy.make("dist", f"DIST={folder}/released")
-        assert (released.status, released.stderr) == (0, "")
-        assert sorted(files_below(folder / "released")) == names(VERSION)
+        found, messages = release(copy)
+        assert (found.version, messages) == (VERSION, "")
         copy.git("tag", f"v{VERSION}", "HEAD~1")
-        assert sorted(made_in(copy, folder / "tagged").files) == names(version(copy)), "another commit has the tag"
+        assert release(copy)[0].version == version(copy), "another commit has the tag"
         copy.git("tag", "-d", f"v{VERSION}")
     finally:
         is_made = copy.git("log", "-1", "--format=%s") == "The release\n"
@@ -695,252 +641,37 @@ def test_a_release_by_its_changelog_has_its_number_alone(copy: Copy, folder: pat
     printed_by(["dpkg", "--compare-versions", f"{version(copy)}-1", "gt", f"{VERSION}-1"], folder)
 
 
-def test_a_source_archive_makes_the_same_program_and_tells_its_commit(copy: Copy, made: Made, pfs: Program,
-                                                                      folder: pathlib.Path) -> None:
-    """All but what tells that it is an archive, whose changes nobody knows."""
-    archive = folder / "archive.tar"
-    copy.git("archive", f"--output={archive}", "HEAD")
-    tree = folder / "tree"
-    with tarfile.open(archive) as tar:
-        tar.extractall(tree)
-    for path in tree.rglob("*"):
-        os.utime(path, (OLD, OLD))
-    (tree / PROGRAM).parent.mkdir()
-    shutil.copy(pfs.path, tree / PROGRAM)
-    os.utime(tree / PROGRAM, (NEW, NEW))
-    ceiling = {"GIT_CEILING_DIRECTORIES": str(folder)}
-    again = made_in(Copy(tree, copy.env), folder / "dist", **ceiling)
-    assert sorted(again.files) == sorted(made.files)
-    found = {}
-    for which, name in ((made, "first"), (again, "second")):
-        printed_by(["dpkg-deb", "--extract", which.path("/pfs_"), name], folder)
-        found[name] = files_below(folder / name / "usr")
-    told = found["second"].pop("share/doc/pfs/PROVED").decode()
-    assert told.splitlines()[1] == f"proved at the commit {copy.git('rev-parse', 'HEAD').strip()}, in a source archive"
-    for files in found.values():
-        files.pop("share/doc/pfs/PROVED", None)
-        files.pop("share/doc/pfs/SHA256SUMS")
-    assert_same_files(found["second"], found["first"])
+def test_the_version_has_the_time_of_the_sources(copy: Copy) -> None:
+    found, _ = release(copy, SOURCE_DATE_EPOCH="1000000000", TZ="Asia/Tokyo")
+    assert found.version == f"{VERSION}+20010909.014640"
 
 
-# The SPDX file, and signatures
-
-# The crates of the kit that are built into the program, by crates.txt, and into the library.
-KITS_CRATES = {"clap", "itoa", "rand_core", "rand_pcg", "thiserror"}
-
-
-def test_the_spdx_file_tells_what_is_built_in(made: Made, copy: Copy, pfs: Program) -> None:
-    bill = json.loads(made.path(".spdx.json").read_text())
-    assert (bill["spdxVersion"], bill["dataLicense"], bill["SPDXID"]) == ("SPDX-2.3", "CC0-1.0", "SPDXRef-DOCUMENT")
-    assert bill["creationInfo"]["created"] == datetime.datetime.fromtimestamp(
-        commit_time(copy), datetime.timezone.utc).strftime("%Y-%m-%dT%H:%M:%SZ")
-    packages = {each["name"]: each for each in bill["packages"]}
-    assert packages.keys() == {"pfs", "rattle-kit"} | KITS_CRATES
-    assert packages["pfs"]["versionInfo"] == version(copy) and packages["rattle-kit"]["versionInfo"] == copy.kit()
-    assert copy.git("rev-parse", "HEAD").strip() in packages["pfs"]["sourceInfo"]
-    [program] = bill["files"]
-    sums = {each["algorithm"]: each["checksumValue"] for each in program["checksums"]}
-    assert sums == {name.upper(): hashlib.new(name, pfs.path.read_bytes()).hexdigest() for name in ("sha1", "sha256")}
-    ids = [each["SPDXID"] for each in (bill, *bill["packages"], *bill["files"])]
-    assert len(set(ids)) == len(ids) and all(re.fullmatch("SPDXRef-[A-Za-z0-9.-]+", each) for each in ids)
-    links = {(each["spdxElementId"], each["relationshipType"], each["relatedSpdxElement"])
-             for each in bill["relationships"]}
-    assert {end for one, _, other in links for end in (one, other)} == set(ids), "each thing has its place"
-    assert {other for _, kind, other in links if kind == "STATIC_LINK"} == {packages[name]["SPDXID"]
-                                                                           for name in KITS_CRATES}
-
-
-def test_the_sums_are_signed_by_a_key_of_ssh(copy: Copy, folder: pathlib.Path) -> None:
-    """As the page says how to check it; another file's signature is none."""
-    printed_by([need("ssh-keygen"), "-q", "-t", "ed25519", "-N", "", "-f", "key"], folder)
-    told = copy.make("dist", f"DIST={folder}/dist", f"SIGN={folder}/key")
-    assert told.status == 0 and told.stdout.splitlines()[-1] == f"{folder}/dist/SHA256SUMS.sig"
-    (folder / "dist" / "signers").write_text(f"pfs {(folder / 'key.pub').read_text()}")
-    line = line_of_install("^ssh-keygen -Y verify .*$", copy)
-    assert told_by(["bash", "-c", line], folder / "dist").status == 0
-    with (folder / "dist" / "SHA256SUMS").open("a") as sums:
-        sums.write("another line\n")
-    assert told_by(["bash", "-c", line], folder / "dist").status != 0
-    # What is made without a key has no signature, nor that of what was there.
-    assert sorted(made_in(copy, folder / "dist").files) == sorted([*names(version(copy)), "signers"])
-
-
-def test_the_sums_are_signed_by_gnupg(copy: Copy, folder: pathlib.Path) -> None:
-    home = {"GNUPGHOME": str(folder / "home")}
-    (folder / "home").mkdir(mode=0o700)
-    words: list[str | pathlib.Path] = [need("gpg"), "--batch", "--quiet", "--passphrase", ""]
-    words += ["--quick-generate-key", "A Tester", "ed25519"]
+def test_a_maintainer_whose_address_nobody_reads(copy: Copy) -> None:
+    """A message says so, and how to name another one."""
+    author = {"GIT_CONFIG_VALUE_1": "1+tester@users.noreply.host"}
+    copy.git("branch", "-q", "kept")
     try:
-        assert told_by(words, folder, env=copy.env | home).status == 0
-        told = copy.make("dist", f"DIST={folder}/dist", "SIGN=A Tester", **home)
-        assert told.status == 0 and told.stdout.splitlines()[-1] == f"{folder}/dist/SHA256SUMS.asc"
-        line = line_of_install("^gpg --verify .*$", copy)
-        assert told_by(["bash", "-c", line], folder / "dist", env=copy.env | home).status == 0
-        with (folder / "dist" / "SHA256SUMS").open("a") as sums:
-            sums.write("another line\n")
-        assert told_by(["bash", "-c", line], folder / "dist", env=copy.env | home).status != 0
+        told_by(["git", "commit", "-q", "--allow-empty", "-m", "By another address"], copy.top, env=copy.env | author)
+        found, messages = release(copy)
+        assert found.maintainer == "A Tester <1+tester@users.noreply.host>" and found.maintainer in messages
+        assert "MAINTAINER='A Name <name@host>' make dist" in messages
+        found, messages = release(copy, MAINTAINER="B <b@example.org>")
+        assert found.maintainer == "B <b@example.org>" and "noreply" not in messages
     finally:
-        told_by(["gpgconf", "--kill", "all"], folder, env=copy.env | home)
+        copy.git("reset", "-q", "--hard", "kept")
+        copy.git("branch", "-q", "-D", "kept")
 
 
-def line_of_install(pattern: str, copy: Copy) -> str:
-    found = re.search(pattern, (copy.top / "docs" / "INSTALL.md").read_text(), re.MULTILINE)
-    assert found, pattern
-    return found[0]
-
-
-def test_the_library_has_packages_where_it_is_built(library: pathlib.Path, copy: Copy, folder: pathlib.Path) -> None:
-    assert library.is_dir()
-    made = made_in(copy, folder / "dist")
-    assert sorted(made.files) == names(version(copy), "libpfs0", "libpfs-dev")
-    for name in ("libpfs0", "libpfs-dev"):
-        printed_by(["dpkg-deb", "--extract", made.path(name), "root"], folder)
-        assert errors_of_lintian(made.path(name)) == ""
-    libraries = "usr/lib/x86_64-linux-gnu"
-    found = {path for path in files_below(folder / "root") if "/share/doc/" not in path}
-    assert found == {f"{libraries}/libpfs.a", f"{libraries}/libpfs.so.0", f"{libraries}/libpfs.so",
-                     f"{libraries}/pkgconfig/pfs.pc", "usr/include/pfs.h", f"{libraries}/cmake/pfs/pfsConfig.cmake",
-                     f"{libraries}/cmake/pfs/pfsConfigVersion.cmake", "usr/share/man/man3/pfs.3.gz"}
-    config = (folder / "root" / libraries / "pkgconfig" / "pfs.pc").read_text()
-    assert "prefix=/usr\nlibdir=${prefix}/lib/x86_64-linux-gnu\n" in config
-    assert printed_by(["dpkg-deb", "--field", made.path("libpfs-dev"), "Depends"], folder) \
-        == f"libpfs0 (= {version(copy)}-1)\n"
-    assert_usual_modes(folder / "root")
-    fields = {name: fields_of(made.path(f"/{name}_")) for name in ("libpfs0", "libpfs-dev")}
-    assert {(each["Multi-Arch"], each["Architecture"], each["Source"]) for each in fields.values()} \
-        == {("same", "amd64", "pfs")}
-    assert [each["Section"] for each in fields.values()] == ["libs", "libdevel"]
-    stripped = folder / "root" / libraries / "libpfs.so.0"
-    needed = f" (>= {newest_libc(stripped)})" if b"GLIBC_" in stripped.read_bytes() else ""
-    assert fields["libpfs0"]["Depends"] == f"libc6{needed}"
-    printed_by(["dpkg-deb", "--control", made.path("/libpfs0_"), "control"], folder)
-    assert (folder / "control" / "shlibs").read_text() == f"libpfs 0 libpfs0 (>= {VERSION}~)\n"
-    assert (folder / "control" / "triggers").read_text() == "activate-noawait ldconfig\n"
-
-
-@pytest.mark.seconds(20)
-def test_the_package_for_python_runs(library: pathlib.Path, copy: Copy, folder: pathlib.Path, libpfs: Library) -> None:
-    """Where it is unpacked, over the proved library: a makespan by hand, and a chart."""
-    assert library.is_dir()
-    made = made_in(copy, folder / "dist")
-    printed_by(["dpkg-deb", "--extract", made.path("python3-pfs"), "root"], folder)
-    assert errors_of_lintian(made.path("python3-pfs")) == ""
-    module = folder / "root" / "usr/lib/python3/dist-packages/pfs"
-    sources = {path.name: path.read_bytes() for path in (copy.top / "python/src/pfs").iterdir() if path.is_file()}
-    sources["_gantt.py"] = (copy.top / "tools/chart.py").read_bytes()
-    assert_same_files(files_below(module), sources)
-    pages = {path: text for path, text in files_below(folder / "root/usr/share/doc/python3-pfs").items()
-             if path not in DEBIAN_PAGES}
-    examples = {f"examples/{path.name}": path.read_bytes() for path in (copy.top / "python/examples").glob("*.py")}
-    assert_same_files(pages, {"README.md": (copy.top / "python/README.md").read_bytes()} | examples)
-    fields = fields_of(made.path("python3-pfs"))
-    assert (fields["Recommends"], fields["Suggests"]) == ("python3-matplotlib, python3-pandas", "python3-tqdm")
-    assert (fields["Section"], fields["Architecture"]) == ("python", "all")
-    assert_usual_modes(folder / "root")
-    assert printed_by(["dpkg-deb", "--field", made.path("python3-pfs"), "Depends"], folder) \
-        == f"libpfs0 (>= {VERSION}~), python3 (>= 3.10), python3-numpy\n"
-    env = dict(os.environ, PYTHONPATH=str(folder / "root" / "usr/lib/python3/dist-packages"),
-               PFS_LIBRARY=str(libpfs.path))
-    told = printed_by(["/usr/bin/python3", "-c", "import pfs; shop = pfs.Instance([[3, 2], [2, 5], [4, 1]]); "
-                       "print(shop.makespan([0, 1, 2])); made = shop.schedule([0, 1, 2]); made.plot('chart.svg'); "
-                       "made.plot('chart.html'); print(pfs.taillard(1).jobs)"], folder, env=env)
-    assert told == "11\n20\n"
-    assert (folder / "chart.svg").stat().st_size > 0 and (folder / "chart.html").stat().st_size > 0
-    (folder / "times.csv").write_text("job [min],saw,drill\nchair,3,2\ntable,2,5\n")
-    told = printed_by([folder / "root/usr/bin/pfs-plan", "times.csv"], folder, env=env)
-    assert told == "makespan 9 min\nbound 9 min\noptimal\n1 table\n2 chair\n"
-    page = gzip.decompress((folder / "root/usr/share/man/man1/pfs-plan.1.gz").read_bytes())
-    assert page == (copy.top / "python/pfs-plan.1").read_bytes()
-
-
-@pytest.mark.parametrize("ending", [".tar.gz", "/pfs_", "/pfs-tools", ".spdx.json", "SHA256SUMS"])
-def test_made_again_it_has_the_same_bytes(ending: str, made: Made, made_again: Made) -> None:
-    assert made_again.path(ending).name == made.path(ending).name
-    again, first = (each.path(ending).read_bytes() for each in (made_again, made))
-    # A comparison of the bytes themselves would be explained at length.
-    assert len(again) == len(first)
-    differs = next((at for at, pair in enumerate(zip(again, first)) if pair[0] != pair[1]), None)
-    assert differs is None, f"made again, {made.path(ending).name} has another byte at {differs}"
-
-
-def test_the_names_are_by_the_time_of_the_sources(copy: Copy, folder: pathlib.Path) -> None:
-    assert sorted(made_in(copy, folder, SOURCE_DATE_EPOCH="1000000000").files) == names(f"{VERSION}+20010909.014640")
-
-
-def test_a_program_of_another_kit_is_refused(copy: Copy, folder: pathlib.Path) -> None:
-    told = copy.make("dist", f"DIST={folder}", RT_VERSION=KIT.format(logic="0123456789abcdef"))
-    assert told.status != 0 and "another kit than this one built crates/pfs/out/pfs" in told.stderr, told
-    assert list(folder.iterdir()) == []
-
-
-def test_this_kit_has_built_the_program(pfs: Program, folder: pathlib.Path) -> None:
-    logic = printed_by([need("rt"), "version"], folder).split()[-1]
-    assert f"rattle logic={logic}".encode() in pfs.path.read_bytes()
-
-
-def sums_of(folder: pathlib.Path, sums: pathlib.Path) -> tuple[dict[str, str], dict[str, str]]:
-    """What a file of SHA-256 sums lists, and what each other file below the folder has."""
-    listed = {path: digest for digest, path in (line.split("  ") for line in sums.read_text().splitlines())}
-    real = {path: hashlib.sha256(text).hexdigest() for path, text in files_below(folder).items()}
-    del real[str(sums.relative_to(folder))]
-    return listed, real
-
-
-def test_the_sums_of_what_is_made_are_right(made: Made) -> None:
-    listed, real = sums_of(made.folder, made.folder / "SHA256SUMS")
-    assert listed == real
-
-
-def test_the_tarball_has_the_notices_of_what_is_built_in(unpacked: pathlib.Path) -> None:
-    """Those that the packages have too, and the text of the licence that asks for them."""
-    pages = unpacked / "share" / "doc" / "pfs"
-    text = (pages / "NOTICES").read_text()
-    holders = re.findall(r"^Copyright \(c\) (.*)$", text, re.MULTILINE)
-    debian = printed_by(["tools/copyright"], TOP)
-    lines = re.findall(r"^           (\S.*)$", debian, re.MULTILINE)
-    assert len(lines) == 5 and holders == lines
-    assert (pages / "LICENSE-MIT").read_text().split("\n\n", 1)[1] in text
-
-
-def test_the_sums_in_the_tarball_are_right(unpacked: pathlib.Path) -> None:
-    listed, real = sums_of(unpacked, unpacked / "share" / "doc" / "pfs" / "SHA256SUMS")
-    assert listed == real
-
-
-@pytest.mark.parametrize("package", ["pfs", "pfs-tools"])
-def test_the_sums_in_a_package_are_right(package: str, made: Made, folder: pathlib.Path) -> None:
-    printed_by(["dpkg-deb", "--extract", made.path(f"/{package}_"), "."], folder)
-    listed, real = sums_of(folder / "usr", folder / "usr" / "share" / "doc" / package / "SHA256SUMS")
-    assert listed == real
-
-
-PROVED = "pfs {version}\nproved at the commit {commit}\nwith the kit {kit}\n"
-
-
-@pytest.mark.parametrize("which", ["unpacked", "extracted"])
-def test_what_is_made_tells_its_commit_and_its_kit(which: str, copy: Copy, request: pytest.FixtureRequest) -> None:
-    folder = request.getfixturevalue(which) / ("usr" if which == "extracted" else "")
-    wanted = PROVED.format(version=version(copy), kit=copy.kit(), commit=copy.git("rev-parse", "HEAD").strip())
-    assert (folder / "share" / "doc" / "pfs" / "PROVED").read_text() == wanted
-
-
-def commit_told(copy: Copy, folder: pathlib.Path) -> str:
-    """What is told of the commit of which packages are made."""
-    package = made_in(copy, folder).path("/pfs_")
-    printed_by(["dpkg-deb", "--extract", package, "extracted"], folder)
-    return (folder / "extracted" / "usr" / "share" / "doc" / "pfs" / "PROVED").read_text().splitlines()[1]
-
-
-@pytest.mark.parametrize("name", ["README.md", "docs/PROOFS.md", "crates/pfs_base/src/another.rt", "lib/another.c"])
-def test_what_is_made_tells_that_changes_are_not_committed(name: str, copy: Copy, folder: pathlib.Path) -> None:
+@pytest.mark.parametrize("name", ["README.md", "docs/PROOFS.md", "crates/pfs_base/src/another.rt", "lib/another.c",
+                                  "debian/another.install"])
+def test_changes_that_are_not_committed(name: str, copy: Copy) -> None:
     path = copy.top / name
     before = path.read_text() if path.exists() else None
     try:
         path.write_text("another text\n")
-        told = commit_told(copy, folder)
+        assert release(copy)[0].commit == f"{head(copy)}, with changes that are not committed"
     finally:
         path.unlink() if before is None else path.write_text(before)
-    assert told == f"proved at the commit {copy.git('rev-parse', 'HEAD').strip()}, with changes that are not committed"
 
 
 def test_what_examples_leave_behind_is_no_change(copy: Copy, pfs: Program, folder: pathlib.Path) -> None:
@@ -959,52 +690,287 @@ def test_what_examples_leave_behind_is_no_change(copy: Copy, pfs: Program, folde
     made = {path.name for path in copy.top.iterdir()} - before
     try:
         assert {"three", "instance", "instances", "example.csv", "report"} <= made
-        assert commit_told(copy, folder) == f"proved at the commit {copy.git('rev-parse', 'HEAD').strip()}"
+        assert release(copy)[0].commit == head(copy)
     finally:
         for name in made:
             path = copy.top / name
             shutil.rmtree(path) if path.is_dir() else path.unlink()
 
 
+# The tarball and the packages
+
+class Made(NamedTuple):
+    """What `make dist` has made."""
+    folder: pathlib.Path
+    files: dict[str, bytes]
+
+    def path(self, part: str) -> pathlib.Path:
+        """The one file whose name has this part, or begins with it after a slash."""
+        name, = (name for name in self.files if part in f"/{name}")
+        return self.folder / name
+
+
+def made_in(copy: Copy, folder: pathlib.Path, **env: str) -> Made:
+    for command in ("dh", "dh_python3", "dpkg-buildpackage"):
+        need(command)
+    told = copy.make("dist", f"DIST={folder}", **env)
+    assert told.status == 0, told
+    return Made(folder, files_below(folder))
+
+
+@pytest.fixture(scope="module")
+def made(copy: Copy, tmp_path_factory: pytest.TempPathFactory) -> Made:
+    """With the library."""
+    with library_in(copy):
+        return made_in(copy, tmp_path_factory.mktemp("first"))
+
+
+@pytest.fixture(scope="module")
+def made_again(made: Made, copy: Copy, tmp_path_factory: pytest.TempPathFactory) -> Made:
+    """Made later, and signed, with another umask, language and folder, from files with other times."""
+    folder = tmp_path_factory.mktemp("second")
+    printed_by([need("ssh-keygen"), "-q", "-t", "ed25519", "-N", "", "-f", "key"], folder.parent)
+    for path in [path for path in copy.top.rglob("*") if path.is_file() and str(path.relative_to(copy.top)) != PROGRAM]:
+        os.utime(path, (OLD - 1, OLD - 1))
+    with library_in(copy), private_files():
+        again = made_in(copy, folder, SIGN=f"{folder.parent}/key", TZ="Asia/Tokyo", LC_ALL="C.UTF-8",
+                        TMPDIR=str(folder.parent))
+    assert again.files.pop("SHA256SUMS.sig")
+    return again
+
+
+@pytest.fixture(scope="module")
+def unpacked(made: Made, tmp_path_factory: pytest.TempPathFactory) -> pathlib.Path:
+    """The one folder of the tarball."""
+    folder = tmp_path_factory.mktemp("unpacked")
+    with tarfile.open(made.path(".tar.gz")) as tar:
+        tar.extractall(folder)
+    top, = folder.iterdir()
+    return top
+
+
+@pytest.fixture(scope="module")
+def extracted(made: Made, tmp_path_factory: pytest.TempPathFactory) -> pathlib.Path:
+    """A root with the content of all packages."""
+    folder = tmp_path_factory.mktemp("extracted")
+    for package in FIELDS:
+        printed_by(["dpkg-deb", "--extract", made.path(f"/{package}_"), "."], folder)
+    return folder
+
+
+# The fields of each package that no other one has, or not the same.
+FIELDS = {
+    "pfs": {"Depends": "libc6 (>= {libc})", "Suggests": "pfs-tools", "Section": "science", "Architecture": "amd64"},
+    "pfs-tools": {"Depends": "pfs (= {version}-1), python3:any (>= 3.10~), python3 (>= 3.11) | python3-tomli",
+                  "Recommends": "parallel, python3-matplotlib",
+                  "Suggests": "libpfs0, openssh-client, python3-scipy, rsync, slurm-client", "Section": "science",
+                  "Architecture": "all"},
+    "libpfs0": {"Depends": "libc6 (>= 2.2.5)", "Section": "libs", "Architecture": "amd64", "Multi-Arch": "same"},
+    "libpfs-dev": {"Depends": "libpfs0 (= {version}-1)", "Section": "libdevel", "Architecture": "amd64",
+                   "Multi-Arch": "same"},
+    "python3-pfs": {"Depends": f"libpfs0 (>= {VERSION}~), python3-numpy, python3:any (>= 3.10~)",
+                    "Recommends": "python3-matplotlib, python3-pandas", "Suggests": "python3-tqdm",
+                    "Section": "python", "Architecture": "all"}}
+
+
+def names(told: str, packages: list[str]) -> list[str]:
+    """What is made of this version."""
+    return sorted(["SHA256SUMS", f"pfs-{told}-linux-x86_64.tar.gz", f"pfs-{told}.spdx.json",
+                   *(f"{name}_{told}-1_{FIELDS[name]['Architecture']}.deb" for name in packages)])
+
+
+def test_a_tarball_packages_and_their_sums_are_made(made: Made, copy: Copy) -> None:
+    assert sorted(made.files) == names(version(copy), list(FIELDS))
+
+
+def test_a_source_archive_makes_the_same_program_and_tells_its_commit(copy: Copy, extracted: pathlib.Path, pfs: Program,
+                                                                      folder: pathlib.Path) -> None:
+    """Without the library, only the program's packages are made. Only their notes say that it is an archive."""
+    copy.git("archive", f"--output={folder / 'archive.tar'}", "HEAD")
+    tree = folder / "tree"
+    with tarfile.open(folder / "archive.tar") as tar:
+        tar.extractall(tree)
+    for path in tree.rglob("*"):
+        os.utime(path, (OLD, OLD))
+    (tree / PROGRAM).parent.mkdir()
+    shutil.copy(pfs.path, tree / PROGRAM)
+    os.utime(tree / PROGRAM, (NEW, NEW))
+    again = made_in(Copy(tree, copy.env), folder / "dist", GIT_CEILING_DIRECTORIES=str(folder))
+    assert sorted(again.files) == names(version(copy), ["pfs", "pfs-tools"])
+    printed_by(["dpkg-deb", "--extract", again.path("/pfs_"), "root"], folder)
+    found = files_below(folder / "root")
+    told = found.pop("usr/share/doc/pfs/PROVED").decode()
+    assert told.splitlines()[1] == f"proved at the commit {head(copy)}, in a source archive"
+    del found["usr/share/doc/pfs/SHA256SUMS"]
+    assert_same_files(found, {path: (extracted / path).read_bytes() for path in found})
+
+
+# The SPDX file, and signatures
+
+# The crates of the kit that are built into the library, by crates.txt, and into the program.
+LIBRARYS_CRATES = {"itoa", "rand_core", "rand_pcg", "thiserror"}
+KITS_CRATES = {"clap"} | LIBRARYS_CRATES
+
+
+def test_the_spdx_file_tells_what_is_built_in(made: Made, copy: Copy, pfs: Program) -> None:
+    bill = json.loads(made.path(".spdx.json").read_text())
+    assert (bill["spdxVersion"], bill["dataLicense"], bill["SPDXID"]) == ("SPDX-2.3", "CC0-1.0", "SPDXRef-DOCUMENT")
+    assert bill["creationInfo"]["created"] == datetime.datetime.fromtimestamp(
+        commit_time(copy), datetime.timezone.utc).strftime("%Y-%m-%dT%H:%M:%SZ")
+    packages = {each["name"]: each for each in bill["packages"]}
+    assert packages.keys() == {"pfs", "rattle-kit"} | KITS_CRATES
+    assert packages["pfs"]["versionInfo"] == version(copy) and packages["rattle-kit"]["versionInfo"] == copy.kit()
+    assert head(copy) in packages["pfs"]["sourceInfo"]
+    program, library = bill["files"]
+    sums = {each["algorithm"]: each["checksumValue"] for each in program["checksums"]}
+    assert sums == {name.upper(): hashlib.new(name, pfs.path.read_bytes()).hexdigest() for name in ("sha1", "sha256")}
+    ids = [each["SPDXID"] for each in (bill, *bill["packages"], *bill["files"])]
+    assert len(set(ids)) == len(ids) and all(re.fullmatch("SPDXRef-[A-Za-z0-9.-]+", each) for each in ids)
+    links = {(each["spdxElementId"], each["relationshipType"], each["relatedSpdxElement"])
+             for each in bill["relationships"]}
+    assert {end for one, _, other in links for end in (one, other)} == set(ids), "each thing has its place"
+    for file, crates in ((program, KITS_CRATES), (library, LIBRARYS_CRATES)):
+        linked = {other for one, kind, other in links if (one, kind) == (file["SPDXID"], "STATIC_LINK")}
+        assert linked == {packages[name]["SPDXID"] for name in crates}
+
+
+def signed(copy: Copy, sums: pathlib.Path, key: str, line: str, **env: str) -> str:
+    """The name of a file's signature, which the page's line accepts, and for another file rejects."""
+    sums.write_text("0123  a file\n")
+    env = copy.env | env
+    name = printed_by([copy.top / "tools" / "sign", sums], sums.parent, env=env | {"SIGN": key})
+    assert told_by(["bash", "-c", line], sums.parent, env=env).status == 0
+    sums.write_text("4567  a file\n")
+    assert told_by(["bash", "-c", line], sums.parent, env=env).status != 0
+    return pathlib.Path(name.strip()).name
+
+
+def test_the_sums_are_signed_by_a_key_of_ssh(copy: Copy, folder: pathlib.Path) -> None:
+    """Without a key there is no signature, and no older one."""
+    printed_by([need("ssh-keygen"), "-q", "-t", "ed25519", "-N", "", "-f", "key"], folder)
+    (folder / "signers").write_text(f"pfs {(folder / 'key.pub').read_text()}")
+    line = line_of_install("^ssh-keygen -Y verify .*$", copy)
+    assert signed(copy, folder / "SHA256SUMS", str(folder / "key"), line) == "SHA256SUMS.sig"
+    assert printed_by([copy.top / "tools" / "sign", "SHA256SUMS"], folder, env=copy.env) == ""
+    assert sorted(files_below(folder)) == ["SHA256SUMS", "key", "key.pub", "signers"]
+
+
+def test_the_sums_are_signed_by_gnupg(copy: Copy, folder: pathlib.Path) -> None:
+    home = {"GNUPGHOME": str(folder / "home")}
+    (folder / "home").mkdir(mode=0o700)
+    words: list[str | pathlib.Path] = [need("gpg"), "--batch", "--quiet", "--passphrase", ""]
+    words += ["--quick-generate-key", "A Tester", "ed25519"]
+    try:
+        assert told_by(words, folder, env=copy.env | home).status == 0
+        line = line_of_install("^gpg --verify .*$", copy)
+        assert signed(copy, folder / "SHA256SUMS", "A Tester", line, **home) == "SHA256SUMS.asc"
+    finally:
+        told_by(["gpgconf", "--kill", "all"], folder, env=copy.env | home)
+
+
+def line_of_install(pattern: str, copy: Copy) -> str:
+    found = re.search(pattern, (copy.top / "docs" / "INSTALL.md").read_text(), re.MULTILINE)
+    assert found, pattern
+    return found[0]
+
+
+@pytest.mark.parametrize("ending", [".tar.gz", *(f"/{name}_" for name in FIELDS), ".spdx.json", "SHA256SUMS"])
+def test_made_again_it_has_the_same_bytes(ending: str, made: Made, made_again: Made) -> None:
+    assert made_again.path(ending).name == made.path(ending).name
+    again, first = (each.path(ending).read_bytes() for each in (made_again, made))
+    # A comparison of the bytes themselves would be explained at length.
+    assert len(again) == len(first)
+    differs = next((at for at, pair in enumerate(zip(again, first)) if pair[0] != pair[1]), None)
+    assert differs is None, f"made again, {made.path(ending).name} has another byte at {differs}"
+
+
+def test_a_program_of_another_kit_is_refused(copy: Copy, folder: pathlib.Path) -> None:
+    told = copy.make("dist", f"DIST={folder}", RT_VERSION=KIT.format(logic="0123456789abcdef"))
+    assert told.status != 0 and "another kit than this one built crates/pfs/out/pfs" in told.stderr, told
+    assert list(folder.iterdir()) == []
+
+
+def test_this_kit_has_built_the_program(pfs: Program, folder: pathlib.Path) -> None:
+    logic = printed_by([need("rt"), "version"], folder).split()[-1]
+    assert f"rattle logic={logic}".encode() in pfs.path.read_bytes()
+
+
+def assert_sums(found: dict[str, bytes], sums: bytes) -> None:
+    """A file of SHA-256 sums lists these files."""
+    listed = {path: digest for digest, path in (line.split("  ") for line in sums.decode().splitlines())}
+    assert listed == {path: hashlib.sha256(text).hexdigest() for path, text in found.items()}
+
+
+def test_the_sums_are_right(made: Made, unpacked: pathlib.Path, folder: pathlib.Path) -> None:
+    """Of what is made, and in the tarball and each package."""
+    found = files_below(made.folder)
+    assert_sums(found, found.pop("SHA256SUMS"))
+    found = files_below(unpacked)
+    assert_sums(found, found.pop("share/doc/pfs/SHA256SUMS"))
+    for package in FIELDS:
+        printed_by(["dpkg-deb", "--extract", made.path(f"/{package}_"), package], folder)
+        found = files_below(folder / package / "usr")
+        assert_sums(found, found.pop(f"share/doc/{package}/SHA256SUMS"))
+
+
+def test_the_tarball_has_the_notices_of_what_is_built_in(unpacked: pathlib.Path) -> None:
+    """Those that the packages have too, and the text of the licence that asks for them."""
+    pages = unpacked / "share" / "doc" / "pfs"
+    text = (pages / "NOTICES").read_text()
+    holders = re.findall(r"^Copyright \(c\) (.*)$", text, re.MULTILINE)
+    debian = printed_by(["tools/copyright"], TOP)
+    lines = re.findall(r"^           (\S.*)$", debian, re.MULTILINE)
+    assert len(lines) == 5 and holders == lines
+    assert (pages / "LICENSE-MIT").read_text().split("\n\n", 1)[1] in text
+
+
+PROVED = "pfs {version}\nproved at the commit {commit}\nwith the kit {kit}\n"
+
+
+def test_what_is_made_tells_its_commit_and_its_kit(copy: Copy, unpacked: pathlib.Path, extracted: pathlib.Path) -> None:
+    wanted = PROVED.format(version=version(copy), kit=copy.kit(), commit=head(copy))
+    for prefix in (unpacked, extracted / "usr"):
+        assert (prefix / "share" / "doc" / "pfs" / "PROVED").read_text() == wanted
+
+
+@pytest.mark.parametrize("ending", [".tar.gz", *(f"/{name}_" for name in FIELDS)])
+def test_all_is_roots_at_the_commits_time(ending: str, made: Made, copy: Copy) -> None:
+    """And in the tarball it is sorted."""
+    packed = made.path(ending).read_bytes()
+    if ending != ".tar.gz":
+        words = ["dpkg-deb", "--fsys-tarfile", str(made.path(ending))]
+        packed = subprocess.run(words, capture_output=True, check=True).stdout
+    with tarfile.open(fileobj=io.BytesIO(packed)) as tar:
+        members = tar.getmembers()
+    assert {(it.uid, it.gid, it.mtime) for it in members} == {(0, 0, commit_time(copy))}
+    if ending == ".tar.gz":
+        names = [member.name for member in members]
+        assert names == sorted(names, key=lambda name: name.split("/"))
+        assert {(it.uname, it.gname) for it in members} == {("", "")}
+        assert (packed[3], packed[4:8]) == (0, bytes(4)), "flags and time of gzip"
+
+
 # The tarball
 
-def test_the_tarball_is_sorted_and_owned_by_root_at_the_commits_time(made: Made, copy: Copy) -> None:
-    with tarfile.open(made.path(".tar.gz")) as tar:
-        members = tar.getmembers()
-    names = [member.name for member in members]
-    assert names == sorted(names, key=lambda name: name.split("/"))
-    assert {(it.uid, it.gid, it.uname, it.gname, it.mtime) for it in members} == {(0, 0, "", "", commit_time(copy))}
-
-
-@pytest.mark.parametrize("path", [".tar.gz", "usr/share/man/man1/pfs.1.gz"])
-def test_what_is_packed_tells_neither_time_nor_name(path: str, made: Made, extracted: pathlib.Path) -> None:
-    packed = made.path(path) if path == ".tar.gz" else extracted / path
-    assert packed.exists(), f"no {packed}"
-    head = packed.read_bytes()[:10]
-    assert (head[3], head[4:8]) == (0, bytes(4)), "flags and time of gzip"
-
-
-def without_notes(found: dict[str, bytes]) -> dict[str, bytes]:
-    """The files but those that are made for the packages."""
-    return {path: text for path, text in found.items()
-            if path not in {f"share/doc/pfs/{name}" for name in ("NOTICES", "PROVED", "SHA256SUMS")}}
-
-
 def test_the_tarball_has_the_installed_files_and_the_pages(unpacked: pathlib.Path, copy: Copy) -> None:
-    wanted = {place: (copy.top / file).read_bytes() for place, file in PLACES.items()}
-    assert_same_files(without_notes(files_below(unpacked)), wanted)
-
-
-def test_the_tarballs_program_runs(unpacked: pathlib.Path, folder: pathlib.Path) -> None:
-    assert_runs(unpacked / "bin" / "pfs", folder)
+    found = files_below(unpacked)
+    for name in ("NOTICES", "PROVED", "SHA256SUMS"):
+        del found[f"share/doc/pfs/{name}"]
+    config = found.pop("lib/pkgconfig/pfs.pc").decode()
+    assert config.startswith("prefix=${pcfiledir}/../..\n") and f"\nVersion: {VERSION}\n" in config
+    libraries = {path for path in LIBRARY if path.startswith("lib/libpfs")}
+    assert libraries | {"lib/cmake/pfs/pfsConfigVersion.cmake"} <= set(found)
+    texts = PLACES | {place: file for place, file in LIBRARY.items() if place not in libraries}
+    assert_same_files({path: text for path, text in found.items() if path in texts or not path.startswith("lib/")},
+                      {place: (copy.top / file).read_bytes() for place, file in texts.items()})
 
 
 @pytest.fixture
 def local(folder: pathlib.Path) -> pathlib.Path:
     """A folder /usr/local as it may be, with a mode and a link of its own."""
     made = folder / "root" / "usr" / "local"
-    for path in (made / "share", made / "man"):
-        path.mkdir(parents=True)
+    for name in ("bin", "include", "lib", "man", "share"):
+        (made / name).mkdir(parents=True)
     made.chmod(0o2775)
     (made / "share").chmod(0o2775)
     (made / "share" / "man").symlink_to("../man")
@@ -1013,64 +979,87 @@ def local(folder: pathlib.Path) -> pathlib.Path:
 
 def line_of_page(pattern: str, copy: Copy, local: pathlib.Path) -> str:
     """A line of the page on installing, as it is run without sudo at this folder."""
-    found = re.search(pattern, (copy.top / "docs" / "INSTALL.md").read_text(), re.MULTILINE)
-    assert found and "/usr/local" in found[0], pattern
-    return found[0].replace("sudo ", "").replace("/usr/local", str(local))
+    line = line_of_install(pattern, copy)
+    assert "/usr/local" in line
+    return line.replace("sudo ", "").replace("/usr/local", str(local))
 
 
 def test_the_pages_lines_unpack_the_tarball_and_remove_it(made: Made, unpacked: pathlib.Path, copy: Copy,
                                                           local: pathlib.Path, folder: pathlib.Path) -> None:
+    """The folders that were there stay, with their modes, and no others."""
+    before = folders_below(local)
     printed_by(["bash", "-c", line_of_page("^sudo tar .*$", copy, local)], made.folder)
     assert (local / "share" / "man").is_symlink()
     found = {re.sub("^man/", "share/man/", path): text for path, text in files_below(local).items()}
     assert_same_files(found, files_below(unpacked))
     assert [path.stat().st_mode & 0o7777 for path in (local, local / "share")] == [0o2775, 0o2775]
     found_by_zsh(folder / "root", folder)
-    printed_by(["bash", "-c", line_of_page("^.*share/doc/pfs/SHA256SUMS .*$", copy, local)], made.folder)
-    assert left_below(local) == [] and (local / "share" / "man").is_symlink()
-    assert not (local / "libexec" / "pfs").exists()
+    printed_by(["bash", "-c", line_of_page(r"^cd .*share/doc/pfs/SHA256SUMS .*\n.*$", copy, local)], made.folder)
+    assert (left_below(local), folders_below(local)) == ([], before)
 
 
-# The package
+# The packages
 
 DEBIAN_PAGES = {"copyright", "changelog.gz", "changelog.Debian.gz", "SHA256SUMS"}
+LIBRARIES = "usr/lib/x86_64-linux-gnu"
+DIST_INFO = f"usr/lib/python3/dist-packages/pfs-{VERSION}.dist-info/METADATA"
+# What only the packages have: Debian's script that compiles the modules for another version of Python.
+MADE = ["usr/share/doc/pfs/PROVED", "usr/share/python3/runtime.d/pfs-tools.rtupdate", "usr/bin/pfs-plan", DIST_INFO,
+        f"{LIBRARIES}/pkgconfig/pfs.pc", f"{LIBRARIES}/cmake/pfs/pfsConfigVersion.cmake"]
+
+
+def places_in_debian(copy: Copy) -> dict[str, bytes]:
+    """The files of the packages, but for what only they have, and with the program and the libraries as built."""
+    places = {f"usr/{place}": file for place, file in (PLACES | LIBRARY).items()
+              if pathlib.Path(place).name not in ("CHANGELOG.md", "LICENSE-MIT", "LICENSE-APACHE", "libpfs.so")}
+    places = {path.replace("usr/lib/", f"{LIBRARIES}/").replace("zsh/site-functions", "zsh/vendor-completions"): file
+              for path, file in places.items()}
+    places["usr/share/man/man1/pfs-plan.1"] = "python/pfs-plan.1"
+    modules, pages = "usr/lib/python3/dist-packages/pfs", "usr/share/doc/python3-pfs"
+    places |= {f"{modules}/_gantt.py": "tools/chart.py", f"{pages}/README.md": "python/README.md"}
+    for folder, to in (("python/src/pfs", modules), ("python/examples", f"{pages}/examples")):
+        places |= {f"{to}/{path.name}": f"{folder}/{path.name}" for path in (copy.top / folder).glob("*.*")}
+    return {place: (copy.top / file).read_bytes() for place, file in places.items()
+            if not place.startswith(f"{LIBRARIES}/libpfs")}
 
 
 def test_the_packages_have_their_files_where_debian_looks(extracted: pathlib.Path, copy: Copy, pfs: Program,
                                                           folder: pathlib.Path) -> None:
-    """The program without its symbols, packed manual pages and changelogs, and the licences in the file copyright."""
-    wanted = {f"usr/{place}": (copy.top / file).read_bytes() for place, file in PLACES.items()}
-    for name in ("_pfs", "_pfs-tools"):
-        wanted[f"usr/share/zsh/vendor-completions/{name}"] = wanted.pop(f"usr/share/zsh/site-functions/{name}")
+    """The program without its symbols, packed manual pages and changelogs, and the licences in the file copyright.
+    Scripts run Debian's Python."""
     shutil.copy(pfs.path, folder / "stripped")
-    printed_by(["strip", "stripped"], folder)
-    wanted["usr/bin/pfs"] = (folder / "stripped").read_bytes()
-    changes = wanted.pop("usr/share/doc/pfs/CHANGELOG.md")
-    for name in ("LICENSE-MIT", "LICENSE-APACHE"):
-        del wanted[f"usr/share/doc/pfs/{name}"]
+    printed_by(["strip", "--remove-section=.comment", "--remove-section=.note", "stripped"], folder)
+    wanted = places_in_debian(copy) | {"usr/bin/pfs": (folder / "stripped").read_bytes()}
     found = files_below(extracted)
-    del found["usr/share/doc/pfs/PROVED"]
-    for package in ("pfs", "pfs-tools"):
+    for path in (*MADE, f"{LIBRARIES}/libpfs.a", f"{LIBRARIES}/libpfs.so", f"{LIBRARIES}/libpfs.so.0"):
+        del found[path]
+    for package in FIELDS:
         pages = {name: found.pop(f"usr/share/doc/{package}/{name}") for name in DEBIAN_PAGES}
-        assert gzip.decompress(pages["changelog.gz"]) == changes
+        assert gzip.decompress(pages["changelog.gz"]) == (copy.top / "CHANGELOG.md").read_bytes()
         assert gzip.decompress(pages["changelog.Debian.gz"]).decode().startswith(f"pfs ({version(copy)}-1) unstable;")
         assert b"\nLicense: MIT\n Permission is hereby granted" in pages["copyright"]
     for path in [path for path in found if "/man/" in path]:
         found[path.removesuffix(".gz")] = gzip.decompress(found.pop(path))
-    python = b"#!/usr/bin/env python3\n", b"#!/usr/bin/python3\n"
-    assert_same_files(found, {place: text.replace(*python, 1) if "libexec" in place else text
-                              for place, text in wanted.items()})
+    assert [path for path, text in found.items() if text.startswith(b"#!/usr/bin/env python")] == []
+    assert_same_files(*({path: re.sub(rb"^#! ?/usr/bin/(env )?python3\n", b"", text) for path, text in files.items()}
+                        for files in (found, wanted)))
 
 
-def errors_of_lintian(package: pathlib.Path) -> str:
-    """The lines of lintian that tell an error."""
-    words = [need("lintian"), "--allow-root", "--fail-on", "none", "--display-level", "=error"]
-    return printed_by([*words, package], package.parent)
+def test_the_librarys_packages_are_for_this_machine(extracted: pathlib.Path, made: Made, folder: pathlib.Path) -> None:
+    """The files of pkg-config and CMake name Debian's folders, and Debian's tools know the library."""
+    assert "prefix=/usr\nlibdir=${prefix}/lib/x86_64-linux-gnu\n" in (extracted / MADE[4]).read_text()
+    assert os.readlink(extracted / LIBRARIES / "libpfs.so") == "libpfs.so.0"
+    printed_by(["dpkg-deb", "--control", made.path("/libpfs0_"), "control"], folder)
+    assert (folder / "control" / "shlibs").read_text() == f"libpfs 0 libpfs0 (>= {VERSION}~)\n"
+    assert "activate-noawait ldconfig\n" in (folder / "control" / "triggers").read_text()
 
 
-@pytest.mark.parametrize("package", ["/pfs_", "/pfs-tools_"])
-def test_lintian_finds_no_error(package: str, made: Made) -> None:
-    assert errors_of_lintian(made.path(package)) == ""
+@pytest.mark.parametrize("package", FIELDS)
+def test_lintian_finds_nothing(package: str, made: Made) -> None:
+    """But that the changelog closes no bug of Debian, and that Slurm's script isn't run as a program."""
+    told = told_by([need("lintian"), "--allow-root", "--fail-on", "error,warning", "--suppress-tags",
+                    "initial-upload-closes-no-bugs,script-not-executable", made.path(f"/{package}_")], made.folder)
+    assert (told.status, told.stdout) == (0, "")
 
 
 def test_all_in_the_packages_has_the_usual_mode(extracted: pathlib.Path, unpacked: pathlib.Path) -> None:
@@ -1078,11 +1067,42 @@ def test_all_in_the_packages_has_the_usual_mode(extracted: pathlib.Path, unpacke
         assert_usual_modes(folder)
 
 
-def test_lintian_tells_an_error_where_there_is_one(made: Made, folder: pathlib.Path) -> None:
-    printed_by(["dpkg-deb", "--raw-extract", made.path("/pfs_"), "root"], folder)
-    (folder / "root" / "usr" / "share" / "doc" / "pfs" / "copyright").unlink()
-    printed_by(["dpkg-deb", "--root-owner-group", "--build", "root", "worse.deb"], folder)
-    assert "no-copyright-file" in errors_of_lintian(folder / "worse.deb")
+@pytest.mark.parametrize("package", FIELDS)
+def test_a_package_has_these_fields(package: str, made: Made, copy: Copy, pfs: Program) -> None:
+    lines = printed_by(["dpkg-deb", "--field", made.path(f"/{package}_")], made.folder).splitlines()
+    found = dict(line.split(": ", 1) for line in lines if not line.startswith(" "))
+    for name in ("Installed-Size", "Description"):
+        assert found.pop(name)
+    due = {name: value.format(libc=newest_libc(pfs.path), version=version(copy))
+           for name, value in FIELDS[package].items()}
+    source = {} if package == "pfs" else {"Source": "pfs"}
+    assert found == due | source | {"Package": package, "Version": f"{version(copy)}-1", "Priority": "optional",
+                                    "Maintainer": "A Tester <tester@example.org>"}
+
+
+@pytest.mark.parametrize("package", ["pfs-tools", "python3-pfs"])
+def test_compiled_modules_are_removed_with_a_package(package: str, made: Made, folder: pathlib.Path) -> None:
+    printed_by(["dpkg-deb", "--control", made.path(f"/{package}_"), "control"], folder)
+    assert f"py3clean -p {package}" in (folder / "control" / "prerm").read_text()
+
+
+@pytest.mark.seconds(20)
+def test_the_package_for_python_runs(extracted: pathlib.Path, folder: pathlib.Path, libpfs: Library) -> None:
+    """Where it is unpacked, over the proved library: a makespan by hand, and a chart. Python knows its version and
+    what it needs."""
+    env = dict(os.environ, PYTHONPATH=str(extracted / "usr/lib/python3/dist-packages"), PYTHONDONTWRITEBYTECODE="1",
+               PFS_LIBRARY=str(libpfs.path))
+    told = printed_by(["/usr/bin/python3", "-c", "import pfs; shop = pfs.Instance([[3, 2], [2, 5], [4, 1]]); "
+                       "print(shop.makespan([0, 1, 2])); made = shop.schedule([0, 1, 2]); made.plot('chart.svg'); "
+                       "made.plot('chart.html'); print(pfs.taillard(1).jobs); from importlib.metadata import metadata; "
+                       "print(*metadata('pfs').values())"], folder, env=env)
+    project = tomllib.loads((TOP / "python" / "pyproject.toml").read_text())["project"]
+    facts = ["2.1", project["name"], VERSION, project["requires-python"], *project["dependencies"]]
+    assert told == f"11\n20\n{' '.join(facts)}\n"
+    assert (folder / "chart.svg").stat().st_size > 0 and (folder / "chart.html").stat().st_size > 0
+    (folder / "times.csv").write_text("job [min],saw,drill\nchair,3,2\ntable,2,5\n")
+    told = printed_by([extracted / "usr/bin/pfs-plan", "times.csv"], folder, env=env)
+    assert told == "makespan 9 min\nbound 9 min\noptimal\n1 table\n2 chair\n"
 
 
 # The pages where they are installed
@@ -1124,75 +1144,6 @@ def test_shells_find_the_packages_completions(extracted: pathlib.Path, folder: p
     found_by_bash(extracted / "usr", folder)
     found_by_fish(extracted / "usr", folder)
     found_by_zsh(extracted, folder)
-
-
-def field(made: Made, name: str) -> str:
-    return printed_by(["dpkg-deb", "--field", made.path("/pfs_"), name], made.folder).strip()
-
-
-def test_the_package_tells_its_installed_size(made: Made, folder: pathlib.Path) -> None:
-    """In kibibytes, each file by itself."""
-    printed_by(["dpkg-deb", "--extract", made.path("/pfs_"), "."], folder)
-    sizes = [-(-len(text) // 1024) for text in files_below(folder).values()]
-    assert field(made, "Installed-Size") == str(sum(sizes)), "kibibytes that the package tells"
-
-
-@pytest.mark.parametrize(("name", "wanted"), [("Package", "pfs"), ("Architecture", "amd64"),
-                                              ("Maintainer", "A Tester <tester@example.org>")])
-def test_the_package_tells_what_it_is(name: str, wanted: str, made: Made) -> None:
-    assert field(made, name) == wanted
-
-
-def test_a_maintainer_who_reads_no_letters_is_told(copy: Copy, folder: pathlib.Path) -> None:
-    """The packages can name another one."""
-    author = {"GIT_CONFIG_VALUE_1": "1+tester@users.noreply.host"}
-    copy.git("branch", "-q", "kept")
-    try:
-        told_by(["git", "commit", "-q", "--allow-empty", "-m", "By another address"], copy.top, env=copy.env | author)
-        told = copy.make("dist", f"DIST={folder}/first")
-        assert told.status == 0 and "A Tester <1+tester@users.noreply.host>" in told.stderr
-        assert "MAINTAINER='A Name <name@host>' make dist" in told.stderr
-        told = copy.make("dist", f"DIST={folder}/second", MAINTAINER="B <b@example.org>")
-        assert told.status == 0 and "noreply" not in told.stderr
-        package, = (folder / "second").glob("pfs_*.deb")
-        assert fields_of(package)["Maintainer"] == "B <b@example.org>"
-    finally:
-        copy.git("reset", "-q", "--hard", "kept")
-        copy.git("branch", "-q", "-D", "kept")
-
-
-def test_the_package_needs_the_programs_c_library(made: Made, pfs: Program) -> None:
-    assert field(made, "Depends") == f"libc6 (>= {newest_libc(pfs.path)})"
-
-
-def fields_of(package: pathlib.Path) -> dict[str, str]:
-    """The fields of a package, each by its first line."""
-    lines = printed_by(["dpkg-deb", "--field", package], package.parent).splitlines()
-    return dict(line.split(": ", 1) for line in lines if not line.startswith(" "))
-
-
-# The fields of each package, but for those that all of them have.
-FIELDS = {
-    "pfs": {"Depends": "libc6 (>= {libc})", "Suggests": "pfs-tools", "Section": "science", "Architecture": "amd64"},
-    "pfs-tools": {"Depends": "pfs (= {version}-1), python3 (>= 3.10), python3 (>= 3.11) | python3-tomli",
-                  "Recommends": "parallel, python3-matplotlib",
-                  "Suggests": "libpfs0, openssh-client, python3-scipy, rsync, slurm-client", "Section": "science",
-                  "Architecture": "all", "Source": "pfs"}}
-
-
-@pytest.mark.parametrize("package", FIELDS)
-def test_a_package_has_these_fields(package: str, made: Made, copy: Copy, pfs: Program) -> None:
-    found = fields_of(made.path(f"/{package}_"))
-    for name in ("Installed-Size", "Description"):
-        assert found.pop(name)
-    due = {name: value.format(libc=newest_libc(pfs.path), version=version(copy))
-           for name, value in FIELDS[package].items()}
-    assert found == due | {"Package": package, "Version": f"{version(copy)}-1", "Priority": "optional",
-                           "Maintainer": "A Tester <tester@example.org>"}
-
-
-def test_the_packages_version_is_that_of_its_name(made: Made) -> None:
-    assert f"pfs_{field(made, 'Version')}_amd64.deb" in made.files
 
 
 # One version
@@ -1245,15 +1196,11 @@ def test_a_tag_of_another_version_is_found(copy: Copy) -> None:
         copy.git("tag", "-d", f"v{VERSION}", "v99.0.1", "another")
 
 
-def test_all_in_the_package_is_roots_at_the_commits_time(made: Made, copy: Copy) -> None:
-    done = subprocess.run(["dpkg-deb", "--fsys-tarfile", str(made.path("/pfs_"))], capture_output=True, check=True)
-    with tarfile.open(fileobj=io.BytesIO(done.stdout)) as tar:
-        members = tar.getmembers()
-    assert {(it.uid, it.gid, it.mtime) for it in members} == {(0, 0, commit_time(copy))}
-
-
-def test_the_packages_program_runs(extracted: pathlib.Path, folder: pathlib.Path) -> None:
-    assert_runs(extracted / "usr" / "bin" / "pfs", folder)
+@pytest.mark.parametrize("which", ["unpacked", "extracted/usr"])
+def test_the_programs_that_are_made_run(which: str, folder: pathlib.Path, request: pytest.FixtureRequest) -> None:
+    """Of the tarball and of the packages."""
+    fixture, _, prefix = which.partition("/")
+    assert_runs(request.getfixturevalue(fixture) / prefix / "bin" / "pfs", folder)
 
 
 def test_the_package_is_installed_into_an_empty_root_and_leaves_nothing(
@@ -1276,4 +1223,4 @@ def test_the_package_is_installed_into_an_empty_root_and_leaves_nothing(
     (root / "three").write_bytes(THREE_JOBS)
     assert printed_by(["chroot", root, "pfs", *VALUE, "three"], folder) == "makespan 11\n"
     printed_by([*dpkg, "--purge", "pfs"], folder)
-    assert [path for path in files_below(root / "usr") if "pfs" in path] == []
+    assert not (root / "usr").exists()
