@@ -129,7 +129,7 @@ def faults_of(path: pathlib.Path) -> list[str]:
     is_long = path.suffix in (".json", ".md") or "crates" in path.parts
     rules = {"more than 120 columns": r".{121}" if not is_long else r"(?!)",
              "a blank or a carriage return at the end": r".*\s$",
-             "a tab": r".*\t" if path.name != "Makefile" else r"(?!)"}
+             "a tab": r".*\t" if path.name not in ("Makefile", "rules") else r"(?!)"}
     faults = [f"{number}: {fault}" for number, line in enumerate(text.split("\n"), 1)
               for fault, pattern in rules.items() if re.match(pattern, line)]
     return faults + ["no line end at the end"] * (text != "" and not text.endswith("\n"))
