@@ -2,7 +2,7 @@
  * number of rounds made so far and that order. If there is no such file, the search starts at NEH's order. Calls with
  * the same seed find what one search of all their rounds finds.
  *
- * usage: timed_search INSTANCE STATE SEED SECONDS [ROUNDS]    (Taillard's layout; ROUNDS limits the rounds of a call) */
+ * usage: timed_search INSTANCE STATE SEED SECONDS [ROUNDS]    (Taillard's layout; at most ROUNDS more rounds) */
 #include <inttypes.h>
 #include <pfs.h>
 #include <stdio.h>

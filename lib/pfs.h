@@ -364,9 +364,9 @@ int pfs_construct(const uint32_t *times, size_t times_length, size_t jobs, size_
  *     PFS_JOB or PFS_REPEATED (the jobs of the sequence from the left), PFS_JOB or PFS_REPEATED (those of the list),
  *     PFS_JOB (a job of the list that is not in the sequence), PFS_PASSES (passes), PFS_MEMORY
  */
-int pfs_local_search(const uint32_t *times, size_t times_length, size_t jobs, size_t machines,
-                     const uint32_t *sequence, size_t sequence_length, const uint32_t *list, size_t list_length,
-                     uint32_t passes, uint32_t *order, size_t order_length, uint64_t *makespan) PFS_CHECKED;
+int pfs_local_search(const uint32_t *times, size_t times_length, size_t jobs, size_t machines, const uint32_t *sequence,
+                     size_t sequence_length, const uint32_t *list, size_t list_length, uint32_t passes, uint32_t *order,
+                     size_t order_length, uint64_t *makespan) PFS_CHECKED;
 
 /** @brief Computes random words of a seed (Pcg32, O'Neill 2014).
  *

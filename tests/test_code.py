@@ -79,8 +79,8 @@ def test_nothing_is_used_that_the_oldest_python_lacks(which: str) -> None:
     """Of what is installed, by mypy: Debian 12 has no interpreter of that version."""
     settings = (TOP / "python" / "pyproject.toml").read_text()
     [version] = re.findall(r'^requires-python = ">=(.*)"$', settings, re.MULTILINE)
-    needed = re.findall(r"python3 \(>= ([\d.]+)\)(?! \|)", (TOP / "tools" / "dist").read_text())
-    assert needed and set(needed) == {version}, "Debian's packages need the same version as the wheel"
+    needed = re.findall(r"^X-Python3-Version: >= ([\d.]+)$", (TOP / "debian" / "control").read_text(), re.MULTILINE)
+    assert needed == [version], "Debian's packages need the same version as the wheel"
     words = [need("mypy"), "--strict", "--scripts-are-modules", "--no-error-summary", f"--python-version={version}",
              f"--cache-dir={TOP}/out/mypy-oldest-{which}"]
     installed = [path for path in scripts("python") if re.match(r"experiments/|tools/gantt$|tools/[^/]*\.py$", path)]

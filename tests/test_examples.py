@@ -1,5 +1,5 @@
-"""The examples of the library for C. Each compiles without a warning by the command of their page, with pkg-config and a
-folder like an installed one. It prints what the page shows, and what the program or the second program computes.
+"""The examples of the library for C. Each compiles without a warning by the command of their page, with pkg-config and
+a folder like an installed one. It prints what the page shows, and what the program or the second program computes.
 README's lines in C and in Python."""
 import os
 import pathlib
@@ -82,7 +82,8 @@ def run_page(built: pathlib.Path, pfs: Program, folder: pathlib.Path) -> None:
     shown = re.findall(r"^\$ (.*)\n((?:(?!\$|```).*\n)*)", PAGE, re.MULTILINE)
     assert len(shown) == 6
     for line, text in shown:
-        assert printed_by(["sh", "-c", f"{{ {line}; }} 2>&1 || [ $? = 1 ]"], folder, env=with_path(folder)) == text, line
+        printed = printed_by(["sh", "-c", f"{{ {line}; }} 2>&1 || [ $? = 1 ]"], folder, env=with_path(folder))
+        assert printed == text, line
 
 
 def test_the_page_shows_what_is_printed(built: pathlib.Path, pfs: Program, folder: pathlib.Path) -> None:

@@ -1198,7 +1198,8 @@ def test_a_tag_of_another_version_is_found(copy: Copy) -> None:
 
 
 @pytest.mark.parametrize("which", ["unpacked", "extracted/usr"])
-def test_the_programs_that_are_made_run(which: str, folder: pathlib.Path, request: pytest.FixtureRequest) -> None:
+def test_the_programs_that_are_made_run(which: str, made: Made, folder: pathlib.Path,
+                                        request: pytest.FixtureRequest) -> None:
     """Of the tarball and of the packages."""
     fixture, _, prefix = which.partition("/")
     assert_runs(request.getfixturevalue(fixture) / prefix / "bin" / "pfs", folder)
@@ -1206,7 +1207,6 @@ def test_the_programs_that_are_made_run(which: str, folder: pathlib.Path, reques
 
 def test_the_package_is_installed_into_an_empty_root_and_leaves_nothing(
         made: Made, pfs: Program, folder: pathlib.Path) -> None:
-    need("dpkg")
     if os.geteuid() != 0:
         missing("only root installs a package")
     root = folder / "root"

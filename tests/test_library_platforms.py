@@ -25,8 +25,8 @@ def program(libpfs: Library, folder: pathlib.Path, compiler: str, library: str, 
     """A program over the library, made by a compiler."""
     (folder / "program.c").write_text(PROGRAM)
     path = libpfs.path.with_name(library) if library == STATIC else libpfs.path
-    compile_quietly([need(compiler), *options, f"-I{HEADER.parent}", "-o", folder / "program", folder / "program.c", path,
-                     f"-Wl,-rpath,{libpfs.path.parent}"])
+    compile_quietly([need(compiler), *options, f"-I{HEADER.parent}", "-o", folder / "program", folder / "program.c",
+                     path, f"-Wl,-rpath,{libpfs.path.parent}"])
     return folder / "program"
 
 

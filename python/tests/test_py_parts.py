@@ -118,6 +118,7 @@ def test_wrong_arguments(case: str) -> None:
 
 def test_each_pair_of_two_wrong_lists_reports_the_sequence_first() -> None:
     for sequence, jobs in itertools.product([[0, 0], [5]], [[1, 1], [6]]):
-        for call in (SHOP.insert_all, SHOP.local_search):
-            with pytest.raises(ValueError, match="^sequence: "):
-                call(sequence, jobs)
+        with pytest.raises(ValueError, match="^sequence: "):
+            SHOP.insert_all(sequence, jobs)
+        with pytest.raises(ValueError, match="^sequence: "):
+            SHOP.local_search(sequence, jobs)
