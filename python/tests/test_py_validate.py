@@ -224,7 +224,7 @@ def test_other_words_that_are_rejected() -> None:
     shop = pfs.Instance(TIMES)
     with pytest.raises(ValueError, match="layout must be 'taillard' or 'orlib', not 'csv'"):
         shop.to_text("csv")
-    with pytest.raises(TypeError, match="layout must be 'taillard' or 'orlib', not 0"):
+    with pytest.raises(TypeError, match="layout must be 'taillard', 'orlib' or 'matrix', not 0"):
         pfs.read("x", 0)  # type: ignore[arg-type]
     for block in (0, 1001):
         with pytest.raises(ValueError, match=f"block must be from 1 to 1,000, not {block}"):

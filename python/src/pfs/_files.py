@@ -18,6 +18,7 @@ from pfs import _library as c
 from pfs._faults import INSTANCE_FAULTS, ORDER_FAULTS, FileFault, OrderFault
 from pfs._hints import EXTRA_NUMBER, MACHINE_NUMBER, NUMBER_LINE, TRUNCATED, hint_of, where
 from pfs._instance import Instance
+from pfs._matrix import matrix_of
 from pfs._names import is_frame
 from pfs._solution import Solution
 from pfs._validate import Order, checked_int, layout_number
@@ -138,9 +139,10 @@ def read(source: Source, layout: str, block: int = 1) -> Instance:
     source : str, os.PathLike or binary file
         The file.
     layout : str
-        ``"taillard"`` or ``"orlib"``.
+        ``"taillard"``, ``"orlib"`` or ``"matrix"``. The last one has the numbers of jobs and machines on one line, and
+        then a line for each job with its time on each machine. The package alone reads it, so that isn't proved.
     block : int
-        The number of the block to read, counted from 1.
+        The number of the block to read, counted from 1. A file of the layout ``"matrix"`` has one block.
 
     Returns
     -------
@@ -149,7 +151,9 @@ def read(source: Source, layout: str, block: int = 1) -> Instance:
     Raises
     ------
     FileFault
-        If the file doesn't follow its layout.
+        If the file doesn't follow its layout, ``"taillard"`` or ``"orlib"``.
+    TableFault
+        If it doesn't follow the layout ``"matrix"``.
     OSError
         If the file can't be read.
 
@@ -164,8 +168,13 @@ def read(source: Source, layout: str, block: int = 1) -> Instance:
     >>> pfs.read(io.BytesIO(b"3 2\\n0 3 1 2\\n0 2 2 5\\n"), "orlib")
     Traceback (most recent call last):
     pfs._faults.FileFault: wrong machine number at 16
+    >>> pfs.read(io.BytesIO(b"3 2\\n3 2\\n2 5\\n4 1\\n"), "matrix") == shop
+    True
     """
-    number, block = layout_number(layout), checked_int(block, "block", 1, c.MOST_BLOCKS)
+    if isinstance(layout, str) and layout == "matrix":
+        checked_int(block, "block", 1, 1)
+        return matrix_of(*bytes_of(source, c.LONGEST_INPUT))
+    number, block = layout_number(layout, " or 'matrix'"), checked_int(block, "block", 1, c.MOST_BLOCKS)
     text, path = bytes_of(source, c.LONGEST_INPUT)
     return block_of(text, path, number, block)
 

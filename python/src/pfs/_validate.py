@@ -41,12 +41,13 @@ def checked_int(value: Any, name: str, least: int, most: int) -> int:
     return number
 
 
-def layout_number(layout: Any) -> int:
-    """Return the library's number of a layout."""
+def layout_number(layout: Any, others: str = "") -> int:
+    """Return the library's number of a layout. `others` are the layouts that the caller handles itself."""
+    names = f"'taillard', 'orlib'{others}" if others else "'taillard' or 'orlib'"
     if not isinstance(layout, str):
-        raise TypeError(f"layout must be 'taillard' or 'orlib', not {layout!r}")
+        raise TypeError(f"layout must be {names}, not {layout!r}")
     if layout not in c.LAYOUTS:
-        raise ValueError(f"layout must be 'taillard' or 'orlib', not {layout!r}")
+        raise ValueError(f"layout must be {names}, not {layout!r}")
     return c.LAYOUTS[layout]
 
 
