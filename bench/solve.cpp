@@ -1,9 +1,10 @@
 // solve [FORM] LAYOUT BLOCK ROUNDS TAKE SEED PASSES [FILE]: NEH's order of a block, and rounds of iterated greedy after
 // it, as `pfs solve --cells` prints them; a TAKE of 0 is the smaller of 4 and the number of jobs. Without FILE it
-// reads standard input. It is written from the definitions, over flat tables of integers. FORM says how the best place
-// is found: `plain64` and `plain32` by one row in a loop over the machines, `rows64` and `rows32` by the loops of pfs.
-// The number is the bits of a length. The default is `plain32` if every path of the instance fits into 32 bits, and
-// `plain64` otherwise; if a path doesn't fit, `plain32` and `rows32` are rejected.
+// reads standard input. It is written from the definitions, over flat tables of integers. FORM is `plain32` or
+// `plain64`, by the bits of a length. The default is `plain32` if every path of the instance fits into 32 bits, and
+// `plain64` otherwise; `plain32` is rejected if a path doesn't fit.
+//
+// solve insert32|insert64 COUNT FILE: COUNT insertions, as `library insert` of library.c makes them.
 #include "block_reader.hpp"
 #include "pcg32.hpp"
 
@@ -21,9 +22,9 @@ struct Placed {
 
 // Inserts jobs at their best places (Taillard 1990), one row in a loop, and counts the cells computed.
 template <typename Length>
-class PlainInserter {
+class Inserter {
 public:
-    explicit PlainInserter(const Instance& shop)
+    explicit Inserter(const Instance& shop)
         : shop(shop), heads((shop.jobs + 1) * shop.machines), tails((shop.jobs + 1) * shop.machines) {}
 
     // Puts the job at the earliest place of the partial order that gives the least makespan.
@@ -106,141 +107,6 @@ private:
     std::vector<Length> tails;
 };
 
-// The same with the loops of pfs: three rows of tails in one loop, and two rows of heads and two inserted rows in
-// another, of which the first row of heads isn't stored; the inserted rows are then joined with the rows of tails.
-template <typename Length>
-class RowInserter {
-public:
-    explicit RowInserter(const Instance& shop)
-        : shop(shop), table((2 * shop.jobs + 1) * shop.machines, 0), heads(table.data()),
-          tails(heads + shop.jobs * shop.machines), put(tails + shop.jobs * shop.machines) {}
-
-    // Puts the job at the earliest place of the partial order that gives the least makespan.
-    uint64_t insert(Jobs& order, uint32_t job) {
-        Placed placed = best(order, job);
-        order.insert(order.begin() + (ptrdiff_t)placed.place, job);
-        return placed.makespan;
-    }
-
-    uint64_t cells = 0;
-
-private:
-    const uint32_t* times(uint32_t job) const { return &shop.times[job * shop.machines]; }
-
-    Length* tail(const Jobs& order, size_t place) {
-        return tails + (shop.jobs - 1 - order.size() + place) * shop.machines;
-    }
-
-    Placed best(const Jobs& order, uint32_t job) {
-        size_t jobs = order.size();
-        for (size_t from = jobs; from >= 3; from -= 3) {
-            three_tails(order, from);
-        }
-        for (size_t from = jobs % 3; from > 0; --from) {
-            one_tail(order, from);
-        }
-        Placed placed{0, UINT64_MAX};
-        for (size_t place = 0; place + 2 <= jobs; place += 2) {
-            two_places(order, job, place);
-            better(placed, place, joined(put, tail(order, place)));
-            better(placed, place + 1, joined(heads + (place + 1) * shop.machines, tail(order, place + 1)));
-        }
-        for (size_t place = jobs / 2 * 2; place < jobs; ++place) {
-            row(order[place], heads + place * shop.machines, heads + (place + 1) * shop.machines);
-        }
-        for (size_t place = jobs / 2 * 2; place <= jobs; ++place) {
-            row(job, heads + place * shop.machines, put);
-            better(placed, place, joined(put, tail(order, place)));
-        }
-        return placed;
-    }
-
-    static void better(Placed& placed, size_t place, Length makespan) {
-        if ((uint64_t)makespan < placed.makespan) {
-            placed = Placed{place, (uint64_t)makespan};
-        }
-    }
-
-    // Row r + 1 from row r, forward; it serves heads and the inserted row.
-    void row(uint32_t job, const Length* above, Length* __restrict here) {
-        const uint32_t* time = times(job);
-        Length before = 0;
-        for (size_t machine = 0; machine < shop.machines; ++machine) {
-            before = std::max(above[machine], before) + (Length)time[machine];
-            here[machine] = before;
-        }
-        cells += shop.machines;
-    }
-
-    void one_tail(const Jobs& order, size_t from) {
-        const uint32_t* time = times(order[from - 1]);
-        const Length* below = tail(order, from);
-        Length* __restrict here = tail(order, from - 1);
-        Length behind = 0;
-        for (size_t machine = shop.machines; machine-- > 0;) {
-            behind = std::max(below[machine], behind) + (Length)time[machine];
-            here[machine] = behind;
-        }
-        cells += shop.machines;
-    }
-
-    void three_tails(const Jobs& order, size_t from) {
-        const uint32_t* first = times(order[from - 1]);
-        const uint32_t* second = times(order[from - 2]);
-        const uint32_t* third = times(order[from - 3]);
-        const Length* below = tail(order, from);
-        Length* __restrict here = tail(order, from - 1);
-        Length* __restrict next = tail(order, from - 2);
-        Length* __restrict last = tail(order, from - 3);
-        Length one = 0, two = 0, three = 0;
-        for (size_t machine = shop.machines; machine-- > 0;) {
-            one = std::max(below[machine], one) + (Length)first[machine];
-            two = std::max(one, two) + (Length)second[machine];
-            three = std::max(two, three) + (Length)third[machine];
-            here[machine] = one;
-            next[machine] = two;
-            last[machine] = three;
-        }
-        cells += 3 * shop.machines;
-    }
-
-    void two_places(const Jobs& order, uint32_t job, size_t place) {
-        const uint32_t* first = times(order[place]);
-        const uint32_t* second = times(order[place + 1]);
-        const uint32_t* inserted = times(job);
-        const Length* above = heads + place * shop.machines;
-        Length* __restrict here = put;
-        Length* __restrict next = heads + (place + 1) * shop.machines;
-        Length* __restrict head = heads + (place + 2) * shop.machines;
-        Length one = 0, two = 0, put_here = 0, put_next = 0;
-        for (size_t machine = 0; machine < shop.machines; ++machine) {
-            put_here = std::max(above[machine], put_here) + (Length)inserted[machine];
-            one = std::max(above[machine], one) + (Length)first[machine];
-            put_next = std::max(one, put_next) + (Length)inserted[machine];
-            two = std::max(one, two) + (Length)second[machine];
-            here[machine] = put_here;
-            next[machine] = put_next;
-            head[machine] = two;
-        }
-        cells += 4 * shop.machines;
-    }
-
-    Length joined(const Length* a, const Length* b) {
-        Length most = 0;
-        for (size_t machine = 0; machine < shop.machines; ++machine) {
-            most = std::max<Length>(most, a[machine] + b[machine]);
-        }
-        cells += shop.machines;
-        return most;
-    }
-
-    const Instance& shop;
-    std::vector<Length> table;
-    Length* heads;
-    Length* tails;
-    Length* put;
-};
-
 // The jobs by decreasing total time, at equal totals the lower number first.
 static Jobs ranking(const Instance& shop) {
     std::vector<uint64_t> totals(shop.jobs, 0);
@@ -256,8 +122,8 @@ static Jobs ranking(const Instance& shop) {
 }
 
 // A pass: removes each job, in the order of the numbers, and reinserts it at its best place.
-template <typename Inserter>
-static uint64_t pass(Inserter& inserter, Jobs& order) {
+template <typename Length>
+static uint64_t pass(Inserter<Length>& inserter, Jobs& order) {
     uint64_t length = 0;
     for (uint32_t job = 0; job < order.size(); ++job) {
         order.erase(std::find(order.begin(), order.end(), job));
@@ -268,8 +134,8 @@ static uint64_t pass(Inserter& inserter, Jobs& order) {
 
 // A round of iterated greedy (Ruiz and Stuetzle 2007): removes a job for each random word, reinserts the jobs in the
 // order of removal, makes the passes, and keeps the result unless its makespan is greater.
-template <typename Inserter>
-static void round_of(Inserter& inserter, const Jobs& words, uint64_t passes, Jobs& kept, uint64_t& makespan) {
+template <typename Length>
+static void round_of(Inserter<Length>& inserter, const Jobs& words, uint64_t passes, Jobs& kept, uint64_t& makespan) {
     Jobs order = kept;
     Jobs taken;
     for (uint32_t word : words) {
@@ -291,9 +157,9 @@ static void round_of(Inserter& inserter, const Jobs& words, uint64_t passes, Job
 }
 
 // Makes the search and prints its result.
-template <typename Inserter>
+template <typename Length>
 static int search(const Instance& shop, uint64_t rounds, uint64_t take, uint64_t passes, Pcg32 random) {
-    Inserter inserter(shop);
+    Inserter<Length> inserter(shop);
     Jobs kept;
     uint64_t makespan = 0;
     for (uint32_t job : ranking(shop)) {
@@ -316,9 +182,9 @@ static int search(const Instance& shop, uint64_t rounds, uint64_t take, uint64_t
 
 // Makes this many insertions, of each job in turn into the others in the order of their numbers, like calls of
 // pfs_insert, and prints the sum of the places and the makespans.
-template <typename Inserter>
+template <typename Length>
 static int insertions(const Instance& shop, uint64_t count) {
-    Inserter inserter(shop);
+    Inserter<Length> inserter(shop);
     uint64_t sum = 0;
     for (uint64_t made = 0; made < count; ++made) {
         uint32_t job = (uint32_t)(made % shop.jobs);
@@ -347,8 +213,30 @@ static int insert_only(const std::string& form, const char* count, const char* p
         return 4;
     }
     uint64_t number = std::strtoull(count, nullptr, 10);
-    return form == "insert32" ? insertions<PlainInserter<uint32_t>>(shop, number)
-                              : insertions<PlainInserter<int64_t>>(shop, number);
+    return form == "insert32" ? insertions<uint32_t>(shop, number) : insertions<int64_t>(shop, number);
+}
+
+// Makes the search over lengths of the form. A take of 0 and no form are the defaults.
+static int search_in(std::string form, const Instance& shop, uint64_t rounds, uint64_t take, uint64_t passes,
+                     const Pcg32& random) {
+    if (take > shop.jobs) {
+        std::fprintf(stderr, "pfs: take %llu exceeds %zu jobs\n", (unsigned long long)take, shop.jobs);
+        return 3;
+    }
+    if (take == 0) {
+        take = std::min<uint64_t>(4, shop.jobs);
+    }
+    if (form.empty()) {
+        form = is_short(shop) ? "plain32" : "plain64";
+    }
+    if (form == "plain64") {
+        return search<int64_t>(shop, rounds, take, passes, random);
+    }
+    if (!is_short(shop)) {
+        std::fprintf(stderr, "solve: paths need 64 bits\n");
+        return 3;
+    }
+    return search<uint32_t>(shop, rounds, take, passes, random);
 }
 
 int main(int count, char** words) {
@@ -356,7 +244,7 @@ int main(int count, char** words) {
     if (count == 4 && (form == "insert32" || form == "insert64")) {
         return insert_only(form, words[2], words[3]);
     }
-    if (form == "plain64" || form == "plain32" || form == "rows64" || form == "rows32") {
+    if (form == "plain64" || form == "plain32") {
         --count;
         ++words;
     } else {
@@ -364,8 +252,7 @@ int main(int count, char** words) {
     }
     Layout layout;
     if (count < 7 || count > 8 || !layout_named(words[1], layout)) {
-        std::fprintf(stderr, "usage: solve [plain64|plain32|rows64|rows32] LAYOUT BLOCK ROUNDS TAKE SEED PASSES "
-                             "[FILE]\n");
+        std::fprintf(stderr, "usage: solve [plain64|plain32] LAYOUT BLOCK ROUNDS TAKE SEED PASSES [FILE]\n");
         return 3;
     }
     uint64_t rounds = std::strtoull(words[3], nullptr, 10);
@@ -382,28 +269,5 @@ int main(int count, char** words) {
     if (fault.status != 0) {
         return tell(fault);
     }
-    if (take > shop.jobs) {
-        std::fprintf(stderr, "pfs: take %llu exceeds %zu jobs\n", (unsigned long long)take, shop.jobs);
-        return 3;
-    }
-    if (take == 0) {
-        take = std::min<uint64_t>(4, shop.jobs);
-    }
-    if (form.empty()) {
-        form = is_short(shop) ? "plain32" : "plain64";
-    }
-    if (form == "plain64") {
-        return search<PlainInserter<int64_t>>(shop, rounds, take, passes, random);
-    }
-    if (form == "rows64") {
-        return search<RowInserter<int64_t>>(shop, rounds, take, passes, random);
-    }
-    if (!is_short(shop)) {
-        std::fprintf(stderr, "solve: paths need 64 bits\n");
-        return 3;
-    }
-    if (form == "rows32") {
-        return search<RowInserter<int32_t>>(shop, rounds, take, passes, random);
-    }
-    return search<PlainInserter<uint32_t>>(shop, rounds, take, passes, random);
+    return search_in(form, shop, rounds, take, passes, random);
 }

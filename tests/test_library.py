@@ -1,6 +1,6 @@
 """The library for C: its header and what the files of it show; each function on each wrong argument
 (support/library_calls.c), also with memory refused, under valgrind and with gcc's sanitizers; and on random shops and
-files against the program and a second implementation (support/second_library.cpp)."""
+files against the program and a second implementation (support/second_library.py)."""
 import ctypes
 import pathlib
 import re
@@ -9,12 +9,13 @@ from random import Random
 
 import fuzz
 import pytest
-from support import second_program
+from support import second_library, second_program
 from support.growths import Shim
 from support.library import (HEADER, SUPPORT, Answer, Library, Memory, Number, compile_quietly, compiled, list32,
-                             list64, read32, read64, second_library, text, u32s, u64s)
+                             list64, read32, read64, text, u32s, u64s)
 from support.needs import need
 from support.program import Program, Ran
+from support.second_library import by_job
 from support.second_program import Instance
 from support.tools import printed_by
 
@@ -34,6 +35,8 @@ FIRST_GROWTH = 3
 MOST_GROWTHS = 200
 SHOPS = 200
 FILES = 1_000
+# The second library makes rounds of at most about so many table cells.
+MOST_WORK = 500_000
 PATTERN = 0xA5A5A5A5
 
 
@@ -285,18 +288,8 @@ def test_each_growth_refused(calls: Program, shim: Shim, folder: pathlib.Path, n
 
 # Against the program and the second implementation
 
-@pytest.fixture(scope="session")
-def second(tmp_path_factory: pytest.TempPathFactory) -> Library:
-    """The second implementation."""
-    return second_library(tmp_path_factory.mktemp("second"))
-
-
 Arguments = list[Number | Memory]
 Call = tuple[str, Arguments]
-
-
-def by_job(shop: Instance) -> list[int]:
-    return [shop.times[machine][job] for job in range(shop.jobs) for machine in range(shop.machines)]
 
 
 # No text of these shops is longer: 12 jobs on 26 machines have 312 times, each of 10 digits, with its machine.
@@ -401,41 +394,45 @@ def spoilt(random: Random, arguments: Arguments) -> Arguments:
 
 
 def is_quick(name: str, arguments: Arguments) -> bool:
-    """Whether the second implementation returns soon, which draws all words before the first one that is asked for."""
+    """Whether the second library is fast on this call. It draws all random words before the first one that is used, and
+    evaluates every order from scratch."""
     numbers = [argument.value for argument in arguments if isinstance(argument, Number)]
     if name == "pfs_random":
         return numbers[1] <= 10_000
-    return name != "pfs_rounds" or numbers[5] <= 20 or numbers[5] > 1_000_000
+    if name != "pfs_rounds" or numbers[5] > second_library.MOST_ROUNDS:
+        return True
+    _, jobs, machines, _, _, count, _, passes, _ = numbers
+    return count <= 20 and count * passes * jobs**3 * machines <= MOST_WORK
 
 
-def assert_same(libpfs: Library, second: Library, name: str, arguments: Arguments) -> int:
-    """Both libraries answer the same and leave the same in all memory. The number."""
+def assert_same(libpfs: Library, name: str, arguments: Arguments) -> int:
+    """Both libraries return the same number and leave the same bytes in all memory. Returns the number."""
     answer = libpfs.call(name, *arguments)
-    assert answer == second.call(name, *arguments), (name, arguments)
+    assert answer == second_library.call(name, *arguments), (name, arguments)
     return answer.number
 
 
 @pytest.mark.seconds(10)
-def test_random_shops_by_two_libraries(libpfs: Library, second: Library) -> None:
+def test_two_libraries_agree_on_random_instances(libpfs: Library) -> None:
     random = Random(1)
     numbers = set[int]()
     for _ in range(SHOPS):
         for name, arguments in searches(random, shop_of(random)):
-            assert assert_same(libpfs, second, name, arguments) == 0, (name, arguments)
+            assert assert_same(libpfs, name, arguments) == 0, (name, arguments)
             for wrong in [spoilt(random, arguments) for _ in range(6)]:
                 if is_quick(name, wrong):
-                    numbers.add(assert_same(libpfs, second, name, wrong))
+                    numbers.add(assert_same(libpfs, name, wrong))
     assert numbers == {0, 2, 3, 4, 5, 6, 7, 8, 9}
 
 
 @pytest.mark.seconds(10)
-def test_random_files_by_two_libraries(libpfs: Library, second: Library) -> None:
+def test_two_libraries_agree_on_random_files(libpfs: Library) -> None:
     random = Random(2)
     numbers = set[int]()
     for _ in range(FILES):
         for name, arguments in files(random, shop_of(random)):
-            numbers.add(assert_same(libpfs, second, name, arguments))
-            numbers.add(assert_same(libpfs, second, name, spoilt(random, arguments)))
+            numbers.add(assert_same(libpfs, name, arguments))
+            numbers.add(assert_same(libpfs, name, spoilt(random, arguments)))
     assert numbers == {0, 2, 3, 4, 5, 6, *range(10, 15), *range(20, 28), 30, 31, 32}
 
 

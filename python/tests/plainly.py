@@ -1,20 +1,22 @@
-"""The results of the package, computed plainly from the definitions, over lists: for small instances only. And
-strategies for instances and orders."""
+"""What the package returns, over lists: computed by the second program of the tests of pfs (tests/support), or from the
+definitions. For small instances only. And strategies that draw instances and orders."""
 import itertools
 import subprocess
-from collections.abc import Iterable, Sequence
+from collections.abc import Sequence
 
 from hypothesis import strategies as st
+from support import second_program
+from support.second_program import Instance
 
 Table = list[list[int]]
 
-# Times as they occur, few of them so that there are ties, and the greatest.
+# Usual times, small ones, which often give ties, and the greatest.
 TIMES = st.one_of(st.integers(0, 3), st.integers(0, 99), st.sampled_from([0, 1, 999_999_999, 1_000_000_000]))
 
 
 @st.composite
 def shops(draw: st.DrawFn, most_jobs: int = 6, most_machines: int = 4) -> Table:
-    """Times of up to this number of jobs and machines."""
+    """The times of an instance of at most this size."""
     jobs, machines = draw(st.integers(1, most_jobs)), draw(st.integers(1, most_machines))
     return draw(st.lists(st.lists(TIMES, min_size=machines, max_size=machines), min_size=jobs, max_size=jobs))
 
@@ -33,27 +35,25 @@ def shops_and_sequences(draw: st.DrawFn, most_jobs: int = 6) -> tuple[Table, lis
     return times, order[:draw(st.integers(0, len(order)))]
 
 
-def schedule(times: Table, order: Iterable[int]) -> list[list[tuple[int, int]]]:
-    """Start and end of each operation, by place and machine: it starts when its job and its machine are free."""
-    free = [0] * len(times[0])
-    rows = []
-    for job in order:
-        row: list[tuple[int, int]] = []
-        for machine, time in enumerate(times[job]):
-            start = max(free[machine], row[-1][1] if row else 0)
-            row.append((start, start + time))
-            free[machine] = start + time
-        rows.append(row)
-    return rows
+def instance_of(times: Table) -> Instance:
+    shop = Instance(len(times), len(times[0]), [0, 0, 0])
+    shop.times = [list(row) for row in zip(*times)]
+    return shop
+
+
+def schedule(times: Table, order: Sequence[int]) -> list[list[tuple[int, int]]]:
+    """Start and end of each operation, by place and machine."""
+    rows = second_program.ends_of(instance_of(times), order)
+    return [[(end - time, end) for time, end in zip(times[job], ends)] for job, ends in zip(order, rows)]
 
 
 def makespan(times: Table, order: Sequence[int]) -> int:
-    """The last end."""
-    return schedule(times, order)[-1][-1][1] if order else 0
+    return second_program.makespan(instance_of(times), order)
 
 
 def longest_path(times: Table, order: Sequence[int]) -> int:
-    """The makespan once more: the greatest sum of times over all ways of machines that go up from place to place."""
+    """The makespan by its other definition: the greatest sum of times on a path from the first job on the first machine
+    to the last job on the last machine, each step of which goes to the next job or the next machine."""
     jobs, machines = len(order), len(times[0])
     best = 0
     for steps in itertools.combinations_with_replacement(range(jobs), machines - 1):
@@ -69,12 +69,7 @@ def shortest(times: Table) -> int:
 
 
 def bound(times: Table) -> int:
-    """The greatest total of a job, and load of a machine with the least times before and after it."""
-    machines = range(len(times[0]))
-    before = [min(sum(row[:at]) for row in times) for at in machines]
-    behind = [min(sum(row[at + 1:]) for row in times) for at in machines]
-    loads = [before[at] + sum(row[at] for row in times) + behind[at] for at in machines]
-    return max([sum(row) for row in times] + loads)
+    return second_program.lower_bound(instance_of(times))
 
 
 def two_machine_bound(times: Table, one: int, other: int) -> int:
@@ -92,25 +87,21 @@ def two_machine_bound(times: Table, one: int, other: int) -> int:
 
 def best_place(times: Table, sequence: list[int], job: int) -> tuple[int, int]:
     """The first place that gives the least makespan, and that makespan."""
-    spans = [makespan(times, [*sequence[:at], job, *sequence[at:]]) for at in range(len(sequence) + 1)]
-    return spans.index(min(spans)), min(spans)
+    order = second_program.inserted(instance_of(times), sequence, job)
+    return order.index(job), makespan(times, order)
 
 
 def neh(times: Table) -> list[int]:
-    """The jobs by decreasing totals, each put at its best place."""
-    order: list[int] = []
-    for job in sorted(range(len(times)), key=lambda job: -sum(times[job])):
-        order.insert(best_place(times, order, job)[0], job)
-    return order
+    return second_program.by_totals(instance_of(times))
 
 
-def order_file(order: Sequence[int], machines: int, span: int) -> str:
-    """The order file, in which jobs count from 1."""
-    return f"order2 {len(order)} {machines}\n{' '.join(str(job + 1) for job in order)}\nmakespan {span}\n"
+def order_file(order: Sequence[int], machines: int | None, span: int) -> str:
+    """The order file, of version 1 if it states no machines."""
+    return second_program.order_text(order, machines, span).decode()
 
 
 def run(words: list[str], status: int = 0) -> str:
-    """What the program prints, or, for another status, what it says on standard error."""
+    """The output of a program, or, for another status, its errors."""
     done = subprocess.run(words, capture_output=True, text=True, timeout=60, stdin=subprocess.DEVNULL)
     assert done.returncode == status, done
     return done.stdout if status == 0 else done.stderr

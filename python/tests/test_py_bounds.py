@@ -1,36 +1,102 @@
-"""Nothing that Python can pass is read or written out of bounds: the tests of bad input once more, over the second
-library of the tests for C, built with the sanitizers for addresses and undefined behaviour."""
+"""Nothing that the package passes to the library is read or written out of bounds. The tests of bad input run again
+over a library that first touches all memory of a call, and then calls the library that is tested. gcc's sanitizers end
+the process if a list is longer than the memory at its pointer."""
 import os
 import pathlib
+import re
 import shutil
 import subprocess
 import sys
+from collections.abc import Iterator
 
 import pytest
+from pfs import _library
 
 TOP = pathlib.Path(__file__).resolve().parents[2]
-SECOND = TOP / "tests" / "support" / "second_library.cpp"
-FLAGS = "-std=c++17 -g -O1 -fPIC -shared -fsanitize=address,undefined -fno-sanitize-recover=all".split()
+FLAGS = "-g -O1 -fPIC -shared -fsanitize=address,undefined -fno-sanitize-recover=all".split()
+
+HEAD = r"""
+#include <dlfcn.h>
+#include <stdlib.h>
+#include "pfs.h"
+
+#define REAL(name) ((__typeof__(&name))real(#name))
+
+static void *real(const char *name) {
+    void *function = dlsym(dlopen(getenv("PFS_TOUCHED"), RTLD_NOW | RTLD_LOCAL), name);
+    if (function == NULL)
+        abort();
+    return function;
+}
+
+/* Reads each byte, and writes it back where a call writes. */
+static void touch(const volatile void *memory, size_t size, int is_output) {
+    volatile char *bytes = (volatile char *)memory;
+    for (size_t at = 0; at < size; ++at) {
+        char byte = bytes[at];
+        if (is_output)
+            bytes[at] = byte;
+    }
+}
+
+const char *pfs_version(void) { return REAL(pfs_version)(); }
+const char *pfs_message(int number) { return REAL(pfs_message)(number); }
+"""
 
 
-def file_of(name: str) -> str:
-    """Where the compiler has a library."""
-    return subprocess.run(["g++", f"-print-file-name={name}"], capture_output=True, text=True).stdout.strip()
+def functions() -> Iterator[str]:
+    """Each function that pfs.h declares, in C. A pointer is followed by its length; otherwise it points at one value."""
+    header = re.sub(r"/\*.*?\*/", "", (TOP / "lib" / "pfs.h").read_text(), flags=re.DOTALL)
+    for name, parameters in re.findall(r"^int (pfs_\w+)\((.*?)\) PFS_CHECKED;", header, re.MULTILINE | re.DOTALL):
+        each = parameters.split(",")
+        names = re.findall(r"\w+(?=,|$)", parameters)
+        touched = []
+        for parameter, own, following in zip(each, names, [*names[1:], ""]):
+            if "*" in parameter:
+                length = following if following in (f"{own}_length", "room") else "1"
+                touched.append(f"touch({own}, {length} * sizeof *{own}, {int('const' not in parameter)});")
+        yield f"int {name}({parameters}) {{ {' '.join(touched)} return REAL({name})({', '.join(names)}); }}\n"
+
+
+@pytest.fixture(scope="module")
+def touching(tmp_path_factory: pytest.TempPathFactory) -> dict[str, str]:
+    """The variables with which the package loads the library that touches all memory."""
+    if shutil.which("gcc") is None:
+        pytest.skip("gcc isn't installed (Debian: gcc)")
+    folder = tmp_path_factory.mktemp("touching")
+    (folder / "touching.c").write_text(HEAD + "".join(functions()))
+    library = folder / "libpfs.so.0"
+    subprocess.run(["gcc", *FLAGS, "-Wall", "-Werror", f"-I{TOP / 'lib'}", "-o", library, folder / "touching.c"],
+                   check=True)
+    asan = subprocess.run(["gcc", "-print-file-name=libasan.so"], capture_output=True, text=True).stdout.strip()
+    return {"LD_PRELOAD": asan, "PYTHONMALLOC": "malloc", "ASAN_OPTIONS": "detect_leaks=0",
+            "PFS_LIBRARY": str(library), "PFS_TOUCHED": str(pathlib.Path(_library.PATH).resolve()),
+            "PYTHONDONTWRITEBYTECODE": "1"}
+
+
+def ran(words: list[str], touching: dict[str, str]) -> subprocess.CompletedProcess[str]:
+    return subprocess.run([sys.executable, *words], cwd=TOP / "python", env=os.environ | touching, capture_output=True,
+                          text=True, timeout=500)
 
 
 @pytest.mark.seconds(40)
-def test_bad_input_under_the_sanitizers(tmp_path: pathlib.Path) -> None:
-    if shutil.which("g++") is None:
-        pytest.skip("g++ isn't installed (Debian: g++)")
-    if not SECOND.exists():
-        pytest.skip(f"no {SECOND}")
-    library = tmp_path / "libpfs.so.0"
-    subprocess.run(["g++", *FLAGS, f"-I{TOP / 'lib'}", "-o", str(library), str(SECOND), "-x", "c++",
-                    str(TOP / "lib" / "pfs_text.c")], check=True)
-    env = os.environ | {"LD_PRELOAD": f"{file_of('libasan.so')} {file_of('libstdc++.so.6')}", "PYTHONMALLOC": "malloc",
-                        "ASAN_OPTIONS": "detect_leaks=0", "PFS_LIBRARY": str(library), "PYTHONDONTWRITEBYTECODE": "1"}
-    words = ["-m", "pytest", "-q", "-p", "no:cacheprovider", "-p", "no:xdist", "-x", "-o", "addopts=",
-             "tests/test_py_validate.py", "tests/test_py_values.py"]
-    done = subprocess.run([sys.executable, *words], cwd=TOP / "python", env=env, capture_output=True, text=True,
-                          timeout=500)
+def test_bad_input_under_the_sanitizers(touching: dict[str, str]) -> None:
+    words = ["-m", "pytest", "-q", "-p", "no:cacheprovider", "-p", "no:xdist", "-x", "-o", "addopts="]
+    done = ran([*words, "tests/test_py_validate.py", "tests/test_py_values.py"], touching)
     assert done.returncode == 0, done.stdout + done.stderr
+
+
+PLANTED = """
+import ctypes
+import numpy
+from pfs import _library
+times = numpy.full({size}, 1, numpy.uint32)
+span = ctypes.c_uint64()
+print(_library.library.pfs_bound(times.ctypes.data, 200, 20, 10, ctypes.byref(span)), flush=True)
+"""
+
+
+@pytest.mark.parametrize("size, is_found", [(200, False), (199, True)])
+def test_the_sanitizers_find_a_list_that_is_too_short(touching: dict[str, str], size: int, is_found: bool) -> None:
+    done = ran(["-c", PLANTED.format(size=size)], touching | {"PYTHONPATH": "src"})
+    assert (done.stdout == "0\n", "heap-buffer-overflow" in done.stderr) == (not is_found, is_found), done

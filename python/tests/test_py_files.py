@@ -384,7 +384,7 @@ def test_order_files(case: tuple[plainly.Table, list[int]], span: int) -> None:
     assert solution.to_text() == plainly.order_file(order, machines, span)
     assert pfs.read_order(io.BytesIO(solution.to_text().encode())) == solution
     bare = pfs.Solution(order, span)
-    assert bare.to_text() == plainly.order_file(order, 0, span).replace(f"order2 {len(order)} 0", f"order {len(order)}")
+    assert bare.to_text() == plainly.order_file(order, None, span)
     assert pfs.read_order(io.BytesIO(bare.to_text().encode())) == bare
 
 

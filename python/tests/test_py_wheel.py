@@ -146,6 +146,8 @@ def test_a_wheel_in_a_clean_environment(wheel: pathlib.Path, tmp_path: pathlib.P
     told = run([tmp_path / "clean" / "bin" / "pfs-plan", "times.csv"], tmp_path)
     assert told == "makespan 9 min\nbound 9 min\noptimal\n1 table\n2 chair\n"
     shutil.copytree(HERE / "tests", tmp_path / "tests", ignore=shutil.ignore_patterns("__pycache__"))
+    (tmp_path / "tests" / "support").mkdir()
+    shutil.copy(TOP / "tests" / "support" / "second_program.py", tmp_path / "tests" / "support")
     (tmp_path / "tests" / "test_py_where.py").write_text(
         f"import pfs\n\n\ndef test_it() -> None:\n    assert pfs.__file__.startswith({str(tmp_path / 'clean')!r})\n")
     names = ["where", "values", "given", "solve"]

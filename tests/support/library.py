@@ -11,8 +11,6 @@ from support.program import Program
 
 SUPPORT = pathlib.Path(__file__).resolve().parent
 HEADER = SUPPORT.parent.parent / "lib" / "pfs.h"
-TEXTS = HEADER.with_name("pfs_text.c")
-SECOND = SUPPORT / "second_library.cpp"
 
 Words = list[str | pathlib.Path]
 
@@ -102,12 +100,3 @@ def compile_quietly(words: Words) -> None:
     """Runs a compiler, which has to succeed and to say nothing."""
     done = subprocess.run(words, stdout=subprocess.PIPE, stderr=subprocess.STDOUT, text=True)
     assert (done.returncode, done.stdout) == (0, ""), words
-
-
-def second_library(folder: pathlib.Path) -> Library:
-    """The second implementation of the library."""
-    path = folder / "libsecond.so"
-    compile_quietly([need("gcc"), "-std=c99", "-fPIC", "-c", "-o", folder / "texts.o", TEXTS])
-    compile_quietly([need("g++"), "-std=c++17", "-O2", "-Wall", "-Wextra", "-pedantic", "-Werror", "-shared", "-fPIC",
-                     f"-I{HEADER.parent}", "-o", path, SECOND, folder / "texts.o"])
-    return Library(path)

@@ -16,6 +16,8 @@ MOST_JOBS = 5_000
 MOST_MACHINES = 200
 MOST_TIME = 1_000_000_000
 MOST_NOTE = 4_294_967_295
+# The greatest seed of Taillard's generator.
+MOST_SEED = 2_147_483_646
 
 USAGE = b"""pfs: usage
 pfs value --layout L [--block K] FILE
@@ -393,6 +395,16 @@ def after_round(shop: Instance, kept: list[int], words: list[int], passes: int) 
     return order if makespan(shop, order) <= makespan(shop, kept) else kept
 
 
+def cells_of_neh(shop: Instance) -> int:
+    """The number of table cells that NEH computes by heads and tails."""
+    return 2 * shop.machines * shop.jobs**2
+
+
+def cells_of_round(shop: Instance, take: int, passes: int) -> int:
+    each = 2 * take * shop.machines * (2 * shop.jobs - take)
+    return each + passes * shop.jobs * shop.machines * (4 * shop.jobs - 2)
+
+
 class Pcg32:
     """PCG XSH RR 64/32 of O'Neill, seeded by a number as Rust's rand_core does it: four words of the generator with
     a fixed increment, which steps before each, are the state and the increment."""
@@ -425,7 +437,7 @@ class Pcg32:
 
 
 def generated(jobs: int, machines: int, seed: int) -> Instance:
-    if not 1 <= seed <= 2_147_483_646:
+    if not 1 <= seed <= MOST_SEED:
         raise refused(b"seed out of range")
     shop = Instance(jobs, machines, [seed, 0, 0])
     for machine in range(machines):
@@ -469,10 +481,7 @@ def solved(shop: Instance, options: dict[bytes, Any]) -> bytes:
     text = order_text(order, shop.machines, makespan(shop, order))
     if not options[b"--cells"]:
         return text
-    cells = 2 * shop.machines * shop.jobs**2
-    each = 2 * take * shop.machines * (2 * shop.jobs - take)
-    each += options[b"--passes"] * shop.jobs * shop.machines * (4 * shop.jobs - 2)
-    cells += options[b"--rounds"] * each
+    cells = cells_of_neh(shop) + options[b"--rounds"] * cells_of_round(shop, take, options[b"--passes"])
     return text + b"cells %d\n" % cells
 
 
