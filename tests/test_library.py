@@ -1,6 +1,6 @@
-"""The library for C: its header and what the files of it show; each function on each wrong argument
-(support/library_calls.c), also with memory refused, under valgrind and with gcc's sanitizers; and on random shops and
-files against the program and a second implementation (support/second_library.py)."""
+"""The library for C: its header, its manual page and the symbols of its files; each function on each invalid argument
+(support/library_calls.c), also with failing allocations, under valgrind and with gcc's sanitizers; and on random
+instances and files against the program and a second implementation (support/second_library.py)."""
 import ctypes
 import pathlib
 import re
@@ -20,7 +20,7 @@ from support.second_program import Instance
 from support.tools import printed_by
 
 CALLS = SUPPORT / "library_calls.c"
-# Each function that is proved, and whether each call of it asks for memory.
+# Each function that is proved, and whether a call of it allocates memory.
 FUNCTIONS = {
     "makespan": True, "makespans": False, "bound": False, "table": True, "neh": True, "rounds": True, "insert": True,
     "insertions": True, "heads_tails": False, "construct": True, "local_search": True, "random": False,
@@ -30,12 +30,13 @@ TEXTS = {"pfs_message", "pfs_version"}
 NAMES = {f"pfs_{name}" for name in FUNCTIONS} | TEXTS
 ALL_CALLS = Ran(b"325 calls, 0 failures\n", b"", 0)
 LONG_CALLS = Ran(b"4 calls, 0 failures\n", b"", 0)
-# The number of the first growth of a call, behind those of the program that calls; no call takes more than so many.
+# The number of the first allocation of a call, after those of the calling program. No call makes more than
+# MOST_GROWTHS.
 FIRST_GROWTH = 3
 MOST_GROWTHS = 200
 SHOPS = 200
 FILES = 1_000
-# The second library makes rounds of at most about so many table cells.
+# The greatest work of rounds that the second library does in a test, roughly in table cells.
 MOST_WORK = 500_000
 PATTERN = 0xA5A5A5A5
 
@@ -51,7 +52,7 @@ def test_the_header_compiles(folder: pathlib.Path, compiler: str, standard: str)
 
 
 def defined() -> dict[str, int]:
-    """The numbers that pfs.h names."""
+    """The macros of pfs.h with their numbers."""
     found = re.findall(r"^#define (PFS_\w+) (?:UINT64_C\()?(\d+)\b", HEADER.read_text(), re.MULTILINE)
     return {name: int(value) for name, value in found}
 
@@ -79,7 +80,7 @@ def test_the_numbers_are_those_of_the_crate(top: pathlib.Path) -> None:
 
 
 def test_the_header_names_the_parameters_as_the_functions_do(top: pathlib.Path) -> None:
-    """In their order: two of them may have the same type. A slice is a pointer and a length in C."""
+    """In the same order, since two of them may have the same type. A slice is a pointer and a length in C."""
     source = "\n".join(path.read_text() for path in sorted((top / "crates" / "pfs_c" / "src").rglob("*.rt")))
     others = {"span": "makespan", "least": "bound", "len": "length"}
     header = re.sub(r"/\*.*?\*/", "", HEADER.read_text(), flags=re.DOTALL)
@@ -98,7 +99,7 @@ def test_the_header_names_the_parameters_as_the_functions_do(top: pathlib.Path) 
         assert told == due, f"the parameters of {name}"
 
 
-def test_the_version_is_a_number_too() -> None:
+def test_the_version_number_is_that_of_the_version() -> None:
     version = re.search(r'^#define PFS_VERSION "(\d+)\.(\d+)\.(\d+)"$', HEADER.read_text(), re.MULTILINE)
     assert version
     major, minor, patch = map(int, version.groups())
@@ -106,14 +107,14 @@ def test_the_version_is_a_number_too() -> None:
 
 
 @pytest.mark.parametrize("compiler", ["gcc", "clang"])
-def test_a_compiler_warns_where_a_number_is_ignored(folder: pathlib.Path, compiler: str) -> None:
+def test_a_compiler_warns_if_a_program_ignores_the_number(folder: pathlib.Path, compiler: str) -> None:
     (folder / "ignores.c").write_text('#include "pfs.h"\nvoid f(uint64_t *b) { pfs_bound(0, 0, 0, 0, b); }\n')
     words = [need(compiler), "-std=c99", f"-I{HEADER.parent}", "-c", "ignores.c"]
     told = subprocess.run(words, cwd=folder, capture_output=True, text=True)
     assert told.returncode == 0 and "unused-result" in told.stderr
 
 
-# What the texts of the numbers say, a few words each, which no other text has.
+# A few words of the text of each number, which no other text has.
 MEANT = {
     0: "done", 1: "memory", 2: "number of jobs or of machines", 3: "list", 4: "^a time is greater",
     5: "^a job isn't below", 6: "^a job occurs twice", 7: "destruction size", 8: "passes", 9: "rounds", 10: "seed",
@@ -151,7 +152,7 @@ def test_other_numbers_have_no_text(texts: dict[int, str]) -> None:
     assert {text for number, text in texts.items() if number not in MEANT} == {"unknown number"}
 
 
-# What the comments of pfs.h say of the numbers, a few words each.
+# A few words of each number's comment in pfs.h.
 COMMENTS = {
     1: "allocation failed", 2: "PFS_MOST_JOBS.*PFS_MOST_MACHINES", 3: "a list.*length", 4: "a time.*PFS_LONGEST_TIME$",
     5: "a job is not below", 6: "a job occurs twice", 7: "destruction size", 8: "PFS_MOST_PASSES", 9: "PFS_MOST_ROUNDS",
@@ -161,7 +162,7 @@ COMMENTS = {
     31: "0 or greater", 32: "at an earlier place", 33: "PFS_LONGEST_ORDER_FILE"}
 
 
-def test_the_header_says_what_each_number_means() -> None:
+def test_the_header_explains_each_number() -> None:
     comments = {int(value): comment for value, comment in
                 re.findall(r"^#define PFS_[A-Z_]+ (\d+) +/\*\*< (.*?) \*/$", HEADER.read_text(), re.MULTILINE)}
     assert COMMENTS.keys() == MEANT.keys() - {0}
@@ -191,12 +192,12 @@ def test_the_manual_page_has_each_number_and_function() -> None:
     assert set(re.findall(r"^\.Fn (\w+)", text, re.MULTILINE)) == NAMES
 
 
-def test_the_manual_page_is_in_order() -> None:
+def test_mandoc_finds_nothing_wrong_in_the_manual_page() -> None:
     done = subprocess.run([need("mandoc"), "-T", "lint", "-W", "warning", str(MANUAL)], capture_output=True, text=True)
     assert (done.stdout + done.stderr, done.returncode) == ("", 0)
 
 
-def test_the_example_of_the_manual_page(libpfs: Library, folder: pathlib.Path) -> None:
+def test_the_example_of_the_manual_page_prints_its_makespan(libpfs: Library, folder: pathlib.Path) -> None:
     lines = MANUAL.read_text().partition(".Bd -literal -offset indent\n")[2].partition(".Ed\n")[0]
     (folder / "example.c").write_text(lines.replace("\\e", "\\"))
     program = compiled(folder / "example", [folder / "example.c"], libpfs)
@@ -205,7 +206,7 @@ def test_the_example_of_the_manual_page(libpfs: Library, folder: pathlib.Path) -
 
 # The files
 
-def test_only_its_names_can_be_seen(libpfs: Library) -> None:
+def test_the_library_exports_only_the_names_of_the_header(libpfs: Library) -> None:
     static = libpfs.path.with_name("libpfs.a")
     for path, how in ((libpfs.path, "--dynamic"), (static, "--extern-only")):
         printed = printed_by([need("nm"), how, "--defined-only", "--format=posix", path], path.parent)
@@ -216,7 +217,7 @@ def test_only_its_names_can_be_seen(libpfs: Library) -> None:
     assert header == NAMES
 
 
-def test_it_asks_for_the_c_library_alone(libpfs: Library) -> None:
+def test_the_library_needs_only_the_c_library(libpfs: Library) -> None:
     told = printed_by([need("readelf"), "--dynamic", "--wide", libpfs.path], libpfs.path.parent)
     assert re.findall(r"\(NEEDED\).*\[(.*)\]", told) == ["libc.so.6"]
     assert re.findall(r"\(SONAME\).*\[(.*)\]", told) == ["libpfs.so.0"]
@@ -227,7 +228,7 @@ def test_it_asks_for_the_c_library_alone(libpfs: Library) -> None:
     assert names <= {"malloc", "realloc", "free", "memcpy", "memmove", "memset", "memcmp", "bcmp"}
 
 
-# Each function on each wrong argument
+# Each function on each invalid argument
 
 @pytest.fixture(scope="session")
 def calls(libpfs: Library, tmp_path_factory: pytest.TempPathFactory) -> Program:
@@ -238,13 +239,14 @@ def calls(libpfs: Library, tmp_path_factory: pytest.TempPathFactory) -> Program:
 @pytest.mark.quick
 @pytest.mark.parametrize("compiler", ["gcc", "clang"])
 @pytest.mark.parametrize("is_static", [False, True], ids=["shared", "static"])
-def test_each_call(libpfs: Library, folder: pathlib.Path, compiler: str, is_static: bool) -> None:
+def test_each_call_has_the_due_number_and_outputs(libpfs: Library, folder: pathlib.Path, compiler: str,
+                                                  is_static: bool) -> None:
     program = compiled(folder / "calls", [CALLS], libpfs, compiler=compiler, is_static=is_static)
     assert program.run("all", folder) == ALL_CALLS
     assert program.run("long", folder) == LONG_CALLS
 
 
-def test_each_call_with_sanitizers(libpfs: Library, folder: pathlib.Path) -> None:
+def test_the_sanitizers_find_nothing_in_any_call(libpfs: Library, folder: pathlib.Path) -> None:
     checks = ["-fsanitize=address,undefined", "-fno-sanitize-recover=all"]
     program = compiled(folder / "calls", [CALLS], libpfs, *checks, is_static=True)
     assert program.run("all", folder) == ALL_CALLS
@@ -253,34 +255,36 @@ def test_each_call_with_sanitizers(libpfs: Library, folder: pathlib.Path) -> Non
 
 @pytest.mark.seconds(15)
 @pytest.mark.parametrize("word", ["all", "threads", *FUNCTIONS])
-def test_each_call_under_valgrind(calls: Program, folder: pathlib.Path, word: str) -> None:
+def test_valgrind_finds_nothing_in_any_call(calls: Program, folder: pathlib.Path, word: str) -> None:
     valgrind = ["-q", "--error-exitcode=9", "--leak-check=full", "--show-leak-kinds=all", "--errors-for-leak-kinds=all"]
     ran = Program(pathlib.Path(need("valgrind"))).run([*valgrind, str(calls.path), word], folder)
     assert (ran.stderr, ran.status) == (b"", 0), f"the calls say {ran.stdout.decode()}"
 
 
-def test_four_threads(calls: Program, folder: pathlib.Path) -> None:
+def test_four_threads_at_once_have_the_same_results(calls: Program, folder: pathlib.Path) -> None:
     for _ in range(20):
         assert calls.run("threads", folder) == Ran(b"4 calls, 0 failures\n", b"", 0)
 
 
 @pytest.fixture(scope="session")
 def shim(tmp_path_factory: pytest.TempPathFactory) -> Shim:
-    """The library that refuses growths."""
+    """The library that lets allocations fail."""
     return Shim(tmp_path_factory.mktemp("shim"))
 
 
 @pytest.mark.parametrize("name", FUNCTIONS)
-def test_each_growth_refused(calls: Program, shim: Shim, folder: pathlib.Path, name: str) -> None:
-    """Of two calls the one that is refused a growth answers so and leaves each output, and the other one is right."""
+def test_a_failed_allocation_leaves_every_output_unchanged(calls: Program, shim: Shim, folder: pathlib.Path,
+                                                           name: str) -> None:
+    """Of two calls, the one whose allocation fails returns PFS_MEMORY and leaves every output unchanged. The other one
+    is right."""
     told = []
     for growth in range(FIRST_GROWTH, MOST_GROWTHS):
         ran, is_refused = shim.run_refused(calls, [name], folder, b"", growth)
         if not is_refused:
             break
-        assert (ran.stderr, ran.status) == (b"", 0), f"growth {growth} refused: {ran}"
+        assert (ran.stderr, ran.status) == (b"", 0), f"allocation {growth} fails: {ran}"
         told.append(ran.stdout)
-    assert ran == Ran(b"right\nright\n", b"", 0), "no growth refused"
+    assert ran == Ran(b"right\nright\n", b"", 0), "the last allocation is too late to fail"
     half = len(told) // 2
     assert told == [b"memory\nright\n"] * half + [b"right\nmemory\n"] * half
     assert half > 0 or not FUNCTIONS[name]
@@ -292,12 +296,12 @@ Arguments = list[Number | Memory]
 Call = tuple[str, Arguments]
 
 
-# No text of these shops is longer: 12 jobs on 26 machines have 312 times, each of 10 digits, with its machine.
+# No text of these instances is longer: 12 jobs on 26 machines have 312 times, each of 10 digits, with its machine.
 ROOM = 10_000
 
 
 def shop_of(random: Random) -> Instance:
-    """A random shop, often one with many equal sums."""
+    """A random instance, often one with many equal sums."""
     most_jobs, most_machines = random.choice([(9, 5), (9, 5), (12, 26)])
     notes = [random.choice(fuzz.NOTES) for _ in range(3)]
     shop = Instance(random.randint(1, most_jobs), random.randint(1, most_machines), notes)
@@ -319,7 +323,7 @@ def out64() -> Memory:
 
 
 def searches(random: Random, shop: Instance) -> list[Call]:
-    """Right calls that search, and the one that judges what a search finds."""
+    """Valid calls of the functions that compute."""
     jobs = list(range(shop.jobs))
     random.shuffle(jobs)
     some = jobs[:random.randint(0, shop.jobs - 1)]
@@ -350,7 +354,7 @@ def searches(random: Random, shop: Instance) -> list[Call]:
 
 
 def files(random: Random, shop: Instance) -> list[Call]:
-    """Right calls that draw, read and write, of files that may be wrong."""
+    """Valid calls that draw, read and write. The files that are read may be wrong."""
     writer = fuzz.Writer(random)
     file, order = writer.file([shop_of(random), shop]), writer.order(shop)
     if random.random() < 0.5:
@@ -437,7 +441,7 @@ def test_two_libraries_agree_on_random_files(libpfs: Library) -> None:
 
 
 def test_the_random_words_are_those_of_rounds(libpfs: Library) -> None:
-    """A caller repeats rounds without passes by the words, the best places and the makespans."""
+    """A caller repeats rounds without passes by the random words, the best places and the makespans."""
     random = Random(4)
     for _ in range(SHOPS):
         shop, seed = shop_of(random), random.getrandbits(64)
@@ -451,7 +455,7 @@ def test_the_random_words_are_those_of_rounds(libpfs: Library) -> None:
 
 
 def repeated_round(libpfs: Library, shop: Instance, order: list[int], turn: int, take: int, seed: int) -> list[int]:
-    """What a round leaves of an order, step by step."""
+    """The order after a round, made step by step."""
     drawn = libpfs.call("pfs_random", Number(seed), Number(turn * take), *list32([PATTERN] * take))
     assert drawn.number == 0
     made = list(order)
@@ -465,7 +469,7 @@ def repeated_round(libpfs: Library, shop: Instance, order: list[int], turn: int,
 
 
 class Desk:
-    """The program in a folder, and the library, on one shop."""
+    """The program in a folder and the library, on one instance."""
 
     def __init__(self, pfs: Program, libpfs: Library, folder: pathlib.Path, shop: Instance) -> None:
         self.pfs, self.libpfs, self.folder, self.shop = pfs, libpfs, folder, shop
@@ -482,7 +486,7 @@ class Desk:
         return ran.stdout
 
     def searched(self, random: Random) -> None:
-        """NEH and rounds in two parts against one search, and the audit of what they leave."""
+        """NEH and rounds in two parts leave what one search prints, and the audits of it agree."""
         first, second = random.randint(0, 5), random.randint(0, 5)
         take, passes, seed = random.randint(1, self.shop.jobs), random.randint(0, 2), random.getrandbits(64)
         size = Number(self.shop.jobs, is_length=True)
@@ -541,7 +545,8 @@ class Desk:
 
 @pytest.mark.quick
 @pytest.mark.seconds(10)
-def test_random_shops_by_the_program(pfs: Program, libpfs: Library, folder: pathlib.Path) -> None:
+def test_the_library_and_the_program_agree_on_random_instances(pfs: Program, libpfs: Library,
+                                                               folder: pathlib.Path) -> None:
     random = Random(3)
     for _ in range(SHOPS):
         desk = Desk(pfs, libpfs, folder, shop_of(random))

@@ -1,5 +1,6 @@
-"""How the tests run: `make check` runs without a built program, and `pytest -m quick` runs something of each command,
-of the library, of the package, of pictures and of experiments; a test that hangs fails; the order can be changed."""
+"""How the tests run. `make check` needs no built program, and `pytest -m quick` has tests of each command, of the
+library, the package, pictures and experiments. A test that hangs fails. Options shuffle the tests and list the slowest
+ones."""
 import pathlib
 import re
 import subprocess
@@ -12,14 +13,14 @@ COMMANDS = [re.sub(r"^pfs (\S+).*", r"\1", line) for line in LINES]
 
 
 def run_pytest(top: pathlib.Path, *words: str) -> tuple[int, str]:
-    """The exit status of pytest and what it prints, with no built program."""
+    """The exit status and the output of pytest, without a built program."""
     line = [sys.executable, "-m", "pytest", "-q", "--pfs", str(top / "none"), *words]
     done = subprocess.run(line, cwd=top, capture_output=True, text=True, timeout=240)
     return done.returncode, done.stdout + done.stderr
 
 
 def test_check_needs_no_program(top: pathlib.Path) -> None:
-    """Of these files one test needs none, and that of pictures takes too long."""
+    """Of these two files it runs the one test that needs no program and is short."""
     status, told = run_pytest(top, "-m", "check", "tests/test_searches.py", "tests/test_gantt.py")
     assert status == 0 and re.search(r"^1 passed, \d+ deselected", told, re.MULTILINE), told
 
@@ -31,7 +32,7 @@ def test_check_has_the_tests_of_the_sources(top: pathlib.Path) -> None:
                                                                          "make", "paths", "setup", "skips")}, told
 
 
-def test_quick_has_something_of_each_part(top: pathlib.Path) -> None:
+def test_quick_has_tests_of_each_part(top: pathlib.Path) -> None:
     status, told = run_pytest(top, "-m", "quick", "--collect-only", "tests")
     assert status == 0, told
     for command in COMMANDS:
@@ -57,14 +58,14 @@ def test_ends() -> None:
 
 
 def test_a_test_that_hangs_fails(top: pathlib.Path, folder: pathlib.Path) -> None:
-    """By the settings of the repository, but for the limit. The next test is run."""
+    """With the settings of the repository and a shorter limit. The next test runs."""
     (folder / "test_hanging.py").write_text(HANGS)
     status, told = run_pytest(top, "-c", str(top / "pyproject.toml"), "-o", "timeout=1", "--pfs", sys.executable,
                               str(folder))
     assert status == 1 and "Failed: Timeout >1.0s" in told and "1 failed, 1 passed" in told, told
 
 
-def test_the_limit_of_a_test(pytestconfig: pytest.Config) -> None:
+def test_a_test_may_take_at_most_five_minutes(pytestconfig: pytest.Config) -> None:
     assert 60 < float(pytestconfig.getini("timeout")) <= 300
 
 
@@ -75,8 +76,8 @@ def order(top: pathlib.Path, *words: str) -> list[str]:
     return re.findall(r"^tests/\S+::(\w+)", told, re.MULTILINE)
 
 
-def test_another_order(top: pathlib.Path) -> None:
-    """Is that of its seed, and has the same tests."""
+def test_a_seed_shuffles_the_tests(top: pathlib.Path) -> None:
+    """The same seed gives the same order, and no test is lost."""
     usual = order(top)
     first, again, second = (order(top, f"--shuffle={seed}") for seed in (1, 1, 2))
     assert first == again != second != usual != first

@@ -60,7 +60,7 @@ class Example(NamedTuple):
 
 
 def examples(page: str, text: str) -> list[Example]:
-    """Each command behind `$ `, with the lines behind `> ` that go on with it, and what it prints."""
+    """Each command with its output. A command follows `$ `, and its further lines follow `> `."""
     found: list[list[str]] = []
     for line in text.splitlines():
         if line.startswith("$ "):
@@ -69,7 +69,7 @@ def examples(page: str, text: str) -> list[Example]:
             found[-1][0] += "\n" + line[2:]
         elif found:
             found[-1][1] += line + "\n"
-    # an empty line may stand before the next command
+    # The next command may follow an empty line.
     return [Example(page, command, re.sub("\n+$", "\n", printed.lstrip("\n"))) for command, printed in found]
 
 
@@ -223,7 +223,7 @@ def test_a_fault_has_its_text_and_status(text: str, status: int, pfs: Program, w
 
 
 def test_the_exit_statuses_name_the_faults_that_are_of_no_file() -> None:
-    """Each with its status; those of files have status 2, and the usage text is no single line."""
+    """Each with its status. Faults of files have status 2, and the usage text is not a single line."""
     named = {text: it["status"] for it in EXITS for text in it.get("faults", ())}
     assert named == {text: status for text, status in STATUS_OF_FAULT.items() if status != 2 and text != "pfs: usage"}
 
@@ -449,7 +449,7 @@ def test_the_limit_of_an_order_file_is_the_programs(pfs: Program, worked: pathli
 # Order files
 
 def syntax(text: str, pfs: Program, worked: pathlib.Path) -> int | None:
-    """The offset at which this is no order file, or none where its syntax is right."""
+    """The offset of the syntax error in this order file, if it has one."""
     (worked / "order").write_text(text)
     told = re.fullmatch(r"pfs: order file syntax at (\d+)\n",
                         pfs.run("check --layout taillard three order", worked).stderr.decode())

@@ -1,6 +1,6 @@
 """The packages that pfs and its tests need: INSTALL.md has the table of tools/packages, the tests need no others, and
-tools/setup installs the missing ones. It runs in a folder with its own list, with programs in the place of `id`,
-`sudo` and `apt-get` that note their calls."""
+tools/setup installs the missing ones. It runs in a folder with another list, and with scripts for `id`, `sudo` and
+`apt-get` that record their calls."""
 import pathlib
 import re
 import shutil
@@ -22,7 +22,7 @@ python3-x   module json x_of_python.inner
 """
 MISSING = ["plain", "two-words", "python3-x"]
 LINE = "apt-get install --no-install-recommends plain two-words python3-x"
-# What apt-get installs is in the file `installs`, one path on each line.
+# `apt-get install` makes the files that the file `installs` names, one on each line.
 SCRIPTS = {
     "id": 'echo "$USER_ID"',
     "sudo": 'echo "sudo $*" >> calls; test "$SUDO" = free || exit 1; test "$1" = -n; shift; exec "$@"',
@@ -34,8 +34,8 @@ INSTALLED = ["apt-get  update", "apt-get noninteractive install -y --no-install-
 
 @pytest.fixture
 def machine(top: pathlib.Path, folder: pathlib.Path) -> pathlib.Path:
-    """A folder with the script and a list, and with programs in the place of those that the script calls. Of the
-    packages of the list one is installed."""
+    """A folder with the script, a list, and scripts for the programs that it calls. One package of the list is
+    installed."""
     for name in ("tools", "bin"):
         (folder / name).mkdir()
     shutil.copy(top / "tools" / "setup", folder / "tools")
@@ -60,7 +60,7 @@ def calls(machine: pathlib.Path) -> list[str]:
 
 @pytest.mark.parametrize("update", [0, 100])
 def test_root_installs_what_is_missing(machine: pathlib.Path, update: int) -> None:
-    """Also with the package lists of before, where they can't be updated."""
+    """Also if the package lists can't be updated."""
     told = run_setup(machine, update=update)
     assert told.status == 0, told.stderr
     assert calls(machine) == INSTALLED
@@ -73,7 +73,7 @@ def test_sudo_installs_what_is_missing(machine: pathlib.Path) -> None:
     assert all(call.startswith(("apt-get", "sudo -n ")) for call in calls(machine)), "sudo asks for no password"
 
 
-def test_another_user_gets_the_command(machine: pathlib.Path) -> None:
+def test_a_user_without_rights_gets_the_command(machine: pathlib.Path) -> None:
     told = run_setup(machine, user=1000)
     assert (told.status, told.stdout, told.stderr.splitlines()[1:]) == (1, "", [LINE])
     assert calls(machine) == ["sudo -n true"]
@@ -85,14 +85,14 @@ def test_a_machine_without_sudo_gets_the_command(machine: pathlib.Path) -> None:
     assert (told.status, told.stderr.splitlines()[-1], calls(machine)) == (1, LINE, [])
 
 
-def test_a_machine_with_all_packages_is_left_alone(machine: pathlib.Path) -> None:
+def test_nothing_is_installed_if_nothing_is_missing(machine: pathlib.Path) -> None:
     for name in ("plain", "second", "x"):
         write_script(machine / "bin" / name, "")
     assert run_setup(machine, user=1000) == Told(0, "", "")
     assert calls(machine) == []
 
 
-def test_a_package_that_provides_too_little_is_an_error(machine: pathlib.Path) -> None:
+def test_an_incomplete_package_is_an_error(machine: pathlib.Path) -> None:
     (machine / "installs").write_text("bin/plain bin/x")
     told = run_setup(machine)
     assert (told.status, told.stderr.splitlines()[-1]) == (1, "setup: these packages are still incomplete: two-words")
@@ -104,8 +104,8 @@ def test_a_failed_installation_is_an_error(machine: pathlib.Path) -> None:
 
 
 @pytest.mark.parametrize("module", ["x_of_python", "x_of_python.inner"])
-def test_modules_are_those_of_debians_python(machine: pathlib.Path, module: str) -> None:
-    """A module in the current folder or on PYTHONPATH isn't one of them."""
+def test_only_modules_of_debians_python_count(machine: pathlib.Path, module: str) -> None:
+    """Not those in the current folder or on PYTHONPATH."""
     (machine / "tools" / "packages").write_text(LIST.replace("x_of_python.inner", module))
     (machine / "x_of_python").mkdir()
     (machine / "x_of_python" / "__init__.py").touch()
@@ -141,7 +141,7 @@ def test_each_package_is_listed_once() -> None:
 
 
 def test_what_the_tests_need_is_in_a_package(top: pathlib.Path) -> None:
-    """Each command or module that a test names as it asks whether it is installed."""
+    """Every command and module that a test looks for."""
     asked = re.compile(r"\b(?:need|need_module|need_of_debian)\(\"([\w+-]+)\"\)|\bshutil\.which\(\"([\w-]+)\"\)")
     found = {path: [first or second for first, second in asked.findall(path.read_text())]
              for folder in ("tests", "python/tests") for path in (top / folder).rglob("*.py")}
@@ -149,5 +149,5 @@ def test_what_the_tests_need_is_in_a_package(top: pathlib.Path) -> None:
     assert len(names) > 15 and {name for name in names if package_of(name) is None} == set()
 
 
-def test_the_package_of_a_name() -> None:
+def test_a_command_has_its_package() -> None:
     assert (package_of("slurmctld"), package_of("nm"), package_of("nonesuch")) == ("slurm-wlm", "binutils", None)

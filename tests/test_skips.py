@@ -1,4 +1,4 @@
-"""A skipped test states its reason, and is a failure in CI."""
+"""A skipped test states its reason, and fails in CI."""
 import os
 import pathlib
 import subprocess
@@ -7,7 +7,7 @@ import sys
 import pytest
 
 LACKING = "nonesuch isn't installed"
-# Tests that are skipped in each of these ways, and the reasons.
+# Tests that are skipped, by the way in which they are, each with its reason.
 SKIPPING = {
     "a command": ("def test_it() -> None:\n    need('nonesuch')\n", LACKING),
     "a module": ("def test_it() -> None:\n    need_module('nonesuch')\n", LACKING),
@@ -20,7 +20,7 @@ HEAD = "import pytest\nfrom support.needs import need, need_module\n\n"
 
 
 def run_pytest(top: pathlib.Path, folder: pathlib.Path, text: str, variable: str) -> tuple[int, str]:
-    """The exit status of pytest and what it prints for a file with this text, where the variable CI has this value."""
+    """The exit status and the output of pytest for a file with this text and this value of the variable CI."""
     (folder / "test_skipping.py").write_text(HEAD + text)
     words = ["-m", "pytest", "-p", "no:cacheprovider", "-p", "support.needs", "-rsfE", "--rootdir", str(folder), "."]
     env = os.environ | {"PYTHONPATH": str(top / "tests"), "CI": variable}
@@ -29,7 +29,7 @@ def run_pytest(top: pathlib.Path, folder: pathlib.Path, text: str, variable: str
 
 
 @pytest.mark.parametrize("way", SKIPPING)
-def test_a_skip_says_why(top: pathlib.Path, folder: pathlib.Path, way: str) -> None:
+def test_a_skip_states_its_reason(top: pathlib.Path, folder: pathlib.Path, way: str) -> None:
     text, why = SKIPPING[way]
     status, told = run_pytest(top, folder, text, "")
     assert status in (pytest.ExitCode.OK, pytest.ExitCode.NO_TESTS_COLLECTED), told
@@ -37,19 +37,19 @@ def test_a_skip_says_why(top: pathlib.Path, folder: pathlib.Path, way: str) -> N
 
 
 @pytest.mark.parametrize("way", SKIPPING)
-def test_a_skip_is_a_failure_in_ci(top: pathlib.Path, folder: pathlib.Path, way: str) -> None:
+def test_a_skip_fails_in_ci(top: pathlib.Path, folder: pathlib.Path, way: str) -> None:
     text, why = SKIPPING[way]
     status, told = run_pytest(top, folder, text, "true")
     assert status in (pytest.ExitCode.TESTS_FAILED, pytest.ExitCode.INTERRUPTED), told
     assert f"no test is skipped in CI: {why}" in told and "skipped" not in told.splitlines()[-1]
 
 
-def test_a_test_that_passes_in_ci(top: pathlib.Path, folder: pathlib.Path) -> None:
+def test_a_test_that_has_what_it_needs_passes_in_ci(top: pathlib.Path, folder: pathlib.Path) -> None:
     status, told = run_pytest(top, folder, "def test_it() -> None:\n    need('sh')\n    need_module('json')\n", "true")
     assert status == pytest.ExitCode.OK and "1 passed" in told, told
 
 
-def test_no_program_is_a_usage_error(top: pathlib.Path, folder: pathlib.Path) -> None:
+def test_a_missing_program_is_a_usage_error(top: pathlib.Path, folder: pathlib.Path) -> None:
     words = [sys.executable, "-m", "pytest", "--pfs", str(folder / "none"), "tests/test_searches.py"]
     done = subprocess.run(words, cwd=top, capture_output=True, text=True, timeout=60)
     assert done.returncode == pytest.ExitCode.USAGE_ERROR

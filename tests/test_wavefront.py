@@ -1,5 +1,6 @@
-"""Shops at the edges of what a wavefront serves: at least 8 jobs, at most 24 machines, and less than 65,535 for as many
-of its longest time as a path has operations. Insertions and searches of them are compared with plain definitions."""
+"""Instances at the limits of a wavefront. It needs at least 8 jobs, at most 24 machines, and less than 65,535 for the
+product of the longest time and the number of operations on a path. Insertions and searches are compared with those of
+the second program."""
 import pathlib
 from random import Random
 
@@ -16,14 +17,14 @@ SOLVE = "solve --layout taillard --take 3 --rounds 3 --seed 1 --passes 1 --cells
 
 
 def shop_of(jobs: int, machines: int, times: list[int]) -> Instance:
-    """A shop with these times, machine by machine."""
+    """An instance with these times, machine by machine."""
     shop = Instance(jobs, machines, [0, 0, 0])
     shop.times = [times[jobs * machine:jobs * (machine + 1)] for machine in range(machines)]
     return shop
 
 
 def drawn(jobs: int, machines: int, most: int) -> Instance:
-    """A shop of random times, the same for the same arguments."""
+    """An instance of random times, the same for the same arguments."""
     random = Random(f"{jobs} {machines} {most}")
     return shop_of(jobs, machines, [random.randint(0, most) for _ in range(jobs * machines)])
 
@@ -33,7 +34,7 @@ def equal(jobs: int, machines: int, time: int) -> Instance:
 
 
 def with_long_job(jobs: int, machines: int, time: int) -> Instance:
-    """A shop in which the fourth job takes this time on each machine, much longer than the others."""
+    """An instance whose fourth job takes this time on each machine. All other times are at most 9."""
     shop = drawn(jobs, machines, 9)
     for row in shop.times:
         row[3] = time
@@ -46,7 +47,7 @@ def with_one_long_time(jobs: int, machines: int, time: int) -> Instance:
     return shop
 
 
-# Shops, and the method that a search of each uses.
+# Instances, and the method that a search of each uses.
 SHOPS: dict[str, tuple[Instance, str]] = {
     **{f"{jobs} jobs on {machines} machines, times to {most}": (
         drawn(jobs, machines, most),
@@ -78,15 +79,15 @@ def is_served(shop: Instance, width: int) -> bool:
     return shop.jobs >= 8 and shop.machines <= width and longest_path(shop) < 65_535
 
 
-def test_the_method_is_the_narrowest_that_serves() -> None:
-    """The methods of the table above are those of the rule."""
+def test_a_search_uses_the_narrowest_method_that_can_compute_it() -> None:
+    """The methods in SHOPS follow this rule."""
     for name, (shop, method) in SHOPS.items():
         methods = [method for method, width in WIDTHS.items() if is_served(shop, width)]
         assert method == (methods[0] if methods else "HeadsTails"), name
 
 
 def insertions(shop: Instance) -> list[tuple[int, int]]:
-    """For each job the first best place in the sequence of those before it, and the makespan there."""
+    """For each job the first best place among the jobs before it, and the makespan there."""
     order: list[int] = []
     places = []
     for job in range(shop.jobs):
@@ -99,9 +100,9 @@ def insertions(shop: Instance) -> list[tuple[int, int]]:
 
 
 @pytest.mark.parametrize("name", SHOPS)
-def test_insertions(pfs_calls: Program, folder: pathlib.Path, name: str) -> None:
-    """Heads and tails and each wavefront that serves the shop give the first best places and their makespans, and count
-    (4k - 2)m cells each for k jobs with the inserted one."""
+def test_each_method_finds_the_first_best_places(pfs_calls: Program, folder: pathlib.Path, name: str) -> None:
+    """Heads and tails and each wavefront that can compute the instance find the first best places and their makespans.
+    Each counts (4k - 2)m cells for k jobs, the inserted one included."""
     shop, method = SHOPS[name]
     by_job = " ".join(str(row[job]) for job in range(shop.jobs) for row in shop.times)
     lines = [method]
@@ -115,8 +116,7 @@ def test_insertions(pfs_calls: Program, folder: pathlib.Path, name: str) -> None
 
 
 @pytest.mark.parametrize("name", SHOPS)
-def test_searches(pfs: Program, folder: pathlib.Path, name: str) -> None:
-    """`solve` prints what a plain program does."""
+def test_solve_prints_what_the_second_program_does(pfs: Program, folder: pathlib.Path, name: str) -> None:
     shop, _ = SHOPS[name]
     (folder / "shop").write_bytes(second_program.canonical(shop, b"taillard"))
     expected = second_program.solved(shop, OPTIONS).decode().splitlines()

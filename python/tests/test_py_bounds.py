@@ -45,7 +45,7 @@ const char *pfs_message(int number) { return REAL(pfs_message)(number); }
 
 
 def functions() -> Iterator[str]:
-    """Each function that pfs.h declares, in C. A pointer is followed by its length; otherwise it points at one value."""
+    """Each function that pfs.h declares, in C. A pointer without a length after it points to one value."""
     header = re.sub(r"/\*.*?\*/", "", (TOP / "lib" / "pfs.h").read_text(), flags=re.DOTALL)
     for name, parameters in re.findall(r"^int (pfs_\w+)\((.*?)\) PFS_CHECKED;", header, re.MULTILINE | re.DOTALL):
         each = parameters.split(",")

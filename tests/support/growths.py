@@ -1,4 +1,4 @@
-"""Memory allocations of a program that fail or are counted, with refuse.c, a library that is preloaded."""
+"""Lets memory allocations of a program fail, or counts them, by the preloaded library refuse.c."""
 import os
 import pathlib
 import subprocess

@@ -16,19 +16,19 @@ Words = list[str | pathlib.Path]
 
 
 class Number(NamedTuple):
-    """A number that is handed in, of 32 or 64 bits, or a length: then it may be less, but not more."""
+    """An argument that is a number of 32 or 64 bits. The length of a list may be changed to a smaller one only."""
     value: int
     bits: int = 64
     is_length: bool = False
 
 
 class Memory(NamedTuple):
-    """Memory that is handed in by a pointer, and may be written."""
+    """An argument that is a pointer to this memory, which the function may write."""
     content: bytes
 
 
 class Answer(NamedTuple):
-    """The number that a call answers, and the memory behind each of its pointers after it."""
+    """The number that a call returns, and the memory at each of its pointers after the call."""
     number: int
     memory: list[bytes]
 
@@ -56,7 +56,7 @@ def text(content: bytes) -> list[Number | Memory]:
 
 
 def read32(memory: bytes) -> list[int]:
-    """The numbers of 32 bits that stand in memory."""
+    """The numbers of 32 bits in memory."""
     return array("I", memory).tolist()
 
 
@@ -72,7 +72,7 @@ class Library:
         self.functions = ctypes.CDLL(str(path))
 
     def call(self, name: str, *arguments: Number | Memory) -> Answer:
-        """Calls a function on copies of what is handed in."""
+        """Calls a function with pointers to copies of the memory."""
         buffers: list[ctypes.Array[ctypes.c_char]] = []
         given: list[object] = []
         for argument in arguments:
@@ -88,7 +88,7 @@ class Library:
 
 def compiled(program: pathlib.Path, sources: Words, libpfs: Library, *words: str, compiler: str = "gcc",
              is_static: bool = False) -> Program:
-    """A program in C over the library, which it finds where that lies, or has in itself."""
+    """A program in C over the library, linked to the shared library where that is, or to the static one."""
     shared: Words = [f"-Wl,-rpath,{libpfs.path.parent}", libpfs.path]
     library: Words = [libpfs.path.with_name("libpfs.a")] if is_static else shared
     strict: Words = ["-std=c99", "-Wall", "-Wextra", "-pedantic", "-Werror", "-g", f"-I{HEADER.parent}"]
@@ -97,6 +97,6 @@ def compiled(program: pathlib.Path, sources: Words, libpfs: Library, *words: str
 
 
 def compile_quietly(words: Words) -> None:
-    """Runs a compiler, which has to succeed and to say nothing."""
+    """Runs a compiler, which has to succeed without a warning."""
     done = subprocess.run(words, stdout=subprocess.PIPE, stderr=subprocess.STDOUT, text=True)
     assert (done.returncode, done.stdout) == (0, ""), words

@@ -1,11 +1,11 @@
-/* Calls each function of lib/pfs.h rightly and with each wrong argument. Everything that a function may write stands in
- * `out`, which is filled with a pattern before a call; after it `out` has to be as `want`, byte for byte. The shop and
- * its numbers are those of README.md, the drawn times those of Taillard's first instance.
+/* Calls each function of lib/pfs.h with valid arguments and with each invalid one. Every output is in `out`, which is
+ * filled with a pattern before a call. After the call, `out` has to equal `due` byte for byte. The instance and its
+ * makespans are those of README.md, the drawn times those of Taillard's first instance.
  *
- * usage: library_calls all      every call, and how many there were
+ * usage: library_calls all      every call; prints the number of calls
  *        library_calls long     calls on files that are too long
- *        library_calls threads  the same shop in four threads at once
- *        library_calls NAME     one right call, which may be refused memory, twice: `right` or `memory` of each */
+ *        library_calls threads  the same instance in four threads at once
+ *        library_calls NAME     a valid call, twice; prints for each `right`, or `memory` if an allocation failed */
 #define _POSIX_C_SOURCE 200809L
 #include <limits.h>
 #include <pthread.h>
@@ -27,41 +27,42 @@ struct outputs {
     uint8_t text[200];
 };
 
-static struct outputs out, want;
+static struct outputs out, due;
 static int calls, failures;
 static int seen[64];
 
 static void fresh(void) {
     memset(&out, PATTERN, sizeof out);
-    memset(&want, PATTERN, sizeof want);
+    memset(&due, PATTERN, sizeof due);
 }
 
-/* Judges a call that has answered `number`, and makes the outputs fresh. */
-static void judge(int line, int number, int answer) {
+/* Checks a call, which should have returned `number`, and fills the outputs with the pattern again. */
+static void check(int line, int number, int returned) {
     ++calls;
-    if (answer >= 0 && answer < (int)COUNT(seen))
-        seen[answer] = 1;
-    if (answer != number || memcmp(&out, &want, sizeof out) != 0) {
+    if (returned >= 0 && returned < (int)COUNT(seen))
+        seen[returned] = 1;
+    if (returned != number || memcmp(&out, &due, sizeof out) != 0) {
         ++failures;
-        printf("line %d: wanted %d, answered %d, outputs %s\n", line, number, answer,
-               memcmp(&out, &want, sizeof out) == 0 ? "right" : "wrong");
+        printf("line %d: %d is due, returned %d, outputs %s\n", line, number, returned,
+               memcmp(&out, &due, sizeof out) == 0 ? "right" : "wrong");
     }
     fresh();
 }
 
-#define CALL(number, call) judge(__LINE__, number, call)
+#define CALL(number, call) check(__LINE__, number, call)
 
-/* Jobs that a function reads or changes in place: the same in `out` and in what is wanted. */
+/* Jobs that a function reads or changes in place: the same in `out` and in `due`. */
 static void put_list(const uint32_t *jobs, size_t count) {
     memcpy(out.list, jobs, count * sizeof *jobs);
-    memcpy(want.list, jobs, count * sizeof *jobs);
+    memcpy(due.list, jobs, count * sizeof *jobs);
 }
 
-static void want_list(const uint32_t *jobs, size_t count) {
-    memcpy(want.list, jobs, count * sizeof *jobs);
+static void due_list(const uint32_t *jobs, size_t count) {
+    memcpy(due.list, jobs, count * sizeof *jobs);
 }
 
-/* Three jobs on two machines, also with a time too long in front. They stand in memory of just their length. */
+/* The times of three jobs on two machines; in `long_times` the first one is too long. Both are copies in memory of
+ * exactly their length. */
 static const uint32_t TIMES[6] = {3, 2, 2, 5, 4, 1};
 static uint32_t *times, *long_times;
 static const uint32_t BEST[3] = {1, 0, 2}, NUMBERED[3] = {0, 1, 2}, OUTSIDE[3] = {9, 9, 9}, TWICE[3] = {1, 1, 9};
@@ -73,7 +74,7 @@ static uint32_t *copied(const uint32_t *numbers, size_t count) {
     return memcpy(copy, numbers, count * sizeof *copy);
 }
 
-/* Sizes, the number of times and the times are judged first and in this order, whatever is wrong behind them. */
+/* Sizes, the number of times and the times are validated first and in this order: all later arguments are invalid. */
 typedef int on_shop(const uint32_t *shop, size_t length, size_t jobs, size_t machines);
 
 static int makespan_on(const uint32_t *shop, size_t length, size_t jobs, size_t machines) {
@@ -148,18 +149,18 @@ static void makespans(void) {
     CALL(PFS_JOB, pfs_makespan(times, 6, 3, 2, (uint32_t[]){1, 3, 1}, 3, &out.makespan));
     CALL(PFS_REPEATED, pfs_makespan(times, 6, 3, 2, TWICE, 3, &out.makespan));
     CALL(PFS_REPEATED, pfs_makespan(times, 6, 3, 2, (uint32_t[]){0, 1, 2, 0}, 4, &out.makespan));
-    want.makespan = 11;
+    due.makespan = 11;
     CALL(PFS_OK, pfs_makespan(times, 6, 3, 2, NUMBERED, 3, &out.makespan));
-    want.makespan = 10;
+    due.makespan = 10;
     CALL(PFS_OK, pfs_makespan(times, 6, 3, 2, BEST, 3, &out.makespan));
-    want.makespan = 9;
+    due.makespan = 9;
     CALL(PFS_OK, pfs_makespan(times, 6, 3, 2, (uint32_t[]){2, 0}, 2, &out.makespan));
-    want.makespan = 0;
+    due.makespan = 0;
     CALL(PFS_OK, pfs_makespan(times, 6, 3, 2, OUTSIDE, 0, &out.makespan));
 }
 
 static void want_makespans(const uint64_t *makespans, size_t count) {
-    memcpy(want.makespans, makespans, count * sizeof *makespans);
+    memcpy(due.makespans, makespans, count * sizeof *makespans);
 }
 
 static int many_of(const uint32_t *sequences, size_t sequences_length, size_t length, size_t count) {
@@ -196,9 +197,9 @@ static void many_makespans(void) {
 
 static void bounds(void) {
     wrong_shops(bound_on);
-    want.bound = 10;
+    due.bound = 10;
     CALL(PFS_OK, pfs_bound(times, 6, 3, 2, &out.bound));
-    want.bound = PFS_LONGEST_TIME;
+    due.bound = PFS_LONGEST_TIME;
     CALL(PFS_OK, pfs_bound((uint32_t[]){PFS_LONGEST_TIME}, 1, 1, 1, &out.bound));
 }
 
@@ -211,8 +212,8 @@ static void tables(void) {
     wrong_shops(table_on);
     CALL(PFS_JOB, pfs_table(times, 6, 3, 2, OUTSIDE, 3, out.starts, 6, out.ends, 6));
     CALL(PFS_REPEATED, pfs_table(times, 6, 3, 2, TWICE, 3, out.starts, 6, out.ends, 6));
-    memcpy(want.starts, starts, sizeof starts);
-    memcpy(want.ends, ends, sizeof ends);
+    memcpy(due.starts, starts, sizeof starts);
+    memcpy(due.ends, ends, sizeof ends);
     CALL(PFS_OK, pfs_table(times, 6, 3, 2, BEST, 3, out.starts, 6, out.ends, 6));
 }
 
@@ -220,18 +221,18 @@ static void nehs(void) {
     CALL(PFS_LENGTH, pfs_neh(long_times, 6, 3, 2, out.list, 2, &out.makespan, &out.cells));
     CALL(PFS_LENGTH, pfs_neh(long_times, 6, 3, 2, out.list, 4, &out.makespan, &out.cells));
     wrong_shops(neh_on);
-    want_list(BEST, 3);
-    want.makespan = 10;
-    want.cells = 2 * 2 * 3 * 3;
+    due_list(BEST, 3);
+    due.makespan = 10;
+    due.cells = 2 * 2 * 3 * 3;
     CALL(PFS_OK, pfs_neh(times, 6, 3, 2, out.list, 3, &out.makespan, &out.cells));
-    /* Where all is equal, the lower number and the first place count: each job goes before those that are there. */
-    want_list((uint32_t[]){2, 1, 0}, 3);
-    want.makespan = 3;
-    want.cells = 2 * 1 * 3 * 3;
+    /* Of equal totals the lower job is first, and of equal places the first: each job is inserted at the front. */
+    due_list((uint32_t[]){2, 1, 0}, 3);
+    due.makespan = 3;
+    due.cells = 2 * 1 * 3 * 3;
     CALL(PFS_OK, pfs_neh((uint32_t[]){1, 1, 1}, 3, 3, 1, out.list, 3, &out.makespan, &out.cells));
 }
 
-/* Rounds of one seed from an order of this shop. */
+/* Makes rounds of one seed from an order of this instance. */
 static int rounds_from(const uint32_t *order, uint32_t first, uint32_t count, size_t take, uint32_t passes) {
     put_list(order, 3);
     return pfs_rounds(times, 6, 3, 2, out.list, 3, first, count, take, passes, 7, &out.makespan, &out.cells);
@@ -240,13 +241,13 @@ static int rounds_from(const uint32_t *order, uint32_t first, uint32_t count, si
 static int right_rounds(const uint32_t *order, uint32_t first, uint32_t count, size_t take, uint32_t passes,
                         const uint32_t *left, uint64_t makespan, uint64_t cells) {
     int answer = rounds_from(order, first, count, take, passes);
-    want_list(left, 3);
-    want.makespan = makespan;
-    want.cells = cells;
+    due_list(left, 3);
+    due.makespan = makespan;
+    due.cells = cells;
     return answer;
 }
 
-/* With this seed round 2 is the first of one job that finds the best order, and with two jobs round 0 is. */
+/* With this seed the best order is found by round 2 if a round removes one job, and by round 0 if it removes two. */
 static void rounds(void) {
     CALL(PFS_LENGTH, pfs_rounds(long_times, 6, 3, 2, out.list, 2, UINT32_MAX, 1, 0, 101, 7, &out.makespan, &out.cells));
     CALL(PFS_LENGTH, pfs_rounds(long_times, 6, 3, 2, out.list, 4, UINT32_MAX, 1, 0, 101, 7, &out.makespan, &out.cells));
@@ -278,14 +279,14 @@ static void insertions(void) {
     CALL(PFS_JOB, pfs_insert(times, 6, 3, 2, BEST, 3, 3, &out.place, &out.makespan));
     CALL(PFS_REPEATED, pfs_insert(times, 6, 3, 2, BEST, 2, 0, &out.place, &out.makespan));
     CALL(PFS_REPEATED, pfs_insert(times, 6, 3, 2, BEST, 3, 2, &out.place, &out.makespan));
-    want.place = 2;
-    want.makespan = 10;
+    due.place = 2;
+    due.makespan = 10;
     CALL(PFS_OK, pfs_insert(times, 6, 3, 2, BEST, 2, 2, &out.place, &out.makespan));
-    want.place = 0;
-    want.makespan = 5;
+    due.place = 0;
+    due.makespan = 5;
     CALL(PFS_OK, pfs_insert(times, 6, 3, 2, OUTSIDE, 0, 0, &out.place, &out.makespan));
-    want.place = 0;
-    want.makespan = 3;
+    due.place = 0;
+    due.makespan = 3;
     CALL(PFS_OK, pfs_insert((uint32_t[]){1, 1, 1}, 3, 3, 1, BEST, 2, 2, &out.place, &out.makespan));
 }
 
@@ -316,9 +317,9 @@ static int heads_of(const uint32_t *sequence, size_t length) {
     return pfs_heads_tails(times, 6, 3, 2, sequence, length, out.starts, 2 * length, out.ends, 2 * length);
 }
 
-static void want_heads(const uint64_t *heads, const uint64_t *tails, size_t count) {
-    memcpy(want.starts, heads, count * sizeof *heads);
-    memcpy(want.ends, tails, count * sizeof *tails);
+static void due_heads(const uint64_t *heads, const uint64_t *tails, size_t count) {
+    memcpy(due.starts, heads, count * sizeof *heads);
+    memcpy(due.ends, tails, count * sizeof *tails);
 }
 
 static void heads_and_tails(void) {
@@ -329,9 +330,9 @@ static void heads_and_tails(void) {
     CALL(PFS_JOB, heads_of(OUTSIDE, 3));
     CALL(PFS_JOB, heads_of((uint32_t[]){1, 3, 1}, 3));
     CALL(PFS_REPEATED, heads_of(TWICE, 3));
-    want_heads((uint64_t[]){2, 7, 5, 9, 9, 10}, (uint64_t[]){10, 8, 8, 3, 5, 1}, 6);
+    due_heads((uint64_t[]){2, 7, 5, 9, 9, 10}, (uint64_t[]){10, 8, 8, 3, 5, 1}, 6);
     CALL(PFS_OK, heads_of(BEST, 3));
-    want_heads((uint64_t[]){4, 5, 7, 9}, (uint64_t[]){9, 3, 5, 2}, 4);
+    due_heads((uint64_t[]){4, 5, 7, 9}, (uint64_t[]){9, 3, 5, 2}, 4);
     CALL(PFS_OK, heads_of((uint32_t[]){2, 0}, 2));
     CALL(PFS_OK, heads_of(OUTSIDE, 0));
 }
@@ -341,9 +342,9 @@ static int constructed(const uint32_t *sequence, size_t length, const uint32_t *
                          &out.makespan);
 }
 
-static void want_sequence(const uint32_t *jobs, size_t count, uint64_t makespan) {
-    want_list(jobs, count);
-    want.makespan = makespan;
+static void due_sequence(const uint32_t *jobs, size_t count, uint64_t makespan) {
+    due_list(jobs, count);
+    due.makespan = makespan;
 }
 
 static void constructions(void) {
@@ -355,15 +356,15 @@ static void constructions(void) {
     CALL(PFS_JOB, constructed(BEST, 2, (uint32_t[]){3, 0}, 2));
     CALL(PFS_REPEATED, constructed(BEST, 2, (uint32_t[]){0, 3}, 2));
     CALL(PFS_REPEATED, constructed(BEST, 1, (uint32_t[]){2, 2, 3}, 3));
-    want_sequence(BEST, 3, 10);
+    due_sequence(BEST, 3, 10);
     CALL(PFS_OK, constructed(BEST, 2, (uint32_t[]){2}, 1));
-    want_sequence(BEST, 3, 10);
+    due_sequence(BEST, 3, 10);
     CALL(PFS_OK, constructed(NUMBERED + 2, 1, NUMBERED, 2));
-    want_sequence(BEST, 3, 10);
+    due_sequence(BEST, 3, 10);
     CALL(PFS_OK, constructed(OUTSIDE, 0, BEST, 3));
-    want_sequence(NUMBERED, 3, 11);
+    due_sequence(NUMBERED, 3, 11);
     CALL(PFS_OK, constructed(NUMBERED, 3, OUTSIDE, 0));
-    want.makespan = 0;
+    due.makespan = 0;
     CALL(PFS_OK, constructed(OUTSIDE, 0, OUTSIDE, 0));
 }
 
@@ -383,40 +384,40 @@ static void local_searches(void) {
     CALL(PFS_REPEATED, local_search(BEST, 2, (uint32_t[]){2, 2}, 2, 999));
     CALL(PFS_JOB, local_search(BEST, 2, BEST, 3, 999));
     CALL(PFS_PASSES, local_search(BEST, 3, BEST, 3, PFS_MOST_PASSES + 1));
-    want_sequence(BEST, 3, 10);
+    due_sequence(BEST, 3, 10);
     CALL(PFS_OK, local_search(NUMBERED, 3, (uint32_t[]){1}, 1, PFS_MOST_PASSES));
-    want_sequence(NUMBERED, 3, 11);
+    due_sequence(NUMBERED, 3, 11);
     CALL(PFS_OK, local_search(NUMBERED, 3, (uint32_t[]){2}, 1, 1));
-    want_sequence(NUMBERED, 3, 11);
+    due_sequence(NUMBERED, 3, 11);
     CALL(PFS_OK, local_search(NUMBERED, 3, BEST, 3, 0));
-    want_sequence((uint32_t[]){0, 2}, 2, 8);
+    due_sequence((uint32_t[]){0, 2}, 2, 8);
     CALL(PFS_OK, local_search((uint32_t[]){2, 0}, 2, (uint32_t[]){2}, 1, 1));
-    want_sequence(NUMBERED, 3, 11);
+    due_sequence(NUMBERED, 3, 11);
     CALL(PFS_OK, local_search(NUMBERED, 3, OUTSIDE, 0, 1));
 }
 
-/* The first words of seed 7. */
+/* The first random words of seed 7. */
 static const uint32_t WORDS[5] = {2442223337, 414063806, 2743600285, 3524868804, 2371632060};
 
 static void random_words(void) {
-    want_list(WORDS, 5);
+    due_list(WORDS, 5);
     CALL(PFS_OK, pfs_random(7, 0, out.list, 5));
-    want_list(WORDS + 3, 2);
+    due_list(WORDS + 3, 2);
     CALL(PFS_OK, pfs_random(7, 3, out.list, 2));
-    want_list((uint32_t[]){298703107}, 1);
+    due_list((uint32_t[]){298703107}, 1);
     CALL(PFS_OK, pfs_random(0, 0, out.list, 1));
     CALL(PFS_OK, pfs_random(7, 3, out.list, 0));
 }
 
-/* NULL is as good as any other list of length 0. */
+/* A list of length 0 may be NULL. */
 static void no_lists(void) {
-    want.makespan = 0;
+    due.makespan = 0;
     CALL(PFS_OK, pfs_makespan(times, 6, 3, 2, NULL, 0, &out.makespan));
     CALL(PFS_OK, pfs_makespans(times, 6, 3, 2, NULL, 0, 3, NULL, 0));
     want_makespans((uint64_t[]){0, 0}, 2);
     CALL(PFS_OK, pfs_makespans(times, 6, 3, 2, NULL, 0, 0, out.makespans, 2));
-    want.place = 0;
-    want.makespan = 5;
+    due.place = 0;
+    due.makespan = 5;
     CALL(PFS_OK, pfs_insert(times, 6, 3, 2, NULL, 0, 0, &out.place, &out.makespan));
     want_makespans((uint64_t[]){5}, 1);
     CALL(PFS_OK, pfs_insertions(times, 6, 3, 2, NULL, 0, 0, out.makespans, 1));
@@ -428,11 +429,11 @@ static void no_lists(void) {
     CALL(PFS_LENGTH, pfs_rounds(times, 6, 3, 2, NULL, 0, 0, 1, 1, 0, 7, &out.makespan, &out.cells));
     CALL(PFS_LENGTH, pfs_generate(20, 2, 873654221, NULL, 0));
     CALL(PFS_SIZE, pfs_write_order(NULL, 0, 2, 10, NULL, 0, &out.length));
-    want.fault = 0;
+    due.fault = 0;
     CALL(PFS_NO_BLOCK, pfs_read(NULL, 0, PFS_ORLIB, 1, &out.jobs, &out.machines, &out.notes, NULL, 0, &out.fault));
-    want.fault = 0;
+    due.fault = 0;
     CALL(PFS_SYNTAX, pfs_read_order(NULL, 0, NULL, 0, &out.jobs, &out.machines, &out.makespan, &out.fault));
-    want.length = 29;
+    due.length = 29;
     CALL(PFS_ROOM, pfs_write_order(BEST, 3, 2, 10, NULL, 0, &out.length));
 }
 
@@ -451,13 +452,13 @@ static void drawings(void) {
     CALL(PFS_LENGTH, pfs_generate(20, 2, 873654221, out.list, 44));
     CALL(PFS_LENGTH, pfs_generate(20, 2, 873654221, out.list, 39));
     for (size_t job = 0; job < 20; ++job) {
-        want.list[2 * job] = drawn[0][job];
-        want.list[2 * job + 1] = drawn[1][job];
+        due.list[2 * job] = drawn[0][job];
+        due.list[2 * job + 1] = drawn[1][job];
     }
     CALL(PFS_OK, pfs_generate(20, 2, 873654221, out.list, 40));
 }
 
-/* Reads a block of a text that stands in memory of just its length. */
+/* Reads a block of a text in memory of exactly its length. */
 static int read_text(const char *text, uint32_t layout, size_t block, size_t room) {
     size_t length = strlen(text);
     uint8_t *bytes = malloc(length + (length == 0));
@@ -471,7 +472,7 @@ static int read_text(const char *text, uint32_t layout, size_t block, size_t roo
 }
 
 static int faulty(uint64_t fault, const char *text, uint32_t layout, size_t block) {
-    want.fault = fault;
+    due.fault = fault;
     return read_text(text, layout, block, 44);
 }
 
@@ -480,9 +481,9 @@ static int faulty(uint64_t fault, const char *text, uint32_t layout, size_t bloc
 #define BY_JOB "flow shop instance\n3 2\n0 3 1 2\n0 2 1 5\n0 4 1 1\n"
 
 static void want_sizes(const struct pfs_notes *notes) {
-    want.jobs = 3;
-    want.machines = 2;
-    want.notes = *notes;
+    due.jobs = 3;
+    due.machines = 2;
+    due.notes = *notes;
 }
 
 static void readings(void) {
@@ -507,11 +508,11 @@ static void readings(void) {
     }
     for (size_t room = 6; room < 8; ++room) {
         want_sizes(&notes);
-        want_list(TIMES, 6);
+        due_list(TIMES, 6);
         CALL(PFS_OK, read_text(THREE_JOBS, PFS_TAILLARD, 1, room));
     }
     want_sizes(&none);
-    want_list(TIMES, 6);
+    due_list(TIMES, 6);
     CALL(PFS_OK, read_text("1 1\n0 7\n" BY_JOB "x 1\n", PFS_ORLIB, 2, 6));
 }
 
@@ -521,17 +522,17 @@ static int write_times(uint32_t layout, size_t room) {
 }
 
 static void want_text(const char *text) {
-    want.length = strlen(text);
-    memcpy(want.text, text, want.length);
+    due.length = strlen(text);
+    memcpy(due.text, text, due.length);
 }
 
 static void writings(void) {
     wrong_shops(write_on);
     CALL(PFS_LAYOUT, write_times(2, 0));
     CALL(PFS_LAYOUT, write_times(UINT32_MAX, 200));
-    want.length = sizeof THREE_JOBS - 1;
+    due.length = sizeof THREE_JOBS - 1;
     CALL(PFS_ROOM, write_times(PFS_TAILLARD, 0));
-    want.length = sizeof BY_JOB - 1;
+    due.length = sizeof BY_JOB - 1;
     CALL(PFS_ROOM, write_times(PFS_ORLIB, sizeof BY_JOB - 2));
     want_text(THREE_JOBS);
     CALL(PFS_OK, write_times(PFS_TAILLARD, sizeof THREE_JOBS - 1));
@@ -545,19 +546,19 @@ static int read_order(const char *text, size_t room) {
 }
 
 static void want_order(size_t machines) {
-    want.jobs = 3;
-    want.machines = machines;
-    want.makespan = 10;
+    due.jobs = 3;
+    due.machines = machines;
+    due.makespan = 10;
 }
 
 static void order_readings(void) {
-    want.fault = 5;
+    due.fault = 5;
     CALL(PFS_SYNTAX, read_order("order3 3", 0));
-    want.fault = 0;
+    due.fault = 0;
     CALL(PFS_SYNTAX, read_order("", 3));
-    want.fault = 2;
+    due.fault = 2;
     CALL(PFS_JOB_RANGE, read_order("order 3\n2 4 2\nmakespan 10\n", 3));
-    want.fault = 2;
+    due.fault = 2;
     CALL(PFS_JOB_TWICE, read_order("order 3\n2 2 4\nmakespan 10\n", 0));
     for (size_t room = 0; room < 3; ++room) {
         want_order(2);
@@ -565,11 +566,11 @@ static void order_readings(void) {
     }
     for (size_t room = 3; room < 5; ++room) {
         want_order(2);
-        want_list(BEST, 3);
+        due_list(BEST, 3);
         CALL(PFS_OK, read_order("order2 3 2\n2 1 3\nmakespan 10\n", room));
     }
     want_order(0);
-    want_list(BEST, 3);
+    due_list(BEST, 3);
     CALL(PFS_OK, read_order("order 3\n2 1 3\nmakespan 10\n", 3));
 }
 
@@ -588,7 +589,7 @@ static void order_writings(void) {
     CALL(PFS_REPEATED, write_order(many, PFS_MOST_JOBS, 0, UINT64_MAX, 0));
     CALL(PFS_MAKESPAN, write_order(BEST, 3, 2, UINT64_MAX, 0));
     CALL(PFS_MAKESPAN, write_order(BEST, 3, 0, PFS_MOST_MAKESPAN + 1, sizeof out.text));
-    want.length = 29;
+    due.length = 29;
     CALL(PFS_ROOM, write_order(BEST, 3, 2, 10, 28));
     want_text("order2 3 2\n2 1 3\nmakespan 10\n");
     CALL(PFS_OK, write_order(BEST, 3, 2, 10, 29));
@@ -603,7 +604,7 @@ static void fail(const char *what, int number) {
     printf("%s %d\n", what, number);
 }
 
-/* Each number of pfs.h but PFS_MEMORY and those of files that are too long was answered. */
+/* Each number of pfs.h was returned, except PFS_MEMORY and those of files that are too long. */
 static void numbers(void) {
     for (int number = 0; number < (int)COUNT(seen); ++number) {
         int is_known = number <= PFS_ROOM || (number >= PFS_NO_BLOCK && number <= PFS_INPUT_TOO_LONG)
@@ -624,7 +625,7 @@ static void numbers(void) {
         fail("the texts", 0);
 }
 
-/* A text of so many bytes x. */
+/* A text of this many bytes x. */
 static uint8_t *filled(size_t length) {
     uint8_t *bytes = malloc(length);
     if (bytes == NULL)
@@ -635,11 +636,11 @@ static uint8_t *filled(size_t length) {
 static void long_files(void) {
     uint8_t *bytes = filled(PFS_LONGEST_INPUT + 1);
     for (size_t more = 0; more < 2; ++more) {
-        want.fault = 0;
+        due.fault = 0;
         CALL(more ? PFS_INPUT_TOO_LONG : PFS_NO_BLOCK,
              pfs_read(bytes, PFS_LONGEST_INPUT + more, PFS_ORLIB, 1, &out.jobs, &out.machines, &out.notes, out.list, 44,
                       &out.fault));
-        want.fault = 0;
+        due.fault = 0;
         CALL(more ? PFS_FILE_TOO_LONG : PFS_SYNTAX,
              pfs_read_order(bytes, PFS_LONGEST_ORDER_FILE + more, out.list, 44, &out.jobs, &out.machines, &out.makespan,
                             &out.fault));
@@ -647,7 +648,7 @@ static void long_files(void) {
     free(bytes);
 }
 
-/* Threads: each searches on the same times, and finds the same. */
+/* Each thread makes a search on the same times, and each finds the same. */
 enum { JOBS = 12, MACHINES = 5, TURNS = 40 };
 
 struct found {
@@ -693,70 +694,71 @@ static void threads(void) {
     free(shop);
 }
 
-/* One right call of a function that takes a shop, by its name. */
+/* Makes a valid call of the function of this name, which takes an instance. */
 static int call_on_shop(const char *name) {
     if (strcmp(name, "makespan") == 0)
-        return want.makespan = 10, pfs_makespan(times, 6, 3, 2, BEST, 3, &out.makespan);
+        return due.makespan = 10, pfs_makespan(times, 6, 3, 2, BEST, 3, &out.makespan);
     if (strcmp(name, "bound") == 0)
-        return want.bound = 10, pfs_bound(times, 6, 3, 2, &out.bound);
+        return due.bound = 10, pfs_bound(times, 6, 3, 2, &out.bound);
     if (strcmp(name, "insert") == 0)
-        return want.place = 2, want.makespan = 10, pfs_insert(times, 6, 3, 2, BEST, 2, 2, &out.place, &out.makespan);
+        return due.place = 2, due.makespan = 10, pfs_insert(times, 6, 3, 2, BEST, 2, 2, &out.place, &out.makespan);
     if (strcmp(name, "insertions") == 0)
         return want_makespans((uint64_t[]){13, 11, 10}, 3), all_places(BEST, 2, 2);
     if (strcmp(name, "heads_tails") == 0)
-        return want_heads((uint64_t[]){2, 7, 5, 9}, (uint64_t[]){9, 7, 5, 2}, 4), heads_of(BEST, 2);
+        return due_heads((uint64_t[]){2, 7, 5, 9}, (uint64_t[]){9, 7, 5, 2}, 4), heads_of(BEST, 2);
     if (strcmp(name, "construct") == 0)
-        return want_sequence(BEST, 3, 10), constructed(BEST, 2, (uint32_t[]){2}, 1);
+        return due_sequence(BEST, 3, 10), constructed(BEST, 2, (uint32_t[]){2}, 1);
     if (strcmp(name, "local_search") == 0)
-        return want_sequence(BEST, 3, 10), local_search(NUMBERED, 3, (uint32_t[]){1}, 1, 1);
+        return due_sequence(BEST, 3, 10), local_search(NUMBERED, 3, (uint32_t[]){1}, 1, 1);
     if (strcmp(name, "makespans") == 0)
-        return want.makespans[0] = 10, many_of(BEST, 3, 3, 1);
+        return due.makespans[0] = 10, many_of(BEST, 3, 3, 1);
     if (strcmp(name, "rounds") == 0)
         return right_rounds(NUMBERED, 0, 1, 1, 1, BEST, 10, 80);
     if (strcmp(name, "write") == 0)
         return want_text(BY_JOB), write_times(PFS_ORLIB, sizeof out.text);
     if (strcmp(name, "table") == 0)
-        return want.starts[0] = 0, want.ends[0] = 7,
+        return due.starts[0] = 0, due.ends[0] = 7,
                pfs_table((uint32_t[]){7}, 1, 1, 1, NUMBERED, 1, out.starts, 1, out.ends, 1);
     if (strcmp(name, "neh") != 0)
         exit(3);
-    want_list(BEST, 3);
-    want.makespan = 10;
-    want.cells = 36;
+    due_list(BEST, 3);
+    due.makespan = 10;
+    due.cells = 36;
     return pfs_neh(times, 6, 3, 2, out.list, 3, &out.makespan, &out.cells);
 }
 
-/* The same of every function. */
+/* The same for every function. */
 static int call_named(const char *name) {
     if (strcmp(name, "generate") == 0)
-        return want.list[0] = 54, want.list[1] = 83, pfs_generate(2, 1, 873654221, out.list, 2);
+        return due.list[0] = 54, due.list[1] = 83, pfs_generate(2, 1, 873654221, out.list, 2);
     if (strcmp(name, "random") == 0)
-        return want_list(WORDS, 5), pfs_random(7, 0, out.list, 5);
+        return due_list(WORDS, 5), pfs_random(7, 0, out.list, 5);
     if (strcmp(name, "read_order") == 0)
-        return want_order(2), want_list(BEST, 3), read_order("order2 3 2\n2 1 3\nmakespan 10\n", 3);
+        return want_order(2), due_list(BEST, 3), read_order("order2 3 2\n2 1 3\nmakespan 10\n", 3);
     if (strcmp(name, "write_order") == 0)
         return want_text("order 3\n2 1 3\nmakespan 10\n"), write_order(BEST, 3, 0, 10, sizeof out.text);
     if (strcmp(name, "read") == 0) {
         static const struct pfs_notes notes = {7, 9, 8};
         want_sizes(&notes);
-        want_list(TIMES, 6);
+        due_list(TIMES, 6);
         return pfs_read((const uint8_t *)THREE_JOBS, sizeof THREE_JOBS - 1, PFS_TAILLARD, 1, &out.jobs, &out.machines,
                         &out.notes, out.list, 6, &out.fault);
     }
     return call_on_shop(name);
 }
 
-/* The call has answered rightly, or was refused memory and has left every output as it was; else it fails. */
+/* The call succeeded with the right outputs, or an allocation failed and every output is unchanged. Otherwise the
+ * program fails. */
 static void tell(const char *name) {
     int answer;
     fresh();
     answer = call_named(name);
     if (answer == PFS_MEMORY) {
-        memset(&want, PATTERN, sizeof want);
+        memset(&due, PATTERN, sizeof due);
         if (strcmp(name, "rounds") == 0)
-            want_list(NUMBERED, 3);
+            due_list(NUMBERED, 3);
     }
-    if ((answer != PFS_OK && answer != PFS_MEMORY) || memcmp(&out, &want, sizeof out) != 0)
+    if ((answer != PFS_OK && answer != PFS_MEMORY) || memcmp(&out, &due, sizeof out) != 0)
         fail("wrong:", answer);
     else
         puts(answer == PFS_OK ? "right" : "memory");

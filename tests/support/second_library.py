@@ -72,7 +72,7 @@ def by_job(shop: Instance) -> list[int]:
 
 
 def distinct(size: int, jobs: Sequence[int], first: int = 0) -> list[int]:
-    """These jobs, of which those from place `first` on are validated: they are below the size, and none occurs twice."""
+    """These jobs. Those from place `first` on are validated: each is below the size, and none occurs twice."""
     for place in range(first, len(jobs)):
         expect(jobs[place] < size, JOB)
         expect(jobs[place] not in jobs[:place], REPEATED)

@@ -2,8 +2,8 @@
 """A second program that does what `pfs` does: for the same arguments, files and standard input it has the same output,
 errors and exit status. It is written from docs/COMMANDS.md and docs/FORMATS.md and shares no method with the first: it
 validates whole lines of whole texts, checks for each prefix of an order file whether a text of the grammar begins with
-it, and evaluates the whole order for each place of an insertion. So it is for small instances only. Tests call
-`answer`; as a program it takes the arguments of `pfs`."""
+it, and evaluates the whole order for each place of an insertion. So it is for small instances only. Tests call the
+function `answer`, or the functions below it; as a program it takes the arguments of `pfs`."""
 import os
 import re
 import sys
