@@ -8,6 +8,7 @@ import random
 import subprocess
 import sys
 import tempfile
+from collections.abc import Callable
 
 HERE = pathlib.Path(__file__).resolve().parent
 sys.dont_write_bytecode = True
@@ -24,8 +25,9 @@ def instance_of(source: random.Random) -> Instance:
     """A random instance. Some have many equal times, some have times of 0 or of a million."""
     jobs = source.randrange(2, 15)
     machines = source.randrange(1, 8)
-    draw = source.choice([lambda: source.randrange(1, 100), lambda: source.randrange(0, 4),
-                          lambda: source.choice([0, 1, 1000000])])
+    ways: list[Callable[[], int]] = [lambda: source.randrange(1, 100), lambda: source.randrange(0, 4),
+                                     lambda: source.choice([0, 1, 1000000])]
+    draw = source.choice(ways)
     by_job = [[draw() for _ in range(machines)] for _ in range(jobs)]
     shop = Instance(jobs, machines, [0, 0, 0])
     shop.times = [list(row) for row in zip(*by_job)]
@@ -44,7 +46,7 @@ def printed_by(program: str, text: str, options: dict[str, int]) -> str:
 
 def main() -> None:
     source = random.Random(1990)
-    entries = []
+    entries: list[dict[str, str | int]] = []
     with tempfile.TemporaryDirectory() as folder:
         program = f"{folder}/solve"
         subprocess.run(["g++", "-O3", "-o", program, HERE / "solve.cpp"], check=True)

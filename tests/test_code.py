@@ -1,6 +1,5 @@
-"""The texts of the repository. Of the scripts, also those whose names have no ending, Python is typed, and neither
-pyflakes nor shellcheck finds anything wrong; C and C++ is laid out by clang-format; all files keep the rules of
-.editorconfig."""
+"""The texts of the repository. Python is typed, and neither pyflakes nor shellcheck finds anything wrong in a script,
+also in one whose name has no ending. C and C++ is formatted by clang-format. All files follow .editorconfig."""
 import functools
 import pathlib
 import re
@@ -16,7 +15,8 @@ PASSED_OVER = {"out", "dist", "__pycache__", "crates", "docs"}
 # By what their first lines name, or by the endings of their names.
 KINDS = {"python3": "python", "sh": "shell", "bash": "shell"}
 ENDINGS = {".py": "python", ".bash": "shell", ".fish": "fish"}
-TYPED = ("tests", "tools", "experiments")
+# Folders whose scripts are typed together. `bench` and `experiments` both have a script `run`.
+TYPED = [("tests/", "tools/", "experiments/"), ("bench/",)]
 
 
 @functools.cache
@@ -57,9 +57,10 @@ def test_scripts_are_found_by_their_first_lines() -> None:
 
 
 @pytest.mark.seconds(20)
-def test_python_is_typed() -> None:
-    typed = [path for path in scripts("python") if path.startswith(TYPED)]
-    words = [need("mypy"), "--strict", "--scripts-are-modules", "--no-error-summary", f"--cache-dir={TOP}/out/mypy"]
+@pytest.mark.parametrize("folders", TYPED, ids=",".join)
+def test_python_is_typed(folders: tuple[str, ...]) -> None:
+    typed = [path for path in scripts("python") if path.startswith(folders)]
+    words = [need("mypy"), "--strict", "--scripts-are-modules", "--no-error-summary", f"--cache-dir={TOP}/out/mypy-{folders[0][:-1]}"]
     done = subprocess.run([*words, *typed], cwd=TOP, capture_output=True, text=True)
     assert done.stdout + done.stderr == ""
     assert done.returncode == 0

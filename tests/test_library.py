@@ -403,10 +403,11 @@ def is_quick(name: str, arguments: Arguments) -> bool:
     numbers = [argument.value for argument in arguments if isinstance(argument, Number)]
     if name == "pfs_random":
         return numbers[1] <= 10_000
-    if name != "pfs_rounds" or numbers[5] > second_library.MOST_ROUNDS:
+    counts = {"pfs_rounds": numbers[5:8:2], "pfs_local_search": [1, *numbers[5:6]]}
+    if name not in counts or max(counts[name]) > second_library.MOST_ROUNDS:
         return True
-    _, jobs, machines, _, _, count, _, passes, _ = numbers
-    return count <= 20 and count * passes * jobs**3 * machines <= MOST_WORK
+    count, passes = counts[name]
+    return count <= 20 and count * passes * numbers[1]**3 * numbers[2] <= MOST_WORK
 
 
 def assert_same(libpfs: Library, name: str, arguments: Arguments) -> int:

@@ -81,7 +81,7 @@ def ran(words: list[str], touching: dict[str, str]) -> subprocess.CompletedProce
 
 @pytest.mark.seconds(40)
 def test_bad_input_under_the_sanitizers(touching: dict[str, str]) -> None:
-    words = ["-m", "pytest", "-q", "-p", "no:cacheprovider", "-p", "no:xdist", "-x", "-o", "addopts="]
+    words = ["-m", "pytest", "-q", "-s", "-p", "no:cacheprovider", "-p", "no:xdist", "-x", "-o", "addopts="]
     done = ran([*words, "tests/test_py_validate.py", "tests/test_py_values.py"], touching)
     assert done.returncode == 0, done.stdout + done.stderr
 

@@ -159,7 +159,7 @@ static void makespans(void) {
     CALL(PFS_OK, pfs_makespan(times, 6, 3, 2, OUTSIDE, 0, &out.makespan));
 }
 
-static void want_makespans(const uint64_t *makespans, size_t count) {
+static void due_makespans(const uint64_t *makespans, size_t count) {
     memcpy(due.makespans, makespans, count * sizeof *makespans);
 }
 
@@ -183,13 +183,13 @@ static void many_makespans(void) {
     CALL(PFS_REPEATED, many_of(twice_first, 6, 3, 2));
     CALL(PFS_REPEATED, many_of(twice_first, 6, 2, 3));
     CALL(PFS_REPEATED, many_of(too_many, 8, 4, 2));
-    want_makespans((uint64_t[]){10, 11, 13}, 3);
+    due_makespans((uint64_t[]){10, 11, 13}, 3);
     CALL(PFS_OK, many_of(three, 9, 3, 3));
-    want_makespans((uint64_t[]){9, 8}, 2);
+    due_makespans((uint64_t[]){9, 8}, 2);
     CALL(PFS_OK, many_of(twos, 4, 2, 2));
-    want_makespans((uint64_t[]){7, 5, 5}, 3);
+    due_makespans((uint64_t[]){7, 5, 5}, 3);
     CALL(PFS_OK, many_of(BEST, 3, 1, 3));
-    want_makespans((uint64_t[]){0, 0, 0, 0}, 4);
+    due_makespans((uint64_t[]){0, 0, 0, 0}, 4);
     CALL(PFS_OK, many_of(OUTSIDE, 0, 0, 4));
     CALL(PFS_OK, many_of(OUTSIDE, 0, 7, 0));
     CALL(PFS_OK, many_of(OUTSIDE, 0, SIZE_MAX, 0));
@@ -305,11 +305,11 @@ static void all_insertions(void) {
     CALL(PFS_JOB, all_places(BEST, 3, 3));
     CALL(PFS_REPEATED, all_places(BEST, 2, 0));
     CALL(PFS_REPEATED, all_places(BEST, 3, 2));
-    want_makespans((uint64_t[]){13, 11, 10}, 3);
+    due_makespans((uint64_t[]){13, 11, 10}, 3);
     CALL(PFS_OK, all_places(BEST, 2, 2));
-    want_makespans((uint64_t[]){5}, 1);
+    due_makespans((uint64_t[]){5}, 1);
     CALL(PFS_OK, all_places(OUTSIDE, 0, 0));
-    want_makespans((uint64_t[]){3, 3, 3}, 3);
+    due_makespans((uint64_t[]){3, 3, 3}, 3);
     CALL(PFS_OK, pfs_insertions((uint32_t[]){1, 1, 1}, 3, 3, 1, BEST, 2, 2, out.makespans, 3));
 }
 
@@ -414,12 +414,12 @@ static void no_lists(void) {
     due.makespan = 0;
     CALL(PFS_OK, pfs_makespan(times, 6, 3, 2, NULL, 0, &out.makespan));
     CALL(PFS_OK, pfs_makespans(times, 6, 3, 2, NULL, 0, 3, NULL, 0));
-    want_makespans((uint64_t[]){0, 0}, 2);
+    due_makespans((uint64_t[]){0, 0}, 2);
     CALL(PFS_OK, pfs_makespans(times, 6, 3, 2, NULL, 0, 0, out.makespans, 2));
     due.place = 0;
     due.makespan = 5;
     CALL(PFS_OK, pfs_insert(times, 6, 3, 2, NULL, 0, 0, &out.place, &out.makespan));
-    want_makespans((uint64_t[]){5}, 1);
+    due_makespans((uint64_t[]){5}, 1);
     CALL(PFS_OK, pfs_insertions(times, 6, 3, 2, NULL, 0, 0, out.makespans, 1));
     CALL(PFS_OK, pfs_random(7, 0, NULL, 0));
     CALL(PFS_LENGTH, pfs_bound(NULL, 0, 3, 2, &out.bound));
@@ -480,7 +480,7 @@ static int faulty(uint64_t fault, const char *text, uint32_t layout, size_t bloc
 #define THREE_JOBS TITLE "3 2 7 9 8\nprocessing times :\n3 2 4\n2 5 1\n"
 #define BY_JOB "flow shop instance\n3 2\n0 3 1 2\n0 2 1 5\n0 4 1 1\n"
 
-static void want_sizes(const struct pfs_notes *notes) {
+static void due_sizes(const struct pfs_notes *notes) {
     due.jobs = 3;
     due.machines = 2;
     due.notes = *notes;
@@ -503,15 +503,15 @@ static void readings(void) {
     CALL(PFS_EXTRA_NUMBER, faulty(8, "1 1\n0 7 9\n", PFS_ORLIB, 1));
     CALL(PFS_TRUNCATED, faulty(2, "3 2\n0 3 1 2\n", PFS_ORLIB, 1));
     for (size_t room = 0; room < 6; ++room) {
-        want_sizes(&notes);
+        due_sizes(&notes);
         CALL(PFS_ROOM, read_text(THREE_JOBS, PFS_TAILLARD, 1, room));
     }
     for (size_t room = 6; room < 8; ++room) {
-        want_sizes(&notes);
+        due_sizes(&notes);
         due_list(TIMES, 6);
         CALL(PFS_OK, read_text(THREE_JOBS, PFS_TAILLARD, 1, room));
     }
-    want_sizes(&none);
+    due_sizes(&none);
     due_list(TIMES, 6);
     CALL(PFS_OK, read_text("1 1\n0 7\n" BY_JOB "x 1\n", PFS_ORLIB, 2, 6));
 }
@@ -521,7 +521,7 @@ static int write_times(uint32_t layout, size_t room) {
     return pfs_write(times, 6, 3, 2, &notes, layout, out.text, room, &out.length);
 }
 
-static void want_text(const char *text) {
+static void due_text(const char *text) {
     due.length = strlen(text);
     memcpy(due.text, text, due.length);
 }
@@ -534,9 +534,9 @@ static void writings(void) {
     CALL(PFS_ROOM, write_times(PFS_TAILLARD, 0));
     due.length = sizeof BY_JOB - 1;
     CALL(PFS_ROOM, write_times(PFS_ORLIB, sizeof BY_JOB - 2));
-    want_text(THREE_JOBS);
+    due_text(THREE_JOBS);
     CALL(PFS_OK, write_times(PFS_TAILLARD, sizeof THREE_JOBS - 1));
-    want_text(BY_JOB);
+    due_text(BY_JOB);
     CALL(PFS_OK, write_times(PFS_ORLIB, sizeof out.text));
 }
 
@@ -545,7 +545,7 @@ static int read_order(const char *text, size_t room) {
                           &out.fault);
 }
 
-static void want_order(size_t machines) {
+static void due_order(size_t machines) {
     due.jobs = 3;
     due.machines = machines;
     due.makespan = 10;
@@ -561,15 +561,15 @@ static void order_readings(void) {
     due.fault = 2;
     CALL(PFS_JOB_TWICE, read_order("order 3\n2 2 4\nmakespan 10\n", 0));
     for (size_t room = 0; room < 3; ++room) {
-        want_order(2);
+        due_order(2);
         CALL(PFS_ROOM, read_order("order2 3 2\n2 1 3\nmakespan 10\n", room));
     }
     for (size_t room = 3; room < 5; ++room) {
-        want_order(2);
+        due_order(2);
         due_list(BEST, 3);
         CALL(PFS_OK, read_order("order2 3 2\n2 1 3\nmakespan 10\n", room));
     }
-    want_order(0);
+    due_order(0);
     due_list(BEST, 3);
     CALL(PFS_OK, read_order("order 3\n2 1 3\nmakespan 10\n", 3));
 }
@@ -591,11 +591,11 @@ static void order_writings(void) {
     CALL(PFS_MAKESPAN, write_order(BEST, 3, 0, PFS_MOST_MAKESPAN + 1, sizeof out.text));
     due.length = 29;
     CALL(PFS_ROOM, write_order(BEST, 3, 2, 10, 28));
-    want_text("order2 3 2\n2 1 3\nmakespan 10\n");
+    due_text("order2 3 2\n2 1 3\nmakespan 10\n");
     CALL(PFS_OK, write_order(BEST, 3, 2, 10, 29));
-    want_text("order 3\n2 1 3\nmakespan 10\n");
+    due_text("order 3\n2 1 3\nmakespan 10\n");
     CALL(PFS_OK, write_order(BEST, 3, 0, 10, sizeof out.text));
-    want_text(most);
+    due_text(most);
     CALL(PFS_OK, write_order(NUMBERED, 1, PFS_MOST_MACHINES, PFS_MOST_MAKESPAN, strlen(most)));
 }
 
@@ -703,7 +703,7 @@ static int call_on_shop(const char *name) {
     if (strcmp(name, "insert") == 0)
         return due.place = 2, due.makespan = 10, pfs_insert(times, 6, 3, 2, BEST, 2, 2, &out.place, &out.makespan);
     if (strcmp(name, "insertions") == 0)
-        return want_makespans((uint64_t[]){13, 11, 10}, 3), all_places(BEST, 2, 2);
+        return due_makespans((uint64_t[]){13, 11, 10}, 3), all_places(BEST, 2, 2);
     if (strcmp(name, "heads_tails") == 0)
         return due_heads((uint64_t[]){2, 7, 5, 9}, (uint64_t[]){9, 7, 5, 2}, 4), heads_of(BEST, 2);
     if (strcmp(name, "construct") == 0)
@@ -715,7 +715,7 @@ static int call_on_shop(const char *name) {
     if (strcmp(name, "rounds") == 0)
         return right_rounds(NUMBERED, 0, 1, 1, 1, BEST, 10, 80);
     if (strcmp(name, "write") == 0)
-        return want_text(BY_JOB), write_times(PFS_ORLIB, sizeof out.text);
+        return due_text(BY_JOB), write_times(PFS_ORLIB, sizeof out.text);
     if (strcmp(name, "table") == 0)
         return due.starts[0] = 0, due.ends[0] = 7,
                pfs_table((uint32_t[]){7}, 1, 1, 1, NUMBERED, 1, out.starts, 1, out.ends, 1);
@@ -734,12 +734,12 @@ static int call_named(const char *name) {
     if (strcmp(name, "random") == 0)
         return due_list(WORDS, 5), pfs_random(7, 0, out.list, 5);
     if (strcmp(name, "read_order") == 0)
-        return want_order(2), due_list(BEST, 3), read_order("order2 3 2\n2 1 3\nmakespan 10\n", 3);
+        return due_order(2), due_list(BEST, 3), read_order("order2 3 2\n2 1 3\nmakespan 10\n", 3);
     if (strcmp(name, "write_order") == 0)
-        return want_text("order 3\n2 1 3\nmakespan 10\n"), write_order(BEST, 3, 0, 10, sizeof out.text);
+        return due_text("order 3\n2 1 3\nmakespan 10\n"), write_order(BEST, 3, 0, 10, sizeof out.text);
     if (strcmp(name, "read") == 0) {
         static const struct pfs_notes notes = {7, 9, 8};
-        want_sizes(&notes);
+        due_sizes(&notes);
         due_list(TIMES, 6);
         return pfs_read((const uint8_t *)THREE_JOBS, sizeof THREE_JOBS - 1, PFS_TAILLARD, 1, &out.jobs, &out.machines,
                         &out.notes, out.list, 6, &out.fault);
