@@ -60,7 +60,8 @@ def test_scripts_are_found_by_their_first_lines() -> None:
 @pytest.mark.parametrize("folders", TYPED, ids=",".join)
 def test_python_is_typed(folders: tuple[str, ...]) -> None:
     typed = [path for path in scripts("python") if path.startswith(folders)]
-    words = [need("mypy"), "--strict", "--scripts-are-modules", "--no-error-summary", f"--cache-dir={TOP}/out/mypy-{folders[0][:-1]}"]
+    words = [need("mypy"), "--strict", "--scripts-are-modules", "--no-error-summary",
+             f"--cache-dir={TOP}/out/mypy-{folders[0][:-1]}"]
     done = subprocess.run([*words, *typed], cwd=TOP, capture_output=True, text=True)
     assert done.stdout + done.stderr == ""
     assert done.returncode == 0
