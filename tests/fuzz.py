@@ -72,10 +72,10 @@ class Case:
         return dataclasses.replace(self, **changes)
 
     def wanted(self) -> Answer:
-        text, told, status = second_program.answer(self.words, self.stdin, self.files)
+        text, got, status = second_program.answer(self.words, self.stdin, self.files)
         if self.is_full and text:
             return b"", b"pfs: write failed after 0 bytes\n", 4
-        return text, told, status
+        return text, got, status
 
     def is_quick(self) -> bool:
         """Whether the second program is fast on this case."""
@@ -618,13 +618,13 @@ def tell(program: pathlib.Path, case: Case) -> None:
 
 
 def shown(answer: Answer) -> str:
-    text, told, status = answer
-    return f"{text[:600]!r}, {told[:600]!r}, {status}"
+    text, got, status = answer
+    return f"{text[:600]!r}, {got[:600]!r}, {status}"
 
 
 def kind_of(answer: Answer) -> str:
-    text, told, _ = answer
-    first = (told or text).split(b"\n")[0].decode("latin-1")
+    text, got, _ = answer
+    first = (got or text).split(b"\n")[0].decode("latin-1")
     return re.sub("[0-9]+", "X", first)
 
 

@@ -173,8 +173,8 @@ def imported(path: pathlib.Path) -> Any:
 
 
 def test_each_crate_is_reported_with_its_time_and_the_number_left(repository: pathlib.Path) -> None:
-    told = re.sub(r" in \d+:\d\d minutes", "", build(repository, "app").stderr)
-    crates, ended = zip(*(line.split(": ") for line in told.splitlines()))
+    got = re.sub(r" in \d+:\d\d minutes", "", build(repository, "app").stderr)
+    crates, ended = zip(*(line.split(": ") for line in got.splitlines()))
     assert (crates[0], {*crates[1:3]}, crates[3]) == ("low", {"left", "right"}, "app")
     assert ended == tuple(f"proved and built, {left} left" for left in (3, 2, 1, 0))
 
@@ -182,8 +182,8 @@ def test_each_crate_is_reported_with_its_time_and_the_number_left(repository: pa
 def test_a_crate_that_was_built_before_is_not_reported(repository: pathlib.Path) -> None:
     build(repository, "app")
     (repository / "crates" / "app" / "out" / "rlib" / "stamp").unlink()
-    told = build(repository, "app").stderr
-    assert re.fullmatch(r"app: proved and built in \d+:\d\d minutes, 0 left\n", told)
+    got = build(repository, "app").stderr
+    assert re.fullmatch(r"app: proved and built in \d+:\d\d minutes, 0 left\n", got)
 
 
 def test_crates_may_have_been_checked_before_they_are_built(repository: pathlib.Path) -> None:

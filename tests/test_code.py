@@ -6,7 +6,7 @@ import re
 import subprocess
 
 import pytest
-from support.needs import need
+from support.needs import tool
 from support.tree import files_below
 
 TOP = pathlib.Path(__file__).resolve().parent.parent
@@ -60,7 +60,7 @@ def test_scripts_are_found_by_their_first_lines() -> None:
 @pytest.mark.parametrize("folders", TYPED, ids=",".join)
 def test_python_is_typed(folders: tuple[str, ...]) -> None:
     typed = [path for path in scripts("python") if path.startswith(folders)]
-    words = [need("mypy"), "--strict", "--scripts-are-modules", "--no-error-summary",
+    words = [tool("mypy"), "--strict", "--scripts-are-modules", "--no-error-summary",
              f"--cache-dir={TOP}/out/mypy-{folders[0][:-1]}"]
     done = subprocess.run([*words, *typed], cwd=TOP, capture_output=True, text=True)
     assert done.stdout + done.stderr == ""
@@ -70,7 +70,7 @@ def test_python_is_typed(folders: tuple[str, ...]) -> None:
 @pytest.mark.seconds(20)
 def test_the_package_for_python_is_typed() -> None:
     """By its own settings: its tests have names that those here have too."""
-    words = [need("mypy"), "--no-error-summary", f"--cache-dir={TOP}/out/mypy-python", "src", "tests", "examples"]
+    words = [tool("mypy"), "--no-error-summary", f"--cache-dir={TOP}/out/mypy-python", "src", "tests", "examples"]
     done = subprocess.run(words, cwd=TOP / "python", capture_output=True, text=True)
     assert (done.stdout + done.stderr, done.returncode) == ("", 0)
 
@@ -83,7 +83,7 @@ def test_nothing_is_used_that_the_oldest_python_lacks(which: str) -> None:
     [version] = re.findall(r'^requires-python = ">=(.*)"$', settings, re.MULTILINE)
     needed = re.findall(r"^X-Python3-Version: >= ([\d.]+)$", (TOP / "debian" / "control").read_text(), re.MULTILINE)
     assert needed == [version], "Debian's packages need the same version as the wheel"
-    words = [need("mypy"), "--strict", "--scripts-are-modules", "--no-error-summary", f"--python-version={version}",
+    words = [tool("mypy"), "--strict", "--scripts-are-modules", "--no-error-summary", f"--python-version={version}",
              f"--cache-dir={TOP}/out/mypy-oldest-{which}"]
     installed = [path for path in scripts("python") if re.match(r"experiments/|tools/gantt$|tools/[^/]*\.py$", path)]
     words += ["src"] if which == "package" else installed
@@ -92,17 +92,17 @@ def test_nothing_is_used_that_the_oldest_python_lacks(which: str) -> None:
 
 
 def test_pyflakes_finds_nothing() -> None:
-    assert_silent([need("pyflakes3"), *scripts("python")])
+    assert_silent([tool("pyflakes3"), *scripts("python")])
 
 
 @pytest.mark.parametrize("path", scripts("shell"))
 def test_shellcheck_finds_nothing(path: str) -> None:
-    assert_silent([need("shellcheck"), path])
+    assert_silent([tool("shellcheck"), path])
 
 
 @pytest.mark.parametrize(("shell", "path"), [(shell, path) for shell in ("zsh", "fish") for path in scripts(shell)])
 def test_a_shell_reads_its_completion(shell: str, path: str) -> None:
-    assert_silent([need(shell), "-n", path])
+    assert_silent([tool(shell), "-n", path])
 
 
 # The rules of the editors
@@ -115,7 +115,7 @@ def c_files() -> list[str]:
 
 @pytest.mark.parametrize("path", c_files())
 def test_clang_format_changes_nothing(path: str) -> None:
-    assert_silent([need("clang-format"), "--dry-run", "--Werror", "--style=file", path])
+    assert_silent([tool("clang-format"), "--dry-run", "--Werror", "--style=file", path])
 
 
 def test_there_are_c_files() -> None:

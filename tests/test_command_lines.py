@@ -6,7 +6,7 @@ import subprocess
 import pytest
 from support.files import THREE_JOBS, USAGE, make_files
 from support.lines import ANSWERS, PRINTING, refused, unwritten
-from support.needs import need
+from support.needs import tool
 from support.program import Program, Ran
 
 # A text up to this length is cut at each byte. A longer text is cut at the ends of the buffer and at a few other bytes.
@@ -28,7 +28,7 @@ CUT = [(line, most) for line in PRINTING for most in cuts(len(ANSWERS[line].stdo
 def run_into_file(pfs: Program, line: str, worked: pathlib.Path, file: pathlib.Path, most: int) -> Ran:
     """Run the program with a file of at most this size as its output; `stdout` of the result has the file's contents.
     Python ignores SIGXFSZ, and the program inherits that."""
-    limiting = Program(pathlib.Path(need("prlimit")))
+    limiting = Program(pathlib.Path(tool("prlimit")))
     words = [f"--fsize={most}", "--", *pfs.words(line)]
     with open(file, "wb") as output:
         ran = limiting.run(words, worked, stdout=output, restore_signals=False)

@@ -10,7 +10,7 @@ from collections.abc import Callable, Iterator
 from typing import NamedTuple
 
 import pytest
-from support.needs import need
+from support.needs import tool
 from support.program import Program, Ran
 from support.terminals import Terminal
 from support.usage import LAYOUTS, commands, ends_of, ends_taken, ranges
@@ -143,7 +143,7 @@ def answer_of(lines: list[str]) -> Answer:
     return Answer({re.sub("^--[a-z]+=", "", word).rstrip("/") for word in words} - {""}, said)
 
 
-def split_answers(text: str) -> list[Answer]:
+def split_results(text: str) -> list[Answer]:
     answers = re.split("^=$", text, flags=re.MULTILINE)[:-1]
     return [answer_of(answer.split("\n")) for answer in answers]
 
@@ -151,7 +151,7 @@ def split_answers(text: str) -> list[Answer]:
 def run_all(words: list[str], text: str, folder: pathlib.Path) -> list[Answer]:
     done = subprocess.run(words, input=text, capture_output=True, text=True, cwd=folder, timeout=MOST_SECONDS)
     assert done.stderr == "", f"what {words[0]} says"
-    return split_answers(done.stdout)
+    return split_results(done.stdout)
 
 
 def bash(asked: list[str], folder: pathlib.Path, scripts: pathlib.Path) -> list[Answer]:
@@ -179,7 +179,7 @@ def zsh(asked: list[str], folder: pathlib.Path, scripts: pathlib.Path) -> list[A
         for number, line in enumerate(asked, 1):
             terminal.write(line + "\t")
             terminal.read_until(lambda: offered.read_text().split("\n").count("=") >= number, f"the answer to {line!r}")
-    return split_answers(offered.read_text())
+    return split_results(offered.read_text())
 
 
 ASK: dict[str, Callable[[list[str], pathlib.Path, pathlib.Path], list[Answer]]] = {
@@ -194,15 +194,15 @@ def answers(top: pathlib.Path, tmp_path_factory: pytest.TempPathFactory) -> Answ
 
     def answer(shell: str, line: str) -> Answer:
         if shell not in found:
-            need(shell)
+            tool(shell)
             folder = tmp_path_factory.mktemp(shell) / "files"
             (folder / "folder").mkdir(parents=True)
             for name in FILES:
                 (folder / name).touch()
             asked = [line.text for line in ASKED]
-            told = ASK[shell](asked, folder, top / "share" / "completions")
-            assert len(told) == len(asked), f"answers of {shell}"
-            found[shell] = dict(zip(asked, told))
+            got = ASK[shell](asked, folder, top / "share" / "completions")
+            assert len(got) == len(asked), f"answers of {shell}"
+            found[shell] = dict(zip(asked, got))
         return found[shell][line]
     return answer
 
@@ -233,7 +233,7 @@ def test_each_layout_that_is_offered_is_taken(layout: str, pfs: Program, folder:
 
 
 @pytest.mark.parametrize("option", sorted({option for options, _ in commands().values() for option in options}))
-def test_fish_is_told_which_options_have_a_value(top: pathlib.Path, option: str) -> None:
+def test_fish_knows_which_options_have_a_value(top: pathlib.Path, option: str) -> None:
     """By -x, which no other option has: then a word that follows it would be its value."""
     values = {name: value for options, _ in commands().values() for name, value in options.items()}
     text = (top / "share" / "completions" / "pfs.fish").read_text().replace("\\\n", " ")
@@ -251,9 +251,9 @@ def said_of(option: str, answer: Answer) -> str:
         word, _, said = line.partition("\t")
         if word == option:
             return said
-        told = re.fullmatch(rf"{option}\s+--\s+(.*)", said)
-        if told:
-            return told[1]
+        got = re.fullmatch(rf"{option}\s+--\s+(.*)", said)
+        if got:
+            return got[1]
     raise AssertionError(f"nothing is said of {option}: {answer.said}")
 
 
@@ -285,7 +285,7 @@ PATHS = [(command, place) for command, (_, paths) in commands().items() for plac
 
 @pytest.mark.parametrize(("command", "place"), PATHS, ids=[f"{command} {place + 1}" for command, place in PATHS])
 @in_shells("zsh")
-def test_says_which_path_is_wanted(shell: str, command: str, place: int, answers: Answers) -> None:
+def test_says_which_path_is_expected(shell: str, command: str, place: int, answers: Answers) -> None:
     wanted = {"FILE": "instance file", "ORDER": "order file"}[commands()[command].paths[place]]
     said = [line.strip() for line in answers(shell, f"pfs {command} -- " + "three " * place).said]
     assert [line for line in said if line in ("instance file", "order file")][:1] == [wanted], said
@@ -294,5 +294,5 @@ def test_says_which_path_is_wanted(shell: str, command: str, place: int, answers
 @pytest.mark.parametrize(("option", "wanted"), [("--block", "block"), ("--rounds", "rounds"), ("--take", "jobs"),
                                                 ("--seed", "seed"), ("--passes", "passes")])
 @in_shells("zsh")
-def test_says_which_value_is_wanted(shell: str, option: str, wanted: str, answers: Answers) -> None:
+def test_says_which_value_is_expected(shell: str, option: str, wanted: str, answers: Answers) -> None:
     assert wanted in [line.strip() for line in answers(shell, f"pfs solve {option}=").said]

@@ -48,7 +48,7 @@ OWN = {"Answers.antt", "Invariants.antt"}
 SHORT = {"weigh", "last"}
 
 
-def test_no_name_of_a_definition_stands_for_two_things(top: pathlib.Path) -> None:
+def test_no_name_of_a_definition_means_two_things(top: pathlib.Path) -> None:
     files: dict[str, set[pathlib.Path]] = {}
     for path in (top / "crates").glob("*/*/**/*.antt"):
         if path.relative_to(top / "crates").parts[1] in ("specs", "proofs") and path.name not in OWN:
@@ -63,22 +63,22 @@ def test_this_word_is_reached(name: str, top: pathlib.Path) -> None:
     assert name in {each.name for each in reached(top / "crates")}
 
 
-def told(top: pathlib.Path) -> set[str]:
+def got(top: pathlib.Path) -> set[str]:
     """The names between backquotes in DEFINITIONS.md."""
     text = (top / "docs" / "DEFINITIONS.md").read_text()
     return {name for code in re.findall("`([^`]+)`", text) for name in WORD.findall(code)}
 
 
-def test_each_definition_that_is_cited_stands_in_the_page(top: pathlib.Path) -> None:
+def test_each_definition_that_is_cited_is_in_the_page(top: pathlib.Path) -> None:
     crates = top / "crates"
     own = all_definitions(crates)
-    missing = {each for each in cited(crates, is_no_law) if each in own and each.name not in told(top)}
+    missing = {each for each in cited(crates, is_no_law) if each in own and each.name not in got(top)}
     assert missing == set()
 
 
 @pytest.mark.parametrize("name", HEADLINE[:15])
-def test_this_word_of_the_headline_stands_in_the_page(name: str, top: pathlib.Path) -> None:
-    assert name in told(top)
+def test_this_word_of_the_headline_is_in_the_page(name: str, top: pathlib.Path) -> None:
+    assert name in got(top)
 
 
 # The list of what is proved

@@ -76,12 +76,12 @@ def test_a_folder_as_input(pfs: Program, folder: pathlib.Path) -> None:
     os.close(descriptor)
 
 
-@pytest.mark.parametrize("device, told", [
+@pytest.mark.parametrize("device, got", [
     ("/dev/null", "no block, found 0"), ("/dev/zero", "input too long"), ("/dev/full", "input too long"),
 ])
-def test_a_device_as_input(pfs: Program, folder: pathlib.Path, device: str, told: str) -> None:
+def test_a_device_as_input(pfs: Program, folder: pathlib.Path, device: str, got: str) -> None:
     with open(device, "rb") as file:
-        assert pfs.run([], folder, file) == refused(told, 2)
+        assert pfs.run([], folder, file) == refused(got, 2)
 
 
 @pytest.fixture

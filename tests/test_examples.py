@@ -11,10 +11,10 @@ import subprocess
 import pytest
 from support import second_program
 from support.library import HEADER, Library, compile_quietly
-from support.needs import need
+from support.needs import tool
 from support.program import Program
 from support.second_program import Instance
-from support.tools import Told, need_of_debian, printed_by, told_by, with_path
+from support.tools import Done, require_debian_module, output_of, run_tool, with_path
 
 EXAMPLES = HEADER.parent.parent / "examples"
 README = HEADER.parent.parent / "README.md"
@@ -54,18 +54,18 @@ def compile_examples(installed: pathlib.Path, folder: pathlib.Path, *options: st
     """Compile the examples into a folder by the commands of the page, with more options of the compiler."""
     lines = {compiler: line for line, compiler in re.findall(r"^((cc|c\+\+) .*)$", PAGE, re.MULTILINE)}
     env = {"PKG_CONFIG_PATH": str(installed / "lib" / "pkgconfig"), "PATH": "/usr/bin:/bin"}
-    flags = shlex.split(printed_by([need("pkg-config"), "--cflags", "--libs", "pfs"], folder, env=env))
+    flags = shlex.split(output_of([tool("pkg-config"), "--cflags", "--libs", "pfs"], folder, env=env))
     for source in SOURCES:
         compiler = "cc" if source.suffix == ".c" else "c++"
         assert lines[compiler].endswith("$(pkg-config --cflags --libs pfs)") and STRICT[compiler] in lines[compiler]
         rpath = f"-Wl,-rpath,{installed / 'lib'}"
-        compile_quietly([need(compiler), STRICT[compiler], "-O2", "-Wall", "-Wextra", "-pedantic", "-Werror",
+        compile_quietly([tool(compiler), STRICT[compiler], "-O2", "-Wall", "-Wextra", "-pedantic", "-Werror",
                          *options, "-o", folder / source.stem, source, *flags, rpath])
     return folder
 
 
-def run(built: pathlib.Path, name: str, *words: str | pathlib.Path, cwd: pathlib.Path) -> Told:
-    return told_by([built / name, *words], cwd)
+def run(built: pathlib.Path, name: str, *words: str | pathlib.Path, cwd: pathlib.Path) -> Done:
+    return run_tool([built / name, *words], cwd)
 
 
 def test_the_page_has_each_example() -> None:
@@ -82,7 +82,7 @@ def run_page(built: pathlib.Path, pfs: Program, folder: pathlib.Path) -> None:
     shown = re.findall(r"^\$ (.*)\n((?:(?!\$|```).*\n)*)", PAGE, re.MULTILINE)
     assert len(shown) == 6
     for line, text in shown:
-        printed = printed_by(["sh", "-c", f"{{ {line}; }} 2>&1 || [ $? = 1 ]"], folder, env=with_path(folder))
+        printed = output_of(["sh", "-c", f"{{ {line}; }} 2>&1 || [ $? = 1 ]"], folder, env=with_path(folder))
         assert printed == text, line
 
 
@@ -111,8 +111,8 @@ def last_places(shop: Instance) -> int:
 def test_ties(built: pathlib.Path, folder: pathlib.Path, jobs: int, machines: int, seed: int) -> None:
     shop = second_program.generated(jobs, machines, seed)
     first = second_program.makespan(shop, second_program.by_totals(shop))
-    told = run(built, "neh_ties", str(jobs), str(machines), str(seed), cwd=folder)
-    assert told == Told(0, f"first places {first}\nlast places {last_places(shop)}\n", "")
+    got = run(built, "neh_ties", str(jobs), str(machines), str(seed), cwd=folder)
+    assert got == Done(0, f"first places {first}\nlast places {last_places(shop)}\n", "")
 
 
 @pytest.fixture
@@ -146,18 +146,18 @@ def test_a_search_ends_in_time(built: pathlib.Path, shop: pathlib.Path) -> None:
 def test_a_search_rejects_other_states(built: pathlib.Path, shop: pathlib.Path, state: bytes, why: str) -> None:
     """And leaves them as they are."""
     (shop / "state").write_bytes(state)
-    told = run(built, "timed_search", "shop", "state", "7", "1", "10", cwd=shop)
-    assert (told.status, told.stdout) == (2, "") and told.stderr.startswith("timed_search: ") and why in told.stderr
+    got = run(built, "timed_search", "shop", "state", "7", "1", "10", cwd=shop)
+    assert (got.status, got.stdout) == (2, "") and got.stderr.startswith("timed_search: ") and why in got.stderr
     assert (shop / "state").read_bytes() == state and not (shop / "state.new").exists()
 
 
 def test_files_that_cannot_be_opened_or_written(built: pathlib.Path, shop: pathlib.Path) -> None:
-    told = run(built, "timed_search", "none", "state", "7", "0", cwd=shop)
-    assert told == Told(4, "", "timed_search: none: cannot open\n")
-    told = run(built, "timed_search", "shop", "none/state", "7", "0", cwd=shop)
-    assert told == Told(4, "", "timed_search: none/state.new: cannot open\n")
-    assert run(built, "audit_orders", "none", "x", cwd=shop) == Told(4, "", "audit_orders: none: cannot open\n")
-    assert run(built, "audit_orders", "shop", "none", cwd=shop) == Told(4, "", "audit_orders: none: cannot open\n")
+    got = run(built, "timed_search", "none", "state", "7", "0", cwd=shop)
+    assert got == Done(4, "", "timed_search: none: cannot open\n")
+    got = run(built, "timed_search", "shop", "none/state", "7", "0", cwd=shop)
+    assert got == Done(4, "", "timed_search: none/state.new: cannot open\n")
+    assert run(built, "audit_orders", "none", "x", cwd=shop) == Done(4, "", "audit_orders: none: cannot open\n")
+    assert run(built, "audit_orders", "shop", "none", cwd=shop) == Done(4, "", "audit_orders: none: cannot open\n")
 
 
 @pytest.mark.parametrize("words", [["timed_search", "shop", "state", "7", "0"], ["neh_ties", "5", "2", "1"],
@@ -183,9 +183,9 @@ def test_audits(built: pathlib.Path, folder: pathlib.Path) -> None:
     for name, text in texts.items():
         (folder / name).write_bytes(text)
     valid = f"valid, makespan {makespan}, bound {bound}\n"
-    assert run(built, "audit_orders", "shop", "right", "one", cwd=folder) == Told(0, f"right: {valid}one: {valid}", "")
-    told = run(built, "audit_orders", "shop", *texts, cwd=folder)
-    assert told == Told(1, f"right: {valid}one: {valid}wrong: states 7, takes {makespan}\nother: of another instance\n"
+    assert run(built, "audit_orders", "shop", "right", "one", cwd=folder) == Done(0, f"right: {valid}one: {valid}", "")
+    got = run(built, "audit_orders", "shop", *texts, cwd=folder)
+    assert got == Done(1, f"right: {valid}one: {valid}wrong: states 7, takes {makespan}\nother: of another instance\n"
                            "shorter: of another instance\ntwice: a job of the order file occurs twice (3)\n", "")
     # At any place of the wrong one.
     for names in (["wrong", "right"], ["right", "wrong"], ["one", "twice", "right"], ["other", "one"], ["wrong"] * 2):
@@ -218,27 +218,27 @@ def test_readmes_lines_in_c(installed: pathlib.Path, folder: pathlib.Path) -> No
     assert "/* order is now 1 0 2, makespan 10 */" in lines
     (folder / "readme.c").write_text(PROGRAM.format(include=include, lines=lines))
     env = {"PKG_CONFIG_PATH": str(installed / "lib" / "pkgconfig"), "PATH": "/usr/bin:/bin"}
-    flags = shlex.split(printed_by([need("pkg-config"), "--cflags", "--libs", "pfs"], folder, env=env))
+    flags = shlex.split(output_of([tool("pkg-config"), "--cflags", "--libs", "pfs"], folder, env=env))
     rpath = f"-Wl,-rpath,{installed / 'lib'}"
-    compile_quietly([need("cc"), "-std=c99", "-Wall", "-Wextra", "-Werror", "-o", folder / "readme",
+    compile_quietly([tool("cc"), "-std=c99", "-Wall", "-Wextra", "-Werror", "-o", folder / "readme",
                      folder / "readme.c", *flags, rpath])
-    assert printed_by([folder / "readme"], folder) == "status 0, order 1 0 2, makespan 10\n"
+    assert output_of([folder / "readme"], folder) == "status 0, order 1 0 2, makespan 10\n"
 
 
 def test_readmes_lines_in_python(libpfs: Library, folder: pathlib.Path) -> None:
-    need_of_debian("numpy")
+    require_debian_module("numpy")
     (folder / "lines").write_text(block_of_readme("python"))
     env = {"PYTHONPATH": str(README.parent / "python" / "src"), "PFS_LIBRARY": str(libpfs.path),
            "PATH": "/usr/bin:/bin", "PYTHONDONTWRITEBYTECODE": "1"}
     script = "import doctest, sys; print(doctest.testfile('lines', module_relative=False))"
-    told = told_by(["/usr/bin/python3", "-c", script], folder, env=env)
-    assert told == Told(0, "TestResults(failed=0, attempted=3)\n", "")
+    got = run_tool(["/usr/bin/python3", "-c", script], folder, env=env)
+    assert got == Done(0, "TestResults(failed=0, attempted=3)\n", "")
 
 
 @pytest.mark.parametrize("name", [path.stem for path in SOURCES])
 def test_no_words(built: pathlib.Path, folder: pathlib.Path, name: str) -> None:
-    told = run(built, name, cwd=folder)
-    assert (told.status, told.stdout) == (3, "") and told.stderr.startswith(f"usage: {name} ")
+    got = run(built, name, cwd=folder)
+    assert (got.status, got.stdout) == (3, "") and got.stderr.startswith(f"usage: {name} ")
 
 
 # Other languages
@@ -250,26 +250,26 @@ def test_the_example_in_rust(installed: pathlib.Path, folder: pathlib.Path) -> N
     line = re.search(r"^rustc (.*)$", PAGE, re.MULTILINE)
     assert line
     words = line[1].replace("neh.rs", str(EXAMPLES / "neh.rs")).split()
-    compile_quietly([need("rustc"), "-D", "warnings", "-L", installed / "lib", *words[:-2], str(folder / "neh"),
+    compile_quietly([tool("rustc"), "-D", "warnings", "-L", installed / "lib", *words[:-2], str(folder / "neh"),
                      words[-1]])
-    assert printed_by([folder / "neh"], folder, env={"LD_LIBRARY_PATH": str(installed / "lib")}) == IN_OTHER_LANGUAGES
+    assert output_of([folder / "neh"], folder, env={"LD_LIBRARY_PATH": str(installed / "lib")}) == IN_OTHER_LANGUAGES
 
 
 def test_the_example_for_cffi(installed: pathlib.Path, folder: pathlib.Path) -> None:
-    need_of_debian("cffi")
+    require_debian_module("cffi")
     assert "\npython3 neh_cffi.py\n" in PAGE
     env = {"LD_LIBRARY_PATH": str(installed / "lib"), "PATH": "/usr/bin:/bin"}
-    assert printed_by(["/usr/bin/python3", EXAMPLES / "neh_cffi.py"], folder, env=env) == IN_OTHER_LANGUAGES
+    assert output_of(["/usr/bin/python3", EXAMPLES / "neh_cffi.py"], folder, env=env) == IN_OTHER_LANGUAGES
 
 
 def test_the_example_in_r(installed: pathlib.Path, folder: pathlib.Path) -> None:
     """By the page's command, in a folder with the two files."""
-    need("R")
+    tool("R")
     line = re.search(r"^PKG_CPPFLAGS=.*$", PAGE, re.MULTILINE)
     assert line
     for name in ("neh.R", "pfs_r.c"):
         shutil.copy(EXAMPLES / name, folder)
     env = dict(os.environ, PKG_CONFIG_PATH=str(installed / "lib" / "pkgconfig"), LD_LIBRARY_PATH=str(installed / "lib"))
-    done = told_by(["sh", "-e", "-c", line[0].replace("pfs_r.c", "pfs_r.c > log", 1)], folder, env=env)
+    done = run_tool(["sh", "-e", "-c", line[0].replace("pfs_r.c", "pfs_r.c > log", 1)], folder, env=env)
     assert re.fullmatch("order 2 1 3, makespan 10\npfs: a job .* twice.*\n", done.stdout), done
     assert "warning" not in (folder / "log").read_text() + done.stderr

@@ -15,12 +15,12 @@ from typing import IO, Any, NamedTuple
 import pytest
 from support.experiments import HEAD, OLD_HEAD, PLAN, Experiment, planned
 from support.library import Library
-from support.needs import missing, need
+from support.needs import missing, tool
 from support.program import Program
 from support.slurm import Cluster
 from support.ssh import Server
 from support.terminals import Terminal
-from support.tools import Told, printed_by, told_by, wait_until, with_path, write_script
+from support.tools import Done, output_of, run_tool, wait_until, with_path, write_script
 
 # A replacement of pfs, whose searches with some of the seeds fail.
 FAILING = """#!/bin/sh
@@ -45,7 +45,7 @@ over_ssh = pytest.mark.xdist_group("ssh")
 
 @pytest.fixture(scope="module", autouse=True)
 def parallel() -> None:
-    need("parallel")
+    tool("parallel")
 
 
 # Plans
@@ -102,23 +102,23 @@ REFUSED = {
 @pytest.mark.parametrize(("text", "named"), REFUSED.values(), ids=REFUSED)
 def test_an_invalid_plan_is_rejected_with_its_fault(text: str, named: str, experiment: Experiment) -> None:
     (experiment.folder / "plan.toml").write_text(text)
-    told = experiment.run()
-    assert (told.status, told.stdout) == (2, "")
-    assert re.fullmatch(f"experiments/run: .*{re.escape(named)}.*\n", told.stderr), told.stderr[-500:]
+    got = experiment.run()
+    assert (got.status, got.stdout) == (2, "")
+    assert re.fullmatch(f"experiments/run: .*{re.escape(named)}.*\n", got.stderr), got.stderr[-500:]
     assert sorted(os.listdir(experiment.folder)) == ["plan.toml", "shops"]
 
 
 def test_a_missing_plan_is_rejected(experiment: Experiment) -> None:
     (experiment.folder / "plan.toml").unlink()
-    told = experiment.run()
-    assert (told.status, told.stdout, told.stderr.count("\n")) == (2, "", 1)
+    got = experiment.run()
+    assert (got.status, got.stdout, got.stderr.count("\n")) == (2, "", 1)
     assert os.listdir(experiment.folder) == ["shops"]
 
 
 def test_the_greatest_values_that_pfs_takes_are_planned(experiment: Experiment) -> None:
     (experiment.folder / "plan.toml").write_text(
         "instances = [\"shops/b\"]\nrounds = [0]\ntakes = [1, 3]\npasses = [100]\nseeds = [18446744073709551615]\n")
-    assert experiment.run() == Told(0, "", "out.csv: 1 runs, 0 of them failed, 0 still to run\n")
+    assert experiment.run() == Done(0, "", "out.csv: 1 runs, 0 of them failed, 0 still to run\n")
 
 
 PATHS = {"a folder": "shops", "below a file": "plan.toml/out.csv", "a name that is too long": "x" * 255}
@@ -126,8 +126,8 @@ PATHS = {"a folder": "shops", "below a file": "plan.toml/out.csv", "a name that 
 
 @pytest.mark.parametrize("path", PATHS.values(), ids=PATHS)
 def test_an_impossible_csv_is_rejected_before_the_first_run(path: str, experiment: Experiment) -> None:
-    told = experiment.run(path, program=experiment.waiting())
-    assert (told.status, told.stdout, told.stderr.count("\n")) == (2, "", 1), told.stderr
+    got = experiment.run(path, program=experiment.waiting())
+    assert (got.status, got.stdout, got.stderr.count("\n")) == (2, "", 1), got.stderr
     assert experiment.started() == [] and sorted(os.listdir(experiment.folder)) == ["plan.toml", "shops", "waiting"]
 
 
@@ -135,14 +135,14 @@ def test_a_python_that_is_too_old_is_reported(experiment: Experiment) -> None:
     """One that has neither tomllib nor tomli."""
     for name in ("tomllib", "tomli"):
         (experiment.folder / f"{name}.py").write_text("raise ImportError\n")
-    told = experiment.run(env=dict(os.environ, PYTHONPATH=str(experiment.folder)))
-    assert (told.status, told.stdout, told.stderr.count("\n"), "3.11" in told.stderr) == (2, "", 1, True), told.stderr
+    got = experiment.run(env=dict(os.environ, PYTHONPATH=str(experiment.folder)))
+    assert (got.status, got.stdout, got.stderr.count("\n"), "3.11" in got.stderr) == (2, "", 1, True), got.stderr
 
 
 @pytest.mark.parametrize("many", ["0", "-1", "x", "1.5"])
 def test_an_invalid_number_of_tasks_is_rejected(many: str, experiment: Experiment) -> None:
-    told = experiment.script("slurm", f"--tasks={many}", "plan.toml", "out.csv")
-    assert (told.status, told.stdout, told.stderr.count("\n")) == (2, "", 1), told.stderr
+    got = experiment.script("slurm", f"--tasks={many}", "plan.toml", "out.csv")
+    assert (got.status, got.stdout, got.stderr.count("\n")) == (2, "", 1), got.stderr
 
 
 # Sizes in KiB; the experiment needs about 150.
@@ -152,7 +152,7 @@ DISKS = (4, 16, 24, 32, 48, 64, 96, 112, 128, 144, 160)
 @pytest.mark.parametrize("kib", DISKS)
 def test_a_full_disk_is_reported(kib: int, experiment: Experiment) -> None:
     """On one line. Once there is room, the same command completes the work."""
-    if subprocess.run([need("unshare"), "-m", "true"], capture_output=True).returncode != 0:
+    if subprocess.run([tool("unshare"), "-m", "true"], capture_output=True).returncode != 0:
         missing("nobody but root mounts a small disk here")
     small = experiment.folder / "small"
     small.mkdir()
@@ -163,10 +163,10 @@ def test_a_full_disk_is_reported(kib: int, experiment: Experiment) -> None:
               f"mount -o remount,size=9m small && {run} 2> again; echo $? > status2; cp small/out.csv all.csv")
     done = subprocess.run(["unshare", "-m", "sh", "-c", script], cwd=experiment.folder, capture_output=True, text=True)
     assert done.returncode == 0, done.stderr
-    told = (experiment.folder / "told").read_text()
+    got = (experiment.folder / "told").read_text()
     status = int((experiment.folder / "status").read_text())
-    refused = re.fullmatch("experiments/run: [^\n]*: No space left on device\n", told)
-    assert status == 0 or (status == 2 and refused), told
+    refused = re.fullmatch("experiments/run: [^\n]*: No space left on device\n", got)
+    assert status == 0 or (status == 2 and refused), got
     assert status == 2 or kib >= 128, "room for all"
     assert (experiment.folder / "halves").read_text() == "", "what is left of files that had no room"
     assert ((experiment.folder / "status2").read_text(), (experiment.folder / "again").read_text()) \
@@ -191,9 +191,9 @@ def test_a_program_that_is_not_pfs_is_rejected(text: str, experiment: Experiment
     assert experiment.run("other.csv").status == 0
     program = write_script(experiment.folder / "program", text)
     before = sorted(os.listdir(experiment.folder))
-    for told in (experiment.run(program=program), experiment.script("check", "other.csv", program=program)):
-        assert (told.status, told.stdout) == (2, "")
-        assert re.fullmatch("experiments/(run|check): .*/program is not pfs: .*\n", told.stderr), told.stderr[-500:]
+    for got in (experiment.run(program=program), experiment.script("check", "other.csv", program=program)):
+        assert (got.status, got.stdout) == (2, "")
+        assert re.fullmatch("experiments/(run|check): .*/program is not pfs: .*\n", got.stderr), got.stderr[-500:]
     assert sorted(os.listdir(experiment.folder)) == before
 
 
@@ -215,9 +215,9 @@ def test_a_damaged_list_is_reported_on_one_line(name: str, data: bytes, experime
     before = (experiment.folder / "out.csv").read_text()
     (experiment.runs / name).write_bytes(data)
     (experiment.folder / "plan.toml").write_text(PLAN + "repetitions = 2\n")
-    told = experiment.run()
-    assert (told.status, told.stdout) == (2, "")
-    assert re.fullmatch("experiments/run: [^\n]*out\\.csv[^\n]*\n", told.stderr), told.stderr[-500:]
+    got = experiment.run()
+    assert (got.status, got.stdout) == (2, "")
+    assert re.fullmatch("experiments/run: [^\n]*out\\.csv[^\n]*\n", got.stderr), got.stderr[-500:]
     assert (experiment.folder / "out.csv").read_text() == before
 
 
@@ -226,18 +226,18 @@ def test_a_sequence_of_other_runs_is_reported_on_one_line(experiment: Experiment
     begun = json.loads((experiment.runs / "plan.json").read_text())
     for sequence in ([1, 2], [1] * 12, list(range(12)), ["x"] * 12, 5):
         (experiment.runs / "plan.json").write_text(json.dumps({**begun, "sequence": sequence}))
-        told = experiment.run()
-        assert (told.status, told.stdout, told.stderr.count("\n"), "plan.json is damaged" in told.stderr) \
-            == (2, "", 1, True), f"{sequence}: {told.stderr[-500:]}"
+        got = experiment.run()
+        assert (got.status, got.stdout, got.stderr.count("\n"), "plan.json is damaged" in got.stderr) \
+            == (2, "", 1, True), f"{sequence}: {got.stderr[-500:]}"
 
 
 def test_a_folder_without_its_program_is_reported_on_one_line(experiment: Experiment) -> None:
     assert experiment.run().status == 0
     stage, = experiment.runs.glob("pfs-experiment-*")
     stage.rename(experiment.folder / "elsewhere")
-    told = experiment.run()
-    assert (told.status, told.stdout, told.stderr.count("\n"), "no copy of the program" in told.stderr) \
-        == (2, "", 1, True), told.stderr[-500:]
+    got = experiment.run()
+    assert (got.status, got.stdout, got.stderr.count("\n"), "no copy of the program" in got.stderr) \
+        == (2, "", 1, True), got.stderr[-500:]
 
 
 RESULTS = {
@@ -251,7 +251,7 @@ def test_a_run_whose_result_is_damaged_is_repeated(data: bytes, experiment: Expe
     (experiment.folder / "plan.toml").write_text(PLAN.replace("[10, 30]", "[10]"))
     assert experiment.run().status == 0
     (experiment.runs / "results" / "1").write_bytes(data)
-    assert experiment.run() == Told(0, "", "out.csv: 6 runs, 0 of them failed, 0 still to run\n")
+    assert experiment.run() == Done(0, "", "out.csv: 6 runs, 0 of them failed, 0 still to run\n")
     assert experiment.rows() == experiment.wanted(rounds=(10,))
 
 
@@ -261,7 +261,7 @@ def test_after_damage_to_the_log_the_csv_is_the_same(data: bytes, experiment: Ex
     (experiment.folder / "plan.toml").write_text(PLAN.replace("[10, 30]", "[10]"))
     assert experiment.run().status == 0
     (experiment.runs / "joblog").write_bytes(data)
-    assert experiment.run() == Told(0, "", "out.csv: 6 runs, 0 of them failed, 0 still to run\n")
+    assert experiment.run() == Done(0, "", "out.csv: 6 runs, 0 of them failed, 0 still to run\n")
     assert experiment.rows() == experiment.wanted(rounds=(10,))
 
 
@@ -269,22 +269,22 @@ def test_names_that_are_not_utf8_are_reported_on_one_line(experiment: Experiment
     """Of an instance, of the plan and of the CSV."""
     name = os.fsdecode(b"shops/\xff")
     shutil.copy(experiment.folder / "shops" / "b", experiment.folder / name)
-    told = experiment.run()
-    assert told == Told(2, "", "experiments/run: plan.toml: the name b'shops/\\xff' is not UTF-8\n")
+    got = experiment.run()
+    assert got == Done(2, "", "experiments/run: plan.toml: the name b'shops/\\xff' is not UTF-8\n")
     (experiment.folder / name).rename(experiment.folder / os.fsdecode(b"plan\xff"))
     for words in (["plan\udcff", "out.csv"], ["plan.toml", "\udcff.csv"]):
-        told = told_by(experiment.words("run", *words), experiment.folder)
-        assert (told.status, told.stdout, told.stderr.count("\n")) == (2, "", 1), told.stderr[-500:]
+        got = run_tool(experiment.words("run", *words), experiment.folder)
+        assert (got.status, got.stdout, got.stderr.count("\n")) == (2, "", 1), got.stderr[-500:]
 
 
 # Files that are replaced as a whole
 
 def test_the_csv_and_the_lists_are_synced_before_they_are_renamed(experiment: Experiment) -> None:
     """And their folder after that. Nothing opens them for writing."""
-    strace = need("strace")
+    strace = tool("strace")
     words = [strace, "-f", "-y", "-o", "trace", "-e", "trace=open,openat,fsync,rename,renameat,renameat2",
              *experiment.words("run", "plan.toml", "out.csv")]
-    assert told_by(words, experiment.folder).status == 0
+    assert run_tool(words, experiment.folder).status == 0
     calls = (experiment.folder / "trace").read_text().splitlines()
     for name in ("out.csv", "out.csv.d/runs.tsv", "out.csv.d/plan.json"):
         path = str(experiment.folder / name)
@@ -305,10 +305,10 @@ def test_no_link_is_followed(experiment: Experiment) -> None:
     for name in ("lock", "plan.json.new", "runs.tsv.new"):
         (experiment.runs / name).symlink_to(experiment.folder / "victim")
     (experiment.folder / "out.csv.new").symlink_to(experiment.folder / "victim")
-    told = experiment.run()
-    assert (told.status, told.stderr.count("\n")) == (2, 1), told.stderr[-500:]
+    got = experiment.run()
+    assert (got.status, got.stderr.count("\n")) == (2, 1), got.stderr[-500:]
     (experiment.runs / "lock").unlink()
-    assert experiment.run() == Told(0, "", TWELVE)
+    assert experiment.run() == Done(0, "", TWELVE)
     assert (experiment.folder / "victim").read_text() == "kept\n"
 
 
@@ -316,7 +316,7 @@ def test_no_link_is_followed(experiment: Experiment) -> None:
 
 @pytest.mark.quick
 def test_the_csv_is_what_pfs_gives(experiment: Experiment) -> None:
-    assert experiment.run() == Told(0, "", TWELVE)
+    assert experiment.run() == Done(0, "", TWELVE)
     assert experiment.rows() == experiment.wanted()
     assert [seconds for _, seconds in experiment.rows_and_seconds() if not 0 < float(seconds) < 60] == []
 
@@ -337,8 +337,8 @@ def test_a_second_start_makes_nothing_again(experiment: Experiment) -> None:
     for other in (PLAN.replace("[10, 30]", "[30]"), PLAN.replace("1, 2, 3", "1, 2"), PLAN.replace("*", "a"),
                   PLAN + "layout = \"orlib\"\n"):
         (experiment.folder / "plan.toml").write_text(other)
-        told = experiment.run()
-        assert (told.status, told.stderr.count("\n"), "another plan" in told.stderr) == (2, 1, True), other
+        got = experiment.run()
+        assert (got.status, got.stderr.count("\n"), "another plan" in got.stderr) == (2, 1, True), other
         assert (experiment.folder / "out.csv").read_text() == first
 
 
@@ -347,16 +347,16 @@ def test_readme_names_the_keys_of_a_plan_and_their_defaults(top: pathlib.Path) -
     text = (top / "experiments" / "README.md").read_text().partition("## Plan")[2].partition("## CSV")[0]
     cells = [[cell.strip() for cell in re.split(r"(?<!\\)\|", line)[1:-1]] for line in text.splitlines()
              if line.startswith("| `")]
-    told = {key: cell for names, _, cell in cells for key, cell in
+    got = {key: cell for names, _, cell in cells for key, cell in
             zip(re.findall("`(\\w+)`", names), [each.strip() for each in cell.split(",")] * 9)}
-    shown = printed_by(["/usr/bin/python3", "-c", "import plan; print(sorted(plan.KEYS), plan.NUMBERS)"],
+    shown = output_of(["/usr/bin/python3", "-c", "import plan; print(sorted(plan.KEYS), plan.NUMBERS)"],
                        top / "experiments", env=dict(os.environ, PYTHONDONTWRITEBYTECODE="1"))
     keys, numbers = (ast.literal_eval(part) for part in re.split(r"(?<=\]) (?=\{)", shown.strip()))
-    assert sorted(told) == keys, "the keys in experiments/README.md"
+    assert sorted(got) == keys, "the keys in experiments/README.md"
     for key, usual in numbers.items():
         wanted = f"`{usual}`" if usual is not None else "that of `pfs solve`"
-        assert told[key] == wanted, f"the default of {key} in experiments/README.md"
-    assert (told["layout"], told["repetitions"]) == ('`"taillard"`', "`1`"), "defaults in experiments/README.md"
+        assert got[key] == wanted, f"the default of {key} in experiments/README.md"
+    assert (got["layout"], got["repetitions"]) == ('`"taillard"`', "`1`"), "defaults in experiments/README.md"
 
 
 def test_what_a_plan_leaves_out_is_as_readme_says(experiment: Experiment) -> None:
@@ -382,8 +382,8 @@ def test_layouts_blocks_takes_passes_and_repetitions(experiment: Experiment) -> 
     shops = [experiment.printed("convert", "--from", "taillard", "--to", "orlib", f"shops/{name}") for name in "ab"]
     (experiment.folder / "two.or").write_text("".join(shops))
     (experiment.folder / "bad.or").write_text("3 2\n0 1 1 x\n")
-    told = experiment.run()
-    assert told == Told(1, "", "bad.or:2 (rounds 5, take 2, passes 1, seed 7) failed, as 7 more: "
+    got = experiment.run()
+    assert got == Done(1, "", "bad.or:2 (rounds 5, take 2, passes 1, seed 7) failed, as 7 more: "
                                "solve: exit 2, pfs: mixed line at 10\n"
                                "out.csv: 16 runs, 8 of them failed, 0 still to run\n")
     rows = experiment.rows()
@@ -414,7 +414,7 @@ def test_each_order_is_kept_as_pfs_prints_it(experiment: Experiment) -> None:
 
 def test_check_audits_the_orders_again(experiment: Experiment) -> None:
     assert experiment.run().status == 0
-    assert experiment.script("check", "out.csv") == Told(0, "out.csv: 12 orders audited, 0 of them wrong\n", "")
+    assert experiment.script("check", "out.csv") == Done(0, "out.csv: 12 orders audited, 0 of them wrong\n", "")
     text = (experiment.folder / "out.csv").read_text()
     orders = [order for order, in experiment.columns("order")]
     (experiment.folder / orders[0]).unlink()
@@ -424,19 +424,19 @@ def test_check_audits_the_orders_again(experiment: Experiment) -> None:
     lines[12] = re.sub(r",(\d+),(\d+),(\d+\.\d{4})", r",\1,1,\3", lines[12])
     lines[6] = re.sub(r",out[^,]*,", ",,", lines[6])
     (experiment.folder / "out.csv").write_text("".join(lines))
-    told = experiment.script("check", "out.csv")
-    *wrong, last = told.stdout.splitlines()
-    assert (told.status, told.stderr) == (1, "")
+    got = experiment.script("check", "out.csv")
+    *wrong, last = got.stdout.splitlines()
+    assert (got.status, got.stderr) == (1, "")
     names = [re.search(r"run-(\d+)", line) for line in wrong]
     numbers = [int(name[1]) for name in names if name]
-    assert (numbers, last) == ([1, 4, 9, 12], "out.csv: 12 orders audited, 5 of them wrong"), told.stdout
+    assert (numbers, last) == ([1, 4, 9, 12], "out.csv: 12 orders audited, 5 of them wrong"), got.stdout
     assert [line for line in wrong if line.endswith(": no order was kept")] == [wrong[2]], "a row without an order"
 
 
 def test_check_rejects_a_csv_without_orders(experiment: Experiment) -> None:
     (experiment.folder / "old.csv").write_text(f"{OLD_HEAD}\na,20,5,0,4,0,1,1,110,100,10.0000,1000,0.001000,ok\n")
-    told = experiment.script("check", "old.csv")
-    assert told == Told(2, "", "experiments/check: old.csv: no column order\n")
+    got = experiment.script("check", "old.csv")
+    assert got == Done(2, "", "experiments/check: old.csv: no column order\n")
 
 
 def test_the_csv_has_the_reference_of_the_plan(experiment: Experiment) -> None:
@@ -444,7 +444,7 @@ def test_the_csv_has_the_reference_of_the_plan(experiment: Experiment) -> None:
     assert experiment.run().status == 0
     (experiment.folder / "best.csv").write_text("instance,makespan,source\nb,12.0,a paper\nc,1,no paper\n")
     (experiment.folder / "plan.toml").write_text(PLAN + "reference = \"best.csv\"\n")
-    assert experiment.run() == Told(0, "", TWELVE)
+    assert experiment.run() == Done(0, "", TWELVE)
     assert experiment.columns("instance", "reference", "source") \
         == [("shops/a", "", "")] * 6 + [("shops/b", "12", "a paper")] * 6
     assert experiment.rows() == experiment.wanted()
@@ -537,7 +537,7 @@ def with_library(libpfs: Library) -> dict[str, str]:
 def test_runs_by_time_take_their_time(experiment: Experiment, with_library: dict[str, str]) -> None:
     """Jobs times half the machines times the factor, in milliseconds. The order is that of the rounds in the CSV."""
     (experiment.folder / "plan.toml").write_text(BY_TIME)
-    assert experiment.run(env=with_library) == Told(0, "", "out.csv: 8 runs, 0 of them failed, 0 still to run\n")
+    assert experiment.run(env=with_library) == Done(0, "", "out.csv: 8 runs, 0 of them failed, 0 still to run\n")
     names = ("instance", "time_factor", "take", "passes", "seed", "rounds", "seconds", "makespan", "cells", "order")
     rows = experiment.columns(*names)
     assert [row[:5] for row in rows] == [(shop, factor, "2", "0", seed) for shop in ("shops/a", "shops/b")
@@ -549,7 +549,7 @@ def test_runs_by_time_take_their_time(experiment: Experiment, with_library: dict
                                     "--cells", shop)
         assert (experiment.folder / order).read_text() + f"cells {cells}\n" == wanted
         assert f"makespan {makespan}\n" in wanted
-    assert experiment.script("check", "out.csv") == Told(0, "out.csv: 8 orders audited, 0 of them wrong\n", "")
+    assert experiment.script("check", "out.csv") == Done(0, "out.csv: 8 orders audited, 0 of them wrong\n", "")
 
 
 def test_a_plan_has_rounds_and_times(experiment: Experiment, with_library: dict[str, str], matplotlib: None) -> None:
@@ -562,8 +562,8 @@ def test_a_plan_has_rounds_and_times(experiment: Experiment, with_library: dict[
     assert experiment.run(env=with_library).status == 0
     assert experiment.columns(*HEAD.split(","))[0] == before
     assert experiment.columns("time_factor") == [("",), ("1",)]
-    told = told_by([experiment.top / "experiments" / "report", "out.csv", "report"], experiment.folder)
-    assert (told.status, told.stderr) == (0, "")
+    got = run_tool([experiment.top / "experiments" / "report", "out.csv", "report"], experiment.folder)
+    assert (got.status, got.stderr) == (0, "")
     with open(experiment.folder / "report" / "table.csv", newline="") as file:
         assert [(row["rounds"], row["time_factor"], row["runs"]) for row in csv.DictReader(file)] \
             == [("", "1", "1"), ("5", "", "1")]
@@ -590,14 +590,14 @@ before = last(999_996, seed, 4)
 for other in (seed + 11400714819323198485, seed + 1, seed):
     print(last(999_996, seed, 6) == last(0, other % 2 ** 64, 2, before))
 """)
-    assert printed_by(["/usr/bin/python3", "try.py"], folder) == "True\nFalse\nFalse\n", "the seed of the second part"
+    assert output_of(["/usr/bin/python3", "try.py"], folder) == "True\nFalse\nFalse\n", "the seed of the second part"
 
 
 def test_an_instance_that_pfs_rejects_fails_by_time_too(experiment: Experiment, with_library: dict[str, str]) -> None:
     (experiment.folder / "shops" / "c").write_text("no instance\n")
     (experiment.folder / "plan.toml").write_text("instances = [\"shops/c\"]\ntime_factors = [0.001]\n")
-    told = experiment.run(env=with_library)
-    assert told == Told(1, "", "shops/c (time factor 0.001, passes 0, seed 0) failed: "
+    got = experiment.run(env=with_library)
+    assert got == Done(1, "", "shops/c (time factor 0.001, passes 0, seed 0) failed: "
                                "convert: exit 2, pfs: no block, found 0\n"
                                "out.csv: 1 runs, 1 of them failed, 0 still to run\n")
 
@@ -605,13 +605,13 @@ def test_an_instance_that_pfs_rejects_fails_by_time_too(experiment: Experiment, 
 @pytest.mark.parametrize("path", ["none.so", "plan.toml"], ids=["missing", "no library"])
 def test_an_invalid_library_is_reported(path: str, experiment: Experiment) -> None:
     (experiment.folder / "plan.toml").write_text(BY_TIME)
-    told = experiment.run(env=dict(os.environ, PFS_LIBRARY=str(experiment.folder / path)))
+    got = experiment.run(env=dict(os.environ, PFS_LIBRARY=str(experiment.folder / path)))
     if path == "none.so":
-        assert (told.status, told.stdout, told.stderr.count("\n")) == (2, "", 1), told.stderr[-500:]
+        assert (got.status, got.stdout, got.stderr.count("\n")) == (2, "", 1), got.stderr[-500:]
         assert not experiment.runs.exists()
     else:
         statuses = {status.partition(" ")[0] for status, in experiment.columns("status")}
-        assert (told.status, statuses) == (1, {"libpfs:"})
+        assert (got.status, statuses) == (1, {"libpfs:"})
 
 
 # Other programs
@@ -671,17 +671,17 @@ def with_other(experiment: Experiment, plan: str = OTHER) -> Experiment:
     return experiment
 
 
-def other_is_right(experiment: Experiment, told: Told) -> None:
+def other_is_right(experiment: Experiment, got: Done) -> None:
     """The runs of the other program are in the CSV, with their orders or with what is wrong."""
-    assert told.status == 1
-    assert told.stderr.splitlines()[-1] == "out.csv: 10 runs, 7 of them failed, 0 still to run"
+    assert got.status == 1
+    assert got.stderr.splitlines()[-1] == "out.csv: 10 runs, 7 of them failed, 0 still to run"
     rows = experiment.columns("seed", "status", "method", "time_factor", "rounds", "take", "passes", "cells")
     assert [row[0] for row in rows] == [str(seed) for seed in range(1, 11)]
     assert [(row[1], wanted) for row, wanted in zip(rows, STATUSES)
             if not re.fullmatch(wanted, row[1])] == []
     assert {row[2:] for row in rows} == {("mine", "10", "", "", "", "")}
-    told = experiment.script("check", "out.csv")
-    assert (told.status, told.stdout) == (0, "out.csv: 3 orders audited, 0 of them wrong\n")
+    got = experiment.script("check", "out.csv")
+    assert (got.status, got.stdout) == (0, "out.csv: 3 orders audited, 0 of them wrong\n")
     makespans = {row for row in experiment.columns("status", "makespan", "bound") if row[0] == "ok"}
     assert makespans == {("ok", "1448", "1232")}, "the makespan of the order by numbers"
 
@@ -701,8 +701,8 @@ def test_orders_of_another_program_are_audited(experiment: Experiment) -> None:
     assert experiment.run().status == 1
     assert experiment.columns("seed", "status", "seconds") == before
     (experiment.folder / "plan.toml").write_text((experiment.folder / "plan.toml").read_text().replace("{seed}", "1"))
-    told = experiment.run()
-    assert (told.status, told.stderr.count("\n"), "another command" in told.stderr) == (2, 1, True), told.stderr
+    got = experiment.run()
+    assert (got.status, got.stderr.count("\n"), "another command" in got.stderr) == (2, 1, True), got.stderr
 
 
 @over_ssh
@@ -713,15 +713,15 @@ def test_over_ssh_another_program_is_run(ssh_server: Server, experiment: Experim
 
 @on_slurm
 def test_on_slurm_another_program_is_run(slurm: Cluster, experiment: Experiment) -> None:
-    told = with_other(experiment).script("slurm", "--tasks", "3", "plan.toml", "out.csv", "--time=5", env=slurm.env)
-    other_is_right(experiment, told)
+    got = with_other(experiment).script("slurm", "--tasks", "3", "plan.toml", "out.csv", "--time=5", env=slurm.env)
+    other_is_right(experiment, got)
 
 
 def test_the_report_compares_another_program_with_pfs(experiment: Experiment, matplotlib: None) -> None:
     assert experiment.run("pfs.csv").status == 0
     with_other(experiment).run()
-    told = told_by([experiment.top / "experiments" / "report", "pfs.csv", "out.csv", "report"], experiment.folder)
-    assert (told.status, told.stderr) == (0, "")
+    got = run_tool([experiment.top / "experiments" / "report", "pfs.csv", "out.csv", "report"], experiment.folder)
+    assert (got.status, got.stderr) == (0, "")
     with open(experiment.folder / "report" / "comparison.csv", newline="") as file:
         rows = [row for row in csv.DictReader(file) if row["method"] != row["other_method"]]
     assert {(row["method"], row["other_method"], row["instances"]) for row in rows} == {("mine", "pfs", "1")}
@@ -733,8 +733,8 @@ def test_a_program_that_waits_is_ended(top: pathlib.Path, folder: pathlib.Path) 
     (folder / "try.py").write_text(f"import sys\nsys.path.insert(0, {str(top / 'experiments')!r})\nimport others\n"
                                    "others.PATIENCE = 0.5\ntry:\n    others.run_command(['./waits'], '.', 0.01)\n"
                                    "except others.Failed as failure:\n    print(failure)\n")
-    told = printed_by(["/usr/bin/python3", "-B", "try.py"], folder)
-    assert re.fullmatch(r"still running after \d s, instead of 0.01 s of processor time\n", told), told
+    got = output_of(["/usr/bin/python3", "-B", "try.py"], folder)
+    assert re.fullmatch(r"still running after \d s, instead of 0.01 s of processor time\n", got), got
     child = (folder / "child").read_text().strip()
     wait_until(lambda: not pathlib.Path(f"/proc/{child}").exists() or "Z" in pathlib.Path(
         f"/proc/{child}/stat").read_text().split(")")[1][:3], "the process that it has started is ended")
@@ -747,8 +747,8 @@ def test_a_program_that_closes_its_streams_is_ended(top: pathlib.Path, folder: p
                                    "for words in ('exec >&- 2>&-; sleep 1000', 'sleep 1000 & echo 1'):\n    try:\n"
                                    "        print(others.run_command(['sh', '-c', words], '.', 0.1)[0].strip())\n"
                                    "    except others.Failed as failure:\n        print(failure)\n")
-    told = printed_by(["/usr/bin/python3", "-B", "try.py"], folder)
-    assert re.fullmatch(r"still running after \d s, instead of 0.1 s of processor time\n1\n", told), told
+    got = output_of(["/usr/bin/python3", "-B", "try.py"], folder)
+    assert re.fullmatch(r"still running after \d s, instead of 0.1 s of processor time\n1\n", got), got
 
 
 def test_time_is_measured_at_the_end_too(top: pathlib.Path, folder: pathlib.Path) -> None:
@@ -758,15 +758,15 @@ def test_time_is_measured_at_the_end_too(top: pathlib.Path, folder: pathlib.Path
                                    "i=$((i+1)); done'\nfor words in (work, f'({work})'):\n    try:\n"
                                    "        others.run_command(['sh', '-c', f'{words}; echo 1'], '.', 0.001)\n"
                                    "    except others.Failed as failure:\n        print(failure)\n")
-    told = printed_by(["/usr/bin/python3", "-B", "try.py"], folder)
-    failed = re.fullmatch(r"(took too long: \d+\.\d\d s of processor time instead of 0.001 s\n){2}", told)
-    assert failed, f"two programs that took too long: {told!r}"
+    got = output_of(["/usr/bin/python3", "-B", "try.py"], folder)
+    failed = re.fullmatch(r"(took too long: \d+\.\d\d s of processor time instead of 0.001 s\n){2}", got)
+    assert failed, f"two programs that took too long: {got!r}"
 
 
 # Runs that fail
 
 @pytest.fixture(scope="module")
-def failing(top: pathlib.Path, pfs: Program, tmp_path_factory: pytest.TempPathFactory) -> tuple[Experiment, Told]:
+def failing(top: pathlib.Path, pfs: Program, tmp_path_factory: pytest.TempPathFactory) -> tuple[Experiment, Done]:
     """A plan whose runs fail but for those of one seed, and what its first start tells."""
     experiment = planned(top, pfs, tmp_path_factory.mktemp("failing"), PLAN.replace("[1, 2, 3]", "[0, 1, 2, 3, 4]"))
     program = write_script(experiment.folder / "failing", FAILING.format(pfs=pfs.path))
@@ -774,12 +774,12 @@ def failing(top: pathlib.Path, pfs: Program, tmp_path_factory: pytest.TempPathFa
 
 
 @pytest.mark.xdist_group("failing")
-def test_the_csv_has_a_failed_run_with_its_status(failing: tuple[Experiment, Told]) -> None:
-    experiment, told = failing
+def test_the_csv_has_a_failed_run_with_its_status(failing: tuple[Experiment, Done]) -> None:
+    experiment, got = failing
     statuses = ["ok", "check: exit 1, wrong makespan", "solve: signal 9", "solve: exit 4, no memory, perhaps",
                 "solve: no cells printed"]
-    *lines, last = told.stderr.splitlines()
-    assert (told.status, told.stdout, last) == (1, "", "out.csv: 20 runs, 16 of them failed, 0 still to run")
+    *lines, last = got.stderr.splitlines()
+    assert (got.status, got.stdout, last) == (1, "", "out.csv: 20 runs, 16 of them failed, 0 still to run")
     assert lines == [f"shops/a (rounds 10, take 4, passes 0, seed {seed}) failed, as 3 more: {statuses[seed]}"
                      for seed in (1, 2, 3, 4)]
     rows = experiment.rows()
@@ -789,7 +789,7 @@ def test_the_csv_has_a_failed_run_with_its_status(failing: tuple[Experiment, Tol
 
 
 @pytest.mark.xdist_group("failing")
-def test_a_run_that_fails_is_not_made_again(failing: tuple[Experiment, Told]) -> None:
+def test_a_run_that_fails_is_not_made_again(failing: tuple[Experiment, Done]) -> None:
     experiment, _ = failing
     before = (experiment.folder / "out.csv").read_text()
     assert experiment.run(program=experiment.folder / "failing").status == 1
@@ -797,9 +797,9 @@ def test_a_run_that_fails_is_not_made_again(failing: tuple[Experiment, Told]) ->
 
 
 @pytest.mark.xdist_group("failing")
-def test_the_report_counts_runs_that_failed(failing: tuple[Experiment, Told], matplotlib: None) -> None:
+def test_the_report_counts_runs_that_failed(failing: tuple[Experiment, Done], matplotlib: None) -> None:
     experiment, _ = failing
-    told_by([experiment.top / "experiments" / "report", "out.csv", "report"], experiment.folder)
+    run_tool([experiment.top / "experiments" / "report", "out.csv", "report"], experiment.folder)
     with open(experiment.folder / "report" / "table.csv", newline="") as file:
         assert [(row["runs"], row["failed"]) for row in csv.DictReader(file)] == [("1", "4")] * 4
 
@@ -807,8 +807,8 @@ def test_the_report_counts_runs_that_failed(failing: tuple[Experiment, Told], ma
 def test_a_killed_run_is_reported_and_made_by_the_next_start(experiment: Experiment) -> None:
     program = write_script(experiment.folder / "killing",
                            KILLING.format(folder=experiment.folder, pfs=experiment.pfs.path))
-    told = experiment.run(program=program)
-    assert told == Told(1, "", "shops/a (rounds 10, take 4, passes 0, seed 2) failed, as 3 more: "
+    got = experiment.run(program=program)
+    assert got == Done(1, "", "shops/a (rounds 10, take 4, passes 0, seed 2) failed, as 3 more: "
                                "lost: exit 137, signal 0\n"
                                "out.csv: 12 runs, 4 of them failed, 0 still to run\n")
     assert {row[8:] for row in experiment.rows() if row.seed == "2"} == {("", "", "", "", "lost: exit 137, signal 0")}
@@ -836,7 +836,7 @@ def test_a_run_whose_program_was_killed_is_made_by_the_next_start(experiment: Ex
     assert [row.status for row in experiment.rows()] \
         == ["solve: signal 9", "solve: exit 4, pfs: no memory", "check: signal 15"] * 4
     (experiment.folder / "fixed").touch()
-    assert experiment.run(program=program) == Told(0, "", TWELVE)
+    assert experiment.run(program=program) == Done(0, "", TWELVE)
     assert experiment.rows() == experiment.wanted()
 
 
@@ -852,7 +852,7 @@ exec {experiment.pfs.path} "$@"
     (experiment.folder / "notes").unlink()
     assert experiment.run(program=program).status == 1
     assert experiment.started() == [], "without --retry"
-    assert experiment.run("out.csv", "--retry", program=program) == Told(0, "", TWELVE)
+    assert experiment.run("out.csv", "--retry", program=program) == Done(0, "", TWELVE)
     assert sum(line.startswith("solve ") for line in experiment.started()) == 4
     assert experiment.rows() == experiment.wanted()
 
@@ -863,7 +863,7 @@ def test_results_that_are_gone_or_torn_are_made_again(experiment: Experiment) ->
     (experiment.runs / "results" / "4").write_text("4,12")
     with open(experiment.runs / "joblog", "a") as file:
         file.write("12\t:\t17")
-    assert experiment.run() == Told(0, "", TWELVE)
+    assert experiment.run() == Done(0, "", TWELVE)
     assert experiment.rows() == experiment.wanted()
 
 
@@ -900,7 +900,7 @@ def start(experiment: Experiment, *words: str, name: str = "run", env: dict[str,
     bin_folder = experiment.folder / "bin"
     if not bin_folder.exists():
         bin_folder.mkdir()
-        write_script(bin_folder / "parallel", f"#!/bin/sh\necho $$ > {noted}\nexec {need('parallel')} \"$@\"\n")
+        write_script(bin_folder / "parallel", f"#!/bin/sh\necho $$ > {noted}\nexec {tool('parallel')} \"$@\"\n")
     line = experiment.words(name, *words, program=experiment.waiting())
     process = subprocess.Popen(line, cwd=experiment.folder, env=env or with_path(bin_folder), stdin=subprocess.DEVNULL,
                                stdout=subprocess.DEVNULL, stderr=stderr, start_new_session=True)
@@ -971,10 +971,10 @@ def test_no_run_is_lost_or_made_again(kills: Kills, experiment: Experiment) -> N
 
 def test_two_starts_at_once_make_each_run_once(experiment: Experiment) -> None:
     (experiment.folder / "plan.toml").write_text(PLAN.replace("[10, 30]", "[10]"))
-    with experiment.gate() as gate, open(experiment.folder / "told", "wb") as told:
+    with experiment.gate() as gate, open(experiment.folder / "told", "wb") as got:
         first = start(experiment, "plan.toml", "out.csv", "--jobs", "1")
         wait_until(lambda: len(experiment.started()) == 1, "the first start makes a run")
-        second = start(experiment, "plan.toml", "out.csv", "--jobs", "1", stderr=told)
+        second = start(experiment, "plan.toml", "out.csv", "--jobs", "1", stderr=got)
         waits = (experiment.folder / "told").read_text
         wait_until(lambda: len(experiment.started()) > 1 or "\n" in waits(), "the second start waits, or makes a run")
         started, line = experiment.started(), waits()
@@ -999,73 +999,73 @@ def test_on_a_terminal_the_share_that_is_done_is_shown(experiment: Experiment) -
 
 @pytest.fixture(scope="module")
 def made_over_ssh(ssh_server: Server, top: pathlib.Path, pfs: Program,
-                  tmp_path_factory: pytest.TempPathFactory) -> tuple[Experiment, Told]:
+                  tmp_path_factory: pytest.TempPathFactory) -> tuple[Experiment, Done]:
     experiment = planned(top, pfs, tmp_path_factory.mktemp("over_ssh"))
     (experiment.folder / "machines").write_text(ssh_server.line)
     return experiment, experiment.run("out.csv", "--sshloginfile", "machines")
 
 
 @over_ssh
-def test_over_ssh_the_csv_is_the_same(made_over_ssh: tuple[Experiment, Told]) -> None:
-    experiment, told = made_over_ssh
-    assert told == Told(0, "", TWELVE)
+def test_over_ssh_the_csv_is_the_same(made_over_ssh: tuple[Experiment, Done]) -> None:
+    experiment, got = made_over_ssh
+    assert got == Done(0, "", TWELVE)
     assert experiment.rows() == experiment.wanted()
 
 
 @over_ssh
-def test_over_ssh_all_runs_are_made_on_the_other_machine(made_over_ssh: tuple[Experiment, Told]) -> None:
+def test_over_ssh_all_runs_are_made_on_the_other_machine(made_over_ssh: tuple[Experiment, Done]) -> None:
     lines = (made_over_ssh[0].runs / "joblog").read_text().splitlines()[1:]
     assert {line.split("\t")[1].split()[-1] for line in lines} == {"127.0.0.1"}
 
 
 @over_ssh
-def test_over_ssh_nothing_is_left_there(made_over_ssh: tuple[Experiment, Told], ssh_server: Server) -> None:
+def test_over_ssh_nothing_is_left_there(made_over_ssh: tuple[Experiment, Done], ssh_server: Server) -> None:
     assert [path.name for path in ssh_server.home.iterdir() if path.name != ".parallel"] == []
 
 
 # Slurm
 
-def number_of(told: str) -> str:
+def number_of(got: str) -> str:
     """The number of the one array that was submitted."""
-    numbers = re.findall(r"^Submitted batch job (\d+)$", told, re.MULTILINE)
-    assert len(numbers) == 1, f"arrays that were submitted: {told}"
+    numbers = re.findall(r"^Submitted batch job (\d+)$", got, re.MULTILINE)
+    assert len(numbers) == 1, f"arrays that were submitted: {got}"
     return str(numbers[0])
 
 
 @pytest.fixture(scope="module")
 def made_on_slurm(slurm: Cluster, top: pathlib.Path, pfs: Program,
-                  tmp_path_factory: pytest.TempPathFactory) -> tuple[Experiment, Told]:
+                  tmp_path_factory: pytest.TempPathFactory) -> tuple[Experiment, Done]:
     experiment = planned(top, pfs, tmp_path_factory.mktemp("on_slurm"))
     return experiment, submit(experiment, slurm)
 
 
-def submit(experiment: Experiment, slurm: Cluster) -> Told:
+def submit(experiment: Experiment, slurm: Cluster) -> Done:
     """The program that notes its searches has no gate to wait at here."""
     return experiment.script("slurm", "--tasks", "4", "plan.toml", "out.csv", "--time=5", env=slurm.env,
                              program=experiment.waiting())
 
 
 @on_slurm
-def test_on_slurm_the_csv_is_the_same(made_on_slurm: tuple[Experiment, Told]) -> None:
-    experiment, told = made_on_slurm
-    assert (told.status, told.stderr.splitlines()[-1]) == (0, TWELVE.removesuffix("\n"))
+def test_on_slurm_the_csv_is_the_same(made_on_slurm: tuple[Experiment, Done]) -> None:
+    experiment, got = made_on_slurm
+    assert (got.status, got.stderr.splitlines()[-1]) == (0, TWELVE.removesuffix("\n"))
     assert experiment.rows() == experiment.wanted()
 
 
 @on_slurm
-def test_on_slurm_each_run_is_made_by_one_task(made_on_slurm: tuple[Experiment, Told]) -> None:
+def test_on_slurm_each_run_is_made_by_one_task(made_on_slurm: tuple[Experiment, Done]) -> None:
     assert set(made_on_slurm[0].searches().values()) == {1}, "how often each run was made"
 
 
 @on_slurm
-def test_on_slurm_the_runs_are_one_array_of_so_many_tasks(made_on_slurm: tuple[Experiment, Told],
+def test_on_slurm_the_runs_are_one_array_of_that_many_tasks(made_on_slurm: tuple[Experiment, Done],
                                                           slurm: Cluster) -> None:
     number = number_of(made_on_slurm[1].stderr)
     assert slurm.tells("scontrol", "-o", "show", "job", number).count(f"ArrayJobId={number} ") == 4
 
 
 @on_slurm
-def test_on_slurm_runs_whose_results_are_gone_are_made_again_and_no_others(made_on_slurm: tuple[Experiment, Told],
+def test_on_slurm_runs_whose_results_are_gone_are_made_again_and_no_others(made_on_slurm: tuple[Experiment, Done],
                                                                            slurm: Cluster) -> None:
     experiment, _ = made_on_slurm
     results = experiment.runs / "results"
@@ -1073,12 +1073,12 @@ def test_on_slurm_runs_whose_results_are_gone_are_made_again_and_no_others(made_
     wanted = experiment.rows()
     (results / "5").unlink()
     (results / "12").write_text("12,1")
-    told = submit(experiment, slurm)
-    assert told.status == 0 and number_of(told.stderr)
+    got = submit(experiment, slurm)
+    assert got.status == 0 and number_of(got.stderr)
     assert experiment.rows() == wanted
     after = {path.name: path.stat().st_mtime_ns for path in results.iterdir()}
     assert {name for name in after if after[name] != before.get(name)} == {"5", "12"}
-    assert submit(experiment, slurm) == Told(0, "", TWELVE), "a start where nothing is left to do"
+    assert submit(experiment, slurm) == Done(0, "", TWELVE), "a start where nothing is left to do"
 
 
 @on_slurm
@@ -1086,13 +1086,13 @@ def test_on_slurm_a_second_start_waits_for_the_array_of_the_first(experiment: Ex
     """Also if the first start was killed while it waited for its array. A result exists only once it is complete."""
     (experiment.folder / "plan.toml").write_text(PLAN.replace("[10, 30]", "[10]"))
     words = ["--tasks", "1", "plan.toml", "out.csv", "--time=5"]
-    with experiment.gate() as gate, open(experiment.folder / "told", "wb") as told:
+    with experiment.gate() as gate, open(experiment.folder / "told", "wb") as got:
         first = start(experiment, *words, name="slurm", env=slurm.env)
         wait_until(lambda: len(experiment.started()) == 1, "the array makes a run")
         begun = [path.name for path in (experiment.runs / "results").iterdir() if path.name.isdigit()]
         first.kill_all()
         first.process.wait(60)
-        second = start(experiment, *words, name="slurm", env=slurm.env, stderr=told)
+        second = start(experiment, *words, name="slurm", env=slurm.env, stderr=got)
         why = waiting_for(experiment, slurm)
         gate.open()
         status = second.process.wait(120)
@@ -1105,9 +1105,9 @@ def test_on_slurm_a_second_start_waits_for_the_array_of_the_first(experiment: Ex
 
 def waiting_for(experiment: Experiment, slurm: Cluster) -> str:
     """Why the second array waits, or that it doesn't."""
-    told = experiment.folder / "told"
-    wait_until(lambda: "Submitted batch job" in told.read_text(), "the second array is submitted")
-    number = number_of(told.read_text())
+    got = experiment.folder / "told"
+    wait_until(lambda: "Submitted batch job" in got.read_text(), "the second array is submitted")
+    number = number_of(got.read_text())
 
     def reason() -> str:
         state, _, why = slurm.tells("squeue", "-h", "-j", number, "-o", "%T %r").partition(" ")
@@ -1129,13 +1129,13 @@ def run_out_of_time(slurm: Cluster, number: str) -> None:
 @on_slurm
 @pytest.mark.parametrize("end, why", [(cancel, ""), (run_out_of_time, "DUE TO TIME LIMIT ")],
                          ids=["cancelled", "out of time"])
-def test_what_slurm_says_of_a_task_that_it_ended_stands_in_the_csv(
+def test_what_slurm_says_of_a_task_that_it_ended_is_in_the_csv(
         experiment: Experiment, slurm: Cluster, end: Callable[[Cluster, str], None], why: str) -> None:
     """And the next start makes its runs."""
     (experiment.folder / "plan.toml").write_text(PLAN.replace("[10, 30]", "[10]"))
     words = ["--tasks", "2", "plan.toml", "out.csv", "--time=5"]
-    with experiment.gate(), open(experiment.folder / "told", "wb") as told:
-        begun = start(experiment, *words, name="slurm", env=slurm.env, stderr=told)
+    with experiment.gate(), open(experiment.folder / "told", "wb") as got:
+        begun = start(experiment, *words, name="slurm", env=slurm.env, stderr=got)
         wait_until(lambda: len(experiment.started()) == 2, "two tasks make a run each")
         end(slurm, number_of((experiment.folder / "told").read_text()))
         assert begun.process.wait(100) == 1
@@ -1161,8 +1161,8 @@ def test_a_task_that_ran_out_of_time_is_reported_by_its_last_run(experiment: Exp
     """The first of six tasks makes the runs 1 and 7, and ends in the second one."""
     (experiment.folder / "bin").mkdir()
     write_script(experiment.folder / "bin" / "sbatch", OUT_OF_TIME)
-    told = experiment.script("slurm", "--tasks", "6", "plan.toml", "out.csv", env=with_path(experiment.folder / "bin"))
-    assert told.status == 1 and told.stderr.endswith("out.csv: 2 runs, 1 of them failed, 10 still to run\n")
+    got = experiment.script("slurm", "--tasks", "6", "plan.toml", "out.csv", env=with_path(experiment.folder / "bin"))
+    assert got.status == 1 and got.stderr.endswith("out.csv: 2 runs, 1 of them failed, 10 still to run\n")
     first, second = experiment.rows()
     assert (first.instance, first.status) == ("shops/a", "ok")
     assert (second.instance, second.rounds, second.seed) == ("shops/b", "10", "1")
@@ -1172,11 +1172,11 @@ def test_a_task_that_ran_out_of_time_is_reported_by_its_last_run(experiment: Exp
 @on_slurm
 def test_on_slurm_the_line_of_a_dry_run_makes_the_runs(experiment: Experiment, slurm: Cluster) -> None:
     """In one task, as they are short. The same command then writes the CSV, and submits nothing."""
-    told = experiment.script("slurm", "--dry-run", "plan.toml", "out.csv", "--time=5", env=slurm.env)
-    assert told.status == 0 and "--array=1-1 " in told.stdout, told
-    made = told_by(["sh", "-c", told.stdout], experiment.folder, env=slurm.env)
+    got = experiment.script("slurm", "--dry-run", "plan.toml", "out.csv", "--time=5", env=slurm.env)
+    assert got.status == 0 and "--array=1-1 " in got.stdout, got
+    made = run_tool(["sh", "-c", got.stdout], experiment.folder, env=slurm.env)
     assert made.status == 0 and number_of(made.stdout)
-    assert experiment.script("slurm", "plan.toml", "out.csv", "--time=5", env=slurm.env) == Told(0, "", TWELVE)
+    assert experiment.script("slurm", "plan.toml", "out.csv", "--time=5", env=slurm.env) == Done(0, "", TWELVE)
     assert experiment.rows() == experiment.wanted()
 
 
@@ -1217,21 +1217,21 @@ def test_a_dry_run_prints_the_line_of_slurm(experiment: Experiment) -> None:
     (experiment.folder / "bin").mkdir()
     write_script(experiment.folder / "bin" / "sbatch", "#!/bin/sh\necho \"$@\" > submitted\n")
     env = with_path(experiment.folder / "bin")
-    told = experiment.script("slurm", "--dry-run", "plan.toml", "out.csv", "--time=5", env=env)
-    assert (told.status, told.stderr) == (0, "out.csv: 12 runs still to run\n")
+    got = experiment.script("slurm", "--dry-run", "plan.toml", "out.csv", "--time=5", env=env)
+    assert (got.status, got.stderr) == (0, "out.csv: 12 runs still to run\n")
     assert not (experiment.runs / "submitted").exists() and not (experiment.folder / "out.csv").exists()
-    assert told_by(["sh", "-c", told.stdout], experiment.folder, env=env).status == 0
+    assert run_tool(["sh", "-c", got.stdout], experiment.folder, env=env).status == 0
     words = (experiment.runs / "submitted").read_text().split()
     stage, = (path.name for path in experiment.runs.glob("pfs-experiment-*"))
     assert words[-2:] == [str(experiment.top / "experiments" / "task"), stage] and "--time=5" in words
 
 
 def test_readme_states_the_usual_number_of_tasks(top: pathlib.Path) -> None:
-    told = re.search(r"Each of at most ([\d,]+) tasks \(`--tasks`\)", (top / "experiments" / "README.md").read_text())
+    got = re.search(r"Each of at most ([\d,]+) tasks \(`--tasks`\)", (top / "experiments" / "README.md").read_text())
     script = (top / "experiments" / "slurm").read_text()
     most = re.search(r"^MOST_TASKS, LEAST_SECONDS = (\d+), 60$", script, re.MULTILINE)
-    assert told and most, "the number of tasks"
-    assert told[1] == f"{int(most[1]):,}", "the usual number of tasks in experiments/README.md"
+    assert got and most, "the number of tasks"
+    assert got[1] == f"{int(most[1]):,}", "the usual number of tasks in experiments/README.md"
 
 
 def test_slurm_is_asked_to_wait_for_arrays_of_the_same_csv(asked: Callable[..., list[str]]) -> None:
@@ -1249,9 +1249,9 @@ def page(top: pathlib.Path) -> str:
 
 def test_the_manual_page_has_the_exit_statuses(page: str, experiment: Experiment) -> None:
     """Of runs that succeed and of those that fail, of audits and of reports, and of what is rejected."""
-    told = dict(re.findall(r"^\.It (\d)\n([^.]*\.)", page.partition(".Sh EXIT STATUS")[2].partition(".Sh ")[0],
+    got = dict(re.findall(r"^\.It (\d)\n([^.]*\.)", page.partition(".Sh EXIT STATUS")[2].partition(".Sh ")[0],
                            re.MULTILINE))
-    assert list(told) == ["0", "1", "2"], "statuses in the manual page"
+    assert list(got) == ["0", "1", "2"], "statuses in the manual page"
     made = experiment.run()
     (experiment.folder / "shops" / "c").write_text("no instance\n")
     failed = experiment.run("failed.csv")
@@ -1260,12 +1260,12 @@ def test_the_manual_page_has_the_exit_statuses(page: str, experiment: Experiment
     wrong = experiment.script("check", "out.csv")
     (experiment.folder / "plan.toml").write_text("x = 1\n")
     rejected = [experiment.run(), experiment.script("run"), experiment.script("check", "none.csv"),
-                told_by([experiment.top / "experiments" / "taillard"], experiment.folder)]
-    assert told[str(made.status)] == "Done.", "the status of a plan whose runs succeed"
-    assert "failed" in told[str(failed.status)], "the status of a plan with runs that fail"
-    assert "wrong" in " ".join(told[str(wrong.status)].split()), "the status of an audit that finds a wrong order"
+                run_tool([experiment.top / "experiments" / "taillard"], experiment.folder)]
+    assert got[str(made.status)] == "Done.", "the status of a plan whose runs succeed"
+    assert "failed" in got[str(failed.status)], "the status of a plan with runs that fail"
+    assert "wrong" in " ".join(got[str(wrong.status)].split()), "the status of an audit that finds a wrong order"
     for each in rejected:
-        assert "rejected" in told[str(each.status)], f"the status of what is rejected: {each}"
+        assert "rejected" in got[str(each.status)], f"the status of what is rejected: {each}"
         assert each.stderr.count("\n") == 1, each.stderr
 
 
@@ -1281,8 +1281,8 @@ def test_the_examples_of_the_manual_page_lead_to_a_report(page: str, top: pathli
     shutil.copy(pfs.path, folder / "bin" / "pfs")
     write_script(folder / "bin" / "pfs-experiments", f"#!/bin/sh\nexec {top}/tools/pfs-experiments \"$@\"\n")
     for line in lines[1:]:
-        told = told_by(["sh", "-c", line], folder, env=with_path(folder / "bin"))
-        assert told.status == 0, f"{line}: {told.stderr[-500:]}"
+        got = run_tool(["sh", "-c", line], folder, env=with_path(folder / "bin"))
+        assert got.status == 0, f"{line}: {got.stderr[-500:]}"
     assert (folder / "report" / "table.md").exists(), "the report of the manual page"
 
 
@@ -1298,9 +1298,9 @@ def test_a_script_without_words_prints_its_usage(script: str, top: pathlib.Path,
         ([top / "experiments" / script], f"experiments/{script}"),
         ([folder / "bin" / "pfs-experiments", script], f"pfs-experiments {script}")]
     for line, name in lines:
-        told = told_by(line, folder)
-        assert (told.status, told.stdout, told.stderr.count("\n")) == (2, "", 1), told.stderr
-        assert f"usage: {name} " in told.stderr, told.stderr
+        got = run_tool(line, folder)
+        assert (got.status, got.stdout, got.stderr.count("\n")) == (2, "", 1), got.stderr
+        assert f"usage: {name} " in got.stderr, got.stderr
 
 
 # The whole way
@@ -1324,7 +1324,7 @@ def test_the_lines_of_the_way_lead_to_the_reports_plots(top: pathlib.Path, pfs: 
     lines = lines_of_way(top / "experiments" / "README.md")
     assert len(lines) == 6
     for line in lines[1:]:
-        assert told_by([*line.split(" ")], folder).status == 0, line
+        assert run_tool([*line.split(" ")], folder).status == 0, line
     assert sorted(os.listdir(folder / "report")) \
         == ["gap.png", "means.png", "rpd.png", "seconds.png", "sizes.csv", "sizes.md", "sizes.tex", "table.csv",
             "table.md", "time.png"]

@@ -6,7 +6,7 @@ import shutil
 
 import pytest
 from support.facts import FACTS, LIMITS, RANGES
-from support.tools import Told, printed_by, told_by
+from support.tools import Done, output_of, run_tool
 
 PAGES = ["docs/COMMANDS.md", "docs/FORMATS.md", "share/pfs.1"]
 FAULTS = "python/src/pfs/_faults.py"
@@ -20,7 +20,7 @@ BLOCK = re.compile(r'(?:<!--|\.\\") facts: ')
 
 
 def test_the_blocks_are_up_to_date(top: pathlib.Path) -> None:
-    assert told_by([top / "tools" / "facts", "--check"], top) == Told(0, "", "")
+    assert run_tool([top / "tools" / "facts", "--check"], top) == Done(0, "", "")
 
 
 def test_each_page_with_a_block_is_written(top: pathlib.Path) -> None:
@@ -54,10 +54,10 @@ def test_what_is_out_of_date_is_found_and_written(copy: pathlib.Path, page: str,
     before = (copy / page).read_text()
     assert before.count(old) == 1
     (copy / page).write_text(before.replace(old, new))
-    told = told_by([copy / "tools" / "facts", "--check"], copy)
-    assert told == Told(1, "", f"facts: {page} is out of date: run tools/facts\n")
+    got = run_tool([copy / "tools" / "facts", "--check"], copy)
+    assert got == Done(1, "", f"facts: {page} is out of date: run tools/facts\n")
     assert old not in (copy / page).read_text(), "--check writes a page"
-    assert printed_by([copy / "tools" / "facts"], copy) == ""
+    assert output_of([copy / "tools" / "facts"], copy) == ""
     assert (copy / page).read_text() == before
 
 
@@ -81,10 +81,10 @@ def test_wrong_numerals_are_found_and_written(copy: pathlib.Path) -> None:
         code = (copy / file).read_text()
         found = numeral(code, pattern)
         (copy / file).write_text(f"{code[:found.start(1)]}7{code[found.end(1):]}")
-    told = told_by([copy / "tools" / "facts", "--check"], copy)
-    assert (told.status, sorted(told.stderr.splitlines())) \
+    got = run_tool([copy / "tools" / "facts", "--check"], copy)
+    assert (got.status, sorted(got.stderr.splitlines())) \
         == (1, [f"facts: {file} is out of date: run tools/facts" for file in CODE])
-    assert printed_by([copy / "tools" / "facts"], copy) == ""
+    assert output_of([copy / "tools" / "facts"], copy) == ""
     after = {file: (copy / file).read_text() for file in CODE}
     for file, pattern, limit in NUMERALS:
         old, new = (re.sub("[,_]", "", numeral(texts[file], pattern)[1]) for texts in (before, after))
@@ -94,8 +94,8 @@ def test_wrong_numerals_are_found_and_written(copy: pathlib.Path) -> None:
 def test_a_numeral_that_is_not_found_is_reported(copy: pathlib.Path) -> None:
     path = copy / "lib" / "pfs_text.c"
     path.write_text(path.read_text().replace("passes", "walks"))
-    told = told_by([copy / "tools" / "facts", "--check"], copy)
-    assert told == Told(1, "", 'facts: lib/pfs_text.c: 0 places match "more than (\\d+) passes"\n')
+    got = run_tool([copy / "tools" / "facts", "--check"], copy)
+    assert got == Done(1, "", 'facts: lib/pfs_text.c: 0 places match "more than (\\d+) passes"\n')
 
 
 def test_the_checklist_for_a_limit_names_each_file_with_a_numeral(top: pathlib.Path) -> None:
@@ -111,11 +111,11 @@ def test_a_wrong_block_is_reported(copy: pathlib.Path, old: str, new: str, fault
     page = copy / "docs" / "COMMANDS.md"
     assert page.read_text().count(old) == 1
     page.write_text(page.read_text().replace(old, new))
-    assert told_by([copy / "tools" / "facts"], copy) == Told(1, "", f"facts: docs/COMMANDS.md: {fault}\n")
+    assert run_tool([copy / "tools" / "facts"], copy) == Done(1, "", f"facts: docs/COMMANDS.md: {fault}\n")
 
 
 def test_other_words_get_the_usage(top: pathlib.Path) -> None:
-    assert told_by([top / "tools" / "facts", "--help"], top) == Told(2, "", "usage: tools/facts [--check]\n")
+    assert run_tool([top / "tools" / "facts", "--help"], top) == Done(2, "", "usage: tools/facts [--check]\n")
 
 
 def constants(top: pathlib.Path) -> dict[str, int]:

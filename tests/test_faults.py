@@ -45,7 +45,7 @@ OTHERS = [
 ]
 
 
-def told(names: list[str], line: str, status: int) -> Ran:
+def got(names: list[str], line: str, status: int) -> Ran:
     """A run that prints these names, a line that tells a fault, and an exit status."""
     return printed(*names, f"pfs: {line}", f"status {status}")
 
@@ -53,17 +53,17 @@ def told(names: list[str], line: str, status: int) -> Ran:
 @pytest.mark.parametrize("words, name, line, status", FILES, ids=[words for words, *_ in FILES])
 def test_a_fault_of_a_file(pfs_calls: Program, folder: pathlib.Path, words: str, name: str, line: str,
                            status: int) -> None:
-    assert pfs_calls.run(f"fault {words}", folder) == told([words.split(" ")[1], name], line, status)
+    assert pfs_calls.run(f"fault {words}", folder) == got([words.split(" ")[1], name], line, status)
 
 
 @pytest.mark.parametrize("words, name, line, status", COMMANDS, ids=[words for words, *_ in COMMANDS])
 def test_a_fault_of_a_command(pfs_calls: Program, folder: pathlib.Path, words: str, name: str, line: str,
                               status: int) -> None:
-    assert pfs_calls.run(f"fault {words}", folder) == told([name], line, status)
+    assert pfs_calls.run(f"fault {words}", folder) == got([name], line, status)
 
 
 def test_a_write_that_failed(pfs_calls: Program, folder: pathlib.Path) -> None:
-    assert pfs_calls.run("fault write 5", folder) == told(["WriteFault", "Write"], "write failed after 5 bytes", 4)
+    assert pfs_calls.run("fault write 5", folder) == got(["WriteFault", "Write"], "write failed after 5 bytes", 4)
 
 
 @pytest.mark.parametrize("words, name", OTHERS, ids=[words for words, _ in OTHERS])

@@ -4,7 +4,7 @@ import shutil
 import subprocess
 
 import pytest
-from support.needs import need
+from support.needs import tool
 
 TOP = pathlib.Path(__file__).resolve().parent.parent
 CRATES = sorted(path.name for path in (TOP / "crates").iterdir() if (path / "src").is_dir())
@@ -23,7 +23,7 @@ def laid_out(crate: pathlib.Path, folder: pathlib.Path) -> dict[str, str]:
     copy = folder / "crates" / crate.name
     shutil.copytree(crate, copy, ignore=shutil.ignore_patterns("out"))
     (folder / "crates.txt").write_text((TOP / "crates.txt").read_text())
-    done = subprocess.run([need("rt"), "fmt"], cwd=copy, stdout=subprocess.PIPE, stderr=subprocess.STDOUT, text=True)
+    done = subprocess.run([tool("rt"), "fmt"], cwd=copy, stdout=subprocess.PIPE, stderr=subprocess.STDOUT, text=True)
     assert done.returncode == 0, done.stdout
     return texts(copy)
 

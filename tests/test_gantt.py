@@ -13,9 +13,9 @@ import pytest
 from support.colours import Lab, difference, least_difference
 from support.files import generated
 from support.pictures import Letters, Picture, contrast, value_of
-from support.needs import need
+from support.needs import tool
 from support.program import Program, Ran, ended
-from support.tools import Told, told_by, with_path
+from support.tools import Done, run_tool, with_path
 
 pytestmark = pytest.mark.long
 THREE = "table 3 2\n2 0 2 2 7\n1 2 5 7 9\n3 5 9 9 10\nmakespan 10\n"
@@ -298,14 +298,14 @@ class Colours(NamedTuple):
     neighbours: float
 
 
-def told_of_colours() -> Colours:
-    told = re.search(r"Any two of up to (\d+) jobs have colours that differ by ([\d.]+) or more \(CIEDE2000; of (\d+) "
+def colours_named() -> Colours:
+    got = re.search(r"Any two of up to (\d+) jobs have colours that differ by ([\d.]+) or more \(CIEDE2000; of (\d+) "
                      r"jobs by ([\d.]+)\).* Of more jobs, neighbours in the order differ by ([\d.]+) or more", PAGE)
-    assert told, "no sentence on the colours"
-    return Colours(int(told[1]), float(told[2]), int(told[3]), float(told[4]), float(told[5]))
+    assert got, "no sentence on the colours"
+    return Colours(int(got[1]), float(got[2]), int(got[3]), float(got[4]), float(got[5]))
 
 
-COLOURS = told_of_colours()
+COLOURS = colours_named()
 
 
 def difference_of_any_two(jobs: int, drawn: Drawn) -> float:
@@ -316,10 +316,10 @@ def difference_of_any_two(jobs: int, drawn: Drawn) -> float:
     return min(least_difference(one, other) for at, one in enumerate(fills) for other in fills[:at])
 
 
-@pytest.mark.parametrize(("jobs", "told"), [(COLOURS.some, COLOURS.least_of_some), (COLOURS.few, COLOURS.least)])
-def test_any_two_of_few_jobs_differ_as_much_as_the_page_says(jobs: int, told: float, drawn: Drawn) -> None:
+@pytest.mark.parametrize(("jobs", "got"), [(COLOURS.some, COLOURS.least_of_some), (COLOURS.few, COLOURS.least)])
+def test_any_two_of_few_jobs_differ_as_much_as_the_page_says(jobs: int, got: float, drawn: Drawn) -> None:
     """Rounded to a tenth."""
-    assert round(difference_of_any_two(jobs, drawn), 1) == told, f"the colours of {jobs} jobs"
+    assert round(difference_of_any_two(jobs, drawn), 1) == got, f"the colours of {jobs} jobs"
 
 
 def test_any_two_of_eight_jobs_are_distinguishable(drawn: Drawn) -> None:
@@ -410,14 +410,14 @@ def test_a_row_has_a_number_on_each_bar_where_it_fits_or_none_where_few_fit(case
     numbers = [bar_below(case, picture, letters) for letters in numbers_on(picture)]
     for machine in case.machines():
         bars = room(case, picture, machine)
-        told = {job for job, *_ in bars if (machine + 1, job) in numbers}
-        assert len(told) == sum(row == machine + 1 for row, _ in numbers), f"numbers twice on machine {machine + 1}"
+        got = {job for job, *_ in bars if (machine + 1, job) in numbers}
+        assert len(got) == sum(row == machine + 1 for row, _ in numbers), f"numbers twice on machine {machine + 1}"
         fit = {job for job, width, wanted in bars if width > wanted}
         surely = {job for job, width, wanted in bars if width > 1.3 * wanted + 4}
-        assert told <= fit, f"numbers on narrow bars of machine {machine + 1}"
-        assert surely <= told or not told, f"numbers on some bars of machine {machine + 1}"
-        assert told or 2 * len(surely) <= len(bars), f"no numbers on machine {machine + 1}, where {len(surely)} fit"
-        assert not told or 2 * len(fit) >= len(bars), f"numbers on machine {machine + 1}, where {len(fit)} fit"
+        assert got <= fit, f"numbers on narrow bars of machine {machine + 1}"
+        assert surely <= got or not got, f"numbers on some bars of machine {machine + 1}"
+        assert got or 2 * len(surely) <= len(bars), f"no numbers on machine {machine + 1}, where {len(surely)} fit"
+        assert not got or 2 * len(fit) >= len(bars), f"numbers on machine {machine + 1}, where {len(fit)} fit"
 
 
 @cases()
@@ -453,15 +453,15 @@ def test_time_goes_to_the_right_and_machines_go_down(case: Case, drawn: Drawn) -
 def test_each_row_shows_its_machines_idle_share(case: Case, drawn: Drawn) -> None:
     picture = drawn(case)
     row = picture.down()
-    told = {round(row(letters.y - BELOW_MIDDLE * letters.size)): letters for letters in picture.texts()
+    got = {round(row(letters.y - BELOW_MIDDLE * letters.size)): letters for letters in picture.texts()
             if re.fullmatch("[0-9]+ %", letters.text)}
     shown = [int(mark.number) for mark in picture.marks("ytick")]
     wanted = {}
     for machine in shown if case.makespan else []:
         busy = sum(end - start for _, start, end in case.operations(machine - 1))
         wanted[machine] = f"{100 - 100 * busy / case.makespan:.0f} %"
-    assert {machine: letters.text for machine, letters in told.items()} == wanted, "idle shares by machine"
-    assert all(picture.across()(letters.x) > case.makespan for letters in told.values()), "idle shares at the right"
+    assert {machine: letters.text for machine, letters in got.items()} == wanted, "idle shares by machine"
+    assert all(picture.across()(letters.x) > case.makespan for letters in got.values()), "idle shares at the right"
 
 
 @cases(lambda case: case is WITH_BOUND)
@@ -596,8 +596,8 @@ MANUAL = (pathlib.Path(__file__).resolve().parent.parent / "share" / "pfs-gantt.
 def defaults_of_manual() -> dict[str, str]:
     """What the manual page tells as the default of each option that has one."""
     items = re.findall(r"^\.It Fl -(\w+)[^\n]*\n(.*?)(?=^\.It|^\.El)", MANUAL, re.MULTILINE | re.DOTALL)
-    told = {option: re.search(r"^The default is (.*)\.$", text, re.MULTILINE) for option, text in items}
-    return {option: found[1] for option, found in told.items() if found}
+    got = {option: re.search(r"^The default is (.*)\.$", text, re.MULTILINE) for option, text in items}
+    return {option: found[1] for option, found in got.items() if found}
 
 
 def defaults_of_page() -> dict[str, str]:
@@ -605,13 +605,13 @@ def defaults_of_page() -> dict[str, str]:
     return dict(re.findall(r"^\| `--(\w+) [^|]*\|[^|]*\| (\S+) \|$", PAGE, re.MULTILINE))
 
 
-@pytest.mark.parametrize("told", [defaults_of_manual(), defaults_of_page()], ids=["pfs-gantt.1", "PICTURES.md"])
-def test_a_default_that_a_page_tells_is_the_options(told: dict[str, str], gantt: Gantt, folder: pathlib.Path) -> None:
+@pytest.mark.parametrize("got", [defaults_of_manual(), defaults_of_page()], ids=["pfs-gantt.1", "PICTURES.md"])
+def test_a_default_that_a_page_states_is_the_options(got: dict[str, str], gantt: Gantt, folder: pathlib.Path) -> None:
     """The same picture comes of it, and another one of another value."""
-    assert told.keys() == {"width", "dpi"}
+    assert got.keys() == {"width", "dpi"}
     assert gantt(folder, "usual.png") == Ran(b"", b"", 0)
     usual = (folder / "usual.png").read_bytes()
-    for option, value in told.items():
+    for option, value in got.items():
         for number, is_usual in ((value, True), (str(int(value) - 1), False)):
             assert gantt(folder, f"--{option}", number, "picture.png") == Ran(b"", b"", 0)
             is_same = bool((folder / "picture.png").read_bytes() == usual)
@@ -628,13 +628,13 @@ STATUSES: dict[str, list[tuple[list[str], str]]] = {
 
 def test_an_exit_status_of_the_manual_page_is_that_of_gantt(gantt: Gantt, folder: pathlib.Path) -> None:
     source = MANUAL.partition("\n.Sh EXIT STATUS\n")[2].partition("\n.Sh ")[0]
-    told = {text: int(status) for status, text in re.findall(r"^\.It (\d)\n(.*)$", source, re.MULTILINE)}
-    assert told.keys() == STATUSES.keys()
-    for text, status in told.items():
+    got = {text: int(status) for status, text in re.findall(r"^\.It (\d)\n(.*)$", source, re.MULTILINE)}
+    assert got.keys() == STATUSES.keys()
+    for text, status in got.items():
         for words, table in STATUSES[text]:
             assert gantt(folder, *words, text=table).status == status, f"{words}, where the page says: {text}"
     rejected = re.findall(r"rejected with one line on standard error and status (\d)", PAGE)
-    assert rejected == [str(told["The time table or the command line is rejected."])], "the status on the page"
+    assert rejected == [str(got["The time table or the command line is rejected."])], "the status on the page"
 
 
 def test_the_example_of_the_manual_page(gantt: Gantt, folder: pathlib.Path, pfs: Program, top: pathlib.Path) -> None:
@@ -644,7 +644,7 @@ def test_the_example_of_the_manual_page(gantt: Gantt, folder: pathlib.Path, pfs:
     (folder / "order").write_bytes(pfs.run("solve --layout taillard instance", folder).stdout)
     for name, path in (("pfs", pfs.path), ("pfs-gantt", top / "tools" / "gantt")):
         (folder / name).symlink_to(path)
-    assert told_by(["sh", "-c", line[1]], folder, env=with_path(folder)) == Told(0, "", "")
+    assert run_tool(["sh", "-c", line[1]], folder, env=with_path(folder)) == Done(0, "", "")
     assert {"critical-1", "critical-5"} <= Picture(folder / "chart.svg").groups.keys()
 
 
@@ -672,8 +672,8 @@ def test_sizes_over_the_limits_are_rejected_at_once(gantt: Gantt, folder: pathli
 def test_a_table_without_end(top: pathlib.Path, folder: pathlib.Path, matplotlib: None, path: str) -> None:
     with open(folder / "long", "wb") as file:
         file.truncate(67_108_865)
-    words: list[str | pathlib.Path] = [need("prlimit"), "--as=4000000000", top / "tools" / "gantt", path, "picture.svg"]
-    assert told_by(words, folder) == Told(2, "", "gantt: no time table: longer than 67,108,864 bytes\n")
+    words: list[str | pathlib.Path] = [tool("prlimit"), "--as=4000000000", top / "tools" / "gantt", path, "picture.svg"]
+    assert run_tool(words, folder) == Done(2, "", "gantt: no time table: longer than 67,108,864 bytes\n")
 
 
 @pytest.mark.parametrize("module", ["numpy", "matplotlib"])
@@ -682,9 +682,9 @@ def test_what_is_to_be_installed_is_named(top: pathlib.Path, folder: pathlib.Pat
     (folder / "without").mkdir()
     (folder / "without" / f"{module}.py").write_text(f"raise ModuleNotFoundError(\"No module named '{module}'\")\n")
     (folder / "table").write_text(THREE)
-    told = told_by([top / "tools" / "gantt", "table", "picture.svg"], folder,
+    got = run_tool([top / "tools" / "gantt", "table", "picture.svg"], folder,
                    env=dict(os.environ, PYTHONPATH=str(folder / "without"), PYTHONDONTWRITEBYTECODE="1"))
-    assert told == Told(2, "", f"gantt: No module named '{module}': it needs numpy and matplotlib "
+    assert got == Done(2, "", f"gantt: No module named '{module}': it needs numpy and matplotlib "
                                "(Debian: python3-matplotlib)\n")
     assert not (folder / "picture.svg").exists()
 
@@ -694,9 +694,9 @@ def test_a_full_disk_keeps_the_old_picture(top: pathlib.Path, folder: pathlib.Pa
                                            ending: str) -> None:
     (folder / "table").write_text(THREE)
     (folder / f"picture.{ending}").write_text("the old one")
-    words: list[str | pathlib.Path] = [need("prlimit"), "--fsize=1000"]
+    words: list[str | pathlib.Path] = [tool("prlimit"), "--fsize=1000"]
     words += [top / "tools" / "gantt", "table", f"picture.{ending}"]
-    assert told_by(words, folder) == Told(2, "", f"gantt: [Errno 27] File too large: 'picture.{ending}'\n")
+    assert run_tool(words, folder) == Done(2, "", f"gantt: [Errno 27] File too large: 'picture.{ending}'\n")
     assert (folder / f"picture.{ending}").read_text() == "the old one", "the picture was written in place"
     assert sorted(os.listdir(folder)) == [f"picture.{ending}", "table"]
 
@@ -742,9 +742,9 @@ def test_very_many_operations_are_an_image(case: Case, gantt: Gantt, folder: pat
 
 @pytest.mark.seconds(8)
 def test_from_this_number_of_operations_on_the_rows_are_an_image(gantt: Gantt, folder: pathlib.Path) -> None:
-    told = re.search(r"^- Of more than ([\d,]+) operations", PAGE, re.MULTILINE)
-    assert told, "no sentence on the operations"
-    jobs = int(told[1].replace(",", "")) // 20
+    got = re.search(r"^- Of more than ([\d,]+) operations", PAGE, re.MULTILINE)
+    assert got, "no sentence on the operations"
+    jobs = int(got[1].replace(",", "")) // 20
     for count, is_image in ((jobs, False), (jobs + 1, True)):
         case = Case("many", list(range(1, count + 1)), schedule_of([[1] * 20] * count), ())
         ran = gantt(folder, "picture.svg", text=case.text())

@@ -5,7 +5,7 @@ import re
 import shutil
 
 import pytest
-from support.tools import Told, told_by, with_path, write_script
+from support.tools import Done, run_tool, with_path, write_script
 
 NOTE = 'echo "$NAME $*" >> calls; test "$NAME $*" != "$FAILING" || exit 7\n'
 # pytest is run by its name as a module, of which there is one in the folder.
@@ -35,34 +35,34 @@ def repository(top: pathlib.Path, folder: pathlib.Path) -> pathlib.Path:
     return folder
 
 
-def run(repository: pathlib.Path, is_built: bool, failing: str = "") -> tuple[Told, list[str]]:
+def run(repository: pathlib.Path, is_built: bool, failing: str = "") -> tuple[Done, list[str]]:
     """What tools/test prints, and the calls that it makes."""
     env = with_path(repository / "bin") | {"OUTDATED": str(int(not is_built)), "FAILING": failing}
-    told = told_by([repository / "tools" / "test"], repository, env=env)
-    return told, (repository / "calls").read_text().splitlines()
+    got = run_tool([repository / "tools" / "test"], repository, env=env)
+    return got, (repository / "calls").read_text().splitlines()
 
 
-def times(told: Told) -> list[tuple[str, str]]:
+def times(got: Done) -> list[tuple[str, str]]:
     """The layers of the last lines, with the status of one that failed."""
-    return LINE.findall(told.stdout.partition("== minutes\n")[2])
+    return LINE.findall(got.stdout.partition("== minutes\n")[2])
 
 
 @pytest.mark.parametrize("is_built", [True, False], ids=["built", "not built"])
 def test_the_layers(repository: pathlib.Path, is_built: bool) -> None:
     """The quick tests come as soon as there is what they test, and once."""
-    told, calls = run(repository, is_built)
-    assert (told.status, calls) == (0, LAYERS[is_built]), told
-    assert times(told) == [(name, "") for name in [*(NAMES[call] for call in calls), "total"]]
-    assert ("quick waits" in told.stdout) != is_built
+    got, calls = run(repository, is_built)
+    assert (got.status, calls) == (0, LAYERS[is_built]), got
+    assert times(got) == [(name, "") for name in [*(NAMES[call] for call in calls), "total"]]
+    assert ("quick waits" in got.stdout) != is_built
 
 
 @pytest.mark.parametrize("is_built", [True, False], ids=["built", "not built"])
 @pytest.mark.parametrize("failing", NAMES)
 def test_a_layer_that_fails_is_the_last(repository: pathlib.Path, failing: str, is_built: bool) -> None:
-    told, calls = run(repository, is_built, failing)
+    got, calls = run(repository, is_built, failing)
     layers = LAYERS[is_built]
-    assert (told.status, calls) == (7, layers[:layers.index(failing) + 1])
-    assert times(told) == [*((NAMES[call], "") for call in calls[:-1]), (NAMES[failing], "7"), ("total", "")]
+    assert (got.status, calls) == (7, layers[:layers.index(failing) + 1])
+    assert times(got) == [*((NAMES[call], "") for call in calls[:-1]), (NAMES[failing], "7"), ("total", "")]
 
 
 def test_ci_runs_the_pages_test_command(top: pathlib.Path) -> None:

@@ -112,15 +112,15 @@ def refuse_each(shim: Shim, program: Program, words: Words, folder: pathlib.Path
                 stdin: bytes = b"") -> None:
     """Let each allocation fail in turn. Such a run has one of the `refusals`, and the run without a failure has the
     `answer`. All refusals occur in this order, each perhaps more than once."""
-    told: list[Ran] = []
+    got: list[Ran] = []
     for growth in range(1, MOST_GROWTHS):
         ran, is_refused = shim.run_refused(program, words, folder, stdin, growth)
         if not is_refused:
             assert ran == answer, "no allocation failed"
-            assert [refusal for refusal, _ in groupby(told)] == refusals, "the runs in which an allocation failed"
+            assert [refusal for refusal, _ in groupby(got)] == refusals, "the runs in which an allocation failed"
             return
         assert ran in refusals, f"allocation {growth} failed"
-        told.append(ran)
+        got.append(ran)
     pytest.fail(f"{MOST_GROWTHS} allocations or more")
 
 

@@ -7,7 +7,7 @@ from collections.abc import Callable, Iterable, Iterator
 
 import pytest
 from support.files import FILES
-from support.large import LargeRun, run_within, write_equal_times, write_many_lines, write_one_line, write_repeated
+from support.large import LargeRun, run_limited, write_equal_times, write_many_lines, write_one_line, write_repeated
 from support.lines import ANSWERS, CHECK, CONVERT, SOLVE, TABLE, VALUE
 from support.program import Program
 
@@ -37,12 +37,12 @@ def words_of(command: str, file: pathlib.Path, order: pathlib.Path | None = None
     return [paths.get(word, word) for word in COMMANDS[command].split(" ")]
 
 
-def run_large(pfs: Program, words: list[str], folder: pathlib.Path, parts: Iterable[bytes], told: bytes, status: int,
+def run_large(pfs: Program, words: list[str], folder: pathlib.Path, parts: Iterable[bytes], got: bytes, status: int,
               kept: int = 0, stdin: pathlib.Path = pathlib.Path("/dev/null")) -> LargeRun:
     """Run the program and check its output, errors, status and memory; `kept` is the bytes of its tables."""
     most = kept + MOST_RESIDENT
-    ran = run_within(pfs, words, folder, most, stdin)
-    assert (ran.stderr[:200], ran.status) == (told, status)
+    ran = run_limited(pfs, words, folder, most, stdin)
+    assert (ran.stderr[:200], ran.status) == (got, status)
     assert ran.prints(parts), "it printed something else"
     assert ran.resident <= most, "it had more memory"
     return ran

@@ -5,7 +5,7 @@ import re
 import subprocess
 
 import pytest
-from support.needs import need
+from support.needs import tool
 from support.program import Program
 
 
@@ -18,7 +18,7 @@ WITHOUT_CELLS = {"greedy::take_jobs", "rankings::rank_jobs", "rankings::sort_job
 def test_no_function_of_this_module_is_called(pfs: Program, module: str) -> None:
     """Except those that compute no cell or free memory. A program without symbols, as in a package, can't be tested and
     passes."""
-    done = subprocess.run([need("nm"), pfs.path], capture_output=True, text=True, check=True)
+    done = subprocess.run([tool("nm"), pfs.path], capture_output=True, text=True, check=True)
     called = set(re.findall(rf" {module}::(.+?)(?:::<.*)?$", done.stdout, re.MULTILINE))
     assert {name for name in called - WITHOUT_CELLS if not name.endswith("+Destruct::drop")} == set()
 
@@ -27,7 +27,7 @@ def test_no_function_of_this_module_is_called(pfs: Program, module: str) -> None
                                   "kernels::fill_sums"])
 def test_a_loop_of_a_wavefront_stays_in_registers(pfs: Program, loop: str) -> None:
     """The program has one for each width. A program without symbols can't be tested and passes."""
-    words = [need("objdump"), "--disassemble", "--no-show-raw-insn", str(pfs.path)]
+    words = [tool("objdump"), "--disassemble", "--no-show-raw-insn", str(pfs.path)]
     done = subprocess.run(words, capture_output=True, text=True, check=True)
     if "<pfs_" not in done.stdout:
         return

@@ -22,9 +22,9 @@ from typing import NamedTuple
 import pytest
 from support.files import THREE_JOBS
 from support.library import Library
-from support.needs import missing, need
+from support.needs import missing, tool
 from support.program import Program, Ran
-from support.tools import Told, printed_by, told_by, with_path, write_script
+from support.tools import Done, output_of, run_tool, with_path, write_script
 
 PROGRAM = "crates/pfs/out/pfs"
 BASH_COMPLETION = pathlib.Path("/usr/share/bash-completion/bash_completion")
@@ -93,11 +93,11 @@ class Copy(NamedTuple):
     top: pathlib.Path
     env: dict[str, str]
 
-    def make(self, goal: str, *variables: str, **env: str) -> Told:
-        return told_by(["make", "-s", goal, *variables], self.top, env=self.env | env)
+    def make(self, goal: str, *variables: str, **env: str) -> Done:
+        return run_tool(["make", "-s", goal, *variables], self.top, env=self.env | env)
 
     def git(self, *words: str) -> str:
-        return printed_by(["git", *words], self.top, env=self.env)
+        return output_of(["git", *words], self.top, env=self.env)
 
     def kit(self) -> str:
         return self.env["RT_VERSION"]
@@ -132,7 +132,7 @@ def environment(folder: pathlib.Path, pfs: Program) -> dict[str, str]:
 def copy(top: pathlib.Path, pfs: Program, tmp_path_factory: pytest.TempPathFactory) -> Copy:
     """The copy, whose program is newer than its sources."""
     for command in ("git", "make"):
-        need(command)
+        tool(command)
     folder = tmp_path_factory.mktemp("copy")
     made = Copy(folder / "repository", environment(folder, pfs))
     made.top.mkdir()
@@ -179,21 +179,21 @@ def found_by_bash(prefix: pathlib.Path, folder: pathlib.Path) -> None:
         missing(f"there is no {BASH_COMPLETION} (Debian: bash-completion)")
     line = f"source {BASH_COMPLETION}; __load_completion pfs; complete -p pfs"
     env = with_path(prefix / "bin") | {"XDG_DATA_DIRS": f"{prefix}/share", "HOME": str(folder)}
-    assert printed_by(["bash", "--norc", "-c", line], folder, env=env) == "complete -F _pfs pfs\n"
+    assert output_of(["bash", "--norc", "-c", line], folder, env=env) == "complete -F _pfs pfs\n"
 
 
 def found_by_fish(prefix: pathlib.Path, folder: pathlib.Path) -> None:
     env = with_path(prefix / "bin") | {"XDG_DATA_DIRS": f"{prefix}/share", "HOME": str(folder)}
-    told = printed_by([need("fish"), "-c", "complete -C 'pfs so'"], folder, env=env)
-    assert told.split()[:1] == ["solve"], "what fish offers behind `pfs so`"
+    got = output_of([tool("fish"), "-c", "complete -C 'pfs so'"], folder, env=env)
+    assert got.split()[:1] == ["solve"], "what fish offers behind `pfs so`"
 
 
 def found_by_zsh(root: pathlib.Path, folder: pathlib.Path) -> None:
     """Zsh looks in folders of its own, which are sought below the root here."""
     line = "fpath=($fpath[1,-1] $ROOT$^fpath(N)); autoload -Uz compinit; compinit -u -D; print -- $_comps[pfs]"
-    told = printed_by([need("zsh"), "-f", "-c", line], folder, env=dict(os.environ, ROOT=str(root), HOME=str(folder)))
-    folders = printed_by(["zsh", "-f", "-c", "print -l $fpath"], folder).split()
-    assert told == "_pfs\n", f"zsh finds _pfs in one of the folders that it reads: {folders}"
+    got = output_of([tool("zsh"), "-f", "-c", line], folder, env=dict(os.environ, ROOT=str(root), HOME=str(folder)))
+    folders = output_of(["zsh", "-f", "-c", "print -l $fpath"], folder).split()
+    assert got == "_pfs\n", f"zsh finds _pfs in one of the folders that it reads: {folders}"
 
 
 # Installing
@@ -206,7 +206,7 @@ class Installed(NamedTuple):
 def install(copy: Copy, prefix: str, root: pathlib.Path) -> Installed:
     """Under a mask that leaves nothing to others: modes are the usual ones whoever installs."""
     with private_files():
-        assert copy.make("install", *variables(prefix, root)) == Told(0, "", "")
+        assert copy.make("install", *variables(prefix, root)) == Done(0, "", "")
     return Installed(root, root / prefix[1:])
 
 
@@ -262,7 +262,7 @@ def test_all_that_is_installed_has_the_usual_mode(installed: Installed) -> None:
     assert_usual_modes(installed.prefix)
 
 
-def test_each_manual_page_stands_in_its_own_section_and_is_of_a_program(installed: Installed) -> None:
+def test_each_manual_page_is_in_its_own_section_and_is_of_a_program(installed: Installed) -> None:
     pages = list(installed.prefix.glob("share/man/*/*"))
     assert {page.stem for page in pages} == {path.name for path in (installed.prefix / "bin").iterdir()}
     for page in pages:
@@ -292,9 +292,9 @@ def test_zsh_finds_its_installed_completion(copy: Copy, folder: pathlib.Path) ->
 def test_nothing_is_left_of_an_installation(copy: Copy, folder: pathlib.Path, prefix: str) -> None:
     """Nor of the modules that Python has compiled where root has run the tools."""
     root, place = install(copy, prefix, folder / "a place")
-    printed_by(["/usr/bin/python3", "-m", "compileall", "-q", place / "libexec"], folder)
+    output_of(["/usr/bin/python3", "-m", "compileall", "-q", place / "libexec"], folder)
     assert list(place.rglob("__pycache__"))
-    assert copy.make("uninstall", *variables(prefix, root)) == Told(0, "", "")
+    assert copy.make("uninstall", *variables(prefix, root)) == Done(0, "", "")
     assert list(root.iterdir()) == []
 
 
@@ -327,9 +327,9 @@ def test_the_empty_folders_of_a_fresh_system_stay(times: int, copy: Copy, folder
     for path in FRESH:
         (folder / path).mkdir(parents=True, exist_ok=True)
     for _ in range(times):
-        assert copy.make("install", f"DESTDIR={folder}") == Told(0, "", "")
+        assert copy.make("install", f"DESTDIR={folder}") == Done(0, "", "")
     assert "usr/local/share/man/man1" in folders_below(folder)
-    assert copy.make("uninstall", f"DESTDIR={folder}") == Told(0, "", "")
+    assert copy.make("uninstall", f"DESTDIR={folder}") == Done(0, "", "")
     assert (folders_below(folder), left_below(folder)) == (FRESH, [])
 
 
@@ -347,7 +347,7 @@ def test_an_installation_that_was_moved_says_nothing_of_the_folders_that_it_came
 
 def test_taking_away_what_is_not_there_is_no_failure(copy: Copy, folder: pathlib.Path) -> None:
     (folder / "usr" / "local" / "bin").mkdir(parents=True)
-    assert copy.make("uninstall", f"DESTDIR={folder}") == Told(0, "", "")
+    assert copy.make("uninstall", f"DESTDIR={folder}") == Done(0, "", "")
     assert folders_below(folder) == {"usr", "usr/local", "usr/local/bin"}
 
 
@@ -361,33 +361,33 @@ def tools_of(prefix: pathlib.Path) -> dict[str, str]:
 @pytest.mark.usefixtures("matplotlib")
 def test_the_installed_gantt_draws(installed: Installed, folder: pathlib.Path) -> None:
     (folder / "table").write_text("table 1 1\n1 0 5\nmakespan 5\n")
-    printed_by(["pfs-gantt", "table", "chart.svg"], folder, env=tools_of(installed.prefix))
+    output_of(["pfs-gantt", "table", "chart.svg"], folder, env=tools_of(installed.prefix))
     assert "<svg" in (folder / "chart.svg").read_text()
 
 
 def test_the_installed_experiments_name_their_scripts(installed: Installed, folder: pathlib.Path) -> None:
-    told = told_by(["pfs-experiments"], folder, env=tools_of(installed.prefix))
+    got = run_tool(["pfs-experiments"], folder, env=tools_of(installed.prefix))
     wanted = sorted(path.name for path in TOOLS if path.parent.name == "experiments" and os.access(path, os.X_OK)
                     and path.name != "one")
-    assert (told.status, told.stdout) == (2, "")
-    assert sorted(told.stderr.removeprefix("usage: pfs-experiments ").split(" ")[0].split("|")) == wanted
+    assert (got.status, got.stdout) == (2, "")
+    assert sorted(got.stderr.removeprefix("usage: pfs-experiments ").split(" ")[0].split("|")) == wanted
 
 
 @pytest.mark.parametrize("words", ["one", "plan.py", "../tools/gantt", "taillard.csv", "no"])
 def test_what_is_no_script_of_experiments_is_refused(words: str, installed: Installed, folder: pathlib.Path) -> None:
-    told = told_by(["pfs-experiments", words], folder, env=tools_of(installed.prefix))
-    assert (told.status, told.stdout, told.stderr.count("\n")) == (2, "", 1)
+    got = run_tool(["pfs-experiments", words], folder, env=tools_of(installed.prefix))
+    assert (got.status, got.stdout, got.stderr.count("\n")) == (2, "", 1)
 
 
 @pytest.mark.usefixtures("matplotlib")
 def test_the_installed_experiments_run_and_report(installed: Installed, folder: pathlib.Path) -> None:
     """The way of the manual page, with a smaller plan."""
-    need("parallel")
+    tool("parallel")
     (folder / "plan.toml").write_text('instances = ["all/ta00[12]"]\nrounds = [0, 5]\n')
     # elsewhere than the program that is tested there is none
     env = tools_of(installed.prefix) | {"HOME": str(folder)}
     for words in ("taillard all", "run plan.toml runs.csv", "report runs.csv report"):
-        assert told_by(["pfs-experiments", *words.split()], folder, env=env).status == 0, words
+        assert run_tool(["pfs-experiments", *words.split()], folder, env=env).status == 0, words
     with open(folder / "runs.csv", newline="") as file:
         statuses = [row["status"] for row in csv.DictReader(file)]
     assert len(list((folder / "all").iterdir())) == 120
@@ -410,7 +410,7 @@ CALL = "int puts(const char *); int pfs_call(void) { return puts(\"\"); }\n"
 @contextlib.contextmanager
 def library_in(copy: Copy) -> Iterator[None]:
     """A library in the place of the proved one: its texts, without the proved functions."""
-    need("cc")
+    tool("cc")
     out = copy.top / "lib" / "out"
     out.mkdir()
     (out / "call.c").write_text(CALL)
@@ -420,7 +420,7 @@ def library_in(copy: Copy) -> Iterator[None]:
                       ["cc", "-fPIC", "-c", "lib/out/call.c", "-o", objects[1]],
                       ["cc", "-shared", "-Wl,-soname,libpfs.so.0", "-o", "lib/out/libpfs.so.0", *objects],
                       ["ar", "rcD", "lib/out/libpfs.a", *objects]):
-            printed_by([*words], copy.top)
+            output_of([*words], copy.top)
         yield
     finally:
         shutil.rmtree(out)
@@ -431,7 +431,7 @@ def with_library(request: pytest.FixtureRequest, copy: Copy, folder: pathlib.Pat
     """The prefix of an installation that has the library, with the program or alone."""
     with library_in(copy):
         with private_files():
-            assert copy.make(request.param, f"PREFIX={folder}/place") == Told(0, "", "")
+            assert copy.make(request.param, f"PREFIX={folder}/place") == Done(0, "", "")
         yield folder / "place"
 
 
@@ -450,15 +450,15 @@ def test_the_librarys_installation_has_these_files(with_library: pathlib.Path, c
 @pytest.mark.parametrize("how", ["shared", "static"])
 def test_a_program_is_built_over_the_installed_library(how: str, with_library: pathlib.Path,
                                                        folder: pathlib.Path) -> None:
-    need("pkg-config")
+    tool("pkg-config")
     (folder / "caller.c").write_text(CALLER)
     env = dict(os.environ, PKG_CONFIG_PATH=str(with_library / "lib" / "pkgconfig"))
-    flags = printed_by(["pkg-config", "--cflags", "--libs", "pfs"], folder, env=env).split()
+    flags = output_of(["pkg-config", "--cflags", "--libs", "pfs"], folder, env=env).split()
     if how == "static":
         flags = [word if word != "-lpfs" else "-l:libpfs.a" for word in flags]
-    printed_by(["cc", "caller.c", "-o", "caller", *flags], folder)
-    told = printed_by(["./caller"], folder, env=dict(os.environ, LD_LIBRARY_PATH=str(with_library / "lib")))
-    assert told == f"{VERSION} {VERSION}\n"
+    output_of(["cc", "caller.c", "-o", "caller", *flags], folder)
+    got = output_of(["./caller"], folder, env=dict(os.environ, LD_LIBRARY_PATH=str(with_library / "lib")))
+    assert got == f"{VERSION} {VERSION}\n"
 
 
 CMAKE = """cmake_minimum_required(VERSION 3.13)
@@ -473,20 +473,20 @@ target_link_libraries(caller {target})
 def test_cmake_builds_over_the_installed_library(target: str, with_library: pathlib.Path, folder: pathlib.Path) -> None:
     (folder / "caller.c").write_text(CALLER)
     (folder / "CMakeLists.txt").write_text(CMAKE.format(wanted=VERSION, target=target))
-    printed_by([need("cmake"), "-S", ".", "-B", "made", f"-DCMAKE_PREFIX_PATH={with_library}"], folder)
-    printed_by(["cmake", "--build", "made"], folder)
-    assert printed_by(["made/caller"], folder) == f"{VERSION} {VERSION}\n"
+    output_of([tool("cmake"), "-S", ".", "-B", "made", f"-DCMAKE_PREFIX_PATH={with_library}"], folder)
+    output_of(["cmake", "--build", "made"], folder)
+    assert output_of(["made/caller"], folder) == f"{VERSION} {VERSION}\n"
 
 
 def test_cmake_rejects_an_earlier_library(with_library: pathlib.Path, folder: pathlib.Path) -> None:
     (folder / "caller.c").write_text(CALLER)
     (folder / "CMakeLists.txt").write_text(CMAKE.format(wanted="99.0", target="pfs::pfs"))
-    told = told_by([need("cmake"), "-S", ".", "-B", "made", f"-DCMAKE_PREFIX_PATH={with_library}"], folder)
-    assert told.status != 0 and f"version: {VERSION}" in told.stderr
+    got = run_tool([tool("cmake"), "-S", ".", "-B", "made", f"-DCMAKE_PREFIX_PATH={with_library}"], folder)
+    assert got.status != 0 and f"version: {VERSION}" in got.stderr
 
 
 def test_nothing_is_left_of_the_library(with_library: pathlib.Path, copy: Copy) -> None:
-    assert copy.make("uninstall", f"PREFIX={with_library}") == Told(0, "", "")
+    assert copy.make("uninstall", f"PREFIX={with_library}") == Done(0, "", "")
     assert not with_library.exists()
 
 
@@ -548,15 +548,15 @@ def newest_libc(program: pathlib.Path) -> str:
 
 
 def test_the_page_names_the_c_library_that_the_program_needs(top: pathlib.Path, pfs: Program) -> None:
-    told = re.search(r"needs the GNU C library ([0-9.]+) or newer", (top / "docs" / "INSTALL.md").read_text())
-    assert told and told[1] == newest_libc(pfs.path)
+    got = re.search(r"needs the GNU C library ([0-9.]+) or newer", (top / "docs" / "INSTALL.md").read_text())
+    assert got and got[1] == newest_libc(pfs.path)
 
 
 def test_the_page_names_the_libraries_that_the_program_takes(top: pathlib.Path, pfs: Program,
                                                              folder: pathlib.Path) -> None:
-    libraries = re.findall(r"(\S+) => /", printed_by(["ldd", pfs.path], folder))
-    told = re.findall(r"of which it takes `([^`]+)` alone", (top / "docs" / "INSTALL.md").read_text())
-    assert libraries == told
+    libraries = re.findall(r"(\S+) => /", output_of(["ldd", pfs.path], folder))
+    got = re.findall(r"of which it takes `([^`]+)` alone", (top / "docs" / "INSTALL.md").read_text())
+    assert libraries == got
 
 
 # What the packages are called
@@ -571,9 +571,9 @@ class Release(NamedTuple):
 
 def release(copy: Copy, **env: str) -> tuple[Release, str]:
     """What the script prints, and its messages."""
-    told = told_by(["tools/release"], copy.top, env=copy.env | env)
-    assert told.status == 0, told
-    return Release(*told.stdout.splitlines()), told.stderr
+    got = run_tool(["tools/release"], copy.top, env=copy.env | env)
+    assert got.status == 0, got
+    return Release(*got.stdout.splitlines()), got.stderr
 
 
 def head(copy: Copy) -> str:
@@ -596,9 +596,9 @@ def test_a_source_tree_that_git_does_not_trust(copy: Copy, folder: pathlib.Path,
     env = {"GIT_CONFIG_COUNT": "0", "GIT_TEST_ASSUME_DIFFERENT_OWNER": "1", "HOME": str(folder)}
     words: list[str | pathlib.Path] = [copy.top / "tools" / goal, folder / "made"]
     words += [copy.top / "Makefile"] if goal == "wheel" else []
-    told = told_by(words, folder, env=copy.env | env)
-    [line] = [line for line in told.stderr.splitlines() if line.startswith(f"tools/{goal}: ")]
-    assert told.status == 1 and f"git config --global --add safe.directory '{copy.top}'" in line
+    got = run_tool(words, folder, env=copy.env | env)
+    [line] = [line for line in got.stderr.splitlines() if line.startswith(f"tools/{goal}: ")]
+    assert got.status == 1 and f"git config --global --add safe.directory '{copy.top}'" in line
     assert not (folder / "made").exists()
 
 
@@ -607,10 +607,10 @@ def test_a_source_tree_without_git(copy: Copy, folder: pathlib.Path, goal: str) 
     shutil.copytree(copy.top / "tools", folder / "tree" / "tools")
     words: list[str | pathlib.Path] = [folder / "tree" / "tools" / goal, folder / "made"]
     words += [copy.top / "Makefile"] if goal == "wheel" else []
-    told = told_by(words, folder, env=copy.env)
-    assert told.status == 1 and not (folder / "made").exists()
-    assert "clone the repository" in told.stderr
-    assert ("SOURCE_DATE_EPOCH=" in told.stderr) == (goal == "wheel")
+    got = run_tool(words, folder, env=copy.env)
+    assert got.status == 1 and not (folder / "made").exists()
+    assert "clone the repository" in got.stderr
+    assert ("SOURCE_DATE_EPOCH=" in got.stderr) == (goal == "wheel")
 
 
 def test_a_commit_that_is_tagged_with_the_version_has_it_alone(copy: Copy) -> None:
@@ -638,7 +638,7 @@ def test_a_release_by_its_changelog_has_its_number_alone(copy: Copy, folder: pat
     finally:
         is_made = copy.git("log", "-1", "--format=%s") == "The release\n"
         copy.git("reset", "-q", "--hard", "HEAD~1" if is_made else "HEAD")
-    printed_by(["dpkg", "--compare-versions", f"{version(copy)}-1", "gt", f"{VERSION}-1"], folder)
+    output_of(["dpkg", "--compare-versions", f"{version(copy)}-1", "gt", f"{VERSION}-1"], folder)
 
 
 def test_the_version_has_the_time_of_the_sources(copy: Copy) -> None:
@@ -651,7 +651,7 @@ def test_a_maintainer_whose_address_nobody_reads(copy: Copy) -> None:
     author = {"GIT_CONFIG_VALUE_1": "1+tester@users.noreply.host"}
     copy.git("branch", "-q", "kept")
     try:
-        told_by(["git", "commit", "-q", "--allow-empty", "-m", "By another address"], copy.top, env=copy.env | author)
+        run_tool(["git", "commit", "-q", "--allow-empty", "-m", "By another address"], copy.top, env=copy.env | author)
         found, messages = release(copy)
         assert found.maintainer == "A Tester <1+tester@users.noreply.host>" and found.maintainer in messages
         assert "MAINTAINER='A Name <name@host>' make dist" in messages
@@ -674,14 +674,14 @@ def test_changes_that_are_not_committed(name: str, copy: Copy) -> None:
         path.unlink() if before is None else path.write_text(before)
 
 
-def test_what_examples_leave_behind_is_no_change(copy: Copy, pfs: Program, folder: pathlib.Path) -> None:
+def test_what_examples_leave_is_no_change(copy: Copy, pfs: Program, folder: pathlib.Path) -> None:
     """The examples of the pages are run in the repository's folder, and the lines on experiments without their runs."""
     before = {path.name for path in copy.top.iterdir()}
     env = copy.env | {"PATH": f"{folder}:{copy.env['PATH']}"}
     shutil.copy(pfs.path, folder / "pfs")
     pages = "".join((copy.top / page).read_text() for page in (*EXAMPLES, "experiments/README.md"))
     for line in re.findall(r"^\$ ((?:.|\n> )*)$", pages, re.MULTILINE):
-        told_by(["bash", "-c", line], copy.top, env=env)
+        run_tool(["bash", "-c", line], copy.top, env=env)
     experiments = set(re.findall(r" (\w+\.(?:csv|toml))", pages))
     folders = [f"{name}.d/results/1" for name in experiments]
     for name in (*experiments, *folders, "out/taillard/ta001", "report/gap.png"):
@@ -712,9 +712,9 @@ class Made(NamedTuple):
 
 def made_in(copy: Copy, folder: pathlib.Path, **env: str) -> Made:
     for command in ("dh", "dh_python3", "dpkg-buildpackage"):
-        need(command)
-    told = copy.make("dist", f"DIST={folder}", **env)
-    assert told.status == 0, told
+        tool(command)
+    got = copy.make("dist", f"DIST={folder}", **env)
+    assert got.status == 0, got
     return Made(folder, files_below(folder))
 
 
@@ -729,7 +729,7 @@ def made(copy: Copy, tmp_path_factory: pytest.TempPathFactory) -> Made:
 def made_again(made: Made, copy: Copy, tmp_path_factory: pytest.TempPathFactory) -> Made:
     """Made later, and signed, with another umask, language and folder, from files with other times."""
     folder = tmp_path_factory.mktemp("second")
-    printed_by([need("ssh-keygen"), "-q", "-t", "ed25519", "-N", "", "-f", "key"], folder.parent)
+    output_of([tool("ssh-keygen"), "-q", "-t", "ed25519", "-N", "", "-f", "key"], folder.parent)
     for path in [path for path in copy.top.rglob("*") if path.is_file() and str(path.relative_to(copy.top)) != PROGRAM]:
         os.utime(path, (OLD - 1, OLD - 1))
     with library_in(copy), private_files():
@@ -754,7 +754,7 @@ def extracted(made: Made, tmp_path_factory: pytest.TempPathFactory) -> pathlib.P
     """A root with the content of all packages."""
     folder = tmp_path_factory.mktemp("extracted")
     for package in FIELDS:
-        printed_by(["dpkg-deb", "--extract", made.path(f"/{package}_"), "."], folder)
+        output_of(["dpkg-deb", "--extract", made.path(f"/{package}_"), "."], folder)
     return folder
 
 
@@ -773,17 +773,17 @@ FIELDS = {
                     "Section": "python", "Architecture": "all"}}
 
 
-def names(told: str, packages: list[str]) -> list[str]:
+def names(got: str, packages: list[str]) -> list[str]:
     """What is made of this version."""
-    return sorted(["SHA256SUMS", f"pfs-{told}-linux-x86_64.tar.gz", f"pfs-{told}.spdx.json",
-                   *(f"{name}_{told}-1_{FIELDS[name]['Architecture']}.deb" for name in packages)])
+    return sorted(["SHA256SUMS", f"pfs-{got}-linux-x86_64.tar.gz", f"pfs-{got}.spdx.json",
+                   *(f"{name}_{got}-1_{FIELDS[name]['Architecture']}.deb" for name in packages)])
 
 
 def test_a_tarball_packages_and_their_sums_are_made(made: Made, copy: Copy) -> None:
     assert sorted(made.files) == names(version(copy), list(FIELDS))
 
 
-def test_a_source_archive_makes_the_same_program_and_tells_its_commit(copy: Copy, extracted: pathlib.Path, pfs: Program,
+def test_a_source_archive_makes_the_same_program_and_has_its_commit(copy: Copy, extracted: pathlib.Path, pfs: Program,
                                                                       folder: pathlib.Path) -> None:
     """Without the library, only the program's packages are made. Only their notes say that it is an archive."""
     copy.git("archive", f"--output={folder / 'archive.tar'}", "HEAD")
@@ -797,10 +797,10 @@ def test_a_source_archive_makes_the_same_program_and_tells_its_commit(copy: Copy
     os.utime(tree / PROGRAM, (NEW, NEW))
     again = made_in(Copy(tree, copy.env), folder / "dist", GIT_CEILING_DIRECTORIES=str(folder))
     assert sorted(again.files) == names(version(copy), ["pfs", "pfs-tools"])
-    printed_by(["dpkg-deb", "--extract", again.path("/pfs_"), "root"], folder)
+    output_of(["dpkg-deb", "--extract", again.path("/pfs_"), "root"], folder)
     found = files_below(folder / "root")
-    told = found.pop("usr/share/doc/pfs/PROVED").decode()
-    assert told.splitlines()[1] == f"proved at the commit {head(copy)}, in a source archive"
+    got = found.pop("usr/share/doc/pfs/PROVED").decode()
+    assert got.splitlines()[1] == f"proved at the commit {head(copy)}, in a source archive"
     del found["usr/share/doc/pfs/SHA256SUMS"]
     assert_same_files(found, {path: (extracted / path).read_bytes() for path in found})
 
@@ -812,7 +812,7 @@ LIBRARYS_CRATES = {"itoa", "rand_core", "rand_pcg", "thiserror"}
 KITS_CRATES = {"clap"} | LIBRARYS_CRATES
 
 
-def test_the_spdx_file_tells_what_is_built_in(made: Made, copy: Copy, pfs: Program) -> None:
+def test_the_spdx_file_states_what_is_built_in(made: Made, copy: Copy, pfs: Program) -> None:
     bill = json.loads(made.path(".spdx.json").read_text())
     assert (bill["spdxVersion"], bill["dataLicense"], bill["SPDXID"]) == ("SPDX-2.3", "CC0-1.0", "SPDXRef-DOCUMENT")
     assert bill["creationInfo"]["created"] == datetime.datetime.fromtimestamp(
@@ -838,34 +838,34 @@ def signed(copy: Copy, sums: pathlib.Path, key: str, line: str, **env: str) -> s
     """The name of a file's signature, which the page's line accepts, and for another file rejects."""
     sums.write_text("0123  a file\n")
     env = copy.env | env
-    name = printed_by([copy.top / "tools" / "sign", sums], sums.parent, env=env | {"SIGN": key})
-    assert told_by(["bash", "-c", line], sums.parent, env=env).status == 0
+    name = output_of([copy.top / "tools" / "sign", sums], sums.parent, env=env | {"SIGN": key})
+    assert run_tool(["bash", "-c", line], sums.parent, env=env).status == 0
     sums.write_text("4567  a file\n")
-    assert told_by(["bash", "-c", line], sums.parent, env=env).status != 0
+    assert run_tool(["bash", "-c", line], sums.parent, env=env).status != 0
     return pathlib.Path(name.strip()).name
 
 
 def test_the_sums_are_signed_by_a_key_of_ssh(copy: Copy, folder: pathlib.Path) -> None:
     """Without a key there is no signature, and no older one."""
-    printed_by([need("ssh-keygen"), "-q", "-t", "ed25519", "-N", "", "-f", "key"], folder)
+    output_of([tool("ssh-keygen"), "-q", "-t", "ed25519", "-N", "", "-f", "key"], folder)
     (folder / "signers").write_text(f"pfs {(folder / 'key.pub').read_text()}")
     line = line_of_install("^ssh-keygen -Y verify .*$", copy)
     assert signed(copy, folder / "SHA256SUMS", str(folder / "key"), line) == "SHA256SUMS.sig"
-    assert printed_by([copy.top / "tools" / "sign", "SHA256SUMS"], folder, env=copy.env) == ""
+    assert output_of([copy.top / "tools" / "sign", "SHA256SUMS"], folder, env=copy.env) == ""
     assert sorted(files_below(folder)) == ["SHA256SUMS", "key", "key.pub", "signers"]
 
 
 def test_the_sums_are_signed_by_gnupg(copy: Copy, folder: pathlib.Path) -> None:
     home = {"GNUPGHOME": str(folder / "home")}
     (folder / "home").mkdir(mode=0o700)
-    words: list[str | pathlib.Path] = [need("gpg"), "--batch", "--quiet", "--passphrase", ""]
+    words: list[str | pathlib.Path] = [tool("gpg"), "--batch", "--quiet", "--passphrase", ""]
     words += ["--quick-generate-key", "A Tester", "ed25519"]
     try:
-        assert told_by(words, folder, env=copy.env | home).status == 0
+        assert run_tool(words, folder, env=copy.env | home).status == 0
         line = line_of_install("^gpg --verify .*$", copy)
         assert signed(copy, folder / "SHA256SUMS", "A Tester", line, **home) == "SHA256SUMS.asc"
     finally:
-        told_by(["gpgconf", "--kill", "all"], folder, env=copy.env | home)
+        run_tool(["gpgconf", "--kill", "all"], folder, env=copy.env | home)
 
 
 def line_of_install(pattern: str, copy: Copy) -> str:
@@ -885,13 +885,13 @@ def test_made_again_it_has_the_same_bytes(ending: str, made: Made, made_again: M
 
 
 def test_a_program_of_another_kit_is_refused(copy: Copy, folder: pathlib.Path) -> None:
-    told = copy.make("dist", f"DIST={folder}", RT_VERSION=KIT.format(logic="0123456789abcdef"))
-    assert told.status != 0 and "another kit than this one built crates/pfs/out/pfs" in told.stderr, told
+    got = copy.make("dist", f"DIST={folder}", RT_VERSION=KIT.format(logic="0123456789abcdef"))
+    assert got.status != 0 and "another kit than this one built crates/pfs/out/pfs" in got.stderr, got
     assert list(folder.iterdir()) == []
 
 
 def test_this_kit_has_built_the_program(pfs: Program, folder: pathlib.Path) -> None:
-    logic = printed_by([need("rt"), "version"], folder).split()[-1]
+    logic = output_of([tool("rt"), "version"], folder).split()[-1]
     assert f"rattle logic={logic}".encode() in pfs.path.read_bytes()
 
 
@@ -908,7 +908,7 @@ def test_the_sums_are_right(made: Made, unpacked: pathlib.Path, folder: pathlib.
     found = files_below(unpacked)
     assert_sums(found, found.pop("share/doc/pfs/SHA256SUMS"))
     for package in FIELDS:
-        printed_by(["dpkg-deb", "--extract", made.path(f"/{package}_"), package], folder)
+        output_of(["dpkg-deb", "--extract", made.path(f"/{package}_"), package], folder)
         found = files_below(folder / package / "usr")
         assert_sums(found, found.pop(f"share/doc/{package}/SHA256SUMS"))
 
@@ -918,7 +918,7 @@ def test_the_tarball_has_the_notices_of_what_is_built_in(unpacked: pathlib.Path)
     pages = unpacked / "share" / "doc" / "pfs"
     text = (pages / "NOTICES").read_text()
     holders = re.findall(r"^Copyright \(c\) (.*)$", text, re.MULTILINE)
-    debian = printed_by(["tools/copyright"], TOP)
+    debian = output_of(["tools/copyright"], TOP)
     lines = re.findall(r"^           (\S.*)$", debian, re.MULTILINE)
     assert len(lines) == 5 and holders == lines
     assert (pages / "LICENSE-MIT").read_text().split("\n\n", 1)[1] in text
@@ -927,7 +927,7 @@ def test_the_tarball_has_the_notices_of_what_is_built_in(unpacked: pathlib.Path)
 PROVED = "pfs {version}\nproved at the commit {commit}\nwith the kit {kit}\n"
 
 
-def test_what_is_made_tells_its_commit_and_its_kit(copy: Copy, unpacked: pathlib.Path, extracted: pathlib.Path) -> None:
+def test_what_is_made_has_its_commit_and_its_kit(copy: Copy, unpacked: pathlib.Path, extracted: pathlib.Path) -> None:
     wanted = PROVED.format(version=version(copy), kit=copy.kit(), commit=head(copy))
     for prefix in (unpacked, extracted / "usr"):
         assert (prefix / "share" / "doc" / "pfs" / "PROVED").read_text() == wanted
@@ -988,13 +988,13 @@ def test_the_pages_lines_unpack_the_tarball_and_remove_it(made: Made, unpacked: 
                                                           local: pathlib.Path, folder: pathlib.Path) -> None:
     """The folders that were there stay, with their modes, and no others."""
     before = folders_below(local)
-    printed_by(["bash", "-c", line_of_page("^sudo tar .*$", copy, local)], made.folder)
+    output_of(["bash", "-c", line_of_page("^sudo tar .*$", copy, local)], made.folder)
     assert (local / "share" / "man").is_symlink()
     found = {re.sub("^man/", "share/man/", path): text for path, text in files_below(local).items()}
     assert_same_files(found, files_below(unpacked))
     assert [path.stat().st_mode & 0o7777 for path in (local, local / "share")] == [0o2775, 0o2775]
     found_by_zsh(folder / "root", folder)
-    printed_by(["bash", "-c", line_of_page(r"^cd .*share/doc/pfs/SHA256SUMS .*\n.*$", copy, local)], made.folder)
+    output_of(["bash", "-c", line_of_page(r"^cd .*share/doc/pfs/SHA256SUMS .*\n.*$", copy, local)], made.folder)
     assert (left_below(local), folders_below(local)) == ([], before)
 
 
@@ -1028,7 +1028,7 @@ def test_the_packages_have_their_files_where_debian_looks(extracted: pathlib.Pat
     """The program without its symbols, packed manual pages and changelogs, and the licences in the file copyright.
     Scripts run Debian's Python."""
     shutil.copy(pfs.path, folder / "stripped")
-    printed_by(["strip", "--remove-section=.comment", "--remove-section=.note", "stripped"], folder)
+    output_of(["strip", "--remove-section=.comment", "--remove-section=.note", "stripped"], folder)
     wanted = places_in_debian(copy) | {"usr/bin/pfs": (folder / "stripped").read_bytes()}
     found = files_below(extracted)
     for path in (*MADE, f"{LIBRARIES}/libpfs.a", f"{LIBRARIES}/libpfs.so", f"{LIBRARIES}/libpfs.so.0"):
@@ -1050,7 +1050,7 @@ def test_the_librarys_packages_are_for_this_machine(extracted: pathlib.Path, mad
     """The files of pkg-config and CMake name Debian's folders, and Debian's tools know the library."""
     assert "prefix=/usr\nlibdir=${prefix}/lib/x86_64-linux-gnu\n" in (extracted / MADE[4]).read_text()
     assert os.readlink(extracted / LIBRARIES / "libpfs.so") == "libpfs.so.0"
-    printed_by(["dpkg-deb", "--control", made.path("/libpfs0_"), "control"], folder)
+    output_of(["dpkg-deb", "--control", made.path("/libpfs0_"), "control"], folder)
     assert (folder / "control" / "shlibs").read_text() == f"libpfs 0 libpfs0 (>= {VERSION}~)\n"
     assert "activate-noawait ldconfig\n" in (folder / "control" / "triggers").read_text()
 
@@ -1058,9 +1058,9 @@ def test_the_librarys_packages_are_for_this_machine(extracted: pathlib.Path, mad
 @pytest.mark.parametrize("package", FIELDS)
 def test_lintian_finds_nothing(package: str, made: Made) -> None:
     """But that the changelog closes no bug of Debian, and that Slurm's script isn't run as a program."""
-    told = told_by([need("lintian"), "--allow-root", "--fail-on", "error,warning", "--suppress-tags",
+    got = run_tool([tool("lintian"), "--allow-root", "--fail-on", "error,warning", "--suppress-tags",
                     "initial-upload-closes-no-bugs,script-not-executable", made.path(f"/{package}_")], made.folder)
-    assert (told.status, told.stdout) == (0, "")
+    assert (got.status, got.stdout) == (0, "")
 
 
 def test_all_in_the_packages_has_the_usual_mode(extracted: pathlib.Path, unpacked: pathlib.Path) -> None:
@@ -1070,7 +1070,7 @@ def test_all_in_the_packages_has_the_usual_mode(extracted: pathlib.Path, unpacke
 
 @pytest.mark.parametrize("package", FIELDS)
 def test_a_package_has_these_fields(package: str, made: Made, copy: Copy, pfs: Program) -> None:
-    lines = printed_by(["dpkg-deb", "--field", made.path(f"/{package}_")], made.folder).splitlines()
+    lines = output_of(["dpkg-deb", "--field", made.path(f"/{package}_")], made.folder).splitlines()
     found = dict(line.split(": ", 1) for line in lines if not line.startswith(" "))
     for name in ("Installed-Size", "Description"):
         assert found.pop(name)
@@ -1083,7 +1083,7 @@ def test_a_package_has_these_fields(package: str, made: Made, copy: Copy, pfs: P
 
 @pytest.mark.parametrize("package", ["pfs-tools", "python3-pfs"])
 def test_compiled_modules_are_removed_with_a_package(package: str, made: Made, folder: pathlib.Path) -> None:
-    printed_by(["dpkg-deb", "--control", made.path(f"/{package}_"), "control"], folder)
+    output_of(["dpkg-deb", "--control", made.path(f"/{package}_"), "control"], folder)
     assert f"py3clean -p {package}" in (folder / "control" / "prerm").read_text()
 
 
@@ -1093,17 +1093,17 @@ def test_the_package_for_python_runs(extracted: pathlib.Path, folder: pathlib.Pa
     what it needs."""
     env = dict(os.environ, PYTHONPATH=str(extracted / "usr/lib/python3/dist-packages"), PYTHONDONTWRITEBYTECODE="1",
                PFS_LIBRARY=str(libpfs.path))
-    told = printed_by(["/usr/bin/python3", "-c", "import pfs; shop = pfs.Instance([[3, 2], [2, 5], [4, 1]]); "
+    got = output_of(["/usr/bin/python3", "-c", "import pfs; shop = pfs.Instance([[3, 2], [2, 5], [4, 1]]); "
                        "print(shop.makespan([0, 1, 2])); made = shop.schedule([0, 1, 2]); made.plot('chart.svg'); "
                        "made.plot('chart.html'); print(pfs.taillard(1).jobs); from importlib.metadata import metadata; "
                        "print(*metadata('pfs').values())"], folder, env=env)
     project = tomllib.loads((TOP / "python" / "pyproject.toml").read_text())["project"]
     facts = ["2.1", project["name"], VERSION, project["requires-python"], *project["dependencies"]]
-    assert told == f"11\n20\n{' '.join(facts)}\n"
+    assert got == f"11\n20\n{' '.join(facts)}\n"
     assert (folder / "chart.svg").stat().st_size > 0 and (folder / "chart.html").stat().st_size > 0
     (folder / "times.csv").write_text("job [min],saw,drill\nchair,3,2\ntable,2,5\n")
-    told = printed_by([extracted / "usr/bin/pfs-plan", "times.csv"], folder, env=env)
-    assert told == "makespan 9 min\nbound 9 min\noptimal\n1 table\n2 chair\n"
+    got = output_of([extracted / "usr/bin/pfs-plan", "times.csv"], folder, env=env)
+    assert got == "makespan 9 min\nbound 9 min\noptimal\n1 table\n2 chair\n"
 
 
 # The pages where they are installed
@@ -1123,8 +1123,8 @@ def test_the_examples_run_with_what_the_packages_hold(page: str, extracted: path
     env = tools_of(extracted / "usr")
     assert len(lines) > 8
     for line in lines:
-        told = told_by(["bash", "-c", line], folder, env=env)
-        assert not re.search("not found|No such file|no such file", told.stderr), f"{line}: {told}"
+        got = run_tool(["bash", "-c", line], folder, env=env)
+        assert not re.search("not found|No such file|no such file", got.stderr), f"{line}: {got}"
     pictures = {file for line in lines for file in re.findall(r"pfs-gantt .* (\S+)$", line)}
     assert {file for file in pictures if not (folder / file).exists()} == set()
     assert pictures or page == "docs/COMMANDS.md"
@@ -1135,7 +1135,7 @@ def test_the_experiments_begin_with_files_that_the_packages_hold(extracted: path
     page = (extracted / "usr/share/doc/pfs/experiments/README.md").read_text()
     named = set(re.findall(r"(/usr/share/doc/\S+)", page))
     assert named and [name for name in named if not (extracted / name[1:]).exists()] == []
-    printed_by(["pfs-experiments", "taillard", "out/taillard"], folder, env=tools_of(extracted / "usr"))
+    output_of(["pfs-experiments", "taillard", "out/taillard"], folder, env=tools_of(extracted / "usr"))
     plan = (extracted / "usr/share/doc/pfs/examples/example.toml").read_text()
     patterns = re.findall(r'"(out/[^"]*)"', plan)
     assert patterns and all(list(folder.glob(pattern)) for pattern in patterns)
@@ -1149,7 +1149,7 @@ def test_shells_find_the_packages_completions(extracted: pathlib.Path, folder: p
 
 # One version
 
-def numbers_told(top: pathlib.Path) -> dict[str, list[str]]:
+def numbers_stated(top: pathlib.Path) -> dict[str, list[str]]:
     """The version that each file tells; only the package for Python need not be there."""
     patterns = {"CHANGELOG.md": r"^## \[(\d.*?)\]", "CITATION.cff": r"^version: (.*)$",
                 "lib/pfs.h": r'^#define PFS_VERSION "(.*)"$', "share/pfs.1": r"^\.Os pfs (.*)$",
@@ -1161,8 +1161,8 @@ def numbers_told(top: pathlib.Path) -> dict[str, list[str]]:
             for name, pattern in patterns.items() if "python" not in name or (top / name).exists()}
 
 
-def test_all_that_tells_a_version_tells_the_same(top: pathlib.Path) -> None:
-    assert numbers_told(top) == dict.fromkeys(numbers_told(top), [VERSION])
+def test_all_that_states_a_version_states_the_same(top: pathlib.Path) -> None:
+    assert numbers_stated(top) == dict.fromkeys(numbers_stated(top), [VERSION])
 
 
 def test_the_release_has_one_date(top: pathlib.Path) -> None:
@@ -1172,8 +1172,8 @@ def test_the_release_has_one_date(top: pathlib.Path) -> None:
     assert len(dates) == 1
     assert re.findall(r'^date-released: "(.*)"$', (top / "CITATION.cff").read_text(), re.MULTILINE) == dates
     for page in (top / "share").glob("*.1"):
-        told = re.search(r"^\.Dd (\w+ \d+, \d{4})$", page.read_text(), re.MULTILINE)
-        assert told and datetime.datetime.strptime(told[1], "%B %d, %Y").date().isoformat() >= dates[0], page.name
+        got = re.search(r"^\.Dd (\w+ \d+, \d{4})$", page.read_text(), re.MULTILINE)
+        assert got and datetime.datetime.strptime(got[1], "%B %d, %Y").date().isoformat() >= dates[0], page.name
 
 
 def test_a_tag_of_a_version_is_of_a_version_that_the_changelog_has(top: pathlib.Path) -> None:
@@ -1183,7 +1183,7 @@ def test_a_tag_of_a_version_is_of_a_version_that_the_changelog_has(top: pathlib.
 
 def unlisted_tags(top: pathlib.Path, env: dict[str, str]) -> set[str]:
     """The tags of versions that the changelog doesn't have."""
-    tags = printed_by([need("git"), "tag", "--list", "v[0-9]*"], top, env=env).split()
+    tags = output_of([tool("git"), "tag", "--list", "v[0-9]*"], top, env=env).split()
     listed = re.findall(r"^## \[(\d.*?)\]", (top / "CHANGELOG.md").read_text(), re.MULTILINE)
     return set(tags) - {f"v{number}" for number in listed}
 
@@ -1213,15 +1213,15 @@ def test_the_package_is_installed_into_an_empty_root_and_leaves_nothing(
     for name in ("info", "updates", "triggers"):
         (root / "var" / "lib" / "dpkg" / name).mkdir(parents=True)
     # in which nothing is installed but the C library
-    (root / "var" / "lib" / "dpkg" / "status").write_text(printed_by(["dpkg-query", "--status", "libc6"], folder))
+    (root / "var" / "lib" / "dpkg" / "status").write_text(output_of(["dpkg-query", "--status", "libc6"], folder))
     dpkg: list[str | pathlib.Path] = ["dpkg", f"--root={root}", f"--log={folder / 'log'}"]
-    printed_by([*dpkg, "--install", made.path("/pfs_")], folder)
-    printed_by(["dpkg-deb", "--extract", made.path("/pfs_"), "extracted"], folder)
+    output_of([*dpkg, "--install", made.path("/pfs_")], folder)
+    output_of(["dpkg-deb", "--extract", made.path("/pfs_"), "extracted"], folder)
     assert_same_files(files_below(root / "usr"), files_below(folder / "extracted" / "usr"))
-    for library in re.findall(r"/\S+", printed_by(["ldd", pfs.path], folder)):
+    for library in re.findall(r"/\S+", output_of(["ldd", pfs.path], folder)):
         (root / library[1:]).parent.mkdir(parents=True, exist_ok=True)
         shutil.copy(library, root / library[1:])
     (root / "three").write_bytes(THREE_JOBS)
-    assert printed_by(["chroot", root, "pfs", *VALUE, "three"], folder) == "makespan 11\n"
-    printed_by([*dpkg, "--purge", "pfs"], folder)
+    assert output_of(["chroot", root, "pfs", *VALUE, "three"], folder) == "makespan 11\n"
+    output_of([*dpkg, "--purge", "pfs"], folder)
     assert not (root / "usr").exists()

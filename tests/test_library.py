@@ -13,11 +13,11 @@ from support import second_library, second_program
 from support.growths import Shim
 from support.library import (HEADER, SUPPORT, Answer, Library, Memory, Number, compile_quietly, compiled, list32,
                              list64, read32, read64, text, u32s, u64s)
-from support.needs import need
+from support.needs import tool
 from support.program import Program, Ran
 from support.second_library import by_job
 from support.second_program import Instance
-from support.tools import printed_by
+from support.tools import output_of
 
 CALLS = SUPPORT / "library_calls.c"
 # Each function that is proved, and whether a call of it allocates memory.
@@ -47,7 +47,7 @@ PATTERN = 0xA5A5A5A5
 def test_the_header_compiles(folder: pathlib.Path, compiler: str, standard: str) -> None:
     source = folder / ("header.cpp" if standard == "c++17" else "header.c")
     source.write_text('#include "pfs.h"\n#include "pfs.h"\nextern int nothing;\n')
-    compile_quietly([need(compiler), f"-std={standard}", "-Wall", "-Wextra", "-pedantic", "-Werror", "-fsyntax-only",
+    compile_quietly([tool(compiler), f"-std={standard}", "-Wall", "-Wextra", "-pedantic", "-Werror", "-fsyntax-only",
                      f"-I{HEADER.parent}", source])
 
 
@@ -87,7 +87,7 @@ def test_the_header_names_the_parameters_as_the_functions_do(top: pathlib.Path) 
     declared = dict(re.findall(r"^int (pfs_\w+)\(([^)]*)\) PFS_CHECKED;", header, re.MULTILINE))
     assert declared.keys() == NAMES - TEXTS
     for name, parameters in declared.items():
-        told = [re.findall(r"\w+", each)[-1] for each in parameters.split(",")]
+        got = [re.findall(r"\w+", each)[-1] for each in parameters.split(",")]
         proved = re.search(rf'^pub extern "C" fn {name}\(([^)]*)\) -> i32', source, re.MULTILINE)
         assert proved, name
         due = []
@@ -95,8 +95,8 @@ def test_the_header_names_the_parameters_as_the_functions_do(top: pathlib.Path) 
             if parameter != "alloc":
                 due.append(others.get(parameter, parameter))
             if "[" in kind:
-                due.append("room" if told[len(due):len(due) + 1] == ["room"] else f"{due[-1]}_length")
-        assert told == due, f"the parameters of {name}"
+                due.append("room" if got[len(due):len(due) + 1] == ["room"] else f"{due[-1]}_length")
+        assert got == due, f"the parameters of {name}"
 
 
 def test_the_version_number_is_that_of_the_version() -> None:
@@ -109,9 +109,9 @@ def test_the_version_number_is_that_of_the_version() -> None:
 @pytest.mark.parametrize("compiler", ["gcc", "clang"])
 def test_a_compiler_warns_if_a_program_ignores_the_number(folder: pathlib.Path, compiler: str) -> None:
     (folder / "ignores.c").write_text('#include "pfs.h"\nvoid f(uint64_t *b) { pfs_bound(0, 0, 0, 0, b); }\n')
-    words = [need(compiler), "-std=c99", f"-I{HEADER.parent}", "-c", "ignores.c"]
-    told = subprocess.run(words, cwd=folder, capture_output=True, text=True)
-    assert told.returncode == 0 and "unused-result" in told.stderr
+    words = [tool(compiler), "-std=c99", f"-I{HEADER.parent}", "-c", "ignores.c"]
+    got = subprocess.run(words, cwd=folder, capture_output=True, text=True)
+    assert got.returncode == 0 and "unused-result" in got.stderr
 
 
 # A few words of the text of each number, which no other text has.
@@ -131,7 +131,7 @@ LIMITS_TOLD = {4: ["LONGEST_TIME"], 8: ["MOST_PASSES"], 9: ["MOST_ROUNDS"], 12: 
 def texts(tmp_path_factory: pytest.TempPathFactory) -> dict[int, str]:
     """The text of each number from -2 to 99."""
     path = tmp_path_factory.mktemp("texts") / "libtexts.so"
-    compile_quietly([need("gcc"), "-std=c99", "-Wall", "-Wextra", "-Werror", "-fPIC", "-shared", "-o", path,
+    compile_quietly([tool("gcc"), "-std=c99", "-Wall", "-Wextra", "-Werror", "-fPIC", "-shared", "-o", path,
                      HEADER.with_name("pfs_text.c")])
     message = ctypes.CDLL(str(path)).pfs_message
     message.restype = ctypes.c_char_p
@@ -179,9 +179,9 @@ def test_the_manual_page_declares_what_the_header_does() -> None:
     code = re.sub(r"/\*.*?\*/", "", HEADER.read_text(), flags=re.DOTALL)
     declared = {name: re.sub(r"\s+", " ", parameters).split(", ") for name, parameters
                 in re.findall(r"^(?:int|const char \*)\s*(pfs_\w+)\(([^)]*)\)", code, re.MULTILINE)}
-    told = {name: re.findall(r'^\.Fa "(.*)"$', parameters, re.MULTILINE) for name, parameters
+    got = {name: re.findall(r'^\.Fa "(.*)"$', parameters, re.MULTILINE) for name, parameters
             in re.findall(r"^\.Fo (\w+)\n(.*?)^\.Fc$", MANUAL.read_text(), re.MULTILINE | re.DOTALL)}
-    assert told == declared and told.keys() == NAMES
+    assert got == declared and got.keys() == NAMES
 
 
 def test_the_manual_page_has_each_number_and_function() -> None:
@@ -193,7 +193,7 @@ def test_the_manual_page_has_each_number_and_function() -> None:
 
 
 def test_mandoc_finds_nothing_wrong_in_the_manual_page() -> None:
-    done = subprocess.run([need("mandoc"), "-T", "lint", "-W", "warning", str(MANUAL)], capture_output=True, text=True)
+    done = subprocess.run([tool("mandoc"), "-T", "lint", "-W", "warning", str(MANUAL)], capture_output=True, text=True)
     assert (done.stdout + done.stderr, done.returncode) == ("", 0)
 
 
@@ -209,7 +209,7 @@ def test_the_example_of_the_manual_page_prints_its_makespan(libpfs: Library, fol
 def test_the_library_exports_only_the_names_of_the_header(libpfs: Library) -> None:
     static = libpfs.path.with_name("libpfs.a")
     for path, how in ((libpfs.path, "--dynamic"), (static, "--extern-only")):
-        printed = printed_by([need("nm"), how, "--defined-only", "--format=posix", path], path.parent)
+        printed = output_of([tool("nm"), how, "--defined-only", "--format=posix", path], path.parent)
         lines = [line.split() for line in printed.splitlines() if not line.endswith(":")]
         names = {name for name, kind, *_ in lines if kind != "A"}
         assert names == ({f"{name}@@PFS_0" for name in NAMES} if path == libpfs.path else NAMES), path
@@ -218,12 +218,12 @@ def test_the_library_exports_only_the_names_of_the_header(libpfs: Library) -> No
 
 
 def test_the_library_needs_only_the_c_library(libpfs: Library) -> None:
-    told = printed_by([need("readelf"), "--dynamic", "--wide", libpfs.path], libpfs.path.parent)
-    assert re.findall(r"\(NEEDED\).*\[(.*)\]", told) == ["libc.so.6"]
-    assert re.findall(r"\(SONAME\).*\[(.*)\]", told) == ["libpfs.so.0"]
-    assert "TEXTREL" not in told
-    assert re.findall(r"\(FLAGS\) +(.*)", told) == ["BIND_NOW"]
-    wanted = printed_by([need("nm"), "--dynamic", "--undefined-only", libpfs.path], libpfs.path.parent)
+    got = output_of([tool("readelf"), "--dynamic", "--wide", libpfs.path], libpfs.path.parent)
+    assert re.findall(r"\(NEEDED\).*\[(.*)\]", got) == ["libc.so.6"]
+    assert re.findall(r"\(SONAME\).*\[(.*)\]", got) == ["libpfs.so.0"]
+    assert "TEXTREL" not in got
+    assert re.findall(r"\(FLAGS\) +(.*)", got) == ["BIND_NOW"]
+    wanted = output_of([tool("nm"), "--dynamic", "--undefined-only", libpfs.path], libpfs.path.parent)
     names = {line.split()[1].split("@")[0] for line in wanted.splitlines() if line.split()[0] == "U"}
     assert names <= {"malloc", "realloc", "free", "memcpy", "memmove", "memset", "memcmp", "bcmp"}
 
@@ -257,7 +257,7 @@ def test_the_sanitizers_find_nothing_in_any_call(libpfs: Library, folder: pathli
 @pytest.mark.parametrize("word", ["all", "threads", *FUNCTIONS])
 def test_valgrind_finds_nothing_in_any_call(calls: Program, folder: pathlib.Path, word: str) -> None:
     valgrind = ["-q", "--error-exitcode=9", "--leak-check=full", "--show-leak-kinds=all", "--errors-for-leak-kinds=all"]
-    ran = Program(pathlib.Path(need("valgrind"))).run([*valgrind, str(calls.path), word], folder)
+    ran = Program(pathlib.Path(tool("valgrind"))).run([*valgrind, str(calls.path), word], folder)
     assert (ran.stderr, ran.status) == (b"", 0), f"the calls say {ran.stdout.decode()}"
 
 
@@ -277,16 +277,16 @@ def test_a_failed_allocation_leaves_every_output_unchanged(calls: Program, shim:
                                                            name: str) -> None:
     """Of two calls, the one whose allocation fails returns PFS_MEMORY and leaves every output unchanged. The other one
     is right."""
-    told = []
+    got = []
     for growth in range(FIRST_GROWTH, MOST_GROWTHS):
         ran, is_refused = shim.run_refused(calls, [name], folder, b"", growth)
         if not is_refused:
             break
         assert (ran.stderr, ran.status) == (b"", 0), f"allocation {growth} fails: {ran}"
-        told.append(ran.stdout)
+        got.append(ran.stdout)
     assert ran == Ran(b"right\nright\n", b"", 0), "the last allocation is too late to fail"
-    half = len(told) // 2
-    assert told == [b"memory\nright\n"] * half + [b"right\nmemory\n"] * half
+    half = len(got) // 2
+    assert got == [b"memory\nright\n"] * half + [b"right\nmemory\n"] * half
     assert half > 0 or not FUNCTIONS[name]
 
 

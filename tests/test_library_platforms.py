@@ -5,8 +5,8 @@ import re
 
 import pytest
 from support.library import HEADER, Library, compile_quietly
-from support.needs import need
-from support.tools import printed_by, told_by
+from support.needs import tool
+from support.tools import output_of, run_tool
 
 PROGRAM = """#include <pfs.h>
 #include <stdio.h>
@@ -25,7 +25,7 @@ def program(libpfs: Library, folder: pathlib.Path, compiler: str, library: str, 
     """A program over the library, made by a compiler."""
     (folder / "program.c").write_text(PROGRAM)
     path = libpfs.path.with_name(library) if library == STATIC else libpfs.path
-    compile_quietly([need(compiler), *options, f"-I{HEADER.parent}", "-o", folder / "program", folder / "program.c",
+    compile_quietly([tool(compiler), *options, f"-I{HEADER.parent}", "-o", folder / "program", folder / "program.c",
                      path, f"-Wl,-rpath,{libpfs.path.parent}"])
     return folder / "program"
 
@@ -34,7 +34,7 @@ def program(libpfs: Library, folder: pathlib.Path, compiler: str, library: str, 
                          ids=["shared", "archive", "static program"])
 def test_a_program_runs_with_musl(libpfs: Library, folder: pathlib.Path, library: str, options: list[str]) -> None:
     made = program(libpfs, folder, "musl-gcc", library, *options)
-    assert printed_by([made], folder) == "0, makespan 10\n"
+    assert output_of([made], folder) == "0, makespan 10\n"
 
 
 def test_the_page_names_the_gnu_c_library_that_the_library_needs(libpfs: Library) -> None:
@@ -48,6 +48,6 @@ def test_the_page_names_the_gnu_c_library_that_the_library_needs(libpfs: Library
 def test_an_old_processor_is_reported(libpfs: Library, folder: pathlib.Path, library: str) -> None:
     """The page says so: an emulated processor without the instructions of x86-64-v2, and one with them."""
     made = program(libpfs, folder, "gcc", library)
-    assert printed_by([need("qemu-x86_64"), "-cpu", "Nehalem", made], folder) == "0, makespan 10\n"
-    old = told_by([need("qemu-x86_64"), "-cpu", "qemu64", made], folder)
+    assert output_of([tool("qemu-x86_64"), "-cpu", "Nehalem", made], folder) == "0, makespan 10\n"
+    old = run_tool([tool("qemu-x86_64"), "-cpu", "qemu64", made], folder)
     assert (old.status, old.stdout) == (127, "") and "CPU ISA level is lower than required" in old.stderr

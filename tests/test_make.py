@@ -6,8 +6,8 @@ import re
 import shutil
 
 import pytest
-from support.needs import need
-from support.tools import printed_by, told_by, with_path, write_script
+from support.needs import tool
+from support.tools import output_of, run_tool, with_path, write_script
 
 TOP = pathlib.Path(__file__).resolve().parent.parent
 MAKEFILE = (TOP / "Makefile").read_text()
@@ -32,7 +32,7 @@ def environment(**more: str) -> dict[str, str]:
 
 @pytest.mark.parametrize("words", [[], ["help"]], ids=["make", "make help"])
 def test_make_lists_the_goals(top: pathlib.Path, words: list[str]) -> None:
-    listed = re.findall(r"^make ([\w-]+)  ", printed_by(["make", "-s", *words], top, env=environment()), re.MULTILINE)
+    listed = re.findall(r"^make ([\w-]+)  ", output_of(["make", "-s", *words], top, env=environment()), re.MULTILINE)
     assert sorted(listed) == sorted(goals())
 
 
@@ -48,12 +48,12 @@ def test_the_pages_name_goals() -> None:
 def test_try_runs_the_stored_instance(top: pathlib.Path, folder: pathlib.Path, status: int) -> None:
     """By `rt try` in the program's folder, and it fails where this fails."""
     write_script(folder / "rt", RT)
-    told = told_by(["make", "try"], top, env=environment(PATH=with_path(folder)["PATH"], STATUS=str(status)))
-    assert (told.status == 0) == (status == 0)
-    assert (top / "crates" / "pfs" / "stdin").read_text() in told.stdout
-    assert f"rt try in {top / 'crates' / 'pfs'}" in told.stderr.splitlines()
-    assert "not proved" in told.stderr.splitlines()[0]
-    assert ("`make run` proves" in told.stderr) == (status == 0)
+    got = run_tool(["make", "try"], top, env=environment(PATH=with_path(folder)["PATH"], STATUS=str(status)))
+    assert (got.status == 0) == (status == 0)
+    assert (top / "crates" / "pfs" / "stdin").read_text() in got.stdout
+    assert f"rt try in {top / 'crates' / 'pfs'}" in got.stderr.splitlines()
+    assert "not proved" in got.stderr.splitlines()[0]
+    assert ("`make run` proves" in got.stderr) == (status == 0)
 
 
 # What each goal runs, without what it waits for: the last line that make would run, with the shell's arithmetic done.
@@ -70,18 +70,18 @@ RECIPES = {
 
 @pytest.mark.parametrize("goal", RECIPES)
 def test_what_a_goal_runs(top: pathlib.Path, goal: str) -> None:
-    lines = printed_by(["make", "-s", "-n", *goal.split()], top, env=environment()).splitlines()
-    assert printed_by(["sh", "-c", f"echo {lines[-1]}"], top) == RECIPES[goal] + "\n", f"what `make {goal}` runs"
+    lines = output_of(["make", "-s", "-n", *goal.split()], top, env=environment()).splitlines()
+    assert output_of(["sh", "-c", f"echo {lines[-1]}"], top) == RECIPES[goal] + "\n", f"what `make {goal}` runs"
 
 
-def test_make_tells_the_defaults_of_its_variables() -> None:
+def test_make_states_the_defaults_of_its_variables() -> None:
     """In the list of the goals, as they are set."""
-    told = {"MINUTES": r"for MINUTES \((\d+)\)", "PREFIX": r"$^", "DIST": r"$^"}
+    got = {"MINUTES": r"for MINUTES \((\d+)\)", "PREFIX": r"$^", "DIST": r"$^"}
     values = dict(re.findall(r"^(MINUTES|PREFIX|DIST) = (.*)$", MAKEFILE, re.MULTILINE))
     assert values == {"MINUTES": "5", "PREFIX": "/usr/local", "DIST": "dist"}
-    for name, pattern in told.items():
+    for name, pattern in got.items():
         assert re.findall(pattern, MAKEFILE) in ([], [values[name]]), f"the default of {name}"
-    assert re.search(told["MINUTES"], MAKEFILE)
+    assert re.search(got["MINUTES"], MAKEFILE)
     assert "`PREFIX` (default `/usr/local`)" in (TOP / "docs" / "INSTALL.md").read_text()
 
 
@@ -99,21 +99,21 @@ def test_the_hook_of_git(top: pathlib.Path, folder: pathlib.Path, status: int) -
     shutil.copytree(top / "tools" / "hooks", repository / "tools" / "hooks")
     programs.mkdir()
     write_script(programs / "make", MAKE)
-    told = re.search(r"`git (config .*)` turns it on", (top / "tools" / "hooks" / "pre-commit").read_text())
-    assert told
+    got = re.search(r"`git (config .*)` turns it on", (top / "tools" / "hooks" / "pre-commit").read_text())
+    assert got
     env = environment(PATH=with_path(programs)["PATH"], STATUS=str(status), GIT_CONFIG_GLOBAL=os.devnull)
-    git = [need("git"), "-c", "user.name=A Tester", "-c", "user.email=tester@example.org"]
-    for words in (["init", "-q"], told[1].split(), ["add", "."]):
-        printed_by([*git, *words], repository, env=env)
-    committed = told_by([*git, "commit", "-q", "-m", "A change"], repository, env=env)
+    git = [tool("git"), "-c", "user.name=A Tester", "-c", "user.email=tester@example.org"]
+    for words in (["init", "-q"], got[1].split(), ["add", "."]):
+        output_of([*git, *words], repository, env=env)
+    committed = run_tool([*git, "commit", "-q", "-m", "A change"], repository, env=env)
     assert (committed.status == 0) == (status == 0)
     assert (repository / "calls").read_text() == "make -s check, no index\n"
-    assert (told_by([*git, "log"], repository, env=env).status == 0) == (status == 0)
+    assert (run_tool([*git, "log"], repository, env=env).status == 0) == (status == 0)
 
 
 def test_the_pages_that_are_installed_link_to_installed_files(top: pathlib.Path) -> None:
     """Where they are installed, they are in the same folders as here."""
-    listed = printed_by(["make", "-s", "--eval=pages: ; @echo $(PAGES)", "pages"], top, env=environment()).split()
+    listed = output_of(["make", "-s", "--eval=pages: ; @echo $(PAGES)", "pages"], top, env=environment()).split()
     assert "README.md" in listed
     for page in [top / name for name in listed if name.endswith(".md")]:
         links = [name for name in re.findall(r"\]\(([^)#]+)\)", page.read_text()) if "://" not in name]

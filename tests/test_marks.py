@@ -21,24 +21,24 @@ def run_pytest(top: pathlib.Path, *words: str) -> tuple[int, str]:
 
 def test_check_needs_no_program(top: pathlib.Path) -> None:
     """Of these two files it runs the one test that needs no program and is short."""
-    status, told = run_pytest(top, "-m", "check", "tests/test_searches.py", "tests/test_gantt.py")
-    assert status == 0 and re.search(r"^1 passed, \d+ deselected", told, re.MULTILINE), told
+    status, got = run_pytest(top, "-m", "check", "tests/test_searches.py", "tests/test_gantt.py")
+    assert status == 0 and re.search(r"^1 passed, \d+ deselected", got, re.MULTILINE), got
 
 
 def test_check_has_the_tests_of_the_sources(top: pathlib.Path) -> None:
-    status, told = run_pytest(top, "-m", "check", "--collect-only", "tests")
-    files = set(re.findall(r"^(tests/\w+\.py)::", told, re.MULTILINE))
+    status, got = run_pytest(top, "-m", "check", "--collect-only", "tests")
+    files = set(re.findall(r"^(tests/\w+\.py)::", got, re.MULTILINE))
     assert status == 0 and files >= {f"tests/test_{name}.py" for name in ("build", "code", "definitions", "format",
-                                                                         "make", "paths", "setup", "skips")}, told
+                                                                         "make", "paths", "setup", "skips")}, got
 
 
 def test_quick_has_tests_of_each_part(top: pathlib.Path) -> None:
-    status, told = run_pytest(top, "-m", "quick", "--collect-only", "tests")
-    assert status == 0, told
+    status, got = run_pytest(top, "-m", "quick", "--collect-only", "tests")
+    assert status == 0, got
     for command in COMMANDS:
-        assert f"test_a_line_has_its_output_errors_and_status[{command} " in told
+        assert f"test_a_line_has_its_output_errors_and_status[{command} " in got
     for name in ("library", "gantt", "experiments"):
-        assert f"tests/test_{name}.py::" in told
+        assert f"tests/test_{name}.py::" in got
     package = (path.read_text() for path in (top / "python" / "tests").glob("test_*.py"))
     assert sum(text.count("@pytest.mark.quick\n") for text in package) > 1
 
@@ -60,9 +60,9 @@ def test_ends() -> None:
 def test_a_test_that_hangs_fails(top: pathlib.Path, folder: pathlib.Path) -> None:
     """With the settings of the repository and a shorter limit. The next test runs."""
     (folder / "test_hanging.py").write_text(HANGS)
-    status, told = run_pytest(top, "-c", str(top / "pyproject.toml"), "-o", "timeout=1", "--pfs", sys.executable,
+    status, got = run_pytest(top, "-c", str(top / "pyproject.toml"), "-o", "timeout=1", "--pfs", sys.executable,
                               str(folder))
-    assert status == 1 and "Failed: Timeout >1.0s" in told and "1 failed, 1 passed" in told, told
+    assert status == 1 and "Failed: Timeout >1.0s" in got and "1 failed, 1 passed" in got, got
 
 
 def test_a_test_may_take_at_most_five_minutes(pytestconfig: pytest.Config) -> None:
@@ -71,9 +71,9 @@ def test_a_test_may_take_at_most_five_minutes(pytestconfig: pytest.Config) -> No
 
 def order(top: pathlib.Path, *words: str) -> list[str]:
     """The tests of a file in the order in which they run."""
-    status, told = run_pytest(top, "--collect-only", *words, "tests/test_marks.py")
-    assert status == 0, told
-    return re.findall(r"^tests/\S+::(\w+)", told, re.MULTILINE)
+    status, got = run_pytest(top, "--collect-only", *words, "tests/test_marks.py")
+    assert status == 0, got
+    return re.findall(r"^tests/\S+::(\w+)", got, re.MULTILINE)
 
 
 def test_a_seed_shuffles_the_tests(top: pathlib.Path) -> None:
@@ -105,9 +105,9 @@ def test_waits() -> None:
 def test_the_slowest_tests_are_those_of_most_processor_time(top: pathlib.Path, folder: pathlib.Path,
                                                             words: tuple[str, ...]) -> None:
     (folder / "test_working.py").write_text(WORKS)
-    status, told = run_pytest(top, "-c", str(top / "pyproject.toml"), "--slowest=2", "--pfs", sys.executable, *words,
+    status, got = run_pytest(top, "-c", str(top / "pyproject.toml"), "--slowest=2", "--pfs", sys.executable, *words,
                               str(folder))
-    assert status == 0, told
-    found = re.findall(r"^ +(\d+\.\d\d) \S+::(\w+)$", told, re.MULTILINE)
+    assert status == 0, got
+    found = re.findall(r"^ +(\d+\.\d\d) \S+::(\w+)$", got, re.MULTILINE)
     assert [name for _, name in found] == ["test_has_a_program_work", "test_works_itself"]
     assert float(found[0][0]) >= 1.5

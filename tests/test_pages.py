@@ -17,7 +17,7 @@ from support.facts import EXITS, FACTS, LIMITS, OPTIONS, RANGES
 from support.facts import FAULTS as STATUS_OF_FAULT
 from support.faults import FAULTS, met, with_numbers
 from support.files import USAGE, generated
-from support.needs import need
+from support.needs import tool
 from support.program import Program, Ran
 from support.tools import wait_until, with_path
 from support.usage import LAYOUTS, LINES, commands, ends_of, ends_taken, ranges
@@ -195,10 +195,10 @@ def test_a_fault_that_is_explained_has_this_reason(fault: str, pfs: Program, wor
     for name, text in files.items():
         (worked / name).write_bytes(text)
     for line, shown in FILE_SLIPS[fault]:
-        told = re.fullmatch(f"pfs: {fault.replace('X', r'([0-9]+)')}\n", pfs.run(line, worked).stderr.decode())
-        assert told, line
+        got = re.fullmatch(f"pfs: {fault.replace('X', r'([0-9]+)')}\n", pfs.run(line, worked).stderr.decode())
+        assert got, line
         if shown:
-            show = f"head -c {told[1]} {line.split()[-1]} | tail -n 1"
+            show = f"head -c {got[1]} {line.split()[-1]} | tail -n 1"
             assert "`head -c X FILE | tail -n 1`" in TROUBLESHOOTING
             assert run_line(show, worked).encode() == shown
 
@@ -267,15 +267,15 @@ VERDICTS = {("check", "wrong size"): "two", ("table", "wrong size"): "two",
 
 def verdicts(text: str) -> set[tuple[str, str]]:
     """The commands and verdicts of a sentence, as `check or table printed wrong size or wrong machines`."""
-    told = re.findall(r"((?:check|table)(?: or (?:check|table))*) printed (wrong \w+(?: or wrong \w+)*)", text)
-    return {(command, verdict) for commands, names in told for command in commands.split(" or ")
+    got = re.findall(r"((?:check|table)(?: or (?:check|table))*) printed (wrong \w+(?: or wrong \w+)*)", text)
+    return {(command, verdict) for commands, names in got for command in commands.split(" or ")
             for verdict in names.split(" or ")}
 
 
 def test_these_verdicts_end_with_status_1(pfs: Program, worked: pathlib.Path) -> None:
     text = " ".join(it["when"] for it in EXITS if it["status"] == 1).replace("`", "")
     ran = {pair: pfs.run(f"{pair[0]} --layout taillard three {order}", worked) for pair, order in VERDICTS.items()}
-    wanted = {pair for pair, told in ran.items() if told.status == 1 and told.stdout.startswith(pair[1].encode())}
+    wanted = {pair for pair, got in ran.items() if got.status == 1 and got.stdout.startswith(pair[1].encode())}
     assert verdicts(text) == wanted
 
 
@@ -373,11 +373,11 @@ def test_the_default_take_of_fewer_jobs_is_their_number(pfs: Program, worked: pa
     assert without == all_jobs != fewer
 
 
-@pytest.mark.parametrize(("script", "told"), [("_pfs", r"--(\w+)=\[([^]]*)\]"),
+@pytest.mark.parametrize(("script", "got"), [("_pfs", r"--(\w+)=\[([^]]*)\]"),
                                               ("pfs.fish", r"-l (\w+) .*-d '([^']*)'")])
-def test_a_range_in_a_completion_is_the_options(script: str, told: str) -> None:
+def test_a_range_in_a_completion_is_the_options(script: str, got: str) -> None:
     text = (TOP / "share" / "completions" / script).read_text().replace("\\\n", "")
-    found = {f"--{name}": ranges(said)[0] for name, said in re.findall(told, text) if ranges(said)}
+    found = {f"--{name}": ranges(said)[0] for name, said in re.findall(got, text) if ranges(said)}
     assert found == {option: each for option, each in RANGES.items() if option != "--seed"}
 
 
@@ -451,9 +451,9 @@ def test_the_limit_of_an_order_file_is_the_programs(pfs: Program, worked: pathli
 def syntax(text: str, pfs: Program, worked: pathlib.Path) -> int | None:
     """The offset of the syntax error in this order file, if it has one."""
     (worked / "order").write_text(text)
-    told = re.fullmatch(r"pfs: order file syntax at (\d+)\n",
+    got = re.fullmatch(r"pfs: order file syntax at (\d+)\n",
                         pfs.run("check --layout taillard three order", worked).stderr.decode())
-    return int(told[1]) if told else None
+    return int(got[1]) if got else None
 
 
 OFFSETS = [(text.strip("`").replace("\\n", "\n"), int(offset)) for text, offset in table(FORMATS, "Input", "Offset")]
@@ -503,7 +503,7 @@ PRINTED = {
 def test_a_printed_text_of_formats_is_the_programs(what: str, line: str, pfs: Program, worked: pathlib.Path) -> None:
     """Each line of the page is a line that the program prints, in this order; a letter stands for a number."""
     text = dict(table(FORMATS, "What", "Text"))[what]
-    patterns = [re.sub(r"\b[A-Z]\b", r"\\d+", told) for told in re.findall("`([^`]+)`", text)]
+    patterns = [re.sub(r"\b[A-Z]\b", r"\\d+", got) for got in re.findall("`([^`]+)`", text)]
     lines = pfs.run(line, worked).stdout.decode().splitlines()
     found = [next((at for at, each in enumerate(lines) if re.fullmatch(pattern, each)), -1) for pattern in patterns]
     assert patterns and -1 not in found and found == sorted(found), (patterns, lines)
@@ -513,7 +513,7 @@ def test_a_printed_text_of_formats_is_the_programs(what: str, line: str, pfs: Pr
         assert len(found) == len(lines), (patterns, lines)
 
 
-def test_formats_tells_each_printed_text() -> None:
+def test_formats_states_each_printed_text() -> None:
     texts = {what for what, text in table(FORMATS, "What", "Text") if "`" in text}
     assert texts == set(PRINTED)
 
@@ -523,7 +523,7 @@ def test_formats_tells_each_printed_text() -> None:
 @pytest.fixture(scope="module")
 def manual() -> str:
     """The manual page as mandoc shows it. Letters are made bold and underlined by printing them twice."""
-    done = subprocess.run([need("mandoc"), "-T", "utf8", "-O", "width=200", str(TOP / "share" / "pfs.1")],
+    done = subprocess.run([tool("mandoc"), "-T", "utf8", "-O", "width=200", str(TOP / "share" / "pfs.1")],
                           capture_output=True, text=True)
     return re.sub(".\b", "", done.stdout)
 
@@ -536,7 +536,7 @@ def shown_section(text: str, title: str) -> str:
 
 
 def test_mandoc_finds_nothing_wrong() -> None:
-    done = subprocess.run([need("mandoc"), "-T", "lint", "-W", "warning", str(TOP / "share" / "pfs.1")],
+    done = subprocess.run([tool("mandoc"), "-T", "lint", "-W", "warning", str(TOP / "share" / "pfs.1")],
                           capture_output=True, text=True)
     assert (done.stdout, done.stderr, done.returncode) == ("", "", 0)
 
@@ -552,7 +552,7 @@ TOOL_PAGES = {name: path.read_text() for name, path in TOOL_PATHS.items()}
 
 @pytest.mark.parametrize("name", TOOL_PAGES)
 def test_mandoc_finds_nothing_wrong_in_the_pages_of_the_tools(name: str) -> None:
-    done = subprocess.run([need("mandoc"), "-T", "lint", "-W", "warning", str(TOOL_PATHS[name])],
+    done = subprocess.run([tool("mandoc"), "-T", "lint", "-W", "warning", str(TOOL_PATHS[name])],
                           capture_output=True, text=True)
     assert (done.stdout, done.stderr, done.returncode) == ("", "", 0)
 
@@ -574,8 +574,8 @@ def test_the_page_of_gantt_has_its_options() -> None:
     usage = (TOP / "tools" / "gantt").read_text().partition("usage: ")[2].partition('"""')[0]
     options = re.findall(r"--([\w-]+)", usage)
     for macro in ("It", "Op"):
-        told = re.findall(rf"^\.{macro} Fl -([\w-]+)", TOOL_PAGES["pfs-gantt"], re.MULTILINE)
-        assert sorted(told) == sorted(options), f"the options of .{macro} in pfs-gantt.1"
+        got = re.findall(rf"^\.{macro} Fl -([\w-]+)", TOOL_PAGES["pfs-gantt"], re.MULTILINE)
+        assert sorted(got) == sorted(options), f"the options of .{macro} in pfs-gantt.1"
     lines = re.findall(r"^\.Op Fl -([\w-]+)(?: Ar (\w+))?$", TOOL_PAGES["pfs-gantt"], re.MULTILINE)
     assert " ".join(f"[--{option}{' ' * bool(value)}{value}]" for option, value in lines) \
         == usage.removeprefix("tools/gantt ").partition(" [TABLE]")[0], "the synopsis of pfs-gantt.1"
@@ -591,7 +591,7 @@ def test_the_page_of_experiments_has_its_scripts() -> None:
 
 
 @pytest.mark.parametrize("page", ["pfs", *TOOL_PAGES])
-def test_a_manual_page_tells_what_else_to_read_and_what_is_wanting(page: str) -> None:
+def test_a_manual_page_names_what_else_to_read_and_what_is_missing(page: str) -> None:
     text = MANUAL if page == "pfs" else TOOL_PAGES[page]
     assert "\n.Sh BUGS\n" in text
     others = {f"pfs{name}" for name in ("", "-gantt", "-experiments")} - {page}

@@ -14,7 +14,7 @@ import pytest
 from support.colours import least_difference
 from support.experiments import OLD_HEAD
 from support.pictures import Picture, Scale, value_of
-from support.tools import Told, told_by
+from support.tools import Done, run_tool
 
 pytestmark = pytest.mark.long
 # By hand: the best makespans are 101 of a, 103 of b and 200 of c, from which the RPD of a's first run is 900 / 101.
@@ -80,27 +80,27 @@ BAD = {
     "a zero byte": REPORTED.replace("0.001000", "0.001\0"),
 }
 
-Reported = Callable[..., Told]
+Reported = Callable[..., Done]
 
 
 @pytest.fixture
 def report(top: pathlib.Path, matplotlib: None, folder: pathlib.Path) -> Reported:
     """Reports a CSV of this text, into the folder `report`."""
-    def run(text: str, *options: str) -> Told:
+    def run(text: str, *options: str) -> Done:
         (folder / "out.csv").write_text(text)
-        return told_by([top / "experiments" / "report", *options, "out.csv", "report"], folder)
+        return run_tool([top / "experiments" / "report", *options, "out.csv", "report"], folder)
     return run
 
 
 @pytest.mark.parametrize("ending", BEGINNINGS)
 def test_a_report_has_its_table_and_its_plots(ending: str, report: Reported, folder: pathlib.Path) -> None:
-    told = report(REPORTED, "--format", ending)
-    assert (told.status, told.stderr) == (0, "")
+    got = report(REPORTED, "--format", ending)
+    assert (got.status, got.stderr) == (0, "")
     assert (folder / "report" / "table.csv").read_text() == TABLE
-    assert (folder / "report" / "table.md").read_text() == told.stdout
-    rows = [[cell.strip() for cell in line[1:-1].split("|")] for line in told.stdout.splitlines()[2:-2]]
+    assert (folder / "report" / "table.md").read_text() == got.stdout
+    rows = [[cell.strip() for cell in line[1:-1].split("|")] for line in got.stdout.splitlines()[2:-2]]
     assert rows == [line.split(",") for line in TABLE.splitlines()[1:]]
-    assert told.stdout.endswith("\n\nRPD: above the best makespan of any of these runs.\n")
+    assert got.stdout.endswith("\n\nRPD: above the best makespan of any of these runs.\n")
     for name in ("gap", "rpd", "seconds", "time"):
         picture = (folder / "report" / f"{name}.{ending}").read_bytes()
         assert picture.startswith(BEGINNINGS[ending]) and len(picture) > 5000, name
@@ -115,9 +115,9 @@ def test_pictures_are_png_by_default(report: Reported, folder: pathlib.Path) -> 
 
 @pytest.mark.parametrize("text", BAD.values(), ids=BAD)
 def test_an_invalid_csv_is_rejected_and_nothing_is_left(text: str, report: Reported, folder: pathlib.Path) -> None:
-    told = report(text)
-    assert (told.status, told.stdout) == (2, "")
-    assert re.fullmatch("experiments/report: out.csv: [^\n]+\n", told.stderr), told.stderr
+    got = report(text)
+    assert (got.status, got.stdout) == (2, "")
+    assert re.fullmatch("experiments/report: out.csv: [^\n]+\n", got.stderr), got.stderr
     assert not (folder / "report").exists()
 
 
@@ -127,8 +127,8 @@ def test_the_greatest_numbers_are_reported(report: Reported, folder: pathlib.Pat
             for rounds, makespan, gap, cells, seconds in (
                 (0, 1, "0.0000", 1, "1e-320"), (0, 999999999999999999, "99999999999999999800.0000", 2, "1e-9"),
                 (1000000, 999999999999999999, "1e20", 18446744073709551615, "1e12"))]
-    told = report(OLD_HEAD + "\n" + "".join(rows), "--format", "svg")
-    assert (told.status, told.stderr) == (0, "")
+    got = report(OLD_HEAD + "\n" + "".join(rows), "--format", "svg")
+    assert (got.status, got.stderr) == (0, "")
     assert [float(percent) for percent in percents(folder, "greatest_rpd_percent")] == pytest.approx([1e20] * 2)
     assert len(Picture(folder / "report" / "seconds.svg", "axes_1").marks("xtick", ".*?([0-9]+).*")) >= 2
 
@@ -144,8 +144,8 @@ def test_names_stay_in_their_cells(top: pathlib.Path, matplotlib: None, folder: 
         writer = csv.writer(file)
         writer.writerows([["instance", "makespan", "method", "seconds", "jobs", "machines", "rounds", "take", "passes"],
                           *([f"{name}/i", at, name, "0.5", 3, 2, 1, 1, 0] for at, name in enumerate(NAMES, 10))])
-    told = told_by([top / "experiments" / "report", "--format", "svg", "out.csv", "report"], folder)
-    assert told.status == 0 and "\x1b" not in told.stdout + told.stderr, told.stderr
+    got = run_tool([top / "experiments" / "report", "--format", "svg", "out.csv", "report"], folder)
+    assert got.status == 0 and "\x1b" not in got.stdout + got.stderr, got.stderr
     for name in ("table.md", "comparison.md", "sizes.md"):
         text = (folder / "report" / name).read_text()
         lines = text.partition("\n\n")[0].splitlines()
@@ -164,7 +164,7 @@ def test_names_stay_in_their_cells(top: pathlib.Path, matplotlib: None, folder: 
 
 
 def test_a_missing_csv_is_rejected(top: pathlib.Path, matplotlib: None, folder: pathlib.Path) -> None:
-    assert told_by([top / "experiments" / "report", "none.csv", "report"], folder).status == 2
+    assert run_tool([top / "experiments" / "report", "none.csv", "report"], folder).status == 2
     assert list(folder.iterdir()) == []
 
 
@@ -185,8 +185,8 @@ def test_words_are_refused_on_one_line(words: list[str], top: pathlib.Path, matp
                                        folder: pathlib.Path) -> None:
     (folder / "out.csv").write_text(REPORTED)
     (folder / "other.csv").write_text("instance,length\na,1\n")
-    told = told_by([top / "experiments" / "report", *words], folder)
-    assert (told.status, told.stdout, told.stderr.count("\n")) == (2, "", 1), told.stderr
+    got = run_tool([top / "experiments" / "report", *words], folder)
+    assert (got.status, got.stdout, got.stderr.count("\n")) == (2, "", 1), got.stderr
     assert sorted(os.listdir(folder)) == ["other.csv", "out.csv"]
 
 
@@ -214,12 +214,12 @@ def percents(folder: pathlib.Path, name: str = "mean_rpd_percent") -> list[str]:
 def test_the_rpd_is_relative_to_the_reference(report: Reported, folder: pathlib.Path) -> None:
     """By the last part of an instance's path. An instance that it lacks has no RPD."""
     (folder / "best.csv").write_text("instance,makespan,source\na,100,a paper\nb,50.0,another\n")
-    told = report(REPORTED.replace("\na,", "\nsome/folder/a,"), "--reference", "best.csv")
-    assert told.status == 0
+    got = report(REPORTED.replace("\na,", "\nsome/folder/a,"), "--reference", "best.csv")
+    assert got.status == 0
     # (10 + 140) / 2 at 0 rounds; 1, 106, 5 and 114 at 100 rounds
     assert percents(folder) == ["", "75.000", "56.500", "", ""]
     assert percents(folder, "greatest_rpd_percent") == ["", "140.000", "114.000", "", ""]
-    assert told.stdout.endswith("\n\nRPD: above the makespan that best.csv has.\n"
+    assert got.stdout.endswith("\n\nRPD: above the makespan that best.csv has.\n"
                                 "1 runs of 1 instances have no reference, and no RPD: c.\n")
 
 
@@ -241,10 +241,10 @@ FEW = "instance,makespan,seed,seconds\n"
 
 
 def methods(top: pathlib.Path, folder: pathlib.Path, first: str, second: str, *options: str,
-            **how: dict[str, str]) -> Told:
+            **how: dict[str, str]) -> Done:
     (folder / "first.csv").write_text(first)
     (folder / "second.csv").write_text(second)
-    return told_by([top / "experiments" / "report", *options, "first.csv", "second.csv", "report"], folder, **how)
+    return run_tool([top / "experiments" / "report", *options, "first.csv", "second.csv", "report"], folder, **how)
 
 
 def compared(folder: pathlib.Path) -> list[dict[str, str]]:
@@ -288,8 +288,8 @@ def test_a_missing_scipy_is_reported(top: pathlib.Path, matplotlib: None, folder
     (folder / "scipy" / "__init__.py").write_text("raise ImportError('none')\n")
     for count, wanted, is_said in ((50, f"{2 / 2 ** 50:.4g}", False), (51, "", True)):
         texts = [FEW + "".join(f"i{at},{1000 + more * at},1,1\n" for at in range(1, count + 1)) for more in (1, 2)]
-        told = methods(top, folder, *texts, env=dict(os.environ, PYTHONPATH=str(folder)))
-        assert (told.status, told.stderr, "SciPy isn't there" in told.stdout) == (0, "", is_said)
+        got = methods(top, folder, *texts, env=dict(os.environ, PYTHONPATH=str(folder)))
+        assert (got.status, got.stderr, "SciPy isn't there" in got.stdout) == (0, "", is_said)
         row, = compared(folder)
         assert (row["won"], row["p"]) == (str(count), wanted)
 
@@ -298,8 +298,8 @@ def test_a_missing_scipy_is_reported(top: pathlib.Path, matplotlib: None, folder
     ("instance,length\na,1\n", "makespan"), ("a,b\n1,2\n", "instance, makespan"), ("makespan\n1\n", "instance")])
 def test_the_columns_that_a_csv_lacks_are_named(text: str, named: str, top: pathlib.Path, matplotlib: None,
                                                 folder: pathlib.Path) -> None:
-    told = methods(top, folder, REPORTED, text)
-    assert told == Told(2, "", f"experiments/report: second.csv: no column {named}\n")
+    got = methods(top, folder, REPORTED, text)
+    assert got == Done(2, "", f"experiments/report: second.csv: no column {named}\n")
     assert not (folder / "report").exists()
 
 
@@ -323,7 +323,7 @@ def test_files_of_one_name_are_methods_by_their_paths(top: pathlib.Path, matplot
     for name in ("x", "y"):
         (folder / name).mkdir()
         (folder / name / "out.csv").write_text("instance,makespan\na,1\n")
-    assert told_by([top / "experiments" / "report", "x/out.csv", "y/out.csv", "report"], folder).status == 0
+    assert run_tool([top / "experiments" / "report", "x/out.csv", "y/out.csv", "report"], folder).status == 0
     assert [row["method"] + " " + row["other_method"] for row in compared(folder)] == ["x/out.csv y/out.csv"]
 
 
@@ -332,18 +332,18 @@ def test_instances_without_a_reference_have_no_rpd(top: pathlib.Path, matplotlib
     head = "instance,makespan,seed,reference\n"
     texts = [head + "".join(f"{name}{at},{1100 + seed},{seed},{reference}\n" for at in range(3) for seed in (1, 2))
              for name, reference in (("i", "1000"), ("I", ""))]
-    told = methods(top, folder, *texts)
-    assert (told.status, told.stderr) == (0, "experiments/report: first and second have no instance in common\n")
+    got = methods(top, folder, *texts)
+    assert (got.status, got.stderr) == (0, "experiments/report: first and second have no instance in common\n")
     assert percents(folder) == ["10.150", ""]
-    assert "\n6 runs of 3 instances have no reference, and no RPD: I0, I1, I2.\n" in told.stdout
+    assert "\n6 runs of 3 instances have no reference, and no RPD: I0, I1, I2.\n" in got.stdout
     assert compared(folder) == []
 
 
 def test_a_reference_has_one_makespan_of_an_instance(report: Reported, folder: pathlib.Path) -> None:
     """It may be given twice."""
     (folder / "best.csv").write_text("instance,makespan\na,100\nb,50\na,101\n")
-    told = report(REPORTED, "--reference", "best.csv")
-    assert (told.status, told.stderr) == (2, "experiments/report: best.csv: two makespans of a\n"), "one is taken"
+    got = report(REPORTED, "--reference", "best.csv")
+    assert (got.status, got.stderr) == (2, "experiments/report: best.csv: two makespans of a\n"), "one is taken"
     (folder / "best.csv").write_text("instance,makespan\na,100\nb,50\na,100\n")
     assert report(REPORTED, "--reference", "best.csv").status == 0
     assert percents(folder)[1] == "75.000"
@@ -353,11 +353,11 @@ def test_the_rpd_is_that_of_the_pages_formula(top: pathlib.Path, report: Reporte
     text = (top / "experiments" / "README.md").read_text()
     formula = re.search(r"RPD is the relative percentage deviation from the reference, ([^.]*)\.", text)
     assert formula, "no formula in experiments/README.md"
-    told = formula[1].replace("·", "*").replace("\N{MINUS SIGN}", "-")
-    assert re.fullmatch(r"[\s()*/+0-9-]*", re.sub("makespan|reference", "", told)), told
+    got = formula[1].replace("·", "*").replace("\N{MINUS SIGN}", "-")
+    assert re.fullmatch(r"[\s()*/+0-9-]*", re.sub("makespan|reference", "", got)), got
     (folder / "best.csv").write_text("instance,makespan\na,80\n")
     assert report("instance,makespan\na,113\n", "--reference", "best.csv").status == 0
-    wanted = eval(told, {"__builtins__": {}}, {"makespan": 113, "reference": 80})
+    wanted = eval(got, {"__builtins__": {}}, {"makespan": 113, "reference": 80})
     assert percents(folder) == [f"{wanted:.3f}"], "the RPD by the formula of experiments/README.md"
 
 
@@ -365,10 +365,10 @@ def test_taillards_instances_are_compared_with_the_best_known_makespans(report: 
     """By their names and sizes, unless a reference is given. The best known ones of these are 1278 and 26040."""
     text = ("instance,jobs,machines,makespan\nout/ta001,20,5,1291\nta111,500,20,26301\nta002,50,5,2724\n"
             "mine,20,5,1000\n")
-    told = report(text)
-    assert (told.status, percents(folder)) == (0, [f"{100 * 13 / 1278:.3f}", "", f"{100 * 261 / 26040:.3f}"])
+    got = report(text)
+    assert (got.status, percents(folder)) == (0, [f"{100 * 13 / 1278:.3f}", "", f"{100 * 261 / 26040:.3f}"])
     assert "RPD: above the makespan that is the best known one of Taillard's instance.\n" \
-        "2 runs of 2 instances have no reference, and no RPD: ta002, mine.\n" in told.stdout
+        "2 runs of 2 instances have no reference, and no RPD: ta002, mine.\n" in got.stdout
     (folder / "other.csv").write_text("instance,makespan\nta001,1000\n")
     assert report(text, "--reference", "other.csv").status == 0
     assert percents(folder) == ["29.100", "", f"{100 * 261 / 26040:.3f}"]
@@ -391,8 +391,8 @@ def test_ties_have_no_part_in_the_test(top: pathlib.Path, matplotlib: None, fold
     differences = [0, 0, 0, 0, 10, 10, 20, 20, 20, 30, 40]
     texts = [FEW + "".join(f"i{at},{1000 + times * each},1,0.5\n" for at, each in enumerate(differences))
              for times in (0, 1)]
-    told = methods(top, folder, *texts)
-    assert (told.status, told.stderr) == (0, "")
+    got = methods(top, folder, *texts)
+    assert (got.status, got.stderr) == (0, "")
     row, = compared(folder)
     assert [row[name] for name in ("instances", "won", "tied", "lost", "pairs")] == ["11", "7", "4", "0", "7"]
     assert float(row["p"]) == pytest.approx(2 / 128, rel=1e-3), "p of the pairs that are not tied"
@@ -421,7 +421,7 @@ def test_holms_correction_is_for_all_pairs(top: pathlib.Path, matplotlib: None, 
             ("a", [1000] * 6), ("b", list(range(1001, 1007))), ("c", [1010, 1011, 1012, 1013, 1014, 990]))
         for at, makespan in enumerate(makespans))
     (folder / "out.csv").write_text(text)
-    assert told_by([top / "experiments" / "report", "out.csv", "report"], folder).status == 0
+    assert run_tool([top / "experiments" / "report", "out.csv", "report"], folder).status == 0
     rows = sorted(compared(folder), key=lambda row: float(row["p"]))
     given, corrected = ([float(row[name]) for row in rows] for name in ("p", "p_holm"))
     assert given == pytest.approx([2 / 64, 6 / 64, 34 / 64], rel=1e-3)
@@ -432,12 +432,12 @@ def test_settings_of_one_method_are_compared(report: Reported, folder: pathlib.P
     """Take 2 and take 4 of the same rounds. Settings with other rounds aren't compared."""
     text = OLD_HEAD + "\n" + "".join(f"i{at},20,5,{rounds},{take},0,1,1,{1000 + take * at - rounds},900,1.0,1,0.1,ok\n"
                                      for at in range(1, 5) for rounds in (1, 2) for take in (2, 4))
-    told = report(text)
-    assert (told.status, told.stderr) == (0, "")
+    got = report(text)
+    assert (got.status, got.stderr) == (0, "")
     names = ("method", "rounds", "take", "other_method", "other_rounds", "other_take", "won")
     rows = [tuple(row[name] for name in names) for row in compared(folder)]
     assert rows == [("out", rounds, "2", "out", rounds, "4", "4") for rounds in "12"]
-    assert (folder / "report" / "comparison.md").read_text() in told.stdout
+    assert (folder / "report" / "comparison.md").read_text() in got.stdout
 
 
 # Tables as papers have them
@@ -545,8 +545,8 @@ def test_all_lines_by_seconds_are_in_their_axes(width: str, sizes: int, top: pat
     whole."""
     texts = ["".join(line for line in text.splitlines(True) if sizes == 3 or not re.search(",(50|100),5,", line))
              for text in GOOD_FIRST]
-    told = methods(top, folder, *texts, "--format", "svg", "--width", width)
-    assert (told.status, told.stderr) == (0, "")
+    got = methods(top, folder, *texts, "--format", "svg", "--width", width)
+    assert (got.status, got.stderr) == (0, "")
     path = folder / "report" / "seconds.svg"
     for number in range(sizes):
         picture = Picture(path, f"axes_{number + 1}")

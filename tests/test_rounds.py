@@ -61,7 +61,7 @@ FROM_NUMBERS = {
 Kept = tuple[str, int, int]
 
 
-def told(kept: Kept) -> str:
+def got(kept: Kept) -> str:
     """The line that pfs_calls prints for a kept order."""
     order, makespan, cells = kept
     return f"order {order}, makespan {makespan}, {cells} cells"
@@ -73,7 +73,7 @@ def told(kept: Kept) -> str:
 def test_a_round_after_neh(pfs_calls: Program, folder: pathlib.Path, inserter: str, shop: str, words: str, passes: int,
                            by_neh: Kept, by_round: Kept) -> None:
     ran = pfs_calls.run(f"one_round neh {inserter} {passes} {shop} {words}", folder)
-    assert ran == printed(told(by_neh), told(by_round))
+    assert ran == printed(got(by_neh), got(by_round))
 
 
 @pytest.mark.parametrize("inserter", ["afresh", "rows"])
@@ -83,8 +83,8 @@ def test_a_round_from_the_order_of_numbers(pfs_calls: Program, folder: pathlib.P
                                            words: str, passes: int, order: str, makespan: int, afresh: int,
                                            by_rows: int) -> None:
     ran = pfs_calls.run(f"one_round numbers {inserter} {passes} {shop} {words}", folder)
-    assert ran == printed(told((order, makespan, afresh if inserter == "afresh" else by_rows)))
+    assert ran == printed(got((order, makespan, afresh if inserter == "afresh" else by_rows)))
 
 
 def test_each_round_draws_its_own_words(pfs_calls: Program, folder: pathlib.Path) -> None:
-    assert pfs_calls.run("two_rounds", folder) == printed(told(("1 2", 8, 5 + 4 + 4)), "next word 2")
+    assert pfs_calls.run("two_rounds", folder) == printed(got(("1 2", 8, 5 + 4 + 4)), "next word 2")

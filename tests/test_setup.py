@@ -7,7 +7,7 @@ import shutil
 
 import pytest
 from support.packages import package_of, packages
-from support.tools import Told, printed_by, told_by, write_script
+from support.tools import Done, output_of, run_tool, write_script
 
 INSTALL = pathlib.Path(__file__).resolve().parent.parent / "docs" / "INSTALL.md"
 LIST = """# a comment with a `command sh`
@@ -46,9 +46,9 @@ def machine(top: pathlib.Path, folder: pathlib.Path) -> pathlib.Path:
     return folder
 
 
-def run_setup(machine: pathlib.Path, *words: str, user: int = 0, sudo: str = "none", update: int = 0) -> Told:
+def run_setup(machine: pathlib.Path, *words: str, user: int = 0, sudo: str = "none", update: int = 0) -> Done:
     env = {"PATH": f"{machine / 'bin'}:/usr/bin:/bin", "USER_ID": str(user), "SUDO": sudo, "UPDATE": str(update)}
-    return told_by([machine / "tools" / "setup", *words], machine, env=env)
+    return run_tool([machine / "tools" / "setup", *words], machine, env=env)
 
 
 def calls(machine: pathlib.Path) -> list[str]:
@@ -61,41 +61,41 @@ def calls(machine: pathlib.Path) -> list[str]:
 @pytest.mark.parametrize("update", [0, 100])
 def test_root_installs_what_is_missing(machine: pathlib.Path, update: int) -> None:
     """Also if the package lists can't be updated."""
-    told = run_setup(machine, update=update)
-    assert told.status == 0, told.stderr
+    got = run_setup(machine, update=update)
+    assert got.status == 0, got.stderr
     assert calls(machine) == INSTALLED
 
 
 def test_sudo_installs_what_is_missing(machine: pathlib.Path) -> None:
-    told = run_setup(machine, user=1000, sudo="free")
-    assert told.status == 0, told.stderr
+    got = run_setup(machine, user=1000, sudo="free")
+    assert got.status == 0, got.stderr
     assert [call for call in calls(machine) if call.startswith("apt-get")] == INSTALLED
     assert all(call.startswith(("apt-get", "sudo -n ")) for call in calls(machine)), "sudo asks for no password"
 
 
 def test_a_user_without_rights_gets_the_command(machine: pathlib.Path) -> None:
-    told = run_setup(machine, user=1000)
-    assert (told.status, told.stdout, told.stderr.splitlines()[1:]) == (1, "", [LINE])
+    got = run_setup(machine, user=1000)
+    assert (got.status, got.stdout, got.stderr.splitlines()[1:]) == (1, "", [LINE])
     assert calls(machine) == ["sudo -n true"]
 
 
 def test_a_machine_without_sudo_gets_the_command(machine: pathlib.Path) -> None:
     write_script(machine / "bin" / "sudo", "#!/nonesuch/interpreter\n")
-    told = run_setup(machine, user=1000)
-    assert (told.status, told.stderr.splitlines()[-1], calls(machine)) == (1, LINE, [])
+    got = run_setup(machine, user=1000)
+    assert (got.status, got.stderr.splitlines()[-1], calls(machine)) == (1, LINE, [])
 
 
 def test_nothing_is_installed_if_nothing_is_missing(machine: pathlib.Path) -> None:
     for name in ("plain", "second", "x"):
         write_script(machine / "bin" / name, "")
-    assert run_setup(machine, user=1000) == Told(0, "", "")
+    assert run_setup(machine, user=1000) == Done(0, "", "")
     assert calls(machine) == []
 
 
 def test_an_incomplete_package_is_an_error(machine: pathlib.Path) -> None:
     (machine / "installs").write_text("bin/plain bin/x")
-    told = run_setup(machine)
-    assert (told.status, told.stderr.splitlines()[-1]) == (1, "setup: these packages are still incomplete: two-words")
+    got = run_setup(machine)
+    assert (got.status, got.stderr.splitlines()[-1]) == (1, "setup: these packages are still incomplete: two-words")
 
 
 def test_a_failed_installation_is_an_error(machine: pathlib.Path) -> None:
@@ -111,25 +111,25 @@ def test_only_modules_of_debians_python_count(machine: pathlib.Path, module: str
     (machine / "x_of_python" / "__init__.py").touch()
     (machine / "x_of_python" / "inner.py").touch()
     env = {"PATH": "/usr/bin:/bin", "PYTHONPATH": str(machine)}
-    assert printed_by(["tools/setup", "--missing"], machine, env=env).split() == MISSING
+    assert output_of(["tools/setup", "--missing"], machine, env=env).split() == MISSING
     (machine / "tools" / "packages").write_text("[testing]\npython3-x   module json email.message\n")
-    assert printed_by(["tools/setup", "--missing"], machine, env=env) == ""
+    assert output_of(["tools/setup", "--missing"], machine, env=env) == ""
 
 
 def test_the_table_has_a_row_for_each_heading(machine: pathlib.Path) -> None:
-    assert printed_by(["tools/setup", "--table"], machine).splitlines() == [
+    assert output_of(["tools/setup", "--table"], machine).splitlines() == [
         "| Package | What needs it |", "|---|---|", "| `low`, `plain` | building |",
         "| `two-words`, `python3-x` | testing |"]
 
 
 def test_another_word_is_a_usage_error(machine: pathlib.Path) -> None:
-    assert run_setup(machine, "--help") == Told(2, "", "usage: tools/setup [--missing|--table]\n")
+    assert run_setup(machine, "--help") == Done(2, "", "usage: tools/setup [--missing|--table]\n")
 
 
 # The list
 
 def test_the_page_has_the_table(top: pathlib.Path) -> None:
-    table = printed_by(["tools/setup", "--table"], top)
+    table = output_of(["tools/setup", "--table"], top)
     assert f"\n\n{table}" in INSTALL.read_text(), "`tools/setup --table` prints the table"
 
 
@@ -142,7 +142,7 @@ def test_each_package_is_listed_once() -> None:
 
 def test_what_the_tests_need_is_in_a_package(top: pathlib.Path) -> None:
     """Every command and module that a test looks for."""
-    asked = re.compile(r"\b(?:need|need_module|need_of_debian)\(\"([\w+-]+)\"\)|\bshutil\.which\(\"([\w-]+)\"\)")
+    asked = re.compile(r"\b(?:tool|require_module|require_debian_module)\(\"([\w+-]+)\"\)|\bshutil\.which\(\"([\w-]+)\"\)")
     found = {path: [first or second for first, second in asked.findall(path.read_text())]
              for folder in ("tests", "python/tests") for path in (top / folder).rglob("*.py")}
     names = {name for each in found.values() for name in each} - {"rt"}

@@ -6,8 +6,8 @@ from html.parser import HTMLParser
 from urllib.parse import unquote, urlsplit
 
 import pytest
-from support.needs import need
-from support.tools import need_of_debian, printed_by, told_by
+from support.needs import tool
+from support.tools import require_debian_module, output_of, run_tool
 
 TOP = pathlib.Path(__file__).resolve().parent.parent
 PAGES = sorted(str(page.relative_to(TOP).with_suffix("")) for pattern in ("*.md", "*/*.md", "docs/*/*.md")
@@ -61,12 +61,12 @@ def broken(folder: pathlib.Path) -> list[str]:
 @pytest.fixture(scope="module")
 def site(top: pathlib.Path, tmp_path_factory: pytest.TempPathFactory) -> pathlib.Path:
     """The site, which is made without a built library, and of which no warning is printed."""
-    need("doxygen")
+    tool("doxygen")
     for module in ("sphinx", "numpydoc", "myst_parser", "numpy"):
-        need_of_debian(module)
+        require_debian_module(module)
     folder = tmp_path_factory.mktemp("site") / "made"
-    told = told_by([top / "tools" / "site" / "build", folder], top)
-    assert told == (0, f"{folder}/index.html\n", "")
+    got = run_tool([top / "tools" / "site" / "build", folder], top)
+    assert got == (0, f"{folder}/index.html\n", "")
     return folder
 
 
@@ -109,12 +109,12 @@ def test_the_definitions_are_in_the_site(site: pathlib.Path) -> None:
 def test_the_site_is_made_again_and_replaces_nothing_else(top: pathlib.Path, folder: pathlib.Path,
                                                           site: pathlib.Path) -> None:
     (folder / "kept").write_text("mine\n")
-    told = told_by([top / "tools" / "site" / "build", folder], top)
-    assert (told.status, told.stderr) == (1, f"site/build: {folder} holds something else than a site\n")
+    got = run_tool([top / "tools" / "site" / "build", folder], top)
+    assert (got.status, got.stderr) == (1, f"site/build: {folder} holds something else than a site\n")
     assert [path.name for path in folder.iterdir()] == ["kept"]
     before = (site / "index.html").read_bytes()
     (site / "old.html").touch()
-    printed_by([top / "tools" / "site" / "build", site], top)
+    output_of([top / "tools" / "site" / "build", site], top)
     assert (site / "index.html").read_bytes() == before and not (site / "old.html").exists()
 
 

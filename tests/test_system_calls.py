@@ -8,7 +8,7 @@ from typing import NamedTuple
 import pytest
 from support.files import TITLE, generated
 from support.lines import ANSWERS, CHECK, CONVERT, GENERATE, PRINTING, SOLVE, TABLE, VALUE, refused, unwritten
-from support.needs import missing, need
+from support.needs import missing, tool
 from support.program import Program, Ran
 
 # COMMANDS.md: "Standard output goes through a buffer of 8,192 bytes". The longest part of a text that goes into it at
@@ -34,9 +34,9 @@ class Tracer:
 
     def run(self, line: str, folder: pathlib.Path, *options: str) -> tuple[Ran, list[Call]]:
         """Run the program; also return the calls that these options of strace select."""
-        told = folder / "trace"
-        ran = self.strace.run(["--quiet=all", "-o", str(told), *options, *self.pfs.words(line)], folder)
-        found = re.findall(r"^(\w+)\((.*)\) += (-?\d+)", told.read_text(), re.MULTILINE)
+        got = folder / "trace"
+        ran = self.strace.run(["--quiet=all", "-o", str(got), *options, *self.pfs.words(line)], folder)
+        found = re.findall(r"^(\w+)\((.*)\) += (-?\d+)", got.read_text(), re.MULTILINE)
         return ran, [Call(name, arguments, int(result)) for name, arguments, result in found]
 
     def calls(self, line: str, folder: pathlib.Path, names: str, *files: str) -> list[str]:
@@ -56,7 +56,7 @@ class Tracer:
 
 @pytest.fixture(scope="session")
 def tracer(pfs: Program) -> Tracer:
-    strace = need("strace")
+    strace = tool("strace")
     if subprocess.run([strace, "-o", "/dev/null", "true"], stderr=subprocess.DEVNULL).returncode != 0:
         missing("strace may not trace a program here")
     return Tracer(strace, pfs)
@@ -76,30 +76,30 @@ def test_files_are_opened_in_order(tracer: Tracer, worked: pathlib.Path, line: s
     (VALUE, "three"), (SOLVE, "three"), (CONVERT, "three"), (CHECK, "three"), (TABLE, "three"), (CHECK, "best"),
     (TABLE, "best"),
 ])
-@pytest.mark.parametrize("error, told", [
+@pytest.mark.parametrize("error, got", [
     ("ENOMEM", "no memory"), ("EACCES", "cannot open"), ("EMFILE", "cannot open"), ("ENFILE", "cannot open"),
     ("EIO", "cannot open"),
 ])
 def test_a_failed_open_is_reported(tracer: Tracer, worked: pathlib.Path, line: str, file: str, error: str,
-                                   told: str) -> None:
+                                   got: str) -> None:
     """ENOMEM is reported as `no memory`, any other error as a file that can't be opened."""
     ran, calls = tracer.run(line, worked, "-P", file, "-e", "trace=openat", "-e", f"inject=openat:error={error}")
-    assert (ran, [call.result for call in calls]) == (refused(told), [-1])
+    assert (ran, [call.result for call in calls]) == (refused(got), [-1])
 
 
 # Reading
 
-@pytest.mark.parametrize("line, file, told", [
+@pytest.mark.parametrize("line, file, got", [
     (VALUE, "three", "read failed"), (SOLVE, "three", "read failed"), (CONVERT, "three", "read failed"),
     (CHECK, "three", "read failed"), (TABLE, "three", "read failed"), (CHECK, "best", "order file read failed"),
     (TABLE, "best", "order file read failed"),
 ])
 @pytest.mark.parametrize("error", ["EINTR", "EIO", "EAGAIN", "ENOMEM"])
 def test_a_failed_read_is_reported_and_not_repeated(tracer: Tracer, worked: pathlib.Path, line: str, file: str,
-                                                    told: str, error: str) -> None:
+                                                    got: str, error: str) -> None:
     """Not even one that was interrupted."""
     ran, calls = tracer.run(line, worked, "-P", file, "-e", "trace=read", "-e", f"inject=read:error={error}")
-    assert (ran, [call.result for call in calls]) == (refused(told), [-1])
+    assert (ran, [call.result for call in calls]) == (refused(got), [-1])
 
 
 # Writing

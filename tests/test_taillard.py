@@ -11,7 +11,7 @@ import tomllib
 import pytest
 from support.files import generated
 from support.program import Program, Ran
-from support.tools import Told, printed_by, told_by, write_script
+from support.tools import Done, output_of, run_tool, write_script
 
 SIZES = [(20, 5), (20, 10), (20, 20), (50, 5), (50, 10), (50, 20), (100, 5), (100, 10), (100, 20), (200, 10),
          (200, 20), (500, 20)]
@@ -33,7 +33,7 @@ def listed(top: pathlib.Path) -> dict[str, dict[str, str]]:
 def shops(top: pathlib.Path, pfs: Program, tmp_path_factory: pytest.TempPathFactory) -> pathlib.Path:
     """A folder with the instances."""
     folder = tmp_path_factory.mktemp("taillard")
-    printed_by([top / "experiments" / "taillard", "shops", pfs.path], folder)
+    output_of([top / "experiments" / "taillard", "shops", pfs.path], folder)
     return folder / "shops"
 
 
@@ -86,16 +86,16 @@ def best_known(top: pathlib.Path) -> dict[str, int]:
 def test_a_killed_program_leaves_no_part_of_an_instance(top: pathlib.Path, folder: pathlib.Path) -> None:
     """Under the name of an instance there is a whole one or none."""
     program = write_script(folder / "pfs", "#!/bin/sh\necho half\ncase \"$*\" in *' 379008056') kill -9 $$;; esac\n")
-    told = told_by([top / "experiments" / "taillard", "shops", program], folder)
-    assert told.status != 0, "the script says nothing of the program that was killed"
+    got = run_tool([top / "experiments" / "taillard", "shops", program], folder)
+    assert got.status != 0, "the script says nothing of the program that was killed"
     whole = sorted(path.name for path in (folder / "shops").iterdir() if path.suffix != ".new")
     assert whole == ["ta001"], "a part of ta002 has the name of the whole instance"
 
 
 @pytest.mark.parametrize("words", [[], ["--help"], ["a", "b", "c"]], ids=["none", "an option", "too many"])
 def test_other_words_get_the_usage(words: list[str], top: pathlib.Path, folder: pathlib.Path) -> None:
-    told = told_by([top / "experiments" / "taillard", *words], folder)
-    assert told == Told(2, "", "usage: experiments/taillard FOLDER [PROGRAM]\n")
+    got = run_tool([top / "experiments" / "taillard", *words], folder)
+    assert got == Done(2, "", "usage: experiments/taillard FOLDER [PROGRAM]\n")
     assert list(folder.iterdir()) == []
 
 

@@ -7,7 +7,7 @@ from collections.abc import Callable
 from typing import NamedTuple
 
 import pytest
-from support.needs import need
+from support.needs import tool
 from test_completions import FILES, Answer, fish, run_all, zsh
 
 TOP = pathlib.Path(__file__).resolve().parent.parent
@@ -74,7 +74,7 @@ def bash(asked: list[str], folder: pathlib.Path) -> list[Answer]:
 
 @pytest.mark.parametrize("shell", ["bash", "fish", "zsh"])
 def test_the_tools_options_commands_and_files_are_offered(shell: str, folder: pathlib.Path) -> None:
-    need(shell)
+    tool(shell)
     here = folder / "files"
     (here / "folder").mkdir(parents=True)
     for name in FILES:

@@ -7,9 +7,9 @@ import subprocess
 
 import pytest
 from support.files import THREE_JOBS
-from support.needs import missing, need
+from support.needs import missing, tool
 from support.program import Program
-from support.tools import Told, told_by, with_path
+from support.tools import Done, run_tool, with_path
 
 TOP = pathlib.Path(__file__).resolve().parent.parent
 ORDER = "order2 3 2\n2 1 3\nmakespan 10\n"
@@ -26,7 +26,7 @@ def line() -> str:
 def place(folder: pathlib.Path, pfs: Program) -> pathlib.Path:
     """A folder with the program, an instance, an order and the largest instance."""
     for command in ("prlimit", "setpriv", "timeout", "unshare"):
-        need(command)
+        tool(command)
     if subprocess.run(["unshare", "--user", "--net", "--ipc", "true"], capture_output=True).returncode != 0:
         missing("this system allows no user namespaces")
     (folder / "bin").mkdir()
@@ -36,20 +36,20 @@ def place(folder: pathlib.Path, pfs: Program) -> pathlib.Path:
     return folder
 
 
-def run(text: str, place: pathlib.Path) -> Told:
-    return told_by(["bash", "-c", text], place, env=with_path(place / "bin"))
+def run(text: str, place: pathlib.Path) -> Done:
+    return run_tool(["bash", "-c", text], place, env=with_path(place / "bin"))
 
 
 def test_the_line_changes_no_result(place: pathlib.Path) -> None:
-    assert run(line(), place) == Told(0, "valid\nmakespan 10\nbound 10\noptimal\n", "")
+    assert run(line(), place) == Done(0, "valid\nmakespan 10\nbound 10\noptimal\n", "")
     (place / "ORDER").write_text(ORDER.replace("10", "9"))
     assert run(line(), place).stdout == "wrong makespan\nstated 9\ncomputed 10\n"
 
 
 @pytest.mark.parametrize("name", ["/dev/zero", "/dev/urandom"])
 def test_a_file_without_an_end_is_rejected(name: str, place: pathlib.Path) -> None:
-    told = run(line().replace("FILE", name), place)
-    assert (told.status, told.stdout) == (2, "") and told.stderr.count("\n") == 1
+    got = run(line().replace("FILE", name), place)
+    assert (got.status, got.stdout) == (2, "") and got.stderr.count("\n") == 1
 
 
 @pytest.mark.seconds(5)
@@ -58,14 +58,14 @@ def test_the_largest_instance_has_enough_memory_and_a_search_of_it_ends_in_time(
     checked = line().replace("check --layout taillard FILE ORDER", "value --layout taillard FILE")
     assert "value" in checked and run(checked, place).status == 0
     searched = line().replace("check --layout taillard FILE ORDER", "solve --layout taillard --rounds 1000000 FILE")
-    assert "60" in searched and run(searched.replace("timeout 60", "timeout 1"), place) == Told(124, "", "")
+    assert "60" in searched and run(searched.replace("timeout 60", "timeout 1"), place) == Done(124, "", "")
     smaller = re.sub(r"--as=\d+", "--as=16000000", searched)
-    assert run(smaller, place) == Told(4, "", "pfs: no memory\n")
+    assert run(smaller, place) == Done(4, "", "pfs: no memory\n")
 
 
 def test_the_program_has_no_network_and_gets_no_privileges(place: pathlib.Path) -> None:
     """By what another program sees in its place."""
     looking = line().replace("pfs check --layout taillard FILE ORDER",
                              "sh -c 'cat /proc/net/dev | tail -n +3 | cut -d: -f1; grep NoNewPrivs /proc/self/status'")
-    told = run(re.sub(r"--as=\d+", "--as=1000000000", looking), place)
-    assert told.stdout.split() == ["lo", "NoNewPrivs:", "1"], told
+    got = run(re.sub(r"--as=\d+", "--as=1000000000", looking), place)
+    assert got.stdout.split() == ["lo", "NoNewPrivs:", "1"], got

@@ -54,9 +54,9 @@ WRONG_MACHINES = printed("wrong machines", "order 3", "machines 2")._replace(sta
 TIME_TABLE = printed("table 3 2", "2 0 2 2 7", "1 2 5 7 9", "3 5 9 9 10", "makespan 10")
 
 
-def refused(told: str) -> Ran:
+def refused(got: str) -> Ran:
     """A run that rejects a file: it prints nothing and reports this fault."""
-    return Ran(b"", f"pfs: {told}\n".encode(), 2)
+    return Ran(b"", f"pfs: {got}\n".encode(), 2)
 
 
 # Order files for the three jobs, and the verdict on each.
@@ -185,9 +185,9 @@ def test_convert_writes_the_requested_block(pfs: Program, folder: pathlib.Path) 
     assert ran == Ran(THREE_JOBS, b"", 0)
 
 
-@pytest.mark.parametrize("file, told", UNCONVERTED, ids=[told for _, told in UNCONVERTED])
-def test_convert_writes_nothing_of_an_invalid_file(pfs: Program, folder: pathlib.Path, file: bytes, told: str) -> None:
-    assert run(pfs, folder, "convert --from taillard --to orlib", file) == refused(told)
+@pytest.mark.parametrize("file, got", UNCONVERTED, ids=[got for _, got in UNCONVERTED])
+def test_convert_writes_nothing_of_an_invalid_file(pfs: Program, folder: pathlib.Path, file: bytes, got: str) -> None:
+    assert run(pfs, folder, "convert --from taillard --to orlib", file) == refused(got)
 
 
 @pytest.mark.parametrize("words, times", GENERATED, ids=[words for words, _ in GENERATED])

@@ -55,13 +55,13 @@ def test_cells_are_printed_only_with_the_option(pfs: Program, folder: pathlib.Pa
 
 
 @pytest.mark.parametrize("rounds", [0, 1, 1000000])
-@pytest.mark.parametrize("file, told, status", [
+@pytest.mark.parametrize("file, got, status", [
     (THREE_JOBS, b"pfs: take 4 exceeds 3 jobs\n", 3),
     (b"3 2 0 0 0\n", b"pfs: truncated after 0 times\n", 2),
 ], ids=["a whole file", "a cut file"])
-def test_the_take_is_checked_after_the_file(pfs: Program, folder: pathlib.Path, file: bytes, told: bytes, status: int,
+def test_the_take_is_checked_after_the_file(pfs: Program, folder: pathlib.Path, file: bytes, got: bytes, status: int,
                                             rounds: int) -> None:
-    assert solve(pfs, folder, file, f"--rounds {rounds} --take 4 --cells ") == Ran(b"", told, status)
+    assert solve(pfs, folder, file, f"--rounds {rounds} --take 4 --cells ") == Ran(b"", got, status)
 
 
 def test_the_take_is_checked_before_anything_is_written(pfs: Program, folder: pathlib.Path) -> None:

@@ -19,13 +19,13 @@ SHOPS = [pfs.generate(8, 3, 1), pfs.generate(9, 2, 2), pfs.generate(8, 3, 1)]
 @pytest.mark.parametrize("workers", [1, 3])
 def test_the_solutions_are_those_of_each_search(workers: int) -> None:
     words: dict[str, Any] = {"take": 2, "passes": 1}
-    told: list[tuple[int, ...]] = []
+    got: list[tuple[int, ...]] = []
     found = pfs.solve_all(iter(SHOPS), (seed for seed in (5, 2**64 - 1)), 40, workers=workers,
-                          progress=lambda *line: told.append(line), **words)
+                          progress=lambda *line: got.append(line), **words)
     assert list(found) == [(place, seed) for place in range(3) for seed in (5, 2**64 - 1)]
     for (place, seed), best in found.items():
         assert best == SHOPS[place].solve(40, seed=seed, **words)
-    assert told == [(number, 6) for number in range(1, 7)]
+    assert got == [(number, 6) for number in range(1, 7)]
 
 
 def test_the_defaults() -> None:
@@ -44,11 +44,11 @@ def test_what_was_found_is_not_searched_again() -> None:
     """Finished searches are taken as they are, and unfinished ones continue."""
     half = SHOPS[0].solve(15, seed=1)
     whole = SHOPS[1].solve(40, seed=1)
-    told: list[tuple[int, ...]] = []
+    got: list[tuple[int, ...]] = []
     found = pfs.solve_all(SHOPS[:2], [1], 40, workers=1, found={(0, 1): half, (1, 1): whole, (7, 7): whole},
-                          progress=lambda *line: told.append(line))
+                          progress=lambda *line: got.append(line))
     assert found == {(0, 1): SHOPS[0].solve(40, seed=1), (1, 1): whole}
-    assert told == [(2, 2)], "a finished search is made again"
+    assert got == [(2, 2)], "a finished search is made again"
     shop = pfs.taillard(1)
     near = shop.solve(124)
     assert pfs.solve_all([shop], [0], 1000, target=1278, found={(0, 0): near}) == {(0, 0): near}

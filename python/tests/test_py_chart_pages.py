@@ -70,11 +70,11 @@ class Sheet:
         below = [text for text in self.texts if text["y"] > self.rows[-1]]
         self.marks = {text["x"]: text["text"] for text in below if text["x"] in ticks}
         (first, *_, last) = sorted(self.marks)
-        self.unit = (self.time_told(last) - self.time_told(first)) / (last - first)
-        self.zero = first - self.time_told(first) / self.unit
+        self.unit = (self.time_stated(last) - self.time_stated(first)) / (last - first)
+        self.zero = first - self.time_stated(first) / self.unit
         self.bars, self.boxes = ([self.bar(shape) for shape in drawn[kind]] for kind in ("fills", "boxes"))
 
-    def time_told(self, x: float) -> float:
+    def time_stated(self, x: float) -> float:
         return float(self.marks[x].replace(",", "")) * float(10**self.shop.decimals)
 
     def time(self, x: float) -> float:
@@ -235,7 +235,7 @@ def idle_of(made: pfs.Schedule) -> list[str]:
 
 
 @TOGETHER
-def test_each_row_tells_its_machines_idle_share(whole: Sheet) -> None:
+def test_each_row_has_its_machines_idle_share(whole: Sheet) -> None:
     due = idle_of(schedule())
     assert whole.shares() == {0: due[0] + " idle", 1: due[1], 2: due[2]}
 

@@ -50,14 +50,14 @@ def start(words: list[str], folder: pathlib.Path, env: dict[str, str] | None = N
 
 def run(words: list[str], folder: pathlib.Path, status: int = 0, error: str = "") -> str:
     child = start(words, folder)
-    printed, told = child.communicate(timeout=60)
-    assert (child.returncode, without_summary(told.decode())) == (status, error)
+    printed, got = child.communicate(timeout=60)
+    assert (child.returncode, without_summary(got.decode())) == (status, error)
     return printed.decode()
 
 
-def without_summary(told: str) -> str:
+def without_summary(got: str) -> str:
     """What a plan prints on standard error after the line that says what it read."""
-    return re.sub(r"\A\d+ jobs?, \d+ machines?, times .*\n", "", told)
+    return re.sub(r"\A\d+ jobs?, \d+ machines?, times .*\n", "", got)
 
 
 def wait_until(has_come: Callable[[], bool]) -> None:
@@ -118,8 +118,8 @@ def test_a_time_limit(folder: pathlib.Path, program: str) -> None:
     printed = run([*LONG, "--seconds", "0.7", "--state", "state"], folder)
     assert time.monotonic() - begun > 0.6
     (folder / "order").write_text(printed)
-    told = plainly.run([program, "check", "--layout", "taillard", str(folder / "shop"), str(folder / "order")])
-    assert told.startswith("valid\n")
+    got = plainly.run([program, "check", "--layout", "taillard", str(folder / "shop"), str(folder / "order")])
+    assert got.startswith("valid\n")
     assert rounds_in(folder) > 0 and printed == shop_in(folder).solve(rounds_in(folder)).to_text()
 
 
@@ -128,8 +128,8 @@ def test_a_signal_ends_it_with_the_best_order(folder: pathlib.Path, program: str
     child = start([*LONG, "--state", "state"], folder)
     wait_until(lambda: rounds_in(folder) > 20)
     child.send_signal(number)
-    printed, told = child.communicate(timeout=30)
-    assert (child.returncode, told) == (128 + number, b"")
+    printed, got = child.communicate(timeout=30)
+    assert (child.returncode, got) == (128 + number, b"")
     (folder / "order").write_bytes(printed)
     assert plainly.run([program, "check", "--layout", "taillard", str(folder / "shop"),
                         str(folder / "order")]).startswith("valid\n")
@@ -162,8 +162,8 @@ def test_two_signals_at_once(folder: pathlib.Path) -> None:
     wait_until(lambda: rounds_in(folder) > 0)
     for number in (signal.SIGSTOP, signal.SIGINT, signal.SIGTERM, signal.SIGCONT):
         child.send_signal(number)
-    printed, told = child.communicate(timeout=60)
-    assert (child.returncode, told) == (128 + signal.SIGINT, b"")
+    printed, got = child.communicate(timeout=60)
+    assert (child.returncode, got) == (128 + signal.SIGINT, b"")
     assert printed.decode() == shop_in(folder).solve(rounds_in(folder)).to_text()
 
 
@@ -295,8 +295,8 @@ def test_a_table_without_end(folder: pathlib.Path, path: str) -> None:
 def test_other_files_without_end(folder: pathlib.Path, words: list[str]) -> None:
     """Their limits differ, or their first bytes are wrong."""
     child = start(words, folder)
-    printed, told = child.communicate(timeout=60)
-    assert (child.returncode, printed, told.count(b"\n")) == (2, b"", 1), told
+    printed, got = child.communicate(timeout=60)
+    assert (child.returncode, printed, got.count(b"\n")) == (2, b"", 1), got
 
 
 def test_two_searches_with_one_state(folder: pathlib.Path) -> None:
@@ -306,8 +306,8 @@ def test_two_searches_with_one_state(folder: pathlib.Path) -> None:
     run([*LONG, "--state", "other", "--rounds", "2"], folder)
     assert first.poll() is None, "the second search has ended the first"
     first.send_signal(signal.SIGTERM)
-    printed, told = first.communicate(timeout=60)
-    assert (first.returncode, told) == (128 + signal.SIGTERM, b"")
+    printed, got = first.communicate(timeout=60)
+    assert (first.returncode, got) == (128 + signal.SIGTERM, b"")
     done = rounds_in(folder)
     assert printed.decode() == shop_in(folder).solve(done).to_text()
     assert {path.name for path in folder.iterdir()} == {"shop", "state", "other"}
@@ -321,12 +321,12 @@ def test_links_in_the_place_of_other_files_are_not_followed(folder: pathlib.Path
     (folder / "precious").write_text("kept")
     (folder / name).symlink_to("precious")
     child = start([*LONG, "--rounds", "3", "--state", "state"], folder)
-    printed, told = child.communicate(timeout=60)
+    printed, got = child.communicate(timeout=60)
     assert (folder / "precious").read_text() == "kept", f"{name} was written through a link"
     if name == "state.new":
-        assert (child.returncode, told, rounds_in(folder)) == (0, b"", 3)
+        assert (child.returncode, got, rounds_in(folder)) == (0, b"", 3)
     else:
-        assert child.returncode == 4 and told.startswith(b"pfs: [Errno 40] Too many levels of symbolic links: 'state'")
+        assert child.returncode == 4 and got.startswith(b"pfs: [Errno 40] Too many levels of symbolic links: 'state'")
         assert printed.decode() == shop_in(folder).neh().to_text()
 
 
@@ -373,24 +373,24 @@ def on_a_terminal(words: list[str], folder: pathlib.Path) -> tuple[str, str]:
     child = subprocess.Popen([sys.executable, "-m", "pfs", *words], cwd=folder, env=environment(),
                              stdin=subprocess.DEVNULL, stdout=subprocess.PIPE, stderr=theirs)
     os.close(theirs)
-    told, end = b"", time.monotonic() + 60
+    got, end = b"", time.monotonic() + 60
     with contextlib.suppress(OSError):
         while select.select([ours], [], [], end - time.monotonic())[0]:
-            told += os.read(ours, 65536)
+            got += os.read(ours, 65536)
     os.close(ours)
     printed = child.communicate(timeout=30)[0]
     assert child.returncode == 0
-    return printed.decode(), told.decode()
+    return printed.decode(), got.decode()
 
 
-def test_progress_is_told_on_a_terminal_only(folder: pathlib.Path) -> None:
-    printed, told = on_a_terminal([*LONG, "--rounds", "400"], folder)
+def test_progress_is_reported_on_a_terminal_only(folder: pathlib.Path) -> None:
+    printed, got = on_a_terminal([*LONG, "--rounds", "400"], folder)
     assert printed == run([*LONG, "--rounds", "400"], folder)
-    lines = [line for line in told.replace("\x1b[K", "").split("\r") if line]
+    lines = [line for line in got.replace("\x1b[K", "").split("\r") if line]
     shop = shop_in(folder)
     assert lines[0] == f"round 0 of 400, makespan {shop.neh().makespan}, bound {shop.bound()}"
     assert lines[-1].startswith(f"round 400 of 400, makespan {shop.solve(400).makespan}, bound {shop.bound()}, 0:00:0")
-    assert lines[-1].endswith(" left") and told.endswith("\r\x1b[K") and "\n" not in told
+    assert lines[-1].endswith(" left") and got.endswith("\r\x1b[K") and "\n" not in got
 
 
 @pytest.mark.parametrize(("words", "status", "error"), [
@@ -426,12 +426,12 @@ def test_what_is_rejected_is_rejected_before_the_search(folder: pathlib.Path, wo
     (folder / "other").write_text("another file")
     child = start([*words, "--rounds", "1000000"], folder)
     try:
-        told = child.communicate(timeout=30)[1].decode()
+        got = child.communicate(timeout=30)[1].decode()
     except subprocess.TimeoutExpired:
         pytest.fail(f"a search is made before {words} are rejected")
     finally:
         child.kill()
-    assert child.returncode == status and error in told and told.count("\n") == 1, told
+    assert child.returncode == status and error in got and got.count("\n") == 1, got
 
 
 def asked(folder: pathlib.Path, monkeypatch: pytest.MonkeyPatch, words: list[str]) -> dict[str, Any]:
@@ -454,21 +454,21 @@ OTHERS = {"rounds": "7", "take": "5", "passes": "1", "seed": "3", "block": "2"}
 
 
 @pytest.mark.parametrize("command", ["search", "plan"])
-def test_the_defaults_that_the_help_tells(folder: pathlib.Path, monkeypatch: pytest.MonkeyPatch, command: str) -> None:
+def test_the_defaults_that_the_help_states(folder: pathlib.Path, monkeypatch: pytest.MonkeyPatch, command: str) -> None:
     """Each is what the option's absence means, and another value means something else."""
     (folder / "shop").write_text(pfs.generate(9, 3, 1).to_text() + pfs.generate(9, 3, 2).to_text())
     (folder / "times.csv").write_text(TABLE.replace("box", "box;1;1;6\nbin"))
     line = {"search": ["search", "shop", "--layout", "taillard"], "plan": ["plan", "times.csv"]}[command]
     text = re.sub(r"\s+", " ", run([command, "--help"], folder))
-    told = dict(re.findall(r"--(rounds|take|passes|seed) \w (?:(?! --).)*?\belse ([\d,]+)", text))
+    got = dict(re.findall(r"--(rounds|take|passes|seed) \w (?:(?! --).)*?\belse ([\d,]+)", text))
     if command == "search":
         assert "--block K counted from 1" in text
-        told["block"] = "1"
+        got["block"] = "1"
     if command == "plan":
-        told["rounds"] = re.findall(r"a plan without a time limit ([\d,]+)", text)[0]
-    assert told.keys() == OTHERS.keys() - ({"block"} if command == "plan" else set()), f"defaults in the help: {told}"
+        got["rounds"] = re.findall(r"a plan without a time limit ([\d,]+)", text)[0]
+    assert got.keys() == OTHERS.keys() - ({"block"} if command == "plan" else set()), f"defaults in the help: {got}"
     usual = asked(folder, monkeypatch, line)
-    for name, value in told.items():
+    for name, value in got.items():
         given = asked(folder, monkeypatch, [*line, f"--{name}", value.replace(",", "")])
         assert given == usual, f"the help of {command} tells {value} as the default of --{name}"
         assert asked(folder, monkeypatch, [*line, f"--{name}", OTHERS[name]])[name] != usual[name]
@@ -476,7 +476,7 @@ def test_the_defaults_that_the_help_tells(folder: pathlib.Path, monkeypatch: pyt
     assert limited["rounds"] == 1_000_000 == int(re.findall(r"else ([\d,]+), and", text)[0].replace(",", ""))
 
 
-def test_the_help_tells_the_ranges(folder: pathlib.Path) -> None:
+def test_the_help_states_the_ranges(folder: pathlib.Path) -> None:
     """The ends are taken, and what is beyond them isn't."""
     text = re.sub(r"\s+", " ", run(["search", "--help"], folder))
     found = {name: (int(least), int(most)) for name, least, most in
@@ -516,8 +516,8 @@ def test_memory_that_runs_out_is_reported_on_one_line(folder: pathlib.Path, monk
     [*LONG, "--block", "0"], ["search", "shop", "--layout", "csv"], ["plan"]])
 def test_words_that_no_command_takes(folder: pathlib.Path, words: list[str]) -> None:
     child = start(words, folder)
-    printed, told = child.communicate(timeout=60)
-    assert (child.returncode, printed) == (3, b"") and told.startswith(b"usage: ")
+    printed, got = child.communicate(timeout=60)
+    assert (child.returncode, printed) == (3, b"") and got.startswith(b"usage: ")
 
 
 def test_a_full_disk(folder: pathlib.Path) -> None:
@@ -659,9 +659,9 @@ def test_what_cant_be_written_loses_no_order(folder: pathlib.Path, options: list
     # What can be written besides is written.
     others = ["--chart", "well.html"] if options[0] == "--schedule" else ["--schedule", "well.csv"]
     child = start(["plan", "times.csv", *options, *others], folder)
-    out, told = child.communicate(timeout=60)
+    out, got = child.communicate(timeout=60)
     assert (child.returncode, out.decode()) == (4, printed)
-    fault = without_summary(told.decode())
+    fault = without_summary(got.decode())
     assert fault.startswith(error) and fault.count("\n") == 1, fault
     assert (folder / others[1]).stat().st_size > 0
 
@@ -696,8 +696,8 @@ def test_an_output_that_fails_keeps_no_other_one_back(folder: pathlib.Path, monk
     monkeypatch.setattr(pfs.Schedule, failing, fail)
     assert _commands.main(["plan", "times.csv", "--schedule", "out.csv", "--chart", "out.html"]) == 4
     line = "pfs: no memory\n" if kind is MemoryError else "pfs: it fails\n"
-    out, told = capsys.readouterr()
-    assert (out, without_summary(told)) == (printed, line)
+    out, got = capsys.readouterr()
+    assert (out, without_summary(got)) == (printed, line)
     other = {"to_csv": "out.html", "plot": "out.csv"}[failing]
     assert (folder / other).exists(), f"{other} isn't written where {failing} raises {kind.__name__}"
 
@@ -705,17 +705,17 @@ def test_an_output_that_fails_keeps_no_other_one_back(folder: pathlib.Path, monk
 def test_a_state_that_cant_be_written_loses_no_order(folder: pathlib.Path) -> None:
     """The search ends there with what it has."""
     child = start([*LONG, "--state", "none/state"], folder)
-    printed, told = child.communicate(timeout=60)
+    printed, got = child.communicate(timeout=60)
     assert (child.returncode, printed.decode()) == (4, shop_in(folder).neh().to_text())
-    assert told.decode().startswith("pfs: [Errno 2] No such file or directory: 'none/state")
-    assert told.count(b"\n") == 1
+    assert got.decode().startswith("pfs: [Errno 2] No such file or directory: 'none/state")
+    assert got.count(b"\n") == 1
     # Later, when some rounds are done.
     (folder / "kept").mkdir()
     child = start([*LONG, "--state", "kept/state"], folder)
     wait_until(lambda: rounds_in(folder / "kept") > 20)
     (folder / "kept").rename(folder / "moved")
-    printed, told = child.communicate(timeout=60)
-    assert child.returncode == 4 and told.count(b"\n") == 1, told
+    printed, got = child.communicate(timeout=60)
+    assert child.returncode == 4 and got.count(b"\n") == 1, got
     (folder / "order").write_bytes(printed)
     best = pfs.read_order(folder / "order")
     assert shop_in(folder).solve(rounds_in(folder / "moved")).makespan >= best.makespan
@@ -742,15 +742,15 @@ def test_names_that_a_terminal_would_take_for_commands(folder: pathlib.Path) -> 
 def test_words_that_a_terminal_would_take_for_commands(folder: pathlib.Path, words: list[str]) -> None:
     (folder / "x.csv").write_text("job,saw\na,1\n")
     child = start(words, folder)
-    told = child.communicate(timeout=60)[1].decode()
-    assert child.returncode in (3, 4) and all(line.isprintable() for line in told.splitlines()), repr(told)
+    got = child.communicate(timeout=60)[1].decode()
+    assert child.returncode in (3, 4) and all(line.isprintable() for line in got.splitlines()), repr(got)
 
 
 def test_names_that_standard_output_has_no_letters_for(folder: pathlib.Path) -> None:
     (folder / "times.csv").write_text("job,saw\nM\xfcller,3\n", "utf-8")
     child = start(["plan", "times.csv"], folder, environment() | {"PYTHONIOENCODING": "ascii"})
-    printed, told = child.communicate(timeout=60)
-    assert (child.returncode, told) == (0, b"1 job, 1 machine, times without a unit\n")
+    printed, got = child.communicate(timeout=60)
+    assert (child.returncode, got) == (0, b"1 job, 1 machine, times without a unit\n")
     assert printed.splitlines()[-1] == b"1 M\\xfcller"
 
 
@@ -774,8 +774,8 @@ def test_a_plan_that_is_interrupted(folder: pathlib.Path) -> None:
     wait_until(lambda: catches(child.pid, signal.SIGTERM))
     time.sleep(0.5)
     child.send_signal(signal.SIGTERM)
-    printed, told = child.communicate(timeout=30)
-    assert (child.returncode, told) == (128 + signal.SIGTERM, b"60 jobs, 10 machines, times without a unit\n")
+    printed, got = child.communicate(timeout=30)
+    assert (child.returncode, got) == (128 + signal.SIGTERM, b"60 jobs, 10 machines, times without a unit\n")
     order = [int(job) for job in re.findall(r"^\d+ job (\d+)$", printed.decode(), re.MULTILINE)]
     assert sorted(order) == list(range(60))
     assert printed.decode().startswith(f"makespan {pfs.generate(60, 10, 4).makespan(order)}\n")

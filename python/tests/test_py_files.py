@@ -273,16 +273,16 @@ def test_all_blocks_up_to_the_limit() -> None:
 
 @pytest.mark.parametrize("case", BAD)
 def test_faults_of_instance_files(tmp_path: pathlib.Path, program: str, case: str) -> None:
-    text, layout, name, place, told = BAD[case]
+    text, layout, name, place, got = BAD[case]
     path = written(tmp_path, text)
     with pytest.raises(pfs.FileFault) as fault:
         pfs.read(path, layout)
-    assert (fault.value.name, fault.value.place, fault.value.text) == (name, place, told)
-    assert fault.value.path == str(path) and str(fault.value) == f"{path}: {told.removeprefix('pfs: ')}"
+    assert (fault.value.name, fault.value.place, fault.value.text) == (name, place, got)
+    assert fault.value.path == str(path) and str(fault.value) == f"{path}: {got.removeprefix('pfs: ')}"
     assert isinstance(fault.value, ValueError)
     again = pickle.loads(pickle.dumps(fault.value))
     assert (str(again), again.place) == (str(fault.value), place)
-    assert plainly.run([program, "value", "--layout", layout, str(path)], 2) == told + "\n"
+    assert plainly.run([program, "value", "--layout", layout, str(path)], 2) == got + "\n"
 
 
 # A file, its layout, and the line, the column and the hint of its fault.
@@ -331,12 +331,12 @@ def test_a_file_that_is_too_long(tmp_path: pathlib.Path) -> None:
 
 @pytest.mark.parametrize("case", BAD_ORDERS)
 def test_faults_of_order_files(tmp_path: pathlib.Path, program: str, case: str) -> None:
-    text, name, place, told = BAD_ORDERS[case]
+    text, name, place, got = BAD_ORDERS[case]
     path, shop = written(tmp_path, text), written(tmp_path, THREE, "three")
     with pytest.raises(pfs.OrderFault) as fault:
         pfs.read_order(path)
-    assert (fault.value.name, fault.value.place, fault.value.text) == (name, place, told)
-    assert plainly.run([program, "check", "--layout", "taillard", str(shop), str(path)], 2) == told + "\n"
+    assert (fault.value.name, fault.value.place, fault.value.text) == (name, place, got)
+    assert plainly.run([program, "check", "--layout", "taillard", str(shop), str(path)], 2) == got + "\n"
 
 
 def test_a_file_that_is_not_there(tmp_path: pathlib.Path) -> None:
@@ -393,8 +393,8 @@ def test_the_longest_order_file(tmp_path: pathlib.Path, program: str) -> None:
     shop.write(tmp_path / "shop")
     order = list(range(4999, -1, -1))
     pfs.Solution(order, shop.makespan(order), 0, 1).write(tmp_path / "order")
-    told = plainly.run([program, "check", "--layout", "taillard", str(tmp_path / "shop"), str(tmp_path / "order")])
-    assert told.startswith(f"valid\nmakespan {shop.makespan(order)}\n")
+    got = plainly.run([program, "check", "--layout", "taillard", str(tmp_path / "shop"), str(tmp_path / "order")])
+    assert got.startswith(f"valid\nmakespan {shop.makespan(order)}\n")
     assert pfs.read_order(tmp_path / "order").order.tolist() == order
 
 

@@ -43,8 +43,8 @@ def loaded(library: pathlib.Path | str, folder: pathlib.Path) -> subprocess.Comp
 def test_a_library_of_another_version_is_rejected(tmp_path: pathlib.Path, version: str) -> None:
     library = library_of(version, tmp_path)
     done = loaded(library, tmp_path)
-    told = f"ImportError: the library {library} has version {version}, but this package needs {pfs.__version__}"
-    assert (done.returncode, done.stderr.splitlines()[-1]) == (1, told), f"a library of version {version} is loaded"
+    got = f"ImportError: the library {library} has version {version}, but this package needs {pfs.__version__}"
+    assert (done.returncode, done.stderr.splitlines()[-1]) == (1, got), f"a library of version {version} is loaded"
 
 
 @pytest.mark.parametrize("version", [f"{MAJOR}.0.0", f"{MAJOR}.7.3", f"{MAJOR}"])
@@ -58,10 +58,10 @@ def test_a_library_of_a_version_that_fits_is_loaded(tmp_path: pathlib.Path, vers
 def test_a_library_without_a_function_is_rejected(tmp_path: pathlib.Path, name: str) -> None:
     """When it is loaded, and not when the function is called."""
     library = library_of(pfs.__version__, tmp_path, without=name)
-    told = loaded(library, tmp_path).stderr.splitlines()[-1]
-    assert told.startswith(f"ImportError: pfs can't load its library {library} (")
-    assert f"undefined symbol: {name}" in told
-    assert told.endswith("): set PFS_LIBRARY to the path of libpfs.so.0")
+    got = loaded(library, tmp_path).stderr.splitlines()[-1]
+    assert got.startswith(f"ImportError: pfs can't load its library {library} (")
+    assert f"undefined symbol: {name}" in got
+    assert got.endswith("): set PFS_LIBRARY to the path of libpfs.so.0")
 
 
 @pytest.mark.parametrize("content", [None, b"", b"no library"])
@@ -69,9 +69,9 @@ def test_a_file_that_is_not_a_library_is_reported(tmp_path: pathlib.Path, conten
     library = tmp_path / "libpfs.so.0"
     if content is not None:
         library.write_bytes(content)
-    told = loaded(library, tmp_path).stderr.splitlines()[-1]
-    assert told.startswith(f"ImportError: pfs can't load its library {library} (")
-    assert told.endswith("): set PFS_LIBRARY to the path of libpfs.so.0")
+    got = loaded(library, tmp_path).stderr.splitlines()[-1]
+    assert got.startswith(f"ImportError: pfs can't load its library {library} (")
+    assert got.endswith("): set PFS_LIBRARY to the path of libpfs.so.0")
 
 
 def test_the_library_that_the_variable_names_goes_before_the_packages(monkeypatch: pytest.MonkeyPatch,

@@ -62,8 +62,8 @@ DEFAULTS = {
 def test_the_numbers_of_docstrings_are_the_packages() -> None:
     """Read from the texts, and compared with what is taken."""
     texts = {name: " ".join((inspect.getdoc(public()[name]) or "").split()) for name in DEFAULTS}
-    for name, told in DEFAULTS.items():
-        for parameter, text in told.items():
+    for name, got in DEFAULTS.items():
+        for parameter, text in got.items():
             assert text in texts[name], f"the docstring of {name} tells another number of {parameter}"
     assert (_search.ROUNDS, _library.MOST_ROUNDS, _library.MOST_PASSES) == (1_000, 1_000_000, 100)
     shop = pfs.Instance([[1]] * 9)
@@ -71,7 +71,7 @@ def test_the_numbers_of_docstrings_are_the_packages() -> None:
     assert pfs.taillard(120).jobs == 500 and pfs.generate(1, 1, 2_147_483_646).seed == 2_147_483_646
 
 
-def test_the_names_that_readme_tells_are_the_packages() -> None:
+def test_the_names_that_readme_states_are_the_packages() -> None:
     """Names of the package, and the attributes of what is raised for a file."""
     text = PAGE.read_text()
     named = set(re.findall(r"`pfs\.(\w+)", text)) | set(re.findall(r"\bpfs\.(\w+)\(", text))
@@ -83,8 +83,8 @@ def test_the_names_that_readme_tells_are_the_packages() -> None:
     assert [name for what, name in rows.items() if "order" in what] == ["OrderFault"]
     assert [name for what, name in rows.items() if "table" in what] == ["TableFault"]
     for name, attributes in re.findall(r"\| `pfs\.(\w+)`: (.*) \|$", text, re.MULTILINE):
-        told = re.findall(r"`(\w+)`(?! prints)", attributes)
-        assert len(told) > 2 and [each for each in told if each not in vars(raised[name])] == [], name
+        got = re.findall(r"`(\w+)`(?! prints)", attributes)
+        assert len(got) > 2 and [each for each in got if each not in vars(raised[name])] == [], name
 
 
 # What ends with which status, in README's words.
@@ -93,13 +93,13 @@ STATUSES = {"a file that is invalid": "search wrong --layout taillard", "a comma
 
 
 @pytest.mark.parametrize("what", STATUSES)
-def test_a_status_that_readme_tells_is_the_commands(tmp_path: pathlib.Path, what: str) -> None:
+def test_a_status_that_readme_states_is_the_commands(tmp_path: pathlib.Path, what: str) -> None:
     (tmp_path / "wrong").write_text("no instance\n")
     sentence = re.search(r"Other statuses are those of `pfs`: (.*?)\.\s", PAGE.read_text())
     assert sentence
-    told = dict(re.findall(r"(\d) for ([\w' ]+)", sentence[1]))
-    assert sorted(told.values()) == sorted(STATUSES) and len(told) == 3
-    status, = [int(number) for number, text in told.items() if text == what]
+    got = dict(re.findall(r"(\d) for ([\w' ]+)", sentence[1]))
+    assert sorted(got.values()) == sorted(STATUSES) and len(got) == 3
+    status, = [int(number) for number, text in got.items() if text == what]
     env = os.environ | {"PYTHONPATH": str(pathlib.Path(pfs.__file__).parents[1]), "PYTHONDONTWRITEBYTECODE": "1"}
     done = subprocess.run([sys.executable, "-m", "pfs", *STATUSES[what].split()], cwd=tmp_path, env=env,
                           capture_output=True, text=True)

@@ -55,14 +55,14 @@ def test_any_cutting_ends_where_one_part_does(cut: Callable[[list[int]], None], 
     cut([1_000_000])
     whole = shop.solve(rounds, take=take, passes=passes, seed=seed)
     cut(counts)
-    told: list[tuple[int, int]] = []
-    parts = shop.solve(rounds, take=take, passes=passes, seed=seed, progress=lambda *line: told.append(line))
+    got: list[tuple[int, int]] = []
+    parts = shop.solve(rounds, take=take, passes=passes, seed=seed, progress=lambda *line: got.append(line))
     assert parts == whole
     assert whole.makespan == plainly.makespan(times, whole.order.tolist()) <= shop.neh().makespan
     assert whole.rounds == rounds and sorted(whole.order) == list(range(shop.jobs))
-    assert [made for made, _ in told] == sorted({made for made, _ in told}) and (not told or told[-1][0] == rounds)
-    spans = [span for _, span in told]
-    assert spans == sorted(spans, reverse=True) and (not told or spans[-1] == whole.makespan)
+    assert [made for made, _ in got] == sorted({made for made, _ in got}) and (not got or got[-1][0] == rounds)
+    spans = [span for _, span in got]
+    assert spans == sorted(spans, reverse=True) and (not got or spans[-1] == whole.makespan)
     # In several calls.
     stop = chance.randint(0, rounds)
     half = shop.solve(stop, take=take, passes=passes, seed=seed)
@@ -142,11 +142,11 @@ def test_a_bar_is_moved() -> None:
 
 def test_tqdm() -> None:
     tqdm = pytest.importorskip("tqdm").tqdm
-    told = io.StringIO()
-    with tqdm(total=500, file=told) as bar:
+    got = io.StringIO()
+    with tqdm(total=500, file=got) as bar:
         found = pfs.taillard(1).solve(500, progress=bar)
     assert bar.n == 500
-    assert f"makespan={found.makespan}" in told.getvalue() and "500/500" in told.getvalue()
+    assert f"makespan={found.makespan}" in got.getvalue() and "500/500" in got.getvalue()
 
 
 @pytest.mark.parametrize("kind", [KeyError, OSError, SystemExit, MemoryError])
@@ -225,18 +225,18 @@ def test_parts_take_a_tenth_of_a_second_and_the_last_one_ends_by_the_limit(monke
                                                                           limit: float) -> None:
     clock = Clock(1 / 1024)
     clock.patch(monkeypatch)
-    told: list[int] = []
+    got: list[int] = []
     shop = pfs.generate(6, 3, 1)
-    found = shop.solve(time_limit=limit / 1024, progress=lambda made, makespan: told.append(made))
+    found = shop.solve(time_limit=limit / 1024, progress=lambda made, makespan: got.append(made))
     assert clock.parts == LIMITS[limit], f"the parts within the time of {limit} rounds"
-    assert told == list(itertools.accumulate(LIMITS[limit])) and found.rounds == sum(LIMITS[limit])
+    assert got == list(itertools.accumulate(LIMITS[limit])) and found.rounds == sum(LIMITS[limit])
     # From the command line too.
     clock.parts.clear()
     ends: list[int] = []
     search = _search.Search(shop, None, 0, None, 0, 0)
     best, fault = _commands.searched(search, 1_000_000, limit / 1024, _commands.Stop(),
                                      lambda kept: ends.append(kept.rounds))
-    assert clock.parts == LIMITS[limit] and ends == [0, *told] and (best.rounds, fault) == (found.rounds, None)
+    assert clock.parts == LIMITS[limit] and ends == [0, *got] and (best.rounds, fault) == (found.rounds, None)
 
 
 @pytest.mark.parametrize(("seconds", "due"), [(1 / 1024, [1, 4, 16, 64, 102, 102, 11]), (2, [1] * 300),
@@ -638,14 +638,14 @@ def test_a_search_by_time_continues_with_the_next_seed(monkeypatch: pytest.Monke
     """After round 1,000,000 with round 0 of the next seed, from the order that it has come to."""
     shop = pfs.generate(6, 3, 1)
     Clock(1 / 1024).patch(monkeypatch)
-    told: list[int] = []
+    got: list[int] = []
     words: dict[str, Any] = {"start": range(6), "take": 2, "target": 0, "history": True}
-    found = shop.solve(time_limit=300 / 1024, first=999_900, seed=2**64 - 1, progress=lambda made, _: told.append(made),
+    found = shop.solve(time_limit=300 / 1024, first=999_900, seed=2**64 - 1, progress=lambda made, _: got.append(made),
                        **words)
-    assert (found.seed, found.rounds) == (0, told[-1] - 100) and told == sorted(set(told)) and told[-1] > 250
+    assert (found.seed, found.rounds) == (0, got[-1] - 100) and got == sorted(set(got)) and got[-1] > 250
     before = shop.solve(100, first=999_900, seed=2**64 - 1, start=range(6), take=2)
     assert (before.seed, before.rounds) == (2**64 - 1, 1_000_000)
-    after = shop.solve(told[-1] - 100, start=before, seed=0, take=2)
+    after = shop.solve(got[-1] - 100, start=before, seed=0, take=2)
     assert (found.order.tolist(), found.cells) == (after.order.tolist(), before.cells + after.cells)
     assert found.history[0].round == 999_900
     # A number of rounds doesn't go beyond the last one of its seed.

@@ -155,7 +155,7 @@ def test_idle_times(case: tuple[plainly.Table, list[int]]) -> None:
     assert made.starts.tolist() == [[start for start, _ in row] for row in rows], "idle times share memory with starts"
 
 
-def test_schedule_is_told_by_names(tmp_path: pathlib.Path) -> None:
+def test_schedule_has_names(tmp_path: pathlib.Path) -> None:
     shop = pfs.Instance([[30, 25], [20, 50]], job_names=["table", "chair, small"], machine_names=["saw", "drill"],
                         decimals=1)
     made = shop.schedule([1, 0])

@@ -50,8 +50,8 @@ def wheel(tmp_path_factory: pytest.TempPathFactory) -> pathlib.Path:
     folder = tmp_path_factory.mktemp("wheel")
     library = pathlib.Path(_library.PATH).resolve()
     # Modes don't depend on the mask.
-    told = run(["sh", "-c", 'umask 077; exec "$@"', "sh", TOP / "tools" / "wheel", folder, library], TOP)
-    assert told == f"{folder / WHEEL}\n"
+    got = run(["sh", "-c", 'umask 077; exec "$@"', "sh", TOP / "tools" / "wheel", folder, library], TOP)
+    assert got == f"{folder / WHEEL}\n"
     return folder / WHEEL
 
 
@@ -102,8 +102,8 @@ def test_what_a_wheel_asks_for(wheel: pathlib.Path) -> None:
     assert {each.split(";")[0] for each in needed} == {
         *project["dependencies"], *(each for extra in project["optional-dependencies"].values() for each in extra)}
     readme = (HERE / "README.md").read_text()
-    told = re.search(r"(?:Wants|Needs) Python ([\d.]+) or newer and NumPy", readme)
-    assert told and fields["Requires-Python"] == f">={told[1]}", "the Python that README tells"
+    got = re.search(r"(?:Wants|Needs) Python ([\d.]+) or newer and NumPy", readme)
+    assert got and fields["Requires-Python"] == f">={got[1]}", "the Python that README tells"
     assert str(fields.get_payload()).strip() == readme.strip()
     # All users can read each file, and only its owner or group writes it.
     assert {name: mode for name, mode in modes.items() if mode & 0o444 != 0o444 or mode & 0o002} == {}
@@ -139,19 +139,19 @@ def test_a_wheel_in_a_clean_environment(wheel: pathlib.Path, tmp_path: pathlib.P
     run([sys.executable, "-m", "venv", "--system-site-packages", tmp_path / "clean"], tmp_path)
     python = tmp_path / "clean" / "bin" / "python3"
     run([python, "-m", "pip", "--disable-pip-version-check", "install", "-q", "--no-index", wheel], tmp_path)
-    told = run([python, "-c", "import pfs, pfs._library; print(pfs.__file__, pfs._library.PATH, sep='\\n')"], tmp_path)
-    assert all(pathlib.Path(line).is_relative_to(tmp_path / "clean") for line in told.splitlines())
+    got = run([python, "-c", "import pfs, pfs._library; print(pfs.__file__, pfs._library.PATH, sep='\\n')"], tmp_path)
+    assert all(pathlib.Path(line).is_relative_to(tmp_path / "clean") for line in got.splitlines())
     assert run([tmp_path / "clean" / "bin" / "pfs-plan", "--version"], tmp_path) == f"pfs {VERSION}\n"
     (tmp_path / "times.csv").write_text("job [min],saw,drill\nchair,3,2\ntable,2,5\n")
-    told = run([tmp_path / "clean" / "bin" / "pfs-plan", "times.csv"], tmp_path)
-    assert told == "makespan 9 min\nbound 9 min\noptimal\n1 table\n2 chair\n"
+    got = run([tmp_path / "clean" / "bin" / "pfs-plan", "times.csv"], tmp_path)
+    assert got == "makespan 9 min\nbound 9 min\noptimal\n1 table\n2 chair\n"
     shutil.copytree(HERE / "tests", tmp_path / "tests", ignore=shutil.ignore_patterns("__pycache__"))
     (tmp_path / "tests" / "support").mkdir()
     shutil.copy(TOP / "tests" / "support" / "second_program.py", tmp_path / "tests" / "support")
     (tmp_path / "tests" / "test_py_where.py").write_text(
         f"import pfs\n\n\ndef test_it() -> None:\n    assert pfs.__file__.startswith({str(tmp_path / 'clean')!r})\n")
     names = ["where", "values", "given", "solve"]
-    told = run([python, "-m", "pytest", "-q", "-p", "no:cacheprovider", "-W", "ignore::pytest.PytestUnknownMarkWarning",
+    got = run([python, "-m", "pytest", "-q", "-p", "no:cacheprovider", "-W", "ignore::pytest.PytestUnknownMarkWarning",
                 f"--rootdir={tmp_path}", f"--pfs={program}", *(f"tests/test_py_{name}.py" for name in names),
                 "-k", "not thread and not signal", "-m", "not seconds"], tmp_path)
-    assert " passed" in told and "failed" not in told
+    assert " passed" in got and "failed" not in got

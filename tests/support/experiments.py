@@ -10,7 +10,7 @@ from typing import Any, NamedTuple
 
 import pytest
 from support.program import Program
-from support.tools import Told, told_by, write_script
+from support.tools import Done, run_tool, write_script
 
 PLAN = """instances = ["shops/*"]
 rounds = [10, 30]
@@ -54,14 +54,14 @@ class Experiment(NamedTuple):
     folder: pathlib.Path
     pfs: Program
 
-    def script(self, name: str, *words: str, program: pathlib.Path | None = None, **how: Any) -> Told:
+    def script(self, name: str, *words: str, program: pathlib.Path | None = None, **how: Any) -> Done:
         """Runs a script of the experiments."""
-        return told_by(self.words(name, *words, program=program), self.folder, **how)
+        return run_tool(self.words(name, *words, program=program), self.folder, **how)
 
     def words(self, name: str, *words: str, program: pathlib.Path | None = None) -> list[str | pathlib.Path]:
         return [self.top / "experiments" / name, "--pfs", program or self.pfs.path, *words]
 
-    def run(self, csv_name: str = "out.csv", *words: str, program: pathlib.Path | None = None, **how: Any) -> Told:
+    def run(self, csv_name: str = "out.csv", *words: str, program: pathlib.Path | None = None, **how: Any) -> Done:
         """Makes the runs of the plan by GNU parallel."""
         return self.script("run", "plan.toml", csv_name, *words, program=program, **how)
 

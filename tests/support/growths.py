@@ -3,7 +3,7 @@ import os
 import pathlib
 import subprocess
 
-from support.needs import need
+from support.needs import tool
 from support.program import Program, Ran, Words
 
 SOURCE = pathlib.Path(__file__).with_name("refuse.c")
@@ -14,18 +14,18 @@ class Shim:
 
     def __init__(self, folder: pathlib.Path) -> None:
         self.path = folder / "refuse.so"
-        subprocess.run([need("cc"), "-O1", "-Wall", "-Werror", "-shared", "-fPIC", "-o", self.path, SOURCE], check=True)
+        subprocess.run([tool("cc"), "-O1", "-Wall", "-Werror", "-shared", "-fPIC", "-o", self.path, SOURCE], check=True)
 
     def run_refused(self, program: Program, words: Words, folder: pathlib.Path, stdin: bytes,
                     growth: int) -> tuple[Ran, bool]:
         """Run the program with this allocation failing; also return whether the program got that far."""
-        ran, told = self.run(program, words, folder, stdin, "REFUSE_TELL", {"REFUSE_GROWTH": str(growth)})
-        return ran, told == b"x"
+        ran, got = self.run(program, words, folder, stdin, "REFUSE_TELL", {"REFUSE_GROWTH": str(growth)})
+        return ran, got == b"x"
 
     def run_counted(self, program: Program, words: Words, folder: pathlib.Path) -> tuple[Ran, list[int]]:
         """Run the program; also return the number of allocations before each of its writes to standard output."""
-        ran, told = self.run(program, words, folder, b"", "COUNT_TELL", {})
-        return ran, [int(line) for line in told.splitlines()]
+        ran, got = self.run(program, words, folder, b"", "COUNT_TELL", {})
+        return ran, [int(line) for line in got.splitlines()]
 
     def run(self, program: Program, words: Words, folder: pathlib.Path, stdin: bytes, tell: str,
             variables: dict[str, str]) -> tuple[Ran, bytes]:

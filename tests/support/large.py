@@ -8,7 +8,7 @@ from typing import NamedTuple
 from support.files import TITLE
 from support.program import Program
 
-WITHIN = pathlib.Path(__file__).with_name("within.py")
+LIMITED = pathlib.Path(__file__).with_name("limited.py")
 PIECE = 65_536
 # A program that takes more processor time does too much.
 MOST_SECONDS = 60
@@ -75,11 +75,11 @@ class LargeRun(NamedTuple):
             return all(file.read(len(part)) == part for part in parts) and file.read(1) == b""
 
 
-def run_within(program: Program, words: list[str], folder: pathlib.Path, memory: int,
+def run_limited(program: Program, words: list[str], folder: pathlib.Path, memory: int,
                stdin: pathlib.Path = pathlib.Path("/dev/null")) -> LargeRun:
     """Run a program with this many bytes of address space, and kill it if it takes too much processor time."""
     output, errors = folder / "output", folder / "errors"
-    starter = [sys.executable, "-I", "-S", str(WITHIN), str(memory), str(MOST_SECONDS)]
+    starter = [sys.executable, "-I", "-S", str(LIMITED), str(memory), str(MOST_SECONDS)]
     given = [str(path) for path in (stdin, output, errors, program.path)]
     done = subprocess.run([*starter, *given, *words], cwd=folder, stdout=subprocess.PIPE, check=True)
     status, seconds, resident = done.stdout.split()

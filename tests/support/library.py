@@ -6,7 +6,7 @@ from array import array
 from collections.abc import Iterable, Sequence
 from typing import NamedTuple
 
-from support.needs import need
+from support.needs import tool
 from support.program import Program
 
 SUPPORT = pathlib.Path(__file__).resolve().parent
@@ -92,7 +92,7 @@ def compiled(program: pathlib.Path, sources: Words, libpfs: Library, *words: str
     shared: Words = [f"-Wl,-rpath,{libpfs.path.parent}", libpfs.path]
     library: Words = [libpfs.path.with_name("libpfs.a")] if is_static else shared
     strict: Words = ["-std=c99", "-Wall", "-Wextra", "-pedantic", "-Werror", "-g", f"-I{HEADER.parent}"]
-    compile_quietly([need(compiler), *strict, *words, "-o", program, *sources, *library, "-pthread"])
+    compile_quietly([tool(compiler), *strict, *words, "-o", program, *sources, *library, "-pthread"])
     return Program(program)
 
 

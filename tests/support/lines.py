@@ -142,9 +142,9 @@ CONVERT = "convert --from taillard --to orlib three"
 GENERATE = "generate 5 1 873654221"
 
 
-def refused(told: str, status: int = 4) -> Ran:
+def refused(got: str, status: int = 4) -> Ran:
     """A run that prints nothing and reports this fault."""
-    return Ran(b"", f"pfs: {told}\n".encode(), status)
+    return Ran(b"", f"pfs: {got}\n".encode(), status)
 
 
 def unwritten(count: int) -> Ran:

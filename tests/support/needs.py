@@ -11,13 +11,13 @@ import pytest
 from support.packages import package_of
 
 
-def need(command: str) -> str:
+def tool(command: str) -> str:
     """The path of a command, without which the test is skipped."""
     path = shutil.which(command)
     return not_installed(command) if path is None else path
 
 
-def need_module(name: str) -> None:
+def require_module(name: str) -> None:
     """Skips the test where Python has no module of this name."""
     if importlib.util.find_spec(name) is None:
         not_installed(name)

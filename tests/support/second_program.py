@@ -44,9 +44,9 @@ MAKESPAN = re.compile(rb"0|[1-9][0-9]{0,17}")
 class Stop(Exception):
     """The program ends: with this text on standard error and this exit status."""
 
-    def __init__(self, told: bytes, status: int) -> None:
-        super().__init__(told)
-        self.told = told
+    def __init__(self, got: bytes, status: int) -> None:
+        super().__init__(got)
+        self.told = got
         self.status = status
 
 
@@ -583,9 +583,9 @@ class Folder:
 def main() -> int:
     words = [os.fsencode(word) for word in sys.argv[1:]]
     stdin = b"" if words else sys.stdin.buffer.read()
-    text, told, status = answer(words, stdin, Folder())
+    text, got, status = answer(words, stdin, Folder())
     sys.stdout.buffer.write(text)
-    sys.stderr.buffer.write(told)
+    sys.stderr.buffer.write(got)
     return status
 
 

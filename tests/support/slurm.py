@@ -8,7 +8,7 @@ from contextlib import ExitStack
 from typing import NamedTuple
 
 import pytest
-from support.needs import missing, need
+from support.needs import missing, tool
 from support.ssh import bound_to_this, free_port
 from support.tools import stop, wait_until
 
@@ -56,7 +56,7 @@ def slurm(tmp_path_factory: pytest.TempPathFactory) -> Iterator[Cluster]:
     """The cluster, whose jobs and servers are ended with the session. It has four processors, also where the machine
     has fewer, so that the tasks of a small array run in parallel."""
     for command in ("munged", "slurmctld", "slurmd"):
-        need(command)
+        tool(command)
     if os.geteuid() != 0:
         missing("only root starts a cluster")
     folder = tmp_path_factory.mktemp("slurm")

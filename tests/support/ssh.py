@@ -7,7 +7,7 @@ from collections.abc import Iterator
 from typing import NamedTuple
 
 import pytest
-from support.needs import missing, need
+from support.needs import missing, tool
 from support.tools import stop, wait_until, write_script
 
 OPTIONS = "-o StrictHostKeyChecking=no -o UserKnownHostsFile=/dev/null -o LogLevel=ERROR"
@@ -22,9 +22,9 @@ class Server(NamedTuple):
 @pytest.fixture(scope="session")
 def ssh_server(tmp_path_factory: pytest.TempPathFactory) -> Iterator[Server]:
     """The server, which is ended with the session."""
-    sshd = need("sshd")
+    sshd = tool("sshd")
     for command in ("ssh", "ssh-keygen", "rsync"):
-        need(command)
+        tool(command)
     if os.geteuid() != 0:
         missing("only root starts a server of ssh")
     folder = tmp_path_factory.mktemp("ssh")
@@ -48,7 +48,7 @@ def ssh_server(tmp_path_factory: pytest.TempPathFactory) -> Iterator[Server]:
 
 def bound_to_this() -> list[str]:
     """The command that starts a server which ends with this process, also if this process is killed."""
-    return [need("setpriv"), "--pdeathsig", "TERM", "--"]
+    return [tool("setpriv"), "--pdeathsig", "TERM", "--"]
 
 
 def free_port() -> int:

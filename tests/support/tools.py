@@ -13,26 +13,26 @@ from support.needs import not_installed
 MOST_SECONDS = 120.0
 
 
-class Told(NamedTuple):
+class Done(NamedTuple):
     """The result of a script: its exit status and its outputs."""
     status: int
     stdout: str
     stderr: str
 
 
-def told_by(words: list[str | pathlib.Path], cwd: pathlib.Path, **how: Any) -> Told:
+def run_tool(words: list[str | pathlib.Path], cwd: pathlib.Path, **how: Any) -> Done:
     """Run a script in a folder. By default its input is empty; `how` has other arguments of `subprocess.run`."""
     how = {"stdin": subprocess.DEVNULL} | how
     done = subprocess.run([str(word) for word in words], cwd=cwd, capture_output=True, text=True, timeout=MOST_SECONDS,
                           **how)
-    return Told(done.returncode, done.stdout, done.stderr)
+    return Done(done.returncode, done.stdout, done.stderr)
 
 
-def printed_by(words: list[str | pathlib.Path], cwd: pathlib.Path, **how: Any) -> str:
+def output_of(words: list[str | pathlib.Path], cwd: pathlib.Path, **how: Any) -> str:
     """Run a script that has to succeed, and return its output."""
-    told = told_by(words, cwd, **how)
-    assert told.status == 0, f"{words}: {told}"
-    return told.stdout
+    got = run_tool(words, cwd, **how)
+    assert got.status == 0, f"{words}: {got}"
+    return got.stdout
 
 
 def write_script(path: pathlib.Path, text: str) -> pathlib.Path:
@@ -68,16 +68,16 @@ def with_path(folder: pathlib.Path) -> dict[str, str]:
 @pytest.fixture(scope="session")
 def matplotlib() -> None:
     """Matplotlib of Debian's Python, which the scripts name, and which may not be the Python of the tests."""
-    need_of_debian("matplotlib")
+    require_debian_module("matplotlib")
 
 
 @pytest.fixture(scope="session")
 def scipy(matplotlib: None) -> None:
     """SciPy of Debian's Python."""
-    need_of_debian("scipy")
+    require_debian_module("scipy")
 
 
-def need_of_debian(module: str) -> None:
+def require_debian_module(module: str) -> None:
     """Skips the test where Debian's Python has no such module."""
     try:
         done = subprocess.run(["/usr/bin/python3", "-c", f"import {module}"], stderr=subprocess.DEVNULL)

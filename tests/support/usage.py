@@ -33,10 +33,10 @@ def ranges(text: str) -> list[tuple[int, int]]:
 
 def is_taken(pfs: Program, option: str, number: int, folder: pathlib.Path) -> bool:
     """Whether a search accepts this number. It then reports that its file doesn't exist."""
-    told = pfs.run(["solve", "--layout", "taillard", f"{option}={number}", "/missing"], folder)
+    got = pfs.run(["solve", "--layout", "taillard", f"{option}={number}", "/missing"], folder)
     answers = {(4, b"pfs: cannot open\n"): True, (3, USAGE): False}
-    assert (told.status, told.stderr) in answers, told
-    return answers[told.status, told.stderr]
+    assert (got.status, got.stderr) in answers, got
+    return answers[got.status, got.stderr]
 
 
 def ends_taken(pfs: Program, option: str, least: int, most: int, folder: pathlib.Path) -> dict[int, bool]:

@@ -19,7 +19,7 @@ def matrix_of(text: bytes, path: str) -> Instance:
     lines = [(number, line.split()) for number, line in enumerate(text.decode("latin-1").split("\n"), 1)]
     (number, sizes), *rows = [(number, words) for number, words in lines if words] or [(1, [])]
     if len(sizes) != 2:
-        raise TableFault(path, number, 0, f"{len(sizes)} numbers on the size line, in place of those of jobs and machines")
+        raise TableFault(path, number, 0, f"{len(sizes)} numbers on the size line: it has those of jobs and machines")
     jobs, machines = (number_of(path, number, column, sizes[column - 1], 1, most)
                       for column, most in ((1, c.MOST_JOBS), (2, c.MOST_MACHINES)))
     check_shape(path, rows, number, jobs, machines)

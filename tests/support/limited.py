@@ -3,7 +3,7 @@
 seconds and its greatest resident memory in bytes. The kernel's figure includes the memory of the parent process, so
 this is a separate program, which uses little memory.
 
-usage: tests/support/within.py BYTES SECONDS STDIN STDOUT STDERR WORD.."""
+usage: tests/support/limited.py BYTES SECONDS STDIN STDOUT STDERR WORD.."""
 import os
 import signal
 import sys
