@@ -142,7 +142,8 @@ def test_each_package_is_listed_once() -> None:
 
 def test_what_the_tests_need_is_in_a_package(top: pathlib.Path) -> None:
     """Every command and module that a test looks for."""
-    asked = re.compile(r"\b(?:tool|require_module|require_debian_module)\(\"([\w+-]+)\"\)|\bshutil\.which\(\"([\w-]+)\"\)")
+    asked = re.compile(r"\b(?:tool|require_module|require_debian_module)\(\"([\w+-]+)\"\)"
+                       r"|\bshutil\.which\(\"([\w-]+)\"\)")
     found = {path: [first or second for first, second in asked.findall(path.read_text())]
              for folder in ("tests", "python/tests") for path in (top / folder).rglob("*.py")}
     names = {name for each in found.values() for name in each} - {"rt"}

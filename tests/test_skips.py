@@ -45,7 +45,8 @@ def test_a_skip_fails_in_ci(top: pathlib.Path, folder: pathlib.Path, way: str) -
 
 
 def test_a_test_that_has_what_it_needs_passes_in_ci(top: pathlib.Path, folder: pathlib.Path) -> None:
-    status, got = run_pytest(top, folder, "def test_it() -> None:\n    tool('sh')\n    require_module('json')\n", "true")
+    text = "def test_it() -> None:\n    tool('sh')\n    require_module('json')\n"
+    status, got = run_pytest(top, folder, text, "true")
     assert status == pytest.ExitCode.OK and "1 passed" in got, got
 
 
