@@ -41,7 +41,8 @@ pub fn spellings()
         (heading ++ codes "03 2 0 0 0\nprocessing times :\n" ++ replicate 60 48 ++ codes "3 2 4\n2 5 1\n") 1
         ≡ Some three_jobs_problem }
     ensures mixed_title { accepted Layout.Taillard (codes "5x " ++ three_jobs_file) 1 ≡ Some three_jobs_problem }
-    ensures mixed_line_before { accepted Layout.Taillard (codes "x 5\n" ++ three_jobs_file) 1 ≡ Some three_jobs_problem }
+    ensures mixed_line_before { accepted Layout.Taillard (codes "x 5\n" ++ three_jobs_file) 1
+        ≡ Some three_jobs_problem }
     ensures one_line { accepted Layout.Taillard (codes "3 2 0 0 0\n3 2 4 2 5 1\nwhat follows is free, 5x") 1
         ≡ Some three_jobs_problem }
 {}
