@@ -37,6 +37,8 @@ def pytest_configure(config: pytest.Config) -> None:
     # What runs in the background of a shell ignores it, and so would all that the tests start.
     if signal.getsignal(signal.SIGINT) == signal.SIG_IGN:
         signal.signal(signal.SIGINT, signal.default_int_handler)
+    # Scripts begin with `env python3`: Debian's Python has the packages that they need, and starts fast.
+    os.environ["PATH"] = f"/usr/bin:{os.environ['PATH']}"
     # It would hide that a script doesn't flush what it prints.
     os.environ.pop("PYTHONUNBUFFERED", None)
     if config.option.collectonly or config.option.markexpr == "check":

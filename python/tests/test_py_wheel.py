@@ -102,8 +102,8 @@ def test_what_a_wheel_asks_for(wheel: pathlib.Path) -> None:
     assert {each.split(";")[0] for each in needed} == {
         *project["dependencies"], *(each for extra in project["optional-dependencies"].values() for each in extra)}
     readme = (HERE / "README.md").read_text()
-    got = re.search(r"(?:Wants|Needs) Python ([\d.]+) or newer and NumPy", readme)
-    assert got and fields["Requires-Python"] == f">={got[1]}", "the Python that README tells"
+    got = re.search(r"needs Python ([\d.]+) or newer and NumPy", readme)
+    assert got and fields["Requires-Python"] == f">={got[1]}", "the Python that README names"
     assert str(fields.get_payload()).strip() == readme.strip()
     # All users can read each file, and only its owner or group writes it.
     assert {name: mode for name, mode in modes.items() if mode & 0o444 != 0o444 or mode & 0o002} == {}
@@ -150,7 +150,7 @@ def test_a_wheel_in_a_clean_environment(wheel: pathlib.Path, tmp_path: pathlib.P
     shutil.copy(TOP / "tests" / "support" / "second_program.py", tmp_path / "tests" / "support")
     (tmp_path / "tests" / "test_py_where.py").write_text(
         f"import pfs\n\n\ndef test_it() -> None:\n    assert pfs.__file__.startswith({str(tmp_path / 'clean')!r})\n")
-    names = ["where", "values", "given", "solve"]
+    names = ["where", "values", "validate", "solve"]
     got = run([python, "-m", "pytest", "-q", "-p", "no:cacheprovider", "-W", "ignore::pytest.PytestUnknownMarkWarning",
                 f"--rootdir={tmp_path}", f"--pfs={program}", *(f"tests/test_py_{name}.py" for name in names),
                 "-k", "not thread and not signal", "-m", "not seconds"], tmp_path)

@@ -694,6 +694,27 @@ static void threads(void) {
     free(shop);
 }
 
+/* Times of 1 of an instance with more than 128 of them, on which insertions use other tables: lanes, or rows if it has
+ * more than 24 machines. All orders are equally long, so each job is inserted at the front. */
+enum { LARGE = 200 };
+
+static int call_on_large(const char *name) {
+    static uint32_t ones[LARGE];
+    size_t jobs = strcmp(name, "insert_rows") == 0 ? 8 : 100, machines = LARGE / jobs;
+    for (size_t at = 0; at < LARGE; ++at)
+        ones[at] = 1;
+    due.makespan = 2 + machines;
+    if (strcmp(name, "insert_rows") == 0 || strcmp(name, "insert_lanes") == 0)
+        return due.place = 0, pfs_insert(ones, LARGE, jobs, machines, NUMBERED, 2, 2, &out.place, &out.makespan);
+    if (strcmp(name, "construct_lanes") == 0)
+        return due_list((uint32_t[]){2, 0, 1}, 3), pfs_construct(ones, LARGE, jobs, machines, NUMBERED, 2, NUMBERED + 2,
+                                                                 1, out.list, 3, &out.makespan);
+    if (strcmp(name, "local_search_lanes") == 0)
+        return due_list(BEST, 3), pfs_local_search(ones, LARGE, jobs, machines, NUMBERED, 3, BEST, 1, 1, out.list, 3,
+                                                   &out.makespan);
+    exit(3);
+}
+
 /* Makes a valid call of the function of this name, which takes an instance. */
 static int call_on_shop(const char *name) {
     if (strcmp(name, "makespan") == 0)
@@ -720,7 +741,7 @@ static int call_on_shop(const char *name) {
         return due.starts[0] = 0, due.ends[0] = 7,
                pfs_table((uint32_t[]){7}, 1, 1, 1, NUMBERED, 1, out.starts, 1, out.ends, 1);
     if (strcmp(name, "neh") != 0)
-        exit(3);
+        return call_on_large(name);
     due_list(BEST, 3);
     due.makespan = 10;
     due.cells = 36;
