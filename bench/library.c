@@ -5,7 +5,12 @@
  *        library insert COUNT FILE          makes COUNT insertions, of each job in turn into the others in the order
  *                                           of their numbers; prints the sum of the places and the makespans
  *        library makespans COUNT FILE FORM  computes the makespans of the same 1,000 orders COUNT times, by `one` call
- *                                           of pfs_makespans or by `many` calls of pfs_makespan; prints their sum */
+ *                                           of pfs_makespans or by `many` calls of pfs_makespan; prints their sum
+ *        library own ROUNDS FILE FORM       NEH and ROUNDS rounds with seed 1 of a search of its own: each round inserts
+ *                                           its jobs by calls of pfs_insert (`insert`), by one of pfs_construct
+ *                                           (`construct`), or is one of pfs_rounds in one call of all (`rounds`). With
+ *                                           `local` a call of pfs_local_search follows pfs_construct, which
+ *                                           `passes` compares with pfs_rounds; prints the order's makespan */
 #include <inttypes.h>
 #include <stdio.h>
 #include <stdlib.h>
@@ -98,6 +103,68 @@ static void makespans(uint64_t count, int in_one_call) {
     printf("%" PRIu64 " makespans, sum %" PRIu64 "\n", count * ORDERS, sum);
 }
 
+enum { TAKE = 4 };
+
+/* Inserts the removed jobs into the sequence, and returns the makespan. */
+static uint64_t reinsert(const char *form, uint32_t *sequence, size_t length, const uint32_t *removed, size_t take) {
+    static uint32_t found[PFS_MOST_JOBS], all[PFS_MOST_JOBS];
+    uint64_t makespan = 0;
+    size_t place, size = jobs * machines;
+    if (strcmp(form, "insert") == 0) {
+        for (size_t index = 0; index < take; ++index, ++length) {
+            check(pfs_insert(times, size, jobs, machines, sequence, length, removed[index], &place, &makespan));
+            memmove(sequence + place + 1, sequence + place, (length - place) * sizeof *sequence);
+            sequence[place] = removed[index];
+        }
+        return makespan;
+    }
+    check(pfs_construct(times, size, jobs, machines, sequence, length, removed, take, found, jobs, &makespan));
+    memcpy(sequence, found, jobs * sizeof *found);
+    if (strcmp(form, "local") == 0) {
+        for (uint32_t job = 0; job < jobs; ++job)
+            all[job] = job;
+        check(pfs_local_search(times, size, jobs, machines, found, jobs, all, jobs, 1, sequence, jobs, &makespan));
+    }
+    return makespan;
+}
+
+/* The rounds of pfs_rounds, made of the library's other functions. */
+static uint64_t own_rounds(const char *form, uint32_t rounds, uint64_t makespan) {
+    static uint32_t sequence[PFS_MOST_JOBS];
+    uint32_t words[TAKE], removed[TAKE];
+    size_t take = jobs < TAKE ? jobs : TAKE;
+    for (uint32_t round = 0; round < rounds; ++round) {
+        size_t length = jobs;
+        check(pfs_random(1, round * take, words, take));
+        memcpy(sequence, order, jobs * sizeof *order);
+        for (size_t index = 0; index < take; ++index) {
+            size_t place = words[index] % length;
+            removed[index] = sequence[place];
+            memmove(sequence + place, sequence + place + 1, (--length - place) * sizeof *sequence);
+        }
+        uint64_t found = reinsert(form, sequence, length, removed, take);
+        if (found <= makespan) {
+            makespan = found;
+            memcpy(order, sequence, jobs * sizeof *order);
+        }
+    }
+    return makespan;
+}
+
+static void own(const char *form, uint32_t rounds) {
+    uint64_t makespan, cells, sum = 0;
+    uint32_t passes = strcmp(form, "passes") == 0;
+    check(pfs_neh(times, jobs * machines, jobs, machines, order, jobs, &makespan, &cells));
+    if (passes || strcmp(form, "rounds") == 0)
+        check(pfs_rounds(times, jobs * machines, jobs, machines, order, jobs, 0, rounds, jobs < TAKE ? jobs : TAKE,
+                         passes, 1, &makespan, &cells));
+    else
+        makespan = own_rounds(form, rounds, makespan);
+    for (size_t place = 0; place < jobs; ++place)
+        sum = sum * 31 + order[place];
+    printf("makespan %" PRIu64 ", order %" PRIu64 "\n", makespan, sum);
+}
+
 int main(int count, char **words) {
     if (count == 5 && strcmp(words[1], "rounds") == 0) {
         read_shop(words[3]);
@@ -108,6 +175,9 @@ int main(int count, char **words) {
     } else if (count == 5 && strcmp(words[1], "makespans") == 0) {
         read_shop(words[3]);
         makespans(strtoull(words[2], NULL, 10), strcmp(words[4], "one") == 0);
+    } else if (count == 5 && strcmp(words[1], "own") == 0) {
+        read_shop(words[3]);
+        own(words[4], (uint32_t)strtoul(words[2], NULL, 10));
     } else {
         return 3;
     }
