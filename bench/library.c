@@ -6,11 +6,11 @@
  *                                           of their numbers; prints the sum of the places and the makespans
  *        library makespans COUNT FILE FORM  computes the makespans of the same 1,000 orders COUNT times, by `one` call
  *                                           of pfs_makespans or by `many` calls of pfs_makespan; prints their sum
- *        library own ROUNDS FILE FORM       NEH and ROUNDS rounds with seed 1 of a search of its own. Each round inserts
- *                                           its jobs by calls of pfs_insert (`insert`) or by one of pfs_construct
- *                                           (`construct`); with `local` a call of pfs_local_search follows. The forms
- *                                           `rounds` and `passes` make the same rounds by one call of pfs_rounds.
- *                                           Prints the makespan and a sum of the order */
+ *        library own ROUNDS FILE FORM       NEH and ROUNDS rounds with seed 1 of a search of its own. Each round
+ *                                           inserts its jobs by calls of pfs_insert (`insert`) or by one of
+ *                                           pfs_construct (`construct`); with `local` a call of pfs_local_search
+ *                                           follows. The forms `rounds` and `passes` make the same rounds by one call
+ *                                           of pfs_rounds. Prints the makespan and a sum of the order */
 #include <inttypes.h>
 #include <stdio.h>
 #include <stdlib.h>
