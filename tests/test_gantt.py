@@ -34,8 +34,8 @@ BAD = {
     "an empty line": "\n",
     "a verdict": "wrong size\norder 2\njobs 3\n",
     "a fault": "pfs: cannot open\n",
-    "an empty line behind": THREE + "\n",
-    "another line behind": THREE + "makespan 10\n",
+    "an empty line after it": THREE + "\n",
+    "another line after it": THREE + "makespan 10\n",
     "carriage returns": THREE.replace("\n", "\r\n"),
     "two blanks": THREE.replace(" 9 10", "  9 10"),
     "no number of machines": THREE.replace("table 3 2", "table 3"),
@@ -56,7 +56,7 @@ BAD = {
     "a minus": THREE.replace("1 2 5 7 9", "1 2 5 7 -9"),
     "a point": THREE.replace("1 2 5 7 9", "1 2 5 7 9.5"),
     "a digit of another script": THREE.replace("1 2 5 7 9", "1 2 5 7 \u0669"),
-    "no number": THREE.replace("1 2 5 7 9", "1 2 5 7 nan"),
+    "not a number": THREE.replace("1 2 5 7 9", "1 2 5 7 nan"),
     "another makespan": THREE.replace("makespan 10", "makespan 11"),
     "no makespan": THREE.replace("makespan 10", "makespan"),
 }
@@ -68,10 +68,10 @@ BAD_WORDS = {
     "a folder's name": ["folder.svg"],
     "a folder that is missing": ["nowhere/picture.svg"],
     "a bound above the makespan": ["--bound", "11", "picture.svg"],
-    "a bound that is no number": ["--bound", "x", "picture.svg"],
+    "a bound that isn't a number": ["--bound", "x", "picture.svg"],
     "an unknown option": ["--unknown", "picture.svg"],
     "a width of nothing": ["--width", "0", "picture.svg"],
-    "a width that is no number": ["--width", "nan", "picture.svg"],
+    "a width that isn't a number": ["--width", "nan", "picture.svg"],
     "a width with a minus": ["--width=-3", "picture.svg"],
     "a width of a mile": ["--width", "63360", "picture.svg"],
     "no dots": ["--dpi", "0", "picture.svg"],
@@ -80,7 +80,7 @@ BAD_WORDS = {
     "a unit with a line end": ["--unit", "a\nb", "picture.svg"],
     "a unit with a byte that XML doesn't have": ["--unit", "a\x01b", "picture.svg"],
     "a table that is missing": ["missing", "picture.svg"],
-    "a table whose name a terminal would take for a command": ["missing\x1b[2J", "picture.svg"],
+    "a table whose name has control characters": ["missing\x1b[2J", "picture.svg"],
     "such an ending": ["picture.\x1b[2J"],
     "such an option": ["--x\x1b[2J", "picture.svg"],
     "such a word too many": ["a", "\x9b2J", "picture.svg"],
@@ -326,10 +326,10 @@ def test_any_two_of_eight_jobs_are_distinguishable(drawn: Drawn) -> None:
     assert difference_of_any_two(8, drawn) >= 14.3
 
 
-def test_the_numbers_beside_the_colours_are_readmes(top: pathlib.Path) -> None:
+def test_the_comment_on_the_colours_has_the_numbers_of_the_page(top: pathlib.Path) -> None:
     comment = " ".join((top / "tools" / "chart.py").read_text().replace("#", " ").split())
-    assert f"of so few jobs differ by {COLOURS.least} (CIEDE2000)" in comment
-    assert f"{COLOURS.some} of them by {COLOURS.least_of_some}" in comment and f" FEW = {COLOURS.few} " in comment
+    assert f"differ by {COLOURS.least} (CIEDE2000) or more" in comment
+    assert f"the first {COLOURS.some} differ by {COLOURS.least_of_some} or more" in comment and f" FEW = {COLOURS.few} " in comment
 
 
 @pytest.mark.parametrize("jobs", [COLOURS.few + 1, COLOURS.few + 2, COLOURS.few + 3, 500])
@@ -594,7 +594,7 @@ MANUAL = (pathlib.Path(__file__).resolve().parent.parent / "share" / "pfs-gantt.
 
 
 def defaults_of_manual() -> dict[str, str]:
-    """What the manual page tells as the default of each option that has one."""
+    """The default that the manual page states for each option that has one."""
     items = re.findall(r"^\.It Fl -(\w+)[^\n]*\n(.*?)(?=^\.It|^\.El)", MANUAL, re.MULTILINE | re.DOTALL)
     got = {option: re.search(r"^The default is (.*)\.$", text, re.MULTILINE) for option, text in items}
     return {option: found[1] for option, found in got.items() if found}
@@ -615,7 +615,7 @@ def test_a_default_that_a_page_states_is_the_options(got: dict[str, str], gantt:
         for number, is_usual in ((value, True), (str(int(value) - 1), False)):
             assert gantt(folder, f"--{option}", number, "picture.png") == Ran(b"", b"", 0)
             is_same = bool((folder / "picture.png").read_bytes() == usual)
-            assert is_same == is_usual, f"--{option} {number}, where the page tells {value} as its default"
+            assert is_same == is_usual, f"--{option} {number}, where the page states {value} as its default"
 
 
 # When an exit status is returned, as the manual page says it.
@@ -673,18 +673,18 @@ def test_a_table_without_end(top: pathlib.Path, folder: pathlib.Path, matplotlib
     with open(folder / "long", "wb") as file:
         file.truncate(67_108_865)
     words: list[str | pathlib.Path] = [tool("prlimit"), "--as=4000000000", top / "tools" / "gantt", path, "picture.svg"]
-    assert run_tool(words, folder) == Done(2, "", "gantt: no time table: longer than 67,108,864 bytes\n")
+    assert run_tool(words, folder) == Done(2, "", "gantt: not a time table: longer than 67,108,864 bytes\n")
 
 
 @pytest.mark.parametrize("module", ["numpy", "matplotlib"])
-def test_what_is_to_be_installed_is_named(top: pathlib.Path, folder: pathlib.Path, matplotlib: None,
+def test_a_missing_module_is_named_with_its_package(top: pathlib.Path, folder: pathlib.Path, matplotlib: None,
                                           module: str) -> None:
     (folder / "without").mkdir()
     (folder / "without" / f"{module}.py").write_text(f"raise ModuleNotFoundError(\"No module named '{module}'\")\n")
     (folder / "table").write_text(THREE)
     got = run_tool([top / "tools" / "gantt", "table", "picture.svg"], folder,
                    env=dict(os.environ, PYTHONPATH=str(folder / "without"), PYTHONDONTWRITEBYTECODE="1"))
-    assert got == Done(2, "", f"gantt: No module named '{module}': it needs numpy and matplotlib "
+    assert got == Done(2, "", f"gantt: No module named '{module}': install NumPy and matplotlib "
                                "(Debian: python3-matplotlib)\n")
     assert not (folder / "picture.svg").exists()
 
@@ -706,7 +706,7 @@ def image(gantt: Gantt, folder: pathlib.Path) -> Picture:
     case = steps(2000)
     ran = gantt(folder, "--dpi", "100", "picture.svg", text=case.text())
     assert (ran.status, ran.stdout) == (0, b"")
-    assert re.fullmatch("gantt: 4,000 operations, [^\n]* image, 100 dots an inch\n", ran.stderr.decode())
+    assert re.fullmatch("gantt: 4,000 operations [^\n]* image of 100 dots per inch\n", ran.stderr.decode())
     return Picture(folder / "picture.svg")
 
 
@@ -808,32 +808,32 @@ def test_a_kind_of_picture_is_the_same_each_time(ending: str, gantt: Gantt, fold
     assert sorted(path.name for path in folder.iterdir()) == [f"picture.{ending}", "table"]
 
 
-def assert_refused(ran: Ran, folder: pathlib.Path, before: list[pathlib.Path]) -> None:
+def assert_rejected(ran: Ran, folder: pathlib.Path, before: list[pathlib.Path]) -> None:
     """Nothing but one line on standard error, and no file is left."""
     assert (ran.status, ran.stdout) == (2, b"")
     assert re.fullmatch("gantt: [^\n]+\n", ran.stderr.decode()), ran.stderr
-    assert ran.stderr.decode()[:-1].isprintable(), f"a terminal takes a part of this for a command: {ran.stderr!r}"
+    assert ran.stderr.decode()[:-1].isprintable(), f"a terminal interprets a part of this as a command: {ran.stderr!r}"
     assert sorted(folder.iterdir()) == before
 
 
 @pytest.mark.parametrize("text", BAD.values(), ids=BAD)
 def test_an_invalid_table_is_rejected(text: str, gantt: Gantt, folder: pathlib.Path) -> None:
-    assert_refused(gantt(folder, "picture.svg", text=text), folder, [])
+    assert_rejected(gantt(folder, "picture.svg", text=text), folder, [])
 
 
 @pytest.mark.parametrize("end", range(len(THREE)))
 def test_a_table_that_is_cut_is_rejected(end: int, gantt: Gantt, folder: pathlib.Path) -> None:
-    assert_refused(gantt(folder, "picture.svg", text=THREE[:end]), folder, [])
+    assert_rejected(gantt(folder, "picture.svg", text=THREE[:end]), folder, [])
 
 
 @pytest.mark.parametrize("words", BAD_WORDS.values(), ids=BAD_WORDS)
 def test_invalid_arguments_are_rejected(words: list[str], gantt: Gantt, folder: pathlib.Path) -> None:
     (folder / "folder.svg").mkdir()
-    assert_refused(gantt(folder, *words), folder, [folder / "folder.svg"])
+    assert_rejected(gantt(folder, *words), folder, [folder / "folder.svg"])
 
 
 def test_an_invalid_table_keeps_the_old_picture(gantt: Gantt, folder: pathlib.Path) -> None:
     old = folder / "picture.svg"
     old.write_text("old")
-    assert_refused(gantt(folder, "picture.svg", text=THREE[:-2]), folder, [old])
+    assert_rejected(gantt(folder, "picture.svg", text=THREE[:-2]), folder, [old])
     assert old.read_text() == "old"

@@ -1,6 +1,6 @@
 """Draws a time table as a Gantt chart: a row for each machine, a colour for each job, idle time in grey. tools/gantt is
-its command line. Who imports it makes a Table, and draws it on a figure of matplotlib. Needs matplotlib (Debian:
-python3-matplotlib), with which numpy comes."""
+its command line. As a module: make a `Table`, and draw it on a figure of matplotlib. Needs matplotlib, which depends on
+NumPy (Debian: python3-matplotlib)."""
 from __future__ import annotations
 
 import importlib
@@ -12,25 +12,25 @@ import textwrap
 from collections.abc import Sequence
 from typing import Any, NamedTuple
 
-# Sizes in inches, of letters in points.
+# Sizes are in inches, those of letters in points.
 LETTERS = 8
 DIGIT = 0.66 * LETTERS / 72
 HIGHEST_ROWS = 12
-# Rows that aren't higher have no letters.
+# Rows of this height or less have no letters.
 SMALLEST_ROW = 0.2
-# The key of places and names: letters in points, their width and the lines in inches.
+# The key of places and names: the size and the width of its letters, and the height of its lines.
 KEY_LETTERS = 7
 KEY_DIGIT = 0.64 * KEY_LETTERS / 72
 KEY_LINE = 0.14
 NARROW = 6
-# What stands beside the rows: marks of the machines at the left, idle shares at the right.
+# The space for the names of the machines at the left and the shares of idle time at the right.
 BESIDE = 1.5
 IDLE = "#d9d9d9"
-# From so many operations on, or where there are more jobs than pixels from left to right, the rows are one image.
+# If there are more operations, or more jobs than pixels from left to right, the rows are one image.
 MANY = 20_000
-# Any two of the colours of so few jobs differ by 4.6 (CIEDE2000) or more, also for eyes without the red or the green
-# cones (as Machado et al., 2009, compute what these see); the first ones differ more, 20 of them by 9.0. So do they
-# from the grey of idle time. Each was taken as far from those before it as could be.
+# Up to this number of jobs have colours of the palette. Any two of them, and the grey of idle time, differ by 4.6
+# (CIEDE2000) or more, also without the red or the green cones (simulated as in Machado et al., 2009); the first 20
+# differ by 9.0 or more. Each colour was chosen as far as possible from those before it.
 FEW = 60
 PALETTE = """
     326ebe 5a7800 f0c81e 508c82 8cb4fa 82b482 8c4650 963278 78a000 c896b4 5a8c5a 96e696 8282fa a0dcfa 4682a0
@@ -38,17 +38,17 @@ PALETTE = """
     14aa96 3c82c8 a0e66e 1e8282 aa0096 c84600 8cc882 bedcb4 beb400 f03c6e 00d2d2 3250d2 50aaaa 78783c c81e64
     f0783c 9696f0 326ef0 96c8fa 00aac8 3296aa 64aa8c b41e32 32788c 32a06e aac8a0 3c78aa 509682 465a82 a0d278""".split()
 
-# A colour's parts of red, green and blue.
+# Red, green and blue, each from 0 to 1.
 Colour = tuple[float, float, float]
-# A figure and an axis of matplotlib, and an array of numpy, which have no types here.
+# Figures and axes of matplotlib, and arrays of NumPy, which have no types here.
 Figure = Any
 Axis = Any
 Array = Any
 
 
 class Table(NamedTuple):
-    """The jobs in their order, and when each of them starts and ends: whole numbers, by place in the order and by
-    machine. Names of jobs 1 and so on, and of the machines, where they have any."""
+    """The order of the jobs, numbered from 1, and the start and the end of each operation, by place in the order and by
+    machine. The names are optional; those of the jobs are in the order of their numbers."""
     order: list[int]
     starts: Array
     ends: Array
@@ -72,9 +72,9 @@ class Table(NamedTuple):
 
 
 class Look(NamedTuple):
-    """How a table is drawn: inches from left to right, dots an inch, whether there are a title and a critical path, a
-    lower bound, the unit of the times, how many decimals they have, for a scale of dates its title and the times that
-    it marks with their texts, and whether bars that are too short for a job's name have its place, with a key below."""
+    """How a table is drawn. The width is in inches, and `dpi` is dots per inch. `decimals` is the number of decimals of
+    the times. A scale of dates has a title, `scale`, and marks, each a time and its text. With `key`, a bar that is too
+    short for its job's name has the job's place in the order, and a key below the rows has the names."""
     width: float = 12.0
     dpi: int = 110
     title: bool = True
@@ -86,18 +86,19 @@ class Look(NamedTuple):
     marks: Sequence[tuple[float, str]] = ()
     key: bool = False
 
-    def told(self, time: float) -> str:
+    def formatted(self, time: float) -> str:
         return f"{time:,.0f}" if self.decimals == 0 else f"{time / 10**self.decimals:,.{self.decimals}f}"
 
 
 def table_of(order: list[int], starts: Any, ends: Any) -> Table:
-    """A table of lists, job by job."""
+    """Return the table of these lists, which have a row for each job."""
     numpy = importlib.import_module("numpy")
     return Table(order, numpy.asarray(starts, dtype="int64"), numpy.asarray(ends, dtype="int64"))
 
 
 def critical_path(table: Table) -> list[tuple[int, int]]:
-    """Places and machines of operations without a wait between them, from time 0 to the makespan."""
+    """Return the places and machines of a critical path: operations from 0 to the makespan without a wait between
+    them."""
     place, machine = table.jobs - 1, table.machines - 1
     path = [(place, machine)]
     while place or machine:
@@ -112,8 +113,8 @@ def critical_path(table: Table) -> list[tuple[int, int]]:
 # Colours
 
 def colours(order: list[int]) -> list[Colour]:
-    """The colour of each job: of few jobs by their numbers, of many by their places, the rainbow along the order, in
-    which the neighbours differ by their lightness."""
+    """Return the colour of each job of the order. Few jobs have the colours of the palette, by their numbers. For many
+    jobs the hue changes along the order, and neighbours differ in their lightness."""
     if len(order) <= FEW:
         return [rgb_of(PALETTE[job - 1]) for job in order]
     return [of_lightness((40, 75, 57)[place % 3], 320 * place / len(order)) for place in range(len(order))]
@@ -125,7 +126,7 @@ def rgb_of(digits: str) -> Colour:
 
 
 def of_lightness(lightness: float, hue: float) -> Colour:
-    """The colour of this lightness (L* of CIELAB, 0 to 100) and hue, in degrees."""
+    """Return the colour of this lightness (L* of CIELAB, 0 to 100) and this hue, in degrees."""
     along, chroma = math.radians(hue), 45
     y = (lightness + 16) / 116
     x, z = y + chroma * math.cos(along) / 500, y - chroma * math.sin(along) / 200
@@ -139,7 +140,7 @@ def of_lightness(lightness: float, hue: float) -> Colour:
 
 
 def ink(background: Colour) -> str:
-    """Black or white, whichever can be read better: the contrast (WCAG) of the better one is 4.58 or more."""
+    """Return black or white, whichever has the greater contrast, which is 4.58 or more (WCAG)."""
     red, green, blue = (part / 12.92 if part <= 0.04045 else ((part + 0.055) / 1.055) ** 2.4 for part in background)
     return "black" if (0.2126 * red + 0.7152 * green + 0.0722 * blue + 0.05) ** 2 > 0.05 * 1.05 else "white"
 
@@ -147,7 +148,7 @@ def ink(background: Colour) -> str:
 # The picture
 
 def new_figure(table: Table, look: Look) -> Figure:
-    """An empty figure that is large enough for the rows."""
+    """Return an empty figure that is large enough for the rows and the key."""
     logging.getLogger("matplotlib").setLevel(logging.ERROR)
     matplotlib = importlib.import_module("matplotlib")
     matplotlib.rcParams.update({"svg.fonttype": "none", "svg.hashsalt": "pfs", "pdf.fonttype": 42, "font.size": 9})
@@ -165,17 +166,17 @@ def row_height(table: Table) -> float:
 
 
 def inches(table: Table, look: Look) -> float:
-    """How long a unit of time is on the picture."""
+    """Return the length of a unit of time in the picture."""
     return max(0.5, look.width - BESIDE) / max(1, table.makespan)
 
 
 def is_image(table: Table, look: Look) -> bool:
-    """Whether the rows are drawn as an image: there are very many operations, or they are thinner than a pixel."""
+    """Whether the rows are drawn as an image: there are very many operations, or more jobs than pixels in a row."""
     return table.jobs * table.machines > MANY or table.jobs > max(0.5, look.width - BESIDE) * look.dpi
 
 
 def draw(figure: Figure, table: Table, look: Look) -> None:
-    """The whole picture, on an empty figure."""
+    """Draw the whole picture on an empty figure."""
     axis = figure.subplots()
     fills = colours(table.order)
     if is_image(table, look):
@@ -196,20 +197,20 @@ def draw(figure: Figure, table: Table, look: Look) -> None:
 
 
 def title_of(table: Table, look: Look, size: int) -> str:
-    """The title, in as many lines as its letters of this size need."""
-    title = f"{table.jobs} jobs on {table.machines} machines: makespan {look.told(table.makespan)}"
-    title += f", bound {look.told(look.bound)} (dashed)" if look.bound is not None else ""
+    """Return the title, broken into lines that fit at this size of letters."""
+    title = f"{table.jobs} jobs on {table.machines} machines: makespan {look.formatted(table.makespan)}"
+    title += f", bound {look.formatted(look.bound)} (dashed)" if look.bound is not None else ""
     title += ", critical path outlined" if look.critical else ""
     return textwrap.fill(title, max(20, int(72 * (look.width - 0.9) / (0.56 * size))))
 
 
 def draw_image(axis: Axis, table: Table, look: Look, fills: list[Colour]) -> None:
-    """All rows as one image: the colour of a pixel is the mean of all that is at its time, idle time too."""
+    """Draw all rows as one image. The colour of a pixel is the mean of the colours at its time, with idle time."""
     numpy = importlib.import_module("numpy")
     width = max(1, int(max(0.5, look.width - BESIDE) * look.dpi))
     edges = numpy.linspace(0, table.makespan, width + 1)
     idle, shades = numpy.array(rgb_of(IDLE[1:])), numpy.array(fills)
-    # ten lines a machine, of which the first and the last are the white between the rows
+    # ten lines per machine; the first and the last are the white between the rows
     image = numpy.full((10 * table.machines, width, 3), 255, dtype="uint8")
     for machine in range(table.machines):
         starts, ends = table.starts[:, machine], table.ends[:, machine]
@@ -225,8 +226,8 @@ def draw_image(axis: Axis, table: Table, look: Look, fills: list[Colour]) -> Non
 
 
 def draw_machine(axis: Axis, table: Table, look: Look, machine: int, fills: list[Colour]) -> None:
-    """A grey strip, and on it the operations that take time, in the order of the jobs. The white edges between them
-    take at most a quarter of the shortest one."""
+    """Draw a grey strip, and on it the operations that take time, in the order of the jobs. The white edges between
+    them take at most a quarter of the shortest one."""
     starts, ends = table.starts[:, machine].tolist(), table.ends[:, machine].tolist()
     bars = [(start, end - start, fill) for start, end, fill in zip(starts, ends, fills) if end > start]
     shortest = 72 * inches(table, look) * min((length for _, length, _ in bars), default=0)
@@ -237,8 +238,8 @@ def draw_machine(axis: Axis, table: Table, look: Look, machine: int, fills: list
 
 
 def draw_numbers(axis: Axis, table: Table, look: Look, machine: int, fills: list[Colour]) -> None:
-    """A job's name or number where it fits into its bar, or its place in the key. Without a key there is none in a row
-    where fewer than half of them fit."""
+    """Write each job's name or number on its bar, or else its place in the key, if that fits. Without a key, a row has
+    no numbers if fewer than half of them fit."""
     if row_height(table) <= SMALLEST_ROW:
         return
     starts, ends = table.starts[:, machine].tolist(), table.ends[:, machine].tolist()
@@ -253,14 +254,14 @@ def draw_numbers(axis: Axis, table: Table, look: Look, machine: int, fills: list
 
 
 class Label(NamedTuple):
-    """What is written on a bar, and the size of its letters; whether it is the place in the key."""
+    """The text on a bar, the size of its letters, and whether it is a place in the key."""
     text: str
     letters: int = LETTERS
     is_place: bool = False
 
 
 def label_of(table: Table, look: Look, place: int, length: int) -> Label:
-    """What is written on a bar of this length: the job's name, its place in the key, or nothing."""
+    """Return the label of a bar of this length: the job's name, its place in the key, or an empty one."""
     room, name = inches(table, look) * length, table.label(table.order[place])
     if room > DIGIT * len(name) + 0.03:
         return Label(name)
@@ -270,12 +271,12 @@ def label_of(table: Table, look: Look, place: int, length: int) -> Label:
 
 
 def sign_of(table: Table) -> str:
-    """What is before the number of a place, if names are numbers too."""
+    """Return the sign before the number of a place, which is empty unless a name is a number."""
     return "#" if any(name.isdecimal() for name in table.job_names) else ""
 
 
 def has_key(table: Table, look: Look) -> bool:
-    """Whether a bar has a place in the key instead of a name."""
+    """Whether any bar has a place in the key instead of a name."""
     if not look.key or is_image(table, look) or row_height(table) <= SMALLEST_ROW:
         return False
     lengths = (table.ends - table.starts).tolist()
@@ -284,7 +285,7 @@ def has_key(table: Table, look: Look) -> bool:
 
 
 def key_columns(table: Table, look: Look) -> list[list[str]]:
-    """The places and names of all jobs, in columns of equal width."""
+    """Return the places and names of all jobs, in columns of equal width."""
     most = max(8, int((look.width - 0.4) / KEY_DIGIT) - 4)
     items = [f"{sign_of(table)}{place} {table.label(job)}" for place, job in enumerate(table.order, 1)]
     items = [item if len(item) <= most else f"{item[:most - 1]}\u2026" for item in items]
@@ -294,12 +295,12 @@ def key_columns(table: Table, look: Look) -> list[list[str]]:
 
 
 def key_height(table: Table, look: Look) -> float:
-    """The height of the key, in inches; 0 without one."""
+    """Return the height of the key, in inches; 0 if there is none."""
     return 0.2 + KEY_LINE * len(key_columns(table, look)[0]) if has_key(table, look) else 0
 
 
 def draw_key(figure: Figure, table: Table, look: Look, fills: list[Colour]) -> None:
-    """The key below the rows: a square of each job's colour, its place and its name."""
+    """Draw the key below the rows: a square of each job's colour, its place and its name."""
     columns = key_columns(table, look)
     height, wide = figure.get_figheight(), (look.width - 0.4) / len(columns)
     colour = iter(fills)
@@ -312,14 +313,14 @@ def draw_key(figure: Figure, table: Table, look: Look, fills: list[Colour]) -> N
 
 
 def draw_bound(axis: Axis, bound: int) -> None:
-    """A dashed line with white beside it, whole also where it stands at the end of the axis."""
+    """Draw a dashed line with a white edge, not clipped at the end of the axis."""
     axis.axvline(bound, color="white", linewidth=2.4, zorder=3.5, clip_on=False, gid="beside-bound")
     axis.axvline(bound, color="black", linestyle=(0, (4, 3)), linewidth=1.2, zorder=3.6, clip_on=False, gid="bound")
 
 
 def draw_path(axis: Axis, table: Table, look: Look) -> None:
-    """An outline around the critical operations of each machine, which follow each other without a wait. Of few
-    jobs it takes at most a quarter of the first and of the last of them, where that can be seen."""
+    """Outline the critical operations of each machine, which follow each other without a wait. With few jobs the line
+    covers at most a quarter of the first and of the last of them, unless it would be too thin to see."""
     for machine, group in itertools.groupby(critical_path(table), lambda operation: operation[1]):
         places = [place for place, _ in group]
         start, end = int(table.starts[places[0], machine]), int(table.ends[places[-1], machine])
@@ -333,7 +334,7 @@ def draw_path(axis: Axis, table: Table, look: Look) -> None:
 
 
 def scales(axis: Axis, table: Table, look: Look) -> None:
-    """Time from left to right, machines downwards, and what of the makespan each of them is idle."""
+    """Draw the axes: time from left to right, machines downwards, and at the right their shares of idle time."""
     step = next(step for step in (1, 2, 5, 10, 20, 50) if step * row_height(table) > 0.18)
     shown = range(step, table.machines + 1, step)
     axis.set_xlim(0, max(1, table.makespan))
@@ -341,13 +342,13 @@ def scales(axis: Axis, table: Table, look: Look) -> None:
     axis.set_yticks(shown, [table.machine_names[machine - 1] for machine in shown] if table.machine_names else None)
     for label in axis.get_yticklabels():
         label.set_parse_math(False)
-    # as it is, also where it looks like a formula
+    # not as a formula, even if it looks like one
     axis.set_xlabel(look.scale or f"time ({look.unit})", parse_math=False)
     axis.set_ylabel("machine")
     if look.marks:
         axis.set_xticks([time for time, _ in look.marks], [text for _, text in look.marks])
     else:
-        axis.xaxis.set_major_formatter(lambda value, _: look.told(value))
+        axis.xaxis.set_major_formatter(lambda value, _: look.formatted(value))
         axis.xaxis.get_major_locator().set_params(integer=True, **({} if look.width > NARROW else {"nbins": 5}))
     axis.spines[["top", "right", "left"]].set_visible(False)
     axis.tick_params(axis="y", length=0)
@@ -361,9 +362,9 @@ def scales(axis: Axis, table: Table, look: Look) -> None:
     axis.text(1.005, 1, "idle", transform=axis.transAxes, va="bottom", bbox=box)
 
 
-def picture_of(figure: Figure, ending: str, look: Look) -> bytes:
-    """Return a figure as svg, png or pdf. No dates, so that the same picture has the same bytes."""
+def picture_of(figure: Figure, extension: str, look: Look) -> bytes:
+    """Return a figure as SVG, PNG or PDF. It has no date, so that equal pictures have equal bytes."""
     dates = {"svg": {"Date": None}, "pdf": {"CreationDate": None}}
     picture = io.BytesIO()
-    figure.savefig(picture, format=ending, dpi=look.dpi, metadata=dates.get(ending))
+    figure.savefig(picture, format=extension, dpi=look.dpi, metadata=dates.get(extension))
     return picture.getvalue()

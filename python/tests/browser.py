@@ -50,10 +50,10 @@ function pixelsAt(places) {
 }
 function tell(seen) {
   document.getElementById("data").remove();
-  const told = document.createElement("pre");
-  told.id = "seen";
-  told.textContent = JSON.stringify(seen);
-  document.body.append(told);
+  const element = document.createElement("pre");
+  element.id = "seen";
+  element.textContent = JSON.stringify(seen);
+  document.body.append(element);
 }
 """
 

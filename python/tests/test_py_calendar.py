@@ -166,7 +166,7 @@ def test_dates_increase_and_lead_back_to_the_times(drawn: tuple[datetime.datetim
     ({"begin": "2026-11-30T06:00+01:00"}, ValueError, "is not a local date and time"),
     ({"begin": "\u0662026-11-30T06:00"}, ValueError, "is not a local date and time"),
     ({"begin": ""}, ValueError, "is not a local date and time"),
-    ({"begin": 2026}, TypeError, "begin should be a date and time, not 2026"),
+    ({"begin": 2026}, TypeError, "begin must be a date and time, not 2026"),
     ({"begin": datetime.datetime(2026, 11, 30, tzinfo=datetime.timezone.utc)}, ValueError, "without a time zone"),
     ({"begin": datetime.datetime(2026, 11, 30, microsecond=1)}, ValueError, "in whole seconds"),
     ({"shifts": "6-14"}, ValueError, "'6-14' is not a shift such as 06:00-14:00"),
@@ -180,13 +180,13 @@ def test_dates_increase_and_lead_back_to_the_times(drawn: tuple[datetime.datetim
     ({"shifts": ["06:00-14:00", "06:00-14:00"]}, ValueError, "shifts overlap at 06:00"),
     ({"shifts": ["22:00-06:00", "05:00-13:00"]}, ValueError, "shifts overlap at 05:00"),
     ({"shifts": ["00:00-24:00", "05:00-13:00"]}, ValueError, "shifts overlap at 05:00"),
-    ({"shifts": [6]}, TypeError, "shifts should be texts, not 6"),
+    ({"shifts": [6]}, TypeError, "shifts must be texts, not 6"),
     ({"days": "mo-fr"}, ValueError, "'mo-fr' is not a day of the week such as mon, or days such as mon-fri"),
     ({"days": "mon-wed-fri"}, ValueError, "is not a day"), ({"days": ""}, ValueError, "'' is not a day"),
     ({"days": "mon,,tue"}, ValueError, "'' is not a day"),
     ({"days": "mon-mon"}, ValueError, "'mon-mon' has the same day twice: write mon"),
     ({"days": "mon-wed,tue"}, ValueError, "the day tue is there twice"),
-    ({"days": [1]}, TypeError, "days should be texts, not 1"),
+    ({"days": [1]}, TypeError, "days must be texts, not 1"),
 ])
 def test_calendars_that_are_rejected(words: dict[str, Any], kind: type[Exception], why: str) -> None:
     with pytest.raises(kind, match=re.escape(why)):
@@ -206,12 +206,12 @@ def test_what_is_read_as_the_same_calendar() -> None:
 
 
 NEEDED = "which dates need: write min, h, s or d in brackets into the first cell of the table, as in 'job [min]', or " \
-         "give "
+         "set "
 
 
 @pytest.mark.parametrize(("unit", "why"), [
     ("", f"the times have no unit, {NEEDED}`unit`"), ("pieces", f"'pieces' is not a unit of time, {NEEDED}`unit`"),
-    ("d", "a day of work may be 24 hours or the shifts of a day: give the times in hours")])
+    ("d", "a day of work may be 24 hours or the shifts of a day: write the times in hours")])
 def test_units_that_have_no_dates(tmp_path: pathlib.Path, unit: str, why: str) -> None:
     made = pfs.Instance([[3, 2]], unit=unit).schedule([0])
     calendar = pfs.Calendar("2026-11-30T06:00", days="mon-fri")
@@ -369,7 +369,7 @@ def test_a_plan_on_the_calendar(tmp_path: pathlib.Path, monkeypatch: pytest.Monk
     (["--begin", "2026-11-30T06:00"], TABLE.replace("[min]", "[m]"),
      f"pfs: 'm' is not a unit of time, {NEEDED}--unit\n"),
     (["--begin", "2026-11-30T06:00", "--days", "mon-fri", "--unit", "days"], TABLE.replace(" [min]", ""),
-     "pfs: a day of work may be 24 hours or the shifts of a day: give the times in hours\n"),
+     "pfs: a day of work may be 24 hours or the shifts of a day: write the times in hours\n"),
 ])
 def test_calendars_that_the_command_rejects(tmp_path: pathlib.Path, monkeypatch: pytest.MonkeyPatch, words: list[str],
                                             table: str, error: str, capsys: pytest.CaptureFixture[str]) -> None:

@@ -207,7 +207,7 @@ def test_the_title_says_what_is_drawn(seen: dict[str, Any]) -> None:
 def test_machines_jobs_and_the_scale_are_named(whole: Sheet) -> None:
     assert whole.names == ["saw", "drill", "paint"]
     texts = [text["text"] for text in whole.texts]
-    assert "time (h)" in texts, "the unit of the times isn't told"
+    assert "time (h)" in texts, "the unit of the times isn't shown"
     named = {key: text["text"] for key, text in whole.labels(schedule()).items()}
     names = ["chair", "table", "box"]
     # One operation takes no time; the others have room for their names.

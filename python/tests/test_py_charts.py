@@ -193,10 +193,10 @@ for (let place = 0; place < jobs; ++place) {
   canvas.dispatchEvent(new PointerEvent("pointermove", {clientX: box.left + xOf(middle), clientY: box.top + ROW / 2}));
   seen.tips.push(tip.textContent);
 }
-const told_ = document.createElement("pre");
-told_.id = "seen";
-told_.textContent = JSON.stringify(seen);
-document.body.append(told_);
+const seen_ = document.createElement("pre");
+seen_.id = "seen";
+seen_.textContent = JSON.stringify(seen);
+document.body.append(seen_);
 """
 
 
@@ -260,7 +260,7 @@ def test_the_policy_keeps_other_scripts_and_styles_out(chromium: str, tmp_path: 
     assert "unsafe" not in (tmp_path / "chart.html").read_text("utf-8")
     injected = ("<div id=extra><script>document.title = 'PWNED'</script><style>h1 { display: none }</style>"
                 "<img src='data:image/png;base64,x' onerror=\"document.title = 'PWNED'\"></div>")
-    script = STRUCTURE + 'told_.textContent = JSON.stringify([document.title, getComputedStyle(' \
+    script = STRUCTURE + 'seen_.textContent = JSON.stringify([document.title, getComputedStyle(' \
                          'document.querySelector("h1")).display, getComputedStyle(canvas).display]);'
     title, heading, chart = looked_at(chromium, tmp_path / "chart.html", tmp_path, script, injected)
     assert title.startswith("plan: 3 jobs"), "the page's policy lets a foreign script in"
@@ -303,7 +303,7 @@ def test_a_chart_on_axes_of_ones_own() -> None:
     assert (axes[0].get_title(), axes[1].get_title()) == ("", "right")
     assert not axes[0].collections and len(axes[1].collections) == 4, "two strips and two rows"
     assert figure.get_size_inches().tolist() == [8, 3]
-    with pytest.raises(ValueError, match="ax is for pictures, and a page has none"):
+    with pytest.raises(ValueError, match="ax is for pictures: a page has no axes"):
         a_schedule().plot("chart.html", ax=axes[0])
 
 

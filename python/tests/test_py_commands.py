@@ -401,7 +401,7 @@ def test_progress_is_reported_on_a_terminal_only(folder: pathlib.Path) -> None:
     ([*LONG, "--take", "61"], 3, "pfs: --take must be from 1 to 60, not 61\n"),
     ([*LONG, "--start", "for_nine"], 3, "pfs: for_nine: an order for 9 machines, and the instance has 10\n"),
     ([*LONG, "--start", "two"], 3, "pfs: --start has 2 jobs, but the instance has 60\n"),
-    (["plan", "bad.csv"], 2, "pfs: bad.csv: line 2, column 3: 'x' is no time\n"),
+    (["plan", "bad.csv"], 2, "pfs: bad.csv: line 2, column 3: 'x' isn't a time\n"),
     (["plan", "good.csv", "--chart", "chart.jpg"], 3,
      "pfs: chart.jpg: the name of a chart ends with .svg, .png, .pdf or .html\n"),
 ])
@@ -732,7 +732,7 @@ def test_names_that_a_terminal_would_take_for_commands(folder: pathlib.Path) -> 
     assert child.communicate(timeout=60)[1] == b"pfs: [Errno 2] No such file or directory: '\\x1b[2J.csv'\n"
     (folder / "\x1b[2J.csv").write_text("job,saw\na,x\n")
     child = start(["plan", "\x1b[2J.csv", "--rounds", "0"], folder)
-    assert child.communicate(timeout=60)[1] == b"pfs: \\x1b[2J.csv: line 2, column 2: 'x' is no time\n"
+    assert child.communicate(timeout=60)[1] == b"pfs: \\x1b[2J.csv: line 2, column 2: 'x' isn't a time\n"
 
 
 @pytest.mark.parametrize("words", [["plan", "x.csv", "--\x1b[2J"], ["plan", "x.csv", "\x1b[2J"], ["\x1b[2J"],

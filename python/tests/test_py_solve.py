@@ -430,7 +430,7 @@ def test_an_interruption_at_each_bytecode_loses_nothing(ends: dict[int, pfs.Solu
         if not tracer.has_come:
             break
         assert best == ends[best.rounds], f"interrupted at bytecode {at}: not where so many rounds end"
-        assert best.rounds >= Closing.made, f"interrupted at bytecode {at}: a part that was told is lost"
+        assert best.rounds >= Closing.made, f"interrupted at bytecode {at}: a part that was reported is lost"
     assert best == ends[ROUNDS]
     assert 2000 < at < MOST_BYTECODES - 1, f"{at} bytecodes"
 

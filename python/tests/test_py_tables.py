@@ -35,19 +35,19 @@ BAD_TABLES = {
     "no name of a machine": ("job,saw,\na,3,4\n", 1, 3, "the machine has no name"),
     "a job twice": ("job,saw\na,3\nb,2\na,4\n", 4, 1, "the job 'a' is in line 2, column 1 too"),
     "a machine twice": ("job,saw,saw\na,3,4\n", 1, 3, "the machine 'saw' is in line 1, column 2 too"),
-    "a word": ("job,saw\n\na,x\n", 3, 2, "'x' is no time"),
-    "a minus": ("job,saw\na,-1\n", 2, 2, "'-1' is no time"),
-    "a digit of another script": ("job,saw\na,\u0663\n", 2, 2, "'\u0663' is no time"),
+    "a word": ("job,saw\n\na,x\n", 3, 2, "'x' isn't a time"),
+    "a minus": ("job,saw\na,-1\n", 2, 2, "'-1' isn't a time"),
+    "a digit of another script": ("job,saw\na,\u0663\n", 2, 2, "'\u0663' isn't a time"),
     "no time": ("job,saw,drill\na,3,\n", 2, 3, MISSING),
     "a short row": ("job,saw,drill\na,3\n", 2, 0, "1 time for 2 machines"),
     "a long row": ("job,saw\na,3,4\n", 2, 0, "2 times for 1 machine"),
-    "a decimal comma": ('job,saw\na,"3,5"\n', 2, 2, "'3,5' is no time"),
+    "a decimal comma": ('job,saw\na,"3,5"\n', 2, 2, "'3,5' isn't a time"),
     "ten decimals": ("job,saw\na,0.0123456789\n", 2, 2, "'0.0123456789' has more than 9 decimals"),
     "a long time": ("job,saw\na,1000000001\n", 2, 2, "the time is above 1,000,000,000"),
     "a time too long with decimals": ("job,saw\na,1000000\nb,0.0001\n", 2, 2,
                                       "the time is above 1,000,000,000, counted in 4 decimals"),
-    "a fault after a cell of two lines": ('job,saw\n"a\nb",3\nc,x\n', 4, 2, "'x' is no time"),
-    "a fault after cells of many lines": ('"job\n\n",saw\n\n"a\r\nb",3\r\n"c\n",3\nd,x\n', 9, 2, "'x' is no time"),
+    "a fault after a cell of two lines": ('job,saw\n"a\nb",3\nc,x\n', 4, 2, "'x' isn't a time"),
+    "a fault after cells of many lines": ('"job\n\n",saw\n\n"a\r\nb",3\r\n"c\n",3\nd,x\n', 9, 2, "'x' isn't a time"),
     "a name twice after a cell of two lines": ('job,saw\n"a\nb",3\nc,1\nc,1\n', 5, 1,
                                               "the job 'c' is in line 4, column 1 too"),
     "an open quote before other lines": ('job,saw\na,"3\nb,4\nc,5\n', 4, 0,
@@ -98,21 +98,22 @@ WRONG_TABLES = {
     "minutes and seconds": ("job [min];saw\na;1:30\n", 1, 1, MINUTES.format("min")),
     "minutes and seconds in German": ("job;saw [Minuten]\na;1:30\n", 1, 1, MINUTES.format("Minuten")),
     "hours, minutes and seconds": ("job;saw\na;1:30:00\n", 2, 2,
-                                   "'1:30:00' is no time: write hours and minutes, as 1:30, or a number"),
+                                   "'1:30:00' isn't a time: write hours and minutes, as 1:30, or a number"),
     "hours, minutes and seconds beside others": (
         "job;saw\na;1:30\nb;1:30:00\n", 3, 2,
         "'1:30:00' isn't hours and minutes, as other times of the table are: leave out the seconds"),
-    "thousands with apostrophes": ("job;saw\na;1'000\n", 2, 2, '"1\'000" is no time: leave out thousands separators'),
+    "thousands with apostrophes": ("job;saw\na;1'000\n", 2, 2,
+                                   '"1\'000" isn\'t a time: leave out thousands separators'),
     "thousands with typographic apostrophes": ("job;saw\na;1\u2019000,5\n", 2, 2,
-                                               "'1\u2019000,5' is no time: leave out thousands separators"),
+                                               "'1\u2019000,5' isn't a time: leave out thousands separators"),
     "thousands with blanks": ("job;saw\na;12 345 678\n", 2, 2,
-                              "'12 345 678' is no time: leave out thousands separators"),
+                              "'12 345 678' isn't a time: leave out thousands separators"),
     "thousands with fixed blanks": ("job;saw\na;1\xa0000\n", 2, 2,
-                                    "'1\\xa0000' is no time: leave out thousands separators"),
+                                    "'1\\xa0000' isn't a time: leave out thousands separators"),
     "thousands with narrow blanks": ("job;saw\na;1\u202f000\n", 2, 2,
-                                     "'1\\u202f000' is no time: leave out thousands separators"),
+                                     "'1\\u202f000' isn't a time: leave out thousands separators"),
     "a unit at a time": ("job;saw\na;1,5 h\n", 2, 2,
-                         "'1,5 h' is no time: write the unit in brackets into the first cell of the table"),
+                         "'1,5 h' isn't a time: write the unit in brackets into the first cell of the table"),
     "two units": ("job;saw [min];drill [h]\na;3;2\n", 1, 3,
                   "the times of the machine are in h, and others are in min: use one unit"),
     "a machine without a unit": ("job;saw [min];drill\na;3;2\n", 1, 3,
@@ -236,7 +237,7 @@ def test_a_decimal_sign_that_is_given(tmp_path: pathlib.Path, decimal: str, cell
 @pytest.mark.parametrize(("decimal", "cell"), [(",", "1.5"), (".", "1,5"), (",", "12.3456"), (".", "1,0000.5"),
                                                (",", "1.000.00"), (".", "1234,567")])
 def test_what_isnt_grouped_by_thousands(tmp_path: pathlib.Path, decimal: str, cell: str) -> None:
-    with pytest.raises(pfs.TableFault, match="line 2, column 2: '.*' is no time"):
+    with pytest.raises(pfs.TableFault, match="line 2, column 2: '.*' isn't a time"):
         pfs.read_csv(written(tmp_path, f"job;saw\na;{cell}\n"), decimal=decimal)
 
 
@@ -310,4 +311,4 @@ def test_other_encodings_are_rejected(tmp_path: pathlib.Path) -> None:
 def test_zeros_group_no_thousands(tmp_path: pathlib.Path, text: str) -> None:
     with pytest.raises(pfs.TableFault) as fault:
         pfs.read_csv(written(tmp_path, f"job;saw\na;2,5\nb;{text}\n"), decimal=",")
-    assert (fault.value.line, fault.value.column, fault.value.text) == (3, 2, f"{text!r} is no time")
+    assert (fault.value.line, fault.value.column, fault.value.text) == (3, 2, f"{text!r} isn't a time")

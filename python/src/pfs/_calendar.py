@@ -26,7 +26,7 @@ DAYS = ("mon", "tue", "wed", "thu", "fri", "sat", "sun")
 STEPS = [step * unit for unit in (1, 60) for step in (1, 2, 5, 10, 15, 30)] + [3_600 * 2**at for at in range(20)]
 BEGIN = re.compile(r"([0-9]{4}-[0-9]{2}-[0-9]{2})[T ]([0-9]{2}:[0-9]{2}(?::[0-9]{2})?)", re.ASCII)
 SHIFT = re.compile(r"([0-9]{1,2}):([0-9]{2})-([0-9]{1,2}):([0-9]{2})", re.ASCII)
-UNIT_NEEDED = "write min, h, s or d in brackets into the first cell of the table, as in 'job [min]', or give `unit`"
+UNIT_NEEDED = "write min, h, s or d in brackets into the first cell of the table, as in 'job [min]', or set `unit`"
 
 # From when to when there is work, in microseconds.
 Span = tuple[int, int]
@@ -128,7 +128,7 @@ class Clock:
             what = f"{shop.unit!r} is not a unit of time" if shop.unit else "the times have no unit"
             raise ValueError(f"{what}, which dates need: {UNIT_NEEDED}")
         if seconds * SECOND == DAY and not calendar.is_always:
-            raise ValueError("a day of work may be 24 hours or the shifts of a day: give the times in hours")
+            raise ValueError("a day of work may be 24 hours or the shifts of a day: write the times in hours")
         self.calendar = calendar
         self.scale: int = 10**shop.decimals
         self.tick = seconds * SECOND
@@ -163,7 +163,7 @@ class Clock:
         found: list[tuple[float, str]] = []
         before = ""
         for at in range(int(end // step) + 1):
-            date, _, clock = told(self.calendar.start(self.worked(round(at * step))), digits).partition(" ")
+            date, _, clock = text_of(self.calendar.start(self.worked(round(at * step))), digits).partition(" ")
             found.append((at * step, f"{clock}\n{date}" if date != before else clock))
             before = date
         return found
@@ -176,12 +176,13 @@ class Clock:
         return next((digits for digits in range(6) if step % (SECOND // 10**digits * self.scale) == 0), 6)
 
 
-def told(moment: datetime, digits: int) -> str:
-    """A date and time with this many decimals of its seconds, or without seconds.
+def text_of(moment: datetime, digits: int) -> str:
+    """Return a date and time with this number of decimals of its seconds; with -1, without seconds.
 
     Examples
     --------
-    >>> told(datetime(2026, 11, 30, 6), -1), told(datetime(2026, 11, 30, 6), 0), told(datetime(2026, 11, 30, 6), 2)
+    >>> moment = datetime(2026, 11, 30, 6)
+    >>> text_of(moment, -1), text_of(moment, 0), text_of(moment, 2)
     ('2026-11-30 06:00', '2026-11-30 06:00:00', '2026-11-30 06:00:00.00')
     """
     text = moment.isoformat(" ", "microseconds")
@@ -200,10 +201,10 @@ def begin_of(begin: str | datetime) -> datetime:
     """When the work begins."""
     if isinstance(begin, datetime):
         if begin.tzinfo is not None or begin.microsecond:
-            raise ValueError("begin should be a local time without a time zone, in whole seconds")
+            raise ValueError("begin must be a local time without a time zone, in whole seconds")
         return begin
     if not isinstance(begin, str):
-        raise TypeError(f"begin should be a date and time, not {begin!r}")
+        raise TypeError(f"begin must be a date and time, not {begin!r}")
     found = BEGIN.fullmatch(begin.strip())
     try:
         if found:
@@ -217,7 +218,7 @@ def words_of(given: str | Iterable[str], what: str) -> Iterator[str]:
     """The texts between commas."""
     for text in [given] if isinstance(given, str) else given:
         if not isinstance(text, str):
-            raise TypeError(f"{what} should be texts, not {text!r}")
+            raise TypeError(f"{what} must be texts, not {text!r}")
         yield from (word.strip() for word in text.split(","))
 
 

@@ -90,7 +90,7 @@ def plot(schedule: Schedule, path: str | os.PathLike[str] | None, critical: bool
     ending = None if path is None else ending_of(path)
     frame = frame.checked()
     if ending == "html" and frame.ax is not None:
-        raise ValueError("ax is for pictures, and a page has none")
+        raise ValueError("ax is for pictures: a page has no axes")
     look = _gantt.Look(critical=critical, bound=shop.bound() if bound else None,
                        unit=shown(unit or shop.unit or UNIT), decimals=shop.decimals, width=float(frame.width),
                        dpi=frame.dpi, title=frame.title is True,
@@ -142,7 +142,7 @@ def drawn(table: _gantt.Table, look: _gantt.Look, path: str | os.PathLike[str] |
             if frame.ax is not None:
                 figure = frame.ax.figure
                 look = look._replace(width=frame.ax.get_window_extent().width / figure.dpi + _gantt.BESIDE)
-            _gantt.draw(Given(frame.ax) if frame.ax is not None else figure, table, look)
+            _gantt.draw(SingleAxes(frame.ax) if frame.ax is not None else figure, table, look)
             if isinstance(frame.title, str):
                 axes = frame.ax or figure.axes[0]
                 axes.set_title(shown(frame.title), parse_math=False)
@@ -153,8 +153,8 @@ def drawn(table: _gantt.Table, look: _gantt.Look, path: str | os.PathLike[str] |
         logger.setLevel(level)
 
 
-class Given:
-    """A stand-in for a figure, whose only axes are the given ones."""
+class SingleAxes:
+    """Replaces a figure where the caller passed the axes. `subplots` returns them."""
 
     def __init__(self, ax: Any) -> None:
         self.ax = ax

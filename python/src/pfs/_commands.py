@@ -14,7 +14,7 @@ from functools import partial
 from typing import Any, NoReturn, TextIO
 
 from pfs import _library as c
-from pfs._calendar import Calendar, Clock, begin_of, days_of, shifts_of, told as date_told
+from pfs._calendar import Calendar, Clock, begin_of, days_of, shifts_of, text_of as date_text
 from pfs._chart import ending_of, require_matplotlib
 from pfs._faults import Fault, TableFault
 from pfs._files import read, read_order
@@ -218,7 +218,7 @@ def ended(shop: Instance, best: Solution, clock: Clock) -> list[str]:
     """The line that says when a plan is finished; none if the calendar ends before."""
     try:
         schedule = shop.schedule(best)
-        return [f"end {date_told(clock.span(0, best.makespan)[1], clock.digits(schedule.starts, schedule.ends))}"]
+        return [f"end {date_text(clock.span(0, best.makespan)[1], clock.digits(schedule.starts, schedule.ends))}"]
     except ValueError:
         return []
 

@@ -9,7 +9,7 @@ from typing import TYPE_CHECKING, Any
 import numpy as np
 
 from pfs._atomic import atomic_write
-from pfs._calendar import Calendar, Clock, told
+from pfs._calendar import Calendar, Clock, text_of
 from pfs._names import amount
 from pfs._validate import Order
 
@@ -202,7 +202,7 @@ class Schedule:
             9999.
         """
         shop = self.instance
-        times_of = self._told if calendar is None else self._dates(calendar)
+        times_of = self._numbers if calendar is None else self._dates(calendar)
         lines = Lines()
         # With this line terminator, cells that contain \r or \n are quoted.
         rows = csv.writer(lines, delimiter=delimiter, lineterminator="\r\n")
@@ -216,7 +216,7 @@ class Schedule:
         atomic_write(path, text.encode("utf-8-sig" if mark else "utf-8"))
         return None
 
-    def _told(self, start: int, end: int) -> tuple[str, str]:
+    def _numbers(self, start: int, end: int) -> tuple[str, str]:
         """The times of an operation as they are written."""
         return amount(start, self.instance.decimals), amount(end, self.instance.decimals)
 
@@ -227,7 +227,7 @@ class Schedule:
 
         def dates(start: int, end: int) -> tuple[str, str]:
             first, last = clock.span(start, end)
-            return told(first, digits), told(last, digits)
+            return text_of(first, digits), text_of(last, digits)
 
         return dates
 

@@ -250,14 +250,14 @@ def without_units(table: Rows, heads: Sequence[Cell], unit: str) -> tuple[list[C
     units = [own if (own := unit_in(head.text)).casefold() in UNITS_OF_TIME else "" for head in heads]
     if not any(units):
         return list(heads), named
-    wanted = named or next(filter(None, units))
+    expected = named or next(filter(None, units))
     for head, own in zip(heads, units):
-        if not is_same_unit(own, wanted) and (own or not named):
+        if not is_same_unit(own, expected) and (own or not named):
             others = "`unit` is" if unit else "others are in"
-            raise table.fault(head, f"the times of the machine are in {own or 'no unit'}, and {others} {wanted}: use "
-                                    "one unit")
+            raise table.fault(head, f"the times of the machine are in {own or 'no unit'}, and {others} {expected}: "
+                                    "use one unit")
     return [Cell(head.line, head.column, UNIT.sub("", head.text) if own else head.text)
-            for head, own in zip(heads, units)], wanted
+            for head, own in zip(heads, units)], expected
 
 
 def is_above_names(first: str) -> bool:
@@ -350,7 +350,7 @@ class DecimalSign:
         match = NUMBER.match(text)
         if match is None or (match[2] not in (None, self.sign) and self.first is None):
             hint = next((f": {hint}" for wrong, hint in HINTS if wrong.fullmatch(cell.text)), "")
-            raise self.table.fault(cell, f"{cell.text!r} is no time{hint}")
+            raise self.table.fault(cell, f"{cell.text!r} isn't a time{hint}")
         if match[2] not in (None, self.sign) and self.first is not None:
             raise self.table.fault(cell, f"{cell.text!r} has another decimal sign than {self.first.text!r} in line "
                                          f"{self.first.line}, column {self.first.column}")
