@@ -1,4 +1,4 @@
-"""The command lines of the scripts, and how they report that they can't continue."""
+"""The command lines of the scripts, and their error messages."""
 from __future__ import annotations
 
 import argparse
@@ -20,7 +20,7 @@ HERE = pathlib.Path(__file__).resolve().parent
 IS_INSTALLED = HERE.parts[-3:] == ("libexec", "pfs", "experiments")
 # Where the program is searched for.
 PROGRAMS = f"{HERE.parent}/crates/pfs/out:{os.environ.get('PATH', os.defpath)}"
-# Seconds after which a program that prints nothing is not pfs.
+# Seconds after which a program that is being tested is killed.
 PATIENCE = 20.0
 # What `pfs generate 1 1 1` prints ends with this. Its first number is the one job's time.
 ONE_JOB = b"\n1 1 1 0 0\nprocessing times :\n1\n"
@@ -51,15 +51,15 @@ def integer_from(least: int) -> Callable[[str], int]:
 
 
 def need(program: str, package: str) -> None:
-    """Reports a program that is missing, with its package."""
+    """Raises an error with the name of the package if a program is not installed."""
     if shutil.which(program) is None:
         raise ExperimentError(f"{program} is not installed (Debian: {package})")
 
 
 def need_pfs(program: str | None) -> str:
-    """The path of the program, which must be pfs."""
+    """Returns the absolute path of the program, which must be pfs."""
     if program is None:
-        raise ExperimentError("pfs is not built (make run), and not on the path: name it by --pfs")
+        raise ExperimentError("pfs is not built (make run) and not on the path: pass it with --pfs")
     if not os.access(program, os.X_OK) or os.path.isdir(program):
         raise ExperimentError(f"{program} is not a program")
     if not prints(program, ONE_JOB):
@@ -68,7 +68,7 @@ def need_pfs(program: str | None) -> str:
 
 
 def prints(program: str, expected: bytes) -> bool:
-    """Whether the program draws the instance of one job. At most 1,000 bytes of its output are read."""
+    """Whether `PROGRAM generate 1 1 1` prints a text with this end. At most 1,000 bytes of the output are read."""
     words = [os.path.abspath(program), "generate", "1", "1", "1"]
     try:
         process = subprocess.Popen(words, stdin=subprocess.DEVNULL, stdout=subprocess.PIPE, stderr=subprocess.DEVNULL)
@@ -86,13 +86,13 @@ def prints(program: str, expected: bytes) -> bool:
 
 
 def plain(text: str) -> str:
-    """A text on one line for a terminal: control characters are shown by their escapes."""
+    """Returns a text with control characters escaped, for a terminal."""
     return "".join(sign if sign.isprintable() else sign.encode("unicode_escape", "backslashreplace").decode()
                    for sign in text)
 
 
 def report_error(script: str, error: Exception) -> int:
-    """Reports on one line why a script can't continue, and returns its exit status."""
+    """Reports an error on one line, and returns the exit status of the script."""
     file = (error.filename2 or error.filename) if isinstance(error, OSError) else None
     path = f"{os.fsdecode(file)}: " if isinstance(file, (str, bytes)) else ""
     line = f"{path}{error.strerror}" if isinstance(error, OSError) and error.strerror else str(error)
@@ -100,12 +100,12 @@ def report_error(script: str, error: Exception) -> int:
     return 2
 
 
-def run_script(script: str, make: Callable[[], int]) -> int:
-    """Runs a script, and returns its exit status. Names of files may have bytes that are not UTF-8."""
+def run_script(script: str, main: Callable[[], int]) -> int:
+    """Runs a script, and returns its exit status. Printed file names may contain bytes that are not UTF-8."""
     for stream in (sys.stdout, sys.stderr):
         if isinstance(stream, io.TextIOWrapper):
             stream.reconfigure(errors="backslashreplace")
     try:
-        return make()
+        return main()
     except (ExperimentError, OSError, ImportError) as error:
         return report_error(script, error)

@@ -15,17 +15,17 @@ from tables import cells_of, write_tables
 
 SETTING = ["method", "rounds", "take", "passes"]
 RESULT = ["instances", "won", "tied", "lost", "p", "pairs", "p_holm", "median_difference_percent", "vargha_delaney_a"]
-# The exact test is for at most this number of pairs; for more there is the normal approximation of SciPy.
+# The exact test is for at most this number of pairs; for more, SciPy's normal approximation is used.
 MOST_EXACT = 50
-NOTE = ("Won, tied, lost: instances on which the first one's mean makespan is less, the same, greater. p: Wilcoxon's "
-        "signed-rank test, two-sided, of the differences in RPD of the pairs that aren't tied, exact up to 50 pairs. "
-        "p holm: with Holm's correction for all rows. Median difference: of the RPDs, the first one's less the other "
-        "one's. Vargha-Delaney A: the probability that the first one's RPD is the less one, of two instances at "
-        "random.")
+NOTE = ("Won, tied, lost: the numbers of instances on which the first setting's mean makespan is less than, equal to "
+        "or greater than the other's. p: Wilcoxon's signed-rank test, two-sided, of the differences in RPD that are "
+        "not 0, exact up to 50 pairs. p holm: p with Holm's correction for all rows. Median difference: the median of "
+        "the first setting's RPD minus the other's. Vargha-Delaney A: the probability that the first setting's RPD on "
+        "a random instance is less than the other's on a random instance; ties count half.")
 
 
 class Mean(NamedTuple):
-    """Of an instance: the mean makespan and, if there is a reference, the mean RPD."""
+    """The mean makespan of an instance and, if there is a reference, its mean RPD."""
     makespan: Fraction
     rpd: Fraction | None
 
@@ -42,13 +42,13 @@ class Pair(NamedTuple):
 
     @property
     def differences(self) -> list[Fraction]:
-        """Those that are not tied."""
+        """The differences in RPD that are not 0."""
         return [one - other for one, other in self.rpds if one != other]
 
 
 def pairs_of(runs: list[Run]) -> list[Pair]:
-    """The pairs of settings of two methods, and those of one method that have the same rounds or time factor: more
-    rounds of a search are never worse. Only pairs with a common instance."""
+    """Returns the pairs of settings that have a common instance: those of two methods, and those of one method with the
+    same rounds or time factor. (More rounds of a search are never worse.)"""
     done = [run for run in runs if run.makespan is not None]
     settings = {key: means_of(group) for key, group in grouped(done, lambda run: run.setting)}
     found = []
@@ -60,7 +60,7 @@ def pairs_of(runs: list[Run]) -> list[Pair]:
 
 
 def means_of(runs: list[Run]) -> dict[str, Mean]:
-    """The means of each instance."""
+    """Returns the means of each instance."""
     means = {}
     for (instance,), group in grouped(runs, lambda run: (run.instance,)):
         makespan, reference = Fraction(sum(run.makespan or 0 for run in group), len(group)), group[0].reference
@@ -70,7 +70,7 @@ def means_of(runs: list[Run]) -> dict[str, Mean]:
 
 
 def unrelated_methods(runs: list[Run]) -> list[tuple[str, str]]:
-    """The pairs of methods without a common instance."""
+    """Returns the pairs of methods without a common instance."""
     instances = {method: {run.instance for run in group}
                  for (method,), group in grouped(runs, lambda run: (run.method,))}
     return [(one, other) for one, other in itertools.combinations(instances, 2)
@@ -80,16 +80,15 @@ def unrelated_methods(runs: list[Run]) -> list[tuple[str, str]]:
 # Statistics
 
 def probability(differences: list[Fraction], approximate: Callable[..., Any] | None) -> float | None:
-    """Of such differences or greater ones between methods that are equally good, by Wilcoxon's signed-rank test. There
-    is none for many pairs without SciPy."""
+    """Returns the p-value of Wilcoxon's signed-rank test; none for many pairs without SciPy."""
     if len(differences) <= MOST_EXACT:
         return exact(differences)
     return float(approximate(list(map(float, differences)), method="approx").pvalue) if approximate else None
 
 
 def exact(differences: list[Fraction]) -> float:
-    """The share of the choices of signs whose sum of ranks is as far from the middle as that of these differences, or
-    farther. Equal differences have the mean of their ranks, so twice a rank is a whole number."""
+    """Returns the share of all choices of signs whose sum of ranks is at least as far from the middle as that of these
+    differences. Equal differences have the mean of their ranks, so twice a rank is a whole number."""
     sizes: list[Fraction] = sorted(abs(each) for each in differences)
     ranks = {size: 2 * sizes.index(size) + sizes.count(size) + 1 for size in sizes}
     counts = {0: 1}
@@ -102,7 +101,7 @@ def exact(differences: list[Fraction]) -> float:
 
 
 def holm(probabilities: list[float | None]) -> list[float | None]:
-    """The probabilities with Holm's correction for their number."""
+    """Returns the probabilities with Holm's correction."""
     found: list[float | None] = [None] * len(probabilities)
     present = sorted((p, at) for at, p in enumerate(probabilities) if p is not None)
     greatest = 0.0
@@ -113,7 +112,7 @@ def holm(probabilities: list[float | None]) -> list[float | None]:
 
 
 def superiority(ones: list[Fraction], others: list[Fraction]) -> float:
-    """Vargha and Delaney's A for values of which less is better."""
+    """Returns Vargha and Delaney's A. Less is better."""
     wins = sum((one < other) + 0.5 * (one == other) for one in ones for other in others)
     return wins / (len(ones) * len(others))
 
@@ -121,7 +120,7 @@ def superiority(ones: list[Fraction], others: list[Fraction]) -> float:
 # The table
 
 def write_comparison(runs: list[Run], folder: pathlib.Path) -> bool:
-    """The table of all pairs, if there are any or if there are several methods. Returns whether there is one."""
+    """Writes the table of all pairs if there is a pair or there are several methods. Returns whether it was written."""
     pairs = pairs_of(runs)
     if not pairs and len({run.method for run in runs}) < 2:
         return False
@@ -130,7 +129,7 @@ def write_comparison(runs: list[Run], folder: pathlib.Path) -> bool:
         approximate = importlib.import_module("scipy.stats").wilcoxon
     except ImportError:
         if any(len(pair.rpds) > MOST_EXACT for pair in pairs):
-            note += " p of more pairs is left out: SciPy isn't there (Debian: python3-scipy)."
+            note += " p of more pairs needs SciPy (Debian: python3-scipy)."
     probabilities = [probability(pair.differences, approximate) if pair.rpds else None for pair in pairs]
     by_time = any(run.time_factor is not None for run in runs)
     setting = SETTING + (["time_factor"] if by_time else [])

@@ -20,7 +20,7 @@ MOST_MAKESPAN = 10 ** 18 - 1
 
 
 def rows_of(path: str, needed: Iterable[str]) -> list[Row]:
-    """The rows of a CSV, which must have these columns. Cells that are missing at the end of a row are empty."""
+    """Returns the rows of a CSV, which must have these columns. Missing cells at the end of a row are empty."""
     try:
         with open(path, newline="", encoding="utf-8-sig") as file:
             reader = csv.DictReader(file, restval="")
@@ -33,12 +33,12 @@ def rows_of(path: str, needed: Iterable[str]) -> list[Row]:
     if not rows:
         raise ExperimentError(f"{path}: no rows")
     if any(None in row for row in rows):
-        raise ExperimentError(f"{path}: a row is longer than the first line")
+        raise ExperimentError(f"{path}: a row has more cells than the first line")
     return rows
 
 
 def parse_int(text: str, most: int = MOST) -> int:
-    """A whole number from 0, also in the form `5.0`, which other programs write."""
+    """Returns the value of a whole number from 0. The form `5.0`, which other programs write, is accepted."""
     text = text.strip()
     found = re.fullmatch(r"0*([0-9]{1,20})(?:\.0*)?", text, re.ASCII)
     if not found:
@@ -49,7 +49,7 @@ def parse_int(text: str, most: int = MOST) -> int:
 
 
 def finite(text: str, least: float, most: float) -> float:
-    """A number from the least one to the greatest one."""
+    """Returns the value of a number in a range."""
     try:
         number = float(text)
     except ValueError:
@@ -64,7 +64,7 @@ def shortened(text: str) -> str:
 
 
 def reference_of(path: str) -> dict[str, tuple[int, str]]:
-    """The makespan to which those of an instance are compared, and its source, by the instance."""
+    """Returns the reference makespan of each instance in a CSV, and its source."""
     found: dict[str, tuple[int, str]] = {}
     for row in rows_of(path, ["instance", "makespan"]):
         try:
@@ -72,7 +72,7 @@ def reference_of(path: str) -> dict[str, tuple[int, str]]:
         except ValueError as error:
             raise ExperimentError(f"{path}: {error}") from None
         if found.setdefault(row["instance"], entry) != entry:
-            raise ExperimentError(f"{path}: two makespans of {row['instance']}")
+            raise ExperimentError(f"{path}: {row['instance']} has two makespans")
     return found
 
 
@@ -81,18 +81,18 @@ def reference_for(reference: dict[str, tuple[int, str]], instance: str) -> tuple
     return reference.get(instance) or reference.get(instance.rpartition("/")[2])
 
 
-# Cells that a spreadsheet takes for formulas
+# Cells that a spreadsheet would interpret as formulas
 
 FORMULA = re.compile("[=+@\t\r-]")
 
 
 def path_cell(path: str) -> str:
-    """A path that a spreadsheet shows as text. It is the same path."""
+    """Returns an equivalent path that a spreadsheet shows as text."""
     return f"./{path}" if FORMULA.match(path) else path
 
 
 def text_cell(text: str) -> str:
-    """A text that a spreadsheet shows as text."""
+    """Returns a text with an apostrophe before it if a spreadsheet would interpret it as a formula."""
     return f"'{text}" if FORMULA.match(text) else text
 
 

@@ -12,8 +12,8 @@ import time
 from types import FrameType
 from typing import Any
 
-# A program may take more than its processor time by this factor. One that waits may take this number of seconds more
-# than ten times as long.
+# A program may use this multiple of its processor time. In real time it may take ten times as long, and this number of
+# seconds more.
 TIMES, PATIENCE = 1.5, 10.0
 # The most bytes that a program may print.
 MOST_BYTES = 1_048_576
@@ -21,7 +21,7 @@ PR_SET_PDEATHSIG = 1
 
 
 class Failed(Exception):
-    """Why a program has no order."""
+    """A program printed no order. The message says why."""
 
 
 def run_command(words: list[str], folder: str, seconds: float | None) -> tuple[str, float]:
@@ -55,7 +55,7 @@ def run_command(words: list[str], folder: str, seconds: float | None) -> tuple[s
 
 
 def end_with_parent() -> None:
-    """Makes the kernel kill the program when `one` is killed."""
+    """Requests that the kernel kill the program when `one` is killed."""
     ctypes.CDLL(None).prctl(PR_SET_PDEATHSIG, signal.SIGKILL)
 
 
@@ -69,7 +69,7 @@ def too_long(spent: float, seconds: float) -> Failed:
 
 
 def output_of(child: subprocess.Popen[bytes], seconds: float | None) -> tuple[str, str]:
-    """Returns what a program writes until it ends. Its child processes are killed then."""
+    """Returns what a program writes until it ends. Then its child processes are killed."""
     texts: dict[Any, bytes] = {child.stdout: b"", child.stderr: b""}
     start = time.monotonic()
     with selectors.DefaultSelector() as selector:

@@ -1,4 +1,4 @@
-"""Plans of experiments: TOML files that say what is searched, and how."""
+"""Plans of experiments: TOML files that list the instances and the settings of the search."""
 from __future__ import annotations
 
 import contextlib
@@ -17,14 +17,14 @@ LIMITS = {"blocks": (1, 1000), "rounds": (0, 1_000_000), "takes": (1, 5000), "pa
           "seeds": (0, 2 ** 64 - 1)}
 TEXTS = {"reference": "the path of a CSV", "command": "a command", "method": "a name"}
 KEYS = {*NUMBERS, *TEXTS, "layout", "instances", "repetitions", "time_factors", "files"}
-# What a plan with a command has no use for.
+# Keys that a plan with a command can't have.
 OF_PFS = ("rounds", "takes", "passes")
 LEAST_FACTOR, MOST_FACTOR = 0.001, 10_000
 MOST_BYTES = 1_048_576
 
 
 def parse_toml(path: str) -> dict[str, Any]:
-    """The keys and values of a TOML file."""
+    """Returns the keys and values of a TOML file."""
     toml: Any = None
     for name in ("tomllib", "tomli"):
         with contextlib.suppress(ImportError):
@@ -42,17 +42,17 @@ def parse_toml(path: str) -> dict[str, Any]:
     except ValueError as error:
         raise ExperimentError(f"{path}: {error}") from None
     except RecursionError:
-        raise ExperimentError(f"{path}: its values are nested too deeply") from None
+        raise ExperimentError(f"{path}: the values are nested too deeply") from None
     return plan
 
 
 def read_plan(path: str) -> dict[str, Any]:
-    """The plan with its defaults. Patterns are replaced by the files that they match. `time_factors`, `command`,
-    `method` and `files` are missing where the file has none."""
+    """Reads a plan and adds the defaults. Patterns are replaced by the files that they match. `time_factors`,
+    `command`, `method` and `files` have no defaults."""
     plan = parse_toml(path)
     unknown = plan.keys() - KEYS
     if unknown:
-        raise ExperimentError(f"{path}: a plan has no key {min(unknown)!r}")
+        raise ExperimentError(f"{path}: unknown key {min(unknown)!r}")
     for key, what in TEXTS.items():
         if not isinstance(plan.get(key, ""), str) or "\0" in plan.get(key, ""):
             raise ExperimentError(f"{path}: {key} must be {what}")
@@ -76,7 +76,7 @@ def read_plan(path: str) -> dict[str, Any]:
 
 
 def numbers_of(path: str, plan: dict[str, Any], key: str) -> Any:
-    """A list of numbers of the plan, or its default."""
+    """Returns a list of numbers of the plan, or its default."""
     numbers, (least, most) = plan.get(key, NUMBERS[key]), LIMITS[key]
     if key in plan and not (isinstance(numbers, list) and numbers
                             and all(type(number) is int and least <= number <= most for number in numbers)):
@@ -100,12 +100,12 @@ def name_of_method(path: str, name: str) -> str:
 # Commands of other programs
 
 def command_of(path: str, plan: dict[str, Any]) -> dict[str, Any]:
-    """The command, split into words, and the files that it needs, by their paths from the plan's folder."""
+    """Returns the words of the command, and the files that it needs, as paths from the plan's folder."""
     if not plan.get("command") or "method" not in plan:
-        raise ExperimentError(f"{path}: a command needs a method, which is its name, and files need a command")
+        raise ExperimentError(f"{path}: command needs method, the name of the program, and files needs command")
     useless = [key for key in OF_PFS if key in plan]
     if useless:
-        raise ExperimentError(f"{path}: {useless[0]} is for pfs, and not for a command")
+        raise ExperimentError(f"{path}: {useless[0]} is for pfs, not for a command")
     try:
         words = shlex.split(plan["command"])
     except ValueError as error:
@@ -114,15 +114,15 @@ def command_of(path: str, plan: dict[str, Any]) -> dict[str, Any]:
     needed = {"instance"} | ({"block"} if plan.get("blocks", [1]) != [1] else set())
     allowed = {"instance", "seed", "block"} | ({"seconds"} if "time_factors" in plan else set())
     if needed - used:
-        raise ExperimentError(f"{path}: command must have {{{min(needed - used)}}}")
+        raise ExperimentError(f"{path}: command must contain {{{min(needed - used)}}}")
     if used - allowed:
         why = ", which needs time_factors" if min(used - allowed) == "seconds" else ""
-        raise ExperimentError(f"{path}: command has {{{min(used - allowed)}}}{why}")
+        raise ExperimentError(f"{path}: command contains {{{min(used - allowed)}}}{why}")
     return {"command": words, "files": files_of(path, words[0], plan.get("files")), "rounds": []}
 
 
 def files_of(path: str, program: str, patterns: object) -> list[str]:
-    """The files that a command needs: those of the plan, and its program where that is a path from the plan's
+    """Returns the files that a command needs: those of the plan, and its program if that is a path from the plan's
     folder."""
     files = matches(path, "files", patterns) if patterns is not None else []
     if "/" in program and not os.path.isabs(program):
@@ -137,7 +137,7 @@ def files_of(path: str, program: str, patterns: object) -> list[str]:
 # Files
 
 def matches(path: str, key: str, patterns: object) -> list[str]:
-    """The files that the patterns match, each once, by their paths from the plan's folder."""
+    """Returns the files that the patterns match, each once, as paths from the plan's folder."""
     if not isinstance(patterns, list) or not all(isinstance(pattern, str) for pattern in patterns) or not patterns:
         raise ExperimentError(f"{path}: {key} must be a list of paths")
     found: dict[str, None] = {}
@@ -146,7 +146,7 @@ def matches(path: str, key: str, patterns: object) -> list[str]:
         names = sorted(glob.glob(os.path.join(glob.escape(top), pattern))) if "\0" not in pattern else []
         names = [name[len(top):] if name.startswith(top) and not os.path.isabs(pattern) else name for name in names]
         if not names:
-            raise ExperimentError(f"{path}: no file is {pattern}")
+            raise ExperimentError(f"{path}: no file matches {pattern}")
         found.update(dict.fromkeys(names))
     for name in found:
         check_name(path, name)
@@ -156,9 +156,9 @@ def matches(path: str, key: str, patterns: object) -> list[str]:
 
 
 def check_name(path: str, name: str) -> None:
-    """Rejects a name that can't be in a list of runs."""
+    """Rejects a name that the list of runs can't contain."""
     if set(name) & set("\t\r\n"):
-        raise ExperimentError(f"{path}: a tab or line end is in the name {name!r}")
+        raise ExperimentError(f"{path}: the name {name!r} contains a tab or a line end")
     try:
         name.encode()
     except UnicodeEncodeError:

@@ -15,18 +15,18 @@ from reported import Run, grouped, known, names_of
 from runs import write_bytes
 from tables import size_name
 
-# One look on every machine, and the same bytes of the same runs. The fonts of a PDF are TrueType. No name is a formula.
+# The same runs give the same bytes on every machine. The fonts of a PDF are TrueType. No name is shown as a formula.
 SETTINGS = {"svg.fonttype": "none", "svg.hashsalt": "pfs", "pdf.fonttype": 42, "axes.grid": True, "grid.alpha": 0.3,
             "axes.spines.top": False, "axes.spines.right": False, "font.size": 9, "text.parse_math": False}
 DATES = {"svg": {"Date": None}, "pdf": {"CreationDate": None}}
-# The size of letters in points, and about how wide and high a letter is, in inches.
+# The size of letters in points, and the approximate width and height of a letter in inches.
 LETTERS = 9
 WIDE, HIGH = 0.077, 0.17
-# Inches of a panel's width that its axis has not.
+# The part of a panel's width to the left of its axis, in inches.
 MARGIN = 0.6
-# A name in a picture has at most this number of letters.
+# The most letters of a name in a picture.
 LONGEST = 40
-# Less time than this is not measured.
+# Shorter times can't be measured.
 LEAST_SECONDS = 1e-9
 
 # Figures, axes and colours of matplotlib, which has no types.
@@ -46,7 +46,7 @@ class Look(NamedTuple):
 
 
 def plot(runs: list[Run], folder: pathlib.Path, ending: str, width: float | None, dpi: int, titles: bool) -> None:
-    """Draws what the runs have. A plot is left out if no run has its values."""
+    """Draws the plots of the runs. A plot is left out if no run has its values."""
     matplotlib = importlib.import_module("matplotlib")
     matplotlib.rcParams.update(SETTINGS)
     viridis = matplotlib.colormaps["viridis"].resampled(256)
@@ -64,7 +64,7 @@ def plot(runs: list[Run], folder: pathlib.Path, ending: str, width: float | None
 
 
 def shown(name: str) -> str:
-    """A name as a picture shows it. Matplotlib leaves names with a low line in front out of a legend."""
+    """Returns a name as a picture shows it. Matplotlib leaves names that begin with an underscore out of a legend."""
     name = plain(name)
     return ("\u200b" if name.startswith("_") else "") + (name if len(name) <= LONGEST else f"{name[:LONGEST - 2]}..")
 
@@ -93,7 +93,7 @@ class Panels(NamedTuple):
 
 
 def columns_of(labels: list[str], width: float) -> int:
-    """How many columns of a legend fit into this width."""
+    """Returns the number of columns of a legend that fit into this width."""
     return max(1, min(len(labels), int((width - 0.2) / (0.75 + WIDE * max(map(len, labels))))))
 
 
@@ -121,20 +121,20 @@ def panels_of(count: int, columns: int, labels: list[str], look: Look, **shared:
 
 
 def titled(text: str, inches: float) -> str:
-    """A title, in as many lines as its letters need."""
+    """Returns a title, broken into lines that fit."""
     return textwrap.fill(text, max(12, int((inches - 0.4) / (1.12 * WIDE))))
 
 
 def from_zero(axis: Axis, least: float) -> None:
-    """Values that are never below 0 are shown from 0 on. This ends the automatic scaling of the axis: it comes after
-    all lines."""
+    """Lets the axis begin at 0 if no value is below 0. This stops its automatic scaling: call it after drawing all
+    lines."""
     if least >= 0:
         axis.set_ylim(bottom=0)
 
 
 def marks(values: list[float], places: list[float], inches: float) -> list[float]:
-    """The values whose labels fit side by side, by their places from 0 to 1: the ends first, and then those between
-    from the left."""
+    """Returns the values whose labels fit side by side, by their places from 0 to 1. The two ends are tried first, and
+    then the others from the left."""
     chosen: list[int] = []
     for at in dict.fromkeys([len(values) - 1, 0, *range(len(values))]):
         room = [(len(number(values[at])) + len(number(values[other]))) * WIDE / 2 + 0.08 for other in chosen]
@@ -150,8 +150,8 @@ def number(value: float) -> str:
 # By rounds
 
 def plot_by_rounds(runs: list[Run], value: str, name: str, title: str, look: Look) -> Figure | None:
-    """Panels for each method and number of passes, side by side the takes if there are several, and in a panel a line
-    for each size."""
+    """Draws a panel for each method, number of passes and take, with a line for each size. If there are several takes,
+    they are side by side."""
     runs = from_the_start([run for run in runs if getattr(run, value) is not None
                            and None not in (run.rounds, run.take, run.passes)])
     if not runs:
@@ -175,13 +175,12 @@ def plot_by_rounds(runs: list[Run], value: str, name: str, title: str, look: Loo
         axis.fill_between(at, least, greatest, color=shape["color"], alpha=0.2, linewidth=0, gid=f"band-{gid}")
     scale_rounds(made.panels[0], sorted({run.rounds or 0 for run in runs}), made.inches)
     from_zero(made.panels[0], min(getattr(run, value) for run in runs))
-    return made.finish("rounds of iterated greedy", name, f"{title}: mean, and from the least to the greatest seed",
+    return made.finish("rounds of iterated greedy", name, f"{title}: mean, and range over the seeds",
                        look, "jobs×machines")
 
 
 def from_the_start(runs: list[Run]) -> list[Run]:
-    """The runs, in which each take and number of passes of a method begins with the method's runs of 0 rounds: these
-    are the same for all."""
+    """Adds to each take and number of passes of a method the method's runs of 0 rounds, which are the same for all."""
     made = list(runs)
     for _, group in grouped(runs, lambda run: (run.method, *run.size)):
         zeros = [run for run in group if run.rounds == 0]
@@ -192,7 +191,7 @@ def from_the_start(runs: list[Run]) -> list[Run]:
 
 
 def band(runs: list[Run], value: str) -> list[tuple[int, float, float, float]]:
-    """By rounds: the mean of the seeds' means, the least and the greatest of them."""
+    """Returns for each number of rounds the mean of the seeds' means, the least and the greatest of them."""
     points = []
     for (rounds,), group in grouped(runs, lambda run: (run.rounds,)):
         means = [statistics.fmean(getattr(run, value) for run in same)
@@ -202,7 +201,7 @@ def band(runs: list[Run], value: str) -> list[tuple[int, float, float, float]]:
 
 
 def looks(runs: list[Run], colours: Colours) -> dict[tuple[int | None, int | None], dict[str, Any]]:
-    """A colour for each number of jobs, a kind of line for each number of machines."""
+    """Returns a colour for each number of jobs, and a line style for each number of machines."""
     jobs, machines = (sorted(each, key=lambda many: many or 0)
                       for each in ({run.jobs for run in runs}, {run.machines for run in runs}))
     return {(one, other): {"color": colours(jobs.index(one) / max(1, len(jobs) - 1)),
@@ -211,7 +210,7 @@ def looks(runs: list[Run], colours: Colours) -> dict[tuple[int | None, int | Non
 
 
 def scale_rounds(axis: Axis, rounds: list[int], inches: float) -> None:
-    """Many rounds have a logarithmic scale, with 0 before it."""
+    """Scales the axis of rounds: if there are many, logarithmically, with 0 before the rest."""
     if rounds[-1] > 20:
         axis.set_xscale("symlog", linthresh=next((each for each in rounds if each), 1), linscale=0.4)
     axis.set_xlim(rounds[0], rounds[-1] if rounds[-1] > rounds[0] else rounds[0] + 1)
@@ -226,7 +225,7 @@ def scale_rounds(axis: Axis, rounds: list[int], inches: float) -> None:
 # By seconds
 
 def plot_by_seconds(runs: list[Run], look: Look) -> Figure | None:
-    """A panel for each size, and in it a line for each method, take and passes: mean RPD by mean seconds."""
+    """Draws the mean RPD by the mean seconds: a panel for each size, a line for each method, take and passes."""
     runs = [run for run in runs if run.rpd is not None and (run.seconds or 0) >= LEAST_SECONDS]
     if not runs:
         return None
@@ -245,19 +244,19 @@ def plot_by_seconds(runs: list[Run], look: Look) -> Figure | None:
                       gid=f"seconds-{size[0]}-{size[1]}-{kind}")
         scale_seconds(axis, min(ends), max(ends), made.inches)
         from_zero(axis, min(known(run.rpd for run in here)))
-    return made.finish("processor time, s", "RPD, %", "Relative percentage deviation by time, means", look, "method")
+    return made.finish("processor time, s", "RPD, %", "Mean relative percentage deviation by time", look, "method")
 
 
 def points_of(runs: list[Run]) -> list[tuple[float, float]]:
-    """Mean seconds and mean RPD of each number of rounds and of each time factor, by the seconds."""
+    """Returns the mean seconds and the mean RPD of each number of rounds and each time factor, by the seconds."""
     parts = [same for _, same in grouped(runs, lambda run: (run.rounds, run.time_factor))]
     return sorted((statistics.fmean(known(run.seconds for run in same)),
                    statistics.fmean(known(run.rpd for run in same))) for same in parts)
 
 
 def scale_seconds(axis: Axis, least: float, most: float, inches: float) -> None:
-    """A logarithmic scale with at least two marks: at 1, 2 and 5 times each power of ten, at each power of ten, or at
-    some powers, by the room that their labels need."""
+    """Sets a logarithmic scale with at least two marks: at 1, 2 and 5 times each power of ten, at each power of ten, or
+    at some powers, so that their labels fit."""
     axis.set_xscale("log")
     least, most = least / 1.2, most * 1.2
     powers = range(math.floor(math.log10(least)), math.ceil(math.log10(most)) + 1)
@@ -286,7 +285,8 @@ def kind_name(kind: tuple[Any, ...]) -> str:
 # The time of a cell
 
 def plot_times(runs: list[Run], look: Look) -> Figure | None:
-    """A box for each size, of the runs of most rounds, in which the start of the process counts least."""
+    """Draws a box for each size, of the runs with the most rounds, on which the start of the process has the least
+    effect."""
     runs = [run for run in runs if run.cells and run.seconds is not None and None not in run.size]
     if not runs:
         return None
@@ -305,15 +305,15 @@ def plot_times(runs: list[Run], look: Look) -> Figure | None:
             line.set_gid(f"{name}-{jobs}-{machines}" + f"-{method}" * several)
     axis.set_ylim(bottom=0)
     axis.set_xlabel("jobs×machines")
-    axis.set_ylabel("processor time a table cell, ns")
+    axis.set_ylabel("processor time per table cell, ns")
     if look.titles:
-        title = titled(f"Time a cell at {most:,} rounds, with the start of the process", figure.get_figwidth())
-        axis.set_title(title + "\n(median, quartiles, least and greatest)", fontsize=LETTERS + 1)
+        title = titled(f"Time per cell at {most:,} rounds, with the start of the process", figure.get_figwidth())
+        axis.set_title(title + "\n(median, quartiles, minimum and maximum)", fontsize=LETTERS + 1)
     return figure
 
 
 def figure_of(labels: list[str], look: Look) -> tuple[Figure, Axis]:
-    """A figure of one axis with these labels side by side, upright if there is little room."""
+    """Returns a figure with one axis that has these labels side by side, rotated if they don't fit otherwise."""
     longest = max(len(line) for label in labels for line in label.split("\n"))
     width = look.width or max(6.5, 1 + 0.6 * len(labels))
     upright = (width - 1) / len(labels) < WIDE * longest + 0.1
@@ -327,8 +327,8 @@ def figure_of(labels: list[str], look: Look) -> tuple[Figure, Axis]:
 # Means with confidence intervals
 
 def plot_means(runs: list[Run], look: Look) -> Figure | None:
-    """The mean RPD of each setting over all of its instances, with the confidence interval of 95 % by Student's
-    distribution. Each instance counts once, by its mean. It needs SciPy."""
+    """Draws the mean RPD of each setting over all of its instances, with the confidence interval of 95 % by Student's
+    t-distribution. Each instance counts once, by its mean. Returns nothing without SciPy."""
     groups = grouped([run for run in runs if run.rpd is not None], lambda run: run.setting)
     try:
         student = importlib.import_module("scipy.stats").t

@@ -1,4 +1,4 @@
-"""The runs of a report: what the CSVs say of them, and their relative percentage deviations (RPD)."""
+"""The runs of a report, read from CSVs, and their relative percentage deviations (RPD)."""
 from __future__ import annotations
 
 import os
@@ -11,13 +11,13 @@ import csvs
 from csvs import ExperimentError, finite, parse_int
 
 HERE = pathlib.Path(__file__).resolve().parent
-# The greatest numbers of columns, beyond which a CSV has a fault.
+# Greater numbers in a CSV are rejected.
 MOST_SECONDS, MOST_PERCENT = 1e12, 1e20
 
 
 class Run(NamedTuple):
-    """A row of a CSV, as far as it is known. Only a run that succeeded has a makespan. A run by time has a time factor,
-    and no rounds. The reference is that of the CSV first, and then that of the RPD."""
+    """A row of a CSV. Unknown values are None. Only a run that succeeded has a makespan. A run by time has a time
+    factor and no rounds. The reference is first that of the CSV, and later that of the RPD."""
     method: str
     instance: str
     jobs: int | None
@@ -44,7 +44,7 @@ class Run(NamedTuple):
 
 
 class Reported(NamedTuple):
-    """The runs, what their RPD is relative to, and the runs that succeeded and have none."""
+    """The runs, a sentence on the reference of their RPD, and the runs that succeeded and have no reference."""
     runs: list[Run]
     basis: str
     unreferenced: list[Run]
@@ -53,10 +53,10 @@ class Reported(NamedTuple):
 Each = TypeVar("Each")
 
 
-# What is read
+# Reading
 
 def read(paths: list[str], reference_path: str | None) -> Reported:
-    """The runs of all CSVs, with what one knows of an instance and another does not, and their RPD."""
+    """Reads the runs of all CSVs and computes their RPD. The size of an instance may come from any of the CSVs."""
     stems = [pathlib.Path(path).stem for path in paths]
     names = [path if stems.count(stem) > 1 else stem for path, stem in zip(paths, stems)]
     runs = [run for path, name in zip(paths, names) for run in read_one(path, name)]
@@ -95,8 +95,8 @@ def number(row: csvs.Row, column: str, most: int = csvs.MOST) -> int | None:
 
 
 def short_names(runs: list[Run], count: int) -> list[str]:
-    """The instances by the last part of their paths, if there are several CSVs and no two of a method's have the same:
-    programs see them in other folders."""
+    """Returns the names of the instances without their folders, which may differ between programs, if there are several
+    CSVs and the names of each method's instances are distinct."""
     lasts: dict[str, dict[str, str]] = defaultdict(dict)
     clear = all(lasts[run.method].setdefault(os.path.basename(run.instance), run.instance) == run.instance
                 for run in runs)
@@ -106,20 +106,20 @@ def short_names(runs: list[Run], count: int) -> list[str]:
 # References
 
 def with_deviations(runs: list[Run], reference_path: str | None) -> Reported:
-    """The runs with their RPD. If no instance has a reference, the best makespan of the runs is that of each. If any
-    has one, the others have none: the best of few runs would make these look good."""
+    """Returns the runs with their RPD. If no instance has a reference, the best makespan of its runs is the reference.
+    If any has one, the others have none: the best of few runs would make these look good."""
     stated = csvs.reference_of(reference_path) if reference_path else {}
     done = [run for run in runs if run.makespan is not None]
     columns = {run.instance: run.reference for run in done if run.reference is not None}
     named = {run.instance: found[0] for run in done for found in [csvs.reference_for(stated, run.instance)] if found}
     known = best_known_of([run for run in done if run.instance not in named and run.instance not in columns])
     references = known | columns | named
-    parts = [f"that {reference_path} has" if reference_path else "",
-             "of the column `reference`" if columns.keys() - named.keys() else "",
-             "that is the best known one of Taillard's instance" if known else ""]
-    basis = "RPD: above the makespan " + ", or else the one ".join(part for part in parts if part) + "."
+    parts = [f"the makespan in {reference_path}" if reference_path else "",
+             "the makespan in the column `reference`" if columns.keys() - named.keys() else "",
+             "the best known makespan of Taillard's instance" if known else ""]
+    basis = "RPD: relative to " + ", or else ".join(part for part in parts if part) + "."
     if not references and not reference_path:
-        basis = "RPD: above the best makespan of any of these runs."
+        basis = "RPD: relative to the best makespan of any of these runs."
         for run in done:
             references[run.instance] = min(run.makespan or 0, references.get(run.instance, run.makespan or 0))
     runs = [run._replace(reference=references.get(run.instance),
@@ -128,7 +128,7 @@ def with_deviations(runs: list[Run], reference_path: str | None) -> Reported:
 
 
 def best_known_of(runs: list[Run]) -> dict[str, int]:
-    """The best known makespans of the instances that are Taillard's by their names and sizes."""
+    """Returns the best known makespans of Taillard's instances, which are recognised by their names and sizes."""
     best = csvs.reference_of(str(HERE / "best_known.csv"))
     sizes = {row["instance"]: (int(row["jobs"]), int(row["machines"]))
              for row in csvs.rows_of(str(HERE / "taillard.csv"), ["instance", "jobs", "machines"])}
@@ -141,7 +141,7 @@ def best_known_of(runs: list[Run]) -> dict[str, int]:
 
 
 def deviation(makespan: int | None, reference: int | None) -> float | None:
-    """How much a makespan is above the reference, in percent of it."""
+    """Returns the relative percentage deviation of a makespan from the reference."""
     if makespan is None or reference is None or (reference == 0 and makespan != 0):
         return None
     return 100 * (makespan - reference) / reference if reference else 0.0
@@ -150,7 +150,7 @@ def deviation(makespan: int | None, reference: int | None) -> float | None:
 # Groups
 
 def grouped(runs: Iterable[Each], key: Callable[[Each], tuple[Any, ...]]) -> list[tuple[tuple[Any, ...], list[Each]]]:
-    """The runs by their keys, the least key first. An unknown part is less than all others."""
+    """Returns the runs grouped by key, in the order of the keys. An unknown part of a key is less than all others."""
     groups = defaultdict(list)
     for run in runs:
         groups[key(run)].append(run)
@@ -162,7 +162,7 @@ def known(numbers: Iterable[float | None]) -> list[float]:
 
 
 def names_of(settings: list[tuple[Any, ...]]) -> list[str]:
-    """A short name of each setting: the method, and the parts in which its settings differ."""
+    """Returns a short name of each setting: the method, and the values in which the method's settings differ."""
     names = []
     for setting in settings:
         same = [other for other in settings if other[0] == setting[0]]

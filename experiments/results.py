@@ -1,4 +1,4 @@
-"""What the runs have printed, and how those that printed nothing ended."""
+"""The results of the runs, and the errors of runs without a result."""
 from __future__ import annotations
 
 import contextlib
@@ -20,7 +20,7 @@ LOGGED = re.compile(r"([0-9]+)\t[^\t\n]*(?:\t *[0-9.-]+){4}\t([0-9]+)\t([0-9]+)\
 
 
 def result_of(folder: pathlib.Path, number: str) -> Row | None:
-    """What a run has printed, with its order file; nothing if it is not complete."""
+    """Returns the result of a run, with its order file; None if it is incomplete."""
     try:
         text = (folder / "results" / number).read_bytes().decode()
         order, _, last = f"\n{text}".removesuffix("\n").rpartition("\n")
@@ -34,7 +34,7 @@ def result_of(folder: pathlib.Path, number: str) -> Row | None:
 
 
 def has_numbers(result: Row) -> bool:
-    """Whether a run that succeeded has all numbers, and its order."""
+    """Whether the result of a successful run has all numbers and an order."""
     try:
         for column, most in (("makespan", MOST_MAKESPAN), ("bound", MOST_MAKESPAN), ("cells", MOST), ("rounds", MOST)):
             # a command has no cells
@@ -45,13 +45,13 @@ def has_numbers(result: Row) -> bool:
 
 
 def is_done(folder: pathlib.Path, number: str, retry: bool) -> bool:
-    """Whether a run need not be repeated."""
+    """Whether a run is not repeated."""
     result = result_of(folder, number)
     return result is not None and not KILLED.fullmatch(result["status"]) and (result["status"] == "ok" or not retry)
 
 
 def logged(folder: pathlib.Path) -> dict[str, re.Match[str]]:
-    """The lines of GNU parallel's log by the numbers of the runs, the last line of each. Others are left out."""
+    """Returns the last line of each run in GNU parallel's log, by the number of the run."""
     try:
         text = (folder / "joblog").read_bytes().decode(errors="replace")
     except FileNotFoundError:
@@ -61,7 +61,7 @@ def logged(folder: pathlib.Path) -> dict[str, re.Match[str]]:
 
 
 def endings(folder: pathlib.Path) -> Row:
-    """How runs without a result ended, by their numbers: the log of GNU parallel, or what Slurm says of the task."""
+    """Returns the errors of runs without a result, by their numbers, from the logs of GNU parallel and Slurm."""
     found = {number: f"lost: exit {line[2]}, signal {line[3]}" for number, line in logged(folder).items()}
     for log in sorted(folder.glob("slurm/*.log"), key=lambda path: path.stat().st_mtime):
         number = ""
@@ -77,7 +77,8 @@ def endings(folder: pathlib.Path) -> Row:
 # Order files
 
 def order_name(run: Row) -> str:
-    """The name of a run's order file. The number distinguishes files of one name in several folders."""
+    """Returns the name of a run's order file. It has the number of the run, as instances in several folders may have
+    the same name."""
     file = os.path.basename(run["instance"]).encode()[:100].decode(errors="ignore").replace(":", "-block-")
     by_time = time_of(run)
     known = {**run, "rounds": "-" if by_time else run["rounds"], "time": by_time[0] if by_time else "-"}
@@ -87,8 +88,8 @@ def order_name(run: Row) -> str:
 
 
 def keep_order(folder: pathlib.Path, name: str, text: str) -> None:
-    """Writes an order file, unless it exists with this text. There is never a part of it. It is not synced, as the
-    result has the order too: the next start compares them."""
+    """Writes an order file atomically, unless it exists with this text. It is not synced, as the result contains the
+    order too, and the next start compares them."""
     path = folder / "orders" / name
     with contextlib.suppress(FileNotFoundError):
         if path.read_bytes() == text.encode():

@@ -17,7 +17,7 @@ COLUMNS = ["instance", "jobs", "machines", "rounds", "take", "passes", "seed", "
 
 
 def identity(run: Row) -> Row:
-    """Returns the columns of a row that are known before the run. Unknown ones are empty."""
+    """Returns the columns of a row that are known before the run. Unknown values are empty."""
     known = {column: value for column, value in run.items() if value != "-" or column == "instance"}
     by_time = time_of(run)
     times = {"rounds": "", "time_factor": by_time[0]} if by_time else {"time_factor": ""}
@@ -60,25 +60,25 @@ def gather(experiment: Experiment, csv_path: str) -> tuple[int, int]:
     writer.writerows(rows)
     write_text(pathlib.Path(csv_path), text.getvalue())
     failed = sum(row["status"] != "ok" for row in rows)
-    report_faults(rows)
+    report_errors(rows)
     print(f"{csv_path}: {len(rows)} runs, {failed} of them failed, {left} still to run", file=sys.stderr)
     return failed, left
 
 
-# The number of kinds of faults that are reported, and the columns that describe the first run of each.
+# The most kinds of errors that are reported, and the columns that describe the first run of each.
 MOST_KINDS = 10
 DISTINCT = ["rounds", "time_factor", "take", "passes", "seed"]
 
 
-def report_faults(rows: list[Row]) -> None:
-    """Reports the first fault of each kind, with its run. Faults of the same kind differ only in numbers."""
+def report_errors(rows: list[Row]) -> None:
+    """Reports the first error of each kind, with its run. Errors of the same kind differ only in numbers."""
     kinds: dict[str, list[Row]] = {}
     for row in rows:
         if row["status"] != "ok":
             kinds.setdefault(re.sub("[0-9]+", "0", row["status"]), []).append(row)
     for failed in list(kinds.values())[:MOST_KINDS]:
         first = ", ".join(f"{column.replace('_', ' ')} {failed[0][column]}" for column in DISTINCT if failed[0][column])
-        more = f", as {len(failed) - 1} more" if len(failed) > 1 else ""
-        print(plain(f"{failed[0]['instance']} ({first}) failed{more}: {failed[0]['status']}"), file=sys.stderr)
+        more = f" and {len(failed) - 1} more" if len(failed) > 1 else ""
+        print(plain(f"{failed[0]['instance']} ({first}){more} failed: {failed[0]['status']}"), file=sys.stderr)
     if len(kinds) > MOST_KINDS:
-        print(f"{len(kinds) - MOST_KINDS} more kinds of faults", file=sys.stderr)
+        print(f"{len(kinds) - MOST_KINDS} more kinds of errors", file=sys.stderr)

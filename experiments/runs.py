@@ -1,4 +1,4 @@
-"""The folder of a plan's runs, next to its CSV: the list of the runs, and copies of all that they read."""
+"""The folder of a plan's runs, next to its CSV: the list of the runs, and copies of all files that they read."""
 from __future__ import annotations
 
 import collections
@@ -20,22 +20,22 @@ from commands import HERE, IS_INSTALLED, need_pfs
 from csvs import ExperimentError, Row, reference_of
 from plan import read_plan
 
-# A module of the package for Python; where the scripts are installed it is in this folder.
+# A module of the package for Python. Where the scripts are installed, it is in this folder.
 sys.path.append(str(HERE.parent / "python" / "src" / "pfs"))
 import _atomic  # type: ignore[import]  # noqa: E402
 
-# A line of the list of runs, with tabs between the columns. What is not known is a hyphen. The number is that of the
+# A line of the list of runs, with tabs between the columns. An unknown value is a hyphen. The number is that of the
 # line. Rounds of a run by time are `time-FACTOR-SECONDS`.
 RUN = ["number", "file", "layout", "block", "rounds", "take", "passes", "seed", "repetition", "jobs", "machines",
        "instance"]
 LIBRARY = "libpfs.so.0"
 Key = tuple[str, ...]
-# The columns in which two runs differ. A run that is twice in a plan has two lines.
+# The columns that identify a run. A run that is twice in a plan has two lines.
 KEY = ["file", "block", "rounds", "take", "passes", "seed", "repetition"]
 
 
 class Experiment(NamedTuple):
-    """A plan, the folder of its runs, the lock, which all processes that inherit it hold, and the reference."""
+    """A plan, the folder of its runs, its lock, which child processes inherit, and the reference."""
     plan: dict[str, Any]
     folder: pathlib.Path
     lock: TextIO
@@ -52,7 +52,7 @@ def write_bytes(path: pathlib.Path, data: bytes) -> None:
 
 
 def damaged(path: pathlib.Path, why: object) -> ExperimentError:
-    return ExperimentError(f"{path} is damaged ({why}): delete the folder {path.parent.name} to begin again")
+    return ExperimentError(f"{path} is damaged ({why}): delete the folder {path.parent.name} to start again")
 
 
 def prepare(plan_path: str, csv_path: str, program: str | None) -> Experiment:
@@ -83,18 +83,18 @@ def prepare(plan_path: str, csv_path: str, program: str | None) -> Experiment:
 
 
 def lock_of(folder: pathlib.Path, csv_path: str) -> TextIO:
-    """Returns the lock of the folder. This waits for it."""
+    """Waits for the lock of the folder, and returns it."""
     lock = open(os.open(folder / "lock", os.O_WRONLY | os.O_CREAT | os.O_NOFOLLOW | os.O_CLOEXEC, 0o666), "w")
     try:
         fcntl.flock(lock, fcntl.LOCK_EX | fcntl.LOCK_NB)
     except BlockingIOError:
-        print(f"waiting for runs of {csv_path} that were started before", file=sys.stderr, flush=True)
+        print(f"waiting for the process that is already running {csv_path}", file=sys.stderr, flush=True)
         fcntl.flock(lock, fcntl.LOCK_EX)
     return lock
 
 
 def begin(folder: pathlib.Path, program: str) -> None:
-    """Copies the programs. The file plan.json, which is written last, says that the folder is complete."""
+    """Copies the programs. A folder is complete if it has the file plan.json, which is written last."""
     for half_done in folder.glob("pfs-experiment-*"):
         shutil.rmtree(half_done)
     (folder / "runs.tsv").unlink(missing_ok=True)
@@ -111,7 +111,7 @@ def copy_inputs(plan: dict[str, Any], plan_folder: str, folder: pathlib.Path, cs
     Existing copies aren't replaced."""
     stage, stored = folder / stage_of(folder), stored_plan(folder)
     if stored and stored.get("command") != plan.get("command"):
-        raise ExperimentError(f"{csv_path} was begun with another command: name another CSV")
+        raise ExperimentError(f"{csv_path} was started with another command: use another CSV")
     if "command" in plan and not (stage / "command.json").exists():
         for name in plan["files"]:
             (stage / "files" / name).parent.mkdir(parents=True, exist_ok=True)
@@ -127,7 +127,7 @@ def copy_inputs(plan: dict[str, Any], plan_folder: str, folder: pathlib.Path, cs
 
 
 def library() -> pathlib.Path:
-    """The library for C: the one that PFS_LIBRARY names, the built one, or the installed one."""
+    """Returns the path of the library for C: the one of PFS_LIBRARY, the built one, or the installed one."""
     if os.environ.get("PFS_LIBRARY"):
         return pathlib.Path(os.environ["PFS_LIBRARY"])
     places = [HERE.parent / "lib" / "out" / LIBRARY]
@@ -136,8 +136,8 @@ def library() -> pathlib.Path:
     for place in places:
         if place.exists():
             return place
-    raise ExperimentError(f"time_factors needs the library for C, and {places[0]} is missing (make lib, or Debian: "
-                          "libpfs0): PFS_LIBRARY names another one")
+    raise ExperimentError(f"time_factors needs the library for C, and {places[0]} is missing: run `make lib`, install "
+                          "it (Debian: libpfs0), or set PFS_LIBRARY to its path")
 
 
 def add_runs(plan: dict[str, Any], plan_folder: str, folder: pathlib.Path, csv_path: str) -> None:
@@ -146,7 +146,8 @@ def add_runs(plan: dict[str, Any], plan_folder: str, folder: pathlib.Path, csv_p
     if {key: stored.get(key) for key in plan} == plan:
         return
     if stored.get("layout", plan["layout"]) != plan["layout"]:
-        raise ExperimentError(f"{csv_path} was begun with another plan, of layout {stored['layout']}: name another CSV")
+        raise ExperimentError(f"{csv_path} was started with another plan, of layout {stored['layout']}: "
+                              "use another CSV")
     places = stored.get("places") or {name: at for at, name in enumerate(stored.get("instances", []), 1)}
     for name in plan["instances"]:
         copy_instance(os.path.join(plan_folder, name), folder, places.setdefault(name, len(places) + 1))
@@ -159,7 +160,7 @@ def add_runs(plan: dict[str, Any], plan_folder: str, folder: pathlib.Path, csv_p
         runs[numbers.setdefault(key, len(numbers) + 1)] = run
     if left:
         gone = ", ".join(f"{column} {value}" for column, value in zip(KEY[1:], min(left)[1:]))
-        raise ExperimentError(f"{csv_path} was begun with another plan, which has {gone}: name another CSV, or delete "
+        raise ExperimentError(f"{csv_path} was started with another plan, which has {gone}: use another CSV, or delete "
                               f"{folder}")
     lines = ("\t".join([str(number), *(runs[number][column] for column in RUN[1:])]) + "\n" for number in sorted(runs))
     write_text(folder / "runs.tsv", "".join(lines))
@@ -190,7 +191,7 @@ def copy_instance(path: str, folder: pathlib.Path, place: int) -> None:
 
 
 def numbers_of(folder: pathlib.Path) -> dict[Key, int]:
-    """The numbers of the listed runs, by their keys."""
+    """Returns the numbers of the listed runs, by their keys."""
     numbers: dict[Key, int] = {}
     seen: collections.Counter[Key] = collections.Counter()
     for run in runs_of(folder):
@@ -220,26 +221,26 @@ def planned_runs(plan: dict[str, Any], folder: pathlib.Path, places: dict[str, i
             if take is None:
                 take = "-" if jobs == "-" or not is_pfs else min(4, int(jobs))  # the default of pfs
             elif jobs != "-" and take > int(jobs):
-                raise ExperimentError(f"takes has {take}, which exceeds the {jobs} jobs of {label}")
+                raise ExperimentError(f"takes has {take}, but {label} has only {jobs} jobs")
             values = (file, plan["layout"], block, rounds, take, passes, seed, repetition, jobs, machines, label)
             yield dict(zip(RUN[1:], map(str, values)))
 
 
 def by_time(factor: float, jobs: str, machines: str) -> str:
-    """The rounds of a run by time: jobs times half the machines times the factor, in milliseconds."""
+    """Returns the rounds of a run by time. Its milliseconds are jobs times half the machines times the factor."""
     seconds = 0.0 if jobs == "-" else int(jobs) * int(machines) / 2 * factor / 1000
     factor_text, seconds_text = (f"{number:.9f}".rstrip("0").rstrip(".") for number in (factor, seconds))
     return f"time-{factor_text}-{seconds_text}"
 
 
 def time_of(run: Row) -> tuple[str, float] | None:
-    """The time factor and the seconds of a run by time."""
+    """Returns the time factor and the seconds of a run by time."""
     parts = re.fullmatch(r"time-([0-9]+(?:\.[0-9]+)?)-([0-9]+(?:\.[0-9]+)?)", run["rounds"], re.ASCII)
     return (parts[1], float(parts[2])) if parts else None
 
 
 def size_of(stage: pathlib.Path, file: str, layout: str, block: int) -> tuple[str, str]:
-    """Jobs and machines of an instance; hyphens if pfs rejects it."""
+    """Returns the jobs and machines of an instance; hyphens if pfs rejects it."""
     words = ["./pfs", "convert", "--from", layout, "--to", "orlib", "--block", str(block), file]
     done = subprocess.run(words, cwd=stage, stdin=subprocess.DEVNULL, capture_output=True, text=True, errors="replace")
     size = re.match("flow shop instance\n([0-9]{1,4}) ([0-9]{1,3})\n", done.stdout, re.ASCII)
@@ -249,7 +250,7 @@ def size_of(stage: pathlib.Path, file: str, layout: str, block: int) -> tuple[st
 # The content of a folder
 
 def stored_plan(folder: pathlib.Path) -> dict[str, Any]:
-    """Returns the stored plan, with the places of the instances and the order of the CSV; an empty one in a new
+    """Returns the stored plan, with the places of the instances and the order of the CSV. It is empty in a new
     folder."""
     path = folder / "plan.json"
     try:
@@ -265,14 +266,14 @@ def stored_plan(folder: pathlib.Path) -> dict[str, Any]:
 
 
 def stage_of(folder: pathlib.Path) -> str:
-    """The name of the folder with the program, the instances and `one`."""
+    """Returns the name of the folder of the program, the instances and `one`."""
     for stage in folder.glob("pfs-experiment-*"):
         return stage.name
-    raise ExperimentError(f"{folder} has no copy of the program: delete it to begin again")
+    raise ExperimentError(f"{folder} has no copy of the program: delete it to start again")
 
 
 def runs_of(folder: pathlib.Path) -> list[Row]:
-    """The runs by their numbers."""
+    """Returns the listed runs, in the order of their numbers."""
     path = folder / "runs.tsv"
     try:
         lines = path.read_bytes().decode().split("\n")
@@ -285,15 +286,15 @@ def runs_of(folder: pathlib.Path) -> list[Row]:
         if line.count("\t") != len(RUN) - 1 or run["number"] != str(number):
             raise damaged(path, f"line {number}")
     if lines[-1]:
-        raise damaged(path, "its last line has no end")
+        raise damaged(path, "its last line has no line end")
     return runs
 
 
 def in_plan_order(folder: pathlib.Path) -> list[Row]:
-    """The runs in the order of the plan."""
+    """Returns the runs in the order of the plan."""
     runs = runs_of(folder)
     sequence = stored_plan(folder).get("sequence") or list(range(1, len(runs) + 1))
     if not isinstance(sequence, list) or set(map(str, sequence)) != {run["number"] for run in runs} \
             or len(sequence) != len(runs):
-        raise damaged(folder / "plan.json", "it has other runs than runs.tsv")
+        raise damaged(folder / "plan.json", "its runs are not those of runs.tsv")
     return [runs[int(number) - 1] for number in sequence]

@@ -17,7 +17,7 @@ from runs import write_text
 GROUP = ["method", "jobs", "machines", "rounds", "take", "passes"]
 VALUES = ["runs", "failed", "mean_rpd_percent", "greatest_rpd_percent", "mean_gap_percent", "greatest_gap_percent",
           "mean_seconds"]
-# How many instances without a reference a note lists.
+# The most instances without a reference that a note lists.
 MOST_NAMES = 10
 
 
@@ -32,7 +32,7 @@ def size_name(size: tuple[Any, ...]) -> str:
 
 
 def markdown(text: str) -> str:
-    """A text as Markdown shows it, on one line, in a table or in the text."""
+    """Returns a text on one line, escaped for Markdown."""
     text = re.sub(r"([\\`*\[\]<>|~&])", r"\\\1", plain(text))
     return re.sub(r"(?<![^\W_])_|_(?![^\W_])", r"\\_", text)
 
@@ -59,14 +59,14 @@ def is_number(cell: str) -> bool:
 
 
 def write_markdown(path: pathlib.Path, columns: list[str], rows: list[list[str]], note: str) -> None:
-    """A table with a note below it."""
+    """Writes a table with a note below it."""
     lines = [columns, *([markdown(cell) for cell in row] for row in rows)]
     lines.insert(1, ["---:"] * len(columns))
     write_text(path, "".join(f"| {' | '.join(line)} |\n" for line in lines) + f"\n{note}\n")
 
 
 def write_tables(columns: list[str], rows: list[list[str]], path: pathlib.Path, note: str) -> None:
-    """A table as CSV and as Markdown, in which the columns have words for names."""
+    """Writes a table as CSV and as Markdown. In Markdown the names of the columns are words."""
     write_csv(path.with_suffix(".csv"), [columns, *rows])
     heads = [column.replace("_percent", ", %").replace("mean_seconds", "mean time, s").replace("_", " ")
              for column in columns]
@@ -76,7 +76,7 @@ def write_tables(columns: list[str], rows: list[list[str]], path: pathlib.Path, 
 # The table of all settings
 
 def write_table(reported: Reported, folder: pathlib.Path) -> None:
-    """By method, size and setting. There is a column for the time factors if any run has one."""
+    """Writes the table by method, size and setting. It has a column of time factors if any run has one."""
     by_time = any(run.time_factor is not None for run in reported.runs)
     columns = [*GROUP, *(["time_factor"] if by_time else []), *VALUES]
     rows = []
@@ -95,7 +95,7 @@ def mean_and_greatest(percent: list[float | None]) -> list[str]:
 
 
 def note_of(reported: Reported) -> str:
-    """What the RPD is relative to, and the runs that have none."""
+    """Returns the reference of the RPD, and the runs that have none."""
     note = markdown(reported.basis).replace(r"\`", "`")
     names = list(dict.fromkeys(run.instance for run in reported.unreferenced))
     if names:
@@ -107,8 +107,8 @@ def note_of(reported: Reported) -> str:
 # The table of a paper
 
 def write_sizes(runs: list[Run], folder: pathlib.Path) -> None:
-    """The mean RPD with a row for each size and a column for each setting, and the means of the columns. A column that
-    lacks a size has no mean."""
+    """Writes the mean RPD with a row for each size and a column for each setting, and the means of the columns. A
+    column that lacks a size has no mean."""
     runs = [run for run in runs if run.rpd is not None]
     settings = [setting for setting, _ in grouped(runs, lambda run: run.setting)]
     means = {(key[:2], key[2:]): statistics.fmean(known(run.rpd for run in group))
@@ -129,7 +129,7 @@ def rounded(value: float | None) -> str:
 
 
 def latex_table(heads: list[str], rows: list[list[str]]) -> str:
-    """A table for the package booktabs."""
+    """Returns a table for the LaTeX package booktabs."""
     lines = [" & ".join(map(latex, row)) + r" \\" for row in [heads, *rows]]
     columns = "l" + "r" * (len(heads) - 1)
     return "\n".join([r"% \usepackage{booktabs}", rf"\begin{{tabular}}{{{columns}}}", r"\toprule", lines[0],

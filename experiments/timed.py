@@ -26,7 +26,7 @@ class Found(NamedTuple):
 
 
 class Search:
-    """Iterated greedy from NEH's order. Times are those of a job on all machines, job by job."""
+    """Iterated greedy from NEH's order. The processing times are listed job by job."""
 
     def __init__(self, times: list[int], jobs: int, machines: int, take: int, passes: int, seed: int) -> None:
         self.library = ctypes.CDLL(os.path.join(HERE, LIBRARY))
@@ -38,7 +38,7 @@ class Search:
         self.makespan, self.cells, self.rounds = ctypes.c_uint64(), 0, 0
 
     def call(self, function: str, *arguments: object) -> None:
-        """Calls a function of the library, and adds the cells that it computed."""
+        """Calls a function of the library, and counts the cells that it computed."""
         cells = ctypes.c_uint64()
         number = getattr(self.library, function)(*self.arguments, *arguments, ctypes.byref(self.makespan),
                                                  ctypes.byref(cells))
@@ -63,8 +63,8 @@ class Search:
 
 
 def search(times: list[int], jobs: int, machines: int, take: int, passes: int, seed: int, seconds: float) -> Found:
-    """Searches for this processor time. A part is only started if it should end in time, as estimated from the part
-    before it."""
+    """Searches for this processor time. A part is only started if it is expected to end in time, as estimated from the
+    part before it."""
     running = Search(times, jobs, machines, take, passes, seed)
     start = time.process_time()
     running.neh()
@@ -75,7 +75,7 @@ def search(times: list[int], jobs: int, machines: int, take: int, passes: int, s
 
 
 def counts(start: float, seconds: float) -> Iterator[int]:
-    """The rounds of each part."""
+    """Yields the number of rounds of each part."""
     count, before = 1, time.process_time()
     if before - start >= seconds:
         return

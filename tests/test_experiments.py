@@ -50,25 +50,25 @@ def parallel() -> None:
 
 # Plans
 
-REFUSED = {
+INVALID = {
     "an unknown key": ("instances = [\"shops/*\"]\nseed = [1]\n", "seed"),
-    "rounds that are no list": ("instances = [\"shops/*\"]\nrounds = 3\n", "rounds"),
+    "rounds that aren't a list": ("instances = [\"shops/*\"]\nrounds = 3\n", "rounds"),
     "no rounds": ("instances = [\"shops/*\"]\nrounds = []\n", "rounds"),
     "a number of rounds below 0": ("instances = [\"shops/*\"]\nrounds = [-1]\n", "rounds"),
     "a seed that is not whole": ("instances = [\"shops/*\"]\nseeds = [1.5]\n", "seeds"),
-    "a seed that is no number": ("instances = [\"shops/*\"]\nseeds = [true]\n", "seeds"),
+    "a seed that isn't a number": ("instances = [\"shops/*\"]\nseeds = [true]\n", "seeds"),
     "no repetition": ("instances = [\"shops/*\"]\nrepetitions = 0\n", "repetitions"),
     "an unknown layout": ("instances = [\"shops/*\"]\nlayout = \"csv\"\n", "layout"),
-    "no TOML": ("instances = [\"shops/*\"]\nrounds = [1\n", "plan.toml"),
+    "not TOML": ("instances = [\"shops/*\"]\nrounds = [1\n", "plan.toml"),
     "no instances": ("", "instances"),
-    "instances that are no list": ("instances = \"shops/a\"", "instances"),
+    "instances that aren't a list": ("instances = \"shops/a\"", "instances"),
     "a pattern that no file matches": ("instances = [\"none*\"]", "none*"),
     "a folder among the instances": ("instances = [\"sh*\"]", "shops"),
-    "more rounds than pfs takes": ("instances = [\"shops/*\"]\nrounds = [1000001]\n", "rounds"),
-    "more passes than pfs takes": ("instances = [\"shops/*\"]\npasses = [101]\n", "passes"),
-    "a greater seed than pfs takes": ("instances = [\"shops/*\"]\nseeds = [18446744073709551616]\n", "seeds"),
-    "no job to be taken out": ("instances = [\"shops/*\"]\ntakes = [0]\n", "takes"),
-    "more jobs to be taken out than there are": ("instances = [\"shops/*\"]\ntakes = [2, 4]\n", "shops/b"),
+    "more rounds than pfs accepts": ("instances = [\"shops/*\"]\nrounds = [1000001]\n", "rounds"),
+    "more passes than pfs accepts": ("instances = [\"shops/*\"]\npasses = [101]\n", "passes"),
+    "a greater seed than pfs accepts": ("instances = [\"shops/*\"]\nseeds = [18446744073709551616]\n", "seeds"),
+    "no job to be removed": ("instances = [\"shops/*\"]\ntakes = [0]\n", "takes"),
+    "more jobs to be removed than there are": ("instances = [\"shops/*\"]\ntakes = [2, 4]\n", "shops/b"),
     "a block 0": ("instances = [\"shops/*\"]\nblocks = [0]\n", "blocks"),
     "a block 1,001": ("instances = [\"shops/*\"]\nblocks = [1001]\n", "blocks"),
     "a reference that is a number": ("instances = [\"shops/*\"]\nreference = 1\n", "reference"),
@@ -78,7 +78,7 @@ REFUSED = {
     "a reference with a zero byte in its name": ("instances = [\"shops/*\"]\nreference = \"\\u0000\"\n", "reference"),
     "more bytes than a plan has": ("#" * 1_048_577, "plan.toml"),
     "a time factor of 0": ("instances = [\"shops/*\"]\ntime_factors = [0]\n", "time_factors"),
-    "a time factor that is no number": ("instances = [\"shops/*\"]\ntime_factors = [nan]\n", "time_factors"),
+    "a time factor that isn't a number": ("instances = [\"shops/*\"]\ntime_factors = [nan]\n", "time_factors"),
     "no time factors": ("instances = [\"shops/*\"]\ntime_factors = []\n", "time_factors"),
     "a command without a method": ("instances = [\"shops/*\"]\ncommand = \"a {instance}\"\n", "method"),
     "a command without the instance": ("instances = [\"shops/*\"]\nmethod = \"m\"\ncommand = \"a\"\n", "{instance}"),
@@ -90,7 +90,7 @@ REFUSED = {
         "instances = [\"shops/*\"]\nrounds = [1]\nmethod = \"m\"\ncommand = \"a {instance}\"\n", "rounds"),
     "a command that is cut": ("instances = [\"shops/*\"]\nmethod = \"m\"\ncommand = \"a '{instance}\"\n", "command"),
     "a command that is missing": (
-        "instances = [\"shops/*\"]\nmethod = \"m\"\ncommand = \"./a {instance}\"\n", "no file is a"),
+        "instances = [\"shops/*\"]\nmethod = \"m\"\ncommand = \"./a {instance}\"\n", "no file matches a"),
     "files without a command": ("instances = [\"shops/*\"]\nmethod = \"m\"\nfiles = [\"shops/*\"]\n", "files"),
     "files of another folder": (
         "instances = [\"shops/*\"]\nmethod = \"m\"\ncommand = \"a {instance}\"\nfiles = [\"/etc/passwd\"]\n", "/etc"),
@@ -99,7 +99,7 @@ REFUSED = {
 }
 
 
-@pytest.mark.parametrize(("text", "named"), REFUSED.values(), ids=REFUSED)
+@pytest.mark.parametrize(("text", "named"), INVALID.values(), ids=INVALID)
 def test_an_invalid_plan_is_rejected_with_its_fault(text: str, named: str, experiment: Experiment) -> None:
     (experiment.folder / "plan.toml").write_text(text)
     got = experiment.run()
@@ -115,7 +115,7 @@ def test_a_missing_plan_is_rejected(experiment: Experiment) -> None:
     assert os.listdir(experiment.folder) == ["shops"]
 
 
-def test_the_greatest_values_that_pfs_takes_are_planned(experiment: Experiment) -> None:
+def test_the_greatest_values_that_pfs_accepts_are_planned(experiment: Experiment) -> None:
     (experiment.folder / "plan.toml").write_text(
         "instances = [\"shops/b\"]\nrounds = [0]\ntakes = [1, 3]\npasses = [100]\nseeds = [18446744073709551615]\n")
     assert experiment.run() == Done(0, "", "out.csv: 1 runs, 0 of them failed, 0 still to run\n")
@@ -198,7 +198,7 @@ def test_a_program_that_is_not_pfs_is_rejected(text: str, experiment: Experiment
 
 
 DAMAGED = {
-    "a plan that is no JSON": ("plan.json", b"{"),
+    "a plan that isn't JSON": ("plan.json", b"{"),
     "a plan that is a list": ("plan.json", b"[]"),
     "a plan of another kind": ("plan.json", b'{"places": 1}'),
     "a plan nested too deeply": ("plan.json", b"[" * 100_000),
@@ -383,7 +383,7 @@ def test_layouts_blocks_takes_passes_and_repetitions(experiment: Experiment) -> 
     (experiment.folder / "two.or").write_text("".join(shops))
     (experiment.folder / "bad.or").write_text("3 2\n0 1 1 x\n")
     got = experiment.run()
-    assert got == Done(1, "", "bad.or:2 (rounds 5, take 2, passes 1, seed 7) failed, as 7 more: "
+    assert got == Done(1, "", "bad.or:2 (rounds 5, take 2, passes 1, seed 7) and 7 more failed: "
                                "solve: exit 2, pfs: mixed line at 10\n"
                                "out.csv: 16 runs, 8 of them failed, 0 still to run\n")
     rows = experiment.rows()
@@ -430,7 +430,8 @@ def test_check_audits_the_orders_again(experiment: Experiment) -> None:
     names = [re.search(r"run-(\d+)", line) for line in wrong]
     numbers = [int(name[1]) for name in names if name]
     assert (numbers, last) == ([1, 4, 9, 12], "out.csv: 12 orders audited, 5 of them wrong"), got.stdout
-    assert [line for line in wrong if line.endswith(": no order was kept")] == [wrong[2]], "a row without an order"
+    without_order = [line for line in wrong if line.endswith(": the run has no order file")]
+    assert without_order == [wrong[2]], "a row without an order"
 
 
 def test_check_rejects_a_csv_without_orders(experiment: Experiment) -> None:
@@ -780,7 +781,7 @@ def test_the_csv_has_a_failed_run_with_its_status(failing: tuple[Experiment, Don
                 "solve: no cells printed"]
     *lines, last = got.stderr.splitlines()
     assert (got.status, got.stdout, last) == (1, "", "out.csv: 20 runs, 16 of them failed, 0 still to run")
-    assert lines == [f"shops/a (rounds 10, take 4, passes 0, seed {seed}) failed, as 3 more: {statuses[seed]}"
+    assert lines == [f"shops/a (rounds 10, take 4, passes 0, seed {seed}) and 3 more failed: {statuses[seed]}"
                      for seed in (1, 2, 3, 4)]
     rows = experiment.rows()
     assert [row.status for row in rows] == statuses * 4
@@ -808,7 +809,7 @@ def test_a_killed_run_is_reported_and_made_by_the_next_start(experiment: Experim
     program = write_script(experiment.folder / "killing",
                            KILLING.format(folder=experiment.folder, pfs=experiment.pfs.path))
     got = experiment.run(program=program)
-    assert got == Done(1, "", "shops/a (rounds 10, take 4, passes 0, seed 2) failed, as 3 more: "
+    assert got == Done(1, "", "shops/a (rounds 10, take 4, passes 0, seed 2) and 3 more failed: "
                                "lost: exit 137, signal 0\n"
                                "out.csv: 12 runs, 4 of them failed, 0 still to run\n")
     assert {row[8:] for row in experiment.rows() if row.seed == "2"} == {("", "", "", "", "lost: exit 137, signal 0")}
@@ -981,7 +982,7 @@ def test_two_starts_at_once_make_each_run_once(experiment: Experiment) -> None:
         gate.open()
         statuses = [start.process.wait(60) for start in (first, second)]
     assert len(started) == 1, "runs that are made at once by two starts"
-    assert line == "waiting for runs of out.csv that were started before\n"
+    assert line == "waiting for the process that is already running out.csv\n"
     assert statuses == [0, 0]
     assert set(experiment.searches().values()) == {1}, "how often each run was made"
     assert experiment.rows() == experiment.wanted(rounds=(10,))

@@ -61,7 +61,7 @@ BAD = {
     "nothing": "",
     "another CSV": "a,b\n1,2\n",
     "no rows": OLD_HEAD + "\n",
-    "a gap that is no number": REPORTED.replace("10.0000", "x"),
+    "a gap that isn't a number": REPORTED.replace("10.0000", "x"),
     "machines that are no number": REPORTED.replace("20,5,0", "20,y,0"),
     "rounds that are not whole": REPORTED.replace("20,5,0", "20,5,0.5"),
     "a row that is too long": REPORTED.replace("ok\n", "ok,a,b,c,d\n"),
@@ -100,7 +100,7 @@ def test_a_report_has_its_table_and_its_plots(ending: str, report: Reported, fol
     assert (folder / "report" / "table.md").read_text() == got.stdout
     rows = [[cell.strip() for cell in line[1:-1].split("|")] for line in got.stdout.splitlines()[2:-2]]
     assert rows == [line.split(",") for line in TABLE.splitlines()[1:]]
-    assert got.stdout.endswith("\n\nRPD: above the best makespan of any of these runs.\n")
+    assert got.stdout.endswith("\n\nRPD: relative to the best makespan of any of these runs.\n")
     for name in ("gap", "rpd", "seconds", "time"):
         picture = (folder / "report" / f"{name}.{ending}").read_bytes()
         assert picture.startswith(BEGINNINGS[ending]) and len(picture) > 5000, name
@@ -219,7 +219,7 @@ def test_the_rpd_is_relative_to_the_reference(report: Reported, folder: pathlib.
     # (10 + 140) / 2 at 0 rounds; 1, 106, 5 and 114 at 100 rounds
     assert percents(folder) == ["", "75.000", "56.500", "", ""]
     assert percents(folder, "greatest_rpd_percent") == ["", "140.000", "114.000", "", ""]
-    assert got.stdout.endswith("\n\nRPD: above the makespan that best.csv has.\n"
+    assert got.stdout.endswith("\n\nRPD: relative to the makespan in best.csv.\n"
                                 "1 runs of 1 instances have no reference, and no RPD: c.\n")
 
 
@@ -289,7 +289,7 @@ def test_a_missing_scipy_is_reported(top: pathlib.Path, matplotlib: None, folder
     for count, wanted, is_said in ((50, f"{2 / 2 ** 50:.4g}", False), (51, "", True)):
         texts = [FEW + "".join(f"i{at},{1000 + more * at},1,1\n" for at in range(1, count + 1)) for more in (1, 2)]
         got = methods(top, folder, *texts, env=dict(os.environ, PYTHONPATH=str(folder)))
-        assert (got.status, got.stderr, "SciPy isn't there" in got.stdout) == (0, "", is_said)
+        assert (got.status, got.stderr, "needs SciPy" in got.stdout) == (0, "", is_said)
         row, = compared(folder)
         assert (row["won"], row["p"]) == (str(count), wanted)
 
@@ -343,7 +343,7 @@ def test_a_reference_has_one_makespan_of_an_instance(report: Reported, folder: p
     """It may be given twice."""
     (folder / "best.csv").write_text("instance,makespan\na,100\nb,50\na,101\n")
     got = report(REPORTED, "--reference", "best.csv")
-    assert (got.status, got.stderr) == (2, "experiments/report: best.csv: two makespans of a\n"), "one is taken"
+    assert (got.status, got.stderr) == (2, "experiments/report: best.csv: a has two makespans\n"), "one is taken"
     (folder / "best.csv").write_text("instance,makespan\na,100\nb,50\na,100\n")
     assert report(REPORTED, "--reference", "best.csv").status == 0
     assert percents(folder)[1] == "75.000"
@@ -367,7 +367,7 @@ def test_taillards_instances_are_compared_with_the_best_known_makespans(report: 
             "mine,20,5,1000\n")
     got = report(text)
     assert (got.status, percents(folder)) == (0, [f"{100 * 13 / 1278:.3f}", "", f"{100 * 261 / 26040:.3f}"])
-    assert "RPD: above the makespan that is the best known one of Taillard's instance.\n" \
+    assert "RPD: relative to the best known makespan of Taillard's instance.\n" \
         "2 runs of 2 instances have no reference, and no RPD: ta002, mine.\n" in got.stdout
     (folder / "other.csv").write_text("instance,makespan\nta001,1000\n")
     assert report(text, "--reference", "other.csv").status == 0
@@ -686,5 +686,5 @@ def test_a_box_is_above_its_size(times: Picture) -> None:
 
 
 def test_the_title_of_the_times_names_the_most_rounds(times: Picture) -> None:
-    assert len(times.find("Time a cell at 100 rounds, with the start of the process")) == 1
-    assert len(times.find("processor time a table cell, ns")) == 1
+    assert len(times.find("Time per cell at 100 rounds, with the start of the process")) == 1
+    assert len(times.find("processor time per table cell, ns")) == 1

@@ -193,10 +193,10 @@ for (let place = 0; place < jobs; ++place) {
   canvas.dispatchEvent(new PointerEvent("pointermove", {clientX: box.left + xOf(middle), clientY: box.top + ROW / 2}));
   seen.tips.push(tip.textContent);
 }
-const seen_ = document.createElement("pre");
-seen_.id = "seen";
-seen_.textContent = JSON.stringify(seen);
-document.body.append(seen_);
+const seenElement = document.createElement("pre");
+seenElement.id = "seen";
+seenElement.textContent = JSON.stringify(seen);
+document.body.append(seenElement);
 """
 
 
@@ -260,7 +260,7 @@ def test_the_policy_keeps_other_scripts_and_styles_out(chromium: str, tmp_path: 
     assert "unsafe" not in (tmp_path / "chart.html").read_text("utf-8")
     injected = ("<div id=extra><script>document.title = 'PWNED'</script><style>h1 { display: none }</style>"
                 "<img src='data:image/png;base64,x' onerror=\"document.title = 'PWNED'\"></div>")
-    script = STRUCTURE + 'seen_.textContent = JSON.stringify([document.title, getComputedStyle(' \
+    script = STRUCTURE + 'seenElement.textContent = JSON.stringify([document.title, getComputedStyle(' \
                          'document.querySelector("h1")).display, getComputedStyle(canvas).display]);'
     title, heading, chart = looked_at(chromium, tmp_path / "chart.html", tmp_path, script, injected)
     assert title.startswith("plan: 3 jobs"), "the page's policy lets a foreign script in"
