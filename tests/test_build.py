@@ -222,17 +222,17 @@ def test_a_crate_that_fails_is_reported_and_none_above_it_begins(repository: pat
     assert done.returncode == 1
     assert "goal left open" in done.stderr
     log = repository / "crates" / "left" / "out" / "build.log"
-    assert f"build: left failed with status 1; {log} has the lines above" in done.stderr.splitlines()
+    assert f"build: left failed with status 1; see the output above or {log}" in done.stderr.splitlines()
     assert not any("app" in line for line in notes(repository))
 
 
 def test_an_unknown_crate_is_rejected(repository: pathlib.Path) -> None:
     done = build(repository, "none")
-    assert (done.returncode, done.stdout, done.stderr) == (1, "", "build: crates.txt names no crate none\n")
+    assert (done.returncode, done.stdout, done.stderr) == (1, "", "build: no crate none in crates.txt\n")
 
 
 def test_a_missing_kit_is_reported(repository: pathlib.Path) -> None:
     (repository / "bin" / "rt").unlink()
     done = build(repository, "app", path="/usr/bin:/bin")
     assert done.returncode == 1
-    assert done.stderr.startswith("build: rt isn't on the path")
+    assert done.stderr.startswith("build: rt, the command of the kit, isn't on the path")

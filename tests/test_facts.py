@@ -55,7 +55,7 @@ def test_what_is_out_of_date_is_found_and_written(copy: pathlib.Path, page: str,
     assert before.count(old) == 1
     (copy / page).write_text(before.replace(old, new))
     got = run_tool([copy / "tools" / "facts", "--check"], copy)
-    assert got == Done(1, "", f"facts: {page} is out of date: run tools/facts\n")
+    assert got == Done(1, "", f"facts: {page} is out of date (run tools/facts)\n")
     assert old not in (copy / page).read_text(), "--check writes a page"
     assert output_of([copy / "tools" / "facts"], copy) == ""
     assert (copy / page).read_text() == before
@@ -83,7 +83,7 @@ def test_wrong_numerals_are_found_and_written(copy: pathlib.Path) -> None:
         (copy / file).write_text(f"{code[:found.start(1)]}7{code[found.end(1):]}")
     got = run_tool([copy / "tools" / "facts", "--check"], copy)
     assert (got.status, sorted(got.stderr.splitlines())) \
-        == (1, [f"facts: {file} is out of date: run tools/facts" for file in CODE])
+        == (1, [f"facts: {file} is out of date (run tools/facts)" for file in CODE])
     assert output_of([copy / "tools" / "facts"], copy) == ""
     after = {file: (copy / file).read_text() for file in CODE}
     for file, pattern, limit in NUMERALS:
@@ -105,7 +105,7 @@ def test_the_checklist_for_a_limit_names_each_file_with_a_numeral(top: pathlib.P
 
 @pytest.mark.parametrize(("old", "new", "fault"), [
     ("<!-- end of facts -->\n\nOptions may", "\nOptions may", "a block has no end"),
-    ("<!-- facts: limits -->", "<!-- facts: limit -->", "there is no block named limit"),
+    ("<!-- facts: limits -->", "<!-- facts: limit -->", "unknown block limit"),
 ])
 def test_a_wrong_block_is_reported(copy: pathlib.Path, old: str, new: str, fault: str) -> None:
     page = copy / "docs" / "COMMANDS.md"

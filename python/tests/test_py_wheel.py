@@ -126,7 +126,7 @@ def test_a_wheel_has_the_licences_and_the_notices(wheel: pathlib.Path) -> None:
 def test_no_library_no_wheel(tmp_path: pathlib.Path) -> None:
     done = subprocess.run([str(TOP / "tools" / "wheel"), str(tmp_path), str(tmp_path / "none")], capture_output=True,
                           text=True)
-    assert done.returncode == 1 and "`make lib` proves and builds it" in done.stderr
+    assert done.returncode == 1 and "is missing: run `make lib`" in done.stderr
     assert not list(tmp_path.iterdir())
 
 
