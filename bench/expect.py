@@ -1,7 +1,7 @@
 #!/usr/bin/env python3
-"""Writes expected/searches.json: the output of the C++ program of this folder on small random instances, which tests of
-`pfs solve` expect for the same options. Each entry has the instance file in Taillard's layout, the options and the
-printed text. The second program of the tests has to print the same."""
+"""Writes expected/searches.json: the output of the C++ program of this folder on small random instances, with which
+tests compare `pfs solve`. Each entry has the instance file in Taillard's layout, the options and the printed text. The
+second program of the tests must print the same."""
 import json
 import pathlib
 import random
@@ -22,7 +22,7 @@ MOST_SEED = 2**64 - 1
 
 
 def instance_of(source: random.Random) -> Instance:
-    """A random instance. Some have many equal times, some have times of 0 or of a million."""
+    """Return a random instance. Some have many equal times, some have times of 0 or of a million."""
     jobs = source.randrange(2, 15)
     machines = source.randrange(1, 8)
     ways: list[Callable[[], int]] = [lambda: source.randrange(1, 100), lambda: source.randrange(0, 4),
@@ -35,7 +35,7 @@ def instance_of(source: random.Random) -> Instance:
 
 
 def printed_by(program: str, text: str, options: dict[str, int]) -> str:
-    """The output of the C++ program, which has to be that of the second program."""
+    """Return the output of the C++ program, which must be that of the second program."""
     words = [program, "taillard", "1", *(str(options[name]) for name in ("rounds", "take", "seed", "passes"))]
     printed = subprocess.run(words, input=text, capture_output=True, text=True, check=True).stdout
     line = ["solve", "--layout=taillard", *(f"--{name}={value}" for name, value in options.items()), "--cells", "file"]

@@ -19,7 +19,7 @@ Writer = Callable[[int], str]
 
 
 class File(NamedTuple):
-    """A file that is read, and the block of it that is wanted."""
+    """An input file, and the number of the block to read."""
     layout: str
     block: int
     description: str
@@ -27,14 +27,14 @@ class File(NamedTuple):
 
 
 def taillard(jobs: int, machines: int, seed: int, written: Writer = str, between: str = " ") -> str:
-    """A block in Taillard's layout."""
+    """Return a block in Taillard's layout."""
     rows = second_program.generated(jobs, machines, seed).times
     body = "".join(between.join(map(written, row)) + "\n" for row in rows)
     return f"{HEADING}{jobs} {machines} {seed} 0 0\nprocessing times :\n{body}"
 
 
 def orlib(jobs: int, machines: int, seed: int) -> str:
-    """A block in OR-Library's layout, with its title between rows of plus signs."""
+    """Return a block in OR-Library's layout, with its title between rows of plus signs."""
     rows = second_program.generated(jobs, machines, seed).times
     body = "".join(" " + " ".join(f"{machine} {row[job]}" for machine, row in enumerate(rows)) + "\n"
                    for job in range(jobs))
@@ -51,12 +51,12 @@ def blocks(count: int, write: Callable[[int], str]) -> str:
 
 
 def padded(random_source: random.Random) -> Writer:
-    """A time with blanks before it and leading zeros, about 100 bytes."""
+    """Return a writer of times with blanks before them and leading zeros, of about 100 bytes."""
     return lambda time: " " * random_source.randrange(40, 80) + "0" * random_source.randrange(20, 60) + str(time)
 
 
 def blank(random_source: random.Random) -> Writer:
-    """A time after about 97 blanks of the three kinds."""
+    """Return a writer of times after about 97 blanks of the three kinds."""
     return lambda time: "".join(random_source.choices("   \t\r", k=random_source.randrange(80, 114))) + str(time)
 
 
