@@ -197,8 +197,9 @@ def draw(figure: Figure, table: Table, look: Look) -> None:
 
 
 def title_of(table: Table, look: Look, size: int) -> str:
-    """Return the title, broken into lines that fit at this size of letters."""
-    title = f"{table.jobs} jobs on {table.machines} machines: makespan {look.formatted(table.makespan)}"
+    """Return the title, broken into lines that fit at this size of letters. A scale of dates doesn't have the unit."""
+    unit = f" {look.unit}" if look.scale else ""
+    title = f"{table.jobs} jobs on {table.machines} machines: makespan {look.formatted(table.makespan)}{unit}"
     title += f", bound {look.formatted(look.bound)} (dashed)" if look.bound is not None else ""
     title += ", critical path outlined" if look.critical else ""
     return textwrap.fill(title, max(20, int(72 * (look.width - 0.9) / (0.56 * size))))

@@ -267,6 +267,7 @@ def test_a_picture_has_dates_on_its_scale(tmp_path: pathlib.Path) -> None:
     always = plan().plot(calendar=pfs.Calendar("2026-11-30T12:00"))
     assert always.axes[0].get_xlabel() == "date and time"
     assert plan().plot().axes[0].get_xlabel() == "time (min)"
+    assert axis.get_title().endswith(" min") and not plan().plot().axes[0].get_title().endswith(" min")
 
 
 # What the page says of each operation that one points at, and what its scale has.
