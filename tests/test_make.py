@@ -99,7 +99,7 @@ def test_the_hook_of_git(top: pathlib.Path, folder: pathlib.Path, status: int) -
     shutil.copytree(top / "tools" / "hooks", repository / "tools" / "hooks")
     programs.mkdir()
     write_script(programs / "make", MAKE)
-    got = re.search(r"`git (config .*)` turns it on", (top / "tools" / "hooks" / "pre-commit").read_text())
+    got = re.search(r"`git (config .*)` enables it", (top / "tools" / "hooks" / "pre-commit").read_text())
     assert got
     env = environment(PATH=with_path(programs)["PATH"], STATUS=str(status), GIT_CONFIG_GLOBAL=os.devnull)
     git = [tool("git"), "-c", "user.name=A Tester", "-c", "user.email=tester@example.org"]
