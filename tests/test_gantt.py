@@ -6,16 +6,18 @@ import pathlib
 import random
 import re
 import subprocess
+import sys
 from collections.abc import Callable
 from typing import NamedTuple
 
 import pytest
 from support.colours import Lab, difference, least_difference
 from support.files import generated
-from support.pictures import Letters, Picture, contrast, value_of
+from support.large import LIMITED
 from support.needs import tool
+from support.pictures import Letters, Picture, contrast, value_of
 from support.program import Program, Ran, ended
-from support.tools import Done, run_tool, with_path
+from support.tools import Done, output_of, run_tool, with_path
 
 pytestmark = pytest.mark.long
 THREE = "table 3 2\n2 0 2 2 7\n1 2 5 7 9\n3 5 9 9 10\nmakespan 10\n"
@@ -764,12 +766,12 @@ def greatest(pfs: Program, tmp_path_factory: pytest.TempPathFactory) -> pathlib.
 
 
 def measured(words: list[str | pathlib.Path], folder: pathlib.Path) -> tuple[float, int]:
-    """Processor seconds and bytes of memory that a script takes which succeeds."""
-    child = subprocess.Popen(words, cwd=folder, stderr=subprocess.DEVNULL)
-    _, status, used = os.wait4(child.pid, 0)
-    child.returncode = os.waitstatus_to_exitcode(status)
-    assert child.returncode == 0
-    return used.ru_utime + used.ru_stime, 1024 * used.ru_maxrss
+    """The processor seconds and the bytes of memory that a script takes, which has to succeed."""
+    files: list[str | pathlib.Path] = ["/dev/null", folder / "output", folder / "errors"]
+    line = output_of([sys.executable, "-I", "-S", LIMITED, "4000000000", "100", *files, *words], folder)
+    status, seconds, memory = line.split()
+    assert status == "0"
+    return float(seconds), int(memory)
 
 
 @pytest.mark.seconds(10)
