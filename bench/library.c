@@ -6,7 +6,7 @@
  *                                           of their numbers; prints the sum of the places and the makespans
  *        library makespans COUNT FILE FORM  computes the makespans of the same 1,000 orders COUNT times, by `one` call
  *                                           of pfs_makespans or by `many` calls of pfs_makespan; prints their sum
- *        library own ROUNDS FILE FORM       NEH and ROUNDS rounds with seed 1 of a search of its own. Each round
+ *        library own ROUNDS FILE FORM       NEH and ROUNDS rounds with seed 1, made of other functions. Each round
  *                                           inserts its jobs by calls of pfs_insert (`insert`) or by one of
  *                                           pfs_construct (`construct`); with `local` a call of pfs_local_search
  *                                           follows. The forms `rounds` and `passes` make the same rounds by one call
@@ -73,7 +73,7 @@ static void insert(uint64_t count) {
     printf("%" PRIu64 " insertions, sum %" PRIu64 "\n", count, sum);
 }
 
-/* Each order is drawn by a shuffle of its own. */
+/* Each order is drawn by a separate shuffle. */
 static void draw_orders(uint32_t *orders) {
     uint64_t state = 1;
     for (size_t index = 0; index < ORDERS; ++index, orders += jobs) {

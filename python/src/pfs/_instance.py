@@ -527,7 +527,7 @@ class Instance:
         it is in the sequence, otherwise if it isn't."""
         generic = (c.message(number),)
         fault = jobs_error(number, self.jobs, given, "sequence")
-        if number == c.MEMORY or fault.args != generic:
+        if fault.args != generic:
             return fault
         fault = jobs_error(number, self.jobs, moved, "jobs")
         sequence = set(np.frombuffer(given, dtype=np.uint32).tolist())
