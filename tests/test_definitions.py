@@ -8,7 +8,7 @@ import pytest
 from support.definitions import WORD, Definition, all_definitions, cited, is_no_law, page, reached
 
 # Words that the whole program's and the search's promise rest on.
-HEADLINE = ["take_for", "words_for", "neh_cells", "rounds_cells", "solution_text", "PrintsSolution", "TellsFault",
+HEADLINE = ["take_for", "words_for", "neh_cells", "rounds_cells", "solution_text", "PrintsSolution", "ReportsFault",
             "IsTakeFault", "AreBlocks", "Completes", "Seeks", "ExactlyOne", "BeginDue", "IsLeastTable",
             "AreLayoutNames", "makespan", "neh_order", "best_place", "after_round", "first_least", "paths", "greatest"]
 

@@ -2,7 +2,7 @@
 #![tactic(auto)]
 
 ghost use Rattle.std.specs.Prelude.{None};
-ghost use Rattle.pfs_desk.specs.Standing.{untold};
+ghost use Rattle.pfs_desk.specs.Standing.{unstated};
 
 use pfs_base::{Buffered, FromRead, ToWrite};
 use pfs_desk::{Files, OpenFault, PathText, Stop, UsageFault, finish, run_program};
@@ -20,14 +20,14 @@ struct SystemFiles<'a> {
 impl Files for SystemFiles<'_> {
     type File = FromRead<File>;
 
-    ghost standing = { λ files path. untold };
+    ghost standing = { λ files path. unstated };
 
     ghost log = { λ files. None };
 
     fn open(&mut self, path: &PathText) -> Result<FromRead<File>, OpenFault> {
         match File::open(self.rt, path.as_str()) {
             Ok(file) => Ok(FromRead::new(file)),
-            Err(error) if wants_memory(&error) => Err(OpenFault::Memory),
+            Err(error) if is_out_of_memory(&error) => Err(OpenFault::Memory),
             Err(_) => Err(OpenFault::Closed),
         }
     }
@@ -63,7 +63,7 @@ fn run_words(rt: &HostRuntime, words: &[String]) -> u8 {
 fn words_of(rt: &HostRuntime) -> Result<Vec<String>, UsageFault> {
     let args = match env::args(rt) {
         Ok(args) => args,
-        Err(error) if wants_memory(&error) => return Err(UsageFault::Memory),
+        Err(error) if is_out_of_memory(&error) => return Err(UsageFault::Memory),
         Err(_) => return Err(UsageFault::Usage),
     };
     let mut words = Vec::new(rt.alloc());
@@ -76,6 +76,6 @@ fn words_of(rt: &HostRuntime) -> Result<Vec<String>, UsageFault> {
 }
 
 // Returns whether an allocation failed.
-fn wants_memory(error: &io::Error) -> bool {
+fn is_out_of_memory(error: &io::Error) -> bool {
     matches!(error.kind(), ErrorKind::OutOfMemory)
 }

@@ -22,10 +22,10 @@ use Rattle.pfs_order.proofs.Published.Sequences.{IsSequence-insert, IsSequence-m
 use Rattle.pfs_order.proofs.Published.Sequences.{length-le-size}
 use Rattle.pfs_insert.specs.Insertion.{best_place}
 use Rattle.pfs_search.specs.Neh.{with_jobs}
-use Rattle.pfs_c.specs.declared.numbers.Refusal.{Refusal}
-use Rattle.pfs_c.specs.declared.numbers.Refusal.TheVariants.{Job, Repeated}
-use Rattle.pfs_c.specs.Building.{members_refusal, after_visits, IsConstructed, IsLocalSearch}
-use Rattle.pfs_c.specs.Judgements.{job_refusal, place_refusal, jobs_refusal}
+use Rattle.pfs_c.specs.declared.numbers.CallFault.{CallFault}
+use Rattle.pfs_c.specs.declared.numbers.CallFault.TheVariants.{Job, Repeated}
+use Rattle.pfs_c.specs.Building.{members_fault, after_visits, IsConstructed, IsLocalSearch}
+use Rattle.pfs_c.specs.Validation.{job_fault, place_fault, jobs_fault}
 use Rattle.pfs_c.proofs.Jobs.{each_below, first_below, job_out, job_twice, right_of_sequence}
 use Rattle.pfs_c.proofs.Visits.{joined, length-with_jobs, visited_absent, visits_kept}
 
@@ -42,20 +42,20 @@ take_front (job ∷ jobs) (suc j) (suc place) le = ap (λ xs. job ∷ xs) (take_
 
 -- what is right of the jobs before a place
 right_before : (size : ℕ) (jobs : List ℕ) (place : ℕ) → place < length jobs → IsSequence size (take place jobs)
-    → (j : ℕ) → j < place → place_refusal size jobs j ≡ None
+    → (j : ℕ) → j < place → place_fault size jobs j ≡ None
 right_before size jobs place within before j lt =
     let long : length (take place jobs) ≡ place = length-take-le place jobs (omega arith) in
-    let right = each_below (place_refusal size (take place jobs)) (length (take place jobs)) j
+    let right = each_below (place_fault size (take place jobs)) (length (take place jobs)) j
     (right_of_sequence size (take place jobs) before) (omega (arith, long, lt)) in
     let same_front : take j (take place jobs) ≡ take j jobs = take_front jobs j place (omega (arith, lt)) in
     let same_job : get_or (take place jobs) j 0 ≡ get_or jobs j 0 = get_or-take place jobs j 0 lt in
     rw (same_front, same_job) at right
 
-wrong_at : (size : ℕ) (jobs : List ℕ) (place : ℕ) (why : Refusal) → place < length jobs
-    → IsSequence size (take place jobs) → job_refusal size (take place jobs) (get_or jobs place 0) ≡ Some why
-    → jobs_refusal size jobs ≡ Some why
+wrong_at : (size : ℕ) (jobs : List ℕ) (place : ℕ) (why : CallFault) → place < length jobs
+    → IsSequence size (take place jobs) → job_fault size (take place jobs) (get_or jobs place 0) ≡ Some why
+    → jobs_fault size jobs ≡ Some why
 wrong_at size jobs place why within before wrong =
-    first_below (place_refusal size jobs) (length jobs) place why within (right_before size jobs place within before)
+    first_below (place_fault size jobs) (length jobs) place why within (right_before size jobs place within before)
     wrong
 
 -- ---- jobs that follow those of a sequence
@@ -71,16 +71,16 @@ module _ (size : ℕ) (first more : List ℕ) (place : ℕ) (within : place < le
   job_is : get_or (first ++ more) (length first + place) 0 ≡ here
   job_is = get_or-append-add first more place 0
 
-  wrong_here : (why : Refusal) → job_refusal size (first ++ take place more) here ≡ Some why
-      → jobs_refusal size (first ++ more) ≡ Some why
+  wrong_here : (why : CallFault) → job_fault size (first ++ take place more) here ≡ Some why
+      → jobs_fault size (first ++ more) ≡ Some why
   wrong_here why wrong = wrong_at size (first ++ more) (length first + place) why
       (omega (arith, length-append {A = ℕ}, within)) (rw front_is before) (rw (front_is, job_is) wrong)
 
-  pub more_out : size ≤ here → jobs_refusal size (first ++ more) ≡ Some Job
+  pub more_out : size ≤ here → jobs_fault size (first ++ more) ≡ Some Job
   more_out great = wrong_here Job (job_out size here (first ++ take place more) great)
 
   pub more_twice : here < size → Contains first here ⊎ Contains (take place more) here
-      → jobs_refusal size (first ++ more) ≡ Some Repeated
+      → jobs_fault size (first ++ more) ≡ Some Repeated
   more_twice small among = wrong_here Repeated (job_twice size here (first ++ take place more) small
       (list_any-from_Contains nat_eq_equiv here (first ++ take place more) (elim among [
         | inl early ↦ Contains-append_left first (take place more) here early
@@ -107,14 +107,14 @@ pub members_each : (sequence list : List ℕ) → ((k : ℕ) → k < length list
 members_each sequence list among k d lt = rw (get_or_default list k d 0 lt) (among k lt)
 
 pub members_all : (sequence list : List ℕ) → All (λ job. Contains sequence job) list
-    → members_refusal sequence list ≡ None
+    → members_fault sequence list ≡ None
 members_all sequence list among =
     let found = list_all-from_AllPass (λ job. list_any (nat_eq job) sequence) list
     (λ k d lt. list_any-from_Contains nat_eq_equiv (get_or list k d) sequence (among k d lt)) in
     rw found refl
 
 pub members_out : (sequence list : List ℕ) (i : ℕ) → i < length list → (Contains sequence (get_or list i 0) → ⊥)
-    → members_refusal sequence list ≡ Some Job
+    → members_fault sequence list ≡ Some Job
 members_out sequence list i within absent =
     let job : ℕ = get_or list i 0 in
     let none : list_any (nat_eq job) sequence ≡ false = elim (cases_Bool (list_any (nat_eq job) sequence)) [

@@ -16,20 +16,20 @@ use Rattle.std.proofs.lemmas.Map.Views.{list_any-from_Contains}
 use Rattle.pfs_base.specs.Lists.{below, first_some}
 use Rattle.pfs_order.specs.Sequence.{IsSequence}
 use Rattle.pfs_order.proofs.Published.Sequences.{IsSequence-nil, IsSequence-head, IsSequence-insert}
-use Rattle.pfs_c.specs.declared.numbers.Refusal.{Refusal}
-use Rattle.pfs_c.specs.declared.numbers.Refusal.TheVariants.{Job, Repeated}
-use Rattle.pfs_c.specs.Private.Refusing.{Judges}
-use Rattle.pfs_c.specs.Judgements.{job_refusal, place_refusal, jobs_refusal}
+use Rattle.pfs_c.specs.declared.numbers.CallFault.{CallFault}
+use Rattle.pfs_c.specs.declared.numbers.CallFault.TheVariants.{Job, Repeated}
+use Rattle.pfs_c.specs.Private.Outcomes.{Validates}
+use Rattle.pfs_c.specs.Validation.{job_fault, place_fault, jobs_fault}
 
 -- ---- the first fault that several checks find
 
-pub first_none : (x : Option Refusal) (xs : List (Option Refusal)) → first_some (x ∷ xs) ≡ None
+pub first_none : (x : Option CallFault) (xs : List (Option CallFault)) → first_some (x ∷ xs) ≡ None
     → (x ≡ None) × (first_some xs ≡ None)
 first_none None xs h = (refl, h)
 first_none (Some why) xs h = absurd (cc)
 
 -- no fault before a place, and this fault at the place
-first_there : (f : ℕ → Option Refusal) (count from k : ℕ) (why : Refusal) → k < count
+first_there : (f : ℕ → Option CallFault) (count from k : ℕ) (why : CallFault) → k < count
     → ((j : ℕ) → j < k → f (from + j) ≡ None) → f (from + k) ≡ Some why
     → first_some (map f (range_with_len from count)) ≡ Some why
 first_there f zero from k why within none there = absurd (omega arith)
@@ -40,7 +40,7 @@ first_there f (suc count) from (suc k) why within none there =
     rw here (first_there f count (from + 1) k why (omega arith)
     (λ j h. rw (same j) (none (suc j) (omega arith))) (rw (same k) there))
 
-none_there : (f : ℕ → Option Refusal) (count from : ℕ) → ((j : ℕ) → j < count → f (from + j) ≡ None)
+none_there : (f : ℕ → Option CallFault) (count from : ℕ) → ((j : ℕ) → j < count → f (from + j) ≡ None)
     → first_some (map f (range_with_len from count)) ≡ None
 none_there f zero from none = refl
 none_there f (suc count) from none =
@@ -48,7 +48,7 @@ none_there f (suc count) from none =
     let same : (j : ℕ) → from + 1 + j ≡ from + suc j = λ j. omega arith in
     rw here (none_there f count (from + 1) (λ j h. rw (same j) (none (suc j) (omega arith))))
 
-each_none : (f : ℕ → Option Refusal) (count from j : ℕ) → first_some (map f (range_with_len from count)) ≡ None
+each_none : (f : ℕ → Option CallFault) (count from j : ℕ) → first_some (map f (range_with_len from count)) ≡ None
     → j < count → f (from + j) ≡ None
 each_none f zero from j none within = absurd (omega arith)
 each_none f (suc count) from zero none within =
@@ -60,39 +60,39 @@ each_none f (suc count) from (suc j) none within =
 
 -- the same for the numbers below a count
 
-pub first_below : (f : ℕ → Option Refusal) (count k : ℕ) (why : Refusal) → k < count
+pub first_below : (f : ℕ → Option CallFault) (count k : ℕ) (why : CallFault) → k < count
     → ((j : ℕ) → j < k → f j ≡ None) → f k ≡ Some why → first_some (map f (below count)) ≡ Some why
 first_below f count k why within none there =
     first_there f count 0 k why within (λ j h. rw (zero-add j) (none j h)) (rw (zero-add k) there)
 
-pub none_below : (f : ℕ → Option Refusal) (count : ℕ) → ((j : ℕ) → j < count → f j ≡ None)
+pub none_below : (f : ℕ → Option CallFault) (count : ℕ) → ((j : ℕ) → j < count → f j ≡ None)
     → first_some (map f (below count)) ≡ None
 none_below f count none = none_there f count 0 (λ j h. rw (zero-add j) (none j h))
 
-pub each_below : (f : ℕ → Option Refusal) (count j : ℕ) → first_some (map f (below count)) ≡ None
+pub each_below : (f : ℕ → Option CallFault) (count j : ℕ) → first_some (map f (below count)) ≡ None
     → j < count → f j ≡ None
 each_below f count j none within = rw (zero-add j) at (each_none f count 0 j none within)
 
 -- ---- a job among others
 
-pub job_out : (size job : ℕ) (others : List ℕ) → size ≤ job → job_refusal size others job ≡ Some Job
+pub job_out : (size job : ℕ) (others : List ℕ) → size ≤ job → job_fault size others job ≡ Some Job
 job_out size job others h = let test : nat_lt job size ≡ false = grind (arith, nat_tests) in rw test
 
 pub job_twice : (size job : ℕ) (others : List ℕ) → job < size → list_any (nat_eq job) others ≡ true
-    → job_refusal size others job ≡ Some Repeated
+    → job_fault size others job ≡ Some Repeated
 job_twice size job others small found = let test : nat_lt job size ≡ true = grind (arith, nat_tests) in rw (test, found)
 
 job_right : (size job : ℕ) (others : List ℕ) → job < size → list_any (nat_eq job) others ≡ false
-    → job_refusal size others job ≡ None
+    → job_fault size others job ≡ None
 job_right size job others small none = let test : nat_lt job size ≡ true = grind (arith, nat_tests) in rw (test, none)
 
-pub job_small : (size job : ℕ) (others : List ℕ) → job_refusal size others job ≡ None → job < size
+pub job_small : (size job : ℕ) (others : List ℕ) → job_fault size others job ≡ None → job < size
 job_small size job others h = elim (cases_Bool (nat_lt job size)) [
   | inl small ↦ grind (arith, nat_tests)
   | inr great ↦ absurd (let out = job_out size job others (grind (arith, nat_tests)) in cc)
 ]
 
-pub job_absent : (size job : ℕ) (others : List ℕ) → job_refusal size others job ≡ None → Contains others job → ⊥
+pub job_absent : (size job : ℕ) (others : List ℕ) → job_fault size others job ≡ None → Contains others job → ⊥
 job_absent size job others h among =
     let found = list_any-from_Contains nat_eq_equiv job others among in
     let twice = job_twice size job others (job_small size job others h) found in
@@ -100,33 +100,33 @@ job_absent size job others h among =
 
 -- ---- the jobs before a place were validated and marked
 
-pub record AreJudged (size : ℕ) (jobs : List ℕ) (marks : List Bool) (place : ℕ) : Type 0 where
+pub record AreValid (size : ℕ) (jobs : List ℕ) (marks : List Bool) (place : ℕ) : Type 0 where
   pub enough : size ≤ length marks
-  pub right : (k : ℕ) → k < place → place_refusal size jobs k ≡ None
+  pub right : (k : ℕ) → k < place → place_fault size jobs k ≡ None
   pub marked : (job : ℕ) (d : Bool) → job < length marks → get_or marks job d ≡ list_any (nat_eq job) (take place jobs)
 
-pub judged_start : (size : ℕ) (jobs : List ℕ) (marks : List Bool) → size ≤ length marks
-    → All (λ mark. mark ≡ false) marks → AreJudged size jobs marks 0
-judged_start size jobs marks enough none = record {
+pub valid_start : (size : ℕ) (jobs : List ℕ) (marks : List Bool) → size ≤ length marks
+    → All (λ mark. mark ≡ false) marks → AreValid size jobs marks 0
+valid_start size jobs marks enough none = record {
   enough = enough;
   right = λ k h. absurd (omega arith);
   marked = λ job d within. none job d within;
 }
 
-pub judged_out : (size : ℕ) (jobs : List ℕ) (marks : List Bool) (place : ℕ) → AreJudged size jobs marks place
-    → place < length jobs → size ≤ get_or jobs place 0 → jobs_refusal size jobs ≡ Some Job
-judged_out size jobs marks place h within great =
-    first_below (place_refusal size jobs) (length jobs) place Job within h.right
+pub valid_out : (size : ℕ) (jobs : List ℕ) (marks : List Bool) (place : ℕ) → AreValid size jobs marks place
+    → place < length jobs → size ≤ get_or jobs place 0 → jobs_fault size jobs ≡ Some Job
+valid_out size jobs marks place h within great =
+    first_below (place_fault size jobs) (length jobs) place Job within h.right
     (job_out size (get_or jobs place 0) (take place jobs) great)
 
-pub judged_twice : (size : ℕ) (jobs : List ℕ) (marks : List Bool) (place : ℕ) (d : Bool)
-    → AreJudged size jobs marks place → place < length jobs → get_or jobs place 0 < size
+pub valid_twice : (size : ℕ) (jobs : List ℕ) (marks : List Bool) (place : ℕ) (d : Bool)
+    → AreValid size jobs marks place → place < length jobs → get_or jobs place 0 < size
     → get_or marks (get_or jobs place 0) d ≡ true
-    → jobs_refusal size jobs ≡ Some Repeated
-judged_twice size jobs marks place d h within small mark =
+    → jobs_fault size jobs ≡ Some Repeated
+valid_twice size jobs marks place d h within small mark =
     let enough = h.enough in
     let is = h.marked (get_or jobs place 0) d (omega arith) in
-    first_below (place_refusal size jobs) (length jobs) place Repeated within h.right
+    first_below (place_fault size jobs) (length jobs) place Repeated within h.right
     (job_twice size (get_or jobs place 0) (take place jobs) small (sym is ∙ mark))
 
 or_true : (b : Bool) → (b || true) ≡ true
@@ -138,11 +138,11 @@ or_false true = refl
 or_false false = refl
 
 -- the same after one more job, which is marked
-pub judged_more : (size : ℕ) (jobs : List ℕ) (marks : List Bool) (place : ℕ) (d : Bool)
-    → AreJudged size jobs marks place → place < length jobs → get_or jobs place 0 < size
+pub valid_more : (size : ℕ) (jobs : List ℕ) (marks : List Bool) (place : ℕ) (d : Bool)
+    → AreValid size jobs marks place → place < length jobs → get_or jobs place 0 < size
     → get_or marks (get_or jobs place 0) d ≡ false
-    → AreJudged size jobs (set marks (get_or jobs place 0) true) (place + 1)
-judged_more size jobs marks place d h within small mark =
+    → AreValid size jobs (set marks (get_or jobs place 0) true) (place + 1)
+valid_more size jobs marks place d h within small mark =
     let job = get_or jobs place 0 in
     let enough = h.enough in
     let long : length (set marks job true) ≡ length marks = length-set marks job true in
@@ -166,19 +166,19 @@ judged_more size jobs marks place d h within small mark =
       ];
     }
 
-pub judged_all : (size : ℕ) (jobs : List ℕ) (marks : List Bool) (place : ℕ) → AreJudged size jobs marks place
-    → length jobs ≤ place → jobs_refusal size jobs ≡ None
-judged_all size jobs marks place h all =
-    none_below (place_refusal size jobs) (length jobs) (λ j lt. h.right j (omega arith))
+pub valid_all : (size : ℕ) (jobs : List ℕ) (marks : List Bool) (place : ℕ) → AreValid size jobs marks place
+    → length jobs ≤ place → jobs_fault size jobs ≡ None
+valid_all size jobs marks place h all =
+    none_below (place_fault size jobs) (length jobs) (λ j lt. h.right j (omega arith))
 
 -- ---- a list has no fault exactly if it is a sequence
 
-sequence_to : (size : ℕ) (jobs : List ℕ) (count : ℕ) → jobs_refusal size jobs ≡ None → count ≤ length jobs
+sequence_to : (size : ℕ) (jobs : List ℕ) (count : ℕ) → jobs_fault size jobs ≡ None → count ≤ length jobs
     → IsSequence size (take count jobs)
 sequence_to size jobs zero h within = IsSequence-nil size
 sequence_to size jobs (suc count) h within =
     let job = get_or jobs count 0 in
-    let right = each_below (place_refusal size jobs) (length jobs) count h (omega arith) in
+    let right = each_below (place_fault size jobs) (length jobs) count h (omega arith) in
     let short : count < length jobs = omega arith in
     let before = sequence_to size jobs count h (omega arith) in
     let put = IsSequence-insert size (length (take count jobs)) job (take count jobs)
@@ -186,7 +186,7 @@ sequence_to size jobs (suc count) h within =
     let same = rw (add-one count) at (take_more jobs count 0 short) in
     rw same (rw (insert_end (take count jobs) job) at put)
 
-pub sequence_of_right : (size : ℕ) (jobs : List ℕ) → jobs_refusal size jobs ≡ None → IsSequence size jobs
+pub sequence_of_right : (size : ℕ) (jobs : List ℕ) → jobs_fault size jobs ≡ None → IsSequence size jobs
 sequence_of_right size jobs h =
     rw (take_all (length jobs) jobs (omega arith)) at (sequence_to size jobs (length jobs) h (omega arith))
 
@@ -208,8 +208,8 @@ absent_before size (first ∷ rest) (suc place) h within =
     (place, short, get_or_default rest place first 0 short ∙ same)) in
     rw (apart, absent_before size rest place (IsSequence-rest size first rest h) short)
 
-pub right_of_sequence : (size : ℕ) (jobs : List ℕ) → IsSequence size jobs → jobs_refusal size jobs ≡ None
-right_of_sequence size jobs h = none_below (place_refusal size jobs) (length jobs) (λ place within.
+pub right_of_sequence : (size : ℕ) (jobs : List ℕ) → IsSequence size jobs → jobs_fault size jobs ≡ None
+right_of_sequence size jobs h = none_below (place_fault size jobs) (length jobs) (λ place within.
     job_right size (get_or jobs place 0) (take place jobs) (h.in_range place 0 within)
     (absent_before size jobs place h within))
 
@@ -230,14 +230,15 @@ grown jobs place within =
 
 -- ---- what the result of a check says
 
-judged_by : (result : Result (Unit {0}) Refusal) (found : Option Refusal) (size : ℕ) (jobs : List ℕ)
-    → Judges result found → jobs_refusal size jobs ≡ found → IsOk result ↔ IsSequence size jobs
-judged_by result None size jobs h is = (λ _. sequence_of_right size jobs is, λ _. h)
-judged_by result (Some why) size jobs h is = (
+valid_by : (result : Result (Unit {0}) CallFault) (found : Option CallFault) (size : ℕ) (jobs : List ℕ)
+    → Validates result found → jobs_fault size jobs ≡ found → IsOk result ↔ IsSequence size jobs
+valid_by result None size jobs h is = (λ _. sequence_of_right size jobs is, λ _. h)
+valid_by result (Some why) size jobs h is = (
   λ ok. absurd (let e = rw h at ok in cc),
   λ sequence. absurd (let right = right_of_sequence size jobs sequence in cc),
 )
 
-pub judged_is : (result : Result (Unit {0}) Refusal) (size : ℕ) (jobs : List ℕ) → Judges result (jobs_refusal size jobs)
+pub valid_is : (result : Result (Unit {0}) CallFault) (size : ℕ) (jobs : List ℕ)
+    → Validates result (jobs_fault size jobs)
     → IsOk result ↔ IsSequence size jobs
-judged_is result size jobs h = judged_by result (jobs_refusal size jobs) size jobs h refl
+valid_is result size jobs h = valid_by result (jobs_fault size jobs) size jobs h refl

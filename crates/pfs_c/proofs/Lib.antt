@@ -1,4 +1,4 @@
-pub mod Answering
+pub mod Returning
 pub mod BestPlaces
 pub mod Gathered
 pub mod Jobs

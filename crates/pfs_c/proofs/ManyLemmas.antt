@@ -1,16 +1,16 @@
 -- Sequences that are validated one after the other.
 use Rattle.std.proofs.Common.{◌≡◌, ℕ, ◌+◌, ◌-◌, ◌*◌, ◌<◌, List, take, drop, ap, sym, ◌∙◌, arith}
 use Rattle.std.proofs.Common.{Err, Option, Some, None}
-use Rattle.pfs_c.specs.declared.numbers.Refusal.{Refusal}
-use Rattle.pfs_c.specs.Judgements.{jobs_refusal}
-use Rattle.pfs_c.specs.Many.{sequence_at, sequences_refusal}
-use Rattle.pfs_c.specs.Private.Refusing.{Judges}
+use Rattle.pfs_c.specs.declared.numbers.CallFault.{CallFault}
+use Rattle.pfs_c.specs.Validation.{jobs_fault}
+use Rattle.pfs_c.specs.Many.{sequence_at, sequences_fault}
+use Rattle.pfs_c.specs.Private.Outcomes.{Validates}
 use Rattle.pfs_c.proofs.Jobs.{first_below, none_below}
 
-pub judged_why : (A : Type 0) (why : Refusal) (found : Option Refusal) → Judges {A = A} (Err why) found
+pub valid_why : (A : Type 0) (why : CallFault) (found : Option CallFault) → Validates {A = A} (Err why) found
     → found ≡ Some why
-judged_why A why None h = absurd (cc)
-judged_why A why (Some other) h = cc
+valid_why A why None h = absurd (cc)
+valid_why A why (Some other) h = cc
 
 -- a sequence is the slice that the program takes
 same_slice : (long : ℕ) (sequences : List ℕ) (index : ℕ)
@@ -20,16 +20,16 @@ same_slice long sequences index =
     ap (λ n. take n (drop (index * long) sequences)) all
 
 module _ (size count long : ℕ) (sequences : List ℕ) where
-  abbrev wrong_at : ℕ → Option Refusal
-  wrong_at index = jobs_refusal size (sequence_at long sequences index)
+  abbrev wrong_at : ℕ → Option CallFault
+  wrong_at index = jobs_fault size (sequence_at long sequences index)
 
-  pub each_right : ((k : ℕ) → k < count → wrong_at k ≡ None) → sequences_refusal size count long sequences ≡ None
+  pub each_right : ((k : ℕ) → k < count → wrong_at k ≡ None) → sequences_fault size count long sequences ≡ None
   each_right none = none_below wrong_at count none
 
-  pub one_wrong : (A : Type 0) (index : ℕ) (why : Refusal) → index < count → ((k : ℕ) → k < index → wrong_at k ≡ None)
-      → Judges {A = A} (Err why)
-      (jobs_refusal size (take (index * long + long - index * long) (drop (index * long) sequences)))
-      → sequences_refusal size count long sequences ≡ Some why
+  pub one_wrong : (A : Type 0) (index : ℕ) (why : CallFault) → index < count → ((k : ℕ) → k < index → wrong_at k ≡ None)
+      → Validates {A = A} (Err why)
+      (jobs_fault size (take (index * long + long - index * long) (drop (index * long) sequences)))
+      → sequences_fault size count long sequences ≡ Some why
   one_wrong A index why within none wrong =
       first_below wrong_at count index why within none
-      (ap (jobs_refusal size) (sym (same_slice long sequences index)) ∙ judged_why A why _ wrong)
+      (ap (jobs_fault size) (sym (same_slice long sequences index)) ∙ valid_why A why _ wrong)

@@ -7,7 +7,7 @@ use Rattle.pfs_layout.specs.declared.fault.LayoutFault.{LayoutFault}
 use Rattle.pfs_layout.specs.declared.fault.LayoutFault.TheVariants.{Memory}
 use Rattle.pfs_layout.specs.declared.layout.Layout.{Layout}
 use Rattle.pfs_layout.specs.Reader.{ReadsAsFar, EndsWantedSize}
-use Rattle.pfs_c.specs.Texts.{WantsMemory}
+use Rattle.pfs_c.specs.Texts.{NeedsMemory}
 
 -- the bytes up to a place of the middle part
 take-middle : (front middle rest : List ℕ) (n : ℕ) → n < length middle
@@ -20,18 +20,18 @@ at-middle : (front middle rest : List ℕ) (n : ℕ) → n < length middle
 at-middle front middle rest n below = rw append_assoc
     (get_or-append-add front (middle ++ rest) n 0 ∙ get_or_append_left middle rest 0 n below)
 
-wants_at : (layout : Layout) (block : ℕ) (front middle rest : List ℕ) (n : ℕ) → n < length middle
+needs_at : (layout : Layout) (block : ℕ) (front middle rest : List ℕ) (n : ℕ) → n < length middle
     → EndsWantedSize layout block (front ++ take n middle) (get_or middle n 0)
-    → WantsMemory (front ++ middle ++ rest) layout block
-wants_at layout block front middle rest n below ends = record {
+    → NeedsMemory (front ++ middle ++ rest) layout block
+needs_at layout block front middle rest n below ends = record {
   place = length front + n;
   within = omega (arith, length-append {A = ℕ});
   ends = rw (take-middle front middle rest n below, at-middle front middle rest n below) ends;
 }
 
-pub wants_memory : (layout : Layout) (block : ℕ) (bytes : List ℕ) (left : Option (List ℕ))
+pub needs_memory : (layout : Layout) (block : ℕ) (bytes : List ℕ) (left : Option (List ℕ))
     (fault : Option LayoutFault)
-    → ReadsAsFar layout block bytes left fault → fault ≡ Some Memory → WantsMemory bytes layout block
-wants_memory layout block bytes left fault far is =
+    → ReadsAsFar layout block bytes left fault → fault ≡ Some Memory → NeedsMemory bytes layout block
+needs_memory layout block bytes left fault far is =
     let at = far.memory is in
-    rw far.whole (wants_at layout block far.front far.last far.rest at.0 at.1 at.2)
+    rw far.whole (needs_at layout block far.front far.last far.rest at.0 at.1 at.2)

@@ -10,10 +10,10 @@ use Rattle.pfs_search.specs.Greedy.{after_passes, moved}
 use Rattle.pfs_search.specs.Neh.{with_jobs}
 use Rattle.pfs_search.specs.Ranking.{ranking}
 use Rattle.pfs_search.specs.Solution.{neh_cells}
-use Rattle.pfs_c.specs.declared.numbers.Refusal.{Refusal}
-use Rattle.pfs_c.specs.declared.numbers.Refusal.TheVariants.{Job}
-use Rattle.pfs_c.specs.Judgements.{unless, sizes_refusal, length_refusal, times_refusal, jobs_refusal}
-use Rattle.pfs_c.specs.Searching.{IsNeh, passes_refusal}
+use Rattle.pfs_c.specs.declared.numbers.CallFault.{CallFault}
+use Rattle.pfs_c.specs.declared.numbers.CallFault.TheVariants.{Job}
+use Rattle.pfs_c.specs.Validation.{unless, sizes_fault, length_fault, times_fault, jobs_fault}
+use Rattle.pfs_c.specs.Searching.{IsNeh, passes_fault}
 
 -- ---- passes over a list of jobs
 
@@ -50,21 +50,21 @@ pub record IsLocalSearch (shop : FlowShop) (sequence list : List ℕ) (passes : 
 -- ---- invalid arguments
 
 -- with room for a result of this length; the jobs to insert are validated after those of the sequence
-abbrev pub construct_refusal : List ℕ → ℕ → ℕ → List ℕ → List ℕ → ℕ → Option Refusal
-construct_refusal times jobs machines sequence more room = first_some (sizes_refusal jobs machines
-    ∷ length_refusal (length times) (jobs * machines) ∷ length_refusal room (length sequence + length more)
-    ∷ times_refusal times ∷ jobs_refusal jobs sequence ∷ jobs_refusal jobs (sequence ++ more) ∷ [])
+abbrev pub construct_fault : List ℕ → ℕ → ℕ → List ℕ → List ℕ → ℕ → Option CallFault
+construct_fault times jobs machines sequence more room = first_some (sizes_fault jobs machines
+    ∷ length_fault (length times) (jobs * machines) ∷ length_fault room (length sequence + length more)
+    ∷ times_fault times ∷ jobs_fault jobs sequence ∷ jobs_fault jobs (sequence ++ more) ∷ [])
 
 -- a job of a list is not in the sequence
-abbrev pub members_refusal : List ℕ → List ℕ → Option Refusal
-members_refusal sequence list = unless (list_all (λ job. list_any (nat_eq job) sequence) list) Job
+abbrev pub members_fault : List ℕ → List ℕ → Option CallFault
+members_fault sequence list = unless (list_all (λ job. list_any (nat_eq job) sequence) list) Job
 
 -- with room for a result of this length
-abbrev pub local_search_refusal : List ℕ → ℕ → ℕ → List ℕ → List ℕ → ℕ → ℕ → Option Refusal
-local_search_refusal times jobs machines sequence list passes room = first_some (sizes_refusal jobs machines
-    ∷ length_refusal (length times) (jobs * machines) ∷ length_refusal room (length sequence) ∷ times_refusal times
-    ∷ jobs_refusal jobs sequence ∷ jobs_refusal jobs list ∷ members_refusal sequence list
-    ∷ passes_refusal passes ∷ [])
+abbrev pub local_search_fault : List ℕ → ℕ → ℕ → List ℕ → List ℕ → ℕ → ℕ → Option CallFault
+local_search_fault times jobs machines sequence list passes room = first_some (sizes_fault jobs machines
+    ∷ length_fault (length times) (jobs * machines) ∷ length_fault room (length sequence) ∷ times_fault times
+    ∷ jobs_fault jobs sequence ∷ jobs_fault jobs list ∷ members_fault sequence list
+    ∷ passes_fault passes ∷ [])
 
 -- ---- laws
 

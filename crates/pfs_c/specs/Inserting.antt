@@ -3,14 +3,14 @@ use Rattle.std.specs.Prelude.{◌≡◌, ℕ, ◌+◌, ◌*◌, ◌≤◌, List,
 use Rattle.pfs_base.specs.FlowShop.{FlowShop}
 use Rattle.pfs_base.specs.Lists.{first_some}
 use Rattle.pfs_insert.specs.Insertion.{makespan_with}
-use Rattle.pfs_c.specs.declared.numbers.Refusal.{Refusal}
-use Rattle.pfs_c.specs.Judgements.{sizes_refusal, length_refusal, times_refusal, jobs_refusal, job_refusal}
+use Rattle.pfs_c.specs.declared.numbers.CallFault.{CallFault}
+use Rattle.pfs_c.specs.Validation.{sizes_fault, length_fault, times_fault, jobs_fault, job_fault}
 
 -- `room` is the length of the list for the makespans
-abbrev pub insertions_refusal : List ℕ → ℕ → ℕ → List ℕ → ℕ → ℕ → Option Refusal
-insertions_refusal times jobs machines sequence job room = first_some (sizes_refusal jobs machines
-    ∷ length_refusal (length times) (jobs * machines) ∷ length_refusal room (length sequence + 1)
-    ∷ times_refusal times ∷ jobs_refusal jobs sequence ∷ job_refusal jobs sequence job ∷ [])
+abbrev pub insertions_fault : List ℕ → ℕ → ℕ → List ℕ → ℕ → ℕ → Option CallFault
+insertions_fault times jobs machines sequence job room = first_some (sizes_fault jobs machines
+    ∷ length_fault (length times) (jobs * machines) ∷ length_fault room (length sequence + 1)
+    ∷ times_fault times ∷ jobs_fault jobs sequence ∷ job_fault jobs sequence job ∷ [])
 
 -- the makespan with a job inserted at each place of a sequence, including the place after its last job
 pub record AreInsertions (shop : FlowShop) (jobs : List ℕ) (job : ℕ) (makespans : List ℕ) : Type 0 where

@@ -1,7 +1,7 @@
 pub mod Building
 pub mod HeadsTails
 pub mod Inserting
-pub mod Judgements
+pub mod Validation
 pub mod Many
 pub mod Numbers
 pub mod Private

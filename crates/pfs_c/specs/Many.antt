@@ -3,23 +3,23 @@ use Rattle.std.specs.Prelude.{◌≡◌, ℕ, ◌*◌, ◌<◌, List, [], ◌∷
 use Rattle.pfs_base.specs.FlowShop.{FlowShop}
 use Rattle.pfs_base.specs.Lists.{below, first_some}
 use Rattle.pfs_base.specs.Paths.{makespan}
-use Rattle.pfs_c.specs.declared.numbers.Refusal.{Refusal}
-use Rattle.pfs_c.specs.Judgements.{sizes_refusal, length_refusal, times_refusal, jobs_refusal}
+use Rattle.pfs_c.specs.declared.numbers.CallFault.{CallFault}
+use Rattle.pfs_c.specs.Validation.{sizes_fault, length_fault, times_fault, jobs_fault}
 
 -- the sequence with this index, counted from 0, if each has `long` jobs
 abbrev pub sequence_at : ℕ → List ℕ → ℕ → List ℕ
 sequence_at long sequences index = take long (drop (index * long) sequences)
 
 -- the first fault in the sequences, one after the other, each from the left
-abbrev pub sequences_refusal : ℕ → ℕ → ℕ → List ℕ → Option Refusal
-sequences_refusal jobs count long sequences =
-    first_some (map (λ index. jobs_refusal jobs (sequence_at long sequences index)) (below count))
+abbrev pub sequences_fault : ℕ → ℕ → ℕ → List ℕ → Option CallFault
+sequences_fault jobs count long sequences =
+    first_some (map (λ index. jobs_fault jobs (sequence_at long sequences index)) (below count))
 
 -- `room` is the length of the list for the makespans, one for each sequence
-abbrev pub makespans_refusal : List ℕ → ℕ → ℕ → List ℕ → ℕ → ℕ → Option Refusal
-makespans_refusal times jobs machines sequences long room = first_some (sizes_refusal jobs machines
-    ∷ length_refusal (length times) (jobs * machines) ∷ length_refusal (length sequences) (room * long)
-    ∷ times_refusal times ∷ sequences_refusal jobs room long sequences ∷ [])
+abbrev pub makespans_fault : List ℕ → ℕ → ℕ → List ℕ → ℕ → ℕ → Option CallFault
+makespans_fault times jobs machines sequences long room = first_some (sizes_fault jobs machines
+    ∷ length_fault (length times) (jobs * machines) ∷ length_fault (length sequences) (room * long)
+    ∷ times_fault times ∷ sequences_fault jobs room long sequences ∷ [])
 
 -- the makespan of each sequence
 abbrev pub AreMakespans : FlowShop → List ℕ → ℕ → List ℕ → Type 0

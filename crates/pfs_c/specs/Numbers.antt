@@ -1,41 +1,41 @@
 -- The numbers that the functions return.
 use Rattle.std.specs.Prelude.{◌≡◌, ◌⊎◌, ℤ, Option, Some, None}
-use Rattle.pfs_c.specs.declared.numbers.Refusal.{Refusal}
-use Rattle.pfs_c.specs.declared.numbers.Refusal.TheVariants as refusal
+use Rattle.pfs_c.specs.declared.numbers.CallFault.{CallFault}
+use Rattle.pfs_c.specs.declared.numbers.CallFault.TheVariants as faults
 use Rattle.pfs_c.specs.declared.numbers.TheConstants as numbers
 
--- the number that C receives for a refusal
-abbrev pub refusal_number : Refusal → ℤ
-refusal_number refusal.Memory = numbers.PFS_MEMORY
-refusal_number refusal.Size = numbers.PFS_SIZE
-refusal_number refusal.Length = numbers.PFS_LENGTH
-refusal_number refusal.Time = numbers.PFS_TIME
-refusal_number refusal.Job = numbers.PFS_JOB
-refusal_number refusal.Repeated = numbers.PFS_REPEATED
-refusal_number refusal.Take = numbers.PFS_TAKE
-refusal_number refusal.Passes = numbers.PFS_PASSES
-refusal_number refusal.Rounds = numbers.PFS_ROUNDS
-refusal_number refusal.Seed = numbers.PFS_SEED
-refusal_number refusal.Layout = numbers.PFS_LAYOUT
-refusal_number refusal.Block = numbers.PFS_BLOCK
-refusal_number refusal.Makespan = numbers.PFS_MAKESPAN
-refusal_number refusal.Room = numbers.PFS_ROOM
-refusal_number refusal.NoBlock = numbers.PFS_NO_BLOCK
-refusal_number refusal.SizeCount = numbers.PFS_SIZE_COUNT
-refusal_number refusal.SizeRange = numbers.PFS_SIZE_RANGE
-refusal_number refusal.MixedLine = numbers.PFS_MIXED_LINE
-refusal_number refusal.TimeRange = numbers.PFS_TIME_RANGE
-refusal_number refusal.MachineNumber = numbers.PFS_MACHINE_NUMBER
-refusal_number refusal.ExtraNumber = numbers.PFS_EXTRA_NUMBER
-refusal_number refusal.Truncated = numbers.PFS_TRUNCATED
-refusal_number refusal.InputTooLong = numbers.PFS_INPUT_TOO_LONG
-refusal_number refusal.Syntax = numbers.PFS_SYNTAX
-refusal_number refusal.JobRange = numbers.PFS_JOB_RANGE
-refusal_number refusal.JobTwice = numbers.PFS_JOB_TWICE
-refusal_number refusal.FileTooLong = numbers.PFS_FILE_TOO_LONG
+-- the number that C receives for a fault
+abbrev pub fault_number : CallFault → ℤ
+fault_number faults.Memory = numbers.PFS_MEMORY
+fault_number faults.Size = numbers.PFS_SIZE
+fault_number faults.Length = numbers.PFS_LENGTH
+fault_number faults.Time = numbers.PFS_TIME
+fault_number faults.Job = numbers.PFS_JOB
+fault_number faults.Repeated = numbers.PFS_REPEATED
+fault_number faults.Take = numbers.PFS_TAKE
+fault_number faults.Passes = numbers.PFS_PASSES
+fault_number faults.Rounds = numbers.PFS_ROUNDS
+fault_number faults.Seed = numbers.PFS_SEED
+fault_number faults.Layout = numbers.PFS_LAYOUT
+fault_number faults.Block = numbers.PFS_BLOCK
+fault_number faults.Makespan = numbers.PFS_MAKESPAN
+fault_number faults.Room = numbers.PFS_ROOM
+fault_number faults.NoBlock = numbers.PFS_NO_BLOCK
+fault_number faults.SizeCount = numbers.PFS_SIZE_COUNT
+fault_number faults.SizeRange = numbers.PFS_SIZE_RANGE
+fault_number faults.MixedLine = numbers.PFS_MIXED_LINE
+fault_number faults.TimeRange = numbers.PFS_TIME_RANGE
+fault_number faults.MachineNumber = numbers.PFS_MACHINE_NUMBER
+fault_number faults.ExtraNumber = numbers.PFS_EXTRA_NUMBER
+fault_number faults.Truncated = numbers.PFS_TRUNCATED
+fault_number faults.InputTooLong = numbers.PFS_INPUT_TOO_LONG
+fault_number faults.Syntax = numbers.PFS_SYNTAX
+fault_number faults.JobRange = numbers.PFS_JOB_RANGE
+fault_number faults.JobTwice = numbers.PFS_JOB_TWICE
+fault_number faults.FileTooLong = numbers.PFS_FILE_TOO_LONG
 
 -- a call returns the number of the first fault in its arguments; if there is none, it returns PFS_OK or, if an
 -- allocation failed, PFS_MEMORY
-abbrev pub Answers : ℤ → Option Refusal → Type 0
-Answers result (Some why) = result ≡ refusal_number why
-Answers result None = (result ≡ numbers.PFS_OK) ⊎ (result ≡ numbers.PFS_MEMORY)
+abbrev pub Returns : ℤ → Option CallFault → Type 0
+Returns result (Some why) = result ≡ fault_number why
+Returns result None = (result ≡ numbers.PFS_OK) ⊎ (result ≡ numbers.PFS_MEMORY)

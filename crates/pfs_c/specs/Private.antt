@@ -1,3 +1,3 @@
 -- Definitions for contracts of private functions and for proofs only: no promise to users depends on them.
-pub mod Refusing
+pub mod Outcomes
 pub mod Rows

@@ -7,28 +7,28 @@ use Rattle.pfs_base.specs.declared.limits.TheConstants.{MOST_PASSES, MOST_ROUNDS
 use Rattle.pfs_order.specs.Sequence.{IsSequence}
 use Rattle.pfs_search.specs.Neh.{neh_order}
 use Rattle.pfs_search.specs.Solution.{neh_cells}
-use Rattle.pfs_c.specs.declared.numbers.Refusal.{Refusal}
-use Rattle.pfs_c.specs.declared.numbers.Refusal.TheVariants.{Take, Passes, Rounds}
-use Rattle.pfs_c.specs.Judgements.{unless, sizes_refusal, length_refusal, times_refusal, jobs_refusal}
+use Rattle.pfs_c.specs.declared.numbers.CallFault.{CallFault}
+use Rattle.pfs_c.specs.declared.numbers.CallFault.TheVariants.{Take, Passes, Rounds}
+use Rattle.pfs_c.specs.Validation.{unless, sizes_fault, length_fault, times_fault, jobs_fault}
 
 -- `room` is the length of the list for the order
-abbrev pub neh_refusal : List ℕ → ℕ → ℕ → ℕ → Option Refusal
-neh_refusal times jobs machines room = first_some (sizes_refusal jobs machines
-    ∷ length_refusal (length times) (jobs * machines) ∷ length_refusal room jobs ∷ times_refusal times ∷ [])
+abbrev pub neh_fault : List ℕ → ℕ → ℕ → ℕ → Option CallFault
+neh_fault times jobs machines room = first_some (sizes_fault jobs machines
+    ∷ length_fault (length times) (jobs * machines) ∷ length_fault room jobs ∷ times_fault times ∷ [])
 
-abbrev pub take_refusal : ℕ → ℕ → Option Refusal
-take_refusal take jobs = unless (nat_le 1 take && nat_le take jobs) Take
+abbrev pub take_fault : ℕ → ℕ → Option CallFault
+take_fault take jobs = unless (nat_le 1 take && nat_le take jobs) Take
 
-abbrev pub passes_refusal : ℕ → Option Refusal
-passes_refusal passes = unless (nat_le passes MOST_PASSES) Passes
+abbrev pub passes_fault : ℕ → Option CallFault
+passes_fault passes = unless (nat_le passes MOST_PASSES) Passes
 
-abbrev pub count_refusal : ℕ → ℕ → Option Refusal
-count_refusal first count = unless (nat_le (first + count) MOST_ROUNDS) Rounds
+abbrev pub count_fault : ℕ → ℕ → Option CallFault
+count_fault first count = unless (nat_le (first + count) MOST_ROUNDS) Rounds
 
-abbrev pub rounds_refusal : List ℕ → ℕ → ℕ → List ℕ → ℕ → ℕ → ℕ → ℕ → Option Refusal
-rounds_refusal times jobs machines start first count take passes = first_some (sizes_refusal jobs machines
-    ∷ length_refusal (length times) (jobs * machines) ∷ length_refusal (length start) jobs ∷ times_refusal times
-    ∷ jobs_refusal jobs start ∷ take_refusal take jobs ∷ passes_refusal passes ∷ count_refusal first count ∷ [])
+abbrev pub rounds_fault : List ℕ → ℕ → ℕ → List ℕ → ℕ → ℕ → ℕ → ℕ → Option CallFault
+rounds_fault times jobs machines start first count take passes = first_some (sizes_fault jobs machines
+    ∷ length_fault (length times) (jobs * machines) ∷ length_fault (length start) jobs ∷ times_fault times
+    ∷ jobs_fault jobs start ∷ take_fault take jobs ∷ passes_fault passes ∷ count_fault first count ∷ [])
 
 -- NEH's order, its makespan, and the number of table cells that NEH takes
 pub record IsNeh (shop : FlowShop) (order : List ℕ) (span cells : ℕ) : Type 0 where

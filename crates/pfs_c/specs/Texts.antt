@@ -11,19 +11,19 @@ use Rattle.pfs_base.specs.declared.notes.Notes.{Notes}
 use Rattle.pfs_layout.specs.CanonicalText.{canonical_text}
 use Rattle.pfs_layout.specs.File.{IsInstanceFile}
 use Rattle.pfs_layout.specs.Reader.{EndsWantedSize}
-use Rattle.pfs_layout.specs.Refuse.{RefusesInstance}
+use Rattle.pfs_layout.specs.Rejection.{RejectsInstance}
 use Rattle.pfs_layout.specs.declared.fault.LayoutFault.{LayoutFault}
 use Rattle.pfs_layout.specs.declared.fault.LayoutFault.TheVariants as file
 use Rattle.pfs_layout.specs.declared.layout.Layout.{Layout}
 use Rattle.pfs_layout.specs.declared.layout.Layout.TheVariants.{Taillard, OrLib}
-use Rattle.pfs_order.specs.OrderFile.{IsText, IsOrderFile, RefusesOrder}
+use Rattle.pfs_order.specs.OrderFile.{IsText, IsOrderFile, RejectsOrder}
 use Rattle.pfs_order.specs.Sequence.{StatedOrder}
 use Rattle.pfs_order.specs.declared.fault.OrderFault.{OrderFault}
 use Rattle.pfs_order.specs.declared.fault.OrderFault.TheVariants as order
-use Rattle.pfs_c.specs.Judgements.{shop_of, unless, shop_refusal, jobs_refusal}
-use Rattle.pfs_c.specs.Numbers.{refusal_number}
-use Rattle.pfs_c.specs.declared.numbers.Refusal.{Refusal}
-use Rattle.pfs_c.specs.declared.numbers.Refusal.TheVariants as refusal
+use Rattle.pfs_c.specs.Validation.{shop_of, unless, shop_fault, jobs_fault}
+use Rattle.pfs_c.specs.Numbers.{fault_number}
+use Rattle.pfs_c.specs.declared.numbers.CallFault.{CallFault}
+use Rattle.pfs_c.specs.declared.numbers.CallFault.TheVariants as faults
 use Rattle.pfs_c.specs.declared.numbers.TheConstants.{PFS_OK, PFS_MEMORY}
 use Rattle.pfs_c.specs.declared.texts.PfsNotes.{PfsNotes}
 
@@ -51,30 +51,30 @@ order_file_of jobs machines makespan =
 
 -- ---- faults of arguments and of files
 
-abbrev pub layout_refusal : ℕ → Option Refusal
-layout_refusal layout = unless (is_some (layout_named layout)) refusal.Layout
+abbrev pub layout_fault : ℕ → Option CallFault
+layout_fault layout = unless (is_some (layout_named layout)) faults.Layout
 
-abbrev pub block_refusal : ℕ → Option Refusal
-block_refusal block = unless (nat_le 1 block && nat_le block MOST_BLOCKS) refusal.Block
+abbrev pub block_fault : ℕ → Option CallFault
+block_fault block = unless (nat_le 1 block && nat_le block MOST_BLOCKS) faults.Block
 
 -- `Room`, unless there is room for `wanted` entries
-abbrev pub room_refusal : ℕ → ℕ → Option Refusal
-room_refusal room wanted = unless (nat_le wanted room) refusal.Room
+abbrev pub room_fault : ℕ → ℕ → Option CallFault
+room_fault room wanted = unless (nat_le wanted room) faults.Room
 
--- the refusal for a fault of an instance file; the last two are not faults of a file
-abbrev pub file_refusal : LayoutFault → Refusal
-file_refusal (file.NoBlock found) = refusal.NoBlock
-file_refusal (file.SizeCount line) = refusal.SizeCount
-file_refusal (file.SizeRange line) = refusal.SizeRange
-file_refusal (file.MixedLine offset) = refusal.MixedLine
-file_refusal (file.TimeRange offset) = refusal.TimeRange
-file_refusal (file.MachineNumber offset) = refusal.MachineNumber
-file_refusal (file.ExtraNumber offset) = refusal.ExtraNumber
-file_refusal (file.Truncated have) = refusal.Truncated
-file_refusal file.TooLong = refusal.InputTooLong
-file_refusal file.SeedRange = refusal.Seed
-file_refusal file.Read = refusal.Memory
-file_refusal file.Memory = refusal.Memory
+-- the fault of a call for that of an instance file; the last two are not found in a file
+abbrev pub file_fault : LayoutFault → CallFault
+file_fault (file.NoBlock found) = faults.NoBlock
+file_fault (file.SizeCount line) = faults.SizeCount
+file_fault (file.SizeRange line) = faults.SizeRange
+file_fault (file.MixedLine offset) = faults.MixedLine
+file_fault (file.TimeRange offset) = faults.TimeRange
+file_fault (file.MachineNumber offset) = faults.MachineNumber
+file_fault (file.ExtraNumber offset) = faults.ExtraNumber
+file_fault (file.Truncated have) = faults.Truncated
+file_fault file.TooLong = faults.InputTooLong
+file_fault file.SeedRange = faults.Seed
+file_fault file.Read = faults.Memory
+file_fault file.Memory = faults.Memory
 
 -- the count, line or offset of a fault of an instance file, or 0 if it has none
 abbrev pub file_place : LayoutFault → ℕ
@@ -88,14 +88,14 @@ file_place (file.ExtraNumber offset) = offset
 file_place (file.Truncated have) = have
 file_place _ = 0
 
--- the refusal for a fault of an order file; the last two are not faults of a file
-abbrev pub order_refusal : OrderFault → Refusal
-order_refusal (order.Syntax offset) = refusal.Syntax
-order_refusal (order.JobRange place) = refusal.JobRange
-order_refusal (order.Repeated place) = refusal.JobTwice
-order_refusal order.TooLong = refusal.FileTooLong
-order_refusal order.Read = refusal.Memory
-order_refusal order.Memory = refusal.Memory
+-- the fault of a call for that of an order file; the last two are not found in a file
+abbrev pub order_fault : OrderFault → CallFault
+order_fault (order.Syntax offset) = faults.Syntax
+order_fault (order.JobRange place) = faults.JobRange
+order_fault (order.Repeated place) = faults.JobTwice
+order_fault order.TooLong = faults.FileTooLong
+order_fault order.Read = faults.Memory
+order_fault order.Memory = faults.Memory
 
 -- the offset or place of a fault of an order file, or 0 if it has none
 abbrev pub order_place : OrderFault → ℕ
@@ -114,7 +114,7 @@ HoldsProblem bytes layout block problem =
 -- reading this block in this layout finds this fault
 abbrev pub HasFault : List ℕ → ℕ → ℕ → LayoutFault → Type 0
 HasFault bytes layout block fault =
-    IsSomeAnd (layout_named layout) (λ named. RefusesInstance named bytes block fault)
+    IsSomeAnd (layout_named layout) (λ named. RejectsInstance named bytes block fault)
 
 -- a problem or a fault; by a law, no bytes contain two problems, or a problem and a fault, or two faults
 abbrev pub IsVerdict : List ℕ → ℕ → ℕ → Result Problem LayoutFault → Type 0
@@ -124,51 +124,51 @@ IsVerdict bytes layout block (Err fault) = HasFault bytes layout block fault
 -- the same for an order file
 abbrev pub IsOrderVerdict : List ℕ → Result StatedOrder OrderFault → Type 0
 IsOrderVerdict bytes (Ok file) = IsOrderFile bytes file
-IsOrderVerdict bytes (Err fault) = RefusesOrder bytes fault
+IsOrderVerdict bytes (Err fault) = RejectsOrder bytes fault
 
--- the refusal for a file: its fault, or `Room` if its times do not fit
-abbrev pub verdict_refusal : ℕ → Result Problem LayoutFault → Option Refusal
-verdict_refusal room (Ok problem) = room_refusal room (problem.shop.jobs * problem.shop.machines)
-verdict_refusal room (Err fault) = Some (file_refusal fault)
+-- the fault for a file: its own, or `Room` if its times do not fit
+abbrev pub verdict_fault : ℕ → Result Problem LayoutFault → Option CallFault
+verdict_fault room (Ok problem) = room_fault room (problem.shop.jobs * problem.shop.machines)
+verdict_fault room (Err fault) = Some (file_fault fault)
 
--- the refusal for an order file: its fault, or `Room` if its order does not fit
-abbrev pub order_verdict_refusal : ℕ → Result StatedOrder OrderFault → Option Refusal
-order_verdict_refusal room (Ok file) = room_refusal room (length file.order)
-order_verdict_refusal room (Err fault) = Some (order_refusal fault)
+-- the fault for an order file: its own, or `Room` if its order does not fit
+abbrev pub order_verdict_fault : ℕ → Result StatedOrder OrderFault → Option CallFault
+order_verdict_fault room (Ok file) = room_fault room (length file.order)
+order_verdict_fault room (Err fault) = Some (order_fault fault)
 
 -- ---- the numbers that are returned
 
-abbrev pub answer_of : Option Refusal → ℤ
-answer_of None = PFS_OK
-answer_of (Some why) = refusal_number why
+abbrev pub number_returned : Option CallFault → ℤ
+number_returned None = PFS_OK
+number_returned (Some why) = fault_number why
 
 -- the layout and the block are validated first, then the file
-abbrev pub asked_refusal : ℕ → ℕ → Option Refusal
-asked_refusal layout block = first_some (layout_refusal layout ∷ block_refusal block ∷ [])
+abbrev pub asked_fault : ℕ → ℕ → Option CallFault
+asked_fault layout block = first_some (layout_fault layout ∷ block_fault block ∷ [])
 
 -- the size line of the requested block ends at a place of the bytes, where memory for its times is allocated
-pub record WantsMemory (bytes : List ℕ) (layout : Layout) (block : ℕ) : Type 0 where
+pub record NeedsMemory (bytes : List ℕ) (layout : Layout) (block : ℕ) : Type 0 where
   pub place : ℕ
   pub within : place < length bytes
   pub ends : EndsWantedSize layout block (take place bytes) (slice_index bytes place)
 
 -- the allocation at the end of the size line failed, or the number is that of the file's verdict, which is unique
-abbrev pub AnswersFile : ℤ → List ℕ → ℕ → ℕ → ℕ → Type 0
-AnswersFile answer bytes layout block room =
-    ((answer ≡ PFS_MEMORY) × IsSomeAnd (layout_named layout) (λ named. WantsMemory bytes named block))
+abbrev pub ReturnsFile : ℤ → List ℕ → ℕ → ℕ → ℕ → Type 0
+ReturnsFile number bytes layout block room =
+    ((number ≡ PFS_MEMORY) × IsSomeAnd (layout_named layout) (λ named. NeedsMemory bytes named block))
     ⊎ ((verdict : Result Problem LayoutFault) × (IsVerdict bytes layout block verdict
-    × (answer ≡ answer_of (verdict_refusal room verdict))))
+    × (number ≡ number_returned (verdict_fault room verdict))))
 
-abbrev pub AnswersRead : ℤ → List ℕ → ℕ → ℕ → ℕ → Type 0
-AnswersRead answer bytes layout block room = MatchOption (asked_refusal layout block)
-    (AnswersFile answer bytes layout block room) (λ why. answer ≡ refusal_number why)
+abbrev pub ReturnsRead : ℤ → List ℕ → ℕ → ℕ → ℕ → Type 0
+ReturnsRead number bytes layout block room = MatchOption (asked_fault layout block)
+    (ReturnsFile number bytes layout block room) (λ why. number ≡ fault_number why)
 
 -- the allocation for the order failed, which happens only once the text is known to match the grammar and before its
 -- jobs are validated, or the number is that of the file's verdict
-abbrev pub AnswersReadOrder : ℤ → List ℕ → ℕ → Type 0
-AnswersReadOrder answer bytes room = ((answer ≡ PFS_MEMORY) × IsText bytes)
+abbrev pub ReturnsReadOrder : ℤ → List ℕ → ℕ → Type 0
+ReturnsReadOrder number bytes room = ((number ≡ PFS_MEMORY) × IsText bytes)
     ⊎ ((verdict : Result StatedOrder OrderFault) × (IsOrderVerdict bytes verdict
-    × (answer ≡ answer_of (order_verdict_refusal room verdict))))
+    × (number ≡ number_returned (order_verdict_fault room verdict))))
 
 -- ---- writing
 
@@ -180,23 +180,23 @@ text_in layout problem = option_map_or (λ named. canonical_text named problem) 
 abbrev pub put_in_front : {A : Type 0} → List A → List A → List A
 put_in_front front whole = front ++ drop (length front) whole
 
-abbrev pub write_refusal : List ℕ → ℕ → ℕ → ℕ → Option Refusal
-write_refusal times jobs machines layout =
-    first_some (shop_refusal times jobs machines ∷ layout_refusal layout ∷ [])
+abbrev pub write_fault : List ℕ → ℕ → ℕ → ℕ → Option CallFault
+write_fault times jobs machines layout =
+    first_some (shop_fault times jobs machines ∷ layout_fault layout ∷ [])
 
-abbrev pub order_size_refusal : ℕ → ℕ → Option Refusal
-order_size_refusal jobs machines =
-    unless ((nat_le 1 jobs && nat_le jobs MOST_JOBS) && nat_le machines MOST_MACHINES) refusal.Size
+abbrev pub order_size_fault : ℕ → ℕ → Option CallFault
+order_size_fault jobs machines =
+    unless ((nat_le 1 jobs && nat_le jobs MOST_JOBS) && nat_le machines MOST_MACHINES) faults.Size
 
-abbrev pub stated_refusal : ℕ → Option Refusal
-stated_refusal makespan = unless (nat_lt makespan (10 ^ 18)) refusal.Makespan
+abbrev pub stated_fault : ℕ → Option CallFault
+stated_fault makespan = unless (nat_lt makespan (10 ^ 18)) faults.Makespan
 
-abbrev pub write_order_refusal : List ℕ → ℕ → ℕ → Option Refusal
-write_order_refusal jobs machines makespan = first_some (order_size_refusal (length jobs) machines
-    ∷ jobs_refusal (length jobs) jobs ∷ stated_refusal makespan ∷ [])
+abbrev pub write_order_fault : List ℕ → ℕ → ℕ → Option CallFault
+write_order_fault jobs machines makespan = first_some (order_size_fault (length jobs) machines
+    ∷ jobs_fault (length jobs) jobs ∷ stated_fault makespan ∷ [])
 
 -- the first fault in the arguments; if there is none, PFS_MEMORY if an allocation failed, or else PFS_OK if the file
 -- fits and PFS_ROOM if not
-abbrev pub AnswersWrite : ℤ → Option Refusal → ℕ → ℕ → Type 0
-AnswersWrite answer (Some why) room wanted = answer ≡ refusal_number why
-AnswersWrite answer None room wanted = (answer ≡ PFS_MEMORY) ⊎ (answer ≡ answer_of (room_refusal room wanted))
+abbrev pub ReturnsWrite : ℤ → Option CallFault → ℕ → ℕ → Type 0
+ReturnsWrite number (Some why) room wanted = number ≡ fault_number why
+ReturnsWrite number None room wanted = (number ≡ PFS_MEMORY) ⊎ (number ≡ number_returned (room_fault room wanted))

@@ -5,17 +5,17 @@ ghost use Rattle.pfs_base.specs.Limits.{limits};
 ghost use Rattle.pfs_base.specs.Paths.{makespan};
 ghost use Rattle.pfs_order.specs.Sequence.{IsSequence};
 ghost use Rattle.pfs_c.specs.Building.{IsConstructed, IsLocalSearch, after_visits};
-ghost use Rattle.pfs_c.specs.Building.{construct_refusal, local_search_refusal, members_refusal};
-ghost use Rattle.pfs_c.specs.Judgements.{jobs_refusal, shop_of};
-ghost use Rattle.pfs_c.specs.Numbers.{Answers};
-ghost use Rattle.pfs_c.specs.Private.Refusing.{Judges};
+ghost use Rattle.pfs_c.specs.Building.{construct_fault, local_search_fault, members_fault};
+ghost use Rattle.pfs_c.specs.Validation.{jobs_fault, shop_of};
+ghost use Rattle.pfs_c.specs.Numbers.{Returns};
+ghost use Rattle.pfs_c.specs.Private.Outcomes.{Validates};
 
 use crate::given::{
-    NO_NOTES, instance_of, judge_jobs, judge_length, judge_passes, judge_sizes, judge_times,
-    sequence_of,
+    NO_NOTES, instance_of, sequence_of, validate_jobs, validate_length, validate_passes,
+    validate_sizes, validate_times,
 };
 use crate::moving::make_visits;
-use crate::numbers::{PFS_OK, Refusal};
+use crate::numbers::{CallFault, PFS_OK};
 use crate::rows::span_of;
 use pfs_base::{MOST_JOBS, MOST_PASSES};
 use pfs_order::Seq;
@@ -34,14 +34,14 @@ pub extern "C" fn pfs_construct(
     order: &mut [u32],
     span: &mut u64,
 ) -> i32
-    ensures number { Answers result
-        (construct_refusal times.now jobs machines sequence.now more.now (length order.old)) }
+    ensures number { Returns result
+        (construct_fault times.now jobs machines sequence.now more.now (length order.old)) }
     ensures done { result ≡ PFS_OK →
         IsConstructed (shop_of times.now jobs machines) sequence.now more.now order.new span.new }
     ensures kept_order { result ≢ PFS_OK → order.new ≡ order.old }
     ensures kept_span { result ≢ PFS_OK → span.new ≡ span.old }
 {
-    if let Err(why) = judge_construct(times, jobs, machines, sequence, more, order.len()) {
+    if let Err(why) = validate_construct(times, jobs, machines, sequence, more, order.len()) {
         return why.number();
     }
     match visits_of(alloc, times, jobs, machines, sequence, more, 1) {
@@ -54,45 +54,45 @@ pub extern "C" fn pfs_construct(
     }
 }
 
-fn judge_construct(
+fn validate_construct(
     times: &[u32],
     jobs: usize,
     machines: usize,
     sequence: &[u32],
     more: &[u32],
     room: usize,
-) -> Result<(), Refusal>
-    ensures judged { Judges result (construct_refusal times.now jobs machines sequence.now more.now room) }
+) -> Result<(), CallFault>
+    ensures validated { Validates result (construct_fault times.now jobs machines sequence.now more.now room) }
     ensures within { IfOk result (λ done. IsWithin limits (shop_of times.now jobs machines)) }
     ensures sequence { IfOk result (λ done. IsSequence jobs sequence.now) }
     ensures together { IfOk result (λ done. IsSequence jobs (sequence.now ++ more.now)) }
     ensures room { IfOk result (λ done. room ≡ length sequence.now + length more.now) }
 {
-    judge_sizes(jobs, machines)?;
-    judge_length(times.len(), jobs * machines)?;
-    judge_length(room, sequence.len() + more.len())?;
-    judge_times(times)?;
-    judge_jobs(jobs, sequence)?;
-    judge_more(jobs, sequence, more)
+    validate_sizes(jobs, machines)?;
+    validate_length(times.len(), jobs * machines)?;
+    validate_length(room, sequence.len() + more.len())?;
+    validate_times(times)?;
+    validate_jobs(jobs, sequence)?;
+    validate_more(jobs, sequence, more)
 }
 
 // Validates the jobs to insert into a sequence that is valid: `Job` if one is not below the size, `Repeated` if it is
 // in the sequence or at an earlier place of the list, whichever comes first.
-fn judge_more(jobs: usize, sequence: &[u32], more: &[u32]) -> Result<(), Refusal>
+fn validate_more(jobs: usize, sequence: &[u32], more: &[u32]) -> Result<(), CallFault>
     requires few { jobs ≤ MOST_JOBS }
     requires sequence { IsSequence jobs sequence.now }
-    ensures judged { Judges result (jobs_refusal jobs (sequence.now ++ more.now)) }
+    ensures validated { Validates result (jobs_fault jobs (sequence.now ++ more.now)) }
     ensures together { IfOk result (λ done. IsSequence jobs (sequence.now ++ more.now)) }
 {
     for (place, job) in more.iter().enumerate() {
         if *job as usize >= jobs {
-            return Err(Refusal::Job);
+            return Err(CallFault::Job);
         }
         if sequence.contains(job) {
-            return Err(Refusal::Repeated);
+            return Err(CallFault::Repeated);
         }
         if more[..place].contains(job) {
-            return Err(Refusal::Repeated);
+            return Err(CallFault::Repeated);
         }
     }
     Ok(())
@@ -112,14 +112,14 @@ pub extern "C" fn pfs_local_search(
     order: &mut [u32],
     span: &mut u64,
 ) -> i32
-    ensures number { Answers result
-        (local_search_refusal times.now jobs machines sequence.now list.now passes (length order.old)) }
+    ensures number { Returns result
+        (local_search_fault times.now jobs machines sequence.now list.now passes (length order.old)) }
     ensures done { result ≡ PFS_OK →
         IsLocalSearch (shop_of times.now jobs machines) sequence.now list.now passes order.new span.new }
     ensures kept_order { result ≢ PFS_OK → order.new ≡ order.old }
     ensures kept_span { result ≢ PFS_OK → span.new ≡ span.old }
 {
-    if let Err(why) = judge_search(times, jobs, machines, sequence, list, passes, order.len()) {
+    if let Err(why) = validate_search(times, jobs, machines, sequence, list, passes, order.len()) {
         return why.number();
     }
     match visits_of(alloc, times, jobs, machines, sequence, list, passes) {
@@ -132,7 +132,7 @@ pub extern "C" fn pfs_local_search(
     }
 }
 
-fn judge_search(
+fn validate_search(
     times: &[u32],
     jobs: usize,
     machines: usize,
@@ -140,9 +140,9 @@ fn judge_search(
     list: &[u32],
     passes: u32,
     room: usize,
-) -> Result<(), Refusal>
-    ensures judged { Judges result
-        (local_search_refusal times.now jobs machines sequence.now list.now passes room) }
+) -> Result<(), CallFault>
+    ensures validated { Validates result
+        (local_search_fault times.now jobs machines sequence.now list.now passes room) }
     ensures within { IfOk result (λ done. IsWithin limits (shop_of times.now jobs machines)) }
     ensures sequence { IfOk result (λ done. IsSequence jobs sequence.now) }
     ensures distinct { IfOk result (λ done. IsSequence jobs list.now) }
@@ -150,14 +150,14 @@ fn judge_search(
     ensures passes { IfOk result (λ done. passes ≤ MOST_PASSES) }
     ensures room { IfOk result (λ done. room ≡ length sequence.now) }
 {
-    judge_sizes(jobs, machines)?;
-    judge_length(times.len(), jobs * machines)?;
-    judge_length(room, sequence.len())?;
-    judge_times(times)?;
-    judge_jobs(jobs, sequence)?;
-    judge_jobs(jobs, list)?;
-    judge_members(sequence, list)?;
-    judge_passes(passes)
+    validate_sizes(jobs, machines)?;
+    validate_length(times.len(), jobs * machines)?;
+    validate_length(room, sequence.len())?;
+    validate_times(times)?;
+    validate_jobs(jobs, sequence)?;
+    validate_jobs(jobs, list)?;
+    validate_members(sequence, list)?;
+    validate_passes(passes)
 }
 
 // A sequence after passes over a list of jobs. The only fault is `Memory`.
@@ -169,7 +169,7 @@ fn visits_of(
     sequence: &[u32],
     list: &[u32],
     passes: u32,
-) -> Result<Seq, Refusal>
+) -> Result<Seq, CallFault>
     requires within { IsWithin limits (shop_of times.now jobs machines) }
     requires sequence { IsSequence jobs sequence.now }
     requires small { All (λ job. job < jobs) list.now }
@@ -177,7 +177,7 @@ fn visits_of(
     requires passes { passes ≤ MOST_PASSES }
     ensures jobs { IfOk result (λ found.
         found.jobs ≡ after_visits (shop_of times.now jobs machines) list.now passes sequence.now) }
-    ensures memory { IfErr result (λ why. why ≡ Refusal.Memory) }
+    ensures memory { IfErr result (λ why. why ≡ CallFault.Memory) }
 {
     let instance = instance_of(alloc, times, jobs, machines, NO_NOTES)?;
     let mut seq = sequence_of(alloc, jobs, sequence)?;
@@ -186,13 +186,13 @@ fn visits_of(
 }
 
 // Validates that each job of a list is in a sequence: `Job` if one is not.
-fn judge_members(sequence: &[u32], list: &[u32]) -> Result<(), Refusal>
-    ensures judged { Judges result (members_refusal sequence.now list.now) }
+fn validate_members(sequence: &[u32], list: &[u32]) -> Result<(), CallFault>
+    ensures validated { Validates result (members_fault sequence.now list.now) }
     ensures members { IfOk result (λ done. All (λ job. Contains sequence.now job) list.now) }
 {
     for job in list {
         if !sequence.contains(job) {
-            return Err(Refusal::Job);
+            return Err(CallFault::Job);
         }
     }
     Ok(())

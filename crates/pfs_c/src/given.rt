@@ -3,13 +3,13 @@ ghost use Rattle.std.specs.Prelude.{◌≡◌, ◌≤◌, ◌<◌, ◌*◌, ◌�
 ghost use Rattle.pfs_base.specs.FlowShop.{AreSizes, IsWithin};
 ghost use Rattle.pfs_base.specs.Limits.{limits};
 ghost use Rattle.pfs_order.specs.Sequence.{IsSequence};
-ghost use Rattle.pfs_c.specs.Judgements.{shop_of, sizes_refusal, length_refusal, times_refusal, shop_refusal};
-ghost use Rattle.pfs_c.specs.Judgements.{jobs_refusal, job_refusal};
-ghost use Rattle.pfs_c.specs.Private.Refusing.{Judges};
-ghost use Rattle.pfs_c.specs.Searching.{passes_refusal};
+ghost use Rattle.pfs_c.specs.Validation.{shop_of, sizes_fault, length_fault, times_fault, shop_fault};
+ghost use Rattle.pfs_c.specs.Validation.{jobs_fault, job_fault};
+ghost use Rattle.pfs_c.specs.Private.Outcomes.{Validates};
+ghost use Rattle.pfs_c.specs.Searching.{passes_fault};
 ghost use Rattle.pfs_c.specs.Texts.{put_in_front};
 
-use crate::numbers::Refusal;
+use crate::numbers::CallFault;
 use pfs_base::{Instance, LONGEST_TIME, MOST_JOBS, MOST_MACHINES, MOST_PASSES, Notes};
 use pfs_order::{Order, Seq};
 use std::alloc::Global;
@@ -26,44 +26,44 @@ pub(crate) const NO_NOTES: Notes = Notes {
 const FEW_JOBS: usize = 512;
 
 /// Validates the numbers of jobs and of machines. Returns `Size` if one is outside its limits.
-pub(crate) fn judge_sizes(jobs: usize, machines: usize) -> Result<(), Refusal>
-    ensures judged { Judges result (sizes_refusal jobs machines) }
+pub(crate) fn validate_sizes(jobs: usize, machines: usize) -> Result<(), CallFault>
+    ensures validated { Validates result (sizes_fault jobs machines) }
     ensures within { IfOk result (λ done. AreSizes limits jobs machines) }
 {
     if jobs >= 1 && jobs <= MOST_JOBS && machines >= 1 && machines <= MOST_MACHINES {
         Ok(())
     } else {
-        Err(Refusal::Size)
+        Err(CallFault::Size)
     }
 }
 
 /// Validates the length of a list. Returns `Length` if it is not the wanted one.
-pub(crate) fn judge_length(length: usize, wanted: usize) -> Result<(), Refusal>
-    ensures judged { Judges result (length_refusal length wanted) }
+pub(crate) fn validate_length(length: usize, wanted: usize) -> Result<(), CallFault>
+    ensures validated { Validates result (length_fault length wanted) }
     ensures equal { IfOk result (λ done. length ≡ wanted) }
 {
     if length == wanted {
         Ok(())
     } else {
-        Err(Refusal::Length)
+        Err(CallFault::Length)
     }
 }
 
 /// Validates the length of a list that must have `count * long` entries. If that product overflows, the length is
 /// wrong.
-pub(crate) fn judge_product(length: usize, count: usize, long: usize) -> Result<(), Refusal>
-    ensures judged { Judges result (length_refusal length (count * long)) }
+pub(crate) fn validate_product(length: usize, count: usize, long: usize) -> Result<(), CallFault>
+    ensures validated { Validates result (length_fault length (count * long)) }
     ensures equal { IfOk result (λ done. length ≡ count * long) }
 {
     match count.checked_mul(long) {
-        Some(wanted) => judge_length(length, wanted),
-        None => Err(Refusal::Length),
+        Some(wanted) => validate_length(length, wanted),
+        None => Err(CallFault::Length),
     }
 }
 
 /// Validates processing times. Returns `Time` if one is greater than `LONGEST_TIME`.
-pub(crate) fn judge_times(times: &[u32]) -> Result<(), Refusal>
-    ensures judged { Judges result (times_refusal times.now) }
+pub(crate) fn validate_times(times: &[u32]) -> Result<(), CallFault>
+    ensures validated { Validates result (times_fault times.now) }
     ensures short { IfOk result (λ done. All (λ time. time ≤ LONGEST_TIME) times.now) }
 {
     // Only the greatest is compared, since a loop that may end early is not vectorized.
@@ -74,66 +74,66 @@ pub(crate) fn judge_times(times: &[u32]) -> Result<(), Refusal>
     if longest <= LONGEST_TIME {
         Ok(())
     } else {
-        Err(Refusal::Time)
+        Err(CallFault::Time)
     }
 }
 
 /// Validates the sizes, then the number of times, then the times, and returns the first fault.
-pub(crate) fn judge_shop(times: &[u32], jobs: usize, machines: usize) -> Result<(), Refusal>
-    ensures judged { Judges result (shop_refusal times.now jobs machines) }
+pub(crate) fn validate_shop(times: &[u32], jobs: usize, machines: usize) -> Result<(), CallFault>
+    ensures validated { Validates result (shop_fault times.now jobs machines) }
     ensures within { IfOk result (λ done. IsWithin limits (shop_of times.now jobs machines)) }
 {
-    judge_sizes(jobs, machines)?;
-    judge_length(times.len(), jobs * machines)?;
-    judge_times(times)
+    validate_sizes(jobs, machines)?;
+    validate_length(times.len(), jobs * machines)?;
+    validate_times(times)
 }
 
 /// Validates a list of jobs from the left. For the first invalid place it returns `Job` if the job there is not below
 /// the size, and `Repeated` if the job is also at an earlier place. It allocates nothing and reads each job at most
 /// once.
-pub(crate) fn judge_jobs(size: usize, jobs: &[u32]) -> Result<(), Refusal>
+pub(crate) fn validate_jobs(size: usize, jobs: &[u32]) -> Result<(), CallFault>
     requires { size ≤ MOST_JOBS }
-    ensures judged { Judges result (jobs_refusal size jobs.now) }
+    ensures validated { Validates result (jobs_fault size jobs.now) }
     ensures sequence { IsOk result ↔ IsSequence size jobs.now }
 {
     if size <= FEW_JOBS {
-        judge_few_jobs(size, jobs)
+        validate_few_jobs(size, jobs)
     } else {
-        judge_many_jobs(size, jobs)
+        validate_many_jobs(size, jobs)
     }
 }
 
-// `judge_jobs` with few marks and with many, each in a separate stack frame.
+// `validate_jobs` with few marks and with many, each in a separate stack frame.
 #[inline(never)]
-fn judge_few_jobs(size: usize, jobs: &[u32]) -> Result<(), Refusal>
+fn validate_few_jobs(size: usize, jobs: &[u32]) -> Result<(), CallFault>
     requires { size ≤ FEW_JOBS }
-    ensures { Judges result (jobs_refusal size jobs.now) }
+    ensures { Validates result (jobs_fault size jobs.now) }
 {
-    judge_with_marks(size, jobs, &mut [false; FEW_JOBS])
+    validate_with_marks(size, jobs, &mut [false; FEW_JOBS])
 }
 
 #[inline(never)]
-fn judge_many_jobs(size: usize, jobs: &[u32]) -> Result<(), Refusal>
+fn validate_many_jobs(size: usize, jobs: &[u32]) -> Result<(), CallFault>
     requires { size ≤ MOST_JOBS }
-    ensures { Judges result (jobs_refusal size jobs.now) }
+    ensures { Validates result (jobs_fault size jobs.now) }
 {
-    judge_with_marks(size, jobs, &mut [false; MOST_JOBS])
+    validate_with_marks(size, jobs, &mut [false; MOST_JOBS])
 }
 
-// `judge_jobs` with a mark for each job below the size, of which none is set yet.
+// `validate_jobs` with a mark for each job below the size, of which none is set yet.
 #[inline(always)]
-fn judge_with_marks(size: usize, jobs: &[u32], marks: &mut [bool]) -> Result<(), Refusal>
+fn validate_with_marks(size: usize, jobs: &[u32], marks: &mut [bool]) -> Result<(), CallFault>
     requires enough { size ≤ length marks.old }
     requires none { All (λ mark. mark ≡ false) marks.old }
-    ensures { Judges result (jobs_refusal size jobs.now) }
+    ensures { Validates result (jobs_fault size jobs.now) }
 {
     for job in jobs {
         let job = *job as usize;
         if job >= size {
-            return Err(Refusal::Job);
+            return Err(CallFault::Job);
         }
         if marks[job] {
-            return Err(Refusal::Repeated);
+            return Err(CallFault::Repeated);
         }
         marks[job] = true;
     }
@@ -142,28 +142,28 @@ fn judge_with_marks(size: usize, jobs: &[u32], marks: &mut [bool]) -> Result<(),
 
 /// Validates a job to insert into a sequence. Returns `Job` if it is not below the size, else `Repeated` if it is in
 /// the sequence already. The time is linear in the length of the sequence.
-pub(crate) fn judge_job(size: usize, sequence: &[u32], job: u32) -> Result<(), Refusal>
-    ensures judged { Judges result (job_refusal size sequence.now job) }
+pub(crate) fn validate_job(size: usize, sequence: &[u32], job: u32) -> Result<(), CallFault>
+    ensures validated { Validates result (job_fault size sequence.now job) }
     ensures in_range { IfOk result (λ done. job < size) }
     ensures absent { IfOk result (λ done. Contains sequence.now job → ⊥) }
 {
     if job as usize >= size {
-        return Err(Refusal::Job);
+        return Err(CallFault::Job);
     }
     if sequence.contains(&job) {
-        return Err(Refusal::Repeated);
+        return Err(CallFault::Repeated);
     }
     Ok(())
 }
 
 /// Validates a number of passes: `Passes` if it is above the limit.
-pub(crate) fn judge_passes(passes: u32) -> Result<(), Refusal>
-    ensures { Judges result (passes_refusal passes) }
+pub(crate) fn validate_passes(passes: u32) -> Result<(), CallFault>
+    ensures { Validates result (passes_fault passes) }
 {
     if passes <= MOST_PASSES {
         Ok(())
     } else {
-        Err(Refusal::Passes)
+        Err(CallFault::Passes)
     }
 }
 
@@ -174,23 +174,23 @@ pub(crate) fn instance_of(
     jobs: usize,
     machines: usize,
     notes: Notes,
-) -> Result<Instance, Refusal>
+) -> Result<Instance, CallFault>
     requires { IsWithin limits (shop_of times.now jobs machines) }
     ensures made { IfOk result (λ made. made ≡ record { shop = shop_of times.now jobs machines; notes = notes }) }
-    ensures memory { IfErr result (λ why. why ≡ Refusal.Memory) }
+    ensures memory { IfErr result (λ why. why ≡ CallFault.Memory) }
 {
-    Instance::of_times(alloc, jobs, machines, times, notes).or(Err(Refusal::Memory))
+    Instance::of_times(alloc, jobs, machines, times, notes).or(Err(CallFault::Memory))
 }
 
 /// Makes a sequence of validated jobs. It allocates once, and returns `Memory` if that fails; it has no other error.
-pub(crate) fn sequence_of(alloc: Global, size: usize, jobs: &[u32]) -> Result<Seq, Refusal>
+pub(crate) fn sequence_of(alloc: Global, size: usize, jobs: &[u32]) -> Result<Seq, CallFault>
     requires some { 1 ≤ size }
     requires few { size ≤ MOST_JOBS }
     requires sequence { IsSequence size jobs.now }
     ensures made { IfOk result (λ made. made ≡ record { size = size; jobs = jobs.now }) }
-    ensures memory { IfErr result (λ why. why ≡ Refusal.Memory) }
+    ensures memory { IfErr result (λ why. why ≡ CallFault.Memory) }
 {
-    let mut sequence = Seq::new(alloc, size).or(Err(Refusal::Memory))?;
+    let mut sequence = Seq::new(alloc, size).or(Err(CallFault::Memory))?;
     for (place, job) in jobs.iter().enumerate() {
         sequence.insert_at(place, *job as usize);
     }
@@ -199,12 +199,12 @@ pub(crate) fn sequence_of(alloc: Global, size: usize, jobs: &[u32]) -> Result<Se
 
 /// Makes an order of validated jobs, which are all jobs. It allocates once, and returns `Memory` if that fails; it has
 /// no other error.
-pub(crate) fn order_of(alloc: Global, jobs: &[u32]) -> Result<Order, Refusal>
+pub(crate) fn order_of(alloc: Global, jobs: &[u32]) -> Result<Order, CallFault>
     requires some { 1 ≤ length jobs.now }
     requires few { length jobs.now ≤ MOST_JOBS }
     requires sequence { IsSequence (length jobs.now) jobs.now }
     ensures made { IfOk result (λ made. made ≡ jobs.now) }
-    ensures memory { IfErr result (λ why. why ≡ Refusal.Memory) }
+    ensures memory { IfErr result (λ why. why ≡ CallFault.Memory) }
 {
     match Order::from_seq(sequence_of(alloc, jobs.len(), jobs)?) {
         Ok(order) => Ok(order),

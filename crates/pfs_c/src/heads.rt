@@ -3,13 +3,15 @@ ghost use Rattle.std.specs.Prelude.{◌≡◌, ◌≢◌, ◌*◌, ◌<◌, ◌�
 ghost use Rattle.pfs_base.specs.FlowShop.{IsWithin};
 ghost use Rattle.pfs_base.specs.Limits.{limits};
 ghost use Rattle.pfs_order.specs.Sequence.{IsSequence};
-ghost use Rattle.pfs_c.specs.HeadsTails.{AreRowHeads, AreRowTails, heads_tails_refusal};
-ghost use Rattle.pfs_c.specs.Judgements.{shop_of};
-ghost use Rattle.pfs_c.specs.Private.Refusing.{Judges};
-ghost use Rattle.pfs_c.specs.Texts.{answer_of};
+ghost use Rattle.pfs_c.specs.HeadsTails.{AreRowHeads, AreRowTails, heads_tails_fault};
+ghost use Rattle.pfs_c.specs.Validation.{shop_of};
+ghost use Rattle.pfs_c.specs.Private.Outcomes.{Validates};
+ghost use Rattle.pfs_c.specs.Texts.{number_returned};
 
-use crate::given::{judge_jobs, judge_length, judge_product, judge_sizes, judge_times};
-use crate::numbers::{PFS_OK, Refusal};
+use crate::given::{
+    validate_jobs, validate_length, validate_product, validate_sizes, validate_times,
+};
+use crate::numbers::{CallFault, PFS_OK};
 use crate::rows::{add_head, add_tail_row};
 use pfs_base::MOST_MACHINES;
 
@@ -25,14 +27,14 @@ pub extern "C" fn pfs_heads_tails(
     heads: &mut [u64],
     tails: &mut [u64],
 ) -> i32
-    ensures number { result ≡ answer_of
-        (heads_tails_refusal times.now jobs machines sequence.now (length heads.old) (length tails.old)) }
+    ensures number { result ≡ number_returned
+        (heads_tails_fault times.now jobs machines sequence.now (length heads.old) (length tails.old)) }
     ensures heads { result ≡ PFS_OK → AreRowHeads (shop_of times.now jobs machines) sequence.now heads.new }
     ensures tails { result ≡ PFS_OK → AreRowTails (shop_of times.now jobs machines) sequence.now tails.new }
     ensures kept_heads { result ≢ PFS_OK → heads.new ≡ heads.old }
     ensures kept_tails { result ≢ PFS_OK → tails.new ≡ tails.old }
 {
-    match judge_heads_tails(times, jobs, machines, sequence, heads.len(), tails.len()) {
+    match validate_heads_tails(times, jobs, machines, sequence, heads.len(), tails.len()) {
         Ok(()) => {
             fill_heads(times, jobs, machines, sequence, heads);
             fill_tails(times, jobs, machines, sequence, tails);
@@ -42,26 +44,26 @@ pub extern "C" fn pfs_heads_tails(
     }
 }
 
-fn judge_heads_tails(
+fn validate_heads_tails(
     times: &[u32],
     jobs: usize,
     machines: usize,
     sequence: &[u32],
     heads: usize,
     tails: usize,
-) -> Result<(), Refusal>
-    ensures judged { Judges result (heads_tails_refusal times.now jobs machines sequence.now heads tails) }
+) -> Result<(), CallFault>
+    ensures validated { Validates result (heads_tails_fault times.now jobs machines sequence.now heads tails) }
     ensures within { IfOk result (λ done. IsWithin limits (shop_of times.now jobs machines)) }
     ensures sequence { IfOk result (λ done. IsSequence jobs sequence.now) }
     ensures heads { IfOk result (λ done. heads ≡ length sequence.now * machines) }
     ensures tails { IfOk result (λ done. tails ≡ length sequence.now * machines) }
 {
-    judge_sizes(jobs, machines)?;
-    judge_length(times.len(), jobs * machines)?;
-    judge_product(heads, sequence.len(), machines)?;
-    judge_product(tails, sequence.len(), machines)?;
-    judge_times(times)?;
-    judge_jobs(jobs, sequence)
+    validate_sizes(jobs, machines)?;
+    validate_length(times.len(), jobs * machines)?;
+    validate_product(heads, sequence.len(), machines)?;
+    validate_product(tails, sequence.len(), machines)?;
+    validate_times(times)?;
+    validate_jobs(jobs, sequence)
 }
 
 // Fills the rows of heads from the first place to the last.

@@ -5,10 +5,10 @@ ghost use Rattle.pfs_base.specs.Limits.{limits};
 ghost use Rattle.pfs_insert.specs.Inserter.{IsBestPlace};
 ghost use Rattle.pfs_order.specs.Sequence.{IsSequence};
 ghost use Rattle.pfs_wave.specs.Served.{IsServed};
-ghost use Rattle.pfs_c.specs.Judgements.{shop_of};
+ghost use Rattle.pfs_c.specs.Validation.{shop_of};
 ghost use Rattle.pfs_c.specs.Private.Rows.{TailsFrom};
 
-use crate::numbers::Refusal;
+use crate::numbers::CallFault;
 use crate::places::tails_of;
 use crate::rows::{add_head, span_with};
 use pfs_base::{Instance, MOST_MACHINES};
@@ -27,13 +27,13 @@ pub(crate) fn best_on_times(
     machines: usize,
     sequence: &[u32],
     job: usize,
-) -> Result<Placed<u64>, Refusal>
+) -> Result<Placed<u64>, CallFault>
     requires within { IsWithin limits (shop_of times.now jobs machines) }
     requires sequence { IsSequence jobs sequence.now }
     requires job { job < jobs }
     ensures best { IfOk result (λ best.
         IsBestPlace (shop_of times.now jobs machines) sequence.now job best.place best.span) }
-    ensures memory { IfErr result (λ why. why ≡ Refusal.Memory) }
+    ensures memory { IfErr result (λ why. why ≡ CallFault.Memory) }
 {
     let tails = tails_of(alloc, times, jobs, machines, sequence)?;
     Ok(first_best(times, jobs, machines, sequence, job, &tails))
@@ -80,13 +80,13 @@ pub(crate) fn best_place(
     instance: &Instance,
     sequence: &Seq,
     job: usize,
-) -> Result<Placed<u64>, Refusal>
+) -> Result<Placed<u64>, CallFault>
     requires size { sequence.now.size ≡ instance.now.shop.jobs }
     requires job { job < instance.now.shop.jobs }
     requires absent { Contains sequence.now.jobs job → ⊥ }
     ensures best { IfOk result (λ best.
         IsBestPlace instance.now.shop sequence.now.jobs job best.place best.span) }
-    ensures memory { IfErr result (λ why. why ≡ Refusal.Memory) }
+    ensures memory { IfErr result (λ why. why ≡ CallFault.Memory) }
 {
     match method_for(instance) {
         Method::HeadsTails => best_by_rows(alloc, instance, sequence, job),
@@ -102,23 +102,23 @@ fn best_by_rows(
     instance: &Instance,
     sequence: &Seq,
     job: usize,
-) -> Result<Placed<u64>, Refusal>
+) -> Result<Placed<u64>, CallFault>
     requires size { sequence.now.size ≡ instance.now.shop.jobs }
     requires job { job < instance.now.shop.jobs }
     requires absent { Contains sequence.now.jobs job → ⊥ }
     ensures best { IfOk result (λ best.
         IsBestPlace instance.now.shop sequence.now.jobs job best.place best.span) }
-    ensures memory { IfErr result (λ why. why ≡ Refusal.Memory) }
+    ensures memory { IfErr result (λ why. why ≡ CallFault.Memory) }
 {
     // Called for their contracts: the instance and the sequence are within the limits.
     let _jobs = instance.jobs();
     let _len = sequence.len();
     let mut bench = instance.metered();
     let Ok(mut inserter) = HeadsTails::new(alloc, &bench) else {
-        return Err(Refusal::Memory);
+        return Err(CallFault::Memory);
     };
     let Ok(best) = inserter.best(alloc, &mut bench, sequence, job) else {
-        return Err(Refusal::Memory);
+        return Err(CallFault::Memory);
     };
     Ok(Placed {
         place: best.place,
@@ -132,26 +132,26 @@ fn best_in_lanes<L: Lanes>(
     instance: &Instance,
     sequence: &Seq,
     job: usize,
-) -> Result<Placed<u64>, Refusal>
+) -> Result<Placed<u64>, CallFault>
     requires served { IsServed instance.now.shop L.WIDTH }
     requires size { sequence.now.size ≡ instance.now.shop.jobs }
     requires job { job < instance.now.shop.jobs }
     requires absent { Contains sequence.now.jobs job → ⊥ }
     ensures best { IfOk result (λ best.
         IsBestPlace instance.now.shop sequence.now.jobs job best.place best.span) }
-    ensures memory { IfErr result (λ why. why ≡ Refusal.Memory) }
+    ensures memory { IfErr result (λ why. why ≡ CallFault.Memory) }
 {
     // Called for their contracts: the instance and the sequence are within the limits.
     let _jobs = instance.jobs();
     let _len = sequence.len();
     let Ok(mut bench) = MeteredLanes::<L>::new(alloc, instance) else {
-        return Err(Refusal::Memory);
+        return Err(CallFault::Memory);
     };
     let Ok(mut inserter) = Wavefront::new(alloc, &bench) else {
-        return Err(Refusal::Memory);
+        return Err(CallFault::Memory);
     };
     let Ok(found) = inserter.best(alloc, &mut bench, sequence, job) else {
-        return Err(Refusal::Memory);
+        return Err(CallFault::Memory);
     };
     Ok(Placed {
         place: found.place,

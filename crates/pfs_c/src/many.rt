@@ -4,13 +4,15 @@ ghost use Rattle.std.specs.Prelude.{ℕ};
 ghost use Rattle.pfs_base.specs.FlowShop.{IsWithin};
 ghost use Rattle.pfs_base.specs.Limits.{limits};
 ghost use Rattle.pfs_order.specs.Sequence.{IsSequence};
-ghost use Rattle.pfs_c.specs.Judgements.{shop_of};
-ghost use Rattle.pfs_c.specs.Many.{AreMakespans, makespans_refusal, sequence_at, sequences_refusal};
-ghost use Rattle.pfs_c.specs.Private.Refusing.{Judges};
-ghost use Rattle.pfs_c.specs.Texts.{answer_of};
+ghost use Rattle.pfs_c.specs.Validation.{shop_of};
+ghost use Rattle.pfs_c.specs.Many.{AreMakespans, makespans_fault, sequence_at, sequences_fault};
+ghost use Rattle.pfs_c.specs.Private.Outcomes.{Validates};
+ghost use Rattle.pfs_c.specs.Texts.{number_returned};
 
-use crate::given::{judge_jobs, judge_length, judge_product, judge_sizes, judge_times};
-use crate::numbers::{PFS_OK, Refusal};
+use crate::given::{
+    validate_jobs, validate_length, validate_product, validate_sizes, validate_times,
+};
+use crate::numbers::{CallFault, PFS_OK};
 use crate::rows::span_of;
 use pfs_base::MOST_JOBS;
 
@@ -26,12 +28,12 @@ pub extern "C" fn pfs_makespans(
     len: usize,
     makespans: &mut [u64],
 ) -> i32
-    ensures number { result ≡ answer_of
-        (makespans_refusal times.now jobs machines sequences.now len (length makespans.old)) }
+    ensures number { result ≡ number_returned
+        (makespans_fault times.now jobs machines sequences.now len (length makespans.old)) }
     ensures done { result ≡ PFS_OK → AreMakespans (shop_of times.now jobs machines) sequences.now len makespans.new }
     ensures kept { result ≢ PFS_OK → makespans.new ≡ makespans.old }
 {
-    match judge_makespans(times, jobs, machines, sequences, len, makespans.len()) {
+    match validate_makespans(times, jobs, machines, sequences, len, makespans.len()) {
         Ok(()) => {
             fill_makespans(times, jobs, machines, sequences, len, makespans);
             PFS_OK
@@ -40,38 +42,43 @@ pub extern "C" fn pfs_makespans(
     }
 }
 
-fn judge_makespans(
+fn validate_makespans(
     times: &[u32],
     jobs: usize,
     machines: usize,
     sequences: &[u32],
     long: usize,
     room: usize,
-) -> Result<(), Refusal>
-    ensures judged { Judges result (makespans_refusal times.now jobs machines sequences.now long room) }
+) -> Result<(), CallFault>
+    ensures validated { Validates result (makespans_fault times.now jobs machines sequences.now long room) }
     ensures within { IfOk result (λ done. IsWithin limits (shop_of times.now jobs machines)) }
     ensures room { IfOk result (λ done. length sequences.now ≡ room * long) }
     ensures each { IfOk result (λ done. (index : ℕ) → index < room
         → IsSequence jobs (sequence_at long sequences.now index)) }
 {
-    judge_sizes(jobs, machines)?;
-    judge_length(times.len(), jobs * machines)?;
-    judge_product(sequences.len(), room, long)?;
-    judge_times(times)?;
-    judge_sequences(jobs, sequences, long, room)
+    validate_sizes(jobs, machines)?;
+    validate_length(times.len(), jobs * machines)?;
+    validate_product(sequences.len(), room, long)?;
+    validate_times(times)?;
+    validate_sequences(jobs, sequences, long, room)
 }
 
 // Validates the sequences one after the other, each from the left.
-fn judge_sequences(jobs: usize, sequences: &[u32], long: usize, count: usize) -> Result<(), Refusal>
+fn validate_sequences(
+    jobs: usize,
+    sequences: &[u32],
+    long: usize,
+    count: usize,
+) -> Result<(), CallFault>
     requires few { jobs ≤ MOST_JOBS }
     requires room { length sequences.now ≡ count * long }
-    ensures judged { Judges result (sequences_refusal jobs count long sequences.now) }
+    ensures validated { Validates result (sequences_fault jobs count long sequences.now) }
     ensures each { IfOk result (λ done. (index : ℕ) → index < count
         → IsSequence jobs (sequence_at long sequences.now index)) }
 {
     for index in 0..count {
         let first = index * long;
-        judge_jobs(jobs, &sequences[first..first + long])?;
+        validate_jobs(jobs, &sequences[first..first + long])?;
     }
     Ok(())
 }

@@ -7,7 +7,7 @@ ghost use Rattle.pfs_search.specs.Greedy.{moved};
 ghost use Rattle.pfs_wave.specs.Served.{IsServed};
 ghost use Rattle.pfs_c.specs.Building.{after_visits, visited};
 
-use crate::numbers::Refusal;
+use crate::numbers::CallFault;
 use pfs_base::{Bench, Instance, MOST_PASSES};
 use pfs_insert::{HeadsTails, Inserter};
 use pfs_order::Seq;
@@ -22,13 +22,13 @@ pub(crate) fn make_visits(
     seq: &mut Seq,
     list: &[u32],
     passes: u32,
-) -> Result<(), Refusal>
+) -> Result<(), CallFault>
     requires size { seq.old.size ≡ instance.now.shop.jobs }
     requires jobs { All (λ job. job < instance.now.shop.jobs) list.now }
     requires few { length list.now ≤ instance.now.shop.jobs }
     requires passes { passes ≤ MOST_PASSES }
     ensures jobs { OnOk result (seq.new.jobs ≡ after_visits instance.now.shop list.now passes seq.old.jobs) }
-    ensures memory { IfErr result (λ why. why ≡ Refusal.Memory) }
+    ensures memory { IfErr result (λ why. why ≡ CallFault.Memory) }
 {
     match method_for(instance) {
         Method::HeadsTails => visit_by_rows(alloc, instance, seq, list, passes),
@@ -45,17 +45,17 @@ fn visit_by_rows(
     seq: &mut Seq,
     list: &[u32],
     passes: u32,
-) -> Result<(), Refusal>
+) -> Result<(), CallFault>
     requires size { seq.old.size ≡ instance.now.shop.jobs }
     requires jobs { All (λ job. job < instance.now.shop.jobs) list.now }
     requires few { length list.now ≤ instance.now.shop.jobs }
     requires passes { passes ≤ MOST_PASSES }
     ensures jobs { OnOk result (seq.new.jobs ≡ after_visits instance.now.shop list.now passes seq.old.jobs) }
-    ensures memory { IfErr result (λ why. why ≡ Refusal.Memory) }
+    ensures memory { IfErr result (λ why. why ≡ CallFault.Memory) }
 {
     let mut bench = instance.metered();
     let Ok(mut inserter) = HeadsTails::new(alloc, &bench) else {
-        return Err(Refusal::Memory);
+        return Err(CallFault::Memory);
     };
     visit_all(alloc, &mut bench, &mut inserter, seq, list, passes)
 }
@@ -67,20 +67,20 @@ fn visit_in_lanes<L: Lanes>(
     seq: &mut Seq,
     list: &[u32],
     passes: u32,
-) -> Result<(), Refusal>
+) -> Result<(), CallFault>
     requires served { IsServed instance.now.shop L.WIDTH }
     requires size { seq.old.size ≡ instance.now.shop.jobs }
     requires jobs { All (λ job. job < instance.now.shop.jobs) list.now }
     requires few { length list.now ≤ instance.now.shop.jobs }
     requires passes { passes ≤ MOST_PASSES }
     ensures jobs { OnOk result (seq.new.jobs ≡ after_visits instance.now.shop list.now passes seq.old.jobs) }
-    ensures memory { IfErr result (λ why. why ≡ Refusal.Memory) }
+    ensures memory { IfErr result (λ why. why ≡ CallFault.Memory) }
 {
     let Ok(mut bench) = MeteredLanes::<L>::new(alloc, instance) else {
-        return Err(Refusal::Memory);
+        return Err(CallFault::Memory);
     };
     let Ok(mut inserter) = Wavefront::new(alloc, &bench) else {
-        return Err(Refusal::Memory);
+        return Err(CallFault::Memory);
     };
     visit_all(alloc, &mut bench, &mut inserter, seq, list, passes)
 }
@@ -93,7 +93,7 @@ fn visit_all<B: Bench, I: Inserter<B>>(
     seq: &mut Seq,
     list: &[u32],
     passes: u32,
-) -> Result<(), Refusal>
+) -> Result<(), CallFault>
     requires fits { Fits (B.shop bench.old) (I.sizes inserter.old) seq.old.size }
     requires cost { I.cost ≡ heads_tails_cost }
     requires fresh { B.counted bench.old ≡ 0 }
@@ -101,7 +101,7 @@ fn visit_all<B: Bench, I: Inserter<B>>(
     requires few { length list.now ≤ (B.shop bench.old).jobs }
     requires passes { passes ≤ MOST_PASSES }
     ensures jobs { OnOk result (seq.new.jobs ≡ after_visits (B.shop bench.old) list.now passes seq.old.jobs) }
-    ensures memory { IfErr result (λ why. why ≡ Refusal.Memory) }
+    ensures memory { IfErr result (λ why. why ≡ CallFault.Memory) }
 {
     // Called for what they say of a bench: that its sizes are within the limits.
     let _jobs = bench.jobs();
@@ -119,7 +119,7 @@ fn visit_once<B: Bench, I: Inserter<B>>(
     inserter: &mut I,
     seq: &mut Seq,
     list: &[u32],
-) -> Result<(), Refusal>
+) -> Result<(), CallFault>
     requires fits { Fits (B.shop bench.old) (I.sizes inserter.old) seq.old.size }
     requires cost { I.cost ≡ heads_tails_cost }
     requires jobs { All (λ job. job < (B.shop bench.old).jobs) list.now }
@@ -130,7 +130,7 @@ fn visit_once<B: Bench, I: Inserter<B>>(
         + length list.now * (4 * (B.shop bench.old).jobs * (B.shop bench.old).machines)) }
     ensures shop { OnOk result (B.shop bench.new ≡ B.shop bench.old) }
     ensures still_fits { OnOk result (Fits (B.shop bench.new) (I.sizes inserter.new) seq.new.size) }
-    ensures memory { IfErr result (λ why. why ≡ Refusal.Memory) }
+    ensures memory { IfErr result (λ why. why ≡ CallFault.Memory) }
 {
     for job in list {
         move_job(alloc, bench, inserter, seq, *job as usize)?;
@@ -145,7 +145,7 @@ fn move_job<B: Bench, I: Inserter<B>>(
     inserter: &mut I,
     seq: &mut Seq,
     job: usize,
-) -> Result<(), Refusal>
+) -> Result<(), CallFault>
     requires fits { Fits (B.shop bench.old) (I.sizes inserter.old) seq.old.size }
     requires cost { I.cost ≡ heads_tails_cost }
     requires job { job < (B.shop bench.old).jobs }
@@ -155,7 +155,7 @@ fn move_job<B: Bench, I: Inserter<B>>(
         ≤ B.counted bench.old + 4 * (B.shop bench.old).jobs * (B.shop bench.old).machines) }
     ensures shop { OnOk result (B.shop bench.new ≡ B.shop bench.old) }
     ensures still_fits { OnOk result (Fits (B.shop bench.new) (I.sizes inserter.new) seq.new.size) }
-    ensures memory { IfErr result (λ why. why ≡ Refusal.Memory) }
+    ensures memory { IfErr result (λ why. why ≡ CallFault.Memory) }
 {
     take_out(seq, job);
     match inserter.best(alloc, bench, seq, job) {
@@ -163,7 +163,7 @@ fn move_job<B: Bench, I: Inserter<B>>(
             seq.insert_at(best.place, job);
             Ok(())
         }
-        Err(_) => Err(Refusal::Memory),
+        Err(_) => Err(CallFault::Memory),
     }
 }
 

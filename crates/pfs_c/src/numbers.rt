@@ -1,6 +1,6 @@
 //! The numbers that the functions return.
 ghost use Rattle.std.specs.Prelude.{◌≡◌, ◌≢◌, pos};
-ghost use Rattle.pfs_c.specs.Numbers.{refusal_number};
+ghost use Rattle.pfs_c.specs.Numbers.{fault_number};
 
 /// The call succeeded.
 pub const PFS_OK: i32 = 0;
@@ -120,7 +120,7 @@ pub fn numbers()
 
 /// Why a call fails. The value of each variant is the number that C receives.
 #[derive(Clone, Copy)]
-pub(crate) enum Refusal {
+pub(crate) enum CallFault {
     Memory = PFS_MEMORY as isize,
     Size = PFS_SIZE as isize,
     Length = PFS_LENGTH as isize,
@@ -150,10 +150,10 @@ pub(crate) enum Refusal {
     FileTooLong = PFS_FILE_TOO_LONG as isize,
 }
 
-impl Refusal {
+impl CallFault {
     /// The number that C receives.
     pub(crate) fn number(self) -> i32
-        ensures value { result ≡ refusal_number self }
+        ensures value { result ≡ fault_number self }
         ensures some { result ≢ PFS_OK }
     {
         self as i32

@@ -3,14 +3,14 @@ ghost use Rattle.std.specs.Prelude.{◌≡◌, ◌≢◌, ◌+◌, ◌*◌, ◌<
 ghost use Rattle.pfs_base.specs.FlowShop.{IsWithin};
 ghost use Rattle.pfs_base.specs.Limits.{limits};
 ghost use Rattle.pfs_order.specs.Sequence.{IsSequence};
-ghost use Rattle.pfs_c.specs.Inserting.{AreInsertions, insertions_refusal};
-ghost use Rattle.pfs_c.specs.Judgements.{shop_of};
-ghost use Rattle.pfs_c.specs.Numbers.{Answers};
-ghost use Rattle.pfs_c.specs.Private.Refusing.{Judges};
+ghost use Rattle.pfs_c.specs.Inserting.{AreInsertions, insertions_fault};
+ghost use Rattle.pfs_c.specs.Validation.{shop_of};
+ghost use Rattle.pfs_c.specs.Numbers.{Returns};
+ghost use Rattle.pfs_c.specs.Private.Outcomes.{Validates};
 ghost use Rattle.pfs_c.specs.Private.Rows.{TailsFrom};
 
-use crate::given::{judge_job, judge_jobs, judge_length, judge_sizes, judge_times};
-use crate::numbers::{PFS_OK, Refusal};
+use crate::given::{validate_job, validate_jobs, validate_length, validate_sizes, validate_times};
+use crate::numbers::{CallFault, PFS_OK};
 use crate::rows::{add_head, add_tail, span_with};
 use pfs_base::MOST_MACHINES;
 use std::alloc::Global;
@@ -27,12 +27,12 @@ pub extern "C" fn pfs_insertions(
     job: u32,
     makespans: &mut [u64],
 ) -> i32
-    ensures number { Answers result
-        (insertions_refusal times.now jobs machines sequence.now job (length makespans.old)) }
+    ensures number { Returns result
+        (insertions_fault times.now jobs machines sequence.now job (length makespans.old)) }
     ensures done { result ≡ PFS_OK → AreInsertions (shop_of times.now jobs machines) sequence.now job makespans.new }
     ensures kept { result ≢ PFS_OK → makespans.new ≡ makespans.old }
 {
-    if let Err(why) = judge_insertions(times, jobs, machines, sequence, job, makespans.len()) {
+    if let Err(why) = validate_insertions(times, jobs, machines, sequence, job, makespans.len()) {
         return why.number();
     }
     match tails_of(alloc, times, jobs, machines, sequence) {
@@ -52,26 +52,26 @@ pub extern "C" fn pfs_insertions(
     }
 }
 
-fn judge_insertions(
+fn validate_insertions(
     times: &[u32],
     jobs: usize,
     machines: usize,
     sequence: &[u32],
     job: u32,
     room: usize,
-) -> Result<(), Refusal>
-    ensures judged { Judges result (insertions_refusal times.now jobs machines sequence.now job room) }
+) -> Result<(), CallFault>
+    ensures validated { Validates result (insertions_fault times.now jobs machines sequence.now job room) }
     ensures within { IfOk result (λ done. IsWithin limits (shop_of times.now jobs machines)) }
     ensures sequence { IfOk result (λ done. IsSequence jobs sequence.now) }
     ensures in_range { IfOk result (λ done. job < jobs) }
     ensures room { IfOk result (λ done. room ≡ length sequence.now + 1) }
 {
-    judge_sizes(jobs, machines)?;
-    judge_length(times.len(), jobs * machines)?;
-    judge_length(room, sequence.len() + 1)?;
-    judge_times(times)?;
-    judge_jobs(jobs, sequence)?;
-    judge_job(jobs, sequence, job)
+    validate_sizes(jobs, machines)?;
+    validate_length(times.len(), jobs * machines)?;
+    validate_length(room, sequence.len() + 1)?;
+    validate_times(times)?;
+    validate_jobs(jobs, sequence)?;
+    validate_job(jobs, sequence, job)
 }
 
 /// Returns the tails of a sequence, a row for each place, with a row of zeros after them. It allocates once, and
@@ -82,18 +82,18 @@ pub(crate) fn tails_of(
     jobs: usize,
     machines: usize,
     sequence: &[u32],
-) -> Result<Vec<u64>, Refusal>
+) -> Result<Vec<u64>, CallFault>
     requires within { IsWithin limits (shop_of times.now jobs machines) }
     requires sequence { IsSequence jobs sequence.now }
     ensures long { IfOk result (λ tails. length tails.items ≡ (length sequence.now + 1) * machines) }
     ensures tails { IfOk result (λ tails.
         TailsFrom (shop_of times.now jobs machines) sequence.now 0 tails.items) }
-    ensures memory { IfErr result (λ why. why ≡ Refusal.Memory) }
+    ensures memory { IfErr result (λ why. why ≡ CallFault.Memory) }
 {
     let size = (sequence.len() + 1) * machines;
     let mut tails = Vec::new(alloc);
     if tails.reserve_exact(size).is_err() || tails.resize(size, 0).is_err() {
-        return Err(Refusal::Memory);
+        return Err(CallFault::Memory);
     }
     fill_tails(times, jobs, machines, sequence, &mut tails);
     Ok(tails)

@@ -5,7 +5,7 @@ ghost use Rattle.pfs_base.specs.Limits.{limits};
 ghost use Rattle.pfs_base.specs.Paths.{makespan};
 ghost use Rattle.pfs_insert.specs.Insertion.{makespan_with};
 ghost use Rattle.pfs_order.specs.Sequence.{IsSequence};
-ghost use Rattle.pfs_c.specs.Judgements.{shop_of};
+ghost use Rattle.pfs_c.specs.Validation.{shop_of};
 ghost use Rattle.pfs_c.specs.Private.Rows.{HeadsAt, TailsAt, TailsFrom};
 
 use pfs_base::{LONGEST_TIME, MOST_MACHINES, SPAN_MAX};

@@ -1,17 +1,17 @@
 //! NEH and the rounds of a search, for C.
 ghost use Rattle.std.specs.Prelude.{◌≡◌, ◌≢◌, ◌+◌, ◌≤◌, length, IfOk};
 ghost use Rattle.pfs_search.specs.Solution.{IsImproved};
-ghost use Rattle.pfs_c.specs.Judgements.{shop_of};
-ghost use Rattle.pfs_c.specs.Numbers.{Answers};
-ghost use Rattle.pfs_c.specs.Private.Refusing.{Judges, Refuses};
-ghost use Rattle.pfs_c.specs.Searching.{neh_refusal, rounds_refusal, take_refusal, count_refusal};
+ghost use Rattle.pfs_c.specs.Validation.{shop_of};
+ghost use Rattle.pfs_c.specs.Numbers.{Returns};
+ghost use Rattle.pfs_c.specs.Private.Outcomes.{Validates, Rejects};
+ghost use Rattle.pfs_c.specs.Searching.{neh_fault, rounds_fault, take_fault, count_fault};
 ghost use Rattle.pfs_c.specs.Searching.{IsNeh};
 
 use crate::given::{
-    NO_NOTES, copy_order, instance_of, judge_jobs, judge_length, judge_passes, judge_sizes,
-    judge_times, order_of,
+    NO_NOTES, copy_order, instance_of, order_of, validate_jobs, validate_length, validate_passes,
+    validate_sizes, validate_times,
 };
-use crate::numbers::{PFS_OK, Refusal};
+use crate::numbers::{CallFault, PFS_OK};
 use pfs_base::MOST_ROUNDS;
 use pfs_search::{Solution, improve, solve};
 use std::alloc::Global;
@@ -28,7 +28,7 @@ pub extern "C" fn pfs_neh(
     span: &mut u64,
     cells: &mut u64,
 ) -> i32
-    ensures number { Answers result (neh_refusal times.now jobs machines (length order.old)) }
+    ensures number { Returns result (neh_fault times.now jobs machines (length order.old)) }
     ensures done { result ≡ PFS_OK → IsNeh (shop_of times.now jobs machines) order.new span.new cells.new }
     ensures kept_order { result ≢ PFS_OK → order.new ≡ order.old }
     ensures kept_span { result ≢ PFS_OK → span.new ≡ span.old }
@@ -52,20 +52,20 @@ fn neh_of(
     jobs: usize,
     machines: usize,
     room: usize,
-) -> Result<Solution, Refusal>
-    ensures refused { Refuses result (neh_refusal times.now jobs machines room) }
+) -> Result<Solution, CallFault>
+    ensures rejected { Rejects result (neh_fault times.now jobs machines room) }
     ensures found { IfOk result (λ found.
         IsNeh (shop_of times.now jobs machines) found.order found.makespan found.cells) }
     ensures long { IfOk result (λ found. length found.order ≡ room) }
 {
-    judge_sizes(jobs, machines)?;
-    judge_length(times.len(), jobs * machines)?;
-    judge_length(room, jobs)?;
-    judge_times(times)?;
+    validate_sizes(jobs, machines)?;
+    validate_length(times.len(), jobs * machines)?;
+    validate_length(room, jobs)?;
+    validate_times(times)?;
     let instance = instance_of(alloc, times, jobs, machines, NO_NOTES)?;
     match solve(alloc, &instance, 0, 1, 0, 0) {
         Ok(found) => Ok(found),
-        Err(_) => Err(Refusal::Memory),
+        Err(_) => Err(CallFault::Memory),
     }
 }
 
@@ -87,7 +87,7 @@ pub extern "C" fn pfs_rounds(
     span: &mut u64,
     cells: &mut u64,
 ) -> i32
-    ensures number { Answers result (rounds_refusal times.now jobs machines order.old first count take passes) }
+    ensures number { Returns result (rounds_fault times.now jobs machines order.old first count take passes) }
     ensures done { result ≡ PFS_OK → IsImproved (shop_of times.now jobs machines) order.old first count take passes seed
         order.new span.new cells.new }
     ensures kept_order { result ≢ PFS_OK → order.new ≡ order.old }
@@ -119,41 +119,41 @@ fn rounds_of(
     take: usize,
     passes: u32,
     seed: u64,
-) -> Result<Solution, Refusal>
-    ensures refused { Refuses result (rounds_refusal times.now jobs machines start.now first count take passes) }
+) -> Result<Solution, CallFault>
+    ensures rejected { Rejects result (rounds_fault times.now jobs machines start.now first count take passes) }
     ensures found { IfOk result (λ found. IsImproved (shop_of times.now jobs machines) start.now first count take passes
         seed found.order found.makespan found.cells) }
     ensures long { IfOk result (λ found. length found.order ≡ length start.now) }
 {
-    judge_sizes(jobs, machines)?;
-    judge_length(times.len(), jobs * machines)?;
-    judge_length(start.len(), jobs)?;
-    judge_times(times)?;
-    judge_jobs(jobs, start)?;
-    judge_take(take, jobs)?;
-    judge_passes(passes)?;
-    judge_count(first, count)?;
+    validate_sizes(jobs, machines)?;
+    validate_length(times.len(), jobs * machines)?;
+    validate_length(start.len(), jobs)?;
+    validate_times(times)?;
+    validate_jobs(jobs, start)?;
+    validate_take(take, jobs)?;
+    validate_passes(passes)?;
+    validate_count(first, count)?;
     let instance = instance_of(alloc, times, jobs, machines, NO_NOTES)?;
     let order = order_of(alloc, start)?;
-    improve(alloc, &instance, order, first, count, take, passes, seed).or(Err(Refusal::Memory))
+    improve(alloc, &instance, order, first, count, take, passes, seed).or(Err(CallFault::Memory))
 }
 
-fn judge_take(take: usize, jobs: usize) -> Result<(), Refusal>
-    ensures { Judges result (take_refusal take jobs) }
+fn validate_take(take: usize, jobs: usize) -> Result<(), CallFault>
+    ensures { Validates result (take_fault take jobs) }
 {
     if take >= 1 && take <= jobs {
         Ok(())
     } else {
-        Err(Refusal::Take)
+        Err(CallFault::Take)
     }
 }
 
-fn judge_count(first: u32, count: u32) -> Result<(), Refusal>
-    ensures { Judges result (count_refusal first count) }
+fn validate_count(first: u32, count: u32) -> Result<(), CallFault>
+    ensures { Validates result (count_fault first count) }
 {
     if first as u64 + count as u64 <= MOST_ROUNDS as u64 {
         Ok(())
     } else {
-        Err(Refusal::Rounds)
+        Err(CallFault::Rounds)
     }
 }

@@ -17,8 +17,8 @@ fn reader_of(rt: &HostRuntime, words: &[String]) -> Result<BlockReader, Stop> {
 }
 
 // Prints the times of an instance job by job, or the fault.
-fn print_answer(rt: &HostRuntime, answer: &Result<Instance, LayoutFault>) -> Result<(), Stop> {
-    match answer {
+fn print_result(rt: &HostRuntime, returned: &Result<Instance, LayoutFault>) -> Result<(), Stop> {
+    match returned {
         Ok(instance) => print_times(rt, instance),
         Err(fault) => Ok(println!(rt; "{fault:?}")?),
     }
@@ -40,11 +40,11 @@ fn print_times(rt: &HostRuntime, instance: &Instance) -> Result<(), Stop> {
 pub(crate) fn cuts_call(rt: &HostRuntime, words: &[String]) -> Result<(), Stop> {
     let text = input(rt)?;
     for cut in 0..=text.len() {
-        let answer = read_cut(reader_of(rt, words)?, text.as_slice(), cut);
-        print_answer(rt, &answer)?;
+        let returned = read_cut(reader_of(rt, words)?, text.as_slice(), cut);
+        print_result(rt, &returned)?;
     }
-    let answer = read_bytes(reader_of(rt, words)?, text.as_slice());
-    print_answer(rt, &answer)
+    let returned = read_bytes(reader_of(rt, words)?, text.as_slice());
+    print_result(rt, &returned)
 }
 
 // Reads a text in two pieces.
@@ -75,11 +75,11 @@ pub(crate) fn pieces_call(rt: &HostRuntime, words: &[String]) -> Result<(), Stop
         print_fed(rt, reader.feed(piece.as_bytes()))?;
         println!(rt; ", {} times held", reader.held())?;
     }
-    print_answer(rt, &reader.finish())
+    print_result(rt, &reader.finish())
 }
 
-fn print_fed(rt: &HostRuntime, answer: Result<Progress, LayoutFault>) -> Result<(), Stop> {
-    match answer {
+fn print_fed(rt: &HostRuntime, returned: Result<Progress, LayoutFault>) -> Result<(), Stop> {
+    match returned {
         Ok(progress) => print!(rt; "{} bytes, done: {}", progress.used, progress.done)?,
         Err(fault) => print!(rt; "{fault:?}")?,
     }

@@ -21,7 +21,7 @@ pub(crate) fn fault_call(rt: &HostRuntime, words: &[String]) -> Result<(), Stop>
         "order" => order_call(rt, rest),
         "write" => write_call(rt, rest),
         "take" => take_call(rt, rest),
-        "memory" => print_told(rt, &DeskFault::Memory),
+        "memory" => print_desk_fault(rt, &DeskFault::Memory),
         "base" => base_call(rt, rest),
         "usage" => usage_call(rt, rest),
         "audit" => Ok(println!(rt; "{}", AuditFault::Memory)?),
@@ -32,7 +32,7 @@ pub(crate) fn fault_call(rt: &HostRuntime, words: &[String]) -> Result<(), Stop>
 }
 
 // Prints the name of a command's fault, the line that reports it, and its exit status.
-fn print_told(rt: &HostRuntime, fault: &DeskFault) -> Result<(), Stop> {
+fn print_desk_fault(rt: &HostRuntime, fault: &DeskFault) -> Result<(), Stop> {
     println!(rt; "{fault}")?;
     let mut writer = ToWrite::new(io::writer(rt));
     if write_fault(&mut writer, fault).is_err() {
@@ -48,7 +48,7 @@ fn layout_call(rt: &HostRuntime, words: &[String]) -> Result<(), Stop> {
         None => layout_fault(word(words, 0), number(words, 1)?)?,
     };
     println!(rt; "{fault}")?;
-    print_told(rt, &DeskFault::Layout(fault))
+    print_desk_fault(rt, &DeskFault::Layout(fault))
 }
 
 // Returns the fault of an instance file with this name, if it has no number.
@@ -85,7 +85,7 @@ fn order_call(rt: &HostRuntime, words: &[String]) -> Result<(), Stop> {
         name => order_fault(name, number(words, 1)?)?,
     };
     println!(rt; "{fault}")?;
-    print_told(rt, &DeskFault::Order(fault))
+    print_desk_fault(rt, &DeskFault::Order(fault))
 }
 
 // Returns the fault of an order file with this name and number.
@@ -103,12 +103,12 @@ fn write_call(rt: &HostRuntime, words: &[String]) -> Result<(), Stop> {
         written: number(words, 0)? as u64,
     };
     println!(rt; "{fault}")?;
-    print_told(rt, &DeskFault::Write(fault))
+    print_desk_fault(rt, &DeskFault::Write(fault))
 }
 
 fn take_call(rt: &HostRuntime, words: &[String]) -> Result<(), Stop> {
     let (take, jobs) = (number(words, 0)?, number(words, 1)?);
-    print_told(rt, &DeskFault::TakeRange { take, jobs })
+    print_desk_fault(rt, &DeskFault::TakeRange { take, jobs })
 }
 
 fn base_call(rt: &HostRuntime, words: &[String]) -> Result<(), Stop> {

@@ -126,11 +126,11 @@ impl From<io::Error> for Stop {
 }
 
 fn main(rt: HostRuntime) -> io::Result<()> {
-    let answer = match words_of(&rt) {
-        Ok(words) => answer_of(&rt, words.as_slice()),
+    let returned = match words_of(&rt) {
+        Ok(words) => run_command(&rt, words.as_slice()),
         Err(stop) => Err(stop),
     };
-    match answer {
+    match returned {
         Ok(()) => Ok(()),
         Err(Stop::Memory) => println!(rt; "memory"),
         Err(Stop::Other) => println!(rt; "another fault"),
@@ -152,7 +152,7 @@ fn words_of(rt: &HostRuntime) -> Result<Vec<String>, Stop> {
 }
 
 // Runs the call that the first argument names, on the other arguments.
-fn answer_of(rt: &HostRuntime, words: &[String]) -> Result<(), Stop> {
+fn run_command(rt: &HostRuntime, words: &[String]) -> Result<(), Stop> {
     let Some((name, rest)) = words.split_first() else {
         return Err(Stop::Other);
     };
@@ -267,12 +267,12 @@ fn feed_call(rt: &HostRuntime) -> Result<(), Stop> {
             )?;
             Ok(())
         }
-        Err(fault) => told_again(rt, reader, fault),
+        Err(fault) => print_repeated(rt, reader, fault),
     }
 }
 
 // Prints the number of processing times that a reader with a fault holds, and what its next calls return.
-fn told_again(rt: &HostRuntime, reader: BlockReader, fault: LayoutFault) -> Result<(), Stop> {
+fn print_repeated(rt: &HostRuntime, reader: BlockReader, fault: LayoutFault) -> Result<(), Stop> {
     let mut reader = reader;
     let held = reader.held();
     println!(rt; "{fault:?}, {held} times held")?;
@@ -320,7 +320,7 @@ fn read_order_call(rt: &HostRuntime) -> Result<(), Stop> {
 }
 
 // Prints that an allocation failed, and what the instance is then.
-fn print_refused(rt: &HostRuntime, instance: &Instance) -> Result<(), Stop> {
+fn print_failed(rt: &HostRuntime, instance: &Instance) -> Result<(), Stop> {
     let (jobs, machines) = (instance.jobs(), instance.machines());
     print!(rt; "memory, {jobs} jobs, {machines} machines, times")?;
     for job in 0..jobs {
@@ -340,7 +340,7 @@ fn makespan_call(rt: &HostRuntime) -> Result<(), Stop> {
     let span = match makespan(rt.alloc(), &mut bench, order.seq()) {
         Ok(span) => span,
         Err(AuditFault::Memory) => {
-            print_refused(rt, &instance)?;
+            print_failed(rt, &instance)?;
             let (jobs, machines, cells) = (bench.jobs(), bench.machines(), bench.cells());
             println!(rt; "bench of {jobs} jobs, {machines} machines, {cells} cells")?;
             makespan(rt.alloc(), &mut bench, order.seq())?
@@ -367,7 +367,7 @@ fn table_call(rt: &HostRuntime) -> Result<(), Stop> {
     let table = match table(rt.alloc(), &instance, &order) {
         Ok(table) => table,
         Err(AuditFault::Memory) => {
-            print_refused(rt, &instance)?;
+            print_failed(rt, &instance)?;
             table(rt.alloc(), &instance, &order)?
         }
     };
@@ -381,7 +381,7 @@ fn check_call(rt: &HostRuntime, order: &[u8]) -> Result<(), Stop> {
     let verdict = match check(rt.alloc(), &instance, &file) {
         Ok(verdict) => verdict,
         Err(AuditFault::Memory) => {
-            print_refused(rt, &instance)?;
+            print_failed(rt, &instance)?;
             check(rt.alloc(), &instance, &file)?
         }
     };
@@ -397,8 +397,8 @@ fn check_call(rt: &HostRuntime, order: &[u8]) -> Result<(), Stop> {
 
 // Prints the fault of an engine, if it has one. The fault says which allocation failed: one for the instance, one for
 // the order, or a later one.
-fn print_fault(rt: &HostRuntime, answer: Result<Outcome, DeskFault>) -> Result<(), Stop> {
-    if let Err(fault) = answer {
+fn print_fault(rt: &HostRuntime, returned: Result<Outcome, DeskFault>) -> Result<(), Stop> {
+    if let Err(fault) = returned {
         println!(rt; "{fault:?}")?;
     }
     Ok(())
@@ -407,15 +407,15 @@ fn print_fault(rt: &HostRuntime, answer: Result<Outcome, DeskFault>) -> Result<(
 fn run_value_call(rt: &HostRuntime) -> Result<(), Stop> {
     let mut reader = FromRead::new(FILE);
     let mut writer = ToWrite::new(io::writer(rt));
-    let answer = run_value(rt.alloc(), &mut reader, Layout::Taillard, 1, &mut writer);
-    print_fault(rt, answer)
+    let returned = run_value(rt.alloc(), &mut reader, Layout::Taillard, 1, &mut writer);
+    print_fault(rt, returned)
 }
 
 fn run_check_call(rt: &HostRuntime) -> Result<(), Stop> {
     let mut reader = FromRead::new(FILE);
     let mut orders = FromRead::new(ORDER);
     let mut writer = ToWrite::new(io::writer(rt));
-    let answer = run_check(
+    let returned = run_check(
         rt.alloc(),
         &mut reader,
         Layout::Taillard,
@@ -423,14 +423,14 @@ fn run_check_call(rt: &HostRuntime) -> Result<(), Stop> {
         &mut orders,
         &mut writer,
     );
-    print_fault(rt, answer)
+    print_fault(rt, returned)
 }
 
 fn run_table_call(rt: &HostRuntime, order: &[u8]) -> Result<(), Stop> {
     let mut reader = FromRead::new(FILE);
     let mut orders = FromRead::new(order);
     let mut writer = ToWrite::new(io::writer(rt));
-    let answer = run_table(
+    let returned = run_table(
         rt.alloc(),
         &mut reader,
         Layout::Taillard,
@@ -438,7 +438,7 @@ fn run_table_call(rt: &HostRuntime, order: &[u8]) -> Result<(), Stop> {
         &mut orders,
         &mut writer,
     );
-    print_fault(rt, answer)
+    print_fault(rt, returned)
 }
 
 fn run_solve_call(rt: &HostRuntime) -> Result<(), Stop> {
@@ -451,7 +451,7 @@ fn run_solve_call(rt: &HostRuntime) -> Result<(), Stop> {
         passes: 0,
         cells: true,
     };
-    let answer = run_solve(
+    let returned = run_solve(
         rt.alloc(),
         &mut reader,
         Layout::Taillard,
@@ -459,13 +459,13 @@ fn run_solve_call(rt: &HostRuntime) -> Result<(), Stop> {
         &options,
         &mut writer,
     );
-    print_fault(rt, answer)
+    print_fault(rt, returned)
 }
 
 fn run_convert_call(rt: &HostRuntime) -> Result<(), Stop> {
     let mut reader = FromRead::new(FILE);
     let mut writer = ToWrite::new(io::writer(rt));
-    let answer = run_convert(
+    let returned = run_convert(
         rt.alloc(),
         &mut reader,
         Layout::Taillard,
@@ -473,11 +473,11 @@ fn run_convert_call(rt: &HostRuntime) -> Result<(), Stop> {
         1,
         &mut writer,
     );
-    print_fault(rt, answer)
+    print_fault(rt, returned)
 }
 
 fn run_generate_call(rt: &HostRuntime) -> Result<(), Stop> {
     let mut writer = ToWrite::new(io::writer(rt));
-    let answer = run_generate(rt.alloc(), 5, 1, 873654221, &mut writer);
-    print_fault(rt, answer)
+    let returned = run_generate(rt.alloc(), 5, 1, 873654221, &mut writer);
+    print_fault(rt, returned)
 }

@@ -20,7 +20,7 @@ fn print_order(rt: &HostRuntime, bench: &Metered<'_>, kept: &Kept<Span>) -> Resu
 }
 
 // Prints what a search keeps in which an allocation failed after `done` rounds.
-fn print_refused(
+fn print_failed(
     rt: &HostRuntime,
     bench: &Metered<'_>,
     kept: &Kept<Span>,
@@ -48,12 +48,12 @@ fn print_rounds(
     rt: &HostRuntime,
     bench: &Metered<'_>,
     kept: &Kept<Span>,
-    answer: Result<(), SearchFault>,
+    returned: Result<(), SearchFault>,
     rng: &mut Counting,
 ) -> Result<(), Stop> {
-    match answer {
+    match returned {
         Ok(()) => print_kept(rt, bench, kept)?,
-        Err(SearchFault::Memory { done }) => print_refused(rt, bench, kept, done)?,
+        Err(SearchFault::Memory { done }) => print_failed(rt, bench, kept, done)?,
     }
     println!(rt; "next word {}", rng.next_u32())?;
     Ok(())
@@ -101,7 +101,7 @@ pub(crate) fn neh_call(rt: &HostRuntime) -> Result<(), Stop> {
     let mut kept = Kept::new(Order::identity(rt.alloc(), 3)?, bench.zero());
     match searcher.neh(rt.alloc(), &mut bench, &mut kept) {
         Ok(()) => print_kept(rt, &bench, &kept),
-        Err(SearchFault::Memory { done }) => print_refused(rt, &bench, &kept, done),
+        Err(SearchFault::Memory { done }) => print_failed(rt, &bench, &kept, done),
     }
 }
 
@@ -116,7 +116,7 @@ pub(crate) fn round_call(rt: &HostRuntime) -> Result<(), Stop> {
     searcher.neh(rt.alloc(), &mut bench, &mut kept)?;
     match searcher.round(rt.alloc(), &mut bench, &mut kept, &[0, 0], 1) {
         Ok(()) => print_kept(rt, &bench, &kept),
-        Err(SearchFault::Memory { done }) => print_refused(rt, &bench, &kept, done),
+        Err(SearchFault::Memory { done }) => print_failed(rt, &bench, &kept, done),
     }
 }
 
@@ -130,8 +130,8 @@ pub(crate) fn rounds_call(rt: &HostRuntime) -> Result<(), Stop> {
     let mut kept = Kept::new(Order::identity(rt.alloc(), 3)?, bench.zero());
     searcher.neh(rt.alloc(), &mut bench, &mut kept)?;
     let mut rng = Counting::new(1, 2);
-    let answer = searcher.rounds(rt.alloc(), &mut bench, &mut kept, 5, 2, 0, &mut rng);
-    print_rounds(rt, &bench, &kept, answer, &mut rng)
+    let returned = searcher.rounds(rt.alloc(), &mut bench, &mut kept, 5, 2, 0, &mut rng);
+    print_rounds(rt, &bench, &kept, returned, &mut rng)
 }
 
 /// Runs five rounds after NEH, of one random word each. All words are odd, so each round moves the second job to the
@@ -145,8 +145,8 @@ pub(crate) fn turns_call(rt: &HostRuntime) -> Result<(), Stop> {
     let mut kept = Kept::new(Order::identity(rt.alloc(), 2)?, bench.zero());
     searcher.neh(rt.alloc(), &mut bench, &mut kept)?;
     let mut rng = Counting::new(1, 2);
-    let answer = searcher.rounds(rt.alloc(), &mut bench, &mut kept, 5, 1, 0, &mut rng);
-    print_rounds(rt, &bench, &kept, answer, &mut rng)
+    let returned = searcher.rounds(rt.alloc(), &mut bench, &mut kept, 5, 1, 0, &mut rng);
+    print_rounds(rt, &bench, &kept, returned, &mut rng)
 }
 
 /// Runs two rounds after NEH, with the random words 0 and 1: the first keeps NEH's order, and the second reverses it.
@@ -158,8 +158,8 @@ pub(crate) fn two_rounds_call(rt: &HostRuntime) -> Result<(), Stop> {
     let mut kept = Kept::new(Order::identity(rt.alloc(), 2)?, bench.zero());
     searcher.neh(rt.alloc(), &mut bench, &mut kept)?;
     let mut rng = Counting::new(0, 1);
-    let answer = searcher.rounds(rt.alloc(), &mut bench, &mut kept, 2, 1, 0, &mut rng);
-    print_rounds(rt, &bench, &kept, answer, &mut rng)
+    let returned = searcher.rounds(rt.alloc(), &mut bench, &mut kept, 2, 1, 0, &mut rng);
+    print_rounds(rt, &bench, &kept, returned, &mut rng)
 }
 
 /// Runs NEH and twenty rounds of one pass with heads and tails; only what is made before them allocates memory.

@@ -7,7 +7,7 @@ use Rattle.pfs_layout.specs.declared.fault.LayoutFault.{LayoutFault}
 use Rattle.pfs_layout.specs.declared.fault.LayoutFault.TheVariants as layout_faults
 use Rattle.pfs_layout.specs.declared.layout.Layout.{Layout}
 use Rattle.pfs_layout.specs.File.{IsInstanceFile}
-use Rattle.pfs_layout.specs.Refuse.{RefusesInstance}
+use Rattle.pfs_layout.specs.Rejection.{RejectsInstance}
 use Rattle.pfs_layout.proofs.Published.LawLemmas.{one_verdict}
 use Rattle.pfs_layout.proofs.Published.PlaceLemmas.{one_fault}
 use Rattle.pfs_desk.specs.declared.fault.DeskFault.{DeskFault}
@@ -27,8 +27,8 @@ module _ (layout : Layout) (file : List ℕ) (block : ℕ) (some : 1 ≤ block) 
   abbrev Is : Problem → Type 0
   Is problem = IsInstanceFile limits layout file block problem
 
-  abbrev IsAnswer : Result Outcome DeskFault → Type 0
-  IsAnswer result = Solves layout file block options old new reader_failed writer_failed result
+  abbrev IsResult : Result Outcome DeskFault → Type 0
+  IsResult result = Solves layout file block options old new reader_failed writer_failed result
 
   -- a block of a file contains only one problem
   one_problem : (problem other : Problem) → Is problem → Is other → problem ≡ other
@@ -37,8 +37,8 @@ module _ (layout : Layout) (file : List ℕ) (block : ℕ) (some : 1 ≤ block) 
       (λ refused. absurd (refused.1 problem holds)) (one_verdict layout file block some)
 
   -- a block that contains a problem is not rejected
-  not_both : (problem : Problem) (fault : LayoutFault) → Is problem → RefusesInstance layout file block fault → ⊥
-  not_both problem fault holds refuses = ⊎_elim (λ accepted. accepted.1 fault refuses)
+  not_both : (problem : Problem) (fault : LayoutFault) → Is problem → RejectsInstance layout file block fault → ⊥
+  not_both problem fault holds rejects = ⊎_elim (λ accepted. accepted.1 fault rejects)
       (λ refused. refused.1 problem holds) (one_verdict layout file block some)
 
   -- the stated destruction size is not above the number of jobs if it is at most that number
@@ -53,61 +53,61 @@ module _ (layout : Layout) (file : List ℕ) (block : ℕ) (some : 1 ≤ block) 
   -- the block contains a problem with at least as many jobs as the destruction size
   held : {result : Result Outcome DeskFault} (problem : Problem) → Is problem
       → take_for options.take problem.shop.jobs ≤ problem.shop.jobs
-      → (RunsOn reader_failed writer_failed result → PrintsSolution problem options old new result) → IsAnswer result
+      → (RunsOn reader_failed writer_failed result → PrintsSolution problem options old new result) → IsResult result
   held {result} problem holds within prints = record {
     accepted = λ other holds_other few runs. subst (λ p. PrintsSolution p options old new result)
         (one_problem problem other holds holds_other) (prints runs);
-    refused = λ fault refuses reads. absurd (not_both problem fault holds refuses);
+    refused = λ fault rejects reads. absurd (not_both problem fault holds rejects);
     too_many = λ other asked holds_other is above reads.
         absurd (too_many_taken other problem asked holds_other holds within is above);
   }
 
   -- the file is rejected
   refused_file : (fault : LayoutFault) → WritesNothing old new writer_failed
-      → (fault ≢ layout_faults.Read → fault ≢ layout_faults.Memory → RefusesInstance layout file block fault)
-      → (Some fault ≡ Some layout_faults.Read → reader_failed ≡ true) → IsAnswer (refusing fault)
-  refused_file fault nothing refuses failed =
-      let told : ReadsOn reader_failed (refusing fault) → RefusesInstance layout file block fault = λ reads. refuses
+      → (fault ≢ layout_faults.Read → fault ≢ layout_faults.Memory → RejectsInstance layout file block fault)
+      → (Some fault ≡ Some layout_faults.Read → reader_failed ≡ true) → IsResult (refusing fault)
+  refused_file fault nothing rejects failed =
+      let reported : ReadsOn reader_failed (refusing fault) → RejectsInstance layout file block fault = λ reads. rejects
       (λ e. true≢false (sym (failed (ap Some e)) ∙ reads.reading)) (λ e. reads.room (ap refusing e)) in
       record {
-        accepted = λ problem holds few runs. absurd (not_both problem fault holds (told runs.reads));
-        refused = λ other refuses_other reads. record {
-          told = ap refusing (one_fault layout file block fault other (told reads) refuses_other);
+        accepted = λ problem holds few runs. absurd (not_both problem fault holds (reported runs.reads));
+        refused = λ other rejects_other reads. record {
+          reported = ap refusing (one_fault layout file block fault other (reported reads) rejects_other);
           kept = nothing.kept;
         };
-        too_many = λ problem asked holds is above reads. absurd (not_both problem fault holds (told reads));
+        too_many = λ problem asked holds is above reads. absurd (not_both problem fault holds (reported reads));
       }
 
-  answers : (result : Result Outcome DeskFault)
+  has_result : (result : Result Outcome DeskFault)
       → WritesOutput (SolveOutput layout (Some file) block options) old new writer_failed result
       → IfErr result (IsSolveFault layout (Some file) block options.take)
-      → (layout_fault_of result ≡ Some layout_faults.Read → reader_failed ≡ true) → IsAnswer result
-  answers (Ok outcome) writes fault read =
+      → (layout_fault_of result ≡ Some layout_faults.Read → reader_failed ≡ true) → IsResult result
+  has_result (Ok outcome) writes fault read =
       let output = writes.is_output in
       let solution = output.solution in
       let few = solution.few_taken in
       held output.problem output.holds (rw solution.taken at few)
       (λ runs. record { done = ap Ok output.done; text = writes.text; solution = solution; bytes = writes.bytes })
-  answers (Err (faults.Layout fault)) nothing first read = refused_file fault nothing first.1 read
-  answers (Err (faults.Order fault)) nothing refused read = absurd refused
-  answers (Err (faults.TakeRange taken jobs)) nothing refused read = record {
+  has_result (Err (faults.Layout fault)) nothing first read = refused_file fault nothing first.1 read
+  has_result (Err (faults.Order fault)) nothing refused read = absurd refused
+  has_result (Err (faults.TakeRange taken jobs)) nothing refused read = record {
     accepted = λ problem holds few runs.
         absurd (too_many_taken refused.problem problem taken refused.holds holds few refused.above.0 refused.above.1);
-    refused = λ told refuses reads. absurd (not_both refused.problem told refused.holds refuses);
+    refused = λ reported rejects reads. absurd (not_both refused.problem reported refused.holds rejects);
     too_many = λ problem asked holds is above reads. record {
-      told =
+      reported =
           let same = ap (λ (p : Problem). p.shop.jobs) (one_problem refused.problem problem refused.holds holds) in
           let takes : taken ≡ asked = ap (λ o. unwrap_or o taken) (sym refused.above.0 ∙ is) in
           rw (takes, refused.above.2, same);
       kept = nothing.kept;
     };
   }
-  answers (Err (faults.Write fault)) front refused read =
+  has_result (Err (faults.Write fault)) front refused read =
       let solution = front.is_output.solution in
       let few = solution.few_taken in
       held front.is_output.problem front.is_output.holds (rw solution.taken at few)
       (λ runs. absurd (true≢false (sym front.front.stopped ∙ runs.writing)))
-  answers (Err faults.Memory) writes allowed read =
+  has_result (Err faults.Memory) writes allowed read =
       held allowed.problem allowed.holds allowed.within (λ runs. absurd (runs.room refl))
 
 -- `Solves` follows from what the engine does: it writes its output or nothing, and validates the file and then the
@@ -120,4 +120,4 @@ pub solves : (file : Option (List ℕ)) (layout : Layout) (block : ℕ) (options
     → IfSome file (λ bytes. Solves layout bytes block options old new reader_failed writer_failed result)
 solves None layout block options old new reader_failed writer_failed result some writes fault read = tt
 solves (Some file) layout block options old new reader_failed writer_failed result some writes fault read =
-    answers layout file block some options old new reader_failed writer_failed result writes fault read
+    has_result layout file block some options old new reader_failed writer_failed result writes fault read

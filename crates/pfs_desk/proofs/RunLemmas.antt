@@ -14,10 +14,10 @@ use Rattle.pfs_desk.specs.declared.stop.Stop.TheVariants.{Fault}
 use Rattle.pfs_desk.specs.Engine.{WritesOutput, IsAuditFault, SourceUse, IsUnread, ReadsBlock, ReadsOrder}
 use Rattle.pfs_desk.specs.Engine.{layout_fault_of, order_fault_of}
 use Rattle.pfs_desk.specs.Private.LetsOut.{ending, OpensBoth, RefusesOne}
-use Rattle.pfs_desk.specs.Program.{Answer, prints, stops, layout_fault_in, order_fault_in, closing}
-use Rattle.pfs_desk.specs.Program.{StopsAtPath, ReadsFiles, IsAnswerOf, AnswersOn, AnswersOnBoth, AnswersJob, RunsJob}
+use Rattle.pfs_desk.specs.Program.{JobResult, prints, stops, layout_fault_in, order_fault_in, closing}
+use Rattle.pfs_desk.specs.Program.{StopsAtPath, ReadsFiles, IsResultOf, ReturnsOn, ReturnsOnBoth, ReturnsFor, RunsJob}
 use Rattle.pfs_desk.specs.Program.{Delivers}
-use Rattle.pfs_desk.specs.Program.{paths_of, WritesAnswer, reports_write}
+use Rattle.pfs_desk.specs.Program.{paths_of, WritesResult, reports_write}
 use Rattle.pfs_desk.specs.ProgramText.{open_stop}
 use Rattle.pfs_desk.specs.Standing.{Standing, FileEvent, opened, refused, Logs, MayOpen, MayRefuse}
 
@@ -55,19 +55,19 @@ reads_files standing log opens closes log' path order_path file orders both fres
 }
 
 -- a stop that reports no failed write
-pub gives_stop : (Comes : Answer → Type 0) (old : Option (List ℕ)) (failed : Bool) (stop : Stop)
+pub gives_stop : (Comes : JobResult → Type 0) (old : Option (List ℕ)) (failed : Bool) (stop : Stop)
     (ended : Result Outcome Stop) → ended ≡ Err stop → reports_write (Err stop) ≡ false → failed ≡ false
-    → Comes (stops stop) → Delivers Comes (WritesAnswer old old failed) failed ended
-gives_stop Comes old failed stop ended e tells working comes = record {
-  answer = stops stop;
-  is_answer = comes;
+    → Comes (stops stop) → Delivers Comes (WritesResult old old failed) failed ended
+gives_stop Comes old failed stop ended e reports working comes = record {
+  returned = stops stop;
+  is_result = comes;
   is_written = (e, working, refl);
-  write_failed = working ∙ sym (subst (λ r. reports_write r ≡ false) (sym e) tells);
+  write_failed = working ∙ sym (subst (λ r. reports_write r ≡ false) (sym e) reports);
 }
 
-opening_tells : (fault : OpenFault) → reports_write (Err (open_stop fault)) ≡ false
-opening_tells open_faults.Closed = refl
-opening_tells open_faults.Memory = refl
+opening_reports : (fault : OpenFault) → reports_write (Err (open_stop fault)) ≡ false
+opening_reports open_faults.Closed = refl
+opening_reports open_faults.Memory = refl
 
 module _ (standing : List ℕ → Standing) (log log' : Option (List FileEvent)) where
   stops_first : (path : List ℕ) (behind : List (List ℕ)) (fault : OpenFault) → MayRefuse (standing path) fault
@@ -106,9 +106,9 @@ module _ (standing : List ℕ → Standing) (log log' : Option (List FileEvent))
   pub gives_closed : (asked : Job) (path : List ℕ) (input : SourceUse) (old : Option (List ℕ)) (failed : Bool)
       (fault : OpenFault) (ended : Result Outcome Stop) → paths_of asked ≡ path ∷ [] → IsUnread input → failed ≡ false
       → ended ≡ Err (open_stop fault) → MayRefuse (standing path) fault → Logs log log' (refused path fault ∷ [])
-      → Delivers (RunsJob asked standing log log' input) (WritesAnswer old old failed) failed ended
+      → Delivers (RunsJob asked standing log log' input) (WritesResult old old failed) failed ended
   gives_closed asked path input old failed fault ended one unread working e may events =
-      gives_stop _ old failed (open_stop fault) ended e (opening_tells fault) working (inl (
+      gives_stop _ old failed (open_stop fault) ended e (opening_reports fault) working (inl (
         unread,
         subst (λ paths. StopsAtPath standing log log' paths (stops (open_stop fault))) (sym one)
             (stops_first path [] fault may events),
@@ -118,78 +118,78 @@ module _ (standing : List ℕ → Standing) (log log' : Option (List FileEvent))
       (failed : Bool) (fault : OpenFault) (ended : Result Outcome Stop) → paths_of asked ≡ path ∷ order_path ∷ []
       → IsUnread input → failed ≡ false → ended ≡ Err (open_stop fault)
       → RefusesOne standing log log' path order_path fault
-      → Delivers (RunsJob asked standing log log' input) (WritesAnswer old old failed) failed ended
-  gives_one_closed asked path order_path input old failed fault ended two unread working e refuses =
-      gives_stop _ old failed (open_stop fault) ended e (opening_tells fault) working (inl (
+      → Delivers (RunsJob asked standing log log' input) (WritesResult old old failed) failed ended
+  gives_one_closed asked path order_path input old failed fault ended two unread working e rejects =
+      gives_stop _ old failed (open_stop fault) ended e (opening_reports fault) working (inl (
         unread,
         subst (λ paths. StopsAtPath standing log log' paths (stops (open_stop fault))) (sym two)
-            (stops_one path order_path fault refuses),
+            (stops_one path order_path fault rejects),
       ))
 
--- the result of an engine as an `Answer`
+-- the result of an engine as a `JobResult`
 module _ (Output : Outcome → List ℕ → Type 0) (IsFault : DeskFault → Type 0) (old new : Option (List ℕ)) (failed : Bool)
-    (Comes : Answer → Type 0) where
+    (Comes : JobResult → Type 0) where
   abbrev Reaches : Result Outcome DeskFault → Type 0
-  Reaches result = (answer : Answer) → IsAnswerOf Output IsFault answer → layout_fault_in answer
+  Reaches result = (returned : JobResult) → IsResultOf Output IsFault returned → layout_fault_in returned
       ≡ layout_fault_of result
-      → order_fault_in answer ≡ order_fault_of result → Comes answer
+      → order_fault_in returned ≡ order_fault_of result → Comes returned
 
   gives_ending : (result : Result Outcome DeskFault) → WritesOutput Output old new failed result
-      → IfErr result IsFault → Reaches result → Delivers Comes (WritesAnswer old new failed) failed (ending result)
+      → IfErr result IsFault → Reaches result → Delivers Comes (WritesResult old new failed) failed (ending result)
   gives_ending (Ok outcome) w f comes = record {
-    answer = prints outcome w.text;
-    is_answer = comes (prints outcome w.text) w.is_output refl refl;
+    returned = prints outcome w.text;
+    is_result = comes (prints outcome w.text) w.is_output refl refl;
     is_written = inl (refl, w.bytes);
     write_failed = w.working;
   }
   gives_ending (Err (faults.Write fault)) w f comes = record {
-    answer = prints w.outcome w.text;
-    is_answer = comes (prints w.outcome w.text) w.is_output refl refl;
+    returned = prints w.outcome w.text;
+    is_result = comes (prints w.outcome w.text) w.is_output refl refl;
     is_written = inr (record { fault = fault; reported = refl; front = w.front });
     write_failed = w.front.stopped;
   }
   gives_ending (Err (faults.Layout fault)) w f comes =
-      let answer = stops (Fault (faults.Layout fault)) in
+      let returned = stops (Fault (faults.Layout fault)) in
       record {
-        answer = answer;
-        is_answer = comes answer f refl refl;
+        returned = returned;
+        is_result = comes returned f refl refl;
         is_written = (refl, w.working, w.kept);
         write_failed = w.working;
       }
   gives_ending (Err (faults.Order fault)) w f comes =
-      let answer = stops (Fault (faults.Order fault)) in
+      let returned = stops (Fault (faults.Order fault)) in
       record {
-        answer = answer;
-        is_answer = comes answer f refl refl;
+        returned = returned;
+        is_result = comes returned f refl refl;
         is_written = (refl, w.working, w.kept);
         write_failed = w.working;
       }
   gives_ending (Err (faults.TakeRange take jobs)) w f comes =
-      let answer = stops (Fault (faults.TakeRange take jobs)) in
+      let returned = stops (Fault (faults.TakeRange take jobs)) in
       record {
-        answer = answer;
-        is_answer = comes answer f refl refl;
+        returned = returned;
+        is_result = comes returned f refl refl;
         is_written = (refl, w.working, w.kept);
         write_failed = w.working;
       }
   gives_ending (Err faults.Memory) w f comes =
-      let answer = stops (Fault faults.Memory) in
+      let returned = stops (Fault faults.Memory) in
       record {
-        answer = answer;
-        is_answer = comes answer f refl refl;
+        returned = returned;
+        is_result = comes returned f refl refl;
         is_written = (refl, w.working, w.kept);
         write_failed = w.working;
       }
 
   pub gives : (result : Result Outcome DeskFault) (ended : Result Outcome Stop) → ended ≡ ending result
       → WritesOutput Output old new failed result → IfErr result IsFault → Reaches result
-      → Delivers Comes (WritesAnswer old new failed) failed ended
+      → Delivers Comes (WritesResult old new failed) failed ended
   gives result ended e w f comes =
-      subst (Delivers Comes (WritesAnswer old new failed) failed) (sym e) (gives_ending result w f comes)
+      subst (Delivers Comes (WritesResult old new failed) failed) (sym e) (gives_ending result w f comes)
 
 -- what a job delivers, an equal job delivers
 pub gives_job : (asked other : Job) (standing : List ℕ → Standing) (log log' : Option (List FileEvent))
-    (input : SourceUse) (Goes : Answer → Result Outcome Stop → Type 0) (failed : Bool) (ended : Result Outcome Stop)
+    (input : SourceUse) (Goes : JobResult → Result Outcome Stop → Type 0) (failed : Bool) (ended : Result Outcome Stop)
     → other ≡ asked → Delivers (RunsJob asked standing log log' input) Goes failed ended
     → Delivers (RunsJob other standing log log' input) Goes failed ended
 gives_job asked other standing log log' input Goes failed ended e =
@@ -205,46 +205,48 @@ module _ (asked : Job) (standing : List ℕ → Standing) (log log' : Option (Li
   ReadsAll files = ReadsFiles standing log log' (paths_of asked) files
 
   abbrev Given : Type 0
-  Given = Delivers (RunsJob asked standing log log' input) (WritesAnswer old new failed) failed ended
+  Given = Delivers (RunsJob asked standing log log' input) (WritesResult old new failed) failed ended
 
-  first_reads : (answer : Answer) → layout_fault_in answer ≡ layout_fault_of result
-      → ReadsBlock layout block file (layout_fault_in answer)
-  first_reads answer first = subst (ReadsBlock layout block file) (sym first) r
+  first_reads : (returned : JobResult) → layout_fault_in returned ≡ layout_fault_of result
+      → ReadsBlock layout block file (layout_fault_in returned)
+  first_reads returned first = subst (ReadsBlock layout block file) (sym first) r
 
   pub gives_on : (IsFault : DeskFault → Type 0) (files : List SourceUse) → IfErr result IsFault → ReadsAll files
-      → ((answer : Answer) → AnswersOn layout block Output IsFault file answer → AnswersJob asked input files answer)
+      → ((returned : JobResult) → ReturnsOn layout block Output IsFault file returned
+      → ReturnsFor asked input files returned)
       → Given
-  gives_on IsFault files f runs answers = gives Output IsFault old new failed _ result ended e w f
-      (λ answer is first second. inr (record {
+  gives_on IsFault files f runs has_result = gives Output IsFault old new failed _ result ended e w f
+      (λ returned is first second. inr (record {
         files = files;
         reads = runs;
-        answers = answers answer (record { is = is; reads = first_reads answer first });
+        has_result = has_result returned (record { is = is; reads = first_reads returned first });
       }))
 
   -- what a job delivers whose engine reads an order file after it
   pub gives_on_both : (orders : SourceUse) (files : List SourceUse)
       → IfErr result (IsAuditFault layout file.given block orders.given) → ReadsAll files
       → ReadsOrder orders (layout_fault_of result) (order_fault_of result)
-      → ((answer : Answer) → AnswersOnBoth layout block Output file orders answer → AnswersJob asked input files answer)
+      → ((returned : JobResult) → ReturnsOnBoth layout block Output file orders returned
+      → ReturnsFor asked input files returned)
       → Given
-  gives_on_both orders files f runs reads answers =
+  gives_on_both orders files f runs reads has_result =
       gives Output (IsAuditFault layout file.given block orders.given) old new failed _ result ended e w f
-      (λ answer is first second. inr (record {
+      (λ returned is first second. inr (record {
         files = files;
         reads = runs;
-        answers = answers answer (record {
-          first = record { is = is; reads = first_reads answer first };
-          reads_order = subst (ReadsOrder orders (layout_fault_in answer)) (sym second)
+        has_result = has_result returned (record {
+          first = record { is = is; reads = first_reads returned first };
+          reads_order = subst (ReadsOrder orders (layout_fault_in returned)) (sym second)
               (subst (λ fault. ReadsOrder orders fault (order_fault_of result)) (sym first) reads);
         });
       }))
 
 -- only one result reports a given fault of the instance file
-pub told_by : (fault : LayoutFault) (result : Result Outcome DeskFault) → layout_fault_of result ≡ Some fault
+pub reported_by : (fault : LayoutFault) (result : Result Outcome DeskFault) → layout_fault_of result ≡ Some fault
     → result ≡ Err (faults.Layout fault)
-told_by fault (Ok outcome) e = cc
-told_by fault (Err (faults.Layout other)) e = cc
-told_by fault (Err (faults.Order other)) e = cc
-told_by fault (Err (faults.TakeRange take jobs)) e = cc
-told_by fault (Err (faults.Write other)) e = cc
-told_by fault (Err faults.Memory) e = cc
+reported_by fault (Ok outcome) e = cc
+reported_by fault (Err (faults.Layout other)) e = cc
+reported_by fault (Err (faults.Order other)) e = cc
+reported_by fault (Err (faults.TakeRange take jobs)) e = cc
+reported_by fault (Err (faults.Write other)) e = cc
+reported_by fault (Err faults.Memory) e = cc

@@ -14,9 +14,9 @@ use Rattle.pfs_layout.specs.CanonicalText.{canonical_text}
 use Rattle.pfs_layout.specs.File.{IsInstanceFile}
 use Rattle.pfs_layout.specs.Generator.{generated}
 use Rattle.pfs_layout.specs.Reader.{ReadsAsFar}
-use Rattle.pfs_layout.specs.Refuse.{RefusesInstance}
+use Rattle.pfs_layout.specs.Rejection.{RejectsInstance}
 use Rattle.pfs_order.specs.Sequence.{StatedOrder}
-use Rattle.pfs_order.specs.OrderFile.{IsOrderFile, ReadsOrderAsFar, RefusesUnlessFailed}
+use Rattle.pfs_order.specs.OrderFile.{IsOrderFile, ReadsOrderAsFar, RejectsUnlessFailed}
 use Rattle.pfs_order.specs.declared.fault.OrderFault.{OrderFault}
 use Rattle.pfs_order.specs.declared.fault.OrderFault.TheVariants as order_faults
 use Rattle.pfs_audit.specs.Verdicts.{SizesMatch, verdict_on}
@@ -38,7 +38,7 @@ Holds layout file block problem = IfSome file (λ bytes. IsInstanceFile limits l
 abbrev pub RefusesFirst : Layout → Option (List ℕ) → ℕ → LayoutFault → Type 0
 RefusesFirst layout file block fault = (fault ≢ layout_faults.SeedRange)
     × (fault ≢ layout_faults.Read → fault ≢ layout_faults.Memory
-    → IfSome file (λ bytes. RefusesInstance layout bytes block fault))
+    → IfSome file (λ bytes. RejectsInstance layout bytes block fault))
 
 -- an order file states this order, this makespan and, if `stated` has it, this number of machines
 abbrev pub States : Option (List ℕ) → StatedOrder → Type 0
@@ -50,11 +50,11 @@ pub record RefusesSecond (layout : Layout) (file : Option (List ℕ)) (block : �
     (fault : OrderFault) : Type 0 where
   pub problem : Problem
   pub holds : Holds layout file block problem
-  pub refused : IfSome order_file (λ bytes. RefusesUnlessFailed bytes fault)
+  pub refused : IfSome order_file (λ bytes. RejectsUnlessFailed bytes fault)
 
 -- when an engine with an order file allocates further memory: after both files were read, if the order file states an
 -- order that fits the instance
-pub record WantsBehindBoth (layout : Layout) (file : Option (List ℕ)) (block : ℕ) (order_file : Option (List ℕ))
+pub record NeedsAfterBoth (layout : Layout) (file : Option (List ℕ)) (block : ℕ) (order_file : Option (List ℕ))
     : Type 0 where
   pub problem : Problem
   pub stated : StatedOrder
@@ -64,7 +64,7 @@ pub record WantsBehindBoth (layout : Layout) (file : Option (List ℕ)) (block :
 
 -- the block of the instance file contains a problem with fewer jobs than the stated destruction size; the fault has
 -- both numbers
-pub record RefusesTake (layout : Layout) (file : Option (List ℕ)) (block : ℕ) (asked : Option ℕ) (fault : DeskFault)
+pub record RejectsTake (layout : Layout) (file : Option (List ℕ)) (block : ℕ) (asked : Option ℕ) (fault : DeskFault)
     : Type 0 where
   pub problem : Problem
   pub holds : Holds layout file block problem
@@ -88,7 +88,7 @@ IsValueFault layout file block others = ⊥
 abbrev pub IsSolveFault : Layout → Option (List ℕ) → ℕ → Option ℕ → DeskFault → Type 0
 IsSolveFault layout file block asked (faults.Layout fault) = RefusesFirst layout file block fault
 IsSolveFault layout file block asked (faults.TakeRange take jobs) =
-    RefusesTake layout file block asked (faults.TakeRange take jobs)
+    RejectsTake layout file block asked (faults.TakeRange take jobs)
 IsSolveFault layout file block asked faults.Memory = AllowsTake layout file block asked
 IsSolveFault layout file block asked (Write fault) = ⊤
 IsSolveFault layout file block asked others = ⊥
@@ -97,7 +97,7 @@ IsSolveFault layout file block asked others = ⊥
 abbrev pub IsAuditFault : Layout → Option (List ℕ) → ℕ → Option (List ℕ) → DeskFault → Type 0
 IsAuditFault layout file block order_file (faults.Layout fault) = RefusesFirst layout file block fault
 IsAuditFault layout file block order_file (Order fault) = RefusesSecond layout file block order_file fault
-IsAuditFault layout file block order_file faults.Memory = WantsBehindBoth layout file block order_file
+IsAuditFault layout file block order_file faults.Memory = NeedsAfterBoth layout file block order_file
 IsAuditFault layout file block order_file (Write fault) = ⊤
 IsAuditFault layout file block order_file others = ⊥
 
@@ -228,7 +228,7 @@ pub record CheckOutput (layout : Layout) (file : Option (List ℕ)) (block : ℕ
   pub stated : StatedOrder
   pub holds : Holds layout file block problem
   pub states : States order_file stated
-  pub judged : outcome ≡ outcome_of (verdict_on problem.shop stated)
+  pub checked : outcome ≡ outcome_of (verdict_on problem.shop stated)
   pub spelled : text ≡ verdict_text (verdict_on problem.shop stated)
 
 -- the output of `table`: the time table of the order that an order file states for an instance; the stated makespan

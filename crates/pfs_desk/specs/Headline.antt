@@ -7,7 +7,7 @@ use Rattle.pfs_layout.specs.declared.fault.LayoutFault.{LayoutFault}
 use Rattle.pfs_layout.specs.declared.fault.LayoutFault.TheVariants as layout_faults
 use Rattle.pfs_layout.specs.declared.layout.Layout.{Layout}
 use Rattle.pfs_layout.specs.File.{IsInstanceFile}
-use Rattle.pfs_layout.specs.Refuse.{RefusesInstance}
+use Rattle.pfs_layout.specs.Rejection.{RejectsInstance}
 use Rattle.pfs_desk.specs.declared.fault.DeskFault.{DeskFault}
 use Rattle.pfs_desk.specs.declared.fault.DeskFault.TheVariants as faults
 use Rattle.pfs_desk.specs.declared.fault.Outcome.{Outcome}
@@ -35,8 +35,9 @@ pub record PrintsSolution (problem : Problem) (options : SolveOptions) (old new 
   pub bytes : Appends old new text
 
 -- this fault was returned, and nothing was written
-pub record TellsFault (fault : DeskFault) (old new : Option (List ℕ)) (result : Result Outcome DeskFault) : Type 0 where
-  pub told : result ≡ Err fault
+pub record ReportsFault (fault : DeskFault) (old new : Option (List ℕ)) (result : Result Outcome DeskFault)
+    : Type 0 where
+  pub reported : result ≡ Err fault
   pub kept : new ≡ old
 
 -- what `solve` does with a file of these bytes; `old` and `new` are the bytes written before and after
@@ -47,9 +48,9 @@ pub record Solves (layout : Layout) (file : List ℕ) (block : ℕ) (options : S
       → take_for options.take problem.shop.jobs ≤ problem.shop.jobs
       → RunsOn reader_failed writer_failed result → PrintsSolution problem options old new result
   -- each other file is rejected with its fault
-  pub refused : (fault : LayoutFault) → RefusesInstance layout file block fault
-      → ReadsOn reader_failed result → TellsFault (faults.Layout fault) old new result
+  pub refused : (fault : LayoutFault) → RejectsInstance layout file block fault
+      → ReadsOn reader_failed result → ReportsFault (faults.Layout fault) old new result
   -- a stated destruction size above the number of jobs is rejected
   pub too_many : (problem : Problem) (asked : ℕ) → IsInstanceFile limits layout file block problem
       → options.take ≡ Some asked → problem.shop.jobs < asked
-      → ReadsOn reader_failed result → TellsFault (faults.TakeRange asked problem.shop.jobs) old new result
+      → ReadsOn reader_failed result → ReportsFault (faults.TakeRange asked problem.shop.jobs) old new result

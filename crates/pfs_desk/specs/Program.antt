@@ -25,17 +25,17 @@ use Rattle.pfs_desk.specs.ProgramText.{open_stop}
 use Rattle.pfs_desk.specs.Standing.{Standing, MayOpen, MayRefuse, FileEvent, opened, refused, closed, Logs}
 
 -- the result of a job: a text to print and the outcome after it, or why the program stops without one
-pub data Answer : Type 0 where
-  prints : Outcome → List ℕ → Answer
-  stops : Stop → Answer
+pub data JobResult : Type 0 where
+  prints : Outcome → List ℕ → JobResult
+  stops : Stop → JobResult
 
 -- the fault of the instance file that a job's result reports, if it reports one
-abbrev pub layout_fault_in : Answer → Option LayoutFault
+abbrev pub layout_fault_in : JobResult → Option LayoutFault
 layout_fault_in (stops (Fault (faults.Layout fault))) = Some fault
 layout_fault_in others = None
 
 -- the fault of the order file that a job's result reports, if it reports one
-abbrev pub order_fault_in : Answer → Option OrderFault
+abbrev pub order_fault_in : JobResult → Option OrderFault
 order_fault_in (stops (Fault (faults.Order fault))) = Some fault
 order_fault_in others = None
 
@@ -74,7 +74,7 @@ pub record ReadsFiles (standing : List ℕ → Standing) (log log' : Option (Lis
 
 -- a path could not be opened: those before it were, and their files were closed unread
 pub record StopsAtPath (standing : List ℕ → Standing) (log log' : Option (List FileEvent)) (paths : List (List ℕ))
-    (answer : Answer) : Type 0 where
+    (returned : JobResult) : Type 0 where
   pub before : List (List ℕ)
   pub path : List ℕ
   pub after : List (List ℕ)
@@ -84,68 +84,68 @@ pub record StopsAtPath (standing : List ℕ → Standing) (log log' : Option (Li
   pub give : GiveStanding standing before (map unread given)
   pub may_refuse : MayRefuse (standing path) fault
   pub events : Logs log log' (map opened before ++ refused path fault ∷ map closing (map unread given))
-  pub reported : answer ≡ stops (open_stop fault)
+  pub reported : returned ≡ stops (open_stop fault)
 
 -- ---- what an engine returns
 
 -- the result is one of the engine's outputs, or one of its faults, but not a failed write, which may follow any output
-abbrev pub IsAnswerOf : (Outcome → List ℕ → Type 0) → (DeskFault → Type 0) → Answer → Type 0
-IsAnswerOf Output IsFault (prints outcome text) = Output outcome text
-IsAnswerOf Output IsFault (stops (Fault (faults.Write fault))) = ⊥
-IsAnswerOf Output IsFault (stops (Fault fault)) = IsFault fault
-IsAnswerOf Output IsFault (stops others) = ⊥
+abbrev pub IsResultOf : (Outcome → List ℕ → Type 0) → (DeskFault → Type 0) → JobResult → Type 0
+IsResultOf Output IsFault (prints outcome text) = Output outcome text
+IsResultOf Output IsFault (stops (Fault (faults.Write fault))) = ⊥
+IsResultOf Output IsFault (stops (Fault fault)) = IsFault fault
+IsResultOf Output IsFault (stops others) = ⊥
 
 -- the engine has this result for a block of an instance file, which was read as far as needed
-pub record AnswersOn (layout : Layout) (block : ℕ) (Output : Outcome → List ℕ → Type 0) (IsFault : DeskFault → Type 0)
-    (file : SourceUse) (answer : Answer) : Type 0 where
-  pub is : IsAnswerOf Output IsFault answer
-  pub reads : ReadsBlock layout block file (layout_fault_in answer)
+pub record ReturnsOn (layout : Layout) (block : ℕ) (Output : Outcome → List ℕ → Type 0) (IsFault : DeskFault → Type 0)
+    (file : SourceUse) (returned : JobResult) : Type 0 where
+  pub is : IsResultOf Output IsFault returned
+  pub reads : ReadsBlock layout block file (layout_fault_in returned)
 
 -- the engine has this result for a block of an instance file and an order file
-pub record AnswersOnBoth (layout : Layout) (block : ℕ) (Output : Outcome → List ℕ → Type 0) (file orders : SourceUse)
-    (answer : Answer) : Type 0 where
-  pub first : AnswersOn layout block Output (IsAuditFault layout file.given block orders.given) file answer
-  pub reads_order : ReadsOrder orders (layout_fault_in answer) (order_fault_in answer)
+pub record ReturnsOnBoth (layout : Layout) (block : ℕ) (Output : Outcome → List ℕ → Type 0) (file orders : SourceUse)
+    (returned : JobResult) : Type 0 where
+  pub first : ReturnsOn layout block Output (IsAuditFault layout file.given block orders.given) file returned
+  pub reads_order : ReadsOrder orders (layout_fault_in returned) (order_fault_in returned)
 
 -- the engine of `value` has this result for a block of an instance file
-abbrev pub AnswersValue : Layout → ℕ → SourceUse → Answer → Type 0
-AnswersValue layout block file answer =
-    AnswersOn layout block (ValueOutput layout file.given block) (IsValueFault layout file.given block) file answer
+abbrev pub ReturnsValue : Layout → ℕ → SourceUse → JobResult → Type 0
+ReturnsValue layout block file returned =
+    ReturnsOn layout block (ValueOutput layout file.given block) (IsValueFault layout file.given block) file returned
 
 -- the engine of a job has this result on standard input, or on the files at the job's paths
-abbrev pub AnswersJob : Job → SourceUse → List SourceUse → Answer → Type 0
-AnswersJob (job.Value layout block None) input [] answer = AnswersValue layout block input answer
-AnswersJob (job.Value layout block (Some path)) input (file ∷ []) answer =
-    IsUnread input × AnswersValue layout block file answer
-AnswersJob (job.Solve layout block options path) input (file ∷ []) answer = IsUnread input
-    × AnswersOn layout block (SolveOutput layout file.given block options)
-    (IsSolveFault layout file.given block options.take) file answer
-AnswersJob (job.Check layout block path order_path) input (file ∷ orders ∷ []) answer = IsUnread input
-    × AnswersOnBoth layout block (CheckOutput layout file.given block orders.given) file orders answer
-AnswersJob (job.Table layout block path order_path) input (file ∷ orders ∷ []) answer = IsUnread input
-    × AnswersOnBoth layout block (TableOutput layout file.given block orders.given) file orders answer
-AnswersJob (job.Convert source target block path) input (file ∷ []) answer = IsUnread input
-    × AnswersOn source block (ConvertOutput source target file.given block) (IsConvertFault source file.given block)
-    file answer
-AnswersJob (job.Generate jobs machines seed) input [] answer = IsUnread input
-    × IsAnswerOf (GenerateOutput jobs machines seed) IsGenerateFault answer
-    × ((layout_fault_in answer ≡ Some SeedRange) ↔ (¬ IsSeed seed))
-AnswersJob others input files answer = ⊥
+abbrev pub ReturnsFor : Job → SourceUse → List SourceUse → JobResult → Type 0
+ReturnsFor (job.Value layout block None) input [] returned = ReturnsValue layout block input returned
+ReturnsFor (job.Value layout block (Some path)) input (file ∷ []) returned =
+    IsUnread input × ReturnsValue layout block file returned
+ReturnsFor (job.Solve layout block options path) input (file ∷ []) returned = IsUnread input
+    × ReturnsOn layout block (SolveOutput layout file.given block options)
+    (IsSolveFault layout file.given block options.take) file returned
+ReturnsFor (job.Check layout block path order_path) input (file ∷ orders ∷ []) returned = IsUnread input
+    × ReturnsOnBoth layout block (CheckOutput layout file.given block orders.given) file orders returned
+ReturnsFor (job.Table layout block path order_path) input (file ∷ orders ∷ []) returned = IsUnread input
+    × ReturnsOnBoth layout block (TableOutput layout file.given block orders.given) file orders returned
+ReturnsFor (job.Convert source target block path) input (file ∷ []) returned = IsUnread input
+    × ReturnsOn source block (ConvertOutput source target file.given block) (IsConvertFault source file.given block)
+    file returned
+ReturnsFor (job.Generate jobs machines seed) input [] returned = IsUnread input
+    × IsResultOf (GenerateOutput jobs machines seed) IsGenerateFault returned
+    × ((layout_fault_in returned ≡ Some SeedRange) ↔ (¬ IsSeed seed))
+ReturnsFor others input files returned = ⊥
 
 -- all files of the job were opened, read and closed, and the job's engine has this result
 pub record RunsEngine (asked : Job) (standing : List ℕ → Standing) (log log' : Option (List FileEvent))
-    (input : SourceUse) (answer : Answer) : Type 0 where
+    (input : SourceUse) (returned : JobResult) : Type 0 where
   pub files : List SourceUse
   pub reads : ReadsFiles standing log log' (paths_of asked) files
-  pub answers : AnswersJob asked input files answer
+  pub has_result : ReturnsFor asked input files returned
 
 -- what the program does for a job, and the job's result: a path could not be opened, or the engine ran; log and log'
 -- are the log before and after
-abbrev pub RunsJob : Job → (List ℕ → Standing) → Option (List FileEvent) → Option (List FileEvent) → SourceUse → Answer
-    → Type 0
-RunsJob asked standing log log' input answer =
-    (IsUnread input × StopsAtPath standing log log' (paths_of asked) answer)
-    ⊎ RunsEngine asked standing log log' input answer
+abbrev pub RunsJob : Job → (List ℕ → Standing) → Option (List FileEvent) → Option (List FileEvent) → SourceUse
+    → JobResult → Type 0
+RunsJob asked standing log log' input returned =
+    (IsUnread input × StopsAtPath standing log log' (paths_of asked) returned)
+    ⊎ RunsEngine asked standing log log' input returned
 
 -- ---- what is written of the result
 
@@ -155,11 +155,11 @@ reports_write (Err (Fault (faults.Write fault))) = true
 reports_write others = false
 
 -- some result of a job was written as `IsWritten` says, and a failed write is reported exactly if a write failed
-pub record Delivers (IsAnswer : Answer → Type 0) (IsWritten : Answer → Result Outcome Stop → Type 0) (failed : Bool)
-    (result : Result Outcome Stop) : Type 0 where
-  pub answer : Answer
-  pub is_answer : IsAnswer answer
-  pub is_written : IsWritten answer result
+pub record Delivers (IsResult : JobResult → Type 0) (IsWritten : JobResult → Result Outcome Stop → Type 0)
+    (failed : Bool) (result : Result Outcome Stop) : Type 0 where
+  pub returned : JobResult
+  pub is_result : IsResult returned
+  pub is_written : IsWritten returned result
   pub write_failed : failed ≡ reports_write result
 
 -- a write failed after a prefix of the text
@@ -170,7 +170,7 @@ pub record WritesFrontOf (text : List ℕ) (old new : Option (List ℕ)) (failed
   pub front : SendsFront old new failed 0 text fault.written
 
 -- all of the result's text was written, or a prefix of it if a write failed, and nothing if the result has no text
-abbrev pub WritesAnswer : Option (List ℕ) → Option (List ℕ) → Bool → Answer → Result Outcome Stop → Type 0
-WritesAnswer old new failed (prints outcome text) result =
+abbrev pub WritesResult : Option (List ℕ) → Option (List ℕ) → Bool → JobResult → Result Outcome Stop → Type 0
+WritesResult old new failed (prints outcome text) result =
     ((result ≡ Ok outcome) × Appends old new text) ⊎ WritesFrontOf text old new failed result
-WritesAnswer old new failed (stops stop) result = (result ≡ Err stop) × (failed ≡ false) × (new ≡ old)
+WritesResult old new failed (stops stop) result = (result ≡ Err stop) × (failed ≡ false) × (new ≡ old)

@@ -56,11 +56,11 @@ exit_status_of (Ok CheckFailed) = 1
 exit_status_of (Err stop) = stop_status_of stop
 
 -- the text was written, or a prefix of it if a write failed
-pub record TellsText (text : List ℕ) (old new : Option (List ℕ)) (failed : Bool) : Type 0 where
-  pub answer : Result (Unit {0}) WriteFault
-  pub printed : Prints old new failed text answer
+pub record ReportsText (text : List ℕ) (old new : Option (List ℕ)) (failed : Bool) : Type 0 where
+  pub returned : Result (Unit {0}) WriteFault
+  pub printed : Prints old new failed text returned
 
 -- what is written to the error output: why the program stopped, if it stopped, and else nothing
-abbrev pub Tells : Result Outcome Stop → Option (List ℕ) → Option (List ℕ) → Bool → Type 0
-Tells (Ok outcome) old new failed = (failed ≡ false) × (new ≡ old)
-Tells (Err stop) old new failed = TellsText (stop_text stop) old new failed
+abbrev pub Reports : Result Outcome Stop → Option (List ℕ) → Option (List ℕ) → Bool → Type 0
+Reports (Ok outcome) old new failed = (failed ≡ false) × (new ≡ old)
+Reports (Err stop) old new failed = ReportsText (stop_text stop) old new failed

@@ -5,21 +5,21 @@ use Rattle.pfs_desk.specs.declared.files.OpenFault.TheVariants.{Closed, Memory}
 
 -- what is at a path: unknown, no file that can be opened, or a file with these bytes
 pub data Standing : Type 0 where
-  untold : Standing
+  unstated : Standing
   nothing : Standing
   bytes : List ℕ → Standing
 
 -- an opening may give a file with these bytes: none if nothing is at the path, and the bytes at the path if these are
 -- known
 abbrev pub MayOpen : Standing → Option (List ℕ) → Type 0
-MayOpen untold file = ⊤
+MayOpen unstated file = ⊤
 MayOpen nothing file = ⊥
 MayOpen (bytes text) file = file ≡ Some text
 
 -- an opening may fail with this fault: if there is known to be a file at the path, only for a failed memory allocation
 abbrev pub MayRefuse : Standing → OpenFault → Type 0
 MayRefuse standing Memory = ⊤
-MayRefuse untold Closed = ⊤
+MayRefuse unstated Closed = ⊤
 MayRefuse nothing Closed = ⊤
 MayRefuse (bytes text) Closed = ⊥
 

@@ -12,8 +12,8 @@ use Rattle.pfs_desk.specs.declared.fault.Outcome.{Outcome}
 use Rattle.pfs_desk.specs.declared.stop.Stop.{Stop}
 use Rattle.pfs_desk.specs.declared.stop.Stop.TheVariants.{Usage, Fault}
 use Rattle.pfs_desk.specs.Engine.{IsUnread, SourceUse}
-use Rattle.pfs_desk.specs.Program.{Answer, prints, stops, Delivers, RunsJob}
-use Rattle.pfs_desk.specs.ProgramText.{Tells, exit_status_of}
+use Rattle.pfs_desk.specs.Program.{JobResult, prints, stops, Delivers, RunsJob}
+use Rattle.pfs_desk.specs.ProgramText.{Reports, exit_status_of}
 use Rattle.pfs_desk.specs.Standing.{FileEvent, Standing}
 
 -- the arguments ask for this job; without arguments it is `value` of block 1 of standard input, in Taillard's layout
@@ -22,49 +22,49 @@ WordsAskFor [] job = job ≡ Value Taillard 1 None
 WordsAskFor (word ∷ others) job = AsksFor word others job
 
 -- the program stops without a job: the arguments are invalid, or a memory allocation failed before a job was known
-abbrev pub RefusesWords : List (List ℕ) → Answer → Type 0
-RefusesWords [] (stops Usage) = ⊥
-RefusesWords (word ∷ others) (stops Usage) = AsksForNothing word others
-RefusesWords words (stops (Fault faults.Memory)) = ⊤
-RefusesWords words others = ⊥
+abbrev pub RejectsWords : List (List ℕ) → JobResult → Type 0
+RejectsWords [] (stops Usage) = ⊥
+RejectsWords (word ∷ others) (stops Usage) = AsksForNothing word others
+RejectsWords words (stops (Fault faults.Memory)) = ⊤
+RejectsWords words others = ⊥
 
 -- the program stops without a job: it opens no file and reads nothing
 pub record RunsNothing (words : List (List ℕ)) (log log' : Option (List FileEvent)) (input : SourceUse)
-    (answer : Answer) : Type 0 where
-  pub refused : RefusesWords words answer
+    (returned : JobResult) : Type 0 where
+  pub refused : RejectsWords words returned
   pub none_opened : log' ≡ log
   pub unread : IsUnread input
 
 -- the arguments ask for a job, which is run
 pub record RunsFor (words : List (List ℕ)) (standing : List ℕ → Standing) (log log' : Option (List FileEvent))
-    (input : SourceUse) (answer : Answer) : Type 0 where
+    (input : SourceUse) (returned : JobResult) : Type 0 where
   pub job : Job
   pub asks : WordsAskFor words job
-  pub runs : RunsJob job standing log log' input answer
+  pub runs : RunsJob job standing log log' input returned
 
 -- what the program does for its arguments, and its result: one of the two above
 abbrev pub ComesTo : List (List ℕ) → (List ℕ → Standing) → Option (List FileEvent) → Option (List FileEvent)
-    → SourceUse → Answer → Type 0
-ComesTo words standing log log' input answer =
-    RunsNothing words log log' input answer ⊎ RunsFor words standing log log' input answer
+    → SourceUse → JobResult → Type 0
+ComesTo words standing log log' input returned =
+    RunsNothing words log log' input returned ⊎ RunsFor words standing log log' input returned
 
 -- the output is a prefix of a text, and the reported number is the prefix's length, or 2^64 - 1 if that is less
-pub record IsFront (text : List ℕ) (out : Option (List ℕ)) (told : ℕ) : Type 0 where
+pub record IsFront (text : List ℕ) (out : Option (List ℕ)) (reported : ℕ) : Type 0 where
   pub count : ℕ
   pub within : count ≤ length text
   pub stands : out ≡ Some (take count text)
-  pub told_is : told ≡ min count (2 ^ 64 - 1)
+  pub reported_is : reported ≡ min count (2 ^ 64 - 1)
 
 -- a failed write is reported, and if the output was empty before (`fresh`), then it is a prefix of the text now
 pub record FrontStands (text : List ℕ) (fresh : Type 0) (out : Option (List ℕ)) (ended : Result Outcome Stop)
     : Type 0 where
   pub fault : WriteFault
-  pub told : ended ≡ Err (Fault (faults.Write fault))
+  pub reported : ended ≡ Err (Fault (faults.Write fault))
   pub front : fresh → IsFront text out fault.written
 
 -- the output is all of the result's text, or a prefix of it if a write failed, or empty if the result has no text;
 -- `fresh` says that the output was empty before
-abbrev pub Stands : Type 0 → Option (List ℕ) → Bool → Answer → Result Outcome Stop → Type 0
+abbrev pub Stands : Type 0 → Option (List ℕ) → Bool → JobResult → Result Outcome Stop → Type 0
 Stands fresh out failed (prints outcome text) ended =
     ((ended ≡ Ok outcome) × (fresh → out ≡ Some text)) ⊎ FrontStands text fresh out ended
 Stands fresh out failed (stops stop) ended = (ended ≡ Err stop) × (failed ≡ false) × (fresh → out ≡ Some [])
@@ -81,5 +81,5 @@ pub record Ends (words : List (List ℕ)) (standing : List ℕ → Standing) (lo
     (errors_failed : Bool) (status : ℕ) : Type 0 where
   pub ended : Result Outcome Stop
   pub runs : Runs words standing log log' input fresh out failed ended
-  pub told : Tells ended errors errors' errors_failed
+  pub reported : Reports ended errors errors' errors_failed
   pub status_is : status ≡ exit_status_of ended

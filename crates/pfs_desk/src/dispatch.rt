@@ -3,7 +3,7 @@ ghost use Rattle.std.specs.Prelude.{◌≡◌, false, IfOk, IfErr};
 ghost use Rattle.pfs_base.specs.declared.limits.TheConstants.{MOST_BLOCKS};
 ghost use Rattle.pfs_words.specs.Jobs.{AreOptions, IsFrom1To, IsWithinLimits};
 ghost use Rattle.pfs_desk.specs.Engine.{IsUnread, SourceUse, source_use};
-ghost use Rattle.pfs_desk.specs.Program.{Delivers, RunsJob, WritesAnswer};
+ghost use Rattle.pfs_desk.specs.Program.{Delivers, RunsJob, WritesResult};
 ghost use Rattle.pfs_desk.specs.Private.LetsOut.{OpensBoth, RefusesOne};
 ghost use Rattle.pfs_desk.specs.Private.LetsOut.{ending as ending_of};
 
@@ -38,7 +38,7 @@ pub fn run_job<F: Files, R: Source, W: Sink>(
     ensures { Delivers (RunsJob job.now (F.standing files.old) (F.log files.old) (F.log files.new)
         (source_use (R.left input.old) (R.left input.new) (R.has_failed input.new)
         (R.has_ended input.old) (R.has_ended input.new)))
-        (WritesAnswer (W.written writer.old) (W.written writer.new) (W.has_failed writer.new))
+        (WritesResult (W.written writer.old) (W.written writer.new) (W.has_failed writer.new))
         (W.has_failed writer.new) result }
 {
     match job {
@@ -80,10 +80,10 @@ pub fn run_job<F: Files, R: Source, W: Sink>(
 }
 
 // Returns an engine's result as the program's.
-fn ending(answer: Result<Outcome, DeskFault>) -> Result<Outcome, Stop>
-    ensures { result ≡ ending_of answer }
+fn ending(returned: Result<Outcome, DeskFault>) -> Result<Outcome, Stop>
+    ensures { result ≡ ending_of returned }
 {
-    answer.map_err(Stop::Fault)
+    returned.map_err(Stop::Fault)
 }
 
 // Prints the makespan of the jobs in the order of their numbers, for a file, or for standard input if there is no path.
@@ -103,16 +103,16 @@ fn print_value<F: Files, R: Source, W: Sink>(
         (F.standing files.old) (F.log files.old) (F.log files.new)
         (source_use (R.left input.old) (R.left input.new) (R.has_failed input.new)
         (R.has_ended input.old) (R.has_ended input.new)))
-        (WritesAnswer (W.written writer.old) (W.written writer.new) (W.has_failed writer.new))
+        (WritesResult (W.written writer.old) (W.written writer.new) (W.has_failed writer.new))
         (W.has_failed writer.new) result }
 {
     match path {
         None => ending(run_value(alloc, input, layout, block, writer)),
         Some(path) => {
             let mut file = files.open(path)?;
-            let answer = run_value(alloc, &mut file, layout, block, writer);
+            let returned = run_value(alloc, &mut file, layout, block, writer);
             files.close(file);
-            ending(answer)
+            ending(returned)
         }
     }
 }
@@ -132,13 +132,13 @@ fn print_order<F: Files, W: Sink>(
     requires writing { W.has_failed writer.old ≡ false }
     ensures { (input : SourceUse) → IsUnread input → Delivers (RunsJob (Job.Solve layout block options.now path.now)
         (F.standing files.old) (F.log files.old) (F.log files.new) input)
-        (WritesAnswer (W.written writer.old) (W.written writer.new) (W.has_failed writer.new))
+        (WritesResult (W.written writer.old) (W.written writer.new) (W.has_failed writer.new))
         (W.has_failed writer.new) result }
 {
     let mut file = files.open(path)?;
-    let answer = run_solve(alloc, &mut file, layout, block, options, writer);
+    let returned = run_solve(alloc, &mut file, layout, block, options, writer);
     files.close(file);
-    ending(answer)
+    ending(returned)
 }
 
 // Opens two files, one after the other. If the second can't be opened, the first is closed unread.
@@ -181,14 +181,14 @@ fn print_verdict<F: Files, W: Sink>(
     requires writing { W.has_failed writer.old ≡ false }
     ensures { (input : SourceUse) → IsUnread input → Delivers (RunsJob (Job.Check layout block path.now order_path.now)
         (F.standing files.old) (F.log files.old) (F.log files.new) input)
-        (WritesAnswer (W.written writer.old) (W.written writer.new) (W.has_failed writer.new))
+        (WritesResult (W.written writer.old) (W.written writer.new) (W.has_failed writer.new))
         (W.has_failed writer.new) result }
 {
     let (mut file, mut orders) = open_both(files, path, order_path)?;
-    let answer = run_check(alloc, &mut file, layout, block, &mut orders, writer);
+    let returned = run_check(alloc, &mut file, layout, block, &mut orders, writer);
     files.close(file);
     files.close(orders);
-    ending(answer)
+    ending(returned)
 }
 
 // Prints the time table of an order file.
@@ -205,14 +205,14 @@ fn print_table<F: Files, W: Sink>(
     requires writing { W.has_failed writer.old ≡ false }
     ensures { (input : SourceUse) → IsUnread input → Delivers (RunsJob (Job.Table layout block path.now order_path.now)
         (F.standing files.old) (F.log files.old) (F.log files.new) input)
-        (WritesAnswer (W.written writer.old) (W.written writer.new) (W.has_failed writer.new))
+        (WritesResult (W.written writer.old) (W.written writer.new) (W.has_failed writer.new))
         (W.has_failed writer.new) result }
 {
     let (mut file, mut orders) = open_both(files, path, order_path)?;
-    let answer = run_table(alloc, &mut file, layout, block, &mut orders, writer);
+    let returned = run_table(alloc, &mut file, layout, block, &mut orders, writer);
     files.close(file);
     files.close(orders);
-    ending(answer)
+    ending(returned)
 }
 
 // Prints the instance of a file in another layout.
@@ -229,11 +229,11 @@ fn print_converted<F: Files, W: Sink>(
     requires writing { W.has_failed writer.old ≡ false }
     ensures { (input : SourceUse) → IsUnread input → Delivers (RunsJob (Job.Convert source target block path.now)
         (F.standing files.old) (F.log files.old) (F.log files.new) input)
-        (WritesAnswer (W.written writer.old) (W.written writer.new) (W.has_failed writer.new))
+        (WritesResult (W.written writer.old) (W.written writer.new) (W.has_failed writer.new))
         (W.has_failed writer.new) result }
 {
     let mut file = files.open(path)?;
-    let answer = run_convert(alloc, &mut file, source, target, block, writer);
+    let returned = run_convert(alloc, &mut file, source, target, block, writer);
     files.close(file);
-    ending(answer)
+    ending(returned)
 }

@@ -27,7 +27,7 @@ pub fn run_program<F: Files, R: Source, W: Sink, E: Sink>(
 ) -> u8
     requires reading { R.has_failed input.old ≡ false }
     requires writing { W.has_failed output.old.writer ≡ false }
-    requires telling { E.has_failed errors.old ≡ false }
+    requires reporting { E.has_failed errors.old ≡ false }
     ensures { Ends (map string_bytes words.now) (F.standing files.old) (F.log files.old) (F.log files.new)
         (source_use (R.left input.old) (R.left input.new) (R.has_failed input.new)
         (R.has_ended input.old) (R.has_ended input.new))
@@ -54,22 +54,22 @@ fn run<F: Files, R: Source, W: Sink>(
         (IsNew W.written output.old) (W.written output.new.writer) (W.has_failed output.new.writer) result }
 {
     let job = plan(alloc, words)?;
-    let answer = run_job(alloc, &job, files, input, output);
-    let_out(output, answer)
+    let returned = run_job(alloc, &job, files, input, output);
+    let_out(output, returned)
 }
 
 // Writes what is left in the buffer, and returns how the program ends. After a failed write no write is tried
 // again, and the fault has the number of bytes that were written.
 fn let_out<W: Sink>(
     output: &mut Buffered<W>,
-    answer: Result<Outcome, Stop>,
+    returned: Result<Outcome, Stop>,
 ) -> Result<Outcome, Stop>
-    requires { W.has_failed output.old.writer ≡ reports_write answer }
+    requires { W.has_failed output.old.writer ≡ reports_write returned }
     ensures kept { Keeps (bytes_given W.written output.old) (bytes_given W.written output.new) }
     ensures failed { W.has_failed output.new.writer ≡ reports_write result }
-    ensures ends { EndsOutput answer output.new.held output.new.sent result }
+    ensures ends { EndsOutput returned output.new.held output.new.sent result }
 {
-    match answer {
+    match returned {
         Ok(outcome) => match output.flush() {
             Ok(()) => Ok(outcome),
             Err(fault) => Err(Stop::Fault(DeskFault::Write(fault))),

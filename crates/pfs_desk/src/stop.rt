@@ -1,7 +1,7 @@
 //! How the program ends: what it writes to the error output, and its exit status.
 ghost use Rattle.std.specs.Prelude.{◌≡◌, false};
 ghost use Rattle.pfs_base.specs.Sends.{Prints};
-ghost use Rattle.pfs_desk.specs.ProgramText.{Tells, exit_status_of, open_stop, stop_status_of, stop_text, usage_stop};
+ghost use Rattle.pfs_desk.specs.ProgramText.{Reports, exit_status_of, open_stop, stop_status_of, stop_text, usage_stop};
 
 use crate::fault::{DeskFault, Outcome, status, write_fault};
 use crate::files::OpenFault;
@@ -52,16 +52,16 @@ impl From<OpenFault> for Stop {
 
 /// Writes to the error output why the program stopped, if it did, and returns the exit status. If a write to the
 /// error output fails, no more is written, and the status is the same.
-pub fn finish<E: Sink>(errors: &mut E, answer: &Result<Outcome, Stop>) -> u8
+pub fn finish<E: Sink>(errors: &mut E, returned: &Result<Outcome, Stop>) -> u8
     requires { E.has_failed errors.old ≡ false }
-    ensures told { Tells answer.now (E.written errors.old) (E.written errors.new) (E.has_failed errors.new) }
-    ensures status { result ≡ exit_status_of answer.now }
+    ensures reported { Reports returned.now (E.written errors.old) (E.written errors.new) (E.has_failed errors.new) }
+    ensures status { result ≡ exit_status_of returned.now }
 {
-    match answer {
+    match returned {
         Ok(Outcome::Done) => 0,
         Ok(Outcome::CheckFailed) => 1,
         Err(stop) => {
-            let _ = tell(errors, stop);
+            let _ = report(errors, stop);
             stop_status(stop)
         }
     }
@@ -69,7 +69,7 @@ pub fn finish<E: Sink>(errors: &mut E, answer: &Result<Outcome, Stop>) -> u8
 
 // Writes why the program stopped.
 #[tactic(auto, unfolding(crate::specs::ProgramText::usage_text))]
-fn tell<E: Sink>(errors: &mut E, stop: &Stop) -> Result<(), WriteFault>
+fn report<E: Sink>(errors: &mut E, stop: &Stop) -> Result<(), WriteFault>
     requires { E.has_failed errors.old ≡ false }
     ensures { Prints (E.written errors.old) (E.written errors.new) (E.has_failed errors.new)
         (stop_text stop.now) result }

@@ -71,10 +71,10 @@ pub machine_more : (jobs machines first done seed next : ℕ) (now then : Proble
     → DrawnMachines jobs machines first done seed now → done < machines
     → DrawnSoFar seed now done now.shop.jobs next then → DrawnMachines jobs machines first (done + 1) next then
 machine_more jobs machines first done seed next now then h within more =
-    grind (arith, drawn_behind, drawn_behind now.shop.jobs)
+    grind (arith, drawn_after, drawn_after now.shop.jobs)
   where
-    drawn_behind : (more : ℕ) → seed_after more seed ≡ seed_after (more + done * jobs) first
-    drawn_behind more = grind (arith, h.last, seed_after-add more (done * jobs) first)
+    drawn_after : (more : ℕ) → seed_after more seed ≡ seed_after (more + done * jobs) first
+    drawn_after more = grind (arith, h.last, seed_after-add more (done * jobs) first)
 
 -- the time of a job on a machine
 abbrev time : ℕ → ℕ → ℕ → ℕ → ℕ

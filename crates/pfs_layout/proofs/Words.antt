@@ -45,16 +45,16 @@ pub use Rattle.pfs_layout.specs.File.{AreBlocks, Front, IsBlock, IsInstance, IsI
 unfoldable pub use Rattle.pfs_layout.specs.Generator.{generated, seed_after}
 pub use Rattle.pfs_layout.specs.Laws.{Completes, Seeks}
 unfoldable pub use Rattle.pfs_layout.specs.Lines.{ended_numbers, ended_parts, lines, numbers, open_part}
-pub use Rattle.pfs_layout.specs.Private.Step.{IsReady, at_end, body_judged, has_numbers_alone, after_byte}
-pub use Rattle.pfs_layout.specs.Private.Step.{last_number_ended, no_numbers, open_number, refused}
+pub use Rattle.pfs_layout.specs.Private.Step.{IsReady, at_end, body_validated, has_numbers_alone, after_byte}
+pub use Rattle.pfs_layout.specs.Private.Step.{last_number_ended, no_numbers, open_number, rejected}
 unfoldable pub use Rattle.pfs_layout.specs.Private.Step.{line_ended, number_ended}
 pub use Rattle.pfs_layout.specs.Reader.{EndsWantedSize, FeedMeets, Fields, FinishMeets, Follows, FollowsBlocks}
 pub use Rattle.pfs_layout.specs.Reader.{FollowsBody, FollowsLine, FollowsNow, HoldsFew, HoldsNumbers, IsReader}
 pub use Rattle.pfs_layout.specs.Reader.{StandsAfter, StandsIn, block_begun_by, block_of, fields, is_live, time_count}
 unfoldable pub use Rattle.pfs_layout.specs.Reader.{block_read}
-pub use Rattle.pfs_layout.specs.Refuse.{LayoutFault, RefusesInstance, misfit, size_fault}
-unfoldable pub use Rattle.pfs_layout.specs.Refuse.{accepted, byte_fault, ends_early, fault_of_place, mixed_line}
-unfoldable pub use Rattle.pfs_layout.specs.Refuse.{refusal, wrong_number, wrong_size}
+pub use Rattle.pfs_layout.specs.Rejection.{LayoutFault, RejectsInstance, misfit, size_fault}
+unfoldable pub use Rattle.pfs_layout.specs.Rejection.{accepted, byte_fault, ends_early, fault_of_place, mixed_line}
+unfoldable pub use Rattle.pfs_layout.specs.Rejection.{rejection, wrong_number, wrong_size}
 pub use Rattle.pfs_layout.specs.declared.blocks.Blocks.{Blocks}
 pub use Rattle.pfs_layout.specs.declared.body.Due.{Due}
 pub use Rattle.pfs_layout.specs.declared.blocks.Phase.{Phase}

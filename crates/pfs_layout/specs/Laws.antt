@@ -9,7 +9,7 @@ use Rattle.pfs_layout.specs.Block.{Layout, Size, size_of, due, are_due, Block, s
 use Rattle.pfs_layout.specs.File.{IsInstance, Front, IsInstanceFile}
 use Rattle.pfs_layout.specs.CanonicalText.{canonical_text, as_written}
 use Rattle.pfs_layout.specs.Generator.{IsSeed, seed_after, generated}
-use Rattle.pfs_layout.specs.Refuse.{LayoutFault, RefusesInstance, refusal, accepted, byte_fault}
+use Rattle.pfs_layout.specs.Rejection.{LayoutFault, RejectsInstance, rejection, accepted, byte_fault}
 
 -- the lines of a prefix of the input lead to k complete blocks, and the next block is sought
 pub record Seeks (layout : Layout) (input : List ℕ) (k : ℕ) : Type 0 where
@@ -48,8 +48,8 @@ pub record ExactlyOne {A : Type 0} (P : A → Type 0) : Type 0 where
 abbrev pub OneVerdict : Type 0
 OneVerdict = (layout : Layout) (input : List ℕ) (k : ℕ) → 1 ≤ k
     → (ExactlyOne (IsInstanceFile limits layout input k)
-    × ((fault : LayoutFault) → ¬ RefusesInstance layout input k fault))
-    ⊎ (ExactlyOne (RefusesInstance layout input k)
+    × ((fault : LayoutFault) → ¬ RejectsInstance layout input k fault))
+    ⊎ (ExactlyOne (RejectsInstance layout input k)
     × ((problem : Problem) → ¬ IsInstanceFile limits layout input k problem))
 
 -- `accepted` computes which problem's file an input has
@@ -57,26 +57,26 @@ abbrev pub AcceptedLaw : Type 0
 AcceptedLaw = (layout : Layout) (input : List ℕ) (k : ℕ) (problem : Problem) → 1 ≤ k
     → accepted layout input k ≡ Some problem ↔ IsInstanceFile limits layout input k problem
 
--- `refusal` computes which fault an input has
-abbrev pub RefusalLaw : Type 0
-RefusalLaw = (layout : Layout) (input : List ℕ) (k : ℕ) (fault : LayoutFault)
-    → refusal layout input k ≡ Some fault ↔ RefusesInstance layout input k fault
+-- `rejection` computes which fault an input has
+abbrev pub RejectionLaw : Type 0
+RejectionLaw = (layout : Layout) (input : List ℕ) (k : ℕ) (fault : LayoutFault)
+    → rejection layout input k ≡ Some fault ↔ RejectsInstance layout input k fault
 
 -- a fault at a byte of a text is the fault of every input that begins with the text
 abbrev pub FaultStays : Type 0
 FaultStays = (layout : Layout) (text more : List ℕ) (k : ℕ) (fault : LayoutFault)
-    → byte_fault layout k text ≡ Some fault → RefusesInstance layout (text ++ more) k fault
+    → byte_fault layout k text ≡ Some fault → RejectsInstance layout (text ++ more) k fault
 
 -- a fault is the first at a byte exactly if it is the fault of the text, and its place is a byte
 abbrev pub ByteFaultLaw : Type 0
 ByteFaultLaw = (layout : Layout) (text : List ℕ) (k : ℕ) (fault : LayoutFault)
     → byte_fault layout k text ≡ Some fault
-    ↔ ((refused : RefusesInstance layout text k fault) × (refused.place < length text))
+    ↔ ((rejected : RejectsInstance layout text k fault) × (rejected.place < length text))
 
 -- if no byte of a text has a fault, and its ended lines complete k blocks, any bytes may follow it: the problem
 -- stays the same
-abbrev pub FreeBehind : Type 0
-FreeBehind = (layout : Layout) (text more : List ℕ) (k : ℕ) (problem : Problem) → 1 ≤ k
+abbrev pub FreeAfter : Type 0
+FreeAfter = (layout : Layout) (text more : List ℕ) (k : ℕ) (problem : Problem) → 1 ≤ k
     → byte_fault layout k text ≡ None → k ≤ length (stand layout (ended_lines text)).complete
     → IsInstanceFile limits layout text k problem ↔ IsInstanceFile limits layout (text ++ more) k problem
 

@@ -7,4 +7,4 @@ pub mod Laws
 pub mod Lines
 pub mod Private
 pub mod Reader
-pub mod Refuse
+pub mod Rejection

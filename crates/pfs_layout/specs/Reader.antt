@@ -20,12 +20,12 @@ use Rattle.pfs_layout.specs.Lines.{last_digits}
 use Rattle.pfs_layout.specs.Block.{Layout, Size, Block, Now, seeking, inside, lost, Stand, stand, instance_of}
 use Rattle.pfs_layout.specs.Block.{is_within_limits, due_count, times_in, place_of_time}
 use Rattle.pfs_layout.specs.File.{IsInstanceFile}
-use Rattle.pfs_layout.specs.Refuse.{LayoutFault, RefusesInstance, fault_of_place, byte_fault}
+use Rattle.pfs_layout.specs.Rejection.{LayoutFault, RejectsInstance, fault_of_place, byte_fault}
 
 -- the reader needs more bytes
 abbrev pub is_live : Phase → Bool
 is_live Phase.Done = false
-is_live (Phase.Refused fault) = false
+is_live (Phase.Rejected fault) = false
 is_live other = true
 
 -- what a reader keeps: the line that is being read, and the blocks
@@ -81,12 +81,12 @@ pub record FollowsBody (layout : Layout) (size : Size) (count : ℕ) (body : Bod
   pub jobs : body.jobs ≡ size.jobs
   pub machines : body.machines ≡ size.machines
   pub due : body.due ≡ due_count layout size
-  pub judged : body.judged ≡ count
-  pub few : body.judged ≤ body.due
+  pub validated : body.validated ≡ count
+  pub few : body.validated ≤ body.due
   pub job : body.job < body.jobs
   pub machine : body.machine < body.machines
-  pub place : body.judged < body.due
-      → times_in layout body.judged ≡ times_in layout (place_of_time layout size body.job body.machine)
+  pub place : body.validated < body.due
+      → times_in layout body.validated ≡ times_in layout (place_of_time layout size body.job body.machine)
 
 -- no block has begun, and the last line has these ended numbers: the next block is sought, unless the wanted
 -- one is complete; the numbers are recorded, unless the line has a word byte
@@ -130,7 +130,7 @@ pub record Follows (r : Fields) (text : List ℕ) : Type 0 where
 -- ---- what a reader has read
 
 -- a byte of the text has this fault, and none before it has one; the times that had ended before it are stored
-pub record IsRefused (r : Fields) (text : List ℕ) (fault : LayoutFault) : Type 0 where
+pub record IsRejected (r : Fields) (text : List ℕ) (fault : LayoutFault) : Type 0 where
   pub front : List ℕ
   pub byte : ℕ
   pub rest : List ℕ
@@ -141,7 +141,7 @@ pub record IsRefused (r : Fields) (text : List ℕ) (fault : LayoutFault) : Type
 
 -- the same, by the reader's phase
 abbrev pub StandsIn : Phase → Fields → List ℕ → Type 0
-StandsIn (Phase.Refused fault) r text = IsRefused r text fault
+StandsIn (Phase.Rejected fault) r text = IsRejected r text fault
 StandsIn other r text = Follows r text
 
 -- the reader has read this text, with or without a fault
@@ -150,8 +150,8 @@ StandsAfter r text = StandsIn r.phase r text
 
 -- every reader has read some text, or its allocation failed and it has stored no time
 pub record IsReader (r : Fields) : Type 0 where
-  pub stands : r.phase ≢ Phase.Refused LayoutFault.Memory → (text : List ℕ) × StandsAfter r text
-  pub none : r.phase ≡ Phase.Refused LayoutFault.Memory → r.held ≡ 0
+  pub stands : r.phase ≢ Phase.Rejected LayoutFault.Memory → (text : List ℕ) × StandsAfter r text
+  pub none : r.phase ≡ Phase.Rejected LayoutFault.Memory → r.held ≡ 0
 
 -- ---- how many times are stored
 
@@ -181,7 +181,7 @@ pub record EndsWantedSize (layout : Layout) (k : ℕ) (text : List ℕ) (byte : 
 -- what a call returns that used this many bytes and leaves a reader in this phase
 abbrev pub progress_of : Phase → ℕ → Result Progress LayoutFault
 progress_of Phase.Done used = Ok (record { used = used; done = true })
-progress_of (Phase.Refused fault) used = Err fault
+progress_of (Phase.Rejected fault) used = Err fault
 progress_of other used = Ok (record { used = used; done = false })
 
 -- what `feed` promises of a reader that has read this text
@@ -196,7 +196,7 @@ pub record FeedMeets (old : Fields) (text piece : List ℕ) (outcome : Result Pr
   pub done : IfOk outcome (λ progress. IsTrue progress.done ↔ (new.phase ≡ Phase.Done))
   pub no_more : IfOk outcome (λ progress. (n : ℕ) → n < progress.used
       → length (stand old.layout (ended_lines (text ++ take n piece))).complete < old.wanted)
-  pub refused : IfErr outcome (λ fault. fault ≢ LayoutFault.Memory → StandsAfter new (text ++ piece))
+  pub rejected : IfErr outcome (λ fault. fault ≢ LayoutFault.Memory → StandsAfter new (text ++ piece))
   pub exact : outcome ≢ Err LayoutFault.Memory → (fault : LayoutFault)
       → (outcome ≡ Err fault) ↔ (byte_fault old.layout old.wanted (text ++ piece) ≡ Some fault)
   pub memory : outcome ≡ Err LayoutFault.Memory
@@ -205,7 +205,7 @@ pub record FeedMeets (old : Fields) (text piece : List ℕ) (outcome : Result Pr
 -- what `finish` promises of a reader that has read this text
 pub record FinishMeets (old : Fields) (text : List ℕ) (outcome : Result Problem LayoutFault) : Type 0 where
   pub file : (problem : Problem) → (outcome ≡ Ok problem) ↔ IsInstanceFile limits old.layout text old.wanted problem
-  pub refused : (fault : LayoutFault) → (outcome ≡ Err fault) ↔ RefusesInstance old.layout text old.wanted fault
+  pub rejected : (fault : LayoutFault) → (outcome ≡ Err fault) ↔ RejectsInstance old.layout text old.wanted fault
 
 -- ---- how far an input is read
 

@@ -4,9 +4,9 @@ ghost use Rattle.std.specs.Prelude.{Some, None, IfOk, IfErr, OnOk, OnErr, IfSome
 ghost use Rattle.pfs_layout.specs.Block.{is_within_limits, problem_of};
 ghost use Rattle.std.specs.Prelude.{◌&&◌, not};
 ghost use Rattle.pfs_layout.specs.Lines.{is_digit as digit_test, is_blank as blank_test, is_word_byte as word_test};
-ghost use Rattle.pfs_layout.specs.Private.Step.{refused, CanCount, with_problem_time, counted};
-ghost use Rattle.pfs_layout.specs.Private.Step.{body_judged, number_ended, last_number_ended, no_numbers, stated_by};
-ghost use Rattle.pfs_layout.specs.Private.Step.{size_judged, line_ended, mixed_met, after_byte, TakeMeets};
+ghost use Rattle.pfs_layout.specs.Private.Step.{rejected, CanCount, with_problem_time, counted};
+ghost use Rattle.pfs_layout.specs.Private.Step.{body_validated, number_ended, last_number_ended, no_numbers, stated_by};
+ghost use Rattle.pfs_layout.specs.Private.Step.{size_validated, line_ended, mixed_met, after_byte, TakeMeets};
 ghost use Rattle.pfs_layout.specs.Private.Step.{has_numbers_alone, end_fault, at_end, IsReady, LacksMemory};
 ghost use Rattle.pfs_layout.specs.Reader.{is_live as live_test, fields, StandsAfter, IsReader, FeedMeets, progress_of};
 
@@ -27,7 +27,7 @@ pub enum Phase {
     /// The wanted block has ended.
     Done,
     /// The input was rejected.
-    Refused(LayoutFault),
+    Rejected(LayoutFault),
 }
 
 /// How many bytes of a piece a reader has used, from its start, and whether the wanted block has ended.
@@ -86,10 +86,10 @@ impl Blocks {
     /// Rejects the input: from now on this fault is returned, and no further byte is used.
     #[cold]
     #[inline(never)]
-    pub fn refuse(&mut self, fault: LayoutFault)
-        ensures { self.new ≡ refused self.old fault }
+    pub fn reject(&mut self, fault: LayoutFault)
+        ensures { self.new ≡ rejected self.old fault }
     {
-        self.phase = Phase::Refused(fault);
+        self.phase = Phase::Rejected(fault);
     }
 
     /// Whether the reader needs more bytes.
@@ -97,7 +97,7 @@ impl Blocks {
         ensures { result ≡ live_test self.now.phase }
     {
         match self.phase {
-            Phase::Done | Phase::Refused(_) => false,
+            Phase::Done | Phase::Rejected(_) => false,
             Phase::Seeking | Phase::Body => true,
         }
     }
@@ -105,7 +105,7 @@ impl Blocks {
     // Counts a time that passed its check, and stores it if its block is the wanted one.
     fn count_time(&mut self, time: u32)
         requires can { CanCount self.old }
-        requires some { self.old.body.judged < self.old.body.due }
+        requires some { self.old.body.validated < self.old.body.due }
         requires short { time ≤ LONGEST_TIME }
         ensures { self.new ≡ counted self.old Due.Time time }
     {
@@ -117,16 +117,16 @@ impl Blocks {
     }
 
     // Checks a number of a body against what is due: counts it, or rejects the input.
-    fn judge_body(&mut self, value: u64, first: usize)
+    fn validate_body(&mut self, value: u64, first: usize)
         requires { CanCount self.old }
-        ensures { self.new ≡ body_judged self.old value first }
+        ensures { self.new ≡ body_validated self.old value first }
     {
         match self.body.next_due(self.layout) {
             Due::Time if value <= u64::from(LONGEST_TIME) => self.count_time(value as u32),
             Due::Machine(machine) if value == machine as u64 => {
                 self.body = self.body.after_machine();
             }
-            due => self.refuse(due.fault(first)),
+            due => self.reject(due.fault(first)),
         }
     }
 
@@ -140,7 +140,7 @@ impl Blocks {
     {
         match self.phase {
             Phase::Seeking => self.size_line = self.size_line.with(value),
-            Phase::Body | Phase::Done | Phase::Refused(_) => {}
+            Phase::Body | Phase::Done | Phase::Rejected(_) => {}
         }
     }
 
@@ -152,7 +152,7 @@ impl Blocks {
         ensures { self.new ≡ number_ended self.old number.value number.first }
     {
         if let Phase::Body = self.phase {
-            self.judge_body(number.value, number.first);
+            self.validate_body(number.value, number.first);
         } else {
             self.end_other_number(number.value, number.first);
         }
@@ -195,15 +195,15 @@ impl Blocks {
     fn end_size_line(&mut self, alloc: Global, size_line: SizeLine, line: usize)
         requires sought { self.old.phase ≡ Phase.Seeking }
         requires complete { self.old.complete < self.old.wanted }
-        ensures ended { self.new.phase ≢ Phase.Refused LayoutFault.Memory
-            → self.new ≡ size_judged self.old line (stated_by self.old.layout size_line) }
-        ensures memory { self.new.phase ≡ Phase.Refused LayoutFault.Memory
-            → LacksMemory self.old (size_judged self.old line (stated_by self.old.layout size_line)) self.new }
+        ensures ended { self.new.phase ≢ Phase.Rejected LayoutFault.Memory
+            → self.new ≡ size_validated self.old line (stated_by self.old.layout size_line) }
+        ensures memory { self.new.phase ≡ Phase.Rejected LayoutFault.Memory
+            → LacksMemory self.old (size_validated self.old line (stated_by self.old.layout size_line)) self.new }
     {
         let stated = match size_line.stated(self.layout, line) {
             Ok(stated) => stated,
             Err(fault) => {
-                self.refuse(fault);
+                self.reject(fault);
                 return;
             }
         };
@@ -213,7 +213,7 @@ impl Blocks {
                 self.body = Body::new(self.layout, stated.jobs, stated.machines);
                 self.phase = Phase::Body;
             }
-            Err(_) => self.refuse(LayoutFault::Memory),
+            Err(_) => self.reject(LayoutFault::Memory),
         }
     }
 
@@ -222,10 +222,10 @@ impl Blocks {
     fn end_line(&mut self, alloc: Global, is_number_line: bool)
         requires complete { self.old.complete < self.old.wanted }
         requires line { self.old.line ≤ LONGEST_INPUT + 1 }
-        requires memory { self.old.phase ≢ Phase.Refused LayoutFault.Memory }
-        ensures ended { self.new.phase ≢ Phase.Refused LayoutFault.Memory
+        requires memory { self.old.phase ≢ Phase.Rejected LayoutFault.Memory }
+        ensures ended { self.new.phase ≢ Phase.Rejected LayoutFault.Memory
             → self.new ≡ line_ended self.old is_number_line }
-        ensures memory { self.new.phase ≡ Phase.Refused LayoutFault.Memory
+        ensures memory { self.new.phase ≡ Phase.Rejected LayoutFault.Memory
             → LacksMemory self.old (line_ended self.old is_number_line) self.new }
     {
         let line = self.line;
@@ -238,7 +238,7 @@ impl Blocks {
                     self.end_size_line(alloc, size_line, line);
                 }
             }
-            Phase::Body if self.body.judged >= self.body.due => {
+            Phase::Body if self.body.validated >= self.body.due => {
                 let complete = self.complete + 1;
                 self.complete = complete;
                 self.phase = if complete == self.wanted {
@@ -247,7 +247,7 @@ impl Blocks {
                     Phase::Seeking
                 };
             }
-            Phase::Body | Phase::Done | Phase::Refused(_) => {}
+            Phase::Body | Phase::Done | Phase::Rejected(_) => {}
         }
     }
 
@@ -256,7 +256,7 @@ impl Blocks {
         ensures { self.new ≡ mixed_met self.old.phase self.old offset }
     {
         if let Phase::Body = self.phase {
-            self.refuse(LayoutFault::MixedLine { offset });
+            self.reject(LayoutFault::MixedLine { offset });
         }
     }
 
@@ -268,8 +268,8 @@ impl Blocks {
         requires digit { (digit_test b && not last.kinds.has_word) ≡ false }
         requires blank { blank_test b ≡ false }
         requires word { (word_test b && not last.kinds.has_digit) ≡ false }
-        ensures well { self.new.phase ≢ Phase.Refused LayoutFault.Memory → self.new ≡ after_byte self.old last b }
-        ensures memory { self.new.phase ≡ Phase.Refused LayoutFault.Memory
+        ensures well { self.new.phase ≢ Phase.Rejected LayoutFault.Memory → self.new ≡ after_byte self.old last b }
+        ensures memory { self.new.phase ≡ Phase.Rejected LayoutFault.Memory
             → LacksMemory self.old (after_byte self.old last b) self.new }
     {
         if b == LINE_END {
@@ -287,7 +287,7 @@ impl Blocks {
     {
         match self.phase {
             Phase::Done => Ok(Progress { used, done: true }),
-            Phase::Refused(fault) => Err(fault),
+            Phase::Rejected(fault) => Err(fault),
             Phase::Seeking | Phase::Body => Ok(Progress { used, done: false }),
         }
     }
@@ -360,7 +360,7 @@ impl Blocks {
         ensures idle { live_test self.old.phase ≡ false
             → (result ≡ progress_of self.old.phase 0) × (last.new ≡ last.old) × (self.new ≡ self.old) }
         ensures whole { IfOk result (λ progress. progress.done ≡ false → progress.used ≡ length piece.now) }
-        ensures stays { IfErr result (λ fault. self.new.phase ≡ Phase.Refused fault) }
+        ensures stays { IfErr result (λ fault. self.new.phase ≡ Phase.Rejected fault) }
         ensures moved { IfOk result (λ progress. last.new.digits.offset ≡ last.old.digits.offset + progress.used) }
         ensures meets { (text : List ℕ) → StandsAfter (fields last.old self.old) text
             → FeedMeets (fields last.old self.old) text piece.now result (fields last.new self.new) }
@@ -376,7 +376,7 @@ impl Blocks {
         }
         self.take(alloc, last, &piece[..room]);
         if self.is_live() {
-            self.refuse(LayoutFault::TooLong);
+            self.reject(LayoutFault::TooLong);
             return Err(LayoutFault::TooLong);
         }
         self.progress(last.digits.offset - start)
@@ -385,7 +385,7 @@ impl Blocks {
     /// Ends the last number of an input whose last line is `last`. Returns `None` if the wanted block is complete,
     /// where the end of the input counts as a line end, and else the fault.
     #[tactic(auto, using(crate::proofs::Reading::ByteSteps::keeps_last))]
-    pub fn judge_end(&mut self, last: Line) -> Option<LayoutFault>
+    pub fn validate_end(&mut self, last: Line) -> Option<LayoutFault>
         requires { IsReader (fields last self.old) }
         ensures fault { result ≡ end_fault (line_ended (at_end last self.old) (has_numbers_alone last.kinds)) }
         ensures blocks { self.new ≡ at_end last self.old }
@@ -413,7 +413,7 @@ impl Blocks {
             Phase::Seeking => Some(LayoutFault::NoBlock {
                 found: self.complete,
             }),
-            Phase::Body if self.body.judged < self.body.due => Some(LayoutFault::Truncated {
+            Phase::Body if self.body.validated < self.body.due => Some(LayoutFault::Truncated {
                 have: self.body.times(self.layout),
             }),
             Phase::Body => {
@@ -426,7 +426,7 @@ impl Blocks {
                 }
             }
             Phase::Done => None,
-            Phase::Refused(fault) => Some(fault),
+            Phase::Rejected(fault) => Some(fault),
         }
     }
 }

@@ -1,9 +1,9 @@
 //! How much of a block's body was read.
 ghost use Rattle.std.specs.Prelude.{◌≡◌, ◌<◌, ◌≤◌, ◌+◌};
 ghost use Rattle.pfs_layout.specs.Block.{times_in};
-ghost use Rattle.pfs_layout.specs.Refuse.{fault_of_due};
+ghost use Rattle.pfs_layout.specs.Rejection.{fault_of_due};
 ghost use Rattle.pfs_layout.specs.Private.Step.{body_of, due_next, next_of};
-ghost use Rattle.pfs_layout.specs.Private.Step.{after_machine as behind_machine, after_time as behind_time};
+ghost use Rattle.pfs_layout.specs.Private.Step.{after_machine as then_machine, after_time as then_time};
 
 use crate::{Layout, LayoutFault};
 use pfs_base::{MOST_JOBS, MOST_MACHINES};
@@ -41,7 +41,7 @@ pub struct Body {
     /// How many numbers the body has in all.
     pub due: usize,
     /// How many numbers were read and passed their checks.
-    pub judged: usize,
+    pub validated: usize,
     /// The job and the machine of the next time, counted from 0. Both are 0 after the last time.
     pub job: usize,
     pub machine: usize,
@@ -62,7 +62,7 @@ impl Body {
                 Layout::Taillard => times,
                 Layout::OrLib => 2 * times,
             },
-            judged: 0,
+            validated: 0,
             job: 0,
             machine: 0,
         }
@@ -72,22 +72,22 @@ impl Body {
     pub fn next_due(self, layout: Layout) -> Due
         ensures { result ≡ due_next layout self }
     {
-        if self.judged >= self.due {
+        if self.validated >= self.due {
             return Due::Nothing;
         }
         match layout {
-            Layout::OrLib if self.judged % 2 == 0 => Due::Machine(self.machine),
+            Layout::OrLib if self.validated % 2 == 0 => Due::Machine(self.machine),
             Layout::Taillard | Layout::OrLib => Due::Time,
         }
     }
 
     /// The body after one more number, which is a machine's.
     pub fn after_machine(self) -> Body
-        requires { self.judged < self.due }
-        ensures { result ≡ behind_machine self }
+        requires { self.validated < self.due }
+        ensures { result ≡ then_machine self }
     {
         let mut body = self;
-        body.judged += 1;
+        body.validated += 1;
         body
     }
 
@@ -95,13 +95,13 @@ impl Body {
     /// of the next machine's first job. In the OR-Library's it is of the same job's next machine, or of the
     /// next job's first machine.
     pub fn after_time(self, layout: Layout) -> Body
-        requires some { self.judged < self.due }
+        requires some { self.validated < self.due }
         requires job { self.job < self.jobs }
         requires machine { self.machine < self.machines }
-        ensures { result ≡ behind_time layout self }
+        ensures { result ≡ then_time layout self }
     {
         let mut body = self;
-        body.judged += 1;
+        body.validated += 1;
         match layout {
             Layout::Taillard => {
                 body.job = next(self.job, self.jobs);
@@ -121,11 +121,11 @@ impl Body {
 
     /// How many of the numbers read are times.
     pub fn times(self, layout: Layout) -> usize
-        ensures { result ≡ times_in layout self.judged }
+        ensures { result ≡ times_in layout self.validated }
     {
         match layout {
-            Layout::Taillard => self.judged,
-            Layout::OrLib => self.judged / 2,
+            Layout::Taillard => self.validated,
+            Layout::OrLib => self.validated / 2,
         }
     }
 }

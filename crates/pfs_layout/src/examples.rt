@@ -7,7 +7,7 @@ ghost use Rattle.pfs_base.specs.Lists.{below};
 ghost use Rattle.pfs_layout.specs.Lines.{lines, open_line, numbers};
 ghost use Rattle.pfs_layout.specs.Block.{due};
 ghost use Rattle.pfs_layout.specs.File.{IsInstanceFile};
-ghost use Rattle.pfs_layout.specs.Refuse.{refusal, accepted};
+ghost use Rattle.pfs_layout.specs.Rejection.{rejection, accepted};
 ghost use Rattle.pfs_layout.specs.CanonicalText.{canonical_text};
 ghost use Rattle.pfs_layout.specs.Generator.{generated};
 ghost use Rattle.pfs_layout.specs.Examples.{heading, ending_with, three_jobs_file, three_jobs_with, three_jobs_problem};
@@ -49,12 +49,13 @@ pub fn spellings()
 
 /// Lines of a body with a digit and a word byte.
 pub fn mixed_lines()
-    ensures behind_digit { refusal Layout.Taillard (ending_with (codes "2 5x 1")) 1 ≡ Some (LayoutFault.MixedLine 118) }
-    ensures before_digit { refusal Layout.Taillard (ending_with (codes "x 2 5 1")) 1
+    ensures after_digit { rejection Layout.Taillard (ending_with (codes "2 5x 1")) 1
+        ≡ Some (LayoutFault.MixedLine 118) }
+    ensures before_digit { rejection Layout.Taillard (ending_with (codes "x 2 5 1")) 1
         ≡ Some (LayoutFault.MixedLine 117) }
-    ensures extra_number { refusal Layout.Taillard (ending_with (codes "2 5 1 7x")) 1
+    ensures extra_number { rejection Layout.Taillard (ending_with (codes "2 5 1 7x")) 1
         ≡ Some (LayoutFault.MixedLine 122) }
-    ensures greatest_byte { refusal Layout.Taillard (ending_with (codes "2 5 1" ++ 255 ∷ [])) 1
+    ensures greatest_byte { rejection Layout.Taillard (ending_with (codes "2 5 1" ++ 255 ∷ [])) 1
         ≡ Some (LayoutFault.MixedLine 120) }
 {}
 
@@ -62,49 +63,49 @@ pub fn mixed_lines()
 pub fn wrong_numbers()
     ensures longest { accepted Layout.Taillard (ending_with (codes "2 5 1000000000")) 1
         ≡ Some (three_jobs_with 1000000000) }
-    ensures too_long { refusal Layout.Taillard (ending_with (codes "2 5 1000000001")) 1
+    ensures too_long { rejection Layout.Taillard (ending_with (codes "2 5 1000000001")) 1
         ≡ Some (LayoutFault.TimeRange 119) }
-    ensures forty_digits { refusal Layout.Taillard (ending_with (codes "2 5 " ++ replicate 40 57)) 1
+    ensures forty_digits { rejection Layout.Taillard (ending_with (codes "2 5 " ++ replicate 40 57)) 1
         ≡ Some (LayoutFault.TimeRange 119) }
-    ensures before_word { refusal Layout.Taillard (codes "1 1 0 0 0\n9999999999 x") 1
+    ensures before_word { rejection Layout.Taillard (codes "1 1 0 0 0\n9999999999 x") 1
         ≡ Some (LayoutFault.TimeRange 10) }
-    ensures by_word { refusal Layout.Taillard (codes "1 1 0 0 0\n9999999999x") 1 ≡ Some (LayoutFault.MixedLine 20) }
-    ensures machine { refusal Layout.OrLib (codes "d\n1 2\n0 3 2 4\n") 1 ≡ Some (LayoutFault.MachineNumber 10) }
-    ensures extra { refusal Layout.Taillard (ending_with (codes "2 5 1 7")) 1 ≡ Some (LayoutFault.ExtraNumber 121) }
+    ensures by_word { rejection Layout.Taillard (codes "1 1 0 0 0\n9999999999x") 1 ≡ Some (LayoutFault.MixedLine 20) }
+    ensures machine { rejection Layout.OrLib (codes "d\n1 2\n0 3 2 4\n") 1 ≡ Some (LayoutFault.MachineNumber 10) }
+    ensures extra { rejection Layout.Taillard (ending_with (codes "2 5 1 7")) 1 ≡ Some (LayoutFault.ExtraNumber 121) }
 {}
 
 /// Size lines with a wrong count of numbers, or with a number outside its limits.
 pub fn size_lines()
-    ensures greatest { refusal Layout.Taillard (codes "5000 200 4294967295 0 0") 1 ≡ Some (LayoutFault.Truncated 0) }
-    ensures count { refusal Layout.Taillard (codes "3 2") 1 ≡ Some (LayoutFault.SizeCount 1) }
-    ensures jobs { refusal Layout.Taillard (codes "\n5001 1 0 0 0") 1 ≡ Some (LayoutFault.SizeRange 2) }
-    ensures no_machine { refusal Layout.OrLib (codes "1 0\n") 1 ≡ Some (LayoutFault.SizeRange 1) }
-    ensures note { refusal Layout.Taillard (codes "1 1 4294967296 0 0") 1 ≡ Some (LayoutFault.SizeRange 1) }
-    ensures forty_digits { refusal Layout.Taillard (codes "3 2 0 0 " ++ replicate 40 57) 1
+    ensures greatest { rejection Layout.Taillard (codes "5000 200 4294967295 0 0") 1 ≡ Some (LayoutFault.Truncated 0) }
+    ensures count { rejection Layout.Taillard (codes "3 2") 1 ≡ Some (LayoutFault.SizeCount 1) }
+    ensures jobs { rejection Layout.Taillard (codes "\n5001 1 0 0 0") 1 ≡ Some (LayoutFault.SizeRange 2) }
+    ensures no_machine { rejection Layout.OrLib (codes "1 0\n") 1 ≡ Some (LayoutFault.SizeRange 1) }
+    ensures note { rejection Layout.Taillard (codes "1 1 4294967296 0 0") 1 ≡ Some (LayoutFault.SizeRange 1) }
+    ensures forty_digits { rejection Layout.Taillard (codes "3 2 0 0 " ++ replicate 40 57) 1
         ≡ Some (LayoutFault.SizeRange 1) }
-    ensures count_first { refusal Layout.Taillard (codes "5001 1") 1 ≡ Some (LayoutFault.SizeCount 1) }
+    ensures count_first { rejection Layout.Taillard (codes "5001 1") 1 ≡ Some (LayoutFault.SizeCount 1) }
 {}
 
 /// Files of several blocks.
 pub fn several_blocks()
     ensures first { accepted Layout.Taillard (three_jobs_file ++ three_jobs_file) 1 ≡ Some three_jobs_problem }
     ensures second { accepted Layout.Taillard (three_jobs_file ++ three_jobs_file) 2 ≡ Some three_jobs_problem }
-    ensures third { refusal Layout.Taillard (three_jobs_file ++ three_jobs_file) 3 ≡ Some (LayoutFault.NoBlock 2) }
+    ensures third { rejection Layout.Taillard (three_jobs_file ++ three_jobs_file) 3 ≡ Some (LayoutFault.NoBlock 2) }
     ensures one_job { accepted Layout.OrLib two_blocks_file 1 ≡ Some one_job_problem }
     ensures three_jobs { accepted Layout.OrLib two_blocks_file 2 ≡ Some three_jobs_problem }
-    ensures no_third { refusal Layout.OrLib two_blocks_file 3 ≡ Some (LayoutFault.NoBlock 2) }
+    ensures no_third { rejection Layout.OrLib two_blocks_file 3 ≡ Some (LayoutFault.NoBlock 2) }
 {}
 
 /// Two files, cut at each byte.
 pub fn cuts()
-    ensures three_jobs { map (λ cut. refusal Layout.Taillard (take cut three_jobs_file) 1) (below 122)
+    ensures three_jobs { map (λ cut. rejection Layout.Taillard (take cut three_jobs_file) 1) (below 122)
         ≡ replicate 81 (Some (LayoutFault.NoBlock 0)) ++ replicate 8 (Some (LayoutFault.SizeCount 2))
         ++ replicate 21 (Some (LayoutFault.Truncated 0))
         ++ replicate 2 (Some (LayoutFault.Truncated 1)) ++ replicate 2 (Some (LayoutFault.Truncated 2))
         ++ replicate 2 (Some (LayoutFault.Truncated 3))
         ++ replicate 2 (Some (LayoutFault.Truncated 4)) ++ replicate 2 (Some (LayoutFault.Truncated 5))
         ++ replicate 2 None }
-    ensures two_blocks { map (λ cut. refusal Layout.OrLib (take cut two_blocks_file) 2) (below 81)
+    ensures two_blocks { map (λ cut. rejection Layout.OrLib (take cut two_blocks_file) 2) (below 81)
         ≡ replicate 30 (Some (LayoutFault.NoBlock 0)) ++ replicate 2 (Some (LayoutFault.SizeCount 5))
         ++ replicate 4 (Some (LayoutFault.Truncated 0))
         ++ replicate 13 (Some (LayoutFault.NoBlock 1)) ++ replicate 2 (Some (LayoutFault.SizeCount 9))

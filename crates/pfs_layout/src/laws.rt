@@ -1,8 +1,8 @@
 //! Laws about the definitions, and one law about readers.
 ghost use Rattle.std.specs.Prelude.{◌≡◌, ℕ, List};
 ghost use Rattle.pfs_layout.specs.Reader.{StandsAfter, FinishMeets};
-ghost use Rattle.pfs_layout.specs.Laws.{FileStands, SomeFile, OneVerdict, RefusalLaw, AcceptedLaw};
-ghost use Rattle.pfs_layout.specs.Laws.{FaultStays, ByteFaultLaw, FreeBehind, WiderLimits, EarlierFiles};
+ghost use Rattle.pfs_layout.specs.Laws.{FileStands, SomeFile, OneVerdict, RejectionLaw, AcceptedLaw};
+ghost use Rattle.pfs_layout.specs.Laws.{FaultStays, ByteFaultLaw, FreeAfter, WiderLimits, EarlierFiles};
 ghost use Rattle.pfs_layout.specs.Laws.{DueAndBack, DueFronts, CanonicalLaw, CanonicalTextsFit, SeedsStay};
 ghost use Rattle.pfs_layout.specs.Laws.{GeneratedWithin};
 
@@ -29,9 +29,9 @@ pub fn one_verdict()
     ensures { OneVerdict }
 {}
 
-/// `refusal` computes which fault an input has.
-pub fn refusal()
-    ensures { RefusalLaw }
+/// `rejection` computes which fault an input has.
+pub fn rejection()
+    ensures { RejectionLaw }
 {}
 
 /// `accepted` computes which problem's file an input has.
@@ -51,8 +51,8 @@ pub fn byte_fault()
 {}
 
 /// Any bytes may follow the wanted block: the input then has the file of the same problem.
-pub fn free_behind()
-    ensures { FreeBehind }
+pub fn free_after()
+    ensures { FreeAfter }
 {}
 
 /// A file under some limits is a file of the same problem under wider ones.
@@ -108,7 +108,7 @@ pub fn generated_within()
 
 /// Each of two readers returns what the definitions say of the bytes that it has read. So two readers of one
 /// block and layout that have read the same bytes return equal results, however the bytes were cut into pieces.
-#[tactic(auto, using(crate::proofs::Reading::OutcomeLemmas::same_answers))]
+#[tactic(auto, using(crate::proofs::Reading::OutcomeLemmas::same_results))]
 pub fn cutting(
     one: BlockReader,
     other: BlockReader,

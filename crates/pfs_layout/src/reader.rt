@@ -4,7 +4,7 @@ ghost use Rattle.std.specs.Prelude.{IfSome};
 ghost use Rattle.std.specs.Result.{result_err};
 ghost use Rattle.pfs_base.specs.Limits.{limits};
 ghost use Rattle.pfs_layout.specs.File.{IsInstanceFile};
-ghost use Rattle.pfs_layout.specs.Refuse.{RefusesInstance};
+ghost use Rattle.pfs_layout.specs.Rejection.{RejectsInstance};
 ghost use Rattle.pfs_layout.specs.Reader.{is_live as live_test, StandsAfter, HoldsFew, FeedMeets, FinishMeets};
 ghost use Rattle.pfs_layout.specs.Reader.{ReadsAsFar, progress_of};
 
@@ -60,7 +60,7 @@ impl BlockReader {
         ensures held { result ≡ self.now.held }
         ensures few { (text : List ℕ) → StandsAfter self.now text
             → HoldsFew self.now.layout self.now.wanted text result }
-        ensures memory { self.now.phase ≡ Phase.Refused LayoutFault.Memory → result ≡ 0 }
+        ensures memory { self.now.phase ≡ Phase.Rejected LayoutFault.Memory → result ≡ 0 }
     {
         self.blocks.held
     }
@@ -75,7 +75,7 @@ impl BlockReader {
         ensures idle { live_test self.old.phase ≡ false
             → (result ≡ progress_of self.old.phase 0) × (self.new ≡ self.old) }
         ensures whole { IfOk result (λ progress. progress.done ≡ false → progress.used ≡ length piece.now) }
-        ensures stays { IfErr result (λ fault. self.new.phase ≡ Phase.Refused fault) }
+        ensures stays { IfErr result (λ fault. self.new.phase ≡ Phase.Rejected fault) }
         ensures nowhere { result ≡ Err LayoutFault.Memory → (text : List ℕ) → ¬ StandsAfter self.new text }
         ensures few { (text : List ℕ) → StandsAfter self.old text
             → HoldsFew self.old.layout self.old.wanted (text ++ piece.now) self.new.held }
@@ -90,11 +90,11 @@ impl BlockReader {
     /// line. The error is the fault of the whole input, or the one that [`feed`](BlockReader::feed) has returned.
     #[tactic(auto, unfolding(crate::specs::Private::Step::line_ended))]
     pub fn finish(self) -> Result<Instance, LayoutFault>
-        ensures refused { (fault : LayoutFault) → self.phase ≡ Phase.Refused fault → result ≡ Err fault }
+        ensures rejected { (fault : LayoutFault) → self.phase ≡ Phase.Rejected fault → result ≡ Err fault }
         ensures meets { (text : List ℕ) → StandsAfter self text → FinishMeets self text result }
     {
         let mut blocks = self.blocks;
-        match blocks.judge_end(self.last) {
+        match blocks.validate_end(self.last) {
             Some(fault) => Err(fault),
             None => {
                 let instance = blocks.instance;
@@ -128,8 +128,8 @@ pub fn read_block<R: Source>(
     requires working { R.has_failed reader.old ≡ false }
     ensures file { IfOk result (λ instance.
         IfSome (R.left reader.old) (λ bytes. IsInstanceFile limits layout bytes block instance)) }
-    ensures refused { IfErr result (λ fault. fault ≢ LayoutFault.Read → fault ≢ LayoutFault.Memory
-        → IfSome (R.left reader.old) (λ bytes. RefusesInstance layout bytes block fault)) }
+    ensures rejected { IfErr result (λ fault. fault ≢ LayoutFault.Read → fault ≢ LayoutFault.Memory
+        → IfSome (R.left reader.old) (λ bytes. RejectsInstance layout bytes block fault)) }
     ensures read { result ≡ Err LayoutFault.Read ↔ (R.has_failed reader.new ≡ true) }
     ensures before_end { result ≡ Err LayoutFault.Read → R.has_ended reader.new ≡ R.has_ended reader.old }
     ensures no_seed { result ≢ Err LayoutFault.SeedRange }

@@ -1,7 +1,7 @@
 //! A line that may be a size line.
 ghost use Rattle.std.specs.Prelude.{◌≡◌, ◌≤◌, true, Some, IfOk, IfErr, IsTrue};
 ghost use Rattle.pfs_layout.specs.Block.{is_within_limits, sized};
-ghost use Rattle.pfs_layout.specs.Refuse.{size_fault};
+ghost use Rattle.pfs_layout.specs.Rejection.{size_fault};
 ghost use Rattle.pfs_layout.specs.Private.Step.{no_numbers, with_number, stated_by};
 
 use crate::scan::CEILING;

@@ -43,9 +43,9 @@ version_end_reads = record { some = (One, (codes " ", one)); verdict = verdict }
     two : Finds IsEnding version_end Two (codes "2 ")
     two = record { spelled = refl; read = λ other. refl }
 
-    behind_two : (text : List ℕ) → ScanVerdict IsEnding version_end (50 ∷ text)
-    behind_two [] = stuck Two (codes "2") (codes " ") [] refl two (λ other. refl)
-    behind_two (b ∷ text) = elim (cases_eq b 32) [
+    after_two : (text : List ℕ) → ScanVerdict IsEnding version_end (50 ∷ text)
+    after_two [] = stuck Two (codes "2") (codes " ") [] refl two (λ other. refl)
+    after_two (b ∷ text) = elim (cases_eq b 32) [
       | inl space ↦ rw space (found Two (codes "2 ") text refl two)
       | inr other ↦ stuck Two (codes "2") (codes " ") (b ∷ text) refl two (λ more. rw (ne_eqb b 32 other) refl)
     ]
@@ -55,7 +55,7 @@ version_end_reads = record { some = (One, (codes " ", one)); verdict = verdict }
     verdict (b ∷ text) = elim (cases_eq b 32) [
       | inl space ↦ rw space (found One (codes " ") text refl one)
       | inr other ↦ elim (cases_eq b 50) [
-        | inl digit ↦ rw digit (behind_two text)
+        | inl digit ↦ rw digit (after_two text)
         | inr apart ↦
             stuck One [] (codes " ") (b ∷ text) refl one (λ more. rw (ne_eqb b 32 other, ne_eqb b 50 apart) refl)
       ]

@@ -13,10 +13,10 @@ use Rattle.pfs_base.specs.declared.limits.TheConstants.{LONGEST_ORDER_FILE}
 use Rattle.pfs_order.specs.declared.fault.OrderFault.{OrderFault}
 use Rattle.pfs_order.specs.declared.fault.OrderFault.TheVariants.{TooLong, Read, Memory}
 use Rattle.pfs_order.specs.Sequence.{StatedOrder}
-use Rattle.pfs_order.specs.OrderFile.{IsOrderFile, IsText, RefusesOrder, RefusesUnlessFailed, IsUnlessFailed}
+use Rattle.pfs_order.specs.OrderFile.{IsOrderFile, IsText, RejectsOrder, RejectsUnlessFailed, IsUnlessFailed}
 use Rattle.pfs_order.specs.OrderFile.{ReadsOrderAsFar}
-use Rattle.pfs_order.specs.Private.Reading.{FillsBelow, JudgesText}
-use Rattle.pfs_order.proofs.Published.OrderVerdicts.{one_refusal, not_both, one_file, OrderVerdict, text_verdict}
+use Rattle.pfs_order.specs.Private.Reading.{FillsBelow, ValidatesText}
+use Rattle.pfs_order.proofs.Published.OrderVerdicts.{one_rejection, not_both, one_file, OrderVerdict, text_verdict}
 
 -- ---- bytes that are read into a part of a buffer
 
@@ -49,59 +49,60 @@ holds_of_known_input (Some input) (Some rest) bytes P c h = rw c (h rest refl)
 -- ---- what is reported of an input
 
 -- what was read, and the result for it
-pub data Told (old new : Option (List ℕ)) (answer : Result StatedOrder OrderFault) : Type 0 where
+pub data Reported (old new : Option (List ℕ)) (returned : Result StatedOrder OrderFault) : Type 0 where
   whole : (bytes : List ℕ) → Consumes old new bytes → IsAtEnd new → length bytes ≤ LONGEST_ORDER_FILE
-      → JudgesText bytes answer → Told old new answer
-  long : (bytes : List ℕ) → Consumes old new bytes → length bytes ≡ LONGEST_ORDER_FILE + 1 → answer ≡ Err TooLong
-      → Told old new answer
-  stopped : FillsBelow (LONGEST_ORDER_FILE + 1) old new → answer ≡ Err Read → Told old new answer
+      → ValidatesText bytes returned → Reported old new returned
+  long : (bytes : List ℕ) → Consumes old new bytes → length bytes ≡ LONGEST_ORDER_FILE + 1 → returned ≡ Err TooLong
+      → Reported old new returned
+  stopped : FillsBelow (LONGEST_ORDER_FILE + 1) old new → returned ≡ Err Read → Reported old new returned
 
 -- what a result says of the input
 abbrev Says : Result StatedOrder OrderFault → List ℕ → Type 0
 Says (Ok file) input = IsOrderFile input file
-Says (Err fault) input = RefusesUnlessFailed input fault
+Says (Err fault) input = RejectsUnlessFailed input fault
 
-judged_says : (bytes : List ℕ) (answer : Result StatedOrder OrderFault) → length bytes ≤ LONGEST_ORDER_FILE
-    → JudgesText bytes answer → Says answer bytes
-judged_says bytes (Ok file) few e = subst (OrderVerdict bytes) e (text_verdict bytes few)
-judged_says bytes (Err fault) few (inl (memory, h)) = rw memory tt
-judged_says bytes (Err fault) few (inr e) = of fault (subst (OrderVerdict bytes) e (text_verdict bytes few))
+validated_says : (bytes : List ℕ) (returned : Result StatedOrder OrderFault) → length bytes ≤ LONGEST_ORDER_FILE
+    → ValidatesText bytes returned → Says returned bytes
+validated_says bytes (Ok file) few e = subst (OrderVerdict bytes) e (text_verdict bytes few)
+validated_says bytes (Err fault) few (inl (memory, h)) = rw memory tt
+validated_says bytes (Err fault) few (inr e) = of fault (subst (OrderVerdict bytes) e (text_verdict bytes few))
   where
-    of : (told : OrderFault) → RefusesOrder bytes told → RefusesUnlessFailed bytes told
+    of : (told : OrderFault) → RejectsOrder bytes told → RejectsUnlessFailed bytes told
     of Read h = tt
     of Memory h = tt
     of told h = h
 
-module _ {old new : Option (List ℕ)} {answer : Result StatedOrder OrderFault} where
-  says : Told old new answer → IfSome old (Says answer)
-  says (whole bytes c end few j) = Consumes-whole old new bytes (Says answer) c end (judged_says bytes answer few j)
-  says (long bytes c size is) = holds_of_known_input old new bytes (Says answer) c
+module _ {old new : Option (List ℕ)} {returned : Result StatedOrder OrderFault} where
+  says : Reported old new returned → IfSome old (Says returned)
+  says (whole bytes c end few j) = Consumes-whole old new bytes (Says returned) c end
+      (validated_says bytes returned few j)
+  says (long bytes c size is) = holds_of_known_input old new bytes (Says returned) c
       (λ rest _. rw is (omega (arith, length-append bytes rest)))
-  says (stopped (bytes, (few, c)) is) = holds_of_known_input old new bytes (Says answer) c (λ rest _. rw is tt)
+  says (stopped (bytes, (few, c)) is) = holds_of_known_input old new bytes (Says returned) c (λ rest _. rw is tt)
 
-accepted : {old new : Option (List ℕ)} (answer : Result StatedOrder OrderFault) → Told old new answer
-    → IfOk answer (λ file. IfSome old (λ input. IsOrderFile input file))
+accepted : {old new : Option (List ℕ)} (returned : Result StatedOrder OrderFault) → Reported old new returned
+    → IfOk returned (λ file. IfSome old (λ input. IsOrderFile input file))
 accepted (Ok file) told = says told
 accepted (Err fault) told = tt
 
-refused : {old new : Option (List ℕ)} (answer : Result StatedOrder OrderFault) → Told old new answer
-    → IfErr answer (λ fault. IfSome old (λ input. RefusesUnlessFailed input fault))
-refused (Ok file) told = tt
-refused (Err fault) told = says told
+rejected : {old new : Option (List ℕ)} (returned : Result StatedOrder OrderFault) → Reported old new returned
+    → IfErr returned (λ fault. IfSome old (λ input. RejectsUnlessFailed input fault))
+rejected (Ok file) told = tt
+rejected (Err fault) told = says told
 
 -- only one result is right for an input
-one_answer : (input : List ℕ) (answer right : Result StatedOrder OrderFault) → Says answer input
+one_returned : (input : List ℕ) (returned right : Result StatedOrder OrderFault) → Says returned input
     → OrderVerdict input right
-    → IsUnlessFailed answer right
-one_answer input (Ok file) (Ok other) h k = inl (ap Ok (one_file input file other h k))
-one_answer input (Ok file) (Err fault) h k = absurd (not_both input file fault h k)
-one_answer input (Err Read) right h k = inr (inl refl)
-one_answer input (Err Memory) right h k = inr (inr refl)
-one_answer input (Err fault) (Ok file) h k = absurd (not_both input file fault k h)
-one_answer input (Err fault) (Err other) h k = inl (ap Err (one_refusal input fault other h k))
+    → IsUnlessFailed returned right
+one_returned input (Ok file) (Ok other) h k = inl (ap Ok (one_file input file other h k))
+one_returned input (Ok file) (Err fault) h k = absurd (not_both input file fault h k)
+one_returned input (Err Read) right h k = inr (inl refl)
+one_returned input (Err Memory) right h k = inr (inr refl)
+one_returned input (Err fault) (Ok file) h k = absurd (not_both input file fault k h)
+one_returned input (Err fault) (Err other) h k = inl (ap Err (one_rejection input fault other h k))
 
-ended : {old new : Option (List ℕ)} (answer : Result StatedOrder OrderFault) → Told old new answer
-    → OnOk answer (IsAtEnd new)
+ended : {old new : Option (List ℕ)} (returned : Result StatedOrder OrderFault) → Reported old new returned
+    → OnOk returned (IsAtEnd new)
 ended (Ok file) (whole bytes c end few j) = end
 ended (Ok file) (long bytes c size is) = absurd (cc)
 ended (Ok file) (stopped f is) = absurd (cc)
@@ -126,61 +127,61 @@ reads_front old new fault front c few failed too_long end memory =
       memory = λ is. rw (rw left at (memory is).0, append-nil) (memory is).1;
     })
 
-reads : {old new : Option (List ℕ)} (answer : Result StatedOrder OrderFault) → Told old new answer
-    → IfSome old (λ input. ReadsOrderAsFar input new (result_err answer))
-reads answer (stopped (front, (few, c)) is) =
-    reads_front _ _ (result_err answer) front c (omega arith) (λ _. omega arith) (λ told. absurd (cc))
+reads : {old new : Option (List ℕ)} (returned : Result StatedOrder OrderFault) → Reported old new returned
+    → IfSome old (λ input. ReadsOrderAsFar input new (result_err returned))
+reads returned (stopped (front, (few, c)) is) =
+    reads_front _ _ (result_err returned) front c (omega arith) (λ _. omega arith) (λ told. absurd (cc))
     (λ other. absurd (other (ap result_err is))) (λ none. absurd (cc))
-reads answer (long bytes c size is) =
-    reads_front _ _ (result_err answer) bytes c (omega arith) (λ failed. absurd (cc)) (λ _. size)
+reads returned (long bytes c size is) =
+    reads_front _ _ (result_err returned) bytes c (omega arith) (λ failed. absurd (cc)) (λ _. size)
     (λ _ other. absurd (other (ap result_err is))) (λ none. absurd (cc))
-reads answer (whole bytes c end few j) =
-    reads_front _ _ (result_err answer) bytes c (omega arith) (λ _. few) (λ told. absurd (never_long answer j told))
-    (λ _ _. end) (λ memory. (end, of_memory answer j memory))
+reads returned (whole bytes c end few j) =
+    reads_front _ _ (result_err returned) bytes c (omega arith) (λ _. few) (λ told. absurd (never_long returned j told))
+    (λ _ _. end) (λ memory. (end, of_memory returned j memory))
   where
-    never_long : (read : Result StatedOrder OrderFault) → JudgesText bytes read → result_err read ≢ Some TooLong
+    never_long : (read : Result StatedOrder OrderFault) → ValidatesText bytes read → result_err read ≢ Some TooLong
     never_long (Ok file) k is = cc
     never_long (Err fault) (inl (memory, h)) is = absurd (cc)
     never_long (Err TooLong) (inr e) is =
         let long = subst (OrderVerdict bytes) e (text_verdict bytes few) in absurd (omega arith)
     never_long (Err fault) (inr e) is = absurd (cc)
 
-    of_memory : (read : Result StatedOrder OrderFault) → JudgesText bytes read → result_err read ≡ Some Memory
+    of_memory : (read : Result StatedOrder OrderFault) → ValidatesText bytes read → result_err read ≡ Some Memory
         → IsText bytes
     of_memory (Ok file) k is = absurd (cc)
     of_memory (Err fault) (inl (memory, h)) is = h
     of_memory (Err Memory) (inr e) is = absurd (subst (OrderVerdict bytes) e (text_verdict bytes few))
     of_memory (Err fault) (inr e) is = absurd (cc)
 
-pub never_read : (bytes : List ℕ) (answer : Result StatedOrder OrderFault) → length bytes ≤ LONGEST_ORDER_FILE
-    → JudgesText bytes answer → answer ≢ Err Read
+pub never_read : (bytes : List ℕ) (returned : Result StatedOrder OrderFault) → length bytes ≤ LONGEST_ORDER_FILE
+    → ValidatesText bytes returned → returned ≢ Err Read
 never_read bytes (Ok file) few j is = absurd (cc)
 never_read bytes (Err fault) few (inl (memory, h)) is = absurd (cc)
 never_read bytes (Err Read) few (inr e) is = subst (OrderVerdict bytes) e (text_verdict bytes few)
 never_read bytes (Err fault) few (inr e) is = absurd (cc)
 
 -- the contract's clauses of `read_order`, if a failed read is reported exactly when the device has failed
-pub owed : {old new : Option (List ℕ)} {broken late late' : Bool} (answer : Result StatedOrder OrderFault)
-    → Told old new answer → (answer ≡ Err Read → broken ≡ true) → (broken ≡ true → answer ≡ Err Read)
-    → (answer ≡ Err Read → late' ≡ late) → record {
-      accepted : IfOk answer (λ file. IfSome old (λ input. IsOrderFile input file));
-      refused : IfErr answer (λ fault. IfSome old (λ input. RefusesUnlessFailed input fault));
-      accepts : IfSome old (λ input. (file : StatedOrder) → IsOrderFile input file → IsUnlessFailed answer (Ok file));
-      refuses : IfSome old (λ input. (fault : OrderFault) → RefusesOrder input fault
-          → IsUnlessFailed answer (Err fault));
-      ended : OnOk answer (IsAtEnd new);
-      reads : IfSome old (λ input. ReadsOrderAsFar input new (result_err answer));
-      failed : answer ≡ Err Read → broken ≡ true;
-      working : broken ≡ true → answer ≡ Err Read;
-      before_end : answer ≡ Err Read → late' ≡ late;
+pub owed : {old new : Option (List ℕ)} {broken late late' : Bool} (returned : Result StatedOrder OrderFault)
+    → Reported old new returned → (returned ≡ Err Read → broken ≡ true) → (broken ≡ true → returned ≡ Err Read)
+    → (returned ≡ Err Read → late' ≡ late) → record {
+      accepted : IfOk returned (λ file. IfSome old (λ input. IsOrderFile input file));
+      rejected : IfErr returned (λ fault. IfSome old (λ input. RejectsUnlessFailed input fault));
+      accepts : IfSome old (λ input. (file : StatedOrder) → IsOrderFile input file → IsUnlessFailed returned (Ok file));
+      rejects : IfSome old (λ input. (fault : OrderFault) → RejectsOrder input fault
+          → IsUnlessFailed returned (Err fault));
+      ended : OnOk returned (IsAtEnd new);
+      reads : IfSome old (λ input. ReadsOrderAsFar input new (result_err returned));
+      failed : returned ≡ Err Read → broken ≡ true;
+      working : broken ≡ true → returned ≡ Err Read;
+      before_end : returned ≡ Err Read → late' ≡ late;
     }
-owed {old} answer told failed working before_end = record {
-  accepted = accepted answer told;
-  refused = refused answer told;
-  accepts = IfSome_then old (says told) (λ input h file. one_answer input answer (Ok file) h);
-  refuses = IfSome_then old (says told) (λ input h fault. one_answer input answer (Err fault) h);
-  ended = ended answer told;
-  reads = reads answer told;
+owed {old} returned told failed working before_end = record {
+  accepted = accepted returned told;
+  rejected = rejected returned told;
+  accepts = IfSome_then old (says told) (λ input h file. one_returned input returned (Ok file) h);
+  rejects = IfSome_then old (says told) (λ input h fault. one_returned input returned (Err fault) h);
+  ended = ended returned told;
+  reads = reads returned told;
   failed = failed;
   working = working;
   before_end = before_end;

@@ -123,15 +123,15 @@ contains_next jobs job (k, within, at) =
     (k, omega (arith, length-numbered jobs), rw (get_or-map (λ j. j + 1) jobs k job (job + 1) within, at))
 
 -- the verdict on the numbers
-abbrev pub JudgesJobs : List ℕ → Result Sequence OrderFault → Type 0
-JudgesJobs numbers (Ok seq) = IsSequence (length numbers) seq.jobs × (numbers ≡ numbered seq.jobs)
-JudgesJobs numbers (Err fault) = IsJobFault numbers fault
+abbrev pub ValidatesJobs : List ℕ → Result Sequence OrderFault → Type 0
+ValidatesJobs numbers (Ok seq) = IsSequence (length numbers) seq.jobs × (numbers ≡ numbered seq.jobs)
+ValidatesJobs numbers (Err fault) = IsJobFault numbers fault
 
-pub judged_from : (rest numbers : List ℕ) (seq : Sequence) → numbers ≡ numbered seq.jobs ++ rest
-    → seq.size ≡ length numbers → IsSequence seq.size seq.jobs → JudgesJobs numbers (take_jobs rest seq)
+pub validated_from : (rest numbers : List ℕ) (seq : Sequence) → numbers ≡ numbered seq.jobs ++ rest
+    → seq.size ≡ length numbers → IsSequence seq.size seq.jobs → ValidatesJobs numbers (take_jobs rest seq)
 unfolding take_jobs
-judged_from [] numbers seq whole size h = (rw size at h, rw append-nil at whole)
-judged_from (n ∷ rest) numbers seq whole size h = elim (number_cases seq n) [
+validated_from [] numbers seq whole size h = (rw size at h, rw append-nil at whole)
+validated_from (n ∷ rest) numbers seq whole size h = elim (number_cases seq n) [
   | inl out ↦ rw (out_of_range seq n out)
       (length seq.jobs, (refl, before, λ job. out (rw (here, ← size) at job)))
   | inr (inl (within, among)) ↦ rw (repeated seq n within among) (
@@ -145,7 +145,7 @@ judged_from (n ∷ rest) numbers seq whole size h = elim (number_cases seq n) [
     ),
   )
   | inr (inr (within, absent)) ↦ rw (taken seq n within absent)
-      (judged_from rest numbers (job_added seq (n - 1)) (longer within.0) size
+      (validated_from rest numbers (job_added seq (n - 1)) (longer within.0) size
       (rw insert_end at
       (IsSequence-insert seq.size (length seq.jobs) (n - 1) seq.jobs (omega (arith, within.0, within.1))
       absent h)))
@@ -172,6 +172,6 @@ judged_from (n ∷ rest) numbers seq whole size h = elim (number_cases seq n) [
       distinct = λ k lt. rw (← whole) at (number_is_new seq.size seq.jobs (n ∷ rest) h k lt);
     }
 
-pub jobs_judged : (numbers : List ℕ) → JudgesJobs numbers (take_jobs numbers (none_of (length numbers)))
-jobs_judged numbers =
-    judged_from numbers numbers (none_of (length numbers)) refl refl (IsSequence-nil (length numbers))
+pub jobs_validated : (numbers : List ℕ) → ValidatesJobs numbers (take_jobs numbers (none_of (length numbers)))
+jobs_validated numbers =
+    validated_from numbers numbers (none_of (length numbers)) refl refl (IsSequence-nil (length numbers))

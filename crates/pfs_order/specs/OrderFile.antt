@@ -64,13 +64,13 @@ HasJobFault input fault = (jobs : List ℕ) × ((machines : Option ℕ) × ((mak
     × (HasText input jobs machines makespan × IsJobFault jobs fault)))
 
 -- how the whole input is rejected; a failed read and failed memory allocation say nothing of it
-abbrev pub RefusesOrder : List ℕ → OrderFault → Type 0
-RefusesOrder input TooLong = LONGEST_ORDER_FILE < length input
-RefusesOrder input (Syntax offset) = (length input ≤ LONGEST_ORDER_FILE) × IsSyntaxFault input offset
-RefusesOrder input (JobRange place) = HasJobFault input (JobRange place)
-RefusesOrder input (Repeated place) = HasJobFault input (Repeated place)
-RefusesOrder input Read = ⊥
-RefusesOrder input Memory = ⊥
+abbrev pub RejectsOrder : List ℕ → OrderFault → Type 0
+RejectsOrder input TooLong = LONGEST_ORDER_FILE < length input
+RejectsOrder input (Syntax offset) = (length input ≤ LONGEST_ORDER_FILE) × IsSyntaxFault input offset
+RejectsOrder input (JobRange place) = HasJobFault input (JobRange place)
+RejectsOrder input (Repeated place) = HasJobFault input (Repeated place)
+RejectsOrder input Read = ⊥
+RejectsOrder input Memory = ⊥
 
 -- the whole input is the text of an order of all jobs, which count from 0 in `order` and from 1 in the input,
 -- of a number of machines or none, and of a makespan
@@ -79,14 +79,14 @@ pub record IsOrderFile (input : List ℕ) (file : StatedOrder) : Type 0 where
   pub has_text : HasText input (map (λ job. job + 1) file.order) file.machines file.makespan
 
 -- how an input is rejected, unless a failed read or failed memory allocation is reported, which say nothing of it
-abbrev pub RefusesUnlessFailed : List ℕ → OrderFault → Type 0
-RefusesUnlessFailed input Read = ⊤
-RefusesUnlessFailed input Memory = ⊤
-RefusesUnlessFailed input fault = RefusesOrder input fault
+abbrev pub RejectsUnlessFailed : List ℕ → OrderFault → Type 0
+RejectsUnlessFailed input Read = ⊤
+RejectsUnlessFailed input Memory = ⊤
+RejectsUnlessFailed input fault = RejectsOrder input fault
 
 -- this is the result, unless a failed read or failed memory allocation is reported
 abbrev pub IsUnlessFailed : Result StatedOrder OrderFault → Result StatedOrder OrderFault → Type 0
-IsUnlessFailed result answer = (result ≡ answer) ⊎ ((result ≡ Err Read) ⊎ (result ≡ Err Memory))
+IsUnlessFailed result returned = (result ≡ returned) ⊎ ((result ≡ Err Read) ⊎ (result ≡ Err Memory))
 
 -- how far the bytes of an input were read, with this fault if any: to their end, or to the one byte after the
 -- longest order file, or, if a read failed, to any byte before that one; failed memory allocation is reported

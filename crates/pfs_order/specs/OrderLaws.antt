@@ -4,7 +4,7 @@ use Rattle.pfs_base.specs.Limits.{limits}
 use Rattle.pfs_base.specs.declared.limits.TheConstants.{LONGEST_ORDER_FILE}
 use Rattle.pfs_order.specs.declared.fault.OrderFault.{OrderFault}
 use Rattle.pfs_order.specs.OrderText.{file_text}
-use Rattle.pfs_order.specs.OrderFile.{IsText, IsOrderFile, IsSyntaxFault, RefusesOrder}
+use Rattle.pfs_order.specs.OrderFile.{IsText, IsOrderFile, IsSyntaxFault, RejectsOrder}
 use Rattle.pfs_order.specs.Sequence.{StatedOrder, IsSequence, IsSize, AreMachines}
 use Rattle.pfs_order.specs.VersionOne.{IsVersionOne}
 
@@ -26,13 +26,14 @@ OneOrderFile = (input : List ℕ) (one other : StatedOrder) → IsOrderFile inpu
     → one ≡ other
 
 -- an input is rejected in at most one way
-abbrev pub OneRefusal : Type 0
-OneRefusal = (input : List ℕ) (one other : OrderFault) → RefusesOrder input one → RefusesOrder input other → one ≡ other
+abbrev pub OneRejection : Type 0
+OneRejection = (input : List ℕ) (one other : OrderFault)
+    → RejectsOrder input one → RejectsOrder input other → one ≡ other
 
 -- no order file is rejected
 abbrev pub NoneIsBoth : Type 0
 NoneIsBoth = (input : List ℕ) (file : StatedOrder) (fault : OrderFault) → IsOrderFile input file
-    → ¬ RefusesOrder input fault
+    → ¬ RejectsOrder input fault
 
 -- every text of the grammar is within the limit of bytes
 abbrev pub TextsFit : Type 0
@@ -54,7 +55,7 @@ TextOrFault = (input : List ℕ) → IsText input ⊎ ((offset : ℕ) × IsSynta
 -- each input is an order file or is rejected; by the laws above, in one way
 abbrev pub SomeVerdict : Type 0
 SomeVerdict = (input : List ℕ) → ((file : StatedOrder) × IsOrderFile input file)
-    ⊎ ((fault : OrderFault) × RefusesOrder input fault)
+    ⊎ ((fault : OrderFault) × RejectsOrder input fault)
 
 -- the order files of version 1 are those that state no machines, with the same order and makespan
 abbrev pub VersionOneIsRead : Type 0

@@ -1,5 +1,6 @@
 //! Laws of the definitions alone: each function's contract is one of them.
-ghost use Rattle.pfs_order.specs.OrderLaws.{WrittenIsRead, OnlyWritten, OneOrderFile, OneRefusal, NoneIsBoth, TextsFit};
+ghost use Rattle.pfs_order.specs.OrderLaws.{WrittenIsRead, OnlyWritten, OneOrderFile, OneRejection};
+ghost use Rattle.pfs_order.specs.OrderLaws.{NoneIsBoth, TextsFit};
 ghost use Rattle.pfs_order.specs.OrderLaws.{CutText, LongerText, TextOrFault, SomeVerdict};
 ghost use Rattle.pfs_order.specs.OrderLaws.{VersionOneIsRead};
 
@@ -21,9 +22,9 @@ pub fn one_order_file()
 {}
 
 /// An input is rejected in at most one way.
-#[tactic(auto, using(crate::proofs::Published::OrderVerdicts::one_refusal))]
-pub fn one_refusal()
-    ensures { OneRefusal }
+#[tactic(auto, using(crate::proofs::Published::OrderVerdicts::one_rejection))]
+pub fn one_rejection()
+    ensures { OneRejection }
 {}
 
 /// No order file is rejected.

@@ -4,9 +4,9 @@ ghost use Rattle.std.specs.Prelude.{take};
 ghost use Rattle.std.specs.Prelude.{drop, Contains, IfOk, IfErr, IfSome, OnOk, OnErr, Option};
 ghost use Rattle.std.specs.Io.KnownBytes.{Consumes, IsAtEnd};
 ghost use Rattle.std.specs.Result.{result_err};
-ghost use Rattle.pfs_order.specs.OrderFile.{IsOrderFile, RefusesOrder, RefusesUnlessFailed, IsUnlessFailed};
+ghost use Rattle.pfs_order.specs.OrderFile.{IsOrderFile, RejectsOrder, RejectsUnlessFailed, IsUnlessFailed};
 ghost use Rattle.pfs_order.specs.OrderFile.{ReadsOrderAsFar};
-ghost use Rattle.pfs_order.specs.Private.Reading.{Gives, Orders, JudgesText, FillsBelow, IsHead, version_at};
+ghost use Rattle.pfs_order.specs.Private.Reading.{Gives, Orders, ValidatesText, FillsBelow, IsHead, version_at};
 ghost use Rattle.pfs_order.specs.Private.Reading.{first_line_at, job_end, jobs_at, makespan_at, take_job};
 ghost use Rattle.pfs_order.specs.Sequence.{StatedOrder};
 ghost use Rattle.pfs_order.specs.declared.fault.OrderFault.{OrderFault};
@@ -55,12 +55,12 @@ pub fn read_order<R: Source>(alloc: Global, reader: &mut R) -> Result<OrderFile,
     requires { R.has_failed reader.old ≡ false }
     ensures accepted { IfOk result (λ file.
         IfSome (R.left reader.old) (λ input. IsOrderFile input file)) }
-    ensures refused { IfErr result (λ fault.
-        IfSome (R.left reader.old) (λ input. RefusesUnlessFailed input fault)) }
+    ensures rejected { IfErr result (λ fault.
+        IfSome (R.left reader.old) (λ input. RejectsUnlessFailed input fault)) }
     ensures accepts { IfSome (R.left reader.old) (λ input. (file : StatedOrder) →
         IsOrderFile input file → IsUnlessFailed result (Ok file)) }
-    ensures refuses { IfSome (R.left reader.old) (λ input. (fault : OrderFault) →
-        RefusesOrder input fault → IsUnlessFailed result (Err fault)) }
+    ensures rejects { IfSome (R.left reader.old) (λ input. (fault : OrderFault) →
+        RejectsOrder input fault → IsUnlessFailed result (Err fault)) }
     ensures ended { OnOk result (IsAtEnd (R.left reader.new)) }
     ensures reads { IfSome (R.left reader.old) (λ input.
         ReadsOrderAsFar input (R.left reader.new) (result_err result)) }
@@ -106,7 +106,7 @@ fn fill<R: Source>(reader: &mut R, buffer: &mut [u8]) -> Result<usize, OrderFaul
 // Parses a whole text as an order file.
 #[tactic(auto, unfolding(crate::specs::Private::Reading::read_text, crate::specs::Private::Reading::lines_at))]
 fn parse(alloc: Global, text: &[u8]) -> Result<OrderFile, OrderFault>
-    ensures { JudgesText text.now result }
+    ensures { ValidatesText text.now result }
 {
     let head = first_line(text)?;
     let mut numbers = [0; MOST_JOBS];
@@ -170,7 +170,7 @@ fn jobs_line(text: &[u8], head: Head, numbers: &mut [u32]) -> Result<usize, Orde
 {
     let mut at = head.end;
     for place in 0..head.jobs {
-        let end = end_behind(head.jobs - place - 1);
+        let end = end_after(head.jobs - place - 1);
         let (number, next) = numeral(text, at, 0, GREATEST_JOB, end)?;
         numbers[place] = number as u32;
         at = next;
@@ -179,7 +179,7 @@ fn jobs_line(text: &[u8], head: Head, numbers: &mut [u32]) -> Result<usize, Orde
 }
 
 // The byte after a job, by how many jobs follow it.
-fn end_behind(more: usize) -> u8
+fn end_after(more: usize) -> u8
     ensures { result ≡ job_end more }
 {
     match more {

@@ -13,7 +13,7 @@ const NOTES: Notes = Notes {
 };
 
 #[test]
-fn sizes_out_of_their_limits_are_refused(rt: HostRuntime) {
+fn sizes_out_of_their_limits_are_rejected(rt: HostRuntime) {
     for (jobs, machines) in [(0, 1), (1, 0), (5001, 1), (1, 201)] {
         let fault = Instance::new(rt.alloc(), jobs, machines, NOTES).err();
         assert_eq!(rt; fault, Some(BaseFault::Size), "{jobs} by {machines}");
@@ -64,7 +64,7 @@ fn put_says_how_many_bytes_went_out(rt: HostRuntime) {
 }
 
 #[test]
-fn a_source_fails_only_where_std_answers_an_error(rt: HostRuntime) {
+fn a_source_fails_only_where_std_returns_an_error(rt: HostRuntime) {
     let mut buf = [0u8; 4];
     for kind in [ErrorKind::Interrupted, ErrorKind::Other] {
         let mut broken = FromRead::new(Broken { error: Some(kind) });
@@ -77,7 +77,7 @@ fn a_source_fails_only_where_std_answers_an_error(rt: HostRuntime) {
 }
 
 #[test]
-fn a_sink_fails_where_std_answers_an_error_or_takes_nothing(rt: HostRuntime) {
+fn a_sink_fails_where_std_returns_an_error_or_takes_nothing(rt: HostRuntime) {
     for error in [Some(ErrorKind::Interrupted), Some(ErrorKind::Other), None] {
         let mut broken = ToWrite::new(Broken { error });
         assert_eq!(rt; broken.write(b"text"), None);

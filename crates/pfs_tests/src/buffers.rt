@@ -31,7 +31,7 @@ fn a_buffer_lets_its_text_out_up_to_a_failed_call(rt: HostRuntime) {
 }
 
 #[test]
-fn a_buffer_gathers_8192_bytes_and_hands_on_longer_writes(rt: HostRuntime) {
+fn a_buffer_gathers_8192_bytes_and_passes_on_longer_writes(rt: HostRuntime) {
     let bytes = [b'x'; 9000];
     let mut buffer = Buffered::new(Lengths::new());
     for (length, calls) in [

@@ -28,17 +28,17 @@ const FILES: [(&[u8], usize, u64, Option<LayoutFault>); 7] = [
 ];
 
 #[test]
-fn read_block_reads_up_to_its_answer(rt: HostRuntime) {
+fn read_block_reads_up_to_its_result(rt: HostRuntime) {
     for (file, most, calls, fault) in FILES {
         for call in 1..CALLS {
             let mut reader = Pieces::new(file, most, Some(call));
             let result = read_block(rt.alloc(), &mut reader, Layout::Taillard, 1);
-            let told = if call <= calls {
+            let reported = if call <= calls {
                 Some(LayoutFault::Read)
             } else {
                 fault
             };
-            assert_eq!(rt; result.err(), told, "call {call} of {calls}");
+            assert_eq!(rt; result.err(), reported, "call {call} of {calls}");
             assert_eq!(rt; reader.calls(), call.min(calls));
         }
     }
@@ -78,12 +78,12 @@ fn read_order_reads_up_to_the_end(rt: HostRuntime) {
         for call in 1..CALLS {
             let mut reader = Pieces::new(file, most, Some(call));
             let result = read_order(rt.alloc(), &mut reader);
-            let told = if call <= calls {
+            let reported = if call <= calls {
                 Some(OrderFault::Read)
             } else {
                 fault
             };
-            assert_eq!(rt; result.err(), told, "call {call} of {calls}");
+            assert_eq!(rt; result.err(), reported, "call {call} of {calls}");
             assert_eq!(rt; reader.calls(), call.min(calls));
         }
     }
@@ -178,17 +178,17 @@ fn write_order_writes_up_to_the_end(rt: HostRuntime) -> Result<(), Fail> {
 
 #[test]
 fn write_fault_writes_up_to_the_end(rt: HostRuntime) {
-    let told = DeskFault::Layout(LayoutFault::MixedLine { offset: 118 });
+    let reported = DeskFault::Layout(LayoutFault::MixedLine { offset: 118 });
     for most in [1, 3, 256] {
         for call in 1..CALLS {
             let mut writer = Taken::until(call, most);
-            let fault = write_fault(&mut writer, &told).err();
+            let fault = write_fault(&mut writer, &reported).err();
             assert_taken(&rt, &writer, b"pfs: mixed line at 118\n", call, fault);
         }
     }
     let mut writer = Taken::until(2, 3);
     assert_eq!(rt;
-        write_fault(&mut writer, &told),
+        write_fault(&mut writer, &reported),
         Err(WriteFault { written: 3 })
     );
     assert_eq!(rt; writer.bytes(), b"pfs".as_slice());
@@ -198,9 +198,9 @@ fn write_fault_writes_up_to_the_end(rt: HostRuntime) {
 fn a_fault_text_is_cut_where_a_slice_is_full(rt: HostRuntime) {
     let mut printed = [0; 3];
     let mut writer = ToWrite::new(printed.as_mut_slice());
-    let told = DeskFault::Layout(LayoutFault::TooLong);
+    let reported = DeskFault::Layout(LayoutFault::TooLong);
     assert_eq!(rt;
-        write_fault(&mut writer, &told),
+        write_fault(&mut writer, &reported),
         Err(WriteFault { written: 3 })
     );
     assert_eq!(rt; printed.as_slice(), b"pfs".as_slice());

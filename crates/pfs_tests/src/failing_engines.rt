@@ -130,10 +130,10 @@ fn run_neh<R: Source, W: Sink>(
 fn assert_unread(
     rt: &impl Abort,
     writer: &Taken,
-    answer: Result<Outcome, DeskFault>,
+    returned: Result<Outcome, DeskFault>,
     fault: DeskFault,
 ) {
-    assert_eq!(rt; answer, Err(fault));
+    assert_eq!(rt; returned, Err(fault));
     assert_eq!(rt; status(&fault), 4);
     assert_eq!(rt; writer.calls(), 0);
 }
@@ -143,9 +143,9 @@ fn assert_printed(
     rt: &impl Abort,
     engine: Engine,
     writer: &Taken,
-    answer: Result<Outcome, DeskFault>,
+    returned: Result<Outcome, DeskFault>,
 ) {
-    assert_eq!(rt; answer, Ok(Outcome::Done), "{engine:?}");
+    assert_eq!(rt; returned, Ok(Outcome::Done), "{engine:?}");
     assert_eq!(rt; writer.bytes(), engine.text(), "{engine:?}");
 }
 
@@ -157,14 +157,14 @@ fn each_engine_reads_its_instance_up_to_the_end_of_the_block(rt: HostRuntime) {
                 let mut reader = Pieces::new(BY_MACHINE, most, Some(call));
                 let mut orders = Pieces::whole(ORDER);
                 let mut writer = Taken::new(256, 256);
-                let answer = engine.run(rt.alloc(), &mut reader, &mut orders, &mut writer);
+                let returned = engine.run(rt.alloc(), &mut reader, &mut orders, &mut writer);
                 assert_eq!(rt; reader.calls(), call.min(calls), "{engine:?}");
                 if call <= calls {
                     let fault = DeskFault::Layout(LayoutFault::Read);
-                    assert_unread(&rt, &writer, answer, fault);
+                    assert_unread(&rt, &writer, returned, fault);
                     assert_eq!(rt; orders.calls(), 0, "{engine:?}");
                 } else {
-                    assert_printed(&rt, engine, &writer, answer);
+                    assert_printed(&rt, engine, &writer, returned);
                 }
             }
         }
@@ -179,14 +179,14 @@ fn each_engine_reads_its_order_up_to_the_end(rt: HostRuntime) {
                 let mut reader = Pieces::whole(BY_MACHINE);
                 let mut orders = Pieces::new(order, most, Some(call));
                 let mut writer = Taken::new(256, 256);
-                let answer = engine.run(rt.alloc(), &mut reader, &mut orders, &mut writer);
+                let returned = engine.run(rt.alloc(), &mut reader, &mut orders, &mut writer);
                 let done = (reader.calls(), orders.calls());
                 assert_eq!(rt; done, (1, call.min(calls)), "{engine:?}");
                 if call <= calls {
                     let fault = DeskFault::Order(OrderFault::Read);
-                    assert_unread(&rt, &writer, answer, fault);
+                    assert_unread(&rt, &writer, returned, fault);
                 } else {
-                    assert_printed(&rt, engine, &writer, answer);
+                    assert_printed(&rt, engine, &writer, returned);
                 }
             }
         }
@@ -194,13 +194,13 @@ fn each_engine_reads_its_order_up_to_the_end(rt: HostRuntime) {
 }
 
 #[test]
-fn each_engine_judges_its_instance_first(rt: HostRuntime) {
+fn each_engine_validates_its_instance_first(rt: HostRuntime) {
     for engine in READING_ORDERS {
         let mut reader = Pieces::new(BY_MACHINE, 256, Some(1));
         let mut orders = Pieces::new(ORDER, 256, Some(1));
         let mut writer = Taken::new(256, 256);
-        let answer = engine.run(rt.alloc(), &mut reader, &mut orders, &mut writer);
-        assert_unread(&rt, &writer, answer, DeskFault::Layout(LayoutFault::Read));
+        let returned = engine.run(rt.alloc(), &mut reader, &mut orders, &mut writer);
+        assert_unread(&rt, &writer, returned, DeskFault::Layout(LayoutFault::Read));
         assert_eq!(rt; (reader.calls(), orders.calls()), (1, 0), "{engine:?}");
     }
 }
@@ -213,8 +213,8 @@ fn a_failed_read_ends_no_number(rt: HostRuntime) {
             let mut reader = FromRead::new(BY_MACHINE[..120].chain(Broken { error }));
             let mut orders = Pieces::whole(ORDER);
             let mut writer = Taken::new(256, 256);
-            let answer = engine.run(rt.alloc(), &mut reader, &mut orders, &mut writer);
-            assert_unread(&rt, &writer, answer, DeskFault::Layout(LayoutFault::Read));
+            let returned = engine.run(rt.alloc(), &mut reader, &mut orders, &mut writer);
+            assert_unread(&rt, &writer, returned, DeskFault::Layout(LayoutFault::Read));
             assert_eq!(rt; orders.calls(), 0, "{engine:?}");
         }
     }
@@ -228,15 +228,15 @@ fn each_engine_writes_up_to_the_end(rt: HostRuntime) {
                 let mut reader = Pieces::whole(BY_MACHINE);
                 let mut orders = Pieces::whole(ORDER);
                 let mut writer = Taken::until(call, most);
-                let answer = engine.run(rt.alloc(), &mut reader, &mut orders, &mut writer);
+                let returned = engine.run(rt.alloc(), &mut reader, &mut orders, &mut writer);
                 let done = (reader.calls(), orders.calls());
                 assert_eq!(rt; done, engine.reads(1, 2), "{engine:?}");
-                match answer {
+                match returned {
                     Err(DeskFault::Write(fault)) => {
                         assert_taken(&rt, &writer, engine.text(), call, Some(fault));
                     }
                     _ => {
-                        assert_printed(&rt, engine, &writer, answer);
+                        assert_printed(&rt, engine, &writer, returned);
                         assert!(rt; writer.calls() < call, "{engine:?}");
                     }
                 }
@@ -251,8 +251,8 @@ fn each_engine_works_a_byte_a_call(rt: HostRuntime) {
         let mut reader = Pieces::new(BY_MACHINE, 1, None);
         let mut orders = Pieces::new(ORDER, 1, None);
         let mut writer = Taken::new(256, 1);
-        let answer = engine.run(rt.alloc(), &mut reader, &mut orders, &mut writer);
-        assert_printed(&rt, engine, &writer, answer);
+        let returned = engine.run(rt.alloc(), &mut reader, &mut orders, &mut writer);
+        assert_printed(&rt, engine, &writer, returned);
         let done = (reader.calls(), orders.calls());
         assert_eq!(rt; done, engine.reads(121, 27), "{engine:?}");
         assert_eq!(rt; writer.calls(), engine.text().len() as u64, "{engine:?}");
@@ -276,12 +276,12 @@ fn assert_stopped(
     engine: Engine,
     taken: &[u8],
     room: usize,
-    answer: Result<Outcome, DeskFault>,
+    returned: Result<Outcome, DeskFault>,
 ) {
     let fault = DeskFault::Write(WriteFault {
         written: room as u64,
     });
-    assert_eq!(rt; answer, Err(fault), "{engine:?}");
+    assert_eq!(rt; returned, Err(fault), "{engine:?}");
     assert_eq!(rt; status(&fault), 4);
     assert_eq!(rt; taken.len(), room, "{engine:?}");
     assert!(rt; engine.text().starts_with(taken), "{engine:?}");
@@ -295,8 +295,8 @@ fn each_engine_says_how_many_bytes_went_out(rt: HostRuntime) {
                 let mut reader = Pieces::whole(BY_MACHINE);
                 let mut orders = Pieces::whole(ORDER);
                 let mut writer = Taken::new(room, most);
-                let answer = engine.run(rt.alloc(), &mut reader, &mut orders, &mut writer);
-                assert_stopped(&rt, engine, writer.bytes(), room, answer);
+                let returned = engine.run(rt.alloc(), &mut reader, &mut orders, &mut writer);
+                assert_stopped(&rt, engine, writer.bytes(), room, returned);
                 assert!(rt; writer.failed(), "{engine:?}");
             }
         }
@@ -312,8 +312,8 @@ fn each_engine_stops_where_a_writer_takes_no_more(rt: HostRuntime) {
             let mut reader = Pieces::whole(BY_MACHINE);
             let mut orders = Pieces::whole(ORDER);
             let mut writer = ToWrite::new(&mut printed[..room]);
-            let answer = engine.run(rt.alloc(), &mut reader, &mut orders, &mut writer);
-            assert_stopped(&rt, engine, &printed[..room], room, answer);
+            let returned = engine.run(rt.alloc(), &mut reader, &mut orders, &mut writer);
+            assert_stopped(&rt, engine, &printed[..room], room, returned);
         }
     }
 }

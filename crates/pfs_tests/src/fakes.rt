@@ -278,7 +278,7 @@ impl FailsOnce {
     }
 
     // Counts a call for this number of bytes, and returns the call's result.
-    fn answer(&mut self, bytes: usize) -> io::Result<usize>
+    fn count_call(&mut self, bytes: usize) -> io::Result<usize>
         ensures { IfOk result (λ count. count ≤ bytes) }
     {
         self.calls = self.calls.saturating_add(1);
@@ -294,13 +294,13 @@ impl FailsOnce {
 
 impl Read for FailsOnce {
     fn read(&mut self, buf: &mut [u8]) -> io::Result<usize> {
-        self.answer(buf.len())
+        self.count_call(buf.len())
     }
 }
 
 impl Write for FailsOnce {
     fn write(&mut self, buf: &[u8]) -> io::Result<usize> {
-        self.answer(buf.len())
+        self.count_call(buf.len())
     }
 
     fn flush(&mut self) -> io::Result<()> {

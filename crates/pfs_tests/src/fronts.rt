@@ -16,12 +16,12 @@ fn assert_front(
     writer: &Taken,
     text: &[u8],
     room: usize,
-    told: Option<WriteFault>,
+    reported: Option<WriteFault>,
 ) {
     let fault = WriteFault {
         written: room as u64,
     };
-    assert_eq!(rt; told, Some(fault));
+    assert_eq!(rt; reported, Some(fault));
     assert!(rt; room <= text.len());
     assert_eq!(rt; writer.bytes(), &text[..room]);
 }
@@ -33,8 +33,8 @@ fn a_front_of_a_file_is_written(rt: HostRuntime) -> Result<(), Fail> {
         for at_once in [1, 256] {
             for room in 0..text.len() {
                 let mut writer = Taken::new(room, at_once);
-                let told = write_block(&mut writer, &instance, layout).err();
-                assert_front(&rt, &writer, text, room, told);
+                let reported = write_block(&mut writer, &instance, layout).err();
+                assert_front(&rt, &writer, text, room, reported);
             }
         }
     }
@@ -50,8 +50,8 @@ fn a_front_of_an_order_file_is_written(rt: HostRuntime) -> Result<(), Fail> {
         for at_once in [1, 100] {
             for room in 0..text.len() {
                 let mut writer = Taken::new(room, at_once);
-                let told = write_order(&mut writer, &order, machines, 10).err();
-                assert_front(&rt, &writer, text, room, told);
+                let reported = write_order(&mut writer, &order, machines, 10).err();
+                assert_front(&rt, &writer, text, room, reported);
             }
             let mut writer = Taken::new(text.len(), at_once);
             let sent = write_order(&mut writer, &order, machines, 10)?;

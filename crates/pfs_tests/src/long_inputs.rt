@@ -28,7 +28,7 @@ fn an_endless_order_file(rt: HostRuntime) {
 }
 
 #[test]
-fn an_order_file_is_read_no_further_than_a_byte_behind_the_longest(
+fn an_order_file_is_read_no_further_than_a_byte_after_the_longest(
     rt: HostRuntime,
 ) -> Result<(), Fail> {
     let long = vec![in rt.alloc(); 120; LONGEST_ORDER_FILE + 1000]?;

@@ -40,22 +40,23 @@ module _ (names : Names) (word : Text) (words : List Text) (are : AreLayoutNames
   unfolding AsksFor
   job_for job asks = (names, are, asks)
 
-  pub refused : takes_line names word words ≡ false → (IsFaultlessLine names word words → ⊥) → AsksForNothing word words
+  pub rejected : takes_line names word words ≡ false → (IsFaultlessLine names word words → ⊥)
+      → AsksForNothing word words
   unfolding AsksForNothing
-  refused denied faulty = (names, are, denied, faulty)
+  rejected denied faulty = (names, are, denied, faulty)
 
   -- the form of the command `word` doesn't take the arguments
-  pub refused_by_form : {form : App} → form_of names word ≡ Some form → takes form words ≡ false
+  pub rejected_by_form : {form : App} → form_of names word ≡ Some form → takes form words ≡ false
       → (fault_of form words ≡ [] → ⊥) → AsksForNothing word words
-  refused_by_form {form} named denied faulty = refused (rw named denied) (λ faultless.
+  rejected_by_form {form} named denied faulty = rejected (rw named denied) (λ faultless.
       let same : faultless.0 ≡ form = ap (λ o. unwrap_or o form) (sym faultless.1 ∙ named) in
       faulty (subst (λ a. fault_of a words ≡ []) same faultless.2))
 
   -- the same for a command of that form
-  pub refused_by : {app form : App} → app ≡ form → form_of names word ≡ Some form → is_simple_and_free form ≡ true
+  pub rejected_by : {app form : App} → app ≡ form → form_of names word ≡ Some form → is_simple_and_free form ≡ true
       → takes app words ≡ false → (is_simple_and_free app ≡ true → fault_of app words ≡ [] → ⊥)
       → AsksForNothing word words
-  refused_by is named simple denied faulty = refused_by_form named (subst (λ a. takes a words ≡ false) is denied)
+  rejected_by is named simple denied faulty = rejected_by_form named (subst (λ a. takes a words ≡ false) is denied)
       (λ none. faulty (ap is_simple_and_free is ∙ simple) (subst (λ a. fault_of a words ≡ []) (sym is) none))
 
 -- ---- one argument

@@ -20,7 +20,7 @@ pub fn jobs_asked_for()
 {}
 
 /// Command lines that ask for no job, each for another reason.
-pub fn lines_refused()
+pub fn lines_rejected()
     ensures no_command { AsksForNothing (codes "help") [] }
     ensures no_layout { AsksForNothing (codes "value") (codes "f" ∷ []) }
     ensures unknown_layout { AsksForNothing (codes "value") (codes "--layout" ∷ codes "x" ∷ codes "f" ∷ []) }

@@ -1,8 +1,8 @@
 //! Bytes in memory as a source and as a sink.
 ghost use Rattle.std.specs.Prelude.{◌≡◌, ◌≢◌, length, Some, [], false};
-ghost use Rattle.pfs_c.specs.Texts.{put_in_front, room_refusal, answer_of};
+ghost use Rattle.pfs_c.specs.Texts.{put_in_front, room_fault, number_returned};
 
-use crate::numbers::{PFS_OK, Refusal};
+use crate::numbers::{CallFault, PFS_OK};
 use pfs_base::{Sink, Source};
 use std::alloc::{AllocError, Global};
 
@@ -98,15 +98,15 @@ impl Sink for Text {
 
 /// Stores the length of a text in `len` and copies the text into the front of `text`. If it does not fit there, `text`
 /// is unchanged and the function returns `PFS_ROOM`.
-pub(super) fn hand_out(bytes: &[u8], text: &mut [u8], len: &mut usize) -> i32
-    ensures number { result ≡ answer_of (room_refusal (length text.old) (length bytes.now)) }
-    ensures told { len.new ≡ length bytes.now }
+pub(super) fn return_text(bytes: &[u8], text: &mut [u8], len: &mut usize) -> i32
+    ensures number { result ≡ number_returned (room_fault (length text.old) (length bytes.now)) }
+    ensures reported { len.new ≡ length bytes.now }
     ensures done { result ≡ PFS_OK → text.new ≡ put_in_front bytes.now text.old }
     ensures kept { result ≢ PFS_OK → text.new ≡ text.old }
 {
     *len = bytes.len();
     if text.len() < bytes.len() {
-        return Refusal::Room.number();
+        return CallFault::Room.number();
     }
     text[..bytes.len()].copy_from_slice(bytes);
     PFS_OK

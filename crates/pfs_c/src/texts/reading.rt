@@ -3,13 +3,13 @@ ghost use Rattle.std.specs.Prelude.{◌≡◌, ◌≢◌, ℕ, ◌*◌, ◌<◌,
 ghost use Rattle.std.specs.Prelude.{IfOk, IfErr};
 ghost use Rattle.pfs_base.specs.Limits.{limits};
 ghost use Rattle.pfs_layout.specs.File.{IsInstanceFile};
-ghost use Rattle.pfs_layout.specs.Refuse.{RefusesInstance};
+ghost use Rattle.pfs_layout.specs.Rejection.{RejectsInstance};
 ghost use Rattle.pfs_layout.specs.declared.fault.LayoutFault.{LayoutFault};
-ghost use Rattle.pfs_c.specs.Numbers.{refusal_number};
-ghost use Rattle.pfs_c.specs.Texts.{file_refusal, file_place, given_problem};
-ghost use Rattle.pfs_c.specs.Texts.{HoldsProblem, HasFault, WantsMemory, AnswersRead};
+ghost use Rattle.pfs_c.specs.Numbers.{fault_number};
+ghost use Rattle.pfs_c.specs.Texts.{file_fault, file_place, given_problem};
+ghost use Rattle.pfs_c.specs.Texts.{HoldsProblem, HasFault, NeedsMemory, ReturnsRead};
 
-use crate::numbers::{PFS_NO_BLOCK, PFS_OK, PFS_ROOM, Refusal};
+use crate::numbers::{CallFault, PFS_NO_BLOCK, PFS_OK, PFS_ROOM};
 use crate::texts::bytes::Bytes;
 use crate::texts::{PfsNotes, layout_of};
 use pfs_base::{Instance, MOST_BLOCKS};
@@ -35,33 +35,33 @@ pub extern "C" fn pfs_read(
     times: &mut [u32],
     place: &mut u64,
 ) -> i32
-    ensures number { AnswersRead result bytes.now layout block (length times.old) }
+    ensures number { ReturnsRead result bytes.now layout block (length times.old) }
     ensures done { result ≡ PFS_OK → HoldsProblem bytes.now layout block
         (given_problem jobs.new machines.new notes.new (take (jobs.new * machines.new) times.new)) }
-    ensures behind { result ≡ PFS_OK
+    ensures rest { result ≡ PFS_OK
         → drop (jobs.new * machines.new) times.new ≡ drop (jobs.new * machines.new) times.old }
     ensures room { result ≡ PFS_ROOM → length times.old < jobs.new * machines.new }
-    ensures told { result ≡ PFS_ROOM → (all : List ℕ)
+    ensures reported { result ≡ PFS_ROOM → (all : List ℕ)
         × HoldsProblem bytes.now layout block (given_problem jobs.new machines.new notes.new all) }
     ensures fault { PFS_NO_BLOCK ≤ℤ result → (fault : LayoutFault) × (HasFault bytes.now layout block fault
-        × (result ≡ refusal_number (file_refusal fault)) × (place.new ≡ file_place fault)) }
+        × (result ≡ fault_number (file_fault fault)) × (place.new ≡ file_place fault)) }
     ensures times_kept { result ≢ PFS_OK → times.new ≡ times.old }
     ensures sizes_kept { result ≢ PFS_OK → result ≢ PFS_ROOM
         → (jobs.new ≡ jobs.old) × (machines.new ≡ machines.old) × (notes.new ≡ notes.old) }
     ensures place_kept { result <ℤ PFS_NO_BLOCK → place.new ≡ place.old }
 {
     let Some(named) = layout_of(layout) else {
-        return Refusal::Layout.number();
+        return CallFault::Layout.number();
     };
     if block < 1 || block > MOST_BLOCKS {
-        return Refusal::Block.number();
+        return CallFault::Block.number();
     }
     let instance = match read_file(alloc, bytes, named, block) {
         Ok(instance) => instance,
-        Err(LayoutFault::Memory) => return Refusal::Memory.number(),
+        Err(LayoutFault::Memory) => return CallFault::Memory.number(),
         Err(fault) => {
             *place = place_of(fault);
-            return refusal_of(fault).number();
+            return fault_of(fault).number();
         }
     };
     *jobs = instance.jobs();
@@ -69,7 +69,7 @@ pub extern "C" fn pfs_read(
     *notes = PfsNotes::from_notes(instance.notes());
     let read = instance.times();
     if times.len() < read.len() {
-        return Refusal::Room.number();
+        return CallFault::Room.number();
     }
     times[..read.len()].copy_from_slice(read);
     PFS_OK
@@ -85,9 +85,9 @@ fn read_file(
     requires some { 1 ≤ block }
     requires few { block ≤ MOST_BLOCKS }
     ensures file { IfOk result (λ instance. IsInstanceFile limits layout bytes.now block instance) }
-    ensures refused { IfErr result (λ fault. fault ≢ LayoutFault.Memory
-        → RefusesInstance layout bytes.now block fault) }
-    ensures memory { result ≡ Err LayoutFault.Memory → WantsMemory bytes.now layout block }
+    ensures rejected { IfErr result (λ fault. fault ≢ LayoutFault.Memory
+        → RejectsInstance layout bytes.now block fault) }
+    ensures memory { result ≡ Err LayoutFault.Memory → NeedsMemory bytes.now layout block }
     ensures read { result ≢ Err LayoutFault.Read }
     ensures seed { result ≢ Err LayoutFault.SeedRange }
 {
@@ -96,21 +96,21 @@ fn read_file(
 }
 
 // How C receives a fault of an instance file.
-fn refusal_of(fault: LayoutFault) -> Refusal
-    ensures { result ≡ file_refusal fault }
+fn fault_of(fault: LayoutFault) -> CallFault
+    ensures { result ≡ file_fault fault }
 {
     match fault {
-        LayoutFault::NoBlock { .. } => Refusal::NoBlock,
-        LayoutFault::SizeCount { .. } => Refusal::SizeCount,
-        LayoutFault::SizeRange { .. } => Refusal::SizeRange,
-        LayoutFault::MixedLine { .. } => Refusal::MixedLine,
-        LayoutFault::TimeRange { .. } => Refusal::TimeRange,
-        LayoutFault::MachineNumber { .. } => Refusal::MachineNumber,
-        LayoutFault::ExtraNumber { .. } => Refusal::ExtraNumber,
-        LayoutFault::Truncated { .. } => Refusal::Truncated,
-        LayoutFault::TooLong => Refusal::InputTooLong,
-        LayoutFault::SeedRange => Refusal::Seed,
-        LayoutFault::Read | LayoutFault::Memory => Refusal::Memory,
+        LayoutFault::NoBlock { .. } => CallFault::NoBlock,
+        LayoutFault::SizeCount { .. } => CallFault::SizeCount,
+        LayoutFault::SizeRange { .. } => CallFault::SizeRange,
+        LayoutFault::MixedLine { .. } => CallFault::MixedLine,
+        LayoutFault::TimeRange { .. } => CallFault::TimeRange,
+        LayoutFault::MachineNumber { .. } => CallFault::MachineNumber,
+        LayoutFault::ExtraNumber { .. } => CallFault::ExtraNumber,
+        LayoutFault::Truncated { .. } => CallFault::Truncated,
+        LayoutFault::TooLong => CallFault::InputTooLong,
+        LayoutFault::SeedRange => CallFault::Seed,
+        LayoutFault::Read | LayoutFault::Memory => CallFault::Memory,
     }
 }
 

@@ -1,13 +1,13 @@
 //! Reading order files in memory.
 ghost use Rattle.std.specs.Prelude.{◌≡◌, ◌≢◌, ℕ, ◌<◌, ◌≤◌, ◌<ℤ◌, ◌≤ℤ◌, List, length, take, drop, IfOk, IfErr};
-ghost use Rattle.pfs_order.specs.OrderFile.{IsText, IsOrderFile, RefusesOrder};
+ghost use Rattle.pfs_order.specs.OrderFile.{IsText, IsOrderFile, RejectsOrder};
 ghost use Rattle.pfs_order.specs.declared.fault.OrderFault.{OrderFault};
-ghost use Rattle.pfs_c.specs.Numbers.{refusal_number};
-ghost use Rattle.pfs_c.specs.Texts.{order_refusal, order_place, order_file_of};
-ghost use Rattle.pfs_c.specs.Texts.{AnswersReadOrder};
+ghost use Rattle.pfs_c.specs.Numbers.{fault_number};
+ghost use Rattle.pfs_c.specs.Texts.{order_fault, order_place, order_file_of};
+ghost use Rattle.pfs_c.specs.Texts.{ReturnsReadOrder};
 
 use crate::given::copy_order;
-use crate::numbers::{PFS_OK, PFS_ROOM, PFS_SYNTAX, Refusal};
+use crate::numbers::{CallFault, PFS_OK, PFS_ROOM, PFS_SYNTAX};
 use crate::texts::bytes::Bytes;
 use pfs_order::{OrderFault, OrderFile, read_order};
 use std::alloc::Global;
@@ -29,16 +29,16 @@ pub extern "C" fn pfs_read_order(
     makespan: &mut u64,
     place: &mut u64,
 ) -> i32
-    ensures number { AnswersReadOrder result bytes.now (length order.old) }
+    ensures number { ReturnsReadOrder result bytes.now (length order.old) }
     ensures done { result ≡ PFS_OK
         → IsOrderFile bytes.now (order_file_of (take jobs.new order.new) machines.new makespan.new) }
     ensures fits { result ≡ PFS_OK → jobs.new ≤ length order.old }
-    ensures behind { result ≡ PFS_OK → drop jobs.new order.new ≡ drop jobs.new order.old }
+    ensures rest { result ≡ PFS_OK → drop jobs.new order.new ≡ drop jobs.new order.old }
     ensures room { result ≡ PFS_ROOM → length order.old < jobs.new }
-    ensures told { result ≡ PFS_ROOM → (all : List ℕ) × ((length all ≡ jobs.new)
+    ensures reported { result ≡ PFS_ROOM → (all : List ℕ) × ((length all ≡ jobs.new)
         × IsOrderFile bytes.now (order_file_of all machines.new makespan.new)) }
-    ensures fault { PFS_SYNTAX ≤ℤ result → (fault : OrderFault) × (RefusesOrder bytes.now fault
-        × (result ≡ refusal_number (order_refusal fault)) × (place.new ≡ order_place fault)) }
+    ensures fault { PFS_SYNTAX ≤ℤ result → (fault : OrderFault) × (RejectsOrder bytes.now fault
+        × (result ≡ fault_number (order_fault fault)) × (place.new ≡ order_place fault)) }
     ensures order_kept { result ≢ PFS_OK → order.new ≡ order.old }
     ensures sizes_kept { result ≢ PFS_OK → result ≢ PFS_ROOM
         → (jobs.new ≡ jobs.old) × (machines.new ≡ machines.old) × (makespan.new ≡ makespan.old) }
@@ -46,17 +46,17 @@ pub extern "C" fn pfs_read_order(
 {
     let file = match read_text(alloc, bytes) {
         Ok(file) => file,
-        Err(OrderFault::Memory) => return Refusal::Memory.number(),
+        Err(OrderFault::Memory) => return CallFault::Memory.number(),
         Err(fault) => {
             *place = place_of(fault);
-            return refusal_of(fault).number();
+            return fault_of(fault).number();
         }
     };
     *jobs = file.order().len();
     *machines = file.machines().unwrap_or(0);
     *makespan = file.makespan();
     if order.len() < file.order().len() {
-        return Refusal::Room.number();
+        return CallFault::Room.number();
     }
     copy_order(file.order(), order);
     PFS_OK
@@ -65,7 +65,7 @@ pub extern "C" fn pfs_read_order(
 // Reads what an order file states.
 fn read_text(alloc: Global, bytes: &[u8]) -> Result<OrderFile, OrderFault>
     ensures file { IfOk result (λ file. IsOrderFile bytes.now file) }
-    ensures refused { IfErr result (λ fault. fault ≢ OrderFault.Memory → RefusesOrder bytes.now fault) }
+    ensures rejected { IfErr result (λ fault. fault ≢ OrderFault.Memory → RejectsOrder bytes.now fault) }
     ensures memory { result ≡ Err OrderFault.Memory → IsText bytes.now }
     ensures read { result ≢ Err OrderFault.Read }
 {
@@ -74,15 +74,15 @@ fn read_text(alloc: Global, bytes: &[u8]) -> Result<OrderFile, OrderFault>
 }
 
 // How C receives a fault of an order file.
-fn refusal_of(fault: OrderFault) -> Refusal
-    ensures { result ≡ order_refusal fault }
+fn fault_of(fault: OrderFault) -> CallFault
+    ensures { result ≡ order_fault fault }
 {
     match fault {
-        OrderFault::Syntax { .. } => Refusal::Syntax,
-        OrderFault::JobRange { .. } => Refusal::JobRange,
-        OrderFault::Repeated { .. } => Refusal::JobTwice,
-        OrderFault::TooLong => Refusal::FileTooLong,
-        OrderFault::Read | OrderFault::Memory => Refusal::Memory,
+        OrderFault::Syntax { .. } => CallFault::Syntax,
+        OrderFault::JobRange { .. } => CallFault::JobRange,
+        OrderFault::Repeated { .. } => CallFault::JobTwice,
+        OrderFault::TooLong => CallFault::FileTooLong,
+        OrderFault::Read | OrderFault::Memory => CallFault::Memory,
     }
 }
 

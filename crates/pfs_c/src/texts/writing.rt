@@ -1,11 +1,11 @@
 //! Writing instance files into memory.
 ghost use Rattle.std.specs.Prelude.{◌≡◌, ◌≢◌, length, IfOk};
-ghost use Rattle.pfs_c.specs.Private.Refusing.{Refuses};
-ghost use Rattle.pfs_c.specs.Texts.{write_refusal, given_problem, text_in, put_in_front, AnswersWrite};
+ghost use Rattle.pfs_c.specs.Private.Outcomes.{Rejects};
+ghost use Rattle.pfs_c.specs.Texts.{write_fault, given_problem, text_in, put_in_front, ReturnsWrite};
 
-use crate::given::{instance_of, judge_shop};
-use crate::numbers::{PFS_OK, PFS_ROOM, Refusal};
-use crate::texts::bytes::{Text, hand_out};
+use crate::given::{instance_of, validate_shop};
+use crate::numbers::{CallFault, PFS_OK, PFS_ROOM};
+use crate::texts::bytes::{Text, return_text};
 use crate::texts::{PfsNotes, layout_of};
 use pfs_layout::write_block;
 use std::alloc::Global;
@@ -26,11 +26,11 @@ pub extern "C" fn pfs_write(
     text: &mut [u8],
     len: &mut usize,
 ) -> i32
-    ensures number { AnswersWrite result (write_refusal times.now jobs machines layout) (length text.old)
+    ensures number { ReturnsWrite result (write_fault times.now jobs machines layout) (length text.old)
         (length (text_in layout (given_problem jobs machines notes.now times.now))) }
     ensures done { result ≡ PFS_OK
         → text.new ≡ put_in_front (text_in layout (given_problem jobs machines notes.now times.now)) text.old }
-    ensures told { result ≡ PFS_OK
+    ensures reported { result ≡ PFS_OK
         → len.new ≡ length (text_in layout (given_problem jobs machines notes.now times.now)) }
     ensures wanted { result ≡ PFS_ROOM
         → len.new ≡ length (text_in layout (given_problem jobs machines notes.now times.now)) }
@@ -38,7 +38,7 @@ pub extern "C" fn pfs_write(
     ensures len_kept { result ≢ PFS_OK → result ≢ PFS_ROOM → len.new ≡ len.old }
 {
     match file_of(alloc, times, jobs, machines, notes, layout) {
-        Ok(file) => hand_out(&file, text, len),
+        Ok(file) => return_text(&file, text, len),
         Err(why) => why.number(),
     }
 }
@@ -51,14 +51,14 @@ fn file_of(
     machines: usize,
     notes: &PfsNotes,
     layout: u32,
-) -> Result<Vec<u8>, Refusal>
-    ensures refused { Refuses result (write_refusal times.now jobs machines layout) }
+) -> Result<Vec<u8>, CallFault>
+    ensures rejected { Rejects result (write_fault times.now jobs machines layout) }
     ensures text { IfOk result (λ file. file.items ≡ text_in layout (given_problem jobs machines notes.now times.now)) }
 {
-    judge_shop(times, jobs, machines)?;
-    let named = layout_of(layout).ok_or(Refusal::Layout)?;
+    validate_shop(times, jobs, machines)?;
+    let named = layout_of(layout).ok_or(CallFault::Layout)?;
     let instance = instance_of(alloc, times, jobs, machines, notes.notes())?;
     let mut text = Text::new(alloc);
-    write_block(&mut text, &instance, named).or(Err(Refusal::Memory))?;
+    write_block(&mut text, &instance, named).or(Err(CallFault::Memory))?;
     Ok(text.into_bytes())
 }

@@ -1,12 +1,12 @@
 //! Writing order files into memory.
 ghost use Rattle.std.specs.Prelude.{◌≡◌, ◌≢◌, length, IfOk};
 ghost use Rattle.pfs_order.specs.OrderText.{file_text};
-ghost use Rattle.pfs_c.specs.Private.Refusing.{Refuses};
-ghost use Rattle.pfs_c.specs.Texts.{write_order_refusal, machines_stated, put_in_front, AnswersWrite};
+ghost use Rattle.pfs_c.specs.Private.Outcomes.{Rejects};
+ghost use Rattle.pfs_c.specs.Texts.{write_order_fault, machines_stated, put_in_front, ReturnsWrite};
 
-use crate::given::{judge_jobs, order_of};
-use crate::numbers::{PFS_OK, PFS_ROOM, Refusal};
-use crate::texts::bytes::{Text, hand_out};
+use crate::given::{order_of, validate_jobs};
+use crate::numbers::{CallFault, PFS_OK, PFS_ROOM};
+use crate::texts::bytes::{Text, return_text};
 use pfs_base::{MOST_JOBS, MOST_MACHINES};
 use pfs_order::write_order;
 use std::alloc::Global;
@@ -28,38 +28,43 @@ pub extern "C" fn pfs_write_order(
     text: &mut [u8],
     len: &mut usize,
 ) -> i32
-    ensures number { AnswersWrite result (write_order_refusal order.now machines makespan) (length text.old)
+    ensures number { ReturnsWrite result (write_order_fault order.now machines makespan) (length text.old)
         (length (file_text order.now (machines_stated machines) makespan)) }
     ensures done { result ≡ PFS_OK
         → text.new ≡ put_in_front (file_text order.now (machines_stated machines) makespan) text.old }
-    ensures told { result ≡ PFS_OK → len.new ≡ length (file_text order.now (machines_stated machines) makespan) }
+    ensures reported { result ≡ PFS_OK → len.new ≡ length (file_text order.now (machines_stated machines) makespan) }
     ensures wanted { result ≡ PFS_ROOM → len.new ≡ length (file_text order.now (machines_stated machines) makespan) }
     ensures text_kept { result ≢ PFS_OK → text.new ≡ text.old }
     ensures len_kept { result ≢ PFS_OK → result ≢ PFS_ROOM → len.new ≡ len.old }
 {
     match file_of(alloc, order, machines, makespan) {
-        Ok(file) => hand_out(&file, text, len),
+        Ok(file) => return_text(&file, text, len),
         Err(why) => why.number(),
     }
 }
 
 // The order file of an order that C passes.
 #[tactic(auto, using(crate::proofs::TextLemmas::jobs_have_room))]
-fn file_of(alloc: Global, order: &[u32], machines: usize, makespan: u64) -> Result<Vec<u8>, Refusal>
-    ensures refused { Refuses result (write_order_refusal order.now machines makespan) }
+fn file_of(
+    alloc: Global,
+    order: &[u32],
+    machines: usize,
+    makespan: u64,
+) -> Result<Vec<u8>, CallFault>
+    ensures rejected { Rejects result (write_order_fault order.now machines makespan) }
     ensures text { IfOk result (λ file. file.items ≡ file_text order.now (machines_stated machines) makespan) }
-    ensures room { result ≢ Err Refusal.Room }
+    ensures room { result ≢ Err CallFault.Room }
 {
     if order.len() < 1 || order.len() > MOST_JOBS || machines > MOST_MACHINES {
-        return Err(Refusal::Size);
+        return Err(CallFault::Size);
     }
-    judge_jobs(order.len(), order)?;
+    validate_jobs(order.len(), order)?;
     if makespan > MOST_MAKESPAN {
-        return Err(Refusal::Makespan);
+        return Err(CallFault::Makespan);
     }
     let order = order_of(alloc, order)?;
     let stated = if machines == 0 { None } else { Some(machines) };
     let mut text = Text::new(alloc);
-    write_order(&mut text, &order, stated, makespan).or(Err(Refusal::Memory))?;
+    write_order(&mut text, &order, stated, makespan).or(Err(CallFault::Memory))?;
     Ok(text.into_bytes())
 }

@@ -42,14 +42,14 @@ ending (Ok outcome) = Ok outcome
 ending (Err fault) = Err (Fault fault)
 
 -- a failed write is reported, with the number of bytes that were written
-pub record TellsSent (sent : ℕ) (ended : Result Outcome Stop) : Type 0 where
+pub record ReportsSent (sent : ℕ) (ended : Result Outcome Stop) : Type 0 where
   pub fault : WriteFault
-  pub told : ended ≡ Err (Fault (faults.Write fault))
+  pub reported : ended ≡ Err (Fault (faults.Write fault))
   pub counted : fault.written ≡ sent
 
 -- how the program ends, by the engine's result: if it ends with an outcome, then no byte is left in the buffer; if a
 -- write failed, then the fault has the number of bytes that were written; each other stop is kept
 abbrev pub EndsOutput : Result Outcome Stop → List ℕ → ℕ → Result Outcome Stop → Type 0
-EndsOutput (Ok outcome) held sent ended = ((ended ≡ Ok outcome) × (held ≡ [])) ⊎ TellsSent sent ended
-EndsOutput (Err (Fault (faults.Write before))) held sent ended = TellsSent sent ended
+EndsOutput (Ok outcome) held sent ended = ((ended ≡ Ok outcome) × (held ≡ [])) ⊎ ReportsSent sent ended
+EndsOutput (Err (Fault (faults.Write before))) held sent ended = ReportsSent sent ended
 EndsOutput (Err stop) held sent ended = ended ≡ Err stop

@@ -1,12 +1,12 @@
 -- What more input and wider limits change.
 use Rattle.pfs_layout.proofs.Words.{◌≡◌, ℕ, List, [], ◌∷◌, ◌++◌, Some, append_assoc, append-nil, by_push, Layout}
 use Rattle.pfs_layout.proofs.Words.{LayoutFault, byte_fault, ◌≤◌, length, arith, lit≤, AllByRecursion, map, take, drop}
-use Rattle.pfs_layout.proofs.Words.{take-append-drop, None, inl, inr, refusal, fault_of_place, below, limits, Front}
+use Rattle.pfs_layout.proofs.Words.{take-append-drop, None, inl, inr, rejection, fault_of_place, below, limits, Front}
 use Rattle.pfs_layout.proofs.Words.{Problem, AreBlocks, IsInstance, IsBlock, IsSomeBlock, lines, cases_option}
-use Rattle.pfs_layout.specs.Laws.{FaultStays, FreeBehind, IsWider, WiderLimits, earlier_limits, EarlierFiles}
+use Rattle.pfs_layout.specs.Laws.{FaultStays, FreeAfter, IsWider, WiderLimits, earlier_limits, EarlierFiles}
 use Rattle.pfs_layout.proofs.Files.FileLemmas.{file_completes, completes_file}
 use Rattle.pfs_layout.proofs.Files.VerdictLemmas.{enough_holds, holds_longer, one_held}
-use Rattle.pfs_layout.proofs.Published.PlaceLemmas.{byte_fault-push, refusal_end, refusal_is}
+use Rattle.pfs_layout.proofs.Published.PlaceLemmas.{byte_fault-push, rejection_end, rejection_is}
 use Rattle.pfs_base.specs.Limits.{Limits}
 use Rattle.pfs_base.proofs.Published.Lists.{map-range_with_len-same}
 
@@ -19,10 +19,10 @@ byte_fault-more layout k text more fault e =
 
 -- if no byte of a text has a fault, the fault of each prefix is that of its end
 pub front_faults : (layout : Layout) (k : ℕ) (text : List ℕ) (n : ℕ) → byte_fault layout k text ≡ None
-    → map (λ cut. refusal layout (take cut text) k) (below n)
+    → map (λ cut. rejection layout (take cut text) k) (below n)
     ≡ map (λ cut. fault_of_place layout k (take cut text) None) (below n)
 front_faults layout k text n right = map-range_with_len-same _ _ 0 n (λ cut low high.
-    rw refusal_end (elim (cases_option (byte_fault layout k (take cut text))) [
+    rw rejection_end (elim (cases_option (byte_fault layout k (take cut text))) [
       | inl none ↦ rw none
       | inr one ↦
           let stays = byte_fault-more layout k (take cut text) (drop cut text) one.0 one.1 in
@@ -31,14 +31,14 @@ front_faults layout k text n right = map-range_with_len-same _ _ 0 n (λ cut low
 
 pub fault_stays : FaultStays
 fault_stays layout text more k fault e =
-    (refusal_is layout (text ++ more) k fault).0
-    (rw (refusal_end layout k (text ++ more), byte_fault-more layout k text more fault e))
+    (rejection_is layout (text ++ more) k fault).0
+    (rw (rejection_end layout k (text ++ more), byte_fault-more layout k text more fault e))
 
 -- ---- as laws
 
 -- after k complete blocks, nothing that follows changes the problem
-pub free_behind : FreeBehind
-free_behind layout text more k problem some right enough =
+pub free_after : FreeAfter
+free_after layout text more k problem some right enough =
     let held = enough_holds layout k some text right enough in
     let own = held.1.0 in
     let all = (holds_longer layout k text more held.0 held.1).0 in (

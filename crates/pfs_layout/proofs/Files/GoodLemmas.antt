@@ -221,16 +221,16 @@ module _ (layout : Layout) (k : ℕ) where
   enough_right text next enough = rw (le-ltb _ k enough)
 
   -- within the limit, no byte of a text has a fault, exactly if k blocks are complete or all is good
-  abbrev pub Judged : List ℕ → Type 0
-  Judged text = length text ≤ LONGEST_INPUT
+  abbrev pub Validated : List ℕ → Type 0
+  Validated text = length text ≤ LONGEST_INPUT
       → is_none (byte_fault layout k text) ≡ (nat_le k (length (stand_of layout text).complete) || AllGood text)
 
-  judged_more : (text : List ℕ) (b : ℕ) → Judged text → Judged (text ++ b ∷ [])
+  valid_more : (text : List ℕ) (b : ℕ) → Validated text → Validated (text ++ b ∷ [])
   unfolding stand_after
-  judged_more text b judged short =
+  valid_more text b validated short =
       let before : Stand = stand_of layout text in
       let size = length_push text b in
-      let so_far = judged (omega arith) in
+      let so_far = validated (omega arith) in
       rw (byte_fault-push layout k text b) (elim (cases_lt (length before.complete) k) [
         | inr enough ↦
             let longer = fewer_before layout text (b ∷ []) in
@@ -248,9 +248,9 @@ module _ (layout : Layout) (k : ℕ) where
             ]
       ])
 
-  pub judged : (text : List ℕ) → Judged text
+  pub validated : (text : List ℕ) → Validated text
   unfolding byte_fault open_part stand ended_parts
-  judged = by_push Judged (λ short. grind (arith, nat_tests)) judged_more
+  validated = by_push Validated (λ short. grind (arith, nat_tests)) valid_more
 
   -- if no byte of a text has a fault, then none before the last has one, and the last has none
   pub faultless_front : (text : List ℕ) (b : ℕ) → byte_fault layout k (text ++ b ∷ []) ≡ None
@@ -278,7 +278,7 @@ module _ (layout : Layout) (k : ℕ) where
       let fewer : Few text = omega arith in
       let so_far = h (faultless_front text b right).0 fewer in
       let within = short_more text b right fewer so_far.0 so_far.1 in
-      (within, grind (arith, nat_tests, judged (text ++ b ∷ []) within)))
+      (within, grind (arith, nat_tests, validated (text ++ b ∷ []) within)))
 
   -- so the byte that completes k blocks is within the limit
   pub sound_more : (text : List ℕ) (b : ℕ) → byte_fault layout k (text ++ b ∷ []) ≡ None → Few text

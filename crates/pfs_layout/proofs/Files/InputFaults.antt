@@ -2,7 +2,7 @@
 -- seed that is out of range.
 use Rattle.pfs_layout.proofs.Words.{arith, ◌≡◌, ℕ, Bool, true, false, List, take, Option, Some, None, slice_get, Layout}
 use Rattle.pfs_layout.proofs.Words.{LayoutFault, SeedRange, Read, Memory, Size, Due, mixed_line, misfit, wrong_number}
-use Rattle.pfs_layout.proofs.Words.{size_fault, wrong_size, ends_early, fault_of_place, RefusesInstance, Block}
+use Rattle.pfs_layout.proofs.Words.{size_fault, wrong_size, ends_early, fault_of_place, RejectsInstance, Block}
 
 abbrev pub is_input_fault : LayoutFault → Bool
 is_input_fault SeedRange = false
@@ -36,8 +36,8 @@ module _ (layout : Layout) (text : List ℕ) (next : Option ℕ) where
   of_place k = grind (arith, of_number, of_early, of_size)
 
 -- a rejected input has a fault of the input
-pub refused_input : (layout : Layout) (input : List ℕ) (k : ℕ) (fault : LayoutFault)
-    → RefusesInstance layout input k fault
+pub rejected_input : (layout : Layout) (input : List ℕ) (k : ℕ) (fault : LayoutFault)
+    → RejectsInstance layout input k fault
     → is_input_fault fault ≡ true
-refused_input layout input k fault refused =
-    rw refused.here at (of_place layout (take refused.place input) (slice_get input refused.place) k)
+rejected_input layout input k fault rejected =
+    rw rejected.here at (of_place layout (take rejected.place input) (slice_get input rejected.place) k)

@@ -5,14 +5,15 @@ use Rattle.pfs_layout.proofs.Words.{all_but_last, all_and_last, length_push, is_
 use Rattle.pfs_layout.proofs.Words.{stand_after, instance_of, cases_Bool, append-nil, first_some, after_line, option_or}
 use Rattle.pfs_layout.proofs.Words.{ends_early, mixed_line, byte_fault, wrong_size, nat_tests, open_line, [], Completes}
 use Rattle.pfs_layout.proofs.Words.{cases_lt, eqb-true, is_empty, standing, accepted, is_none, Problem, true, by_push}
-use Rattle.pfs_layout.proofs.Words.{numbers, seeking, refusal, or_none, last_of, length, nat_le, ne_eqb, false, Layout}
+use Rattle.pfs_layout.proofs.Words.{numbers, seeking, rejection, or_none, last_of, length, nat_le, ne_eqb}
+use Rattle.pfs_layout.proofs.Words.{false, Layout}
 use Rattle.pfs_layout.proofs.Words.{inside, limits, arith, lines, Block, Stand, stand, Front, Seeks, List, ◌++◌, refl}
 use Rattle.pfs_layout.proofs.Words.{Some, None, lost, ◌-◌, ◌<◌, ◌≤◌, ◌∷◌, sym, ◌∙◌, inl, inr, Now, ap, ℕ}
-use Rattle.pfs_layout.specs.Refuse.{faults}
-use Rattle.pfs_layout.proofs.Published.PlaceLemmas.{byte_fault-push, refusal_end}
+use Rattle.pfs_layout.specs.Rejection.{faults}
+use Rattle.pfs_layout.proofs.Published.PlaceLemmas.{byte_fault-push, rejection_end}
 use Rattle.pfs_layout.proofs.Files.GoodLemmas.{is_good, good_end, fault_within_limit, gap_fault, stand_of, stand-push}
 use Rattle.pfs_layout.proofs.Files.GoodLemmas.{stand_of-end, stand_of-on, open_line-end, one_line, Extends}
-use Rattle.pfs_layout.proofs.Files.GoodLemmas.{line_extends, extends, fewer_before, Few, enough_right, judged, sound}
+use Rattle.pfs_layout.proofs.Files.GoodLemmas.{line_extends, extends, fewer_before, Few, enough_right, validated, sound}
 use Rattle.pfs_layout.proofs.Files.GoodLemmas.{sound_more, faultless_front}
 use Rattle.pfs_layout.proofs.Files.FileLemmas.{FitsNow, made}
 use Rattle.pfs_layout.proofs.Files.LineLemmas.{lines-parts}
@@ -106,9 +107,9 @@ module _ (layout : Layout) (k : ℕ) where
   Faultless text = byte_fault layout k text ≡ None
 
   -- and none has one after it, if k blocks are complete
-  pub faultless_behind : (text more : List ℕ) → k ≤ length (stand_of layout text).complete → Faultless text
+  pub faultless_after : (text more : List ℕ) → k ≤ length (stand_of layout text).complete → Faultless text
       → Faultless (text ++ more)
-  faultless_behind text more enough right = by_push (λ more. Faultless (text ++ more)) (rw (append-nil text) right)
+  faultless_after text more enough right = by_push (λ more. Faultless (text ++ more)) (rw (append-nil text) right)
       (λ more b h.
       let longer = fewer_before layout text more in
       rw (← append_assoc text more (b ∷ []), byte_fault-push layout k (text ++ more) b, h)
@@ -176,10 +177,10 @@ module _ (layout : Layout) (k : ℕ) where
         ]
       ])
 
-  pub unrefused_holds : 1 ≤ k → (input : List ℕ) → refusal layout input k ≡ None
+  pub unrejected_holds : 1 ≤ k → (input : List ℕ) → rejection layout input k ≡ None
       → (problem : Problem) × Completes layout input k problem
-  unrefused_holds some input e =
-      let rights = or_none (byte_fault layout k input) (fault_of_place layout k input None) (rw refusal_end at e) in
+  unrejected_holds some input e =
+      let rights = or_none (byte_fault layout k input) (fault_of_place layout k input None) (rw rejection_end at e) in
       elim (cases_lt (length (stand_of layout input).complete) k) [
         | inr enough ↦ let held = enough_holds some input rights.0 enough in (held.0, held.1.0)
         | inl few ↦
@@ -194,16 +195,16 @@ module _ (layout : Layout) (k : ℕ) where
 
   -- ---- a file has no fault
 
-  pub holds_unrefused : (input : List ℕ) (problem : Problem) → Completes layout input k problem
-      → refusal layout input k ≡ None
+  pub holds_unrejected : (input : List ℕ) (problem : Problem) → Completes layout input k problem
+      → rejection layout input k ≡ None
   unfolding stand_after
-  holds_unrefused input problem c =
-      let judges = judged layout k c.text c.short in
+  holds_unrejected input problem c =
+      let validates = validated layout k c.text c.short in
       elim (cases_lt (length (stand_of layout c.text).complete) k) [
         | inr enough ↦
             let right : Faultless c.text = grind (arith, nat_tests) in
             let longer = fewer_before layout c.text c.rest in
-            rw (refusal_end layout k input, c.whole, faultless_behind c.text c.rest enough right)
+            rw (rejection_end layout k input, c.whole, faultless_after c.text c.rest enough right)
             (enough_right layout k (c.text ++ c.rest) None (omega arith))
         | inl few ↦
             let before : Stand = stand_of layout c.text in
@@ -215,7 +216,7 @@ module _ (layout : Layout) (k : ℕ) where
             let none : c.rest ≡ [] = grind (arith, c.ended) in
             let same : input ≡ c.text = rw (none, append-nil) at c.whole in
             let last = end_is c.text right few in
-            rw (refusal_end layout k input, same, right) (grind (arith, nat_tests, c.complete, c.now))
+            rw (rejection_end layout k input, same, right) (grind (arith, nat_tests, c.complete, c.now))
       ]
 
   -- ---- the problem of a file is that of the k-th block
@@ -238,7 +239,7 @@ module _ (layout : Layout) (k : ℕ) where
       → accepted layout input k ≡ Some problem
   unfolding accepted
   holds_accepted input problem c =
-      rw (holds_unrefused input problem c, kth_block input problem c, c.is)
+      rw (holds_unrejected input problem c, kth_block input problem c, c.is)
 
   -- an input has at most one problem
   pub one_held : (input : List ℕ) (one other : Problem) → Completes layout input k one → Completes layout input k other
@@ -248,10 +249,10 @@ module _ (layout : Layout) (k : ℕ) where
   pub accepted_holds : 1 ≤ k → (input : List ℕ) (problem : Problem) → accepted layout input k ≡ Some problem
       → Completes layout input k problem
   unfolding accepted
-  accepted_holds some input problem e = elim (cases_option (refusal layout input k)) [
-    | inr refused ↦ absurd (cc (rw refused.1 at e))
+  accepted_holds some input problem e = elim (cases_option (rejection layout input k)) [
+    | inr rejected ↦ absurd (cc (rw rejected.1 at e))
     | inl none ↦
-        let holds = unrefused_holds some input none in
+        let holds = unrejected_holds some input none in
         let same : holds.0 ≡ problem = cc (e, holds_accepted input holds.0 holds.1) in
         rw same at holds.1
   ]

@@ -1,9 +1,9 @@
 -- The law of one verdict, and the laws on what computes it.
-use Rattle.pfs_layout.proofs.Words.{inl, inr, refusal, cases_option}
+use Rattle.pfs_layout.proofs.Words.{inl, inr, rejection, cases_option}
 use Rattle.pfs_layout.specs.Laws.{OneVerdict, AcceptedLaw}
-use Rattle.pfs_layout.proofs.Published.PlaceLemmas.{refusal_is, one_fault}
+use Rattle.pfs_layout.proofs.Published.PlaceLemmas.{rejection_is, one_fault}
 use Rattle.pfs_layout.proofs.Files.FileLemmas.{file_completes, completes_file}
-use Rattle.pfs_layout.proofs.Files.VerdictLemmas.{one_held, unrefused_holds, holds_unrefused, holds_accepted}
+use Rattle.pfs_layout.proofs.Files.VerdictLemmas.{one_held, unrejected_holds, holds_unrejected, holds_accepted}
 use Rattle.pfs_layout.proofs.Files.VerdictLemmas.{accepted_holds}
 
 pub accepted_law : AcceptedLaw
@@ -13,17 +13,17 @@ accepted_law layout input k problem some = (
 )
 
 pub one_verdict : OneVerdict
-one_verdict layout input k some = elim (cases_option (refusal layout input k)) [
-  | inr refused ↦ inr (
-    let has = (refusal_is layout input k refused.0).0 refused.1 in
-        record { one = refused.0; has = has; no_other = λ other r. one_fault layout input k other refused.0 r has },
+one_verdict layout input k some = elim (cases_option (rejection layout input k)) [
+  | inr rejected ↦ inr (
+    let has = (rejection_is layout input k rejected.0).0 rejected.1 in
+        record { one = rejected.0; has = has; no_other = λ other r. one_fault layout input k other rejected.0 r has },
     λ problem file.
-        let none = holds_unrefused layout k input problem (file_completes layout input k problem file) in
-        let fault = refused.1 in
+        let none = holds_unrejected layout k input problem (file_completes layout input k problem file) in
+        let fault = rejected.1 in
         cc,
   )
   | inl none ↦
-      let held = unrefused_holds layout k some input none in
+      let held = unrejected_holds layout k some input none in
       inl (
         record {
           one = held.0;
@@ -31,6 +31,6 @@ one_verdict layout input k some = elim (cases_option (refusal layout input k)) [
           no_other = λ other file. one_held layout k input other held.0
               (file_completes layout input k other file) held.1;
         },
-        λ fault refused. let there = (refusal_is layout input k fault).1 refused in cc,
+        λ fault rejected. let there = (rejection_is layout input k fault).1 rejected in cc,
       )
 ]

@@ -1,13 +1,13 @@
 -- The places of a text with one more byte, and the first fault.
 use Rattle.pfs_layout.proofs.Words.{slice_get-push, ◌≡◌, ℕ, suc, ◌+◌, ◌<◌, List, [], ◌∷◌, ◌++◌, length, refl, arith}
 use Rattle.pfs_layout.proofs.Words.{Option, Some, None, option_or, length_push, take_all, slice_get-append, Layout}
-use Rattle.pfs_layout.proofs.Words.{LayoutFault, fault_of_place, refusal, byte_fault, RefusesInstance, zero, ◌≤◌, ◌↔◌}
+use Rattle.pfs_layout.proofs.Words.{LayoutFault, fault_of_place, rejection, byte_fault, RejectsInstance, zero, ◌≤◌, ◌↔◌}
 use Rattle.pfs_layout.proofs.Words.{map, below, first_some, inl, inr, cases_option, map-append, ap, ◌∙◌}
 use Rattle.std.proofs.lemmas.List.{take-append-le, take_at}
 use Rattle.std.proofs.lemmas.Option.{slice_get_past}
 use Rattle.pfs_base.proofs.Published.Lists.{map-range_with_len-same, first_some-append, range_with_len-push}
-use Rattle.pfs_layout.specs.Laws.{ByteFaultLaw, RefusalLaw}
-use Rattle.pfs_layout.specs.Refuse.{fault_at}
+use Rattle.pfs_layout.specs.Laws.{ByteFaultLaw, RejectionLaw}
+use Rattle.pfs_layout.specs.Rejection.{fault_at}
 
 -- the first place at which a function has a value
 module _ {A : Type 0} (f : ℕ → Option A) where
@@ -46,10 +46,10 @@ byte_fault-push layout k text b =
     rw (size, first_push f (length text), front, take_at text (b ∷ []) (length text) refl, slice_get-push text b)
 
 -- the fault of an input is the first at a byte, and if there is none, that at the end
-pub refusal_end : (layout : Layout) (k : ℕ) (input : List ℕ)
-    → refusal layout input k ≡ option_or (byte_fault layout k input) (fault_of_place layout k input None)
-unfolding refusal byte_fault
-refusal_end layout k input =
+pub rejection_end : (layout : Layout) (k : ℕ) (input : List ℕ)
+    → rejection layout input k ≡ option_or (byte_fault layout k input) (fault_of_place layout k input None)
+unfolding rejection byte_fault
+rejection_end layout k input =
     let size : length input + 1 ≡ suc (length input) = omega arith in
     rw (size, first_push (fault_at layout k input) (length input), fault_at-end layout k input)
 
@@ -57,13 +57,13 @@ refusal_end layout k input =
 
 module _ (layout : Layout) (input : List ℕ) (k : ℕ) where
   -- an input has at most one fault
-  pub one_fault : (one other : LayoutFault) → RefusesInstance layout input k one → RefusesInstance layout input k other
+  pub one_fault : (one other : LayoutFault) → RejectsInstance layout input k one → RejectsInstance layout input k other
       → one ≡ other
   one_fault one other r s = grind (arith, r.first, s.first)
 
   first_fault : (n : ℕ) (fault : LayoutFault) → n ≤ length input + 1
       → first_some (map (fault_at layout k input) (below n)) ≡ Some fault
-      → (r : RefusesInstance layout input k fault) × (r.place < n)
+      → (r : RejectsInstance layout input k fault) × (r.place < n)
   first_fault zero fault few e = cc
   first_fault (suc n) fault few e =
       elim (cases_option (first_some (map (fault_at layout k input) (below n)))) [
@@ -79,14 +79,14 @@ module _ (layout : Layout) (input : List ℕ) (k : ℕ) where
   -- the first fault of the first n places is the fault of the input, at one of these places
   first_is : (n : ℕ) (fault : LayoutFault) → n ≤ length input + 1
       → first_some (map (fault_at layout k input) (below n)) ≡ Some fault
-      ↔ ((r : RefusesInstance layout input k fault) × (r.place < n))
+      ↔ ((r : RejectsInstance layout input k fault) × (r.place < n))
   first_is n fault few =
       (first_fault n fault few, λ r. grind (arith, first_none (fault_at layout k input) n, first_fault n, one_fault))
 
--- `refusal` computes the fault of the first place that has one
-pub refusal_is : RefusalLaw
-unfolding refusal
-refusal_is layout input k fault =
+-- `rejection` computes the fault of the first place that has one
+pub rejection_is : RejectionLaw
+unfolding rejection
+rejection_is layout input k fault =
     let is = first_is layout input k (length input + 1) fault (omega arith) in
     (λ e. (is.0 e).0, λ r. is.1 (r, omega (arith, r.within)))
 

@@ -17,7 +17,7 @@ use Rattle.pfs_layout.proofs.Files.GoodLemmas.{GoodNow, fault_within_limit, wron
 use Rattle.pfs_layout.proofs.Files.GoodLemmas.{no_last, number_fault, due_line, gap_fault}
 use Rattle.pfs_layout.proofs.Files.LineLemmas.{ended_numbers-push, open_part-push}
 use Rattle.pfs_layout.proofs.Words.{cases_option}
-use Rattle.pfs_layout.proofs.Reading.NumberSteps.{IsRefusal, Outcome, misfit_in, number_step}
+use Rattle.pfs_layout.proofs.Reading.NumberSteps.{IsRejection, Outcome, misfit_in, number_step}
 use Rattle.pfs_layout.proofs.Reading.LineSteps.{sought_line, body_line}
 use Rattle.pfs_layout.specs.declared.scan.Number.{Number}
 
@@ -32,15 +32,15 @@ pub record Keeps (old new : Blocks) : Type 0 where
   pub held : new.phase ≡ phases.Seeking → new.held ≡ old.held
   pub few : new.size_line.count ≤ old.size_line.count + 1
   pub five : length new.size_line.values ≡ length old.size_line.values
-  pub memory : new.phase ≢ phases.Refused Memory
+  pub memory : new.phase ≢ phases.Rejected Memory
 
-pub live-memory : (phase : Phase) → is_live phase ≡ true → phase ≢ phases.Refused Memory
+pub live-memory : (phase : Phase) → is_live phase ≡ true → phase ≢ phases.Rejected Memory
 live-memory phase live e = grind arith
 
 -- whether a reader's allocation failed
-pub refused_memory : (phase : Phase) → (phase ≡ phases.Refused Memory) ⊎ (phase ≢ phases.Refused Memory)
-refused_memory (phases.Refused Memory) = inl refl
-refused_memory phase = inr (λ e. cc)
+pub rejected_memory : (phase : Phase) → (phase ≡ phases.Rejected Memory) ⊎ (phase ≢ phases.Rejected Memory)
+rejected_memory (phases.Rejected Memory) = inl refl
+rejected_memory phase = inr (λ e. cc)
 
 -- ---- a number
 
@@ -83,10 +83,10 @@ abbrev pub FollowsText : Blocks → List ℕ → List Block → Now → Type 0
 FollowsText r text complete now =
     FollowsBlocks (list_any is_word_byte (open_line text)) r (standing complete now) (ended_numbers (open_line text))
 
-pub judged_gap : (r : Blocks) (last : Line) (b : ℕ) → (is_blank b || is_line_end b) ≡ true
+pub valid_gap : (r : Blocks) (last : Line) (b : ℕ) → (is_blank b || is_line_end b) ≡ true
     → after_byte r last b ≡ (let behind = last_number_ended r (open_number last.digits) in
     if is_line_end b then line_ended behind (has_numbers_alone last.kinds) else behind)
-judged_gap r last b gap = grind (arith, nat_tests)
+valid_gap r last b gap = grind (arith, nat_tests)
 
 -- the outcome of a byte that doesn't end the line
 abbrev pub FollowsOn : Blocks → Line → List ℕ → ℕ → List Block → Now → Type 0
@@ -183,7 +183,7 @@ blank_byte r last text b complete now gap on live five line f =
     grind (arith, nat_tests, list_any-append {X = ℕ}) in
     let ended : ended_numbers (open_line text ++ b ∷ []) ≡ numbers (open_line text) =
     grind (arith, nat_tests, ended_numbers-push) in
-    rw (words, ended, judged_gap r last b gap, on, fault) (number_part _ r last text complete now live five line f)
+    rw (words, ended, valid_gap r last b gap, on, fault) (number_part _ r last text complete now live five line f)
 
 -- any byte that doesn't end the line
 pub byte_on : (r : Blocks) (last : Line) (text : List ℕ) (b : ℕ) (complete : List Block) (now : Now)
@@ -198,16 +198,16 @@ byte_on r last text b complete now on live five line f good = elim (cases_Bool (
 -- ---- the end of a line
 
 -- the end of a line changes no fault
-refused_line : (r next : Blocks) (fault : LayoutFault) (numbered : Bool) → IsRefusal r fault next
-    → IsRefusal r fault (line_ended next numbered)
+rejected_line : (r next : Blocks) (fault : LayoutFault) (numbered : Bool) → IsRejection r fault next
+    → IsRejection r fault (line_ended next numbered)
 unfolding line_ended
-refused_line r next fault numbered refuses = grind arith
+rejected_line r next fault numbered rejects = grind arith
 
 -- the end of a line has the outcome that it has after the line's last number
-outcome_behind : (r between next : Blocks) (stood : Stand) (fault : Option LayoutFault) → Keeps r between
+outcome_after : (r between next : Blocks) (stood : Stand) (fault : Option LayoutFault) → Keeps r between
     → between.held ≡ r.held → Outcome between false stood [] next fault → Outcome r false stood [] next fault
-outcome_behind r between next stood None keeps held o = o
-outcome_behind r between next stood (Some fault) keeps held o = grind arith
+outcome_after r between next stood None keeps held o = o
+outcome_after r between next stood (Some fault) keeps held o = grind arith
 
 pub end_byte : (r : Blocks) (last : Line) (text : List ℕ) (b : ℕ) (complete : List Block) (now : Now)
     → is_line_end b ≡ true → is_live r.phase ≡ true
@@ -225,8 +225,8 @@ end_byte r last text b complete seeking end live five lines line f good =
     let sought : behind.phase ≡ phases.Seeking = rw (lt-ltb _ _ few) at part.now.phase in
     let outcome = sought_line behind complete (open_line text) (has_numbers_alone last.kinds) part sought few
     (rw (line.has_digit, line.has_word)) in
-    rw (judged_gap r last b (or_right (is_blank b) _ end), end)
-    (outcome_behind r behind _ _ _ keeps (keeps.held sought) (rw (keeps.layout, keeps.line ∙ lines) at outcome))
+    rw (valid_gap r last b (or_right (is_blank b) _ end), end)
+    (outcome_after r behind _ _ _ keeps (keeps.held sought) (rw (keeps.layout, keeps.line ∙ lines) at outcome))
 end_byte r last text b complete (inside block) end live five lines line f good =
     let behind : Blocks = last_number_ended r (open_number last.digits) in
     let numbered = has_numbers_alone last.kinds in
@@ -234,7 +234,7 @@ end_byte r last text b complete (inside block) end live five lines line f good =
     let gap = or_right (is_blank b) (is_line_end b) end in
     let unmixed : is_mixed (open_line text) ≡ false = grind arith in
     let part = number_part _ r last text complete (inside block) live five line f in
-    rw (judged_gap r last b gap, end, gap_fault r.layout block text b gap)
+    rw (valid_gap r last b gap, end, gap_fault r.layout block text b gap)
     (elim (cases_option (number_fault r.layout (inside block) text)) [
       | inl none ↦
           let due : are_due r.layout block.size (block.numbers ++ numbers (open_line text)) ≡ true =
@@ -242,6 +242,6 @@ end_byte r last text b complete (inside block) end live five lines line f good =
           let next = body_line behind complete block (open_line text) numbered (rw none at part) unmixed
           (rw (← keeps.layout) at due) in
           rw none (rw keeps.layout at next)
-      | inr one ↦ rw one.1 (refused_line r behind one.0 numbered (rw one.1 at part))
+      | inr one ↦ rw one.1 (rejected_line r behind one.0 numbered (rw one.1 at part))
     ])
 end_byte r last text b complete lost end live five lines line f good = absurd f.now

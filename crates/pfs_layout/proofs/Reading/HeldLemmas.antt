@@ -9,7 +9,7 @@ use Rattle.pfs_layout.specs.declared.blocks.Phase.TheVariants as phases
 use Rattle.pfs_layout.specs.Reader.{most_times}
 use Rattle.pfs_layout.proofs.Files.GoodLemmas.{stand-push, sound}
 use Rattle.pfs_layout.proofs.Files.DueLemmas.{no_more_than_due}
-use Rattle.pfs_layout.proofs.Reading.ByteSteps.{refused_memory}
+use Rattle.pfs_layout.proofs.Reading.ByteSteps.{rejected_memory}
 use Rattle.pfs_layout.proofs.Reading.PieceLemmas.{whole_text}
 
 -- ---- blocks with no more times than their size says
@@ -38,7 +38,7 @@ few_times layout k text right =
 pub few_in : (phase : Phase) (r : Fields) (text : List ℕ) → StandsIn phase r text
     → HoldsFew r.layout r.wanted text r.held
 unfolding block_read
-few_in (phases.Refused fault) r text s = grind (arith, s, few_times r.layout r.wanted s.front s.sound)
+few_in (phases.Rejected fault) r text s = grind (arith, s, few_times r.layout r.wanted s.front s.sound)
 few_in phase r text s = grind (arith, append-nil text, few_times r.layout r.wanted text s.sound, s.blocks.held)
 
 -- after a piece
@@ -51,7 +51,7 @@ feed_few old text piece (Ok progress) new m none =
     let whole : text ++ piece ≡ h.front ++ (h.rest ++ left) =
     cc (whole_text text piece progress.used, h.whole, append_assoc h.front h.rest left) in
     record { front = h.front; rest = h.rest ++ left; whole = whole; few = h.few }
-feed_few old text piece (Err fault) new m none = elim (refused_memory (phases.Refused fault)) [
+feed_few old text piece (Err fault) new m none = elim (rejected_memory (phases.Rejected fault)) [
   | inl memory ↦ grind arith
-  | inr other ↦ rw (m.layout, m.wanted) at (few_in new.phase new (text ++ piece) (m.refused (λ e. other (rw e))))
+  | inr other ↦ rw (m.layout, m.wanted) at (few_in new.phase new (text ++ piece) (m.rejected (λ e. other (rw e))))
 ]

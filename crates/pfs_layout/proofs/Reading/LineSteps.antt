@@ -10,7 +10,7 @@ use Rattle.pfs_layout.proofs.Words.{no_numbers, line_ended, block_of, HoldsNumbe
 use Rattle.std.proofs.lemmas.Bool.{not-true}
 use Rattle.pfs_layout.specs.declared.blocks.Phase.TheVariants as phases
 use Rattle.pfs_layout.specs.Block.{after_size}
-use Rattle.pfs_layout.specs.Private.Step.{stated_by, block_begun, size_judged, at_next_line, line_ended_in}
+use Rattle.pfs_layout.specs.Private.Step.{stated_by, block_begun, size_validated, at_next_line, line_ended_in}
 use Rattle.pfs_layout.proofs.Files.DueLemmas.{size_within}
 use Rattle.pfs_layout.proofs.Reading.NumberSteps.{Outcome}
 
@@ -86,7 +86,7 @@ seeks_on r complete more f = search (holds_none)
 size_step : (stated kept : Option Size) (r : Blocks) (complete : List Block) → Clips kept stated
     → FollowsBlocks false (at_next_line r) (standing complete seeking) [] → r.complete < r.wanted
     → Outcome r false (standing complete (after_size stated)) []
-    (size_judged (at_next_line r) r.line kept) (size_fault stated r.line)
+    (size_validated (at_next_line r) r.line kept) (size_fault stated r.line)
 size_step None kept r complete same f few =
     rw same (record { phase = refl; held = refl; layout = refl; wanted = refl })
 size_step (Some size) kept r complete same f few = elim (cases_Bool (is_within_limits size)) [
@@ -140,10 +140,10 @@ body_line r complete block line numbered f unmixed due =
     let few : length complete < r.wanted = omega (arith, f.complete, f.now.few) in
     let count : length whole.numbers + 0 ≡ length block.numbers + length (numbers line) =
     omega (arith, length-append block.numbers (numbers line)) in
-    rw (unmixed, due) (elim (cases_lt r.body.judged r.body.due) [
+    rw (unmixed, due) (elim (cases_lt r.body.validated r.body.due) [
       | inl less ↦
           let short : length whole.numbers ≢ due_count r.layout block.size =
-          λ z. omega (arith, body.due, body.judged, count) in
+          λ z. omega (arith, body.due, body.validated, count) in
           rw (ended_in r numbered phases.Body f.now.phase, lt-ltb _ _ less, ne_eqb _ _ short) (record {
             complete = f.complete;
             now = record { phase = f.now.phase; few = f.now.few; fits = f.now.fits; body = rw count body };
@@ -152,7 +152,7 @@ body_line r complete block line numbered f unmixed due =
           })
       | inr all ↦
           let full : length whole.numbers ≡ due_count r.layout block.size =
-          omega (arith, body.due, body.judged, body.few, count) in
+          omega (arith, body.due, body.validated, body.few, count) in
           rw (ended_in r numbered phases.Body f.now.phase, le-ltb _ _ all, eq-eqb _ _ full) (record {
             complete = omega (arith, f.complete, length_push complete whole);
             now = record { phase = grind (arith, nat_tests); numbers = λ plain. holds_none };

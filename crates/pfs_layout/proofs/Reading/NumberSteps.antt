@@ -6,8 +6,8 @@ use Rattle.pfs_layout.proofs.Words.{instance_of, min, Bool, true, ap, Option, So
 use Rattle.pfs_layout.proofs.Words.{◌==◌, inl, inr, option_map, cases_Bool, eqb-true, ne_eqb}
 use Rattle.pfs_layout.proofs.Words.{lt-ltb, nat_tests, length_push, append_assoc, length-append}
 use Rattle.pfs_layout.proofs.Words.{mod-mul-add, Problem, CEILING, SizeLine, is_due}
-use Rattle.pfs_layout.proofs.Words.{due_at, Stand, Block, Now, seeking, inside, lost, standing, refused}
-use Rattle.pfs_layout.proofs.Words.{body_judged, number_ended, time_count, HoldsNumbers}
+use Rattle.pfs_layout.proofs.Words.{due_at, Stand, Block, Now, seeking, inside, lost, standing, rejected}
+use Rattle.pfs_layout.proofs.Words.{body_validated, number_ended, time_count, HoldsNumbers}
 use Rattle.pfs_layout.proofs.Words.{FollowsBody, is_live, block_begun_by, block_of, FollowsBlocks}
 use Rattle.pfs_layout.proofs.Words.{LayoutFault, Blocks, misfit}
 use Rattle.std.proofs.Math.ListN.{set}
@@ -140,19 +140,19 @@ module _ {wanted : Bool} {layout : Layout} {size : Size} {ns : List ℕ} (v : �
 -- ---- outcomes
 
 -- only the fault has changed
-pub record IsRefusal (old : Blocks) (fault : LayoutFault) (new : Blocks) : Type 0 where
-  pub phase : new.phase ≡ phases.Refused fault
+pub record IsRejection (old : Blocks) (fault : LayoutFault) (new : Blocks) : Type 0 where
+  pub phase : new.phase ≡ phases.Rejected fault
   pub held : new.held ≡ old.held
   pub layout : new.layout ≡ old.layout
   pub wanted : new.wanted ≡ old.wanted
 
-pub refuses : (r : Blocks) (fault : LayoutFault) → IsRefusal r fault (refused r fault)
-refuses r fault = record { phase = refl; held = refl; layout = refl; wanted = refl }
+pub rejects : (r : Blocks) (fault : LayoutFault) → IsRejection r fault (rejected r fault)
+rejects r fault = record { phase = refl; held = refl; layout = refl; wanted = refl }
 
 -- the fault, or what the fields mean after these ended numbers of the line, which has a word byte or not
 abbrev pub Outcome : Blocks → Bool → Stand → List ℕ → Blocks → Option LayoutFault → Type 0
 Outcome r has_word stood more next None = FollowsBlocks has_word next stood more
-Outcome r has_word stood more next (Some fault) = IsRefusal r fault next
+Outcome r has_word stood more next (Some fault) = IsRejection r fault next
 
 -- the fault of a number after these
 abbrev pub misfit_in : Layout → Now → List ℕ → ℕ → ℕ → Option LayoutFault
@@ -256,10 +256,10 @@ module _ {has_word : Bool} (r : Blocks) (complete : List Block) (block : Block) 
       let due : Due = due_next r.layout r.body in
       let clip : is_due due (min CEILING v) ≡ is_due due v =
       grind (arith, nat_tests, follows.machine, follows.machines, within.sizes.few_machines) in
-      let is : number_ended r (min CEILING v) first ≡ body_judged r (min CEILING v) first = rw f.now.phase in
+      let is : number_ended r (min CEILING v) first ≡ body_validated r (min CEILING v) first = rw f.now.phase in
       rw (is, due_is f.now.body, clip) (elim (cases_Bool (is_due due v)) [
         | inl is ↦ rw is (due_counts due refl is)
-        | inr other ↦ rw other (refuses r _)
+        | inr other ↦ rw other (rejects r _)
       ])
 
 -- one more number, in any state

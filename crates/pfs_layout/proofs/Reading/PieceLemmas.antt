@@ -4,7 +4,7 @@ use Rattle.pfs_layout.proofs.Words.{take, get_or, refl, ◌∙◌, arith, inl, i
 use Rattle.pfs_layout.proofs.Words.{LONGEST_INPUT, Memory, Line, Blocks, is_digit, after_byte, IsReady, open_number}
 use Rattle.pfs_layout.proofs.Words.{Fields, fields, Follows, StandsAfter, EndsWantedSize, drop, subst, Some, Option}
 use Rattle.pfs_layout.proofs.Words.{append-nil, take_all, take-append-drop, LayoutFault, TooLong, Phase, byte_fault}
-use Rattle.pfs_layout.proofs.Words.{refused, block_read, number_ended, StandsIn, IsReader, FeedMeets, is_blank}
+use Rattle.pfs_layout.proofs.Words.{rejected, block_read, number_ended, StandsIn, IsReader, FeedMeets, is_blank}
 use Rattle.pfs_layout.proofs.Words.{last_number_ended, is_live}
 use Rattle.pfs_layout.specs.declared.scan.Number.{Number}
 use Rattle.pfs_layout.specs.Private.Step.{TakeMeets}
@@ -14,11 +14,11 @@ use Rattle.pfs_layout.specs.Private.Step.{Pushes, LacksMemory}
 use Rattle.pfs_layout.proofs.Files.GoodLemmas.{stand_of, long_fault, sound}
 use Rattle.pfs_layout.proofs.Reading.ReaderSteps.{carries, live_follows, step_stands, follows_ready, wants_more}
 use Rattle.pfs_layout.proofs.Reading.ReaderSteps.{sought_now, begun_now}
-use Rattle.pfs_layout.proofs.Reading.ByteSteps.{live-memory, refused_memory, live_few}
-use Rattle.pfs_layout.specs.Reader.{IsRefused, progress_of}
+use Rattle.pfs_layout.proofs.Reading.ByteSteps.{live-memory, rejected_memory, live_few}
+use Rattle.pfs_layout.specs.Reader.{IsRejected, progress_of}
 use Rattle.pfs_layout.proofs.Published.PlaceLemmas.{byte_fault-push}
 use Rattle.pfs_layout.proofs.Files.InputFaults.{of_place}
-use Rattle.pfs_layout.proofs.Files.VerdictLemmas.{faultless_behind}
+use Rattle.pfs_layout.proofs.Files.VerdictLemmas.{faultless_after}
 use Rattle.pfs_layout.proofs.Files.EndLemmas.{byte_fault-more}
 
 -- only a line's end begins a block
@@ -59,14 +59,14 @@ pub record TakenTo (old now : Fields) (piece : List ℕ) (i : ℕ) : Type 0 wher
 
 module _ {old now : Fields} {piece : List ℕ} {i : ℕ} (t : TakenTo old now piece i) where
   -- a digit that doesn't mix the line changes no block
-  pub digit_judged : (is_digit (get_or piece i 0) && not now.kinds.has_word) ≡ true
+  pub digit_validated : (is_digit (get_or piece i 0) && not now.kinds.has_word) ≡ true
       → now.blocks ≡ after_byte now.blocks now.last (get_or piece i 0)
-  digit_judged quiet = grind (arith, nat_tests)
+  digit_validated quiet = grind (arith, nat_tests)
 
   -- a blank ends the last number, if there is one
-  pub blank_judged : {number : Option Number} → is_blank (get_or piece i 0) ≡ true → number ≡ open_number now.digits
+  pub blank_validated : {number : Option Number} → is_blank (get_or piece i 0) ≡ true → number ≡ open_number now.digits
       → last_number_ended now.blocks number ≡ after_byte now.blocks now.last (get_or piece i 0)
-  blank_judged blank is = rw (blank, is)
+  blank_validated blank is = rw (blank, is)
 
 module _ {old now : Fields} {piece : List ℕ} {i : ℕ} (t : TakenTo old now piece i) (within : i < length piece)
     (room : old.digits.offset + length piece ≤ LONGEST_INPUT) where
@@ -83,13 +83,13 @@ module _ {old now : Fields} {piece : List ℕ} {i : ℕ} (t : TakenTo old now pi
   taken_ready some = follows_ready (t.follows some.0 some.1) t.live
 
   module _ {after : Line} {next : Blocks} (on : Pushes now.last (get_or piece i 0) after)
-      (judges : next.phase ≢ phases.Refused Memory → next ≡ after_byte now.blocks now.last (get_or piece i 0)) where
+      (validates : next.phase ≢ phases.Rejected Memory → next ≡ after_byte now.blocks now.last (get_or piece i 0)) where
     -- unless the allocation failed, the blocks are those after the byte
-    well_then : next.phase ≢ phases.Refused Memory → (next.layout ≡ old.layout) × (next.wanted ≡ old.wanted)
+    well_then : next.phase ≢ phases.Rejected Memory → (next.layout ≡ old.layout) × (next.wanted ≡ old.wanted)
         × ((text : List ℕ) → StandsAfter old text → StandsAfter (fields after next) (text ++ take (i + 1) piece))
     well_then well =
         let c = carries now.blocks now.last (get_or piece i 0) t.live in
-        rw (judges well) (
+        rw (validates well) (
           c.layout ∙ t.layout,
           c.wanted ∙ t.wanted,
           λ text s. rw (take_more piece i 0 within, ← append_assoc)
@@ -106,17 +106,17 @@ module _ {old now : Fields} {piece : List ℕ} {i : ℕ} (t : TakenTo old now pi
         search no_more_then
 
     -- after the last byte
-    pub taken_end : (next.phase ≡ phases.Refused Memory
+    pub taken_end : (next.phase ≡ phases.Rejected Memory
         → LacksMemory now.blocks (after_byte now.blocks now.last (get_or piece i 0)) next)
         → (text : List ℕ) → StandsAfter old text
         → TakeMeets old text piece (after.digits.offset - old.digits.offset) (fields after next)
     taken_end wants text s =
         let used : after.digits.offset - old.digits.offset ≡ i + 1 = omega (arith, t.offset, on.offset) in
         let no_more = no_more_then text s in
-        rw used (elim (refused_memory next.phase) [
+        rw used (elim (rejected_memory next.phase) [
           | inr well ↦ let then = well_then well in grind (arith, then, no_more)
-          | inl refused ↦
-              let lacks = wants refused in
+          | inl rejected ↦
+              let lacks = wants rejected in
               let f = t.follows text s in
               let size = wanted_size (get_or piece i 0) f t.live (short text s) on lacks in
               grind (arith, lacks.keeps, t, size, none_yet f lacks, no_more)
@@ -131,22 +131,22 @@ module _ {old now : Fields} {piece : List ℕ} {i : ℕ} (t : TakenTo old now pi
 -- ---- after a fault, and after the wanted block
 
 -- a reader whose allocation failed has read no text, since no byte has this fault
-pub memory_nowhere : (r : Fields) (text : List ℕ) → r.phase ≡ phases.Refused Memory → StandsAfter r text → ⊥
+pub memory_nowhere : (r : Fields) (text : List ℕ) → r.phase ≡ phases.Rejected Memory → StandsAfter r text → ⊥
 memory_nowhere r text e s =
-    let refused : IsRefused r text Memory = subst (λ p. StandsIn p r text) e s in
-    absurd (cc (rw refused.here at (of_place r.layout refused.front (Some refused.byte) r.wanted)))
+    let rejected : IsRejected r text Memory = subst (λ p. StandsIn p r text) e s in
+    absurd (cc (rw rejected.here at (of_place r.layout rejected.front (Some rejected.byte) r.wanted)))
 
 -- the fault of a reader is that of the text
-pub refused_fault : (r : Fields) (text : List ℕ) (fault : LayoutFault) → IsRefused r text fault
+pub rejected_fault : (r : Fields) (text : List ℕ) (fault : LayoutFault) → IsRejected r text fault
     → byte_fault r.layout r.wanted text ≡ Some fault
-refused_fault r text fault f =
+rejected_fault r text fault f =
     rw (f.whole, ← append_assoc f.front (f.byte ∷ []) f.rest)
     (byte_fault-more r.layout r.wanted _ f.rest fault (rw (byte_fault-push, f.sound, f.here)))
 
 -- a reader with a fault has read every longer text too
-refused_more : (r : Fields) (text more : List ℕ) (fault : LayoutFault) → IsRefused r text fault
-    → IsRefused r (text ++ more) fault
-refused_more r text more fault f = grind (arith, f, append_assoc {A = ℕ})
+rejected_more : (r : Fields) (text more : List ℕ) (fault : LayoutFault) → IsRejected r text fault
+    → IsRejected r (text ++ more) fault
+rejected_more r text more fault f = grind (arith, f, append_assoc {A = ℕ})
 
 -- when a reader is done, the wanted block is complete
 pub done_enough : (r : Fields) (text : List ℕ) → Follows r text → r.phase ≡ phases.Done
@@ -178,14 +178,14 @@ module _ {old new : Fields} {text piece : List ℕ} {used : ℕ} (m : TakeMeets 
       by_phase : (p : Phase) → new.phase ≡ p → FeedMeets old text piece (progress_of p used) new
       by_phase phases.Done e =
           let follows : Follows new taken = subst (λ p. StandsIn p new taken) e (m.stands (λ z. cc)) in
-          let right = faultless_behind new.layout new.wanted taken (drop used piece) (done_enough new taken follows e)
+          let right = faultless_after new.layout new.wanted taken (drop used piece) (done_enough new taken follows e)
           follows.sound in
           grind (arith, m, e, whole_text text piece used)
-      by_phase (phases.Refused fault) e =
-          let stood : fault ≢ Memory → IsRefused new (text ++ piece) fault = λ other.
+      by_phase (phases.Rejected fault) e =
+          let stood : fault ≢ Memory → IsRejected new (text ++ piece) fault = λ other.
           let here = subst (λ p. StandsIn p new taken) e (m.stands (λ z. other (cc))) in
-          rw (whole_text text piece used) (refused_more new taken (drop used piece) fault here) in
-          grind (arith, m.memory, m.layout, m.wanted, stood, refused_fault new (text ++ piece) fault)
+          rw (whole_text text piece used) (rejected_more new taken (drop used piece) fault here) in
+          grind (arith, m.memory, m.layout, m.wanted, stood, rejected_fault new (text ++ piece) fault)
       by_phase phase e =
           let live : is_live new.phase ≡ true = rw e in
           let all : used ≡ length piece = whole live in
@@ -209,7 +209,7 @@ front_meets piece room m within few = grind (arith, m, take-take, get_or-take, l
 pub long_meets : {old mid : Fields} {text : List ℕ} {used : ℕ} (piece : List ℕ) (room : ℕ)
     → TakeMeets old text (take room piece) used mid → used ≡ room → mid.digits.offset ≡ LONGEST_INPUT
     → room < length piece → is_live mid.phase ≡ true
-    → TakeMeets old text piece (room + 1) (fields mid.last (refused mid.blocks TooLong))
+    → TakeMeets old text piece (room + 1) (fields mid.last (rejected mid.blocks TooLong))
 unfolding block_read
 long_meets {mid = mid} {text = text} piece room m all full within live =
     let front = front_meets piece room m (omega arith) (omega arith) in

@@ -20,9 +20,9 @@ use Rattle.pfs_layout.proofs.Published.PlaceLemmas.{byte_fault-push}
 use Rattle.pfs_layout.proofs.Files.GoodLemmas.{ended_none, fault_within_limit, place_fault, GoodNow, stand_of, sound}
 use Rattle.pfs_layout.proofs.Files.GoodLemmas.{stand_of-on, stand_of-end, open_line-on, open_line-end}
 use Rattle.pfs_layout.proofs.Files.DueLemmas.{size_within}
-use Rattle.pfs_layout.proofs.Reading.NumberSteps.{IsRefusal, Outcome, keeping_of}
+use Rattle.pfs_layout.proofs.Reading.NumberSteps.{IsRejection, Outcome, keeping_of}
 use Rattle.pfs_layout.proofs.Words.{after_byte}
-use Rattle.pfs_layout.proofs.Reading.ByteSteps.{live_few, judged_gap, byte_on, end_byte, live-memory}
+use Rattle.pfs_layout.proofs.Reading.ByteSteps.{live_few, valid_gap, byte_on, end_byte, live-memory}
 use Rattle.pfs_layout.proofs.Reading.ByteSteps.{keeps_last, line_end_keeps}
 
 -- ---- the last line with one byte more
@@ -109,21 +109,21 @@ carries r last b live =
     let number = open_number last.digits in
     let ends = line_end_keeps (last_number_ended r number) (has_numbers_alone last.kinds) in
     elim (cases_Bool (is_blank b || is_line_end b)) [
-      | inl gap ↦ rw (judged_gap r last b gap) (grind (arith, keeps_last r number live, ends))
+      | inl gap ↦ rw (valid_gap r last b gap) (grind (arith, keeps_last r number live, ends))
       | inr other ↦ grind (arith, nat_tests)
     ]
 
 -- ---- the blocks after a byte
 
 -- the fault, or blocks that follow the text in this layout
-abbrev OutcomeBehind : Blocks → Layout → List ℕ → Blocks → Option LayoutFault → Type 0
-OutcomeBehind r layout text next fault = Outcome r (list_any is_word_byte (open_line text)) (stand_of layout text)
+abbrev OutcomeAfter : Blocks → Layout → List ℕ → Blocks → Option LayoutFault → Type 0
+OutcomeAfter r layout text next fault = Outcome r (list_any is_word_byte (open_line text)) (stand_of layout text)
     (ended_numbers (open_line text)) next fault
 
 -- one more byte, by its kind, of a reader that needs more
 outcome : (r : Fields) (text : List ℕ) (b : ℕ) → Follows r text → is_live r.phase ≡ true
     → GoodNow r.layout (stand_of r.layout text).now (open_line text)
-    → OutcomeBehind r.blocks r.layout (text ++ b ∷ []) (after_byte r.blocks r.last b)
+    → OutcomeAfter r.blocks r.layout (text ++ b ∷ []) (after_byte r.blocks r.last b)
     (fault_within_limit r.layout (stand_of r.layout text).now text b)
 outcome r text b f live good = elim (cases_Bool (is_line_end b)) [
   | inr on ↦ rw (stand_of-on r.layout text b on, open_line-on text b on)
@@ -147,10 +147,10 @@ pub wants_more : {r : Fields} {text : List ℕ} → Follows r text → is_live r
 wants_more f live = live_few _ _ _ _ f.blocks.now live
 
 module _ {r : Fields} {text : List ℕ} (f : Follows r text) (last : Line) (next : Blocks) (b : ℕ) where
-  stands_refused : (fault : LayoutFault) → fault_of_place r.layout r.wanted text (Some b) ≡ Some fault
-      → IsRefusal r.blocks fault next → StandsAfter (fields last next) (text ++ b ∷ [])
+  stands_rejected : (fault : LayoutFault) → fault_of_place r.layout r.wanted text (Some b) ≡ Some fault
+      → IsRejection r.blocks fault next → StandsAfter (fields last next) (text ++ b ∷ [])
   unfolding block_read
-  stands_refused fault here n = rw n.phase (record {
+  stands_rejected fault here n = rw n.phase (record {
     front = text;
     byte = b;
     rest = [];
@@ -162,7 +162,7 @@ module _ {r : Fields} {text : List ℕ} (f : Follows r text) (last : Line) (next
 
   follows_on : Pushes r.last b last → length text < LONGEST_INPUT
       → fault_of_place r.layout r.wanted text (Some b) ≡ None
-      → Carries r.blocks next (is_line_end b) → OutcomeBehind r.blocks r.layout (text ++ b ∷ []) next None
+      → Carries r.blocks next (is_line_end b) → OutcomeAfter r.blocks r.layout (text ++ b ∷ []) next None
       → Follows (fields last next) (text ++ b ∷ [])
   follows_on pushes short here c blocks =
       let count = length_push text b in
@@ -174,7 +174,7 @@ module _ {r : Fields} {text : List ℕ} (f : Follows r text) (last : Line) (next
         line = rw (c.line, f.line, count_push text b) (omega arith);
         few_numbers = omega (arith, c.few, f.few_numbers);
         five_values = elim c.five [ inl same ↦ same ∙ f.five_values | inr five ↦ five ];
-        blocks = subst (λ l. OutcomeBehind r.blocks l (text ++ b ∷ []) next None) (sym c.layout) blocks;
+        blocks = subst (λ l. OutcomeAfter r.blocks l (text ++ b ∷ []) next None) (sym c.layout) blocks;
       }
 
 -- one byte more
@@ -191,7 +191,7 @@ step_stands {r = r} {text = text} {after = after} b f live short pushes =
       | inl none ↦
           let carried = carries r.blocks r.last b live in
           stands_of (follows_on f after next b pushes short (place ∙ none) carried (rw none at out))
-      | inr one ↦ stands_refused f after next b one.0 (place ∙ one.1) (rw one.1 at out)
+      | inr one ↦ stands_rejected f after next b one.0 (place ∙ one.1) (rw one.1 at out)
     ]
 
 -- ---- what a reader that needs more bytes may do next
@@ -222,7 +222,7 @@ can_count {r = r} {text = text} f phase =
     let kept = keeping_of r.blocks complete block more least follows.instance follows.held in
     let all : Block = record { size = block.size; numbers = block.numbers ++ more } in
     let count = length-append block.numbers more in
-    let held : r.held ≤ r.body.judged = grind (arith, kept.held, body.judged) in
+    let held : r.held ≤ r.body.validated = grind (arith, kept.held, body.validated) in
     let due = due_few r.layout block.size follows.now.fits in
     record {
       job = body.job;

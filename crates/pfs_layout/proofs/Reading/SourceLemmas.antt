@@ -2,7 +2,7 @@
 use Rattle.pfs_layout.proofs.Words.{◌≡◌, ◌≢◌, ℕ, ◌<◌, ◌≤◌, true, false, List, [], ◌++◌, length, take, drop, refl, subst}
 use Rattle.pfs_layout.proofs.Words.{arith, Option, Some, inl, inr, Bool, ap, Result, Ok, Err, slice_index, ◌↔◌}
 use Rattle.pfs_layout.proofs.Words.{result_err, append_assoc, take_all, limits, Problem, Layout, LayoutFault, Read}
-use Rattle.pfs_layout.proofs.Words.{Memory, Progress, IsInstanceFile, RefusesInstance, is_live, Fields, Follows}
+use Rattle.pfs_layout.proofs.Words.{Memory, Progress, IsInstanceFile, RejectsInstance, is_live, Fields, Follows}
 use Rattle.pfs_layout.proofs.Words.{StandsIn, StandsAfter, EndsWantedSize, FeedMeets, FinishMeets, byte_fault}
 use Rattle.std.specs.Prelude.{IfSome}
 use Rattle.std.specs.Io.KnownBytes.{Keeps, Consumes}
@@ -10,13 +10,13 @@ use Rattle.pfs_layout.specs.declared.blocks.Phase.TheVariants as phases
 use Rattle.pfs_layout.specs.declared.reader.TheConstants.{PIECE}
 use Rattle.pfs_layout.specs.Reader.{IsUndecided, ReadsAsFar}
 use Rattle.pfs_layout.proofs.Words.{cases_option}
-use Rattle.pfs_layout.proofs.Files.EndLemmas.{fault_stays, free_behind}
-use Rattle.pfs_layout.proofs.Reading.PieceLemmas.{whole_text, refused_fault, done_enough, live_wants}
+use Rattle.pfs_layout.proofs.Files.EndLemmas.{fault_stays, free_after}
+use Rattle.pfs_layout.proofs.Reading.PieceLemmas.{whole_text, rejected_fault, done_enough, live_wants}
 use Rattle.pfs_layout.proofs.Reading.ReaderSteps.{live_follows}
 use Rattle.pfs_layout.proofs.Files.FileLemmas.{completes_file}
 use Rattle.pfs_layout.proofs.Files.VerdictLemmas.{enough_holds}
 use Rattle.std.proofs.lemmas.Bool.{both_ways}
-use Rattle.pfs_layout.proofs.Files.InputFaults.{is_input_fault, refused_input}
+use Rattle.pfs_layout.proofs.Files.InputFaults.{is_input_fault, rejected_input}
 
 -- ---- which faults `read_block` can return
 
@@ -24,14 +24,14 @@ use Rattle.pfs_layout.proofs.Files.InputFaults.{is_input_fault, refused_input}
 pub finish_named : {r : Fields} {text : List ℕ} {outcome : Result Problem LayoutFault} → FinishMeets r text outcome
     → (fault : LayoutFault) → is_input_fault fault ≡ false → outcome ≢ Err fault
 finish_named {r} {text} meets fault other e =
-    both_ways _ other (refused_input r.layout text r.wanted fault ((meets.refused fault).0 e))
+    both_ways _ other (rejected_input r.layout text r.wanted fault ((meets.rejected fault).0 e))
 
 -- a piece has no other fault either, unless the allocation failed
 pub feed_named : {r new : Fields} {text piece : List ℕ} {found : LayoutFault} → FeedMeets r text piece (Err found) new
     → (fault : LayoutFault) → fault ≢ Memory → is_input_fault fault ≡ false → found ≢ fault
 feed_named {r} {text} {piece} meets fault no_memory other e =
     let here = (meets.exact (λ z. no_memory (cc)) fault).0 (ap Err e) in
-    both_ways _ other (refused_input r.layout _ r.wanted fault (fault_stays r.layout _ [] r.wanted fault here))
+    both_ways _ other (rejected_input r.layout _ r.wanted fault (fault_stays r.layout _ [] r.wanted fault here))
 
 -- if P is false and the device has not failed, then P holds exactly if the device has failed
 pub never_failed : {P : Type 0} {failed : Bool} → failed ≡ false → ¬ P → P ↔ (failed ≡ true)
@@ -56,9 +56,9 @@ module _ {layout : Layout} {k : ℕ} {first left : Option (List ℕ)} {r : Field
       → (more : List ℕ) × (next ≡ Some more) × (text ≡ (t.front ++ piece) ++ more)
   behind text e = let rest = t.told text e in grind (arith, append_assoc {A = ℕ})
 
-  told_behind : (P : List ℕ → Type 0) → ((more : List ℕ) → next ≡ Some more → P ((t.front ++ piece) ++ more))
+  reported_after : (P : List ℕ → Type 0) → ((more : List ℕ) → next ≡ Some more → P ((t.front ++ piece) ++ more))
       → IfSome first P
-  told_behind P all = elim (cases_option first) [
+  reported_after P all = elim (cases_option first) [
     | inl none ↦ rw none tt
     | inr some ↦ let more = behind some.0 some.1 in rw (some.1, more.2) (all more.0 more.1)
   ]
@@ -71,13 +71,13 @@ module _ {layout : Layout} {k : ℕ} {first left : Option (List ℕ)} {r : Field
       let stands : StandsAfter new (t.front ++ piece) = rw all at m.ok.1 in
       let no_fault : (fault : LayoutFault) → byte_fault new.layout new.wanted (t.front ++ piece) ≢ Some fault =
       λ fault e. cc ((m.exact (λ z. cc) fault).1 (rw (m.layout, m.wanted) at e)) in
-      let live : is_live new.phase ≡ true = grind (arith, m.done, no_fault, refused_fault new (t.front ++ piece)) in
+      let live : is_live new.phase ≡ true = grind (arith, m.done, no_fault, rejected_fault new (t.front ++ piece)) in
       grind (arith, m, t, stands, live, behind)
 
   -- the piece has a fault
   pub reading_fault : {new : Fields} {fault : LayoutFault} → FeedMeets r t.front piece (Err fault) new → fault ≢ Memory
-      → IfSome first (λ bytes. RefusesInstance layout bytes k fault)
-  reading_fault {fault} m other = told_behind _ (λ more e.
+      → IfSome first (λ bytes. RejectsInstance layout bytes k fault)
+  reading_fault {fault} m other = reported_after _ (λ more e.
       let here = (m.exact (λ z. other (cc)) fault).0 refl in
       rw (t.layout_is, t.wanted_is) at (fault_stays r.layout (t.front ++ piece) more r.wanted fault here))
 
@@ -95,8 +95,8 @@ module _ {layout : Layout} {k : ℕ} {first left : Option (List ℕ)} {r : Field
       let here = completes_file new.layout front new.wanted held.0 held.1.0 in (
         held.0,
         (meets.file held.0).1 here,
-        told_behind _ (λ more e.
-            let file = (free_behind new.layout front (drop progress.used piece ++ more) new.wanted held.0 follows.some
+        reported_after _ (λ more e.
+            let file = (free_after new.layout front (drop progress.used piece ++ more) new.wanted held.0 follows.some
             follows.sound enough).0 here in
             rw (whole_text t.front piece progress.used, append_assoc front (drop progress.used piece) more)
             (simp (m.layout, t.layout_is, m.wanted, t.wanted_is) at file)),
@@ -109,7 +109,7 @@ module _ {layout : Layout} {k : ℕ} {first left : Option (List ℕ)} {r : Field
       → (fault ≡ Some Memory
       → (n : ℕ) × (n < length piece) × EndsWantedSize layout k (t.front ++ take n piece) (slice_index piece n))
       → IfSome first (λ bytes. ReadsAsFar layout k bytes next fault)
-  reads_piece fault size failed memory = told_behind _ (λ more e.
+  reads_piece fault size failed memory = reported_after _ (λ more e.
       let f = live_follows r t.front t.live t.stands in
       let wanted : IsUndecided layout k t.front = grind (arith, f.sound, live_wants r t.front f t.live, t) in
       search)

@@ -18,7 +18,7 @@ use Rattle.pfs_layout.specs.declared.blocks.Blocks.{Blocks}
 use Rattle.pfs_layout.specs.Lines.{is_digit, is_blank, is_line_end, ended_lines}
 use Rattle.pfs_layout.specs.Block.{Layout, Size, is_within_limits, problem_of, sized, numbers_for, times_in, is_due}
 use Rattle.pfs_layout.specs.Block.{due_by, stand}
-use Rattle.pfs_layout.specs.Refuse.{LayoutFault, fault_of_due}
+use Rattle.pfs_layout.specs.Rejection.{LayoutFault, fault_of_due}
 use Rattle.pfs_layout.specs.Reader.{EndsWantedSize, Fields, FollowsLine, StandsAfter, is_live}
 
 -- ---- the line that is being read
@@ -65,18 +65,18 @@ body_of layout jobs machines = record {
   jobs = jobs;
   machines = machines;
   due = numbers_for layout (jobs * machines);
-  judged = 0;
+  validated = 0;
   job = 0;
   machine = 0;
 }
 
 -- what is due next
 abbrev pub due_next : Layout → Body → Due
-due_next layout body = due_by layout body.due body.machine body.judged
+due_next layout body = due_by layout body.due body.machine body.validated
 
 -- the body after a machine's number
 abbrev pub after_machine : Body → Body
-after_machine body = record body { judged = body.judged + 1 }
+after_machine body = record body { validated = body.validated + 1 }
 
 -- the number after `at` among the first `count` numbers from 0, or 0 after the last
 abbrev pub next_of : ℕ → ℕ → ℕ
@@ -85,12 +85,12 @@ next_of at count = if at + 1 == count then 0 else at + 1
 -- the body after a time, with the job and machine of the next one
 abbrev pub after_time : Layout → Body → Body
 after_time Layout.Taillard body = record body {
-  judged = body.judged + 1;
+  validated = body.validated + 1;
   job = next_of body.job body.jobs;
   machine = if body.job + 1 == body.jobs then next_of body.machine body.machines else body.machine;
 }
 after_time Layout.OrLib body = record body {
-  judged = body.judged + 1;
+  validated = body.validated + 1;
   job = if body.machine + 1 == body.machines then next_of body.job body.jobs else body.job;
   machine = next_of body.machine body.machines;
 }
@@ -98,8 +98,8 @@ after_time Layout.OrLib body = record body {
 -- ---- the blocks
 
 -- the input is rejected with this fault
-abbrev pub refused : Blocks → LayoutFault → Blocks
-refused r fault = record r { phase = Phase.Refused fault }
+abbrev pub rejected : Blocks → LayoutFault → Blocks
+rejected r fault = record r { phase = Phase.Rejected fault }
 
 -- the problem with this time of the body's job on the body's machine
 abbrev pub with_problem_time : Body → ℕ → Problem → Problem
@@ -115,14 +115,14 @@ counted r Due.Time value = record r {
 counted r other value = record r { body = after_machine r.body }
 
 -- after a number of a body: it is counted if it is what is due, and else the input is rejected
-abbrev pub body_judged : Blocks → ℕ → ℕ → Blocks
-body_judged r value first = let due = due_next r.layout r.body in
-    if is_due due value then counted r due value else refused r (fault_of_due due first)
+abbrev pub body_validated : Blocks → ℕ → ℕ → Blocks
+body_validated r value first = let due = due_next r.layout r.body in
+    if is_due due value then counted r due value else rejected r (fault_of_due due first)
 
 -- after a number, in this phase
 abbrev pub number_ended_in : Phase → Blocks → ℕ → ℕ → Blocks
 number_ended_in Phase.Seeking r value first = record r { size_line = with_number r.size_line value }
-number_ended_in Phase.Body r value first = body_judged r value first
+number_ended_in Phase.Body r value first = body_validated r value first
 number_ended_in other r value first = r
 
 -- after a number
@@ -138,10 +138,10 @@ block_begun r size = record r {
 }
 
 -- after a size line: the input is rejected with its fault, or the block begins
-abbrev pub size_judged : Blocks → ℕ → Option Size → Blocks
-size_judged r line None = refused r (LayoutFault.SizeCount line)
-size_judged r line (Some size) =
-    if is_within_limits size then block_begun r size else refused r (LayoutFault.SizeRange line)
+abbrev pub size_validated : Blocks → ℕ → Option Size → Blocks
+size_validated r line None = rejected r (LayoutFault.SizeCount line)
+size_validated r line (Some size) =
+    if is_within_limits size then block_begun r size else rejected r (LayoutFault.SizeRange line)
 
 -- the next line, of which no number was read
 abbrev pub at_next_line : Blocks → Blocks
@@ -150,9 +150,9 @@ at_next_line r = record r { line = r.line + 1; size_line = no_numbers }
 -- after the end of a line, in this phase
 abbrev pub line_ended_in : Phase → Blocks → Bool → Blocks
 line_ended_in Phase.Seeking r is_number_line = if is_number_line
-    then size_judged (at_next_line r) r.line (stated_by r.layout r.size_line)
+    then size_validated (at_next_line r) r.line (stated_by r.layout r.size_line)
     else at_next_line r
-line_ended_in Phase.Body r is_number_line = if nat_lt r.body.judged r.body.due then at_next_line r
+line_ended_in Phase.Body r is_number_line = if nat_lt r.body.validated r.body.due then at_next_line r
     else record (at_next_line r) {
       complete = r.complete + 1;
       phase = if r.complete + 1 == r.wanted then Phase.Done else Phase.Seeking;
@@ -170,7 +170,7 @@ last_number_ended r (Some number) = number_ended r number.value number.first
 
 -- the input is rejected if a line of a block is mixed by the byte at this offset
 abbrev pub mixed_met : Phase → Blocks → ℕ → Blocks
-mixed_met Phase.Body r offset = refused r (LayoutFault.MixedLine offset)
+mixed_met Phase.Body r offset = rejected r (LayoutFault.MixedLine offset)
 mixed_met other r offset = r
 
 -- after this byte, where `last` is the line before it
@@ -185,8 +185,8 @@ after_byte r last b =
 -- the fault of an input that ends after a line end, if the wanted block isn't complete
 abbrev pub end_fault_in : Phase → Blocks → Option LayoutFault
 end_fault_in Phase.Seeking r = Some (LayoutFault.NoBlock r.complete)
-end_fault_in Phase.Body r = Some (LayoutFault.Truncated (times_in r.layout r.body.judged))
-end_fault_in (Phase.Refused fault) r = Some fault
+end_fault_in Phase.Body r = Some (LayoutFault.Truncated (times_in r.layout r.body.validated))
+end_fault_in (Phase.Rejected fault) r = Some fault
 end_fault_in other r = None
 
 abbrev pub end_fault : Blocks → Option LayoutFault
@@ -225,9 +225,9 @@ pub record IsReady (r : Blocks) : Type 0 where
 pub record TakeMeets (old : Fields) (text piece : List ℕ) (used : ℕ) (new : Fields) : Type 0 where
   pub layout : new.layout ≡ old.layout
   pub wanted : new.wanted ≡ old.wanted
-  pub stands : new.phase ≢ Phase.Refused LayoutFault.Memory → StandsAfter new (text ++ take used piece)
-  pub memory : new.phase ≡ Phase.Refused LayoutFault.Memory
+  pub stands : new.phase ≢ Phase.Rejected LayoutFault.Memory → StandsAfter new (text ++ take used piece)
+  pub memory : new.phase ≡ Phase.Rejected LayoutFault.Memory
       → (n : ℕ) × (n < length piece) × EndsWantedSize old.layout old.wanted (text ++ take n piece) (slice_index piece n)
-  pub none : new.phase ≡ Phase.Refused LayoutFault.Memory → new.held ≡ 0
+  pub none : new.phase ≡ Phase.Rejected LayoutFault.Memory → new.held ≡ 0
   pub no_more : (n : ℕ) → n < used
       → length (stand old.layout (ended_lines (text ++ take n piece))).complete < old.wanted

@@ -19,12 +19,12 @@ use Rattle.pfs_order.specs.OrderFile.{IsText, IsSyntaxFault, IsJob, IsRepeated, 
 use Rattle.std.specs.Prelude.{Result, Ok, Err, nat_lt, if◌then◌else◌}
 use Rattle.pfs_order.specs.Sequence.{Sequence}
 use Rattle.pfs_order.specs.Private.Reading.{read_text, on_ok, take_jobs, none_of}
-use Rattle.pfs_order.specs.OrderFile.{HasText, HasJobFault, RefusesOrder, IsOrderFile}
+use Rattle.pfs_order.specs.OrderFile.{HasText, HasJobFault, RejectsOrder, IsOrderFile}
 use Rattle.pfs_order.proofs.Faults.{fault_where_front_ends}
 use Rattle.pfs_order.proofs.Grammar.{IsShort, text_parts, one_text, text_ends, TextRead, read_whole, read_to}
 use Rattle.pfs_order.proofs.Grammar.{text_is_read}
-use Rattle.pfs_order.proofs.JobOrders.{numbered, length-numbered, number_in_range, number_is_new, JudgesJobs}
-use Rattle.pfs_order.proofs.JobOrders.{jobs_judged}
+use Rattle.pfs_order.proofs.JobOrders.{numbered, length-numbered, number_in_range, number_is_new, ValidatesJobs}
+use Rattle.pfs_order.proofs.JobOrders.{jobs_validated}
 
 -- ---- the length of a text
 
@@ -107,23 +107,24 @@ one_fault_of_jobs input one other (jobs, (machines, (makespan, (h, f)))) (others
     one_job_fault jobs one other f (rw (one_text h k).0 g)
 
 -- a text of the grammar is rejected only for its jobs
-refused_jobs : (input : List ℕ) (fault : OrderFault) → IsText input → RefusesOrder input fault → HasJobFault input fault
-refused_jobs input (Syntax p) text h = absurd (h.1.no_text text)
-refused_jobs input (JobRange p) text h = h
-refused_jobs input (Repeated p) text h = h
-refused_jobs input TooLong text h = let fits = text_fits input text in absurd (omega arith)
-refused_jobs input fault text h = absurd h
+rejected_jobs : (input : List ℕ) (fault : OrderFault) → IsText input → RejectsOrder input fault
+    → HasJobFault input fault
+rejected_jobs input (Syntax p) text h = absurd (h.1.no_text text)
+rejected_jobs input (JobRange p) text h = h
+rejected_jobs input (Repeated p) text h = h
+rejected_jobs input TooLong text h = let fits = text_fits input text in absurd (omega arith)
+rejected_jobs input fault text h = absurd h
 
 -- another input is rejected for its length, or else where it can't be completed
-refused_bytes : (input : List ℕ) (p : ℕ) (fault : OrderFault) → IsSyntaxFault input p → RefusesOrder input fault
+rejected_bytes : (input : List ℕ) (p : ℕ) (fault : OrderFault) → IsSyntaxFault input p → RejectsOrder input fault
     → fault ≡ (if nat_lt LONGEST_ORDER_FILE (length input) then TooLong else Syntax p)
-refused_bytes input p (Syntax q) f (few, g) =
+rejected_bytes input p (Syntax q) f (few, g) =
     let same : q ≡ p = omega (arith, f.longest q g.within g.completed, g.longest p f.within f.completed) in
     rw (le-ltb LONGEST_ORDER_FILE (length input) few, same) refl
-refused_bytes input p TooLong f h = rw (lt-ltb LONGEST_ORDER_FILE (length input) h) refl
-refused_bytes input p (JobRange q) f (_, (_, (_, (h, _)))) = absurd (f.no_text (_, (_, (_, h))))
-refused_bytes input p (Repeated q) f (_, (_, (_, (h, _)))) = absurd (f.no_text (_, (_, (_, h))))
-refused_bytes input p fault f h = absurd h
+rejected_bytes input p TooLong f h = rw (lt-ltb LONGEST_ORDER_FILE (length input) h) refl
+rejected_bytes input p (JobRange q) f (_, (_, (_, (h, _)))) = absurd (f.no_text (_, (_, (_, h))))
+rejected_bytes input p (Repeated q) f (_, (_, (_, (h, _)))) = absurd (f.no_text (_, (_, (_, h))))
+rejected_bytes input p fault f h = absurd h
 
 pub text_or_fault : (text : List ℕ) → IsText text ⊎ ((offset : ℕ) × IsSyntaxFault text offset)
 text_or_fault text = elim (text_is_read text) [
@@ -131,20 +132,20 @@ text_or_fault text = elim (text_is_read text) [
   | read_to front rest whole f e ↦ inr (length front, f)
 ]
 
-pub one_refusal : (input : List ℕ) (one other : OrderFault) → RefusesOrder input one → RefusesOrder input other
+pub one_rejection : (input : List ℕ) (one other : OrderFault) → RejectsOrder input one → RejectsOrder input other
     → one ≡ other
-one_refusal input one other h k = elim (text_or_fault input) [
-  | inl text ↦ one_fault_of_jobs input one other (refused_jobs input one text h) (refused_jobs input other text k)
-  | inr (p, f) ↦ refused_bytes input p one f h ∙ sym (refused_bytes input p other f k)
+one_rejection input one other h k = elim (text_or_fault input) [
+  | inl text ↦ one_fault_of_jobs input one other (rejected_jobs input one text h) (rejected_jobs input other text k)
+  | inr (p, f) ↦ rejected_bytes input p one f h ∙ sym (rejected_bytes input p other f k)
 ]
 
 -- ---- orders
 
 pub not_both : (input : List ℕ) (file : StatedOrder) (fault : OrderFault) → IsOrderFile input file
-    → ¬ RefusesOrder input fault
-not_both input file fault h refused =
+    → ¬ RejectsOrder input fault
+not_both input file fault h rejected =
     let text : IsText input = (numbered file.order, (file.machines, (file.makespan, h.has_text))) in
-    let (jobs, (machines, (makespan, (k, f)))) = refused_jobs input fault text refused in
+    let (jobs, (machines, (makespan, (k, f)))) = rejected_jobs input fault text rejected in
     let (i, (before, wrong)) = fault_place (numbered file.order) fault (rw (one_text k h.has_text).0 at f) in
     let size = length-numbered file.order in
     let lt : i < length file.order = omega (arith, before.within) in
@@ -192,29 +193,29 @@ written_file order machines makespan size h stated small =
 
 abbrev pub OrderVerdict : List ℕ → Result StatedOrder OrderFault → Type 0
 OrderVerdict text (Ok file) = IsOrderFile text file
-OrderVerdict text (Err fault) = RefusesOrder text fault
+OrderVerdict text (Err fault) = RejectsOrder text fault
 
-job_refused : (text jobs : List ℕ) (machines : Option ℕ) (makespan : ℕ) (fault : OrderFault)
-    → HasText text jobs machines makespan → IsJobFault jobs fault → RefusesOrder text fault
-job_refused text jobs machines makespan (JobRange p) h f = (jobs, (machines, (makespan, (h, f))))
-job_refused text jobs machines makespan (Repeated p) h f = (jobs, (machines, (makespan, (h, f))))
-job_refused text jobs machines makespan fault h f = absurd f
+job_rejected : (text jobs : List ℕ) (machines : Option ℕ) (makespan : ℕ) (fault : OrderFault)
+    → HasText text jobs machines makespan → IsJobFault jobs fault → RejectsOrder text fault
+job_rejected text jobs machines makespan (JobRange p) h f = (jobs, (machines, (makespan, (h, f))))
+job_rejected text jobs machines makespan (Repeated p) h f = (jobs, (machines, (makespan, (h, f))))
+job_rejected text jobs machines makespan fault h f = absurd f
 
 pub text_verdict : (text : List ℕ) → length text ≤ LONGEST_ORDER_FILE → OrderVerdict text (read_text text)
 unfolding read_text
 text_verdict text few = of (text_is_read text)
   where
     of_jobs : (jobs : List ℕ) (machines : Option ℕ) (makespan : ℕ) → HasText text jobs machines makespan
-        → (read : Result Sequence OrderFault) → JudgesJobs jobs read
+        → (read : Result Sequence OrderFault) → ValidatesJobs jobs read
         → OrderVerdict text (on_ok (λ seq. Ok (stated_order seq.jobs machines makespan)) read)
-    of_jobs jobs machines makespan h (Err fault) j = job_refused text jobs machines makespan fault h j
+    of_jobs jobs machines makespan h (Err fault) j = job_rejected text jobs machines makespan fault h j
     of_jobs jobs machines makespan h (Ok seq) (sequence, numbers) =
         let size : length jobs ≡ length seq.jobs = ap length numbers ∙ length-numbered seq.jobs in
         record { is_order = rw size at sequence; has_text = rw numbers at h }
 
     of : TextRead text → OrderVerdict text (read_text text)
     of (read_whole jobs machines makespan h e) =
-        rw e (of_jobs jobs machines makespan h (take_jobs jobs (none_of (length jobs))) (jobs_judged jobs))
+        rw e (of_jobs jobs machines makespan h (take_jobs jobs (none_of (length jobs))) (jobs_validated jobs))
     of (read_to front rest whole f e) =
         let offset : length text - length rest ≡ length front =
         omega (arith, ap length whole, length-append front rest) in
@@ -222,13 +223,13 @@ text_verdict text few = of (text_is_read text)
 
 -- each input is an order file or is rejected
 pub some_verdict : (input : List ℕ)
-    → ((file : StatedOrder) × IsOrderFile input file) ⊎ ((fault : OrderFault) × RefusesOrder input fault)
+    → ((file : StatedOrder) × IsOrderFile input file) ⊎ ((fault : OrderFault) × RejectsOrder input fault)
 some_verdict input = elim (cases_lt LONGEST_ORDER_FILE (length input)) [
   | inl long ↦ inr (TooLong, long)
   | inr few ↦ of (read_text input) (text_verdict input few)
 ]
   where
     of : (read : Result StatedOrder OrderFault) → OrderVerdict input read
-        → ((file : StatedOrder) × IsOrderFile input file) ⊎ ((fault : OrderFault) × RefusesOrder input fault)
+        → ((file : StatedOrder) × IsOrderFile input file) ⊎ ((fault : OrderFault) × RejectsOrder input fault)
     of (Ok file) h = inl (file, h)
     of (Err fault) h = inr (fault, h)

@@ -136,15 +136,15 @@ none_of size = record { size = size; jobs = [] }
 
 -- ---- the verdict
 
-abbrev pub judged : List ℕ → Result ((List ℕ × Option ℕ × ℕ) × List ℕ) (List ℕ) → Result StatedOrder OrderFault
-judged text (Err rest) = Err (Syntax (length text - length rest))
-judged text (Ok ((jobs, machines, makespan), rest)) =
+abbrev pub validated : List ℕ → Result ((List ℕ × Option ℕ × ℕ) × List ℕ) (List ℕ) → Result StatedOrder OrderFault
+validated text (Err rest) = Err (Syntax (length text - length rest))
+validated text (Ok ((jobs, machines, makespan), rest)) =
     on_ok (λ seq. Ok (record { order = seq.jobs; machines = machines; makespan = makespan }))
     (take_jobs jobs (none_of (length jobs)))
 
 -- what a text states, or why it is rejected
 unfoldable pub read_text : List ℕ → Result StatedOrder OrderFault
-read_text text = judged text (text_at text)
+read_text text = validated text (text_at text)
 
 -- ---- what functions return
 
@@ -166,9 +166,9 @@ Orders jobs (Ok order) = take_jobs jobs (none_of (length jobs)) ≡ Ok (record {
 Orders jobs (Err fault) = (fault ≡ Memory) ⊎ (take_jobs jobs (none_of (length jobs)) ≡ Err fault)
 
 -- the verdict on a text, unless memory allocation fails, which is tried only for a text of the grammar
-abbrev pub JudgesText : List ℕ → Result StatedOrder OrderFault → Type 0
-JudgesText text (Ok file) = read_text text ≡ Ok file
-JudgesText text (Err fault) = ((fault ≡ Memory) × IsText text) ⊎ (read_text text ≡ Err fault)
+abbrev pub ValidatesText : List ℕ → Result StatedOrder OrderFault → Type 0
+ValidatesText text (Ok file) = read_text text ≡ Ok file
+ValidatesText text (Err fault) = ((fault ≡ Memory) × IsText text) ⊎ (read_text text ≡ Err fault)
 
 -- the numbers of jobs and machines that a first line may state
 pub record IsHead (count : ℕ) (machines : Option ℕ) : Type 0 where

@@ -1,6 +1,6 @@
 use Rattle.std.proofs.Common.{sym, ◌∙◌}
 use Rattle.pfs_base.specs.FlowShop.{FlowShop}
-use Rattle.pfs_c.specs.Judgements.{shop_of}
+use Rattle.pfs_c.specs.Validation.{shop_of}
 use Rattle.pfs_c.proofs.Gathered.{construct_is, more_few, more_small}
 use Rattle.pfs_c.proofs.building.pfs_construct.Goals as goal
 

@@ -2,9 +2,9 @@ use Rattle.std.proofs.Common.{sym, ◌∙◌, w32, FitsSigned, rules}
 use Rattle.std.proofs.lemmas.Int.{to_z-of_z}
 use Rattle.pfs_base.specs.FlowShop.{FlowShop}
 use Rattle.pfs_order.proofs.Published.Sequences.{length-le-size}
-use Rattle.pfs_c.specs.Judgements.{shop_of}
+use Rattle.pfs_c.specs.Validation.{shop_of}
 use Rattle.pfs_c.proofs.Gathered.{search_is}
-use Rattle.pfs_c.proofs.ManyLemmas.{judged_why}
+use Rattle.pfs_c.proofs.ManyLemmas.{valid_why}
 use Rattle.pfs_c.proofs.building.pfs_local_search.Goals as goal
 
 pub visits_of-requires-clause-small : goal.visits_of-requires-clause-small
@@ -37,5 +37,5 @@ returns-in-Ok-clause-done c = λ _.
 pub returns-in-Err-clause-number : goal.returns-in-Err-clause-number
 returns-in-Err-clause-number c =
     let fits : FitsSigned w32 c.number.result = search rules in
-    rw (judged_why (Unit {0}) c.in-Err.why _ c.in-Err.ensures.judged)
+    rw (valid_why (Unit {0}) c.in-Err.why _ c.in-Err.ensures.validated)
     (to_z-of_z w32 c.number.result fits ∙ c.number.ensures.value)

@@ -5,5 +5,5 @@ use Rattle.pfs_c.proofs.given.copy_order.Given as goal
 abbrev pub invariant-loop-place : goal.invariant-loop-place
 invariant-loop-place l = record {
   copied : take l.place l.out ≡ take l.place l.order;
-  behind : drop l.place l.out ≡ drop l.place l.initial.out;
+  rest : drop l.place l.out ≡ drop l.place l.initial.out;
 }

@@ -2,7 +2,7 @@ use Rattle.std.proofs.Common.{inl, inr, ◌∙◌, arith}
 use Rattle.std.proofs.lemmas.Bool.{cases_eq}
 use Rattle.pfs_base.specs.FlowShop.{FlowShop}
 use Rattle.pfs_base.specs.declared.limits.TheConstants.{MOST_MACHINES}
-use Rattle.pfs_c.specs.Judgements.{shop_of}
+use Rattle.pfs_c.specs.Validation.{shop_of}
 use Rattle.pfs_c.proofs.RowCopies.{head_after}
 use Rattle.pfs_c.proofs.RowSteps.{heads_none}
 use Rattle.pfs_c.proofs.heads.fill_heads.Goals as goal

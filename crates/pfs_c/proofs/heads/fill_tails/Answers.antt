@@ -1,6 +1,6 @@
 use Rattle.std.proofs.Common.{arith}
 use Rattle.pfs_base.specs.declared.limits.TheConstants.{MOST_MACHINES}
-use Rattle.pfs_c.specs.Judgements.{shop_of}
+use Rattle.pfs_c.specs.Validation.{shop_of}
 use Rattle.pfs_c.proofs.TailRows.{row_tails_none}
 use Rattle.pfs_c.proofs.heads.fill_tails.Goals as goal
 

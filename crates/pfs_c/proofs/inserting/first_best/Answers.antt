@@ -2,7 +2,7 @@ use Rattle.std.proofs.Common.{◌≡◌, length, arith}
 use Rattle.pfs_base.specs.declared.limits.TheConstants.{MOST_MACHINES}
 use Rattle.pfs_insert.specs.Insertion.{makespan_with}
 use Rattle.pfs_insert.proofs.Published.BestPlaces.{best_place_found}
-use Rattle.pfs_c.specs.Judgements.{shop_of}
+use Rattle.pfs_c.specs.Validation.{shop_of}
 use Rattle.pfs_c.proofs.BestPlaces.{best_first}
 use Rattle.pfs_c.proofs.RowSteps.{heads_none}
 use Rattle.pfs_c.proofs.inserting.first_best.Goals as goal

@@ -1,6 +1,6 @@
 use Rattle.std.proofs.Common.{◌≡◌, ℕ, ◌<◌, get_or}
 use Rattle.pfs_base.specs.Paths.{makespan}
-use Rattle.pfs_c.specs.Judgements.{shop_of}
+use Rattle.pfs_c.specs.Validation.{shop_of}
 use Rattle.pfs_c.specs.Many.{sequence_at}
 use Rattle.pfs_c.proofs.many.fill_makespans.Given as goal
 

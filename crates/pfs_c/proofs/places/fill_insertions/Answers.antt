@@ -1,6 +1,6 @@
 use Rattle.std.proofs.Common.{arith}
 use Rattle.pfs_base.specs.declared.limits.TheConstants.{MOST_MACHINES}
-use Rattle.pfs_c.specs.Judgements.{shop_of}
+use Rattle.pfs_c.specs.Validation.{shop_of}
 use Rattle.pfs_c.proofs.RowSteps.{heads_none}
 use Rattle.pfs_c.proofs.places.fill_insertions.Goals as goal
 

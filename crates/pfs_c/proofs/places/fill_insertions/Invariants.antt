@@ -1,6 +1,6 @@
 use Rattle.std.proofs.Common.{◌≡◌, ℕ, ◌<◌, get_or}
 use Rattle.pfs_insert.specs.Insertion.{makespan_with}
-use Rattle.pfs_c.specs.Judgements.{shop_of}
+use Rattle.pfs_c.specs.Validation.{shop_of}
 use Rattle.pfs_c.specs.Private.Rows.{HeadsAt}
 use Rattle.pfs_c.proofs.places.fill_insertions.Given as goal
 

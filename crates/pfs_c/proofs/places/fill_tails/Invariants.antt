@@ -1,4 +1,4 @@
-use Rattle.pfs_c.specs.Judgements.{shop_of}
+use Rattle.pfs_c.specs.Validation.{shop_of}
 use Rattle.pfs_c.specs.Private.Rows.{TailsFrom}
 use Rattle.pfs_c.proofs.places.fill_tails.Given as goal
 

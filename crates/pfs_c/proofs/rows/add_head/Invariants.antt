@@ -1,4 +1,4 @@
-use Rattle.pfs_c.specs.Judgements.{shop_of}
+use Rattle.pfs_c.specs.Validation.{shop_of}
 use Rattle.pfs_c.proofs.RowSteps.{HeadsTo}
 use Rattle.pfs_c.proofs.rows.add_head.Given as goal
 

@@ -1,7 +1,7 @@
 use Rattle.std.proofs.Common.{◌+◌, ◌*◌, ◌-◌, length, arith, refl}
 use Rattle.pfs_base.specs.FlowShop.{FlowShop}
 use Rattle.pfs_order.proofs.Published.Sequences.{length-le-size}
-use Rattle.pfs_c.specs.Judgements.{shop_of}
+use Rattle.pfs_c.specs.Validation.{shop_of}
 use Rattle.pfs_c.proofs.RowSteps.{after_short, below_short, tails_more, cell_inside}
 use Rattle.pfs_c.proofs.rows.add_tail.Goals as goal
 

@@ -1,4 +1,4 @@
-use Rattle.pfs_c.specs.Judgements.{shop_of}
+use Rattle.pfs_c.specs.Validation.{shop_of}
 use Rattle.pfs_c.proofs.RowSteps.{TailsTo}
 use Rattle.pfs_c.proofs.rows.add_tail.Given as goal
 

@@ -1,4 +1,4 @@
-use Rattle.pfs_c.specs.Judgements.{shop_of}
+use Rattle.pfs_c.specs.Validation.{shop_of}
 use Rattle.pfs_c.proofs.TailRows.{RowTailsTo}
 use Rattle.pfs_c.proofs.rows.add_tail_row.Given as goal
 

@@ -1,5 +1,5 @@
 use Rattle.pfs_base.specs.declared.limits.TheConstants.{MOST_MACHINES}
-use Rattle.pfs_c.specs.Judgements.{shop_of}
+use Rattle.pfs_c.specs.Validation.{shop_of}
 use Rattle.pfs_c.proofs.RowSteps.{heads_none}
 use Rattle.pfs_c.proofs.rows.span_of.Goals as goal
 

@@ -1,7 +1,7 @@
 use Rattle.std.proofs.Common.{◌+◌, ◌*◌, insert, get_or, arith}
 use Rattle.pfs_base.specs.FlowShop.{FlowShop}
 use Rattle.pfs_order.proofs.Published.Sequences.{length-le-size}
-use Rattle.pfs_c.specs.Judgements.{shop_of}
+use Rattle.pfs_c.specs.Validation.{shop_of}
 use Rattle.pfs_c.proofs.RowSteps.{before_short, heads_short, tails_short, span_more, span_last}
 use Rattle.pfs_c.proofs.rows.span_with.Goals as goal
 

@@ -1,4 +1,4 @@
-use Rattle.pfs_c.specs.Judgements.{shop_of}
+use Rattle.pfs_c.specs.Validation.{shop_of}
 use Rattle.pfs_c.proofs.RowSteps.{SpanTo}
 use Rattle.pfs_c.proofs.rows.span_with.Given as goal
 

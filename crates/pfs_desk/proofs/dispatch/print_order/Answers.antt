@@ -11,7 +11,7 @@ returns-in_err-file g c = λ input unread.
 
 pub returns : goal.returns
 returns g c = λ input unread.
-    let run = c.run_solve-answer in
+    let run = c.run_solve-returned in
     let left = g.F.File.Source.left in
     let ended = g.F.File.Source.has_ended in
     let file = source_use (left c.in_ok-file.file) (left run.new.reader) (g.F.File.Source.has_failed run.new.reader)
@@ -20,4 +20,4 @@ returns g c = λ input unread.
     run.ensures.fault (reads_file _ _ _ _ _ file c.in_ok-file.ensures.given c.in_ok-file.ensures.fresh
     c.in_ok-file.ensures.log
     c.close.ensures.log)
-    (λ answer answers. (unread, answers))
+    (λ returned has_result. (unread, has_result))

@@ -13,7 +13,7 @@ returns-in-None g c =
     (ended c.args.input.now) (ended run.new.reader) in
     gives_job _ _ _ _ _ _ _ _ _ (ap (Value c.args.layout c.args.block) c.in-None.is)
     (gives_on _ _ _ _ input _ _ _ _ _ _ run.result _ c.ending.ensures run.ensures.written input run.ensures.reads _ _
-    run.ensures.fault (reads_none _ _) (λ answer answers. answers))
+    run.ensures.fault (reads_none _ _) (λ returned has_result. has_result))
 
 pub returns-in_err-file-in-Some : goal.returns-in_err-file-in-Some
 returns-in_err-file-in-Some g c =
@@ -27,7 +27,7 @@ returns-in_err-file-in-Some g c =
 
 pub returns-in_ok-file-in-Some : goal.returns-in_ok-file-in-Some
 returns-in_ok-file-in-Some g c =
-    let run = c.run_value-answer in
+    let run = c.run_value-returned in
     let opens = c.in_ok-file-in-Some in
     let left = g.F.File.Source.left in
     let ended = g.F.File.Source.has_ended in
@@ -37,4 +37,4 @@ returns-in_ok-file-in-Some g c =
     (gives_on _ _ _ _ _ _ _ _ _ _ _ run.result _ c.ending-in-Some.ensures run.ensures.written file run.ensures.reads _ _
     run.ensures.fault (reads_file _ _ _ _ _ file opens.ensures.given opens.ensures.fresh opens.ensures.log
     c.close.ensures.log)
-    (λ answer answers. ((record { kept = refl; working = c.requires.reading; no_end = refl }), answers)))
+    (λ returned has_result. ((record { kept = refl; working = c.requires.reading; no_end = refl }), has_result)))

@@ -10,7 +10,7 @@ returns-in_err-file g c = λ input unread.
 
 pub returns : goal.returns
 returns g c = λ input unread.
-    let run = c.run_check-answer in
+    let run = c.run_check-returned in
     let left = g.F.File.Source.left in
     let failed = g.F.File.Source.has_failed in
     let ended = g.F.File.Source.has_ended in
@@ -22,4 +22,4 @@ returns g c = λ input unread.
     orders _ run.ensures.fault
     (reads_files _ _ _ _ _ _ _ file orders c.in_ok-file.ensures.both c.in_ok-file.ensures.fresh
     c.in_ok-file.ensures.fresh_orders c.close.ensures.log c.close-2.ensures.log)
-    run.ensures.reads_order (λ answer answers. (unread, answers))
+    run.ensures.reads_order (λ returned has_result. (unread, has_result))

@@ -1,6 +1,6 @@
 use Rattle.std.proofs.Common.{[], inr, refl, sym, ap, ◌∙◌}
 use Rattle.pfs_desk.specs.Engine.{layout_fault_of}
-use Rattle.pfs_desk.proofs.RunLemmas.{gives, gives_job, reads_none, told_by}
+use Rattle.pfs_desk.proofs.RunLemmas.{gives, gives_job, reads_none, reported_by}
 use Rattle.pfs_desk.proofs.dispatch.run_job.Goals as goal
 
 pub returns-in-Solve : goal.returns-in-Solve
@@ -28,14 +28,14 @@ returns-in-Generate g c =
     let run = c.run_generate in
     gives_job _ _ _ _ _ _ _ _ _ c.in-Generate.is
     (gives _ _ _ _ _ _ run.result _ c.ending.ensures run.ensures.written run.ensures.faults
-    (λ answer is first second. inr (record {
+    (λ returned is first second. inr (record {
       files = [];
       reads = reads_none _ _;
-      answers = (
+      has_result = (
         (record { kept = refl; working = c.requires.reading; no_end = refl }),
         is,
         (
-          (λ e. run.ensures.seed_range.0 (told_by _ run.result (sym first ∙ e))),
+          (λ e. run.ensures.seed_range.0 (reported_by _ run.result (sym first ∙ e))),
           (λ below. first ∙ ap layout_fault_of (run.ensures.seed_range.1 below)),
         ),
       );

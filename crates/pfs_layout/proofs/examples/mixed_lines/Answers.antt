@@ -4,4 +4,4 @@ use Rattle.pfs_layout.proofs.examples.mixed_lines.Goals as goal
 
 pub returns : goal.returns
 unfolding computing
-returns c = record { behind_digit = refl; before_digit = refl; extra_number = refl; greatest_byte = refl }
+returns c = record { after_digit = refl; before_digit = refl; extra_number = refl; greatest_byte = refl }

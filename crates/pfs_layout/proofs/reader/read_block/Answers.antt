@@ -39,7 +39,7 @@ returns-then-n-eq0 g c =
     let ends = c.finish.ensures.meets t.front t.stands in
     record {
       file = search rules;
-      refused = search rules;
+      rejected = search rules;
       read = never_failed (c.in-Some.ensures.failed ∙ c.pieces.invariant.working) (finish_named ends Read refl);
       before_end = λ e. absurd (finish_named ends Read refl e);
       no_seed = finish_named ends SeedRange refl;
@@ -54,7 +54,7 @@ returns-in-Err g c =
     let meets = c.in-Err.ensures.meets t.front t.stands in
     record {
       file = tt;
-      refused = λ read memory. reading_fault t _ _ bytes.1 meets memory;
+      rejected = λ read memory. reading_fault t _ _ bytes.1 meets memory;
       read =
           never_failed (c.in-Some.ensures.failed ∙ c.pieces.invariant.working)
           (λ e. feed_named meets Read (λ z. cc) refl (cc));
@@ -73,7 +73,7 @@ returns-then-progress g c =
     let done = reading_done t _ _ bytes.1 meets c.if-progress.true ends in
     record {
       file = rw done.1 done.2;
-      refused = rw done.1 tt;
+      rejected = rw done.1 tt;
       read = never_failed (c.in-Some.ensures.failed ∙ c.pieces.invariant.working) (finish_named ends Read refl);
       before_end = λ e. absurd (finish_named ends Read refl e);
       no_seed = finish_named ends SeedRange refl;

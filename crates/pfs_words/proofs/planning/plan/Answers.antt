@@ -5,7 +5,7 @@ use Rattle.std.proofs.lemmas.Bool.{false_from_ne_true}
 use Rattle.std.proofs.lemmas.Slice.Eq.{bytes_eq-Decides}
 use Rattle.clap.specs.Words.{Text, takes}
 use Rattle.pfs_words.specs.Commands.{Names, form_of}
-use Rattle.pfs_words.proofs.JobLemmas.{refused, some_names}
+use Rattle.pfs_words.proofs.JobLemmas.{rejected, some_names}
 use Rattle.pfs_words.proofs.planning.plan.Goals as goal
 
 is_other : {word name : Text} → (word ≡ name → ⊥) → bytes_eq word name ≡ false
@@ -25,5 +25,5 @@ returns-in_default-as_str-clause-usage c word others are failed =
     let other = c.in_default-as_str in
     let none : form_of some_names word ≡ None = rw (← is) (none_named some_names c.as_str.result.now other.not-value
     other.not-solve other.not-check other.not-table other.not-convert other.not-generate) in
-    refused some_names word others refl (ap (λ o. option_map_or (λ form. takes form others) o false) none)
+    rejected some_names word others refl (ap (λ o. option_map_or (λ form. takes form others) o false) none)
     (λ found. let bad : None ≡ Some found.0 = sym none ∙ found.1 in cc)

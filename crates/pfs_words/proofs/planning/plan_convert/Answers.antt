@@ -1,7 +1,7 @@
 use Rattle.std.proofs.Common.{rules, ◌≡◌, Err, ap, codes, refl}
 use Rattle.pfs_words.specs.declared.usage.UsageFault.TheVariants.{Usage}
 use Rattle.pfs_words.specs.Commands.{block_rule, path_rule}
-use Rattle.pfs_words.proofs.JobLemmas.{faultless, job_for, layout_given, number_in_range, refused_by, rows_are}
+use Rattle.pfs_words.proofs.JobLemmas.{faultless, job_for, layout_given, number_in_range, rejected_by, rows_are}
 use Rattle.pfs_words.proofs.JobLemmas.{some_number_given, text_given}
 use Rattle.pfs_words.proofs.planning.plan_convert.Goals as goal
 
@@ -27,7 +27,7 @@ pub returns-in_err-matches-clause-usage : goal.returns-in_err-matches-clause-usa
 returns-in_err-matches-clause-usage c e =
     let failed : c.in_err-matches.field-0.0 ≡ Usage = search rules in
     let told = c.in_err-matches.ensures in
-    refused_by c.as_slice.result (codes "convert") _ (search rules) c.in_ok-convert_command.ensures refl refl
+    rejected_by c.as_slice.result (codes "convert") _ (search rules) c.in_ok-convert_command.ensures refl refl
     (told.usage (ap Err failed)) (told.fault (ap Err failed))
 
 pub returns-clause-ok : goal.returns-clause-ok

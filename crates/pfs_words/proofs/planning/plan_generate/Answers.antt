@@ -2,7 +2,7 @@ use Rattle.std.proofs.Common.{rules, ◌≡◌, Err, ap, codes, refl}
 use Rattle.pfs_base.specs.declared.limits.TheConstants.{MOST_JOBS, MOST_MACHINES}
 use Rattle.pfs_words.specs.declared.usage.UsageFault.TheVariants.{Usage}
 use Rattle.pfs_words.specs.Commands.{number_rule, seed_rule}
-use Rattle.pfs_words.proofs.JobLemmas.{faultless, job_for, number_in_range, refused_by, rows_are, some_names}
+use Rattle.pfs_words.proofs.JobLemmas.{faultless, job_for, number_in_range, rejected_by, rows_are, some_names}
 use Rattle.pfs_words.proofs.JobLemmas.{some_number_given}
 use Rattle.pfs_words.proofs.planning.plan_generate.Goals as goal
 
@@ -24,7 +24,7 @@ pub returns-in_err-matches-clause-usage : goal.returns-in_err-matches-clause-usa
 returns-in_err-matches-clause-usage c e =
     let failed : c.in_err-matches.field-0.0 ≡ Usage = search rules in
     let told = c.in_err-matches.ensures in
-    refused_by some_names (codes "generate") _ refl c.in_ok-generate_command.ensures refl refl
+    rejected_by some_names (codes "generate") _ refl c.in_ok-generate_command.ensures refl refl
     (told.usage (ap Err failed)) (told.fault (ap Err failed))
 
 pub returns-clause-ok : goal.returns-clause-ok

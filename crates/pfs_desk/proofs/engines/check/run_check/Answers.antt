@@ -21,7 +21,7 @@ returns-in_err-put_verdict-clause-written g c =
         stated = c.in_ok-file.file;
         holds = c.in_ok-instance.ensures.file;
         states = c.in_ok-file.ensures.accepted;
-        judged = ap outcome_of c.in_ok-verdict.ensures.verdict;
+        checked = ap outcome_of c.in_ok-verdict.ensures.verdict;
         spelled = ap verdict_text c.in_ok-verdict.ensures.verdict;
       };
       front = c.in_err-put_verdict.ensures;

@@ -28,7 +28,7 @@ returns-then-is_live-clause-meets c text s =
     let live = sym c.is_live-2.ensures ∙ c.if-is_live.true in
     let all = c.take-2.ensures.whole live in
     let size = length-take (LONGEST_INPUT - old.digits.offset) c.args.piece.now in
-    rw c.refuse.ensures
+    rw c.reject.ensures
     (feed_of (long_meets c.args.piece.now _ (c.take-2.ensures.meets text s) (omega arith) (omega arith)
     (omega arith) live) (omega arith) (λ z. cc))
 
@@ -37,8 +37,8 @@ returns-then-is_live-clause-reader c =
     let some = c.requires.stands (live-memory c.args.self.now.phase (sym c.is_live.ensures ∙ c.if-not-is_live.false)) in
     let meets = returns-then-is_live-clause-meets c some.0 some.1 in
     record {
-      stands = λ h. (some.0 ++ c.args.piece.now, meets.refused (λ z. cc));
-      none = λ h. let other = rw c.refuse.ensures at h in cc;
+      stands = λ h. (some.0 ++ c.args.piece.now, meets.rejected (λ z. cc));
+      none = λ h. let other = rw c.reject.ensures at h in cc;
     }
 
 pub returns-clause-reader : goal.returns-clause-reader

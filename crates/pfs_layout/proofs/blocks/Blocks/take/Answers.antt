@@ -1,6 +1,6 @@
 -- Each byte moves the reader forward, and the last one ends the piece or the reading.
 use Rattle.pfs_layout.proofs.Words.{sym, ◌∙◌, arith, ne_eqb}
-use Rattle.pfs_layout.proofs.Reading.PieceLemmas.{digit_judged, blank_judged, taken_ready, taken_quiet, taken_on}
+use Rattle.pfs_layout.proofs.Reading.PieceLemmas.{digit_validated, blank_validated, taken_ready, taken_quiet, taken_on}
 use Rattle.pfs_layout.proofs.Reading.PieceLemmas.{taken_end}
 use Rattle.pfs_layout.proofs.Reading.ByteSteps.{keeps_last}
 use Rattle.pfs_layout.proofs.blocks.Blocks.take.Goals as goal
@@ -11,7 +11,7 @@ pub loop-b-preserved-then-not-line : goal.loop-b-preserved-then-not-line
 loop-b-preserved-then-not-line c =
     let digit = sym c.is_digit.ensures ∙ c.if-is_digit.true in
     taken_quiet c.loop-b.invariant (omega arith) c.requires.room c.push.ensures
-    (digit_judged c.loop-b.invariant (rw (digit, c.if-not-line.true)))
+    (digit_validated c.loop-b.invariant (rw (digit, c.if-not-line.true)))
 
 pub loop-b-preserved-then-not-line-2 : goal.loop-b-preserved-then-not-line-2
 loop-b-preserved-then-not-line-2 c =
@@ -27,7 +27,7 @@ pub loop-b-preserved-then-is_none : goal.loop-b-preserved-then-is_none
 loop-b-preserved-then-is_none c =
     let blank = sym c.is_blank.ensures ∙ c.if-is_blank.true in
     taken_quiet c.loop-b.invariant (omega arith) c.requires.room (c.push_blank.ensures.pushes _ blank)
-    (grind arith ∙ blank_judged c.loop-b.invariant blank c.number-number.ensures)
+    (grind arith ∙ blank_validated c.loop-b.invariant blank c.number-number.ensures)
 
 pub end_last_number-requires : goal.end_last_number-requires
 end_last_number-requires c = taken_ready c.loop-b.invariant (omega arith) c.requires.room c.requires.stands
@@ -36,14 +36,14 @@ pub loop-b-preserved-then-is_blank : goal.loop-b-preserved-then-is_blank
 loop-b-preserved-then-is_blank c =
     let blank = sym c.is_blank.ensures ∙ c.if-is_blank.true in
     taken_on c.loop-b.invariant (omega arith) c.requires.room (c.push_blank.ensures.pushes _ blank)
-    (λ well. c.end_last_number.ensures ∙ blank_judged c.loop-b.invariant blank c.number-number.ensures)
+    (λ well. c.end_last_number.ensures ∙ blank_validated c.loop-b.invariant blank c.number-number.ensures)
     (sym c.is_live.ensures ∙ c.if-not-is_live.false)
 
 pub returns-then-not-is_live-clause-meets : goal.returns-then-not-is_live-clause-meets
 returns-then-not-is_live-clause-meets c =
     let blank = sym c.is_blank.ensures ∙ c.if-is_blank.true in
     taken_end c.loop-b.invariant (omega arith) c.requires.room (c.push_blank.ensures.pushes _ blank)
-    (λ well. c.end_last_number.ensures ∙ blank_judged c.loop-b.invariant blank c.number-number.ensures)
+    (λ well. c.end_last_number.ensures ∙ blank_validated c.loop-b.invariant blank c.number-number.ensures)
     (λ lacks. absurd ((keeps_last _ _ c.loop-b.invariant.live).memory (rw c.end_last_number.ensures at lacks)))
 
 -- ---- any other byte

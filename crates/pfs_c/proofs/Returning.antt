@@ -1,0 +1,10 @@
+-- What a call returns if the function that it calls returns an error.
+use Rattle.std.proofs.Common.{◌≡◌, ℤ, Err, Option, Some, None, ap, ◌∙◌, inr}
+use Rattle.pfs_c.specs.declared.numbers.CallFault.{CallFault}
+use Rattle.pfs_c.specs.Numbers.{Returns, fault_number}
+use Rattle.pfs_c.specs.Private.Outcomes.{Rejects}
+
+pub rejected : (A : Type 0) (why : CallFault) (found : Option CallFault) (number : ℤ) → Rejects {A = A} (Err why) found
+    → number ≡ fault_number why → Returns number found
+rejected A why None number h is = inr (is ∙ ap fault_number h)
+rejected A why (Some other) number h is = let same : why ≡ other = cc in is ∙ ap fault_number same

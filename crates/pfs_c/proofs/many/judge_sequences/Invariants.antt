@@ -1,8 +1,0 @@
-use Rattle.std.proofs.Common.{◌≡◌, ℕ, ◌<◌, None}
-use Rattle.pfs_c.specs.Judgements.{jobs_refusal}
-use Rattle.pfs_c.specs.Many.{sequence_at}
-use Rattle.pfs_c.proofs.many.judge_sequences.Given as goal
-
-abbrev pub invariant-loop-index : goal.invariant-loop-index
-invariant-loop-index l =
-    (k : ℕ) → k < l.index → jobs_refusal l.jobs (sequence_at l.long l.sequences k) ≡ None
