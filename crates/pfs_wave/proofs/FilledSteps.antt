@@ -36,7 +36,7 @@ none_filled width times tails after same is = record {
 
 pub more_filled : {width : ℕ} {times tails : List (List ℕ)} {after new kept : List ℕ} (left row : ℕ)
     → IsFilled width times tails after left
-    → left < length times → row ≡ length times - 1 - left → new ≡ tails_step after (slice_index_or times row [])
+    → left < length times → row ≡ length times - 1 - left → new ≡ tails_step 0 after (slice_index_or times row [])
     → kept ≡ new
     → IsFilled width times (slice_set tails row kept) new (left + 1)
 more_filled {width} {times} {tails} {after} {new} {kept} left row so_far lt row_is is kept_is =
@@ -44,8 +44,8 @@ more_filled {width} {times} {tails} {after} {new} {kept} left row so_far lt row_
     let all = length times in
     let e : row ≡ all - suc left = omega arith in
     let next : new ≡ tails_at (rows_of times) width all (suc left) =
-    is ∙ ap (λ b. tails_step b (slice_index_or times row [])) so_far.after_is
-    ∙ ap (λ r. tails_step (tails_at (rows_of times) width all left) (slice_index_or times r [])) e
+    is ∙ ap (λ b. tails_step 0 b (slice_index_or times row [])) so_far.after_is
+    ∙ ap (λ r. tails_step 0 (tails_at (rows_of times) width all left) (slice_index_or times r [])) e
     ∙ sym (tails_next (rows_of times) width all left) in
     record {
       rows = length-set tails row kept ∙ long;
@@ -74,17 +74,17 @@ none_summed width times tails job sums head inserted sum same h p s = record {
   sums_are = λ step lt. absurd (omega arith);
 }
 
-same_step : {a b c d : List ℕ} (t : List ℕ) → a ≡ c → b ≡ d → heads_step a b t ≡ heads_step c d t
+same_step : {a b c d : List ℕ} (t : List ℕ) → a ≡ c → b ≡ d → heads_step 0 a b t ≡ heads_step 0 c d t
 same_step t p q = cc
 
-same_sum : {a b c d : List ℕ} (t : List ℕ) → a ≡ c → b ≡ d → sums_step a b t ≡ sums_step c d t
+same_sum : {a b c d : List ℕ} (t : List ℕ) → a ≡ c → b ≡ d → sums_step 0 a b t ≡ sums_step 0 c d t
 same_sum t p q = cc
 
 pub more_summed : {width : ℕ} {times tails : List (List ℕ)}
     {job sums head inserted sum new_head new_inserted new_sum : List ℕ} {last : ℕ}
     (row : ℕ) → IsSummed width times tails job sums head inserted sum row → row < length times
-    → new_inserted ≡ heads_step inserted head job → new_sum ≡ sums_step sum new_inserted (slice_index_or tails row [])
-    → last ≡ slice_index_or new_sum (width - 1) 0 → new_head ≡ heads_step head head (slice_index_or times row [])
+    → new_inserted ≡ heads_step 0 inserted head job → new_sum ≡ sums_step 0 sum new_inserted (slice_index_or tails row [])
+    → last ≡ slice_index_or new_sum (width - 1) 0 → new_head ≡ heads_step 0 head head (slice_index_or times row [])
     → IsSummed width times tails job (slice_set sums row last) new_head new_inserted new_sum (row + 1)
 more_summed {width} {times} {tails} {job} {sums} {head} {inserted} {sum} {new_head} {new_inserted} {new_sum} {last}
     row so_far lt inserted_is
@@ -127,28 +127,28 @@ module _ {X : Type 0} (lanes : X → List ℕ) where
   pub more_filled_rows : {width : ℕ} (times tails : List X) {after new kept : X} (left step : ℕ) (row : X)
       → IsFilled width (map lanes times) (map lanes tails) (lanes after) left → left < length times
       → step ≡ length times - 1 - left → row ≡ get_or times step row
-      → lanes new ≡ tails_step (lanes after) (lanes row) → lanes kept ≡ lanes new
+      → lanes new ≡ tails_step 0 (lanes after) (lanes row) → lanes kept ≡ lanes new
       → IsFilled width (map lanes times) (map lanes (slice_set tails step kept)) (lanes new) (left + 1)
   more_filled_rows {width} times tails {after} {new} {kept} left step row so_far lt step_is row_is is kept_is =
       let long = length-map times lanes in
       rw (map-set lanes tails step kept) (more_filled left step so_far (omega arith) (omega arith)
-      (is ∙ ap (tails_step (lanes after)) (row_read times step row (omega arith) row_is)) kept_is)
+      (is ∙ ap (tails_step 0 (lanes after)) (row_read times step row (omega arith) row_is)) kept_is)
 
   pub more_summed_rows : {width : ℕ} (times tails : List X) {job sums : List ℕ}
       {head inserted sum new_head new_inserted new_sum : X} {last : ℕ} (step : ℕ) (time_row tail_row : X)
       → IsSummed width (map lanes times) (map lanes tails) job sums (lanes head) (lanes inserted) (lanes sum) step
       → step < length times → length tails ≡ length times
       → time_row ≡ get_or times step time_row → tail_row ≡ get_or tails step tail_row
-      → lanes new_inserted ≡ heads_step (lanes inserted) (lanes head) job
-      → lanes new_sum ≡ sums_step (lanes sum) (lanes new_inserted) (lanes tail_row)
+      → lanes new_inserted ≡ heads_step 0 (lanes inserted) (lanes head) job
+      → lanes new_sum ≡ sums_step 0 (lanes sum) (lanes new_inserted) (lanes tail_row)
       → last ≡ slice_index_or (lanes new_sum) (width - 1) 0
-      → lanes new_head ≡ heads_step (lanes head) (lanes head) (lanes time_row)
+      → lanes new_head ≡ heads_step 0 (lanes head) (lanes head) (lanes time_row)
       → IsSummed width (map lanes times) (map lanes tails) job (slice_set sums step last) (lanes new_head)
       (lanes new_inserted) (lanes new_sum) (step + 1)
   more_summed_rows {width} times tails {job} {sums} {head} {inserted} {sum} {new_head} {new_inserted} {new_sum} {last}
       step time_row tail_row so_far lt same time_is tail_is inserted_is sum_is last_is head_is =
       let long = length-map times lanes in
       more_summed step so_far (omega arith) inserted_is
-      (sum_is ∙ ap (sums_step (lanes sum) (lanes new_inserted)) (row_read tails step tail_row (omega arith) tail_is))
+      (sum_is ∙ ap (sums_step 0 (lanes sum) (lanes new_inserted)) (row_read tails step tail_row (omega arith) tail_is))
       last_is
-      (head_is ∙ ap (heads_step (lanes head) (lanes head)) (row_read times step time_row lt time_is))
+      (head_is ∙ ap (heads_step 0 (lanes head) (lanes head)) (row_read times step time_row lt time_is))

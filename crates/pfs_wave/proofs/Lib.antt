@@ -1,9 +1,9 @@
 pub mod BandSteps
 pub mod BestFound
 pub mod CappedLeast
-pub mod EightLanes
 pub mod FilledSteps
 pub mod HeldLemmas
+pub mod JoinedRows
 pub mod LeastKey
 pub mod Longest
 pub mod OneBandLemmas
@@ -14,7 +14,5 @@ pub mod Steps
 pub mod PaddedTables
 pub mod PastRows
 pub mod TakenSteps
-pub mod ThreeBandsLemmas
-pub mod TwoBandsLemmas
 pub mod VectorLemmas
 pub mod WavefrontLaws

@@ -56,7 +56,7 @@ module _ (width : ℕ) where
 
   -- the length of a row of tails, and a lane of it
   pub length-tails_step : (below times : List ℕ) → 1 ≤ width → length below ≡ width → length times ≡ width
-      → length (tails_step below times) ≡ width
+      → length (tails_step 0 below times) ≡ width
   length-tails_step below times some p q =
       let down = drop 1 below ++ (0 ∷ []) in
       let wide = length-down below some p in
@@ -64,7 +64,7 @@ module _ (width : ℕ) where
       length-zip capped_add (zip2 max down below) times (omega arith) q
 
   pub tails_lane : (below times : List ℕ) (lane : ℕ) → length below ≡ width → length times ≡ width → lane < width
-      → get_or (tails_step below times) lane 0
+      → get_or (tails_step 0 below times) lane 0
       ≡ capped_add (max (get_or below (suc lane) 0) (get_or below lane 0)) (get_or times lane 0)
   tails_lane below times lane p q lt =
       let down = drop 1 below ++ (0 ∷ []) in
@@ -76,14 +76,14 @@ module _ (width : ℕ) where
 
   -- the length of a row of heads, and a lane of it
   pub length-heads_step : (before above times : List ℕ) → length before ≡ width → length above ≡ width
-      → length times ≡ width → length (heads_step before above times) ≡ width
+      → length times ≡ width → length (heads_step 0 before above times) ≡ width
   length-heads_step before above times p q r =
       let most = length-zip max (0 ∷ before) above (omega arith) q in
       length-zip capped_add (zip2 max (0 ∷ before) above) times (omega arith) r
 
   pub heads_lane : (before above times : List ℕ) (lane : ℕ) → length before ≡ width → length above ≡ width
       → length times ≡ width → lane < width
-      → get_or (heads_step before above times) lane 0
+      → get_or (heads_step 0 before above times) lane 0
       ≡ capped_add (max (get_or (0 ∷ before) lane 0) (get_or above lane 0)) (get_or times lane 0)
   heads_lane before above times lane p q r lt =
       let up = 0 ∷ before in
@@ -93,14 +93,14 @@ module _ (width : ℕ) where
 
   -- the length of a row of sums, and a lane of it
   pub length-sums_step : (before inserted tail : List ℕ) → length before ≡ width → length inserted ≡ width
-      → length tail ≡ width → length (sums_step before inserted tail) ≡ width
+      → length tail ≡ width → length (sums_step 0 before inserted tail) ≡ width
   length-sums_step before inserted tail p q r =
       let sums = length-zip capped_add inserted tail (omega arith) r in
       length-zip max (0 ∷ before) (zip2 capped_add inserted tail) (omega arith) sums
 
   pub sums_lane : (before inserted tail : List ℕ) (lane : ℕ) → length before ≡ width → length inserted ≡ width
       → length tail ≡ width → lane < width
-      → get_or (sums_step before inserted tail) lane 0
+      → get_or (sums_step 0 before inserted tail) lane 0
       ≡ max (get_or (0 ∷ before) lane 0) (capped_add (get_or inserted lane 0) (get_or tail lane 0))
   sums_lane before inserted tail lane p q r lt =
       let up = 0 ∷ before in

@@ -21,7 +21,7 @@ use Rattle.pfs_base.specs.Paths.{operation}
 
 module _ (times : Rows) (width : ℕ) where
   pub tails_next : (steps left : ℕ) → tails_at times width steps (suc left)
-      ≡ tails_step (tails_at times width steps left) (times (steps - suc left))
+      ≡ tails_step 0 (tails_at times width steps left) (times (steps - suc left))
   unfolding tails_at
   tails_next steps left = refl
 
@@ -30,7 +30,7 @@ module _ (times : Rows) (width : ℕ) where
   tails_last steps = refl
 
   pub heads_next : (step : ℕ) → heads_at times width (suc step)
-      ≡ heads_step (heads_at times width step) (heads_at times width step) (times step)
+      ≡ heads_step 0 (heads_at times width step) (heads_at times width step) (times step)
   unfolding heads_at
   heads_next step = refl
 
@@ -39,7 +39,7 @@ module _ (times : Rows) (width : ℕ) where
   heads_first = refl
 
   pub inserted_next : (job : List ℕ) (step : ℕ) → inserted_at times job width (suc step)
-      ≡ heads_step (inserted_at times job width step) (heads_at times width step) job
+      ≡ heads_step 0 (inserted_at times job width step) (heads_at times width step) job
   unfolding inserted_at
   inserted_next job step = refl
 
@@ -48,7 +48,7 @@ module _ (times : Rows) (width : ℕ) where
   inserted_first job = refl
 
   pub sums_next : (tails : Rows) (job : List ℕ) (step : ℕ) → sums_at times tails job width (suc step)
-      ≡ sums_step (sums_at times tails job width step) (inserted_at times job width (suc step)) (tails step)
+      ≡ sums_step 0 (sums_at times tails job width step) (inserted_at times job width (suc step)) (tails step)
   unfolding sums_at
   sums_next tails job step = refl
 

@@ -18,41 +18,42 @@ Rows = ℕ → List ℕ
 abbrev pub zeros : ℕ → List ℕ
 zeros width = replicate width 0
 
--- the tails of a step from those of the step after it: the greater of lane l and lane l + 1, plus the time of lane l
-abbrev pub tails_step : List ℕ → List ℕ → List ℕ
-tails_step below times = zip2 capped_add (zip2 max (drop 1 below ++ (0 ∷ [])) below) times
+-- the tails of a step from those of the step after it: the greater of lane l and lane l + 1, plus the time of lane l;
+-- `carry` is the lane after the last one
+abbrev pub tails_step : ℕ → List ℕ → List ℕ → List ℕ
+tails_step carry below times = zip2 capped_add (zip2 max (drop 1 below ++ (carry ∷ [])) below) times
 
--- the heads of a step: the greater of lane l - 1 of `before`, 0 in the first lane, and lane l of `above`, plus the time
--- of lane l
-abbrev pub heads_step : List ℕ → List ℕ → List ℕ → List ℕ
-heads_step before above times = zip2 capped_add (zip2 max (0 ∷ before) above) times
+-- the heads of a step: the greater of lane l - 1 of `before`, `carry` in the first lane, and lane l of `above`, plus the
+-- time of lane l
+abbrev pub heads_step : ℕ → List ℕ → List ℕ → List ℕ → List ℕ
+heads_step carry before above times = zip2 capped_add (zip2 max (carry ∷ before) above) times
 
--- the sums of a step: in lane l the greater of lane l - 1 of the sums before, 0 in the first lane, and the sum of lane
--- l of the inserted rows and lane l of the tails
-abbrev pub sums_step : List ℕ → List ℕ → List ℕ → List ℕ
-sums_step before inserted tail = zip2 max (0 ∷ before) (zip2 capped_add inserted tail)
+-- the sums of a step: in lane l the greater of lane l - 1 of the sums before, `carry` in the first lane, and the sum of
+-- lane l of the inserted rows and lane l of the tails
+abbrev pub sums_step : ℕ → List ℕ → List ℕ → List ℕ → List ℕ
+sums_step carry before inserted tail = zip2 max (carry ∷ before) (zip2 capped_add inserted tail)
 
 -- the lanes of tails `left` steps before the end of `steps` steps; at the end they are zeros
 unfoldable pub tails_at : Rows → ℕ → ℕ → ℕ → List ℕ
 tails_at times width steps zero = zeros width
-tails_at times width steps (suc left) = tails_step (tails_at times width steps left) (times (steps - suc left))
+tails_at times width steps (suc left) = tails_step 0 (tails_at times width steps left) (times (steps - suc left))
 
 -- the lanes of heads after a number of steps; before the first step they are zeros
 unfoldable pub heads_at : Rows → ℕ → ℕ → List ℕ
 heads_at times width zero = zeros width
-heads_at times width (suc row) = heads_step (heads_at times width row) (heads_at times width row) (times row)
+heads_at times width (suc row) = heads_step 0 (heads_at times width row) (heads_at times width row) (times row)
 
 -- the lanes of inserted rows after a number of steps
 unfoldable pub inserted_at : Rows → List ℕ → ℕ → ℕ → List ℕ
 inserted_at times job width zero = zeros width
-inserted_at times job width (suc row) = heads_step (inserted_at times job width row) (heads_at times width row) job
+inserted_at times job width (suc row) = heads_step 0 (inserted_at times job width row) (heads_at times width row) job
 
 -- the lanes of sums of inserted rows and tails after a number of steps: in each lane the greatest sum of the place's
 -- machines so far
 unfoldable pub sums_at : Rows → Rows → List ℕ → ℕ → ℕ → List ℕ
 sums_at times tails job width zero = zeros width
 sums_at times tails job width (suc row) =
-    sums_step (sums_at times tails job width row) (inserted_at times job width (suc row)) (tails row)
+    sums_step 0 (sums_at times tails job width row) (inserted_at times job width (suc row)) (tails row)
 
 -- the rows of a table, by their numbers; a row after the last has 0 lanes
 abbrev pub rows_of : List (List ℕ) → Rows

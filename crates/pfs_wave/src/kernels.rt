@@ -4,6 +4,7 @@ ghost use Rattle.std.specs.List.{slice_index_or};
 ghost use Rattle.pfs_wave.specs.Lanes.{rows_of, tails_at, sums_at};
 
 use crate::lanes::Lanes;
+use std::simd::prelude::*;
 
 /// Fills the tails of all steps, from the last step to the first.
 #[inline(never)]
@@ -15,10 +16,11 @@ pub fn fill_tails<L: Lanes>(times: &[L], tails: &mut [L])
         ≡ tails_at (rows_of (map L.lanes times.now)) L.WIDTH (length times.now) (length times.now - step) }
 {
     let steps = times.len();
+    let zero = u16x8::splat(0);
     let mut after = L::none();
     for left in 0..steps {
         let step = steps - 1 - left;
-        after = L::tails(&after, &times[step]);
+        after = L::tails(&after, &times[step], zero);
         tails[step] = after.again();
     }
 }
@@ -34,13 +36,14 @@ pub fn fill_sums<L: Lanes>(times: &[L], tails: &[L], job: &L, sums: &mut [u16])
         ≡ slice_index_or (sums_at (rows_of (map L.lanes times.now)) (rows_of (map L.lanes tails.now)) (L.lanes job.now)
         L.WIDTH (step + 1)) (L.WIDTH - 1) 0 }
 {
+    let zero = u16x8::splat(0);
     let mut head = L::none();
     let mut inserted = L::none();
     let mut sum = L::none();
     for step in 0..times.len() {
-        inserted = L::heads(&inserted, &head, job);
-        sum = L::sums(&sum, &inserted, &tails[step]);
+        inserted = L::heads(&inserted, &head, job, zero);
+        sum = L::sums(&sum, &inserted, &tails[step], zero);
         sums[step] = sum.last();
-        head = L::heads(&head, &head, &times[step]);
+        head = L::heads(&head, &head, &times[step], zero);
     }
 }

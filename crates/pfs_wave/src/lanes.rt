@@ -12,7 +12,7 @@ pub trait Lanes: Drop {
 
     ghost WIDTH: { ℕ };
 
-    /// The number of lanes of a row: 8, 16 or 24.
+    /// The number of lanes of a row: a multiple of 8, at most 208.
     const WIDTH: usize;
 
     /// A row of zeros.
@@ -26,36 +26,44 @@ pub trait Lanes: Drop {
     /// The eight lanes of a band.
     fn band(&self, band: usize) -> u16x8
         requires { 8 * band + 8 ≤ WIDTH }
-        ensures band { result ≡ take 8 (drop (8 * band) (lanes self.now)) }
-        ensures wide { length (lanes self.now) ≡ WIDTH };
+        ensures { result ≡ take 8 (drop (8 * band) (lanes self.now)) };
 
     /// Writes the eight lanes of a band.
     fn put_band(&mut self, band: usize, values: u16x8)
         requires { 8 * band + 8 ≤ WIDTH }
-        ensures band { lanes self.new
-            ≡ take (8 * band) (lanes self.old) ++ (values ++ drop (8 * band + 8) (lanes self.old)) }
-        ensures wide { length (lanes self.old) ≡ WIDTH };
+        ensures { lanes self.new
+            ≡ take (8 * band) (lanes self.old) ++ (values ++ drop (8 * band + 8) (lanes self.old)) };
 
     /// The value of the last lane.
     fn last(&self) -> u16
         ensures { result ≡ slice_index_or (lanes self.now) (WIDTH - 1) 0 };
 
-    /// The tails of a step from those of the step after it.
-    fn tails(after: &Self, times: &Self) -> Self
-        ensures { lanes result ≡ tails_step (lanes after.now) (lanes times.now) };
+    /// The tails of a step from those of the step after it. The first lane of `carry` is the lane after the last one.
+    fn tails(after: &Self, times: &Self, carry: u16x8) -> Self
+        ensures { lanes result ≡ tails_step (slice_index_or carry 0 0) (lanes after.now) (lanes times.now) };
 
-    /// The heads of a step, or the inserted rows: in each lane the greater of the lane before it in `before` (0 for the
-    /// first lane) and the same lane in `above`, plus the time of the lane.
-    fn heads(before: &Self, above: &Self, times: &Self) -> Self
-        ensures { lanes result ≡ heads_step (lanes before.now) (lanes above.now) (lanes times.now) };
+    /// The heads of a step, or the inserted rows: in each lane the greater of the lane before it in `before` (for the
+    /// first lane, the last lane of `carry`) and the same lane in `above`, plus the time of the lane.
+    fn heads(before: &Self, above: &Self, times: &Self, carry: u16x8) -> Self
+        ensures { lanes result
+            ≡ heads_step (slice_index_or carry 7 0) (lanes before.now) (lanes above.now) (lanes times.now) };
 
-    /// The sums of a step from those of the step before it, the inserted rows and the tails.
-    fn sums(before: &Self, inserted: &Self, tails: &Self) -> Self
-        ensures { lanes result ≡ sums_step (lanes before.now) (lanes inserted.now) (lanes tails.now) };
+    /// The sums of a step from those of the step before it, the inserted rows and the tails. The last lane of `carry`
+    /// is the lane before the first one.
+    fn sums(before: &Self, inserted: &Self, tails: &Self, carry: u16x8) -> Self
+        ensures { lanes result
+            ≡ sums_step (slice_index_or carry 7 0) (lanes before.now) (lanes inserted.now) (lanes tails.now) };
+
+    ghost wide: { (row : Self) → length (lanes row) ≡ WIDTH };
 
     ghost some: { 8 ≤ WIDTH };
 
-    ghost few: { WIDTH ≤ 24 };
+    ghost few: { WIDTH ≤ 208 };
 
     ghost whole: { WIDTH % 8 ≡ 0 };
+}
+
+/// A row of at most 104 lanes, which can be half of a wider one.
+pub trait Part: Lanes {
+    ghost part: { Self.WIDTH ≤ 104 };
 }

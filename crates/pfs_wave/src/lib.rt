@@ -2,9 +2,11 @@
 //! lanes of 16 bits.
 #![tactic(auto)]
 
+mod bands;
 mod bench;
 mod blends;
 mod changes;
+mod joined;
 mod kernels;
 mod lanes;
 pub mod laws;
@@ -16,18 +18,16 @@ mod rows;
 mod served;
 mod skewed;
 mod tables;
-mod three_bands;
 mod times;
-mod two_bands;
 mod vectors;
 mod wavefront;
 
+pub use bands::{EightBands, FiveBands, ThirteenBands, ThreeBands, TwentySixBands, TwoBands};
 pub use bench::LaneBench;
-pub use lanes::Lanes;
+pub use joined::Joined;
+pub use lanes::{Lanes, Part};
 pub use metered::MeteredLanes;
 pub use one_band::OneBand;
 pub use served::{Method, is_served, method_for};
 pub use tables::Tables;
-pub use three_bands::ThreeBands;
-pub use two_bands::TwoBands;
 pub use wavefront::Wavefront;

@@ -1,35 +1,26 @@
 //! Rows of 8 lanes.
-ghost use Rattle.std.specs.Prelude.{◌≡◌, ℕ, ◌+◌, ◌-◌, ◌*◌, ◌<◌, ◌≤◌, List, ◌++◌, take, drop};
+ghost use Rattle.std.specs.Prelude.{◌≡◌, ℕ, ◌+◌, ◌-◌, ◌*◌, ◌<◌, ◌≤◌, List, ◌++◌, length, take, drop};
 ghost use Rattle.std.proofs.Common.{arith, refl};
-ghost use Rattle.pfs_wave.specs.Lanes.{zeros};
 
 use crate::lanes::Lanes;
 use crate::vectors::{down, greater, sum, up};
-use std::marker::Model;
 use std::simd::prelude::*;
 
 /// Eight lanes, in one band.
 #[derive(Drop)]
 pub struct OneBand {
     one: u16x8,
-}
-
-impl Model for OneBand {
-    ghost use Rattle.std.specs.Prelude.{List, ℕ, ◌≡◌, length};
-
-    ghost Value = { List ℕ };
-
-    ghost view = { λ b. b.one };
-
-    ghost invariant = { λ b. length b.one ≡ 8 };
+    ghost eight: { length one ≡ 8 },
 }
 
 impl Lanes for OneBand {
-    ghost lanes = { λ b. b };
+    ghost lanes = { λ b. b.one };
 
     ghost WIDTH = { 8 };
 
     const WIDTH: usize = 8;
+
+    ghost wide = { λ b. b.eight };
 
     ghost some = { Prim.omega arith };
 
@@ -65,26 +56,23 @@ impl Lanes for OneBand {
     }
 
     #[inline(always)]
-    fn tails(after: &OneBand, times: &OneBand) -> OneBand {
-        let zero = u16x8::splat(0);
+    fn tails(after: &OneBand, times: &OneBand, carry: u16x8) -> OneBand {
         OneBand {
-            one: sum(greater(down(after.one, zero), after.one), times.one),
+            one: sum(greater(down(after.one, carry), after.one), times.one),
         }
     }
 
     #[inline(always)]
-    fn heads(before: &OneBand, above: &OneBand, times: &OneBand) -> OneBand {
-        let zero = u16x8::splat(0);
+    fn heads(before: &OneBand, above: &OneBand, times: &OneBand, carry: u16x8) -> OneBand {
         OneBand {
-            one: sum(greater(up(before.one, zero), above.one), times.one),
+            one: sum(greater(up(before.one, carry), above.one), times.one),
         }
     }
 
     #[inline(always)]
-    fn sums(before: &OneBand, inserted: &OneBand, tails: &OneBand) -> OneBand {
-        let zero = u16x8::splat(0);
+    fn sums(before: &OneBand, inserted: &OneBand, tails: &OneBand, carry: u16x8) -> OneBand {
         OneBand {
-            one: greater(up(before.one, zero), sum(inserted.one, tails.one)),
+            one: greater(up(before.one, carry), sum(inserted.one, tails.one)),
         }
     }
 }

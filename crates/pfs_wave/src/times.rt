@@ -99,15 +99,9 @@ pub fn fill_times<L: Lanes>(rows: &[L], order: &[usize], times: &mut [L], change
         (map L.lanes times.old)
         → HoldLanes (map L.lanes rows.now) order.now 0 L.WIDTH (map L.lanes times.new) }
 {
-    fill_band(rows, order, times, changed, 0);
-    if L::WIDTH < 16 {
-        return;
+    for band in 0..L::WIDTH / 8 {
+        fill_band(rows, order, times, changed, band);
     }
-    fill_band(rows, order, times, changed, 1);
-    if L::WIDTH < 24 {
-        return;
-    }
-    fill_band(rows, order, times, changed, 2);
 }
 
 /// Moves the steps from `from` to before `to`: each becomes a copy of the one `by` steps before it.

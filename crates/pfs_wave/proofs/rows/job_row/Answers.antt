@@ -14,7 +14,7 @@ loop-band-preserved g c =
     let is = c.WIDTH-band-end.ensures in
     let inside = c.loop-band-test.true in
     times_more c.args.instance.now.shop c.args.job g.L.Lanes.WIDTH _ _ _ (8 * c.loop-band.band) _ c.loop-band.invariant
-    (omega arith) (omega arith) c.eight_times.ensures c.put_band.ensures.band
+    (omega arith) (omega arith) c.eight_times.ensures c.put_band.ensures
 
 pub returns : goal.returns
 returns g c =

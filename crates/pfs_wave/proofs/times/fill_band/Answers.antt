@@ -29,24 +29,24 @@ loop-turn-preserved g c =
     let a =
     filled_more lanes rows first from width old c.loop-turn.times row step (row + 1) c.index-times-step.result
     c.put_band.new.self _ c.loop-turn.invariant.filled refl refl (omega arith) (omega arith) fits
-    c.put_band.ensures.wide c.put_band.ensures.band
+    (g.met.L.Lanes.wide _) c.put_band.ensures
     (out_is rows row c.band_of_row.ensures (c.push-a.ensures.row (past_at rows row) none)) in
     let b =
     filled_more lanes rows first from width old _ (row + 1) (step + 1) (row + 2) c.index-times-step-in-loop-turn.result
     c.put_band-in-loop-turn.new.self _ a (omega arith) (omega arith) (omega arith) (omega arith) fits
-    c.put_band-in-loop-turn.ensures.wide c.put_band-in-loop-turn.ensures.band
+    (g.met.L.Lanes.wide _) c.put_band-in-loop-turn.ensures
     (out_is rows (row + 1) c.band_of_row-in-loop-turn.ensures (c.push-b.ensures.row (past_at rows (row + 1)) one)) in
     let d =
     filled_more lanes rows first from width old _ (row + 2) (step + 2) (row + 3)
     c.index-times-step-in-loop-turn-2.result
     c.put_band-in-loop-turn-2.new.self _ b (omega arith) (omega arith) (omega arith) (omega arith) fits
-    c.put_band-in-loop-turn-2.ensures.wide c.put_band-in-loop-turn-2.ensures.band
+    (g.met.L.Lanes.wide _) c.put_band-in-loop-turn-2.ensures
     (out_is rows (row + 2) c.band_of_row-in-loop-turn-2.ensures (c.push-c.ensures.row (past_at rows (row + 2)) two)) in
     record {
       filled =
           filled_more lanes rows first from width old _ (row + 3) (step + 3) (from + 4 * (c.loop-turn.turn + 1))
           c.index-times-step-in-loop-turn-3.result c.put_band-in-loop-turn-3.new.self _ d (omega arith) (omega arith)
-          (omega arith) (omega arith) fits c.put_band-in-loop-turn-3.ensures.wide c.put_band-in-loop-turn-3.ensures.band
+          (omega arith) (omega arith) fits (g.met.L.Lanes.wide _) c.put_band-in-loop-turn-3.ensures
           (out_is rows (row + 3) c.band_of_row-in-loop-turn-3.ensures
           (c.push-d.ensures.row (past_at rows (row + 3)) three));
       blends =
@@ -73,7 +73,7 @@ loop-row-preserved g c =
           (row + 1)
           c.index-times-first.result c.put_band-in-loop-row.new.self _ c.loop-row.invariant.filled refl refl
           (omega arith)
-          (omega arith) fits c.put_band-in-loop-row.ensures.wide c.put_band-in-loop-row.ensures.band
+          (omega arith) fits (g.met.L.Lanes.wide _) c.put_band-in-loop-row.ensures
           (out_is rows row c.band_of_row-in-loop-row.ensures (c.push-one.ensures.row (past_at rows row) last));
       blends =
           next_is rows row (row + 1) _ refl c.band_of_row-in-loop-row.ensures

@@ -1,90 +1,63 @@
-use Rattle.std.proofs.Common.{◌≡◌, ◌*◌, ◌+◌, ◌-◌, map, min, length, subst, ap, sym, arith}
+use Rattle.std.proofs.Common.{◌≡◌, ◌≤◌, ◌*◌, ◌+◌, ◌-◌, map, min, length, subst, ap, sym, ◌∙◌, refl, arith}
 use Rattle.std.proofs.lemmas.List.{length-map}
-use Rattle.pfs_wave.specs.Private.HeldRows.{HoldLanes}
+use Rattle.pfs_wave.specs.Private.HeldRows.{HoldLanes, HoldOutside}
 use Rattle.pfs_wave.proofs.SkewedTimes.{hold_none, band_below, band_above}
 use Rattle.pfs_wave.proofs.times.fill_times.Goals as goal
 
-pub returns-then-WIDTH-lt16-clause-held : goal.returns-then-WIDTH-lt16-clause-held
-returns-then-WIDTH-lt16-clause-held g c outside =
+pub loop-band-init : goal.loop-band-init
+loop-band-init g c =
     let lanes = g.L.Lanes.lanes in
-    let rows = map lanes c.args.rows.now in
-    let order = c.args.order.now in
-    let width = g.L.Lanes.WIDTH in
-    let from = c.args.changed.from in
-    let to = c.args.changed.to in
-    let old = map lanes c.args.times.now in
-    let times = map lanes c.fill_band.new.times in
-    let some = g.met.L.Lanes.some in
-    let whole = g.met.L.Lanes.whole in
-    let is = c.WIDTH.ensures in
-    let few = c.if-WIDTH-lt16.true in
-    let is_width : 8 * 0 + 8 ≡ width = omega arith in
-    let ends : min (to + 7) (length c.args.times.now - 8 * 0) ≡ min (to + 7) (length old - 0) =
-    ap (λ n. min (to + 7) (n - 0)) (sym (length-map c.args.times.now lanes)) in
-    let below = band_below rows order 0 from to _ width old times c.fill_band.ensures.filled ends
-    (hold_none rows order old)
-    outside (omega arith) in
-    subst (λ n. HoldLanes rows order 0 n times) is_width below
+    record {
+      steps = refl;
+      wide = λ step. refl;
+      below = λ outside. hold_none (map lanes c.args.rows.now) c.args.order.now (map lanes c.args.times.now);
+      above = λ outside. outside;
+    }
 
-pub returns-then-WIDTH-lt24-clause-held : goal.returns-then-WIDTH-lt24-clause-held
-returns-then-WIDTH-lt24-clause-held g c outside =
+pub loop-band-preserved : goal.loop-band-preserved
+loop-band-preserved g c =
     let lanes = g.L.Lanes.lanes in
+    let width = g.L.Lanes.WIDTH in
     let rows = map lanes c.args.rows.now in
     let order = c.args.order.now in
-    let width = g.L.Lanes.WIDTH in
     let from = c.args.changed.from in
     let to = c.args.changed.to in
-    let old = map lanes c.args.times.now in
+    let band = c.loop-band.band in
+    let old = map lanes c.loop-band.times in
     let times = map lanes c.fill_band.new.times in
+    let filled = c.fill_band.ensures.filled in
+    let so_far = c.loop-band.invariant in
     let whole = g.met.L.Lanes.whole in
-    let is = c.WIDTH.ensures in
-    let is-2 = c.WIDTH-2.ensures in
-    let more = c.if-WIDTH-lt16.false in
-    let few = c.if-WIDTH-lt24.true in
-    let is_width : 8 * 1 + 8 ≡ width = omega arith in
-    let ends : min (to + 7) (length c.args.times.now - 8 * 0) ≡ min (to + 7) (length old - 0) =
-    ap (λ n. min (to + 7) (n - 0)) (sym (length-map c.args.times.now lanes)) in
-    let below = band_below rows order 0 from to _ width old times c.fill_band.ensures.filled ends
-    (hold_none rows order old)
-    outside (omega arith) in
-    let above = band_above rows order 0 from to _ width old times c.fill_band.ensures.filled ends outside in
-    let times-2 = map lanes c.fill_band-2.new.times in
-    let ends-2 : min (to + 7) (length c.fill_band.new.times - 8 * 1) ≡ min (to + 7) (length times - 8) =
-    ap (λ n. min (to + 7) (n - 8)) (sym (length-map c.fill_band.new.times lanes)) in
-    let below-2 = band_below rows order 8 from to _ width times times-2 c.fill_band-2.ensures.filled ends-2 below above
-    (omega arith) in
-    subst (λ n. HoldLanes rows order 0 n times-2) is_width below-2
+    let is = c.WIDTH-band-end.ensures in
+    let inside = c.loop-band-test.true in
+    let fits : 8 * band + 8 ≤ width = omega arith in
+    let next : 8 * band + 8 ≡ 8 * (band + 1) = omega arith in
+    let end = min (to + 7) (length c.loop-band.times - 8 * band) in
+    let ends : end ≡ min (to + 7) (length old - 8 * band) =
+    ap (λ n. min (to + 7) (n - 8 * band)) (sym (length-map c.loop-band.times lanes)) in
+    record {
+      steps = sym (length-map c.fill_band.new.times lanes) ∙ filled.steps ∙ length-map c.loop-band.times lanes
+          ∙ so_far.steps;
+      wide = λ step. filled.wide step ∙ so_far.wide step;
+      below = λ outside.
+          subst (λ n. HoldLanes rows order 0 n times) next
+          (band_below rows order (8 * band) from to end width old times filled ends (so_far.below outside)
+          (so_far.above outside) fits);
+      above = λ outside.
+          subst (λ n. HoldOutside rows order from to n width times) next
+          (band_above rows order (8 * band) from to end width old times filled ends (so_far.above outside));
+    }
 
 pub returns-clause-held : goal.returns-clause-held
 returns-clause-held g c outside =
     let lanes = g.L.Lanes.lanes in
-    let rows = map lanes c.args.rows.now in
-    let order = c.args.order.now in
-    let width = g.L.Lanes.WIDTH in
-    let from = c.args.changed.from in
-    let to = c.args.changed.to in
-    let old = map lanes c.args.times.now in
-    let times = map lanes c.fill_band.new.times in
-    let all = g.met.L.Lanes.few in
-    let is = c.WIDTH-2.ensures in
-    let more = c.if-WIDTH-lt24.false in
-    let is_width : 8 * 2 + 8 ≡ width = omega arith in
-    let ends : min (to + 7) (length c.args.times.now - 8 * 0) ≡ min (to + 7) (length old - 0) =
-    ap (λ n. min (to + 7) (n - 0)) (sym (length-map c.args.times.now lanes)) in
-    let below = band_below rows order 0 from to _ width old times c.fill_band.ensures.filled ends
-    (hold_none rows order old)
-    outside (omega arith) in
-    let above = band_above rows order 0 from to _ width old times c.fill_band.ensures.filled ends outside in
-    let times-2 = map lanes c.fill_band-2.new.times in
-    let ends-2 : min (to + 7) (length c.fill_band.new.times - 8 * 1) ≡ min (to + 7) (length times - 8) =
-    ap (λ n. min (to + 7) (n - 8)) (sym (length-map c.fill_band.new.times lanes)) in
-    let below-2 = band_below rows order 8 from to _ width times times-2 c.fill_band-2.ensures.filled ends-2 below above
-    (omega arith) in
-    let above-2 = band_above rows order 8 from to _ width times times-2 c.fill_band-2.ensures.filled ends-2 above in
-    let times-3 = map lanes c.fill_band-3.new.times in
-    let ends-3 : min (to + 7) (length c.fill_band-2.new.times - 8 * 2) ≡ min (to + 7) (length times-2 - 16) =
-    ap (λ n. min (to + 7) (n - 16)) (sym (length-map c.fill_band-2.new.times lanes)) in
-    let below-3 = band_below rows order 16 from to _ width times-2 times-3 c.fill_band-3.ensures.filled ends-3
-    below-2 above-2
-    (omega arith) in
-    subst (λ n. HoldLanes rows order 0 n times-3) is_width below-3
+    let whole = g.met.L.Lanes.whole in
+    let is = c.WIDTH-band-end.ensures in
+    let end = c.loop-band.auto.band-end in
+    let last = c.loop-band-test.false in
+    let all : 8 * c.loop-band.band ≡ g.L.Lanes.WIDTH = omega arith in
+    subst (λ n. HoldLanes (map lanes c.args.rows.now) c.args.order.now 0 n (map lanes c.loop-band.times)) all
+    (c.loop-band.invariant.below outside)
+
+pub returns-clause-wide : goal.returns-clause-wide
+returns-clause-wide g c = c.loop-band.invariant.wide

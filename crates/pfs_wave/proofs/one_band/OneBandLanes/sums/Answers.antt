@@ -1,8 +1,7 @@
 use Rattle.pfs_wave.proofs.OneBandLemmas.{sums_one}
-use Rattle.pfs_wave.proofs.EightLanes.{summed}
 use Rattle.pfs_wave.proofs.one_band.OneBandLanes.sums.Goals as goal
 
 pub returns : goal.returns
 returns c =
-    sums_one c.before-2.invariant c.inserted.invariant c.tails.invariant c.before-2.view_is c.inserted.view_is
-    c.tails.view_is (summed _ _ _ c.up.ensures.lanes c.sum.ensures.lanes c.greater.ensures.lanes)
+    sums_one _ _ _ _ _ _ c.args.before.now.eight c.args.inserted.now.eight c.args.tails.now.eight c.up.ensures.lanes _
+    c.sum.ensures.lanes c.greater.ensures.lanes

@@ -1,0 +1,107 @@
+//! Two rows of lanes, as one.
+ghost use Rattle.std.specs.Prelude.{◌≡◌, ℕ, ◌+◌, ◌-◌, ◌*◌, ◌<◌, ◌≤◌, List, ◌++◌, length, take, drop};
+ghost use Rattle.std.proofs.Common.{arith, ◌∙◌};
+ghost use Rattle.std.proofs.lemmas.List.{length-append};
+
+use crate::lanes::{Lanes, Part};
+use std::simd::prelude::*;
+
+/// The lanes of `a`, and after them those of `b`.
+#[derive(Drop)]
+pub struct Joined<A: Part, B: Part> {
+    a: A,
+    b: B,
+}
+
+impl<A: Part, B: Part> Lanes for Joined<A, B> {
+    ghost lanes = { λ row. A.lanes row.a ++ B.lanes row.b };
+
+    ghost WIDTH = { A.WIDTH + B.WIDTH };
+
+    const WIDTH: usize = A::WIDTH + B::WIDTH;
+
+    ghost wide = { λ row. Prim.omega (arith, length-append (A.lanes row.a) (B.lanes row.b), A.wide row.a, B.wide row.b) };
+
+    ghost some = { Prim.omega (arith, A.some) };
+
+    ghost few = { Prim.omega (arith, A.part, B.part) };
+
+    ghost whole = { Prim.omega (arith, A.whole, B.whole) };
+
+    #[inline(always)]
+    fn none() -> Joined<A, B> {
+        Joined {
+            a: A::none(),
+            b: B::none(),
+        }
+    }
+
+    #[inline(always)]
+    fn again(&self) -> Joined<A, B> {
+        Joined {
+            a: self.a.again(),
+            b: self.b.again(),
+        }
+    }
+
+    #[inline(always)]
+    fn band(&self, band: usize) -> u16x8 {
+        let bands = A::WIDTH / 8;
+        if band < bands {
+            self.a.band(band)
+        } else {
+            self.b.band(band - bands)
+        }
+    }
+
+    #[inline(always)]
+    fn put_band(&mut self, band: usize, values: u16x8) {
+        let bands = A::WIDTH / 8;
+        if band < bands {
+            self.a.put_band(band, values);
+        } else {
+            self.b.put_band(band - bands, values);
+        }
+    }
+
+    #[inline(always)]
+    fn last(&self) -> u16 {
+        self.b.last()
+    }
+
+    #[inline(always)]
+    fn tails(after: &Joined<A, B>, times: &Joined<A, B>, carry: u16x8) -> Joined<A, B> {
+        Joined {
+            a: A::tails(&after.a, &times.a, after.b.band(0)),
+            b: B::tails(&after.b, &times.b, carry),
+        }
+    }
+
+    #[inline(always)]
+    fn heads(
+        before: &Joined<A, B>,
+        above: &Joined<A, B>,
+        times: &Joined<A, B>,
+        carry: u16x8,
+    ) -> Joined<A, B> {
+        let between = before.a.band(A::WIDTH / 8 - 1);
+        Joined {
+            a: A::heads(&before.a, &above.a, &times.a, carry),
+            b: B::heads(&before.b, &above.b, &times.b, between),
+        }
+    }
+
+    #[inline(always)]
+    fn sums(
+        before: &Joined<A, B>,
+        inserted: &Joined<A, B>,
+        tails: &Joined<A, B>,
+        carry: u16x8,
+    ) -> Joined<A, B> {
+        let between = before.a.band(A::WIDTH / 8 - 1);
+        Joined {
+            a: A::sums(&before.a, &inserted.a, &tails.a, carry),
+            b: B::sums(&before.b, &inserted.b, &tails.b, between),
+        }
+    }
+}
