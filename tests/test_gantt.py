@@ -5,7 +5,6 @@ import os
 import pathlib
 import random
 import re
-import subprocess
 import sys
 from collections.abc import Callable
 from typing import NamedTuple
@@ -16,8 +15,9 @@ from support.files import generated
 from support.large import LIMITED
 from support.needs import tool
 from support.pictures import Letters, Picture, contrast, value_of
-from support.program import Program, Ran, ended
+from support.program import Program, Ran
 from support.tools import Done, output_of, run_tool, with_path
+from support.warm import Warm
 
 pytestmark = pytest.mark.long
 THREE = "table 3 2\n2 0 2 2 7\n1 2 5 7 9\n3 5 9 9 10\nmakespan 10\n"
@@ -94,12 +94,10 @@ BAD_WORDS = {
 
 
 @pytest.fixture(scope="session")
-def gantt(top: pathlib.Path, matplotlib: None) -> Gantt:
+def gantt(top: pathlib.Path, warm: Warm) -> Gantt:
     """Runs tools/gantt in a folder."""
     def run(folder: pathlib.Path, *words: str, text: str = THREE) -> Ran:
-        child = subprocess.Popen([top / "tools" / "gantt", *words], cwd=folder, stdin=subprocess.PIPE,
-                                 stdout=subprocess.PIPE, stderr=subprocess.PIPE)
-        return ended(child, text.encode())
+        return warm.run([top / "tools" / "gantt", *words], folder, text.encode())
     return run
 
 
@@ -800,11 +798,13 @@ def test_what_pfs_prints_is_drawn(pfs: Program, gantt: Gantt, folder: pathlib.Pa
 
 
 @pytest.mark.parametrize("ending", BEGINNINGS)
-def test_a_kind_of_picture_is_the_same_each_time(ending: str, gantt: Gantt, folder: pathlib.Path) -> None:
+def test_a_kind_of_picture_is_the_same_each_time(ending: str, top: pathlib.Path, matplotlib: None,
+                                                 folder: pathlib.Path) -> None:
     (folder / "table").write_text(THREE)
     texts = []
     for _ in range(2):
-        assert gantt(folder, "--critical", "table", f"picture.{ending}") == Ran(b"", b"", 0)
+        got = run_tool([top / "tools" / "gantt", "--critical", "table", f"picture.{ending}"], folder)
+        assert got == Done(0, "", "")
         texts.append((folder / f"picture.{ending}").read_bytes())
     assert texts[0].startswith(BEGINNINGS[ending])
     assert [hash(texts[0]), len(texts[0])] == [hash(texts[1]), len(texts[1])], "the second picture has other bytes"

@@ -15,6 +15,7 @@ from support.colours import least_difference
 from support.experiments import OLD_HEAD
 from support.pictures import Picture, Scale, value_of
 from support.tools import Done, run_tool
+from support.warm import Warm
 
 pytestmark = pytest.mark.long
 # By hand: the best makespans are 101 of a, 103 of b and 200 of c, from which the RPD of a's first run is 900 / 101.
@@ -84,12 +85,44 @@ Reported = Callable[..., Done]
 
 
 @pytest.fixture
-def report(top: pathlib.Path, matplotlib: None, folder: pathlib.Path) -> Reported:
+def script(top: pathlib.Path, warm: Warm, folder: pathlib.Path) -> Reported:
+    """Runs the script with these words."""
+    def run(*words: str) -> Done:
+        return warm.run_tool([top / "experiments" / "report", *words], folder)
+    return run
+
+
+@pytest.fixture
+def report(script: Reported, folder: pathlib.Path) -> Reported:
     """Reports a CSV of this text, into the folder `report`."""
     def run(text: str, *options: str) -> Done:
         (folder / "out.csv").write_text(text)
-        return run_tool([top / "experiments" / "report", *options, "out.csv", "report"], folder)
+        return script(*options, "out.csv", "report")
     return run
+
+
+# The picture of this name of the report of this CSV with these options, or one of its axes.
+Plotted = Callable[..., Picture]
+
+
+@pytest.fixture(scope="module")
+def plotted(top: pathlib.Path, warm: Warm, tmp_path_factory: pytest.TempPathFactory) -> Plotted:
+    """Pictures of reports, each of which is made once."""
+    folders: dict[tuple[str, ...], pathlib.Path] = {}
+
+    def picture(name: str, text: str, *options: str, axes: str = "axes_1") -> Picture:
+        if (text, *options) not in folders:
+            folder = folders[text, *options] = tmp_path_factory.mktemp("plotted")
+            (folder / "out.csv").write_text(text)
+            got = warm.run_tool([top / "experiments" / "report", "--format", "svg", *options, "out.csv", "report"], folder)
+            assert got.status == 0, got
+        return Picture(folders[text, *options] / "report" / f"{name}.svg", axes)
+    return picture
+
+
+# Tests of the same reports, which the process makes that tests them.
+of_reported, of_panels, of_timed = (pytest.mark.xdist_group(f"report, {text}")
+                                    for text in ("reported", "panels", "timed"))
 
 
 @pytest.mark.parametrize("ending", BEGINNINGS)
@@ -138,13 +171,13 @@ NAMES = ["a|b", "<img src=x>", "two\nlines", "_x_", "[l](http://x)", "\x1b[31mre
          "a&amp;b", "x" * 500, "`code`", "*bold*", "~~gone~~", "back\\slash"]
 
 
-def test_names_stay_in_their_cells(top: pathlib.Path, matplotlib: None, folder: pathlib.Path) -> None:
+def test_names_stay_in_their_cells(script: Reported, folder: pathlib.Path) -> None:
     """They aren't read as marks in Markdown, formulas in a spreadsheet, or codes on a terminal or in a picture."""
     with open(folder / "out.csv", "w", newline="") as file:
         writer = csv.writer(file)
         writer.writerows([["instance", "makespan", "method", "seconds", "jobs", "machines", "rounds", "take", "passes"],
                           *([f"{name}/i", at, name, "0.5", 3, 2, 1, 1, 0] for at, name in enumerate(NAMES, 10))])
-    got = run_tool([top / "experiments" / "report", "--format", "svg", "out.csv", "report"], folder)
+    got = script("--format", "svg", "out.csv", "report")
     assert got.status == 0 and "\x1b" not in got.stdout + got.stderr, got.stderr
     for name in ("table.md", "comparison.md", "sizes.md"):
         text = (folder / "report" / name).read_text()
@@ -163,8 +196,8 @@ def test_names_stay_in_their_cells(top: pathlib.Path, matplotlib: None, folder: 
         assert any(name in text for text in shown), f"{name} is in no picture"
 
 
-def test_a_missing_csv_is_rejected(top: pathlib.Path, matplotlib: None, folder: pathlib.Path) -> None:
-    assert run_tool([top / "experiments" / "report", "none.csv", "report"], folder).status == 2
+def test_a_missing_csv_is_rejected(script: Reported, folder: pathlib.Path) -> None:
+    assert script("none.csv", "report").status == 2
     assert list(folder.iterdir()) == []
 
 
@@ -181,11 +214,10 @@ BAD_WORDS = {
 
 
 @pytest.mark.parametrize("words", BAD_WORDS.values(), ids=BAD_WORDS)
-def test_words_are_refused_on_one_line(words: list[str], top: pathlib.Path, matplotlib: None,
-                                       folder: pathlib.Path) -> None:
+def test_words_are_refused_on_one_line(words: list[str], script: Reported, folder: pathlib.Path) -> None:
     (folder / "out.csv").write_text(REPORTED)
     (folder / "other.csv").write_text("instance,length\na,1\n")
-    got = run_tool([top / "experiments" / "report", *words], folder)
+    got = script(*words)
     assert (got.status, got.stdout, got.stderr.count("\n")) == (2, "", 1), got.stderr
     assert sorted(os.listdir(folder)) == ["other.csv", "out.csv"]
 
@@ -240,11 +272,14 @@ def test_the_rpd_is_relative_to_the_column_of_the_csv(report: Reported, folder: 
 FEW = "instance,makespan,seed,seconds\n"
 
 
-def methods(top: pathlib.Path, folder: pathlib.Path, first: str, second: str, *options: str,
-            **how: dict[str, str]) -> Done:
-    (folder / "first.csv").write_text(first)
-    (folder / "second.csv").write_text(second)
-    return run_tool([top / "experiments" / "report", *options, "first.csv", "second.csv", "report"], folder, **how)
+@pytest.fixture
+def methods(script: Reported, folder: pathlib.Path) -> Reported:
+    """Reports two CSVs of these texts."""
+    def run(first: str, second: str, *options: str) -> Done:
+        (folder / "first.csv").write_text(first)
+        (folder / "second.csv").write_text(second)
+        return script(*options, "first.csv", "second.csv", "report")
+    return run
 
 
 def compared(folder: pathlib.Path) -> list[dict[str, str]]:
@@ -264,10 +299,10 @@ PAIRED = {
 
 @pytest.mark.parametrize(("first", "second", "wanted"), PAIRED.values(), ids=PAIRED)
 def test_two_methods_are_compared(first: list[int], second: list[int], wanted: tuple[str, str, str, str, float],
-                                  top: pathlib.Path, scipy: None, folder: pathlib.Path) -> None:
+                                  methods: Reported, scipy: None, folder: pathlib.Path) -> None:
     texts = [FEW + "".join(f"i{at},{makespan},1,0.5\n" for at, makespan in enumerate(each))
              for each in (first, second)]
-    assert methods(top, folder, *texts).status == 0
+    assert methods(*texts).status == 0
     row, = compared(folder)
     assert (row["method"], row["other_method"]) == ("first", "second")
     assert tuple(row[name] for name in ("instances", "won", "tied", "lost")) == wanted[:4]
@@ -275,10 +310,10 @@ def test_two_methods_are_compared(first: list[int], second: list[int], wanted: t
 
 
 def test_each_setting_of_a_method_is_compared_by_means_of_the_instances_that_both_have(
-        top: pathlib.Path, matplotlib: None, folder: pathlib.Path) -> None:
+        methods: Reported, folder: pathlib.Path) -> None:
     """The means of the first one at 0 and at 100 rounds are 110 and 103 of a, and 120 and 105 of b."""
     other = FEW + "x/a,102,,\nx/a,105,,\nx/b,105,,\nx/z,1,,\n"
-    assert methods(top, folder, REPORTED, other).status == 0
+    assert methods(REPORTED, other).status == 0
     assert [(row["rounds"], row["take"], row["instances"], row["won"], row["tied"], row["lost"])
             for row in compared(folder)] == [("0", "4", "2", "0", "0", "2"), ("100", "4", "2", "1", "1", "0")]
 
@@ -288,7 +323,10 @@ def test_a_missing_scipy_is_reported(top: pathlib.Path, matplotlib: None, folder
     (folder / "scipy" / "__init__.py").write_text("raise ImportError('none')\n")
     for count, wanted, is_said in ((50, f"{2 / 2 ** 50:.4g}", False), (51, "", True)):
         texts = [FEW + "".join(f"i{at},{1000 + more * at},1,1\n" for at in range(1, count + 1)) for more in (1, 2)]
-        got = methods(top, folder, *texts, env=dict(os.environ, PYTHONPATH=str(folder)))
+        for name, text in zip(("first.csv", "second.csv"), texts):
+            (folder / name).write_text(text)
+        got = run_tool([top / "experiments" / "report", "first.csv", "second.csv", "report"], folder,
+                       env=dict(os.environ, PYTHONPATH=str(folder)))
         assert (got.status, got.stderr, "needs SciPy" in got.stdout) == (0, "", is_said)
         row, = compared(folder)
         assert (row["won"], row["p"]) == (str(count), wanted)
@@ -296,16 +334,16 @@ def test_a_missing_scipy_is_reported(top: pathlib.Path, matplotlib: None, folder
 
 @pytest.mark.parametrize(("text", "named"), [
     ("instance,length\na,1\n", "makespan"), ("a,b\n1,2\n", "instance, makespan"), ("makespan\n1\n", "instance")])
-def test_the_columns_that_a_csv_lacks_are_named(text: str, named: str, top: pathlib.Path, matplotlib: None,
+def test_the_columns_that_a_csv_lacks_are_named(text: str, named: str, methods: Reported,
                                                 folder: pathlib.Path) -> None:
-    got = methods(top, folder, REPORTED, text)
+    got = methods(REPORTED, text)
     assert got == Done(2, "", f"experiments/report: second.csv: no column {named}\n")
     assert not (folder / "report").exists()
 
 
-def test_a_csv_of_instances_and_makespans_is_enough(top: pathlib.Path, matplotlib: None, folder: pathlib.Path) -> None:
+def test_a_csv_of_instances_and_makespans_is_enough(methods: Reported, folder: pathlib.Path) -> None:
     """What it doesn't say of an instance another CSV does."""
-    assert methods(top, folder, REPORTED, "instance,makespan\na,102\nb,105\n").status == 0
+    assert methods(REPORTED, "instance,makespan\na,102\nb,105\n").status == 0
     with open(folder / "report" / "table.csv", newline="") as file:
         last = list(csv.DictReader(file))[-1]
     assert (last["method"], last["jobs"], last["machines"], last["runs"]) == ("second", "20", "5", "2")
@@ -318,21 +356,20 @@ def test_a_column_names_the_method(report: Reported, folder: pathlib.Path) -> No
     assert (row["method"], row["other_method"], row["won"]) == ("x", "y", "1")
 
 
-def test_files_of_one_name_are_methods_by_their_paths(top: pathlib.Path, matplotlib: None,
-                                                      folder: pathlib.Path) -> None:
+def test_files_of_one_name_are_methods_by_their_paths(script: Reported, folder: pathlib.Path) -> None:
     for name in ("x", "y"):
         (folder / name).mkdir()
         (folder / name / "out.csv").write_text("instance,makespan\na,1\n")
-    assert run_tool([top / "experiments" / "report", "x/out.csv", "y/out.csv", "report"], folder).status == 0
+    assert script("x/out.csv", "y/out.csv", "report").status == 0
     assert [row["method"] + " " + row["other_method"] for row in compared(folder)] == ["x/out.csv y/out.csv"]
 
 
-def test_instances_without_a_reference_have_no_rpd(top: pathlib.Path, matplotlib: None, folder: pathlib.Path) -> None:
+def test_instances_without_a_reference_have_no_rpd(methods: Reported, folder: pathlib.Path) -> None:
     """Where others have one: `Ta001` is not `ta001`. It is said which, and that the methods can't be compared."""
     head = "instance,makespan,seed,reference\n"
     texts = [head + "".join(f"{name}{at},{1100 + seed},{seed},{reference}\n" for at in range(3) for seed in (1, 2))
              for name, reference in (("i", "1000"), ("I", ""))]
-    got = methods(top, folder, *texts)
+    got = methods(*texts)
     assert (got.status, got.stderr) == (0, "experiments/report: first and second have no instance in common\n")
     assert percents(folder) == ["10.150", ""]
     assert "\n6 runs of 3 instances have no reference, and no RPD: I0, I1, I2.\n" in got.stdout
@@ -386,12 +423,12 @@ def all_signs(differences: list[float]) -> float:
     return sum(abs(each - middle) >= found - 1e-9 for each in sums) / len(sums)
 
 
-def test_ties_have_no_part_in_the_test(top: pathlib.Path, matplotlib: None, folder: pathlib.Path) -> None:
+def test_ties_have_no_part_in_the_test(methods: Reported, folder: pathlib.Path) -> None:
     """Of 11 pairs 4 are tied. The others are all won, with equal differences among them: 2 of 128 choices of signs."""
     differences = [0, 0, 0, 0, 10, 10, 20, 20, 20, 30, 40]
     texts = [FEW + "".join(f"i{at},{1000 + times * each},1,0.5\n" for at, each in enumerate(differences))
              for times in (0, 1)]
-    got = methods(top, folder, *texts)
+    got = methods(*texts)
     assert (got.status, got.stderr) == (0, "")
     row, = compared(folder)
     assert [row[name] for name in ("instances", "won", "tied", "lost", "pairs")] == ["11", "7", "4", "0", "7"]
@@ -401,27 +438,25 @@ def test_ties_have_no_part_in_the_test(top: pathlib.Path, matplotlib: None, fold
     assert float(row["vargha_delaney_a"]) == pytest.approx((7 + 4 / 2) / 11, abs=0.001), "A, of which ties are a half"
 
 
-def test_the_probability_is_that_of_all_choices_of_signs(top: pathlib.Path, matplotlib: None,
-                                                         folder: pathlib.Path) -> None:
+def test_the_probability_is_that_of_all_choices_of_signs(methods: Reported, folder: pathlib.Path) -> None:
     """Of the differences in RPD: the scales of the instances differ, and so do the ranks of their makespans."""
     scales, differences = [100, 100, 1000, 1000, 10000, 10000, 500], [9, 7, 50, 30, -100, -120, 15]
     texts = [FEW + "".join(f"i{at},{scale + max(0, times * each)},1,0.5\n"
                            for at, (scale, each) in enumerate(zip(scales, differences))) for times in (1, -1)]
-    assert methods(top, folder, *texts).status == 0
+    assert methods(*texts).status == 0
     row, = compared(folder)
     wanted = all_signs([100 * each / scale for scale, each in zip(scales, differences)])
     assert wanted != all_signs([float(each) for each in differences]), "the data tell RPD from makespans"
     assert float(row["p"]) == pytest.approx(wanted, rel=1e-3), "p of the differences in RPD"
 
 
-def test_holms_correction_is_for_all_pairs(top: pathlib.Path, matplotlib: None, folder: pathlib.Path) -> None:
+def test_holms_correction_is_for_all_pairs(report: Reported, folder: pathlib.Path) -> None:
     """Three methods: the least p is taken 3 times, the next one twice, and none is less than one before."""
     text = "instance,makespan,method\n" + "".join(
         f"i{at},{makespan},{method}\n" for method, makespans in (
             ("a", [1000] * 6), ("b", list(range(1001, 1007))), ("c", [1010, 1011, 1012, 1013, 1014, 990]))
         for at, makespan in enumerate(makespans))
-    (folder / "out.csv").write_text(text)
-    assert run_tool([top / "experiments" / "report", "out.csv", "report"], folder).status == 0
+    assert report(text).status == 0
     rows = sorted(compared(folder), key=lambda row: float(row["p"]))
     given, corrected = ([float(row[name]) for row in rows] for name in ("p", "p_holm"))
     assert given == pytest.approx([2 / 64, 6 / 64, 34 / 64], rel=1e-3)
@@ -487,10 +522,10 @@ def gaps_of(points: list[tuple[float, float]], scale: Scale) -> list[float]:
     return [round(scale(y), 3) + 0.0 for _, y in sorted(points)]
 
 
-def test_a_line_goes_through_the_means_and_its_band_from_seed_to_seed(report: Reported, folder: pathlib.Path) -> None:
+@of_reported
+def test_a_line_goes_through_the_means_and_its_band_from_seed_to_seed(plotted: Plotted) -> None:
     """The band goes from the least to the greatest mean of a seed."""
-    assert report(REPORTED, "--format", "svg").status == 0
-    picture = Picture(folder / "report" / "gap.svg", "axes_1")
+    picture = plotted("gap", REPORTED)
     gap, rounds = picture.down(), {mark.number: mark.at for mark in picture.marks("xtick")}
     assert gaps_of(picture.line("gap-20-5-4-0"), gap) == [15.0, 4.0]
     assert [x for x, _ in picture.line("gap-20-5-4-0")] == pytest.approx([rounds[0], rounds[100]], abs=0.01)
@@ -500,20 +535,20 @@ def test_a_line_goes_through_the_means_and_its_band_from_seed_to_seed(report: Re
     assert band == {(0, 15.0), (100, 2.0), (100, 6.0)}
 
 
-def test_the_rpd_by_rounds(report: Reported, folder: pathlib.Path) -> None:
+@of_reported
+def test_the_rpd_by_rounds(plotted: Plotted) -> None:
     """The best of a is 101 and that of b 103; the seeds at 100 rounds have the means 0 and 3.9220."""
-    assert report(REPORTED, "--format", "svg").status == 0
-    picture = Picture(folder / "report" / "rpd.svg", "axes_1")
+    picture = plotted("rpd", REPORTED)
     first, second = (900 / 101 + 1700 / 103) / 2, (400 / 101 + 400 / 103) / 2
     assert gaps_of(picture.line("rpd-20-5-4-0"), picture.down()) == pytest.approx([first, second / 2], abs=0.002)
     band = {round(picture.down()(y), 2) for _, y in picture.line("band-20-5-4-0")}
     assert band == {round(first, 2), 0.0, round(second, 2)}
 
 
-def test_the_rpd_by_seconds(report: Reported, folder: pathlib.Path) -> None:
+@of_reported
+def test_the_rpd_by_seconds(plotted: Plotted) -> None:
     """A panel for each size; the seconds have a logarithmic scale."""
-    assert report(REPORTED, "--format", "svg").status == 0
-    picture = Picture(folder / "report" / "seconds.svg", "axes_1")
+    picture = plotted("seconds", REPORTED)
     assert [letters.text for letters in picture.texts() if "×" in letters.text] == ["20×5"]
     marks = picture.marks("xtick")
     each = (math.log(marks[-1].number) - math.log(marks[0].number)) / (marks[-1].at - marks[0].at)
@@ -539,13 +574,13 @@ GOOD_FIRST = [FEW.replace("\n", ",rounds,jobs,machines,reference\n") + "".join(
 
 @pytest.mark.parametrize("width", ["3.5", "7", "12"])
 @pytest.mark.parametrize("sizes", [1, 3])
-def test_all_lines_by_seconds_are_in_their_axes(width: str, sizes: int, top: pathlib.Path, matplotlib: None,
+def test_all_lines_by_seconds_are_in_their_axes(width: str, sizes: int, methods: Reported,
                                                 folder: pathlib.Path) -> None:
     """The better method is first. The time has two marks at least, whose labels do not overlap, and the legend is
     whole."""
     texts = ["".join(line for line in text.splitlines(True) if sizes == 3 or not re.search(",(50|100),5,", line))
              for text in GOOD_FIRST]
-    got = methods(top, folder, *texts, "--format", "svg", "--width", width)
+    got = methods(*texts, "--format", "svg", "--width", width)
     assert (got.status, got.stderr) == (0, "")
     path = folder / "report" / "seconds.svg"
     for number in range(sizes):
@@ -595,22 +630,25 @@ def test_rounds_have_a_logarithmic_scale(report: Reported, folder: pathlib.Path)
 
 
 @pytest.mark.parametrize("ending", ["svg", "pdf"])
-def test_a_report_made_again_has_the_same_bytes(ending: str, report: Reported, folder: pathlib.Path) -> None:
-    """The second report is made more than a second later."""
+def test_a_report_made_again_has_the_same_bytes(ending: str, top: pathlib.Path, matplotlib: None,
+                                                folder: pathlib.Path) -> None:
+    """The second report is made more than a second later, by a process whose sets and hashes differ."""
+    (folder / "out.csv").write_text(REPORTED)
     made = []
-    for _ in range(2):
-        assert report(REPORTED, "--format", ending).status == 0
+    for pause in (1.1, 0):
+        got = run_tool([top / "experiments" / "report", "--format", ending, "out.csv", "report"], folder)
+        assert got.status == 0, got
         made.append({path.name: path.read_bytes() for path in (folder / "report").iterdir()})
-        time.sleep(1.1)
+        time.sleep(pause)
     assert [name for name in made[0] if made[0][name] != made[1][name]] == [], "files that differ"
 
 
+@of_reported
 @pytest.mark.parametrize(("name", "line"), [("gap", "gap-20-5-4-0"), ("rpd", "rpd-20-5-4-0"),
                                             ("seconds", "seconds-20-5-0")])
-def test_marks_of_points_are_whole(name: str, line: str, report: Reported, folder: pathlib.Path) -> None:
+def test_marks_of_points_are_whole(name: str, line: str, plotted: Plotted) -> None:
     """Nothing cuts them at the ends of the axes."""
-    assert report(REPORTED, "--format", "svg").status == 0
-    group = Picture(folder / "report" / f"{name}.svg", "axes_1").groups[line]
+    group = plotted(name, REPORTED).groups[line]
     assert [each.tag for each in group.iter() if each.get("clip-path")] == []
     assert len(list(group.iter("{http://www.w3.org/2000/svg}use"))) == 2
 
@@ -625,11 +663,11 @@ def test_sizes_have_distinguishable_colours(report: Reported, folder: pathlib.Pa
     assert min(map(least_difference, fills, fills[1:])) > 10, fills
 
 
+@of_reported
 @pytest.mark.parametrize("name", ["gap", "rpd", "seconds", "time"])
-def test_letters_can_be_read_at_the_width_of_a_column(name: str, report: Reported, folder: pathlib.Path) -> None:
-    """They have 7 points or more, and with `--no-title` there are no titles."""
-    assert report(REPORTED, "--format", "svg", "--width", "3.5", "--no-title").status == 0
-    picture = Picture(folder / "report" / f"{name}.svg")
+def test_letters_can_be_read_at_the_width_of_a_column(name: str, plotted: Plotted) -> None:
+    """They have 7 points or more, and with `--no-title` there is no title."""
+    picture = plotted(name, REPORTED, "--width", "3.5", "--no-title", axes="figure_1")
     (points, _), = picture.shapes("patch_1")
     assert max(x for x, _ in points) == pytest.approx(252, abs=0.1)
     assert min(letters.size for letters in picture.texts()) >= 7
@@ -642,12 +680,11 @@ def test_the_fonts_of_a_pdf_are_truetype(report: Reported, folder: pathlib.Path)
         assert b"/FontFile2" in path.read_bytes() and b"/Type3" not in path.read_bytes(), path.name
 
 
+@of_panels
 @pytest.mark.parametrize(("take", "passes"), GAPS, ids=[f"take {take}, passes {passes}" for take, passes in GAPS])
-def test_a_panel_shows_the_gaps_of_the_take_and_the_passes_in_its_title(take: int, passes: int, report: Reported,
-                                                                        folder: pathlib.Path) -> None:
-    assert report(PANELS, "--format", "svg").status == 0
-    path = folder / "report" / "gap.svg"
-    panels = [Picture(path, f"axes_{number}") for number in range(1, 5)]
+def test_a_panel_shows_the_gaps_of_the_take_and_the_passes_in_its_title(take: int, passes: int,
+                                                                        plotted: Plotted) -> None:
+    panels = [plotted("gap", PANELS, axes=f"axes_{number}") for number in range(1, 5)]
     titles = [next(letters for letters in panel.texts() if letters.text.startswith("take")) for panel in panels]
     wanted = sorted(f"take {take}, passes {passes}" for take, passes in GAPS)
     assert sorted(title.text for title in titles) == wanted, "titles of the panels"
@@ -662,11 +699,11 @@ def test_a_panel_shows_the_gaps_of_the_take_and_the_passes_in_its_title(take: in
 # The times
 
 @pytest.fixture
-def times(report: Reported, folder: pathlib.Path) -> Picture:
-    assert report(TIMED, "--format", "svg").status == 0
-    return Picture(folder / "report" / "time.svg")
+def times(plotted: Plotted) -> Picture:
+    return plotted("time", TIMED, axes="figure_1")
 
 
+@of_timed
 @pytest.mark.parametrize(("size", "parts"), [
     ("20-5", {"median": [3, 3], "box": [2, 2, 2, 4, 4], "least": [1, 2], "greatest": [4, 10]}),
     ("100-10", {"median": [7, 7], "box": [7, 7, 7, 7, 7], "least": [7, 7], "greatest": [7, 7]}),
@@ -678,6 +715,7 @@ def test_a_box_has_the_nanoseconds_a_cell_of_most_rounds(size: str, parts: dict[
     assert found == parts, f"nanoseconds a cell in the box of {size}"
 
 
+@of_timed
 def test_a_box_is_above_its_size(times: Picture) -> None:
     for size in ("20-5", "100-10"):
         label, = times.find(size.replace("-", "×"))
@@ -685,6 +723,7 @@ def test_a_box_is_above_its_size(times: Picture) -> None:
         assert sum(across) / len(across) == pytest.approx(label.x, abs=0.5)
 
 
+@of_timed
 def test_the_title_of_the_times_names_the_most_rounds(times: Picture) -> None:
     assert len(times.find("Time per cell at 100 rounds, with the start of the process")) == 1
     assert len(times.find("processor time per table cell, ns")) == 1

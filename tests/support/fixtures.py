@@ -1,2 +1,2 @@
 """The modules of this package that have fixtures."""
-pytest_plugins: list[str] = ["support.tools", "support.ssh", "support.slurm", "support.experiments"]
+pytest_plugins: list[str] = ["support.tools", "support.warm", "support.ssh", "support.slurm", "support.experiments"]

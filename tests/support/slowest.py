@@ -8,6 +8,8 @@ from _pytest.terminal import TerminalReporter
 
 BEGUN = pytest.StashKey[float]()
 NAME = "processor seconds"
+# The processor seconds of programs that another process has waited for (support/warm.py).
+ELSEWHERE: list[float] = []
 
 
 def pytest_addoption(parser: pytest.Parser) -> None:
@@ -16,8 +18,8 @@ def pytest_addoption(parser: pytest.Parser) -> None:
 
 
 def used() -> float:
-    """The processor seconds of this process and of those that it has waited for."""
-    return sum(os.times()[:4])
+    """The processor seconds of this process, of those that it has waited for, and of those elsewhere."""
+    return sum(os.times()[:4]) + sum(ELSEWHERE)
 
 
 @pytest.hookimpl(tryfirst=True)  # type: ignore[misc]  # pluggy has no types
