@@ -4,7 +4,7 @@ ghost use Rattle.pfs_base.specs.FlowShop.{IsWithin};
 ghost use Rattle.pfs_base.specs.Limits.{limits};
 ghost use Rattle.pfs_insert.specs.Inserter.{IsBestPlace};
 ghost use Rattle.pfs_order.specs.Sequence.{IsSequence};
-ghost use Rattle.pfs_wave.specs.Served.{IsServed};
+ghost use Rattle.pfs_wave.specs.Served.{IsServed, lanes_of};
 ghost use Rattle.pfs_c.specs.Validation.{shop_of};
 ghost use Rattle.pfs_c.specs.Private.Rows.{TailsFrom};
 
@@ -14,7 +14,10 @@ use crate::rows::{add_head, span_with};
 use pfs_base::{Instance, MOST_MACHINES};
 use pfs_insert::{HeadsTails, Inserter, Placed};
 use pfs_order::Seq;
-use pfs_wave::{Lanes, MeteredLanes, Method, OneBand, ThreeBands, TwoBands, Wavefront, method_for};
+use pfs_wave::{
+    EightBands, FiveBands, Lanes, MeteredLanes, Method, OneBand, ThirteenBands, ThreeBands,
+    TwentySixBands, TwoBands, Wavefront, Width, method_for,
+};
 use std::alloc::Global;
 
 /// Returns the best place for a job in a sequence, and the makespan with the job there, from the caller's times. It
@@ -90,9 +93,7 @@ pub(crate) fn best_place(
 {
     match method_for(instance) {
         Method::HeadsTails => best_by_rows(alloc, instance, sequence, job),
-        Method::OneBand => best_in_lanes::<OneBand>(alloc, instance, sequence, job),
-        Method::TwoBands => best_in_lanes::<TwoBands>(alloc, instance, sequence, job),
-        Method::ThreeBands => best_in_lanes::<ThreeBands>(alloc, instance, sequence, job),
+        Method::Wavefront(width) => best_in_width(alloc, instance, width, sequence, job),
     }
 }
 
@@ -124,6 +125,33 @@ fn best_by_rows(
         place: best.place,
         span: bench.reveal(best.span),
     })
+}
+
+// `best_place` by a wavefront of a given width.
+fn best_in_width(
+    alloc: Global,
+    instance: &Instance,
+    width: Width,
+    sequence: &Seq,
+    job: usize,
+) -> Result<Placed<u64>, CallFault>
+    requires served { IsServed instance.now.shop (lanes_of width) }
+    requires size { sequence.now.size ≡ instance.now.shop.jobs }
+    requires job { job < instance.now.shop.jobs }
+    requires absent { Contains sequence.now.jobs job → ⊥ }
+    ensures best { IfOk result (λ best.
+        IsBestPlace instance.now.shop sequence.now.jobs job best.place best.span) }
+    ensures memory { IfErr result (λ why. why ≡ CallFault.Memory) }
+{
+    match width {
+        Width::Lanes8 => best_in_lanes::<OneBand>(alloc, instance, sequence, job),
+        Width::Lanes16 => best_in_lanes::<TwoBands>(alloc, instance, sequence, job),
+        Width::Lanes24 => best_in_lanes::<ThreeBands>(alloc, instance, sequence, job),
+        Width::Lanes40 => best_in_lanes::<FiveBands>(alloc, instance, sequence, job),
+        Width::Lanes64 => best_in_lanes::<EightBands>(alloc, instance, sequence, job),
+        Width::Lanes104 => best_in_lanes::<ThirteenBands>(alloc, instance, sequence, job),
+        Width::Lanes208 => best_in_lanes::<TwentySixBands>(alloc, instance, sequence, job),
+    }
 }
 
 // `best_place` by a wavefront.

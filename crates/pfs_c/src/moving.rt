@@ -4,14 +4,17 @@ ghost use Rattle.std.specs.Prelude.{All, Contains, IfOk, IfErr, OnOk};
 ghost use Rattle.pfs_insert.specs.Insertion.{heads_tails_cost};
 ghost use Rattle.pfs_insert.specs.Inserter.{Fits};
 ghost use Rattle.pfs_search.specs.Greedy.{moved};
-ghost use Rattle.pfs_wave.specs.Served.{IsServed};
+ghost use Rattle.pfs_wave.specs.Served.{IsServed, lanes_of};
 ghost use Rattle.pfs_c.specs.Building.{after_visits, visited};
 
 use crate::numbers::CallFault;
 use pfs_base::{Bench, Instance, MOST_PASSES};
 use pfs_insert::{HeadsTails, Inserter};
 use pfs_order::Seq;
-use pfs_wave::{Lanes, MeteredLanes, Method, OneBand, ThreeBands, TwoBands, Wavefront, method_for};
+use pfs_wave::{
+    EightBands, FiveBands, Lanes, MeteredLanes, Method, OneBand, ThirteenBands, ThreeBands,
+    TwentySixBands, TwoBands, Wavefront, Width, method_for,
+};
 use std::alloc::Global;
 
 /// Makes passes over a list of jobs: each job leaves its place in the sequence, if it has one, for its first best
@@ -32,9 +35,7 @@ pub(crate) fn make_visits(
 {
     match method_for(instance) {
         Method::HeadsTails => visit_by_rows(alloc, instance, seq, list, passes),
-        Method::OneBand => visit_in_lanes::<OneBand>(alloc, instance, seq, list, passes),
-        Method::TwoBands => visit_in_lanes::<TwoBands>(alloc, instance, seq, list, passes),
-        Method::ThreeBands => visit_in_lanes::<ThreeBands>(alloc, instance, seq, list, passes),
+        Method::Wavefront(width) => visit_in_width(alloc, instance, width, seq, list, passes),
     }
 }
 
@@ -58,6 +59,34 @@ fn visit_by_rows(
         return Err(CallFault::Memory);
     };
     visit_all(alloc, &mut bench, &mut inserter, seq, list, passes)
+}
+
+// What `make_visits` does, by a wavefront of a given width.
+fn visit_in_width(
+    alloc: Global,
+    instance: &Instance,
+    width: Width,
+    seq: &mut Seq,
+    list: &[u32],
+    passes: u32,
+) -> Result<(), CallFault>
+    requires served { IsServed instance.now.shop (lanes_of width) }
+    requires size { seq.old.size ≡ instance.now.shop.jobs }
+    requires jobs { All (λ job. job < instance.now.shop.jobs) list.now }
+    requires few { length list.now ≤ instance.now.shop.jobs }
+    requires passes { passes ≤ MOST_PASSES }
+    ensures jobs { OnOk result (seq.new.jobs ≡ after_visits instance.now.shop list.now passes seq.old.jobs) }
+    ensures memory { IfErr result (λ why. why ≡ CallFault.Memory) }
+{
+    match width {
+        Width::Lanes8 => visit_in_lanes::<OneBand>(alloc, instance, seq, list, passes),
+        Width::Lanes16 => visit_in_lanes::<TwoBands>(alloc, instance, seq, list, passes),
+        Width::Lanes24 => visit_in_lanes::<ThreeBands>(alloc, instance, seq, list, passes),
+        Width::Lanes40 => visit_in_lanes::<FiveBands>(alloc, instance, seq, list, passes),
+        Width::Lanes64 => visit_in_lanes::<EightBands>(alloc, instance, seq, list, passes),
+        Width::Lanes104 => visit_in_lanes::<ThirteenBands>(alloc, instance, seq, list, passes),
+        Width::Lanes208 => visit_in_lanes::<TwentySixBands>(alloc, instance, seq, list, passes),
+    }
 }
 
 // What `make_visits` does, by a wavefront.

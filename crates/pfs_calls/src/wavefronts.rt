@@ -9,7 +9,8 @@ use pfs_insert::{HeadsTails, Inserter};
 use pfs_order::Seq;
 use pfs_tests::shops::shop;
 use pfs_wave::{
-    Lanes, MeteredLanes, OneBand, ThreeBands, TwoBands, Wavefront, is_served, method_for,
+    EightBands, FiveBands, Lanes, MeteredLanes, OneBand, ThirteenBands, ThreeBands, TwentySixBands,
+    TwoBands, Wavefront, is_served, method_for,
 };
 
 /// Inserts the jobs of a shop into a sequence in the order of their numbers, each at its best place. The arguments are
@@ -28,6 +29,18 @@ pub(crate) fn wavefronts_call(rt: &HostRuntime, words: &[String]) -> Result<(), 
     }
     if is_served(&instance, 24) {
         insert_all::<ThreeBands>(rt, &instance)?;
+    }
+    if is_served(&instance, 40) {
+        insert_all::<FiveBands>(rt, &instance)?;
+    }
+    if is_served(&instance, 64) {
+        insert_all::<EightBands>(rt, &instance)?;
+    }
+    if is_served(&instance, 104) {
+        insert_all::<ThirteenBands>(rt, &instance)?;
+    }
+    if is_served(&instance, 208) {
+        insert_all::<TwentySixBands>(rt, &instance)?;
     }
     Ok(())
 }

@@ -2,7 +2,7 @@
 ghost use Rattle.std.specs.Prelude.{◌≡◌, ℕ, ◌+◌, ◌<◌, ◌≤◌, ◌^◌, length, false, IfOk, IfErr};
 ghost use Rattle.pfs_base.specs.Paths.{makespan as makespan_of};
 ghost use Rattle.pfs_insert.specs.Insertion.{heads_tails_cost};
-ghost use Rattle.pfs_wave.specs.Served.{IsServed};
+ghost use Rattle.pfs_wave.specs.Served.{IsServed, lanes_of};
 ghost use Rattle.pfs_search.specs.Solution.{IsFound, IsImproved};
 
 use crate::fault::SearchFault;
@@ -12,7 +12,10 @@ use pfs_audit::makespan;
 use pfs_base::{Bench, Instance, Length, MOST_PASSES, MOST_ROUNDS, Shop, Span};
 use pfs_insert::{HeadsTails, Inserter};
 use pfs_order::Order;
-use pfs_wave::{Lanes, MeteredLanes, Method, OneBand, ThreeBands, TwoBands, Wavefront, method_for};
+use pfs_wave::{
+    EightBands, FiveBands, Lanes, MeteredLanes, Method, OneBand, ThirteenBands, ThreeBands,
+    TwentySixBands, TwoBands, Wavefront, Width, method_for,
+};
 use rand_core::SeedableRng;
 use rand_pcg::Pcg32;
 use std::alloc::Global;
@@ -52,10 +55,8 @@ pub fn solve(
 {
     match method_for(instance) {
         Method::HeadsTails => solve_by_rows(alloc, instance, rounds, take, passes, seed),
-        Method::OneBand => solve_in_lanes::<OneBand>(alloc, instance, rounds, take, passes, seed),
-        Method::TwoBands => solve_in_lanes::<TwoBands>(alloc, instance, rounds, take, passes, seed),
-        Method::ThreeBands => {
-            solve_in_lanes::<ThreeBands>(alloc, instance, rounds, take, passes, seed)
+        Method::Wavefront(width) => {
+            solve_in_width(alloc, instance, width, rounds, take, passes, seed)
         }
     }
 }
@@ -89,15 +90,9 @@ pub fn improve(
         Method::HeadsTails => {
             improve_by_rows(alloc, instance, start, first, count, take, passes, seed)
         }
-        Method::OneBand => {
-            improve_in_lanes::<OneBand>(alloc, instance, start, first, count, take, passes, seed)
-        }
-        Method::TwoBands => {
-            improve_in_lanes::<TwoBands>(alloc, instance, start, first, count, take, passes, seed)
-        }
-        Method::ThreeBands => {
-            improve_in_lanes::<ThreeBands>(alloc, instance, start, first, count, take, passes, seed)
-        }
+        Method::Wavefront(width) => improve_in_width(
+            alloc, instance, width, start, first, count, take, passes, seed,
+        ),
     }
 }
 
@@ -129,6 +124,41 @@ fn solve_by_rows(
         makespan: bench.reveal(kept.span),
         cells: bench.cells(),
     })
+}
+
+// `solve` by a wavefront of a given width.
+fn solve_in_width(
+    alloc: Global,
+    instance: &Instance,
+    width: Width,
+    rounds: u32,
+    take: usize,
+    passes: u32,
+    seed: u64,
+) -> Result<Solution, SearchFault>
+    requires served { IsServed instance.now.shop (lanes_of width) }
+    requires some { 1 ≤ take }
+    requires few { take ≤ instance.now.shop.jobs }
+    requires rounds { rounds ≤ MOST_ROUNDS }
+    requires passes { passes ≤ MOST_PASSES }
+    ensures found { IfOk result (λ found.
+        IsFound instance.now.shop rounds take passes seed found.order found.makespan found.cells) }
+    ensures short { IfOk result (λ found. found.makespan < 10 ^ 18) }
+    ensures fault { IfErr result (λ fault. fault ≡ SearchFault.Memory 0) }
+{
+    match width {
+        Width::Lanes8 => solve_in_lanes::<OneBand>(alloc, instance, rounds, take, passes, seed),
+        Width::Lanes16 => solve_in_lanes::<TwoBands>(alloc, instance, rounds, take, passes, seed),
+        Width::Lanes24 => solve_in_lanes::<ThreeBands>(alloc, instance, rounds, take, passes, seed),
+        Width::Lanes40 => solve_in_lanes::<FiveBands>(alloc, instance, rounds, take, passes, seed),
+        Width::Lanes64 => solve_in_lanes::<EightBands>(alloc, instance, rounds, take, passes, seed),
+        Width::Lanes104 => solve_in_lanes::<ThirteenBands>(
+            alloc, instance, rounds, take, passes, seed,
+        ),
+        Width::Lanes208 => solve_in_lanes::<TwentySixBands>(
+            alloc, instance, rounds, take, passes, seed,
+        ),
+    }
 }
 
 // `solve` by a wavefront.
@@ -198,6 +228,55 @@ fn improve_by_rows(
         makespan: bench.reveal(improved.span),
         cells: bench.cells(),
     })
+}
+
+// `improve` by a wavefront of a given width, from an order and its makespan.
+fn improve_in_width(
+    alloc: Global,
+    instance: &Instance,
+    width: Width,
+    start: Kept<Span>,
+    first: u32,
+    count: u32,
+    take: usize,
+    passes: u32,
+    seed: u64,
+) -> Result<Solution, SearchFault>
+    requires served { IsServed instance.now.shop (lanes_of width) }
+    requires order_jobs { length start.order ≡ instance.now.shop.jobs }
+    requires span { start.span ≡ makespan_of instance.now.shop start.order }
+    requires some { 1 ≤ take }
+    requires few { take ≤ instance.now.shop.jobs }
+    requires rounds { first + count ≤ MOST_ROUNDS }
+    requires passes { passes ≤ MOST_PASSES }
+    ensures found { IfOk result (λ found. IsImproved instance.now.shop start.order first count take passes seed
+        found.order found.makespan found.cells) }
+    ensures short { IfOk result (λ found. found.makespan < 10 ^ 18) }
+    ensures fault { IfErr result (λ fault. fault ≡ SearchFault.Memory 0) }
+{
+    match width {
+        Width::Lanes8 => improve_in_lanes::<OneBand>(
+            alloc, instance, start, first, count, take, passes, seed,
+        ),
+        Width::Lanes16 => improve_in_lanes::<TwoBands>(
+            alloc, instance, start, first, count, take, passes, seed,
+        ),
+        Width::Lanes24 => improve_in_lanes::<ThreeBands>(
+            alloc, instance, start, first, count, take, passes, seed,
+        ),
+        Width::Lanes40 => improve_in_lanes::<FiveBands>(
+            alloc, instance, start, first, count, take, passes, seed,
+        ),
+        Width::Lanes64 => improve_in_lanes::<EightBands>(
+            alloc, instance, start, first, count, take, passes, seed,
+        ),
+        Width::Lanes104 => improve_in_lanes::<ThirteenBands>(
+            alloc, instance, start, first, count, take, passes, seed,
+        ),
+        Width::Lanes208 => improve_in_lanes::<TwentySixBands>(
+            alloc, instance, start, first, count, take, passes, seed,
+        ),
+    }
 }
 
 // `improve` by a wavefront, from an order and its makespan.

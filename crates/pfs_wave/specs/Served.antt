@@ -2,6 +2,8 @@
 use Rattle.std.specs.Prelude.{ℕ, ◌+◌, ◌-◌, ◌*◌, ◌<◌, ◌≤◌}
 use Rattle.pfs_base.specs.FlowShop.{FlowShop}
 use Rattle.pfs_base.specs.Paths.{greatest}
+use Rattle.pfs_wave.specs.declared.served.Width.{Width}
+use Rattle.pfs_wave.specs.declared.served.Width.TheVariants as width
 
 -- an upper bound on the weight of each path of all n jobs on m machines: n + m - 1 operations, each of the longest time
 abbrev pub longest_path : FlowShop → ℕ
@@ -14,3 +16,13 @@ pub record IsServed (shop : FlowShop) (width : ℕ) : Type 0 where
   pub some : 1 ≤ shop.machines
   pub few : shop.machines ≤ width
   pub short : longest_path shop < 65535
+
+-- the number of lanes of a width
+abbrev pub lanes_of : Width → ℕ
+lanes_of width.Lanes8 = 8
+lanes_of width.Lanes16 = 16
+lanes_of width.Lanes24 = 24
+lanes_of width.Lanes40 = 40
+lanes_of width.Lanes64 = 64
+lanes_of width.Lanes104 = 104
+lanes_of width.Lanes208 = 208

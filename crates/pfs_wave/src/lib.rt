@@ -28,6 +28,6 @@ pub use joined::Joined;
 pub use lanes::{Lanes, Part};
 pub use metered::MeteredLanes;
 pub use one_band::OneBand;
-pub use served::{Method, is_served, method_for};
+pub use served::{Method, Width, is_served, method_for};
 pub use tables::Tables;
 pub use wavefront::Wavefront;

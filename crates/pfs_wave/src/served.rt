@@ -1,22 +1,33 @@
 //! Which method serves a shop.
 ghost use Rattle.std.specs.Prelude.{◌≡◌, ◌≤◌, ◌↔◌, IsTrue};
 ghost use Rattle.pfs_base.specs.Paths.{greatest};
-ghost use Rattle.pfs_wave.specs.Served.{IsServed};
-ghost use Rattle.pfs_wave.specs.declared.served.Method.TheVariants.{HeadsTails, OneBand, TwoBands, ThreeBands};
+ghost use Rattle.pfs_wave.specs.Served.{IsServed, lanes_of};
+ghost use Rattle.pfs_wave.specs.declared.served.Width.{Width};
+ghost use Rattle.pfs_wave.specs.declared.served.Width.TheVariants.{Lanes208};
+ghost use Rattle.pfs_wave.specs.declared.served.Method.TheVariants.{HeadsTails, Wavefront};
 
 use pfs_base::Instance;
+
+/// The number of lanes of a wavefront, of 16 bits each.
+#[derive(Clone, Copy, Debug, PartialEq, Eq)]
+pub enum Width {
+    Lanes8,
+    Lanes16,
+    Lanes24,
+    Lanes40,
+    Lanes64,
+    Lanes104,
+    /// For up to 208 machines, more than a shop has.
+    Lanes208,
+}
 
 /// The method by which a search finds best places.
 #[derive(Clone, Copy, Debug, PartialEq, Eq)]
 pub enum Method {
     /// Heads and tails in lengths of 64 bits, a row at a time.
     HeadsTails,
-    /// A wavefront of 8 lanes of 16 bits.
-    OneBand,
-    /// A wavefront of 16 lanes of 16 bits.
-    TwoBands,
-    /// A wavefront of 24 lanes of 16 bits.
-    ThreeBands,
+    /// A wavefront of this width.
+    Wavefront(Width),
 }
 
 /// Whether a wavefront of `width` lanes serves an instance: it has at least 8 jobs and at most `width` machines, and
@@ -32,19 +43,32 @@ pub fn is_served(instance: &Instance, width: usize) -> bool
 
 /// The narrowest wavefront that serves an instance, or heads and tails where none does.
 pub fn method_for(instance: &Instance) -> Method
-    ensures heads_tails { (result ≡ HeadsTails) ↔ ¬ IsServed instance.now.shop 24 }
-    ensures one { (result ≡ OneBand) ↔ IsServed instance.now.shop 8 }
-    ensures two { (result ≡ TwoBands) ↔ (IsServed instance.now.shop 16 × ¬ IsServed instance.now.shop 8) }
-    ensures three { (result ≡ ThreeBands) ↔ (IsServed instance.now.shop 24 × ¬ IsServed instance.now.shop 16) }
+    ensures heads_tails { (result ≡ HeadsTails) ↔ ¬ IsServed instance.now.shop (lanes_of Lanes208) }
+    ensures wavefront { (width : Width) → result ≡ Wavefront width → IsServed instance.now.shop (lanes_of width) }
+    ensures narrowest { (width other : Width) → result ≡ Wavefront width
+        → IsServed instance.now.shop (lanes_of other) → lanes_of width ≤ lanes_of other }
 {
-    if is_served(instance, 8) {
-        Method::OneBand
-    } else if is_served(instance, 16) {
-        Method::TwoBands
-    } else if is_served(instance, 24) {
-        Method::ThreeBands
+    if is_served(instance, 208) {
+        Method::Wavefront(width_for(instance.machines()))
     } else {
         Method::HeadsTails
+    }
+}
+
+// The least width with a lane for each machine.
+fn width_for(machines: usize) -> Width
+    requires few { machines ≤ lanes_of Lanes208 }
+    ensures enough { machines ≤ lanes_of result }
+    ensures narrowest { (other : Width) → machines ≤ lanes_of other → lanes_of result ≤ lanes_of other }
+{
+    match machines {
+        0..=8 => Width::Lanes8,
+        9..=16 => Width::Lanes16,
+        17..=24 => Width::Lanes24,
+        25..=40 => Width::Lanes40,
+        41..=64 => Width::Lanes64,
+        65..=104 => Width::Lanes104,
+        _ => Width::Lanes208,
     }
 }
 
