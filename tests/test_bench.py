@@ -6,11 +6,12 @@ import pathlib
 import re
 import shutil
 import subprocess
-from typing import NamedTuple
 
 import pytest
 
-pytestmark = pytest.mark.long
+pytestmark = [pytest.mark.long, pytest.mark.seconds(20), pytest.mark.xdist_group("bench")]
+# The crates that the functions use.
+BELOW = ["pfs_base", "pfs_order", "pfs_audit", "pfs_insert", "pfs_wave"]
 # The functions, each with its error.
 REFUSED = {
     "adds_lengths": ("""/// The sum of two lengths.
@@ -85,20 +86,19 @@ fn compiles(_rt: HostRuntime) {}
 MOST_SECONDS = 600
 
 
-class Compiled(NamedTuple):
-    """The errors of a crate, each with its file and without the help text after it, and whether the crate's test was
-    compiled and run."""
-    errors: list[tuple[str, str]]
-    has_run: bool
-
-
-def compiled(top: pathlib.Path, folder: pathlib.Path, modules: dict[str, str], below: list[str]) -> Compiled:
-    """What comes of a crate with modules of these names and texts, which uses these crates."""
-    for name in below:
+@pytest.fixture(scope="session")
+def errors(top: pathlib.Path, tmp_path_factory: pytest.TempPathFactory) -> dict[str, list[str]]:
+    """The errors of a crate that has all functions, each in a module, by the modules."""
+    folder = tmp_path_factory.mktemp("refused")
+    for name in BELOW:
         shutil.copytree(top / "crates" / name, folder / "crates" / name,
                         ignore=shutil.ignore_patterns("out", "must-fail"))
-    lines = [line for line in (top / "crates.txt").read_text().splitlines() if line.partition(":")[0] in below]
-    (folder / "crates.txt").write_text("\n".join([*lines, f"any_bench: {' '.join(below)}"]))
+    lines = [line for line in (top / "crates.txt").read_text().splitlines() if line.partition(":")[0] in BELOW]
+    (folder / "crates.txt").write_text("\n".join([*lines, f"any_bench: {' '.join(BELOW)}"]))
+    proved = (top / "crates" / "pfs_tests" / "src" / "any_bench.rt").read_text()
+    head = proved[:proved.index("\n/// ") + 1]
+    modules = {"proved": proved, **{name: head + text for name, (text, _) in REFUSED.items()},
+               **{name: LANES_HEAD + text for name, (text, _) in REFUSED_LANES.items()}}
     crate = folder / "crates" / "any_bench"
     (crate / "src").mkdir(parents=True)
     (crate / "src" / "lib.rt").write_text(ROOT % "".join(f"pub mod {name};\n" for name in modules))
@@ -106,51 +106,19 @@ def compiled(top: pathlib.Path, folder: pathlib.Path, modules: dict[str, str], b
         (crate / "src" / f"{name}.rt").write_text(text)
     done = subprocess.run(["rt", "try", "--test"], cwd=crate, stdin=subprocess.DEVNULL, stdout=subprocess.PIPE,
                           stderr=subprocess.STDOUT, text=True, timeout=MOST_SECONDS)
-    errors = re.findall(r"^src/(\w+)\.rt:[0-9:]* (error\[.*?)(?=: help: |$)", done.stdout, re.MULTILINE)
-    return Compiled(errors, "test compiles ... ok" in done.stdout)
+    found: dict[str, list[str]] = {name: [] for name in ("lib", *modules)}
+    for module, error in re.findall(r"^src/(\w+)\.rt:[0-9:]* (error\[.*?)(?=: help: |$)", done.stdout, re.MULTILINE):
+        found[module].append(error)
+    return found
 
 
-@pytest.fixture(scope="session")
-def proved(top: pathlib.Path) -> str:
-    """The function that has its sum from the bench, where it is proved."""
-    return (top / "crates" / "pfs_tests" / "src" / "any_bench.rt").read_text()
+@pytest.mark.parametrize("name", ["proved", "lib"])
+def test_a_sum_by_the_bench_has_no_error(errors: dict[str, list[str]], name: str) -> None:
+    """Nor has the root file, so that the errors of the other modules are theirs."""
+    assert errors[name] == []
 
 
-@pytest.fixture(scope="session")
-def refused(top: pathlib.Path, proved: str, tmp_path_factory: pytest.TempPathFactory) -> Compiled:
-    """What comes of a crate that has all functions over any bench that must not compile, each in a module."""
-    head = proved[:proved.index("\n/// ") + 1]
-    return compiled(top, tmp_path_factory.mktemp("refused"), {name: head + text for name, (text, _) in REFUSED.items()},
-                    ["pfs_base"])
-
-
-@pytest.fixture(scope="session")
-def refused_lanes(top: pathlib.Path, tmp_path_factory: pytest.TempPathFactory) -> Compiled:
-    """The same of the functions over any bench of lanes."""
-    modules = {name: LANES_HEAD + text for name, (text, _) in REFUSED_LANES.items()}
-    return compiled(top, tmp_path_factory.mktemp("refused_lanes"), modules,
-                    ["pfs_base", "pfs_order", "pfs_audit", "pfs_insert", "pfs_wave"])
-
-
-def errors_of(compilation: Compiled, name: str) -> list[str]:
-    """The errors in a module."""
-    return [error for module, error in compilation.errors if module == name]
-
-
-@pytest.mark.seconds(10)
-def test_a_sum_by_the_bench_compiles(top: pathlib.Path, folder: pathlib.Path, proved: str) -> None:
-    assert compiled(top, folder, {"any_bench": proved}, ["pfs_base"]) == Compiled([], True)
-
-
-@pytest.mark.seconds(10)
-@pytest.mark.xdist_group("bench")
-@pytest.mark.parametrize("name", REFUSED)
-def test_a_function_over_any_bench_is_rejected(refused: Compiled, name: str) -> None:
-    assert errors_of(refused, name) == [REFUSED[name][1]]
-
-
-@pytest.mark.seconds(20)
-@pytest.mark.xdist_group("lanes")
-@pytest.mark.parametrize("name", REFUSED_LANES)
-def test_a_function_over_any_bench_of_lanes_is_rejected(refused_lanes: Compiled, name: str) -> None:
-    assert errors_of(refused_lanes, name) == [REFUSED_LANES[name][1]]
+@pytest.mark.parametrize(("name", "error"), [(name, error) for name, (_, error) in (REFUSED | REFUSED_LANES).items()],
+                         ids=REFUSED | REFUSED_LANES)
+def test_a_function_over_any_bench_is_rejected(errors: dict[str, list[str]], name: str, error: str) -> None:
+    assert errors[name] == [error]

@@ -13,7 +13,7 @@ from collections.abc import Callable
 from typing import IO, Any, NamedTuple
 
 import pytest
-from support.experiments import HEAD, OLD_HEAD, PLAN, Experiment, planned
+from support.experiments import HALF, HEAD, OLD_HEAD, PLAN, Experiment, planned
 from support.library import Library
 from support.needs import missing, tool
 from support.program import Program
@@ -21,6 +21,7 @@ from support.slurm import Cluster
 from support.ssh import Server
 from support.terminals import Terminal
 from support.tools import Done, output_of, run_tool, wait_until, with_path, write_script
+from support.warm import Warm
 
 # A replacement of pfs, whose searches with some of the seeds fail.
 FAILING = """#!/bin/sh
@@ -37,7 +38,7 @@ KILLING = """#!/bin/sh
 case "$*" in solve*"--seed 2 "*) test -e {folder}/fixed || kill -9 $PPID;; esac
 exec {pfs} "$@"
 """
-TWELVE = "out.csv: 12 runs, 0 of them failed, 0 still to run\n"
+TWELVE, SIX = (f"out.csv: {count} runs, 0 of them failed, 0 still to run\n" for count in (12, 6))
 
 on_slurm = pytest.mark.xdist_group("slurm")
 over_ssh = pytest.mark.xdist_group("ssh")
@@ -186,15 +187,14 @@ NO_PFS = {"a program that prints nothing": "#!/bin/sh\n", "one that prints its w
 
 
 @pytest.mark.parametrize("text", NO_PFS.values(), ids=NO_PFS)
-def test_a_program_that_is_not_pfs_is_rejected(text: str, experiment: Experiment) -> None:
+def test_a_program_that_is_not_pfs_is_rejected(text: str, made: Experiment) -> None:
     """On one line, by `run` and by `check`, before anything is written."""
-    assert experiment.run("other.csv").status == 0
-    program = write_script(experiment.folder / "program", text)
-    before = sorted(os.listdir(experiment.folder))
-    for got in (experiment.run(program=program), experiment.script("check", "other.csv", program=program)):
+    program = write_script(made.folder / "program", text)
+    before = sorted(os.listdir(made.folder))
+    for got in (made.run("other.csv", program=program), made.script("check", "out.csv", program=program)):
         assert (got.status, got.stdout) == (2, "")
         assert re.fullmatch("experiments/(run|check): .*/program is not pfs: .*\n", got.stderr), got.stderr[-500:]
-    assert sorted(os.listdir(experiment.folder)) == before
+    assert sorted(os.listdir(made.folder)) == before
 
 
 DAMAGED = {
@@ -210,32 +210,29 @@ DAMAGED = {
 
 
 @pytest.mark.parametrize(("name", "data"), DAMAGED.values(), ids=DAMAGED)
-def test_a_damaged_list_is_reported_on_one_line(name: str, data: bytes, experiment: Experiment) -> None:
-    assert experiment.run().status == 0
-    before = (experiment.folder / "out.csv").read_text()
-    (experiment.runs / name).write_bytes(data)
-    (experiment.folder / "plan.toml").write_text(PLAN + "repetitions = 2\n")
-    got = experiment.run()
+def test_a_damaged_list_is_reported_on_one_line(name: str, data: bytes, made: Experiment) -> None:
+    before = (made.folder / "out.csv").read_text()
+    (made.runs / name).write_bytes(data)
+    (made.folder / "plan.toml").write_text(PLAN + "repetitions = 2\n")
+    got = made.run()
     assert (got.status, got.stdout) == (2, "")
     assert re.fullmatch("experiments/run: [^\n]*out\\.csv[^\n]*\n", got.stderr), got.stderr[-500:]
-    assert (experiment.folder / "out.csv").read_text() == before
+    assert (made.folder / "out.csv").read_text() == before
 
 
-def test_a_sequence_of_other_runs_is_reported_on_one_line(experiment: Experiment) -> None:
-    assert experiment.run().status == 0
-    begun = json.loads((experiment.runs / "plan.json").read_text())
+def test_a_sequence_of_other_runs_is_reported_on_one_line(made: Experiment) -> None:
+    begun = json.loads((made.runs / "plan.json").read_text())
     for sequence in ([1, 2], [1] * 12, list(range(12)), ["x"] * 12, 5):
-        (experiment.runs / "plan.json").write_text(json.dumps({**begun, "sequence": sequence}))
-        got = experiment.run()
+        (made.runs / "plan.json").write_text(json.dumps({**begun, "sequence": sequence}))
+        got = made.run()
         assert (got.status, got.stdout, got.stderr.count("\n"), "plan.json is damaged" in got.stderr) \
             == (2, "", 1, True), f"{sequence}: {got.stderr[-500:]}"
 
 
-def test_a_folder_without_its_program_is_reported_on_one_line(experiment: Experiment) -> None:
-    assert experiment.run().status == 0
-    stage, = experiment.runs.glob("pfs-experiment-*")
-    stage.rename(experiment.folder / "elsewhere")
-    got = experiment.run()
+def test_a_folder_without_its_program_is_reported_on_one_line(made: Experiment) -> None:
+    stage, = made.runs.glob("pfs-experiment-*")
+    stage.rename(made.folder / "elsewhere")
+    got = made.run()
     assert (got.status, got.stdout, got.stderr.count("\n"), "no copy of the program" in got.stderr) \
         == (2, "", 1, True), got.stderr[-500:]
 
@@ -247,22 +244,18 @@ RESULTS = {
 
 
 @pytest.mark.parametrize("data", RESULTS.values(), ids=RESULTS)
-def test_a_run_whose_result_is_damaged_is_repeated(data: bytes, experiment: Experiment) -> None:
-    (experiment.folder / "plan.toml").write_text(PLAN.replace("[10, 30]", "[10]"))
-    assert experiment.run().status == 0
-    (experiment.runs / "results" / "1").write_bytes(data)
-    assert experiment.run() == Done(0, "", "out.csv: 6 runs, 0 of them failed, 0 still to run\n")
-    assert experiment.rows() == experiment.wanted(rounds=(10,))
+def test_a_run_whose_result_is_damaged_is_repeated(data: bytes, half_made: Experiment) -> None:
+    (half_made.runs / "results" / "1").write_bytes(data)
+    assert half_made.run() == Done(0, "", SIX)
+    assert half_made.rows() == half_made.wanted(rounds=(10,))
 
 
 @pytest.mark.parametrize("data", [b"\xff\n" * 3, b"", b"1\t2\n" * 20, b"1\t" * 20 + b"\n"],
                          ids=["not UTF-8", "empty", "short lines", "words for numbers"])
-def test_after_damage_to_the_log_the_csv_is_the_same(data: bytes, experiment: Experiment) -> None:
-    (experiment.folder / "plan.toml").write_text(PLAN.replace("[10, 30]", "[10]"))
-    assert experiment.run().status == 0
-    (experiment.runs / "joblog").write_bytes(data)
-    assert experiment.run() == Done(0, "", "out.csv: 6 runs, 0 of them failed, 0 still to run\n")
-    assert experiment.rows() == experiment.wanted(rounds=(10,))
+def test_after_damage_to_the_log_the_csv_is_the_same(data: bytes, half_made: Experiment) -> None:
+    (half_made.runs / "joblog").write_bytes(data)
+    assert half_made.run() == Done(0, "", SIX)
+    assert half_made.rows() == half_made.wanted(rounds=(10,))
 
 
 def test_names_that_are_not_utf8_are_reported_on_one_line(experiment: Experiment) -> None:
@@ -282,6 +275,7 @@ def test_names_that_are_not_utf8_are_reported_on_one_line(experiment: Experiment
 def test_the_csv_and_the_lists_are_synced_before_they_are_renamed(experiment: Experiment) -> None:
     """And their folder after that. Nothing opens them for writing."""
     strace = tool("strace")
+    (experiment.folder / "plan.toml").write_text("instances = [\"shops/b\"]\n")
     words = [strace, "-f", "-y", "-o", "trace", "-e", "trace=open,openat,fsync,rename,renameat,renameat2",
              *experiment.words("run", "plan.toml", "out.csv")]
     assert run_tool(words, experiment.folder).status == 0
@@ -327,19 +321,17 @@ def test_readme_names_the_columns_of_the_csv(top: pathlib.Path) -> None:
     assert ",".join(name for cell in rows for name in re.findall("`([^`]+)`", cell)) == HEAD
 
 
-def test_a_second_start_makes_nothing_again(experiment: Experiment) -> None:
-    (experiment.folder / "plan.toml").write_text(PLAN.replace("[10, 30]", "[10]"))
-    assert experiment.run().status == 0
-    first = (experiment.folder / "out.csv").read_text()
-    (experiment.folder / "out.csv").unlink()
-    assert experiment.run().status == 0
-    assert (experiment.folder / "out.csv").read_text() == first
+def test_a_second_start_makes_nothing_again(half_made: Experiment) -> None:
+    first = (half_made.folder / "out.csv").read_text()
+    (half_made.folder / "out.csv").unlink()
+    assert half_made.run().status == 0
+    assert (half_made.folder / "out.csv").read_text() == first
     for other in (PLAN.replace("[10, 30]", "[30]"), PLAN.replace("1, 2, 3", "1, 2"), PLAN.replace("*", "a"),
                   PLAN + "layout = \"orlib\"\n"):
-        (experiment.folder / "plan.toml").write_text(other)
-        got = experiment.run()
+        (half_made.folder / "plan.toml").write_text(other)
+        got = half_made.run()
         assert (got.status, got.stderr.count("\n"), "another plan" in got.stderr) == (2, 1, True), other
-        assert (experiment.folder / "out.csv").read_text() == first
+        assert (half_made.folder / "out.csv").read_text() == first
 
 
 def test_readme_names_the_keys_of_a_plan_and_their_defaults(top: pathlib.Path) -> None:
@@ -399,32 +391,30 @@ def test_layouts_blocks_takes_passes_and_repetitions(experiment: Experiment) -> 
     assert rows[4][8:12] == rows[5][8:12], "repetitions of a run"
 
 
-def test_each_order_is_kept_as_pfs_prints_it(experiment: Experiment) -> None:
+def test_each_order_is_kept_as_pfs_prints_it(made: Experiment) -> None:
     """The CSV says where, and a person finds it by its name."""
-    assert experiment.run().status == 0
-    found = experiment.columns("instance", "rounds", "seed", "order")
+    found = made.columns("instance", "rounds", "seed", "order")
     assert len({order for *_, order in found}) == 12
     for shop, rounds, seed, order in found:
         assert order.startswith(f"out.csv.d/orders/{shop.partition('/')[2]}-rounds-{rounds}-take-"), order
         assert f"-seed-{seed}-" in order
-        wanted = experiment.printed("solve", "--layout", "taillard", "--rounds", rounds, "--seed", seed, shop)
-        assert (experiment.folder / order).read_text() == wanted
-    assert len(os.listdir(experiment.runs / "orders")) == 12
+        wanted = made.printed("solve", "--layout", "taillard", "--rounds", rounds, "--seed", seed, shop)
+        assert (made.folder / order).read_text() == wanted
+    assert len(os.listdir(made.runs / "orders")) == 12
 
 
-def test_check_audits_the_orders_again(experiment: Experiment) -> None:
-    assert experiment.run().status == 0
-    assert experiment.script("check", "out.csv") == Done(0, "out.csv: 12 orders audited, 0 of them wrong\n", "")
-    text = (experiment.folder / "out.csv").read_text()
-    orders = [order for order, in experiment.columns("order")]
-    (experiment.folder / orders[0]).unlink()
-    (experiment.folder / orders[3]).write_text((experiment.folder / orders[4]).read_text())
-    (experiment.folder / orders[8]).write_text("order2 3 2\n1 2 3\nmakespan 1\n")
+def test_check_audits_the_orders_again(made: Experiment) -> None:
+    assert made.script("check", "out.csv") == Done(0, "out.csv: 12 orders audited, 0 of them wrong\n", "")
+    text = (made.folder / "out.csv").read_text()
+    orders = [order for order, in made.columns("order")]
+    (made.folder / orders[0]).unlink()
+    (made.folder / orders[3]).write_text((made.folder / orders[4]).read_text())
+    (made.folder / orders[8]).write_text("order2 3 2\n1 2 3\nmakespan 1\n")
     lines = text.splitlines(keepends=True)
     lines[12] = re.sub(r",(\d+),(\d+),(\d+\.\d{4})", r",\1,1,\3", lines[12])
     lines[6] = re.sub(r",out[^,]*,", ",,", lines[6])
-    (experiment.folder / "out.csv").write_text("".join(lines))
-    got = experiment.script("check", "out.csv")
+    (made.folder / "out.csv").write_text("".join(lines))
+    got = made.script("check", "out.csv")
     *wrong, last = got.stdout.splitlines()
     assert (got.status, got.stderr) == (1, "")
     names = [re.search(r"run-(\d+)", line) for line in wrong]
@@ -440,55 +430,52 @@ def test_check_rejects_a_csv_without_orders(experiment: Experiment) -> None:
     assert got == Done(2, "", "experiments/check: old.csv: no column order\n")
 
 
-def test_the_csv_has_the_reference_of_the_plan(experiment: Experiment) -> None:
+def test_the_csv_has_the_reference_of_the_plan(made: Experiment) -> None:
     """Also one that is named once all runs are made."""
-    assert experiment.run().status == 0
-    (experiment.folder / "best.csv").write_text("instance,makespan,source\nb,12.0,a paper\nc,1,no paper\n")
-    (experiment.folder / "plan.toml").write_text(PLAN + "reference = \"best.csv\"\n")
-    assert experiment.run() == Done(0, "", TWELVE)
-    assert experiment.columns("instance", "reference", "source") \
+    (made.folder / "best.csv").write_text("instance,makespan,source\nb,12.0,a paper\nc,1,no paper\n")
+    (made.folder / "plan.toml").write_text(PLAN + "reference = \"best.csv\"\n")
+    assert made.run() == Done(0, "", TWELVE)
+    assert made.columns("instance", "reference", "source") \
         == [("shops/a", "", "")] * 6 + [("shops/b", "12", "a paper")] * 6
-    assert experiment.rows() == experiment.wanted()
+    assert made.rows() == made.wanted()
 
 
-GROWN = {
-    "rounds": PLAN.replace("[10, 30]", "[10, 30, 50]"),
-    "seeds": PLAN.replace("[1, 2, 3]", "[4, 3, 2, 1]"),
-    "takes": PLAN + "takes = [1, 3, 4]\n",
-    "repetitions": PLAN + "repetitions = 2\n",
-    "instances": PLAN,
+# What each plan begins as and grows to, and the rows of that.
+ONLY_A = HALF.replace("*", "a")
+GROWN: dict[str, tuple[str, str, dict[str, Any]]] = {
+    "rounds": (HALF, PLAN, {}),
+    "seeds": (HALF, HALF.replace("[1, 2, 3]", "[4, 3, 2, 1]"), {"rounds": [10], "seeds": [4, 3, 2, 1]}),
+    "takes": (ONLY_A, ONLY_A + "takes = [1, 3, 4]\n", {"rounds": [10], "takes": [1, 3, 4], "shops": "a"}),
+    "repetitions": (HALF, HALF + "repetitions = 2\n", {"rounds": [10], "repetitions": 2}),
+    "instances": (ONLY_A, HALF, {"rounds": [10]}),
 }
 
 
-@pytest.mark.parametrize("what", GROWN)
-def test_a_plan_may_grow(what: str, experiment: Experiment) -> None:
+@pytest.mark.parametrize(("first", "grown", "wanted"), GROWN.values(), ids=GROWN)
+def test_a_plan_may_grow(first: str, grown: str, wanted: dict[str, Any], experiment: Experiment) -> None:
     """What is done is kept, and the CSV is in the order of the plan that has grown."""
-    first = PLAN.replace("*", "a") if what in ("instances", "takes") else PLAN
-    grown = GROWN[what].replace("*", "a") if what == "takes" else GROWN[what]
     (experiment.folder / "plan.toml").write_text(first)
     assert experiment.run(program=experiment.waiting()).status == 0
-    before, made = experiment.rows(), len(experiment.started())
+    before, made = experiment.rows_and_seconds(), len(experiment.started())
     (experiment.folder / "plan.toml").write_text(grown)
     assert experiment.run(program=experiment.waiting()).status == 0
-    after = experiment.rows()
-    assert (len(before), made) == ((12, 12) if first == PLAN else (6, 6))
-    assert [row for row in before if row not in after] == [], "runs that are gone"
-    assert len(after) == len(experiment.started()) == len(set(after)) > len(before), "each is made once"
-    assert experiment.run("other.csv").status == 0
-    assert after == experiment.rows("other.csv"), "the same plan from nothing"
+    after = experiment.rows_and_seconds()
+    assert len(before) == made == (3 if first == ONLY_A else 6)
+    assert [row for row in before if row not in after] == [], "runs that are gone, or were made again"
+    assert len(experiment.started()) == len(after) > made, "each is made once"
+    assert experiment.rows() == experiment.wanted(**wanted), "the rows of the plan that has grown"
     assert experiment.script("check", "out.csv").status == 0
 
 
 def test_a_search_of_0_rounds_is_made_once(experiment: Experiment) -> None:
     """Take, passes and seed don't change it. Repetitions are made."""
     (experiment.folder / "plan.toml").write_text(
-        "instances = [\"shops/*\"]\nrounds = [0, 1]\ntakes = [2, 3]\npasses = [0, 1]\nseeds = [5, 6]\n"
+        "instances = [\"shops/b\"]\nrounds = [0, 1]\ntakes = [2, 3]\npasses = [0, 1]\nseeds = [5, 6]\n"
         "repetitions = 2\n")
     assert experiment.run(program=experiment.waiting()).status == 0
     zeros = [row[:8] for row in experiment.rows() if row.rounds == "0"]
-    assert zeros == [(shop, *size, "0", "2", "0", "5", again)
-                     for shop, size in (("shops/a", ("20", "5")), ("shops/b", ("3", "2"))) for again in "12"]
-    assert len(experiment.rows()) == len(experiment.started()) == 4 + 2 * 16
+    assert zeros == [("shops/b", "3", "2", "0", "2", "0", "5", again) for again in "12"]
+    assert len(experiment.rows()) == len(experiment.started()) == 2 + 16
 
 
 def test_runs_of_0_rounds_that_an_earlier_version_listed_stay(experiment: Experiment) -> None:
@@ -553,7 +540,7 @@ def test_runs_by_time_take_their_time(experiment: Experiment, with_library: dict
     assert experiment.script("check", "out.csv") == Done(0, "out.csv: 8 orders audited, 0 of them wrong\n", "")
 
 
-def test_a_plan_has_rounds_and_times(experiment: Experiment, with_library: dict[str, str], matplotlib: None) -> None:
+def test_a_plan_has_rounds_and_times(experiment: Experiment, with_library: dict[str, str], warm: Warm) -> None:
     """It may grow by either. What is done stays, and the report tells them apart."""
     plan = "instances = [\"shops/b\"]\nrounds = [5]\n"
     (experiment.folder / "plan.toml").write_text(plan)
@@ -563,7 +550,7 @@ def test_a_plan_has_rounds_and_times(experiment: Experiment, with_library: dict[
     assert experiment.run(env=with_library).status == 0
     assert experiment.columns(*HEAD.split(","))[0] == before
     assert experiment.columns("time_factor") == [("",), ("1",)]
-    got = run_tool([experiment.top / "experiments" / "report", "out.csv", "report"], experiment.folder)
+    got = warm.run_tool([experiment.top / "experiments" / "report", "out.csv", "report"], experiment.folder)
     assert (got.status, got.stderr) == (0, "")
     with open(experiment.folder / "report" / "table.csv", newline="") as file:
         assert [(row["rounds"], row["time_factor"], row["runs"]) for row in csv.DictReader(file)] \
@@ -718,12 +705,12 @@ def test_on_slurm_another_program_is_run(slurm: Cluster, experiment: Experiment)
     other_is_right(experiment, got)
 
 
-def test_the_report_compares_another_program_with_pfs(experiment: Experiment, matplotlib: None) -> None:
-    assert experiment.run("pfs.csv").status == 0
-    with_other(experiment).run()
-    got = run_tool([experiment.top / "experiments" / "report", "pfs.csv", "out.csv", "report"], experiment.folder)
+def test_the_report_compares_another_program_with_pfs(made: Experiment, warm: Warm) -> None:
+    assert with_other(made, OTHER.replace(", 2, 3, 4, 5, 6, 7, 8, 9, 10]", ", 3]")).run("mine.csv").status == 1
+    (made.folder / "out.csv").rename(made.folder / "pfs.csv")
+    got = warm.run_tool([made.top / "experiments" / "report", "pfs.csv", "mine.csv", "report"], made.folder)
     assert (got.status, got.stderr) == (0, "")
-    with open(experiment.folder / "report" / "comparison.csv", newline="") as file:
+    with open(made.folder / "report" / "comparison.csv", newline="") as file:
         rows = [row for row in csv.DictReader(file) if row["method"] != row["other_method"]]
     assert {(row["method"], row["other_method"], row["instances"]) for row in rows} == {("mine", "pfs", "1")}
 
@@ -798,9 +785,9 @@ def test_a_run_that_fails_is_not_made_again(failing: tuple[Experiment, Done]) ->
 
 
 @pytest.mark.xdist_group("failing")
-def test_the_report_counts_runs_that_failed(failing: tuple[Experiment, Done], matplotlib: None) -> None:
+def test_the_report_counts_runs_that_failed(failing: tuple[Experiment, Done], warm: Warm) -> None:
     experiment, _ = failing
-    run_tool([experiment.top / "experiments" / "report", "out.csv", "report"], experiment.folder)
+    warm.run_tool([experiment.top / "experiments" / "report", "out.csv", "report"], experiment.folder)
     with open(experiment.folder / "report" / "table.csv", newline="") as file:
         assert [(row["runs"], row["failed"]) for row in csv.DictReader(file)] == [("1", "4")] * 4
 
@@ -808,14 +795,15 @@ def test_the_report_counts_runs_that_failed(failing: tuple[Experiment, Done], ma
 def test_a_killed_run_is_reported_and_made_by_the_next_start(experiment: Experiment) -> None:
     program = write_script(experiment.folder / "killing",
                            KILLING.format(folder=experiment.folder, pfs=experiment.pfs.path))
+    (experiment.folder / "plan.toml").write_text(HALF)
     got = experiment.run(program=program)
-    assert got == Done(1, "", "shops/a (rounds 10, take 4, passes 0, seed 2) and 3 more failed: "
+    assert got == Done(1, "", "shops/a (rounds 10, take 4, passes 0, seed 2) and 1 more failed: "
                                "lost: exit 137, signal 0\n"
-                               "out.csv: 12 runs, 4 of them failed, 0 still to run\n")
+                               "out.csv: 6 runs, 2 of them failed, 0 still to run\n")
     assert {row[8:] for row in experiment.rows() if row.seed == "2"} == {("", "", "", "", "lost: exit 137, signal 0")}
     (experiment.folder / "fixed").touch()
     assert experiment.run().status == 0
-    assert experiment.rows() == experiment.wanted()
+    assert experiment.rows() == experiment.wanted(rounds=[10])
 
 
 MEMORY = """#!/bin/sh
@@ -833,12 +821,13 @@ def test_a_run_whose_program_was_killed_is_made_by_the_next_start(experiment: Ex
     """By a signal, or because memory ran out, in the search or in the audit."""
     program = write_script(experiment.folder / "program",
                            MEMORY.format(folder=experiment.folder, pfs=experiment.pfs.path))
+    (experiment.folder / "plan.toml").write_text(HALF)
     assert experiment.run(program=program).status == 1
     assert [row.status for row in experiment.rows()] \
-        == ["solve: signal 9", "solve: exit 4, pfs: no memory", "check: signal 15"] * 4
+        == ["solve: signal 9", "solve: exit 4, pfs: no memory", "check: signal 15"] * 2
     (experiment.folder / "fixed").touch()
-    assert experiment.run(program=program) == Done(0, "", TWELVE)
-    assert experiment.rows() == experiment.wanted()
+    assert experiment.run(program=program) == Done(0, "", SIX)
+    assert experiment.rows() == experiment.wanted(rounds=[10])
 
 
 def test_failed_runs_are_repeated_on_request(experiment: Experiment) -> None:
@@ -848,24 +837,24 @@ test -e {experiment.folder}/fixed && exec {experiment.pfs.path} "$@"
 case "$*" in "solve "*"--seed 1 "*) echo "some fault" >&2; exit 2;; esac
 exec {experiment.pfs.path} "$@"
 """)
+    (experiment.folder / "plan.toml").write_text(HALF)
     assert experiment.run(program=program).status == 1
     (experiment.folder / "fixed").touch()
     (experiment.folder / "notes").unlink()
     assert experiment.run(program=program).status == 1
     assert experiment.started() == [], "without --retry"
-    assert experiment.run("out.csv", "--retry", program=program) == Done(0, "", TWELVE)
-    assert sum(line.startswith("solve ") for line in experiment.started()) == 4
-    assert experiment.rows() == experiment.wanted()
+    assert experiment.run("out.csv", "--retry", program=program) == Done(0, "", SIX)
+    assert sum(line.startswith("solve ") for line in experiment.started()) == 2
+    assert experiment.rows() == experiment.wanted(rounds=[10])
 
 
-def test_results_that_are_gone_or_torn_are_made_again(experiment: Experiment) -> None:
-    assert experiment.run().status == 0
-    (experiment.runs / "results" / "3").unlink()
-    (experiment.runs / "results" / "4").write_text("4,12")
-    with open(experiment.runs / "joblog", "a") as file:
+def test_results_that_are_gone_or_torn_are_made_again(made: Experiment) -> None:
+    (made.runs / "results" / "3").unlink()
+    (made.runs / "results" / "4").write_text("4,12")
+    with open(made.runs / "joblog", "a") as file:
         file.write("12\t:\t17")
-    assert experiment.run() == Done(0, "", TWELVE)
-    assert experiment.rows() == experiment.wanted()
+    assert made.run() == Done(0, "", TWELVE)
+    assert made.rows() == made.wanted()
 
 
 # Interruptions
@@ -947,7 +936,7 @@ KILLS: dict[str, Kills] = {
 @pytest.mark.parametrize("kills", KILLS.values(), ids=KILLS)
 def test_no_run_is_lost_or_made_again(kills: Kills, experiment: Experiment) -> None:
     """Each run is in the CSV once, and none that was logged before a kill is made again."""
-    (experiment.folder / "plan.toml").write_text(PLAN.replace("[10, 30]", "[10]"))
+    (experiment.folder / "plan.toml").write_text(HALF)
     wanted, made = experiment.wanted(rounds=(10,)), {}
     # as a start leaves it that was killed while it made copies
     (experiment.runs / "pfs-experiment-begun" / "instances").mkdir(parents=True)
@@ -971,7 +960,7 @@ def test_no_run_is_lost_or_made_again(kills: Kills, experiment: Experiment) -> N
 
 
 def test_two_starts_at_once_make_each_run_once(experiment: Experiment) -> None:
-    (experiment.folder / "plan.toml").write_text(PLAN.replace("[10, 30]", "[10]"))
+    (experiment.folder / "plan.toml").write_text(HALF)
     with experiment.gate() as gate, open(experiment.folder / "told", "wb") as got:
         first = start(experiment, "plan.toml", "out.csv", "--jobs", "1")
         wait_until(lambda: len(experiment.started()) == 1, "the first start makes a run")
@@ -1085,7 +1074,7 @@ def test_on_slurm_runs_whose_results_are_gone_are_made_again_and_no_others(made_
 @on_slurm
 def test_on_slurm_a_second_start_waits_for_the_array_of_the_first(experiment: Experiment, slurm: Cluster) -> None:
     """Also if the first start was killed while it waited for its array. A result exists only once it is complete."""
-    (experiment.folder / "plan.toml").write_text(PLAN.replace("[10, 30]", "[10]"))
+    (experiment.folder / "plan.toml").write_text(HALF)
     words = ["--tasks", "1", "plan.toml", "out.csv", "--time=5"]
     with experiment.gate() as gate, open(experiment.folder / "told", "wb") as got:
         first = start(experiment, *words, name="slurm", env=slurm.env)
@@ -1133,7 +1122,7 @@ def run_out_of_time(slurm: Cluster, number: str) -> None:
 def test_what_slurm_says_of_a_task_that_it_ended_is_in_the_csv(
         experiment: Experiment, slurm: Cluster, end: Callable[[Cluster, str], None], why: str) -> None:
     """And the next start makes its runs."""
-    (experiment.folder / "plan.toml").write_text(PLAN.replace("[10, 30]", "[10]"))
+    (experiment.folder / "plan.toml").write_text(HALF)
     words = ["--tasks", "2", "plan.toml", "out.csv", "--time=5"]
     with experiment.gate(), open(experiment.folder / "told", "wb") as got:
         begun = start(experiment, *words, name="slurm", env=slurm.env, stderr=got)
@@ -1253,6 +1242,7 @@ def test_the_manual_page_has_the_exit_statuses(page: str, experiment: Experiment
     got = dict(re.findall(r"^\.It (\d)\n([^.]*\.)", page.partition(".Sh EXIT STATUS")[2].partition(".Sh ")[0],
                            re.MULTILINE))
     assert list(got) == ["0", "1", "2"], "statuses in the manual page"
+    (experiment.folder / "plan.toml").write_text("instances = [\"shops/*\"]\n")
     made = experiment.run()
     (experiment.folder / "shops" / "c").write_text("no instance\n")
     failed = experiment.run("failed.csv")
@@ -1277,7 +1267,7 @@ def test_the_examples_of_the_manual_page_lead_to_a_report(page: str, top: pathli
     lines = re.findall(r"^\$ (.*)$", page.partition(".Sh EXAMPLES")[2].partition(".Sh ")[0], re.MULTILINE)
     assert len(lines) == 4 and lines[0].split()[0] == "cp", lines
     name = pathlib.Path(lines[0].split()[1]).name
-    (folder / name).write_text((top / "experiments" / name).read_text().replace("1000]", "20]"))
+    (folder / name).write_text((top / "experiments" / name).read_text().replace(", 100, 1000]", ", 20]"))
     (folder / "bin").mkdir()
     shutil.copy(pfs.path, folder / "bin" / "pfs")
     write_script(folder / "bin" / "pfs-experiments", f"#!/bin/sh\nexec {top}/tools/pfs-experiments \"$@\"\n")
@@ -1315,8 +1305,10 @@ def lines_of_way(page: pathlib.Path) -> list[str]:
 @pytest.mark.seconds(30)
 def test_the_lines_of_the_way_lead_to_the_reports_plots(top: pathlib.Path, pfs: Program, folder: pathlib.Path,
                                                         matplotlib: None) -> None:
-    """In a copy that has the built program, which is taken as it is."""
+    """In a copy that has the built program, which is taken as it is, and a plan of fewer rounds and seeds."""
     shutil.copytree(top / "experiments", folder / "experiments", ignore=shutil.ignore_patterns("out", "__pycache__"))
+    plan = folder / "experiments" / "example.toml"
+    plan.write_text(plan.read_text().replace(", 100, 1000]", ", 20]").replace("[1, 2, 3]", "[1, 2]"))
     (folder / "python" / "src" / "pfs").mkdir(parents=True)
     for name in ("Makefile", "crates.txt", "python/src/pfs/_atomic.py"):
         shutil.copy(top / name, folder / name)
@@ -1330,4 +1322,4 @@ def test_the_lines_of_the_way_lead_to_the_reports_plots(top: pathlib.Path, pfs: 
         == ["gap.png", "means.png", "rpd.png", "seconds.png", "sizes.csv", "sizes.md", "sizes.tex", "table.csv",
             "table.md", "time.png"]
     with open(folder / "report" / "table.csv", newline="") as file:
-        assert sum(int(row["runs"]) for row in csv.DictReader(file)) == 90
+        assert sum(int(row["runs"]) for row in csv.DictReader(file)) == 9 * (1 + 2 * 2)

@@ -114,7 +114,8 @@ def plotted(top: pathlib.Path, warm: Warm, tmp_path_factory: pytest.TempPathFact
         if (text, *options) not in folders:
             folder = folders[text, *options] = tmp_path_factory.mktemp("plotted")
             (folder / "out.csv").write_text(text)
-            got = warm.run_tool([top / "experiments" / "report", "--format", "svg", *options, "out.csv", "report"], folder)
+            script = top / "experiments" / "report"
+            got = warm.run_tool([script, "--format", "svg", *options, "out.csv", "report"], folder)
             assert got.status == 0, got
         return Picture(folders[text, *options] / "report" / f"{name}.svg", axes)
     return picture

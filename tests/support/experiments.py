@@ -4,7 +4,8 @@ import fcntl
 import itertools
 import os
 import pathlib
-from collections.abc import Iterator, Sequence
+import shutil
+from collections.abc import Callable, Iterable, Iterator, Sequence
 from contextlib import contextmanager
 from typing import Any, NamedTuple
 
@@ -16,6 +17,8 @@ PLAN = """instances = ["shops/*"]
 rounds = [10, 30]
 seeds = [1, 2, 3]
 """
+# A shorter one.
+HALF = PLAN.replace("[10, 30]", "[10]")
 SHOPS = {"a": (20, 5, 873654221), "b": (3, 2, 7)}
 # The columns of earlier versions, and those of today.
 OLD_HEAD = "instance,jobs,machines,rounds,take,passes,seed,repetition,makespan,bound,gap_percent,cells,seconds,status"
@@ -70,14 +73,15 @@ class Experiment(NamedTuple):
         assert ran.status == 0, ran
         return ran.stdout.decode()
 
-    def wanted(self, rounds: Sequence[int] = (10, 30), seeds: Sequence[int] = (1, 2, 3)) -> list[Row]:
+    def wanted(self, rounds: Sequence[int] = (10, 30), seeds: Sequence[int] = (1, 2, 3), takes: Sequence[int] = (4,),
+               repetitions: int = 1, shops: Iterable[str] = SHOPS) -> list[Row]:
         """The rows of the plan, each by its own search and audit."""
-        return [self.wanted_row(f"shops/{name}", SHOPS[name], many, seed)
-                for name, many, seed in itertools.product(SHOPS, rounds, seeds)]
+        return [self.wanted_row(name, many, take, seed)._replace(repetition=str(again)) for name, many, take, seed, again
+                in itertools.product(shops, rounds, takes, seeds, range(1, repetitions + 1))]
 
-    def wanted_row(self, shop: str, size: tuple[int, int, int], rounds: int, seed: int) -> Row:
-        jobs, machines, _ = size
-        take = min(4, jobs)
+    def wanted_row(self, name: str, rounds: int, take: int, seed: int) -> Row:
+        shop, (jobs, machines, _) = f"shops/{name}", SHOPS[name]
+        take = min(take, jobs)
         options = ["--rounds", str(rounds), "--take", str(take), "--seed", str(seed), "--cells"]
         *order, cells = self.printed("solve", "--layout", "taillard", *options, shop).splitlines(keepends=True)
         (self.folder / "order").write_text("".join(order))
@@ -177,3 +181,34 @@ def planned(top: pathlib.Path, pfs: Program, folder: pathlib.Path, text: str = P
         (folder / "shops" / name).write_text(made.printed("generate", *map(str, size)))
     (folder / "plan.toml").write_text(text)
     return made
+
+
+@pytest.fixture(scope="session")
+def finished(top: pathlib.Path, pfs: Program, tmp_path_factory: pytest.TempPathFactory) -> Callable[[str], pathlib.Path]:
+    """The folder of a plan with this text, whose runs are made once."""
+    folders: dict[str, pathlib.Path] = {}
+
+    def finish(text: str) -> pathlib.Path:
+        if text not in folders:
+            folders[text] = tmp_path_factory.mktemp("finished")
+            done = planned(top, pfs, folders[text], text).run()
+            assert (done.status, done.stdout) == (0, ""), done
+        return folders[text]
+    return finish
+
+
+@pytest.fixture
+def made(experiment: Experiment, finished: Callable[[str], pathlib.Path]) -> Experiment:
+    """A copy of the plan whose runs are made."""
+    return copied(experiment, finished(PLAN))
+
+
+@pytest.fixture
+def half_made(experiment: Experiment, finished: Callable[[str], pathlib.Path]) -> Experiment:
+    """A copy of the shorter plan whose runs are made."""
+    return copied(experiment, finished(HALF))
+
+
+def copied(experiment: Experiment, finished: pathlib.Path) -> Experiment:
+    shutil.copytree(finished, experiment.folder, dirs_exist_ok=True)
+    return experiment
