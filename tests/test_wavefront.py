@@ -1,6 +1,6 @@
-"""Instances at the limits of a wavefront. It needs at least 8 jobs, at most 24 machines, and less than 65,535 for the
-product of the longest time and the number of operations on a path. Insertions and searches are compared with those of
-the second program."""
+"""Instances at the limits of a wavefront. It needs at least 8 jobs, less than 65,535 for the product of the longest
+time and the number of operations on a path, and, with more than 24 lanes, a cell for a third of the lanes that it
+computes. Insertions and searches are compared with those of the second program, or with heads and tails."""
 import pathlib
 from random import Random
 
@@ -10,7 +10,7 @@ from support.printed import printed
 from support.program import Program
 from support.second_program import Instance
 
-WIDTHS = {"OneBand": 8, "TwoBands": 16, "ThreeBands": 24}
+WIDTHS = {f"Wavefront(Lanes{width})": width for width in (8, 16, 24, 40, 64, 104, 208)}
 
 OPTIONS = {b"--take": 3, b"--rounds": 3, b"--seed": 1, b"--passes": 1, b"--cells": True}
 SOLVE = "solve --layout taillard --take 3 --rounds 3 --seed 1 --passes 1 --cells shop"
@@ -54,21 +54,30 @@ SHOPS: dict[str, tuple[Instance, str]] = {
         "HeadsTails" if jobs < 8 or machines > 24 else
         next(method for method, width in WIDTHS.items() if machines <= width))
        for jobs in (7, 8, 9) for machines in (1, 7, 8, 9, 15, 16, 17, 23, 24, 25) for most in (2, 99)},
-    "times of 0": (equal(9, 5, 0), "OneBand"),
-    "a longest path of 65,534": (equal(8, 7, 4_681), "OneBand"),
+    **{f"{jobs} jobs on {machines} machines": (drawn(jobs, machines, 99), method)
+       for jobs, machines, method in (
+           (45, 25, "HeadsTails"), (46, 25, "Wavefront(Lanes40)"), (19, 40, "HeadsTails"),
+           (20, 40, "Wavefront(Lanes40)"), (31, 64, "HeadsTails"), (32, 64, "Wavefront(Lanes64)"),
+           (51, 104, "HeadsTails"), (52, 104, "Wavefront(Lanes104)"))},
+    "times of 0": (equal(9, 5, 0), "Wavefront(Lanes8)"),
+    "a longest path of 65,534": (equal(8, 7, 4_681), "Wavefront(Lanes8)"),
     "a longest path of 65,535": (equal(8, 8, 4_369), "HeadsTails"),
     "a longest path of 65,536 on 8 machines": (equal(9, 8, 4_096), "HeadsTails"),
     "a longest path of 65,536 on 9 machines": (equal(8, 9, 4_096), "HeadsTails"),
-    "31 times of 2,114 are 65,534": (with_long_job(8, 24, 2_114), "ThreeBands"),
+    "31 times of 2,114 are 65,534": (with_long_job(8, 24, 2_114), "Wavefront(Lanes24)"),
     "32 times of 2,048 are 65,536": (with_long_job(9, 24, 2_048), "HeadsTails"),
-    "a long job": (with_long_job(12, 12, 2_849), "TwoBands"),
-    "a long time": (with_one_long_time(20, 24, 1_523), "ThreeBands"),
+    "a long job": (with_long_job(12, 12, 2_849), "Wavefront(Lanes16)"),
+    "a long time": (with_one_long_time(20, 24, 1_523), "Wavefront(Lanes24)"),
     "a time that is too long": (with_one_long_time(20, 24, 1_525), "HeadsTails"),
     "one time of 10^9": (with_one_long_time(9, 5, 1_000_000_000), "HeadsTails"),
-    "40 jobs": (drawn(40, 6, 30), "OneBand"),
-    "21 jobs on 11 machines": (drawn(21, 11, 500), "TwoBands"),
-    "22 jobs on 20 machines": (drawn(22, 20, 1_000), "ThreeBands"),
+    "40 jobs": (drawn(40, 6, 30), "Wavefront(Lanes8)"),
+    "21 jobs on 11 machines": (drawn(21, 11, 500), "Wavefront(Lanes16)"),
+    "22 jobs on 20 machines": (drawn(22, 20, 1_000), "Wavefront(Lanes24)"),
 }
+
+# Instances that are too large for plain definitions: for each number of machines, the least number of jobs that a
+# wavefront serves.
+FEWEST_JOBS = {41: 70, 65: 119, 105: 405, 200: 111}
 
 
 def longest_path(shop: Instance) -> int:
@@ -76,7 +85,9 @@ def longest_path(shop: Instance) -> int:
 
 
 def is_served(shop: Instance, width: int) -> bool:
-    return shop.jobs >= 8 and shop.machines <= width and longest_path(shop) < 65_535
+    lanes = (shop.jobs + width) * width
+    full = width <= 24 or lanes <= 3 * shop.jobs * shop.machines
+    return shop.jobs >= 8 and shop.machines <= width and full and longest_path(shop) < 65_535
 
 
 def test_a_search_uses_the_narrowest_method_that_can_compute_it() -> None:
@@ -99,12 +110,20 @@ def insertions(shop: Instance) -> list[tuple[int, int]]:
     return places
 
 
+def lines_of(pfs_calls: Program, folder: pathlib.Path, shop: Instance) -> list[str]:
+    """The method that a search of an instance uses, and what heads and tails and each wavefront find for each job."""
+    by_job = " ".join(str(row[job]) for job in range(shop.jobs) for row in shop.times)
+    done = pfs_calls.run(f"wavefronts {shop.jobs} {shop.machines} {by_job}", folder)
+    lines = done.stdout.decode().splitlines()
+    assert done == printed(*lines)
+    return lines
+
+
 @pytest.mark.parametrize("name", SHOPS)
 def test_each_method_finds_the_first_best_places(pfs_calls: Program, folder: pathlib.Path, name: str) -> None:
     """Heads and tails and each wavefront that can compute the instance find the first best places and their makespans.
     Each counts (4k - 2)m cells for k jobs, the inserted one included."""
     shop, method = SHOPS[name]
-    by_job = " ".join(str(row[job]) for job in range(shop.jobs) for row in shop.times)
     lines = [method]
     for width in WIDTHS.values():
         cells = 0
@@ -112,7 +131,19 @@ def test_each_method_finds_the_first_best_places(pfs_calls: Program, folder: pat
             for _ in range(2 if is_served(shop, width) else 0):
                 cells += (4 * jobs - 2) * shop.machines
                 lines.append(f"{place} {makespan} {cells}")
-    assert pfs_calls.run(f"wavefronts {shop.jobs} {shop.machines} {by_job}", folder) == printed(*lines)
+    assert lines_of(pfs_calls, folder, shop) == lines
+
+
+@pytest.mark.parametrize("machines", FEWEST_JOBS)
+def test_a_wide_wavefront_finds_what_heads_and_tails_do(pfs_calls: Program, folder: pathlib.Path,
+                                                        machines: int) -> None:
+    jobs = FEWEST_JOBS[machines]
+    assert lines_of(pfs_calls, folder, drawn(jobs - 1, machines, 99)) == ["HeadsTails"]
+    method, *lines = lines_of(pfs_calls, folder, drawn(jobs, machines, 99))
+    assert method == next(method for method, width in WIDTHS.items() if machines <= width)
+    assert len(lines) == 2 * jobs
+    for by_rows, by_wavefront in zip(lines[::2], lines[1::2]):
+        assert by_rows.split()[:2] == by_wavefront.split()[:2]
 
 
 @pytest.mark.parametrize("name", SHOPS)

@@ -10,7 +10,7 @@ use pfs_order::Seq;
 use pfs_tests::shops::shop;
 use pfs_wave::{
     EightBands, FiveBands, Lanes, MeteredLanes, OneBand, ThirteenBands, ThreeBands, TwentySixBands,
-    TwoBands, Wavefront, is_served, method_for,
+    TwoBands, Wavefront, Width, is_served, method_for,
 };
 
 /// Inserts the jobs of a shop into a sequence in the order of their numbers, each at its best place. The arguments are
@@ -21,25 +21,25 @@ pub(crate) fn wavefronts_call(rt: &HostRuntime, words: &[String]) -> Result<(), 
     let times = numbers(rt, words, 2)?;
     let instance = shop(rt.alloc(), number(words, 0)?, number(words, 1)?, &times)?;
     println!(rt; "{:?}", method_for(&instance))?;
-    if is_served(&instance, 8) {
+    if is_served(&instance, Width::Lanes8) {
         insert_all::<OneBand>(rt, &instance)?;
     }
-    if is_served(&instance, 16) {
+    if is_served(&instance, Width::Lanes16) {
         insert_all::<TwoBands>(rt, &instance)?;
     }
-    if is_served(&instance, 24) {
+    if is_served(&instance, Width::Lanes24) {
         insert_all::<ThreeBands>(rt, &instance)?;
     }
-    if is_served(&instance, 40) {
+    if is_served(&instance, Width::Lanes40) {
         insert_all::<FiveBands>(rt, &instance)?;
     }
-    if is_served(&instance, 64) {
+    if is_served(&instance, Width::Lanes64) {
         insert_all::<EightBands>(rt, &instance)?;
     }
-    if is_served(&instance, 104) {
+    if is_served(&instance, Width::Lanes104) {
         insert_all::<ThirteenBands>(rt, &instance)?;
     }
-    if is_served(&instance, 208) {
+    if is_served(&instance, Width::Lanes208) {
         insert_all::<TwentySixBands>(rt, &instance)?;
     }
     Ok(())

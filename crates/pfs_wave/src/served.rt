@@ -1,5 +1,5 @@
 //! Which method serves a shop.
-ghost use Rattle.std.specs.Prelude.{◌≡◌, ◌≤◌, ◌↔◌, IsTrue};
+ghost use Rattle.std.specs.Prelude.{◌≡◌, ◌≤◌, ◌+◌, ◌*◌, ◌<◌, ◌↔◌, IsTrue};
 ghost use Rattle.pfs_base.specs.Paths.{greatest};
 ghost use Rattle.pfs_wave.specs.Served.{IsServed, lanes_of};
 ghost use Rattle.pfs_wave.specs.declared.served.Width.{Width};
@@ -21,6 +21,23 @@ pub enum Width {
     Lanes208,
 }
 
+impl Width {
+    /// The number of lanes.
+    pub fn lanes(self) -> usize
+        ensures { result ≡ lanes_of self }
+    {
+        match self {
+            Width::Lanes8 => 8,
+            Width::Lanes16 => 16,
+            Width::Lanes24 => 24,
+            Width::Lanes40 => 40,
+            Width::Lanes64 => 64,
+            Width::Lanes104 => 104,
+            Width::Lanes208 => 208,
+        }
+    }
+}
+
 /// The method by which a search finds best places.
 #[derive(Clone, Copy, Debug, PartialEq, Eq)]
 pub enum Method {
@@ -30,26 +47,33 @@ pub enum Method {
     Wavefront(Width),
 }
 
-/// Whether a wavefront of `width` lanes serves an instance: it has at least 8 jobs and at most `width` machines, and
-/// (n + m - 1) times its longest time, which bounds every path of n jobs on m machines, is below 65,535.
-pub fn is_served(instance: &Instance, width: usize) -> bool
-    ensures { IsTrue result ↔ IsServed instance.now.shop width }
+/// Whether a wavefront of this width serves an instance: it has at least 8 jobs and a lane for each machine, and
+/// (n + m - 1) times its longest time, which bounds every path of n jobs on m machines, is below 65,535. A wavefront of
+/// w lanes computes n + w steps for n jobs. With more than 24 lanes, at least a third of these lanes must have a cell:
+/// with fewer, heads and tails by rows are faster.
+pub fn is_served(instance: &Instance, width: Width) -> bool
+    ensures { IsTrue result ↔ IsServed instance.now.shop (lanes_of width) }
 {
     let jobs = instance.jobs();
     let machines = instance.machines();
+    let lanes = width.lanes();
     let operations = (jobs + machines - 1) as u64;
-    jobs >= 8 && machines <= width && operations * u64::from(longest_time(instance)) < 65535
+    jobs >= 8
+        && machines <= lanes
+        && (lanes <= 24 || (jobs + lanes) * lanes <= 3 * jobs * machines)
+        && operations * u64::from(longest_time(instance)) < 65535
 }
 
 /// The narrowest wavefront that serves an instance, or heads and tails where none does.
 pub fn method_for(instance: &Instance) -> Method
-    ensures heads_tails { (result ≡ HeadsTails) ↔ ¬ IsServed instance.now.shop (lanes_of Lanes208) }
+    ensures heads_tails { (result ≡ HeadsTails) ↔ ((width : Width) → ¬ IsServed instance.now.shop (lanes_of width)) }
     ensures wavefront { (width : Width) → result ≡ Wavefront width → IsServed instance.now.shop (lanes_of width) }
     ensures narrowest { (width other : Width) → result ≡ Wavefront width
         → IsServed instance.now.shop (lanes_of other) → lanes_of width ≤ lanes_of other }
 {
-    if is_served(instance, 208) {
-        Method::Wavefront(width_for(instance.machines()))
+    let width = width_for(instance.machines());
+    if is_served(instance, width) {
+        Method::Wavefront(width)
     } else {
         Method::HeadsTails
     }
